@@ -1,0 +1,94 @@
+//! What a fiber's owner adds to its word. Each sum changes the fields that the call changes, and
+//! leaves the request and the waited bit as they stand, so one `fetch_add` is the whole call.
+
+ghost use Rattle.std.specs.Prelude.{◌≡◌};
+ghost use Rattle.control_word.specs.Word.{Cuts, Finishes, Masks, Unmasks, finish_sum, kind_of, value_of};
+
+use crate::control::{bit_of, bits_of, joined};
+use effect_term::Outcome;
+
+/// The amount whose sum with a word is the word one mask deeper, with one change more. It holds of
+/// a fiber that hasn't ended, at a depth below 255 and a count below the greatest.
+pub fn mask_amount() -> u64
+    ensures law { Masks result }
+{
+    262_145
+}
+
+/// The amount whose difference from a word is the word one mask less deep, with one change more. It
+/// holds of a fiber that hasn't ended, at a depth above 0 and a count below the greatest.
+pub fn unmask_amount() -> u64
+    ensures law { Unmasks result }
+{
+    262_143
+}
+
+/// The amount whose sum with a word is the word of the fiber as it begins to finalize: one mask
+/// deep, with one change more. It holds of a running fiber without a mask, at a count below the
+/// greatest.
+pub fn cut_amount() -> u64
+    ensures law { Cuts result }
+{
+    67_371_009
+}
+
+/// The amount whose sum with a word is the word of the fiber ended with this outcome, with one
+/// change more. It holds of a fiber that is finalizing or not, as `finalizing` says, and hasn't
+/// ended, at a count below the greatest. It is
+/// `1 + 2^26 (2 - phase) + 2^28 kind + 2^32 value`.
+pub fn finish_amount(finalizing: bool, outcome: Outcome) -> u64
+    ensures law { Finishes finalizing outcome result }
+    ensures sum { result ≡ finish_sum finalizing outcome }
+{
+    let value = value_or_zero(outcome);
+    let word = joined(bits_of(value), 4, kind_number(outcome));
+    let word = joined(word, 2, 2 - bit_of(finalizing));
+    joined(word, 26, 1)
+}
+
+fn kind_number(outcome: Outcome) -> u64
+    ensures { result ≡ kind_of outcome }
+{
+    match outcome {
+        Outcome::Succeeded(_) => 1,
+        Outcome::Errored(_) => 2,
+        Outcome::Canceled => 3,
+    }
+}
+
+fn value_or_zero(outcome: Outcome) -> i32
+    ensures { result ≡ value_of outcome }
+{
+    match outcome {
+        Outcome::Succeeded(value) => value,
+        Outcome::Errored(code) => code,
+        Outcome::Canceled => 0,
+    }
+}
+
+#[cfg(test)]
+mod tests {
+    use super::*;
+    use crate::control::{Control, pack, unpack};
+
+    #[test]
+    fn a_word_is_the_sum_of_its_fields(rt: HostRuntime) {
+        let masked_once = Control {
+            count: 1,
+            depth: 1,
+            phase: 0,
+            kind: 0,
+            cancel: false,
+            waited: false,
+            value: 0,
+        };
+        assert_eq!(rt; pack(masked_once), 262_145);
+        assert_eq!(rt; unpack(262_145), masked_once);
+    }
+
+    #[test]
+    fn the_opening_word_ends_with_its_value_on_top(rt: HostRuntime) {
+        let amount = finish_amount(false, Outcome::Succeeded(-1));
+        assert_eq!(rt; 0 + amount, 0xffff_ffff_1800_0001);
+    }
+}
