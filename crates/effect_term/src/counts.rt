@@ -84,7 +84,7 @@ impl Term {
             Term::Cede | Term::Never | Term::Canceled => 0,
             Term::Get(_) | Term::Set(_, _) | Term::Modify(_, _) => 0,
             Term::Complete(_, _) | Term::Await(_) => 0,
-            Term::Cancel(_) => 1,
+            Term::Cancel(_) => within(0, 1),
             Term::Uncancelable(e) => within(e.masks(), 1),
             Term::Poll(_, e) | Term::Ref(_, e) | Term::Deferred(e) => e.masks(),
             Term::Repeat(_, e) | Term::Forever(e) => e.masks(),

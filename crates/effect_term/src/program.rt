@@ -1,7 +1,7 @@
 //! Programs: the terms that a fiber may run.
 
-ghost use Rattle.std.specs.Prelude.{◌≡◌, IfOk, OnOk, IfErr, IsOkUnless, IsTrue, ◌↔◌};
-ghost use Rattle.effect_term.specs.Programs.{IsProgram, IsRefusal};
+ghost use Rattle.std.specs.Prelude.{◌≡◌, None, IfOk, OnOk, IfErr, IsOkUnless, IsTrue, ◌↔◌};
+ghost use Rattle.effect_term.specs.Programs.{IsProgram, IsRefusal, refusal_of};
 ghost use Rattle.effect_term.specs.Starts.{starts_fiber};
 
 use crate::names::check_names;
@@ -49,6 +49,7 @@ impl Program {
     pub fn check(alloc: Global, term: Term) -> Result<Program, TermError>
         ensures kept { IfOk result (λ program. program ≡ term) }
         ensures found { OnOk result (IsProgram term) }
+        ensures good { OnOk result (refusal_of term ≡ None) }
         ensures only { IsProgram term → IsOkUnless result TermError.NoMemory }
         ensures refused { IfErr result (IsRefusal term) }
     {
