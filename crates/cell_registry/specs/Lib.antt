@@ -1,2 +1,6 @@
 pub mod Cells
 pub mod Histories
+pub mod Words
+pub mod Rule
+pub mod Steps
+pub mod Passes

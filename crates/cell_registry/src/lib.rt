@@ -8,9 +8,19 @@
 
 mod call;
 mod cell;
+mod claims;
+mod knowledge;
 mod limits;
+mod pass;
+mod registry;
+mod rule;
+mod words;
 
 pub use call::{Call, Entry};
 pub use cell::{Cell, Stage};
 pub use effect_term::{CancelReply, JoinReply, Outcome, Reply};
+pub use knowledge::Knowledge;
 pub use limits::{Band, CellError, Limits, RunError};
+pub use pass::Pass;
+pub use registry::Registry;
+pub use rule::Rule;
