@@ -80,30 +80,23 @@ OnlySees p q = q ≡ record p { seen = q.seen }
 abbrev pub Calls : PassView → Call → Reply → PassView → Type 0
 Calls p c r q = IsCall p.registry.limits p.fibers p.seen p.number c r q.seen
 
--- a call that changes nothing of the pass but what it has seen
-abbrev pub CallsAndSees : PassView → Call → Reply → PassView → Type 0
-CallsAndSees p c r q = OnlySees p q × Calls p c r q
-
 -- the pass of a new fiber: it has seen what its parent has, and its fiber runs with no mask
 abbrev pub newborn : PassView → ℕ → PassView
 newborn p n = record p { number = n; stage = Running; depth = 0; count = 0; saw = false; fibers = n ∷ [] }
 
 -- the pass p started the fiber of the pass c, which has made no call, and is q since
 pub record Starts (p c q : PassView) : Type 0 where
-  pub same : OnlySees p q
   pub call : Calls p Start (reply.Number c.number) q
   pub child : c ≡ newborn q c.number
   pub silent : calls_by c.number q.seen ≡ []
 
 -- the pass was given the number n of a band
 pub record Gives (b : Band) (p : PassView) (n : ℕ) (q : PassView) : Type 0 where
-  pub same : OnlySees p q
   pub call : Calls p (claim_of b) (reply.Number n) q
   pub within : n < limit_of b p.registry.limits
 
 -- the pass made no call, and has seen the giving of all numbers of the band
 pub record SeesAllGiven (b : Band) (p q : PassView) : Type 0 where
-  pub same : OnlySees p q
   pub look : IsLook p.registry.limits p.fibers p.seen q.seen
   pub given : next_of b (left p.registry.limits q.seen) ≡ limit_of b p.registry.limits
 

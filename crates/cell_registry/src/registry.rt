@@ -5,7 +5,7 @@ ghost use Rattle.cell_registry.specs.declared.limits.Band.TheVariants.{Deferreds
 ghost use Rattle.cell_registry.specs.declared.limits.CellError.TheVariants.{Full};
 ghost use Rattle.cell_registry.specs.declared.call.Call.TheVariants as call;
 ghost use Rattle.cell_registry.specs.Cells.{AreLimits, IsOpen};
-ghost use Rattle.cell_registry.specs.Passes.{Calls, CallsAndSees, Gives, IsOf, Meets, SeesAllGiven, Starts, first_pass};
+ghost use Rattle.cell_registry.specs.Passes.{Calls, Gives, IsOf, Meets, OnlySees, SeesAllGiven, Starts, first_pass};
 
 use crate::cell::Stage;
 use crate::claims::claim;
@@ -82,6 +82,7 @@ impl Registry {
     pub fn start(&self, pass: &mut Pass) -> Result<Pass, CellError>
         requires own { IsOf self.now pass.old }
         requires open { IsOpen pass.old.stage }
+        ensures same { OnlySees pass.old pass.new }
         ensures started { IfOk result (λ child. Starts pass.old child pass.new) }
         ensures full { IfErr result (λ e. (e ≡ Full Fibers self.now.limits.fibers) × SeesAllGiven Fibers pass.old pass.new) }
     {
@@ -107,6 +108,7 @@ impl Registry {
     /// refs of the registry were made.
     pub fn new_ref(&self, pass: &mut Pass) -> Result<u16, CellError>
         requires own { IsOf self.now pass.old }
+        ensures same { OnlySees pass.old pass.new }
         ensures made { IfOk result (λ r. Gives Refs pass.old r pass.new) }
         ensures full { IfErr result (λ e. (e ≡ Full Refs self.now.limits.refs) × SeesAllGiven Refs pass.old pass.new) }
     {
@@ -119,6 +121,7 @@ impl Registry {
     /// n deferreds of the registry were made.
     pub fn new_deferred(&self, pass: &mut Pass) -> Result<u16, CellError>
         requires own { IsOf self.now pass.old }
+        ensures same { OnlySees pass.old pass.new }
         ensures made { IfOk result (λ d. Gives Deferreds pass.old d pass.new) }
         ensures full { IfErr result (λ e. (e ≡ Full Deferreds self.now.limits.deferreds) × SeesAllGiven Deferreds pass.old pass.new) }
     {
@@ -132,7 +135,8 @@ impl Registry {
     pub fn cancel(&self, pass: &mut Pass, fiber: u16) -> CancelReply
         requires own { IsOf self.now pass.old }
         requires within { fiber < self.now.limits.fibers }
-        ensures { CallsAndSees pass.old (call.Cancel fiber) (reply.Cancel result) pass.new }
+        ensures same { OnlySees pass.old pass.new }
+        ensures call { Calls pass.old (call.Cancel fiber) (reply.Cancel result) pass.new }
     {
         let found = self.table.shared.fetch_or::<rule::Cancels>(
             &mut pass.seat,
@@ -147,7 +151,8 @@ impl Registry {
     pub fn join(&self, pass: &mut Pass, fiber: u16) -> JoinReply
         requires own { IsOf self.now pass.old }
         requires within { fiber < self.now.limits.fibers }
-        ensures { CallsAndSees pass.old (call.Join fiber) (reply.Join result) pass.new }
+        ensures same { OnlySees pass.old pass.new }
+        ensures call { Calls pass.old (call.Join fiber) (reply.Join result) pass.new }
     {
         let found = self.table.shared.fetch_or::<rule::Joins>(
             &mut pass.seat,
@@ -197,3 +202,6 @@ impl Registry {
         met
     }
 }
+
+#[cfg(test)]
+mod tests;
