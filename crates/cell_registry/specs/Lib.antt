@@ -4,3 +4,4 @@ pub mod Words
 pub mod Rule
 pub mod Steps
 pub mod Passes
+pub mod Plain
