@@ -9,3 +9,4 @@ pub mod CellTurns
 pub mod Claiming
 pub mod Seats
 pub mod Tokens
+pub mod OwnTurns

@@ -16,9 +16,10 @@ use Rattle.cell_registry.specs.declared.knowledge.Knowledge.{Knowledge}
 use Rattle.cell_registry.specs.Cells.{AreLimits, fresh, owned, cell_of}
 use Rattle.cell_registry.specs.Histories.{left, IsLegal, calls_by}
 use Rattle.cell_registry.specs.Rule.{Has, seen_cell, first_knowledge}
-use Rattle.cell_registry.specs.Steps.{entry, IsCall, Called, IsSame, fibers_with, FoundNone, eldest, younger, Claimed, parent, child, hosting, Met}
-use Rattle.cell_registry.specs.Passes.{RegistryView, PassView, IsPass, pass_of, IsSeated, IsOf}
+use Rattle.cell_registry.specs.Steps.{entry, IsCall, Called, IsSame, IsChanged, fibers_with, FoundNone, eldest, younger, Claimed, parent, child, hosting, Met}
+use Rattle.cell_registry.specs.Passes.{RegistryView, IsRegistry, PassView, IsPass, pass_of, IsSeated, IsOf}
 use Rattle.cell_registry.proofs.Lists.{get_or-replicate_default}
+use Rattle.cell_registry.proofs.Legal.{sound}
 use Rattle.cell_registry.proofs.Requests.{request-prefix}
 
 -- ---- what the seat of a pass knows
@@ -63,6 +64,48 @@ seated_still v w t u n g d c b s more legal i =
     let before : b ≡ true → (seen_cell v v.number).request ≡ true = λ e. ap (λ (f : ℕ). (seen_cell v f).request) (sym i.number_is) ∙ i.pass.request e in
     let now : b ≡ true → (cell_of (left v.limits w.seen) v.number).request ≡ true = λ e. request-prefix v.limits v.seen w.seen v.number more (before e) in
     seated_looked v w t u n g d c b b s legal (λ e. (λ j. (cell_of (left (s.limits j) w.seen) v.number).request) ∙ now e) i
+
+-- a pass whose own part of the cell has changed
+pub seated_changed : (v w : Knowledge) (t u : TableId) (n : ℕ) (g g' : Stage) (d d' c c' : ℕ) (b : Bool) (own : Stage × ℕ × ℕ) → own ≡ (g', d', c') → IsChanged v w own → IsPrefix v.seen w.seen → IsLegal v.limits w.seen → IsSeated v (pass_of t v n g d c b) → IsSeated w (pass_of u w n g' d' c' b)
+seated_changed v w t u n g g' d d' c c' b own is s more legal i = record {
+    number_is = i.number_is ∙ sym s.number;
+    pass = record {
+        limits = rw s.limits i.pass.limits;
+        legal = rw s.limits legal;
+        own = rw s.fibers i.pass.own;
+        within = rw s.limits i.pass.within;
+        cell = ap (λ (f : ℕ). owned (seen_cell w f)) i.number_is ∙ s.cell ∙ is;
+        request = λ e.
+            let before : (seen_cell v n).request ≡ true = i.pass.request e in
+            let now : (cell_of (left v.limits w.seen) n).request ≡ true = request-prefix v.limits v.seen w.seen n more before in
+            (λ j. (cell_of (left (s.limits j) w.seen) n).request) ∙ now;
+    };
+}
+
+-- where the count of a pass isn't the limit, it is below it
+pub count_below : (v : Knowledge) (p : PassView) (r : RegistryView) → IsSeated v p → p.registry ≡ r → p.count ≢ r.limits.count → p.count < p.registry.limits.count
+count_below v p r i of ne =
+    let most = ((sound p.registry.limits p.seen i.pass.limits i.pass.legal).each_cell p.number).count in
+    let is = ap (λ o. o.2) i.pass.cell in
+    let limit = ap (λ (x : RegistryView). x.limits.count) of in
+    let apart : p.count ≢ p.registry.limits.count = λ (e : p.count ≡ p.registry.limits.count). ne (e ∙ limit) in
+    omega arith
+
+pub seen_count_below : (v : Knowledge) (t : TableId) (n : ℕ) (g : Stage) (d c : ℕ) (b : Bool) (r : RegistryView) (key : Limits) → IsSeated v (pass_of t v n g d c b) → (pass_of t v n g d c b).registry ≡ r → IsRegistry key r → c ≢ r.limits.count → (seen_cell v v.number).count < key.count
+seen_count_below v t n g d c b r key i of reg ne =
+    let below = count_below v (pass_of t v n g d c b) r i of ne in
+    let is = ap (λ o. o.2) (seat_cell v t n g d c b i) in
+    let limit = ap (λ (x : RegistryView). x.limits.count) of in
+    let key_count = ap (λ (k : Limits). k.count) reg.key_is in
+    omega arith
+
+-- the word of the pass's own fiber is one of the table's
+pub own_place : (v : Knowledge) (p : PassView) (r : RegistryView) (key : Limits) (i : ℕ) → IsSeated v p → p.registry ≡ r → IsRegistry key r → i ≡ p.number + 3 → i < r.table.words
+own_place v p r key i s of reg is =
+    let within = s.pass.within in
+    let fibers = ap (λ (x : RegistryView). x.limits.fibers) of in
+    let words = reg.words in
+    omega arith
 
 -- ---- a new fiber
 -- the parent, once the number is handed out

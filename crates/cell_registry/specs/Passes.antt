@@ -6,6 +6,8 @@ use Rattle.effect_term.specs.declared.reply.Reply.{Reply}
 use Rattle.effect_term.specs.declared.reply.Reply.TheVariants as reply
 use Rattle.cell_registry.specs.declared.limits.Limits.{Limits}
 use Rattle.cell_registry.specs.declared.limits.Band.{Band}
+use Rattle.cell_registry.specs.declared.limits.CellError.{CellError}
+use Rattle.cell_registry.specs.declared.limits.CellError.TheVariants.{Spent}
 use Rattle.cell_registry.specs.declared.cell.Stage.{Stage}
 use Rattle.cell_registry.specs.declared.cell.Stage.TheVariants.{Running}
 use Rattle.cell_registry.specs.declared.cell.Cell.{Cell}
@@ -79,6 +81,18 @@ OnlySees p q = q ≡ record p { seen = q.seen }
 -- the pass p made this call, and is q since
 abbrev pub Calls : PassView → Call → Reply → PassView → Type 0
 Calls p c r q = IsCall p.registry.limits p.fibers p.seen p.number c r q.seen
+
+-- a change that the pass p made of its fiber's own cell: the fiber is at this stage and depth since, with one change more. The count was below the limit
+pub record Changes (p : PassView) (c : Call) (g : Stage) (depth : ℕ) (q : PassView) : Type 0 where
+  pub room : p.count < p.registry.limits.count
+  pub same : q ≡ record p { stage = g; depth = depth; count = p.count + 1; seen = q.seen }
+  pub call : Calls p c reply.Done q
+
+-- the fiber's changes are used up, and nothing has changed
+pub record IsSpent (p : PassView) (e : CellError) (q : PassView) : Type 0 where
+  pub error : e ≡ Spent p.count
+  pub limit : p.count ≡ p.registry.limits.count
+  pub same : q ≡ p
 
 -- the pass of a new fiber: it has seen what its parent has, and its fiber runs with no mask
 abbrev pub newborn : PassView → ℕ → PassView

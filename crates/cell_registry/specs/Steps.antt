@@ -1,9 +1,12 @@
 -- What each step tells the pass that makes it.
-use Rattle.std.specs.Prelude.{◌≡◌, ◌≢◌, ℕ, ◌+◌, ◌<◌, List, [], ◌∷◌, ◌++◌, ◌⊎◌}
+use Rattle.std.specs.Prelude.{◌≡◌, ◌≢◌, ℕ, ◌+◌, ◌%◌, ◌^◌, ◌<◌, Bool, ◌==◌, List, [], ◌∷◌, ◌++◌, ◌⊎◌, Option, Some, ℤ}
+use Rattle.std.specs.Int.{w32, cast_signed, cast_unsigned}
+use Rattle.std.specs.Int.RustNames.{FitsSigned}
 use mathlib.Core.List.{IsPrefix}
+use Rattle.effect_term.specs.declared.reply.Outcome.{Outcome}
 use Rattle.effect_term.specs.declared.reply.Reply.{Reply}
 use Rattle.effect_term.specs.declared.reply.Reply.TheVariants as reply
-use Rattle.control_word.specs.Word.{InRange}
+use Rattle.control_word.specs.Word.{InRange, bit, finish_sum, OutcomeFits as FitsOutcome}
 use Rattle.cell_registry.specs.declared.limits.Limits.{Limits}
 use Rattle.cell_registry.specs.declared.limits.Band.{Band}
 use Rattle.cell_registry.specs.declared.limits.Band.TheVariants.{Fibers, Refs, Deferreds}
@@ -11,12 +14,12 @@ use Rattle.cell_registry.specs.declared.cell.Stage.{Stage}
 use Rattle.cell_registry.specs.declared.cell.Stage.TheVariants.{Running}
 use Rattle.cell_registry.specs.declared.cell.Cell.{Cell}
 use Rattle.cell_registry.specs.declared.call.Call.{Call}
-use Rattle.cell_registry.specs.declared.call.Call.TheVariants.{Start, Cancel, Join, Look, NewRef, NewDeferred}
+use Rattle.cell_registry.specs.declared.call.Call.TheVariants.{Start, Cancel, Join, Look, Mask, Unmask, Cut, Finish, NewRef, NewDeferred, Get, Set, Modify, Complete, Read}
 use Rattle.cell_registry.specs.declared.call.Entry.{Entry}
 use Rattle.cell_registry.specs.declared.knowledge.Knowledge.{Knowledge}
-use Rattle.cell_registry.specs.Cells.{Cells, owned, IsOpen, cancel_reply, join_reply}
+use Rattle.cell_registry.specs.Cells.{Cells, masked, unmasked, cut, finished, owned, IsOpen, cancel_reply, join_reply, ValueFits}
 use Rattle.cell_registry.specs.Histories.{left, IsLegal, calls_by}
-use Rattle.cell_registry.specs.Words.{control, cell_word}
+use Rattle.cell_registry.specs.Words.{phase_at, control, cell_word, deferred_word}
 use Rattle.cell_registry.specs.Rule.{Has, seen_cell}
 
 -- ---- calls and looks
@@ -68,6 +71,67 @@ Joined f v found w = FoundCell found (λ c. Called v (Join f) (reply.Join (join_
 -- the request that was found stands in what was seen
 abbrev pub SawRequest : Knowledge → ℕ → Knowledge → Type 0
 SawRequest v found w = FoundCell found (λ c. Called v Look (reply.Seen c.request) w × IsSame v w × ((seen_cell w v.number).request ≡ c.request))
+
+-- ---- steps on the caller's own word
+-- the same pass, whose own part of its cell is now this
+pub record IsChanged (v w : Knowledge) (own : Stage × ℕ × ℕ) : Type 0 where
+  pub limits : w.limits ≡ v.limits
+  pub number : w.number ≡ v.number
+  pub fibers : w.fibers ≡ v.fibers
+  pub cell : owned (seen_cell w v.number) ≡ own
+
+-- the call was made, and changed the caller's cell so
+abbrev pub Changed : Knowledge → Call → (Cell → Cell) → Knowledge → Type 0
+Changed v c φ w = Called v c reply.Done w × IsChanged v w (owned (φ (seen_cell v v.number)))
+
+abbrev pub Masked : Knowledge → Knowledge → Type 0
+Masked v w = Changed v Mask masked w
+
+abbrev pub Unmasked : Knowledge → Knowledge → Type 0
+Unmasked v w = Changed v Unmask unmasked w
+
+abbrev pub WasCut : Knowledge → Knowledge → Type 0
+WasCut v w = Changed v Cut cut w
+
+-- the owner added k, which tells the outcome
+abbrev pub Finished : ℕ → Knowledge → Knowledge → Type 0
+Finished k v w = (b : Bool) (o : Outcome) → phase_at (seen_cell v v.number).stage ≡ bit b → FitsOutcome o → k ≡ finish_sum b o → Changed v (Finish o) (finished o) w
+
+-- ---- steps on the word of a ref or a deferred
+-- the word i is that of the ref r
+abbrev pub AtRef : ℕ → Limits → (ℕ → Type 0) → Type 0
+AtRef i k P = (r : ℕ) → i ≡ r + (3 + k.fibers) → P r
+
+-- the word i is that of the deferred d
+abbrev pub AtDeferred : ℕ → Limits → (ℕ → Type 0) → Type 0
+AtDeferred i k P = (d : ℕ) → i ≡ d + (3 + k.fibers + k.refs) → P d
+
+-- n has the 32 bits of v
+abbrev pub HasBits : ℕ → ℤ → Type 0
+HasBits n v = FitsSigned w32 v × (n ≡ cast_unsigned w32 v)
+
+-- the value of a ref with this word
+abbrev pub ref_value : ℕ → ℤ
+ref_value n = cast_signed w32 (n % 2 ^ 32)
+
+abbrev pub Got : ℕ → Knowledge → ℕ → Knowledge → Type 0
+Got i v found w = AtRef i v.limits (λ r. Called v (Get r) (reply.Value (ref_value found)) w × IsSame v w)
+
+-- the number n was stored
+abbrev pub WasSet : ℕ → ℕ → Knowledge → Knowledge → Type 0
+WasSet i n v w = AtRef i v.limits (λ r. (x : ℤ) → HasBits n x → Called v (Set r x) reply.Done w × IsSame v w)
+
+-- the number n was added
+abbrev pub Modified : ℕ → ℕ → Knowledge → ℕ → Knowledge → Type 0
+Modified i n v found w = AtRef i v.limits (λ r. (x : ℤ) → HasBits n x → Called v (Modify r x) (reply.Value (ref_value found)) w × IsSame v w)
+
+-- n was exchanged for an empty deferred's word
+abbrev pub Completed : ℕ → ℕ → Knowledge → ℕ → Knowledge → Type 0
+Completed i n v found w = AtDeferred i v.limits (λ d. (x : ℤ) → FitsSigned w32 x → n ≡ deferred_word (Some x) → Called v (Complete d x) (reply.Completed (found == 0)) w × IsSame v w)
+
+-- the word that was found is that of the value
+abbrev pub WasRead : ℕ → Knowledge → ℕ → Knowledge → Type 0
+WasRead i v found w = AtDeferred i v.limits (λ d. (x : Option ℤ) × ValueFits x × (deferred_word x ≡ found) × Called v (Read d) (reply.Read x) w × IsSame v w)
 
 -- ---- steps on the claim word of a band
 abbrev pub band_word : Band → ℕ

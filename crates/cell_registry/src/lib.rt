@@ -15,6 +15,7 @@ mod cell;
 mod claims;
 mod knowledge;
 mod limits;
+mod own_calls;
 mod pass;
 mod plain;
 #[cfg(test)]

@@ -26,8 +26,8 @@ use std::marker::Model;
 /// order, a history that one thread could have made, and each pass has seen a beginning of it.
 #[derive(Drop)]
 pub struct Registry {
-    table: Table<u8, Knowledge, Limits, Rule, Global>,
-    limits: Limits,
+    pub(crate) table: Table<u8, Knowledge, Limits, Rule, Global>,
+    pub(crate) limits: Limits,
 }
 
 impl Model for Registry {

@@ -1,7 +1,7 @@
 //! What holds of the table between any two steps, and what each step tells.
 ghost use Rattle.std.specs.Prelude.{◌≡◌, []};
 ghost use Rattle.cell_registry.specs.Rule.{WordsAreAHistory, first_knowledge};
-ghost use Rattle.cell_registry.specs.Steps.{AtBand, AtCell, Cancelled, Joined, Met, SawNext, SawRequest, Tried, child, hosting, nothing, parent};
+ghost use Rattle.cell_registry.specs.Steps.{AtBand, AtCell, Cancelled, Completed, Finished, Got, Joined, Masked, Met, Modified, SawNext, SawRequest, Tried, Unmasked, WasCut, WasRead, WasSet, child, hosting, nothing, parent};
 
 use crate::knowledge::Knowledge;
 use crate::limits::Limits;
@@ -33,6 +33,60 @@ pub(crate) struct Looks;
 
 impl Play<u8, Knowledge> for Looks {
     ghost then = { λ step before found now. (now.1 ≡ []) × SawRequest before.0 found now.0 };
+}
+
+pub(crate) struct Masks;
+
+impl Play<u8, Knowledge> for Masks {
+    ghost then = { λ step before found now. (now.1 ≡ []) × Masked before.0 now.0 };
+}
+
+pub(crate) struct Unmasks;
+
+impl Play<u8, Knowledge> for Unmasks {
+    ghost then = { λ step before found now. (now.1 ≡ []) × Unmasked before.0 now.0 };
+}
+
+pub(crate) struct Cuts;
+
+impl Play<u8, Knowledge> for Cuts {
+    ghost then = { λ step before found now. (now.1 ≡ []) × WasCut before.0 now.0 };
+}
+
+pub(crate) struct Finishes;
+
+impl Play<u8, Knowledge> for Finishes {
+    ghost then = { λ step before found now. (now.1 ≡ []) × Finished step.first before.0 now.0 };
+}
+
+pub(crate) struct Gets;
+
+impl Play<u8, Knowledge> for Gets {
+    ghost then = { λ step before found now. (now.1 ≡ []) × Got step.word before.0 found now.0 };
+}
+
+pub(crate) struct Sets;
+
+impl Play<u8, Knowledge> for Sets {
+    ghost then = { λ step before found now. (now.1 ≡ []) × WasSet step.word step.first before.0 now.0 };
+}
+
+pub(crate) struct Modifies;
+
+impl Play<u8, Knowledge> for Modifies {
+    ghost then = { λ step before found now. (now.1 ≡ []) × Modified step.word step.first before.0 found now.0 };
+}
+
+pub(crate) struct Completes;
+
+impl Play<u8, Knowledge> for Completes {
+    ghost then = { λ step before found now. (now.1 ≡ []) × Completed step.word step.second before.0 found now.0 };
+}
+
+pub(crate) struct Reads;
+
+impl Play<u8, Knowledge> for Reads {
+    ghost then = { λ step before found now. (now.1 ≡ []) × WasRead step.word before.0 found now.0 };
 }
 
 // The load before a claim.

@@ -87,7 +87,7 @@ fn two_threads_start_and_cancel_at_once(rt: HostRuntime) -> Result<(), AllocErro
         given.push(number.unwrap_or(0))?;
     }
     given.sort_unstable();
-    assert_eq!(rt; given.as_slice(), [2, 3, 4, 5, 6, 7, 8, 9]);
+    assert_eq!(rt; given.as_slice(), [2, 3, 4, 5, 6, 7, 8, 9].as_slice());
     assert_eq!(rt; registry.cancel(&mut met, 2), CancelReply::Already);
     assert_eq!(rt; registry.cancel(&mut met, 9), CancelReply::Already);
     assert_eq!(rt;

@@ -7,22 +7,18 @@ use Rattle.cell_registry.specs.Cells.{IsOpen}
 use Rattle.cell_registry.specs.Steps.{Called}
 use Rattle.cell_registry.specs.Passes.{RegistryView, PassView, Calls, pass_of}
 use Rattle.cell_registry.proofs.CellTurns.{sees}
-use Rattle.cell_registry.proofs.Tokens.{of_registry, seat_has, seat_cell, called_by, pass_of-step, seated_looked}
+use Rattle.cell_registry.proofs.Tokens.{of_registry, own_place, seat_has, seat_cell, called_by, pass_of-step, seated_looked}
 use Rattle.cell_registry.proofs.registry.Registry.look.Goals as goal
 
 pub load-found-requires : goal.load-found-requires
 load-found-requires c =
-    let r = c.self.invariant in
     let p = c.pass.invariant in
     let of = of_registry _ _ _ _ c.self.view_is c.pass.view_is c.requires.own in
-    let limits = ap (λ (s : RegistryView). s.limits.fibers) of in
-    let within = p.1.pass.within in
-    let words = r.words in
     let cell = seat_cell _ _ _ _ _ _ _ p.1 in
     let opened = subst (λ (q : PassView). IsOpen q.stage) (sym c.pass.view_is) c.requires.open in
     let depth = subst (λ (q : PassView). q.depth ≡ 0) (sym c.pass.view_is) c.requires.unmasked in
     let place = c.cell_place.ensures in
-    (ap (λ (s : RegistryView). s.table) of, omega arith, sees _ _ _ c.cell_place.result _ p.0 (seat_has _ _ refl p.1) (place ∙ ap (λ n. n + 3) p.1.number_is) (subst IsOpen (sym (ap (λ o. o.0) cell)) opened) (ap (λ o. o.1) cell ∙ depth))
+    (ap (λ (s : RegistryView). s.table) of, own_place _ _ _ _ _ p.1 of c.self.invariant c.cell_place.ensures, sees _ _ _ c.cell_place.result _ p.0 (seat_has _ _ refl p.1) (place ∙ ap (λ n. n + 3) p.1.number_is) (subst IsOpen (sym (ap (λ o. o.0) cell)) opened) (ap (λ o. o.1) cell ∙ depth))
 
 pub invariant_of-pass : goal.invariant_of-pass
 invariant_of-pass c =
