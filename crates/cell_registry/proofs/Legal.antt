@@ -14,7 +14,7 @@ use Rattle.cell_registry.proofs.Lists.{get_or-replicate_default}
 use Rattle.cell_registry.proofs.Calls.{next_fiber-after, next_fiber-new, next_ref-after, next_deferred-after, owned-after, opening-sound, after-sound}
 
 -- ---- one entry more
-left_from-append : (s : Cells) (g h : List Entry) → left_from s (g ++ h) ≡ left_from (left_from s g) h
+pub left_from-append : (s : Cells) (g h : List Entry) → left_from s (g ++ h) ≡ left_from (left_from s g) h
 left_from-append s [] h = refl
 left_from-append s (e ∷ g) h = left_from-append (after s e.by e.call) g h
 

@@ -1,3 +1,12 @@
 pub mod Lists
 pub mod Calls
 pub mod Legal
+pub mod TableWords
+pub mod Replies
+pub mod Turns
+pub mod Requests
+pub mod CellTurns
+pub mod Claiming
+pub mod Seats
+pub mod Tokens
+pub mod OwnTurns

@@ -1,3 +1,7 @@
 pub mod Cells
 pub mod Histories
+pub mod Words
+pub mod Rule
+pub mod Steps
+pub mod Passes
 pub mod Plain

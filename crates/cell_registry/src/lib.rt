@@ -1,20 +1,35 @@
 //! The registry by which fibers share: who was born, who was asked to cancel, who ended how, and
 //! the refs and deferreds of all.
 //!
-//! It stands on `effect_term`, which has the replies. The definitions in `specs/` say what each
-//! call does to a registry of plain records, when it is refused, and which lists of calls one
-//! thread could have made.
+//! It stands on `effect_term`, which has the replies, on `control_word`, which packs a fiber's cell
+//! into one word, and on the kit's `atomic_table`, whose words change in single atomic steps. The
+//! definitions in `specs/` say what each call does to a registry of plain records, when it is
+//! refused, and which lists of calls one thread could have made (a legal history).
+//! [`PlainRegistry`] is that registry for one thread. [`Registry`] is the lock-free one, which
+//! fibers on any threads share, each by its own [`Pass`]: it promises that all calls stand, with
+//! their replies, in one legal history, which leaves exactly the words.
 #![tactic(auto)]
 
 mod call;
 mod cell;
+mod claims;
+mod knowledge;
 mod limits;
+mod own_calls;
+mod pass;
 mod plain;
 #[cfg(test)]
 mod plain_tests;
+mod registry;
+mod rule;
+mod words;
 
 pub use call::{Call, Entry};
 pub use cell::{Cell, Stage};
 pub use effect_term::{CancelReply, JoinReply, Outcome, Reply};
+pub use knowledge::Knowledge;
 pub use limits::{Band, CellError, Limits, RunError};
+pub use pass::Pass;
 pub use plain::PlainRegistry;
+pub use registry::Registry;
+pub use rule::Rule;

@@ -1,0 +1,50 @@
+-- A request for cancellation stays.
+use Rattle.std.proofs.Common.{◌≡◌, ℕ, zero, suc, Bool, true, List, [], ◌∷◌, ◌++◌, set, get_or, refl, sym, subst}
+use mathlib.Core.List.{IsPrefix}
+use Rattle.cell_registry.specs.declared.limits.Limits.{Limits}
+use Rattle.cell_registry.specs.declared.call.Call.{Call}
+use Rattle.cell_registry.specs.declared.call.Call.TheVariants.{Start, Cancel, Join, Look, Mask, Unmask, Cut, Finish, NewRef, NewDeferred, Get, Set, Modify, Complete, Read}
+use Rattle.cell_registry.specs.declared.call.Entry.{Entry}
+use Rattle.cell_registry.specs.declared.cell.Cell.{Cell}
+use Rattle.cell_registry.specs.Cells.{fresh, Cells, opening, cell_of, after, requested, awaited, masked, unmasked, cut, finished}
+use Rattle.cell_registry.specs.Histories.{left_from, left}
+use Rattle.cell_registry.proofs.Legal.{left_from-append}
+
+-- what is true of an element stays true where an element is set of which it is true if it was
+get_or-set_rises : {A : Type 0} (g : A → Bool) (l : List A) (i : ℕ) (c d : A) → (g (get_or l i d) ≡ true → g c ≡ true) → (j : ℕ) → g (get_or l j d) ≡ true → g (get_or (set l i c) j d) ≡ true
+get_or-set_rises g [] i c d up j e = e
+get_or-set_rises g (x ∷ xs) zero c d up zero e = up e
+get_or-set_rises g (x ∷ xs) zero c d up (suc j) e = e
+get_or-set_rises g (x ∷ xs) (suc i) c d up zero e = e
+get_or-set_rises g (x ∷ xs) (suc i) c d up (suc j) e = get_or-set_rises g xs i c d up j e
+
+request_with : (s : Cells) (g f : ℕ) (c : Cell) → ((cell_of s g).request ≡ true → c.request ≡ true) → (cell_of s f).request ≡ true → (get_or (set s.cells g c) f fresh).request ≡ true
+request_with s g f c up e = get_or-set_rises (λ (x : Cell). x.request) s.cells g c fresh up f e
+
+request-after : (s : Cells) (by : ℕ) (c : Call) (f : ℕ) → (cell_of s f).request ≡ true → (cell_of (after s by c) f).request ≡ true
+unfolding after
+request-after s by Start f e = e
+request-after s by (Cancel g) f e = request_with s g f (requested (cell_of s g)) (λ _. refl) e
+request-after s by (Join g) f e = request_with s g f (awaited (cell_of s g)) (λ u. u) e
+request-after s by Look f e = e
+request-after s by Mask f e = request_with s by f (masked (cell_of s by)) (λ u. u) e
+request-after s by Unmask f e = request_with s by f (unmasked (cell_of s by)) (λ u. u) e
+request-after s by Cut f e = request_with s by f (cut (cell_of s by)) (λ u. u) e
+request-after s by (Finish o) f e = request_with s by f (finished o (cell_of s by)) (λ u. u) e
+request-after s by NewRef f e = e
+request-after s by NewDeferred f e = e
+request-after s by (Get r) f e = e
+request-after s by (Set r v) f e = e
+request-after s by (Modify r v) f e = e
+request-after s by (Complete d v) f e = e
+request-after s by (Read d) f e = e
+
+request-left_from : (s : Cells) (h : List Entry) (f : ℕ) → (cell_of s f).request ≡ true → (cell_of (left_from s h) f).request ≡ true
+request-left_from s [] f e = e
+request-left_from s (x ∷ h) f e = request-left_from (after s x.by x.call) h f (request-after s x.by x.call f e)
+
+pub request-prefix : (k : Limits) (g h : List Entry) (f : ℕ) → IsPrefix g h → (cell_of (left k g) f).request ≡ true → (cell_of (left k h) f).request ≡ true
+unfolding left
+request-prefix k g h f p e =
+    subst (λ (x : List Entry). (cell_of (left_from (opening k) x) f).request ≡ true) p.1
+        (subst (λ (x : Cells). (cell_of x f).request ≡ true) (sym (left_from-append (opening k) g p.0)) (request-left_from (left_from (opening k) g) p.0 f e))

@@ -1,0 +1,175 @@
+-- One step of one pass keeps the rule: proved once, for every call.
+use Rattle.std.proofs.Common.{◌≡◌, ◌≢◌, ℕ, zero, suc, ◌+◌, ◌*◌, ◌-◌, ◌^◌, ◌<◌, ◌≤◌, Bool, true, false, List, [], ◌∷◌, ◌++◌, length, map, set, get_or, ◌⊎◌, inl, inr, ⊎_elim, refl, sym, ap, ◌∙◌, subst, arith, append_assoc, append-nil, le_trans}
+use mathlib.Core.Option.{Option, some, some-injective, some-ne-none}
+use mathlib.Core.List.{IsPrefix}
+use mathlib.Core.Logic.{dite}
+use native.Mathlib.Decide.{ℕ_discrete}
+use lib.ListN.{get_elem?}
+use Rattle.atomic_table.specs.Table.{State, Me, Act, keeps, Valid, stepped, carried_after, Allows}
+use Rattle.atomic_table.proofs.Lists.{at_set, at_snoc, set_again}
+use Rattle.effect_term.specs.declared.reply.Reply.{Reply}
+use Rattle.cell_registry.specs.declared.limits.Limits.{Limits}
+use Rattle.cell_registry.specs.declared.call.Call.{Call}
+use Rattle.cell_registry.specs.declared.call.Entry.{Entry}
+use Rattle.cell_registry.specs.declared.knowledge.Knowledge.{Knowledge}
+use Rattle.cell_registry.specs.Cells.{AreLimits, owned, Cells, cell_of, after, reply_of, IsAccepted}
+use Rattle.cell_registry.specs.Histories.{left, IsLegal, calls_by}
+use Rattle.cell_registry.specs.Words.{Leaves}
+use Rattle.cell_registry.specs.Rule.{Has, seen_cell, IsQuietSince, Fits, Owns, Apart, IsHistory, WordsAreAHistory}
+use Rattle.cell_registry.specs.Steps.{entry, Called}
+use Rattle.cell_registry.proofs.Calls.{next_fiber-after, owned-after}
+use Rattle.cell_registry.proofs.Legal.{left-push, IsLegal-push, calls_by-push, calls_by-other}
+
+longer : (v h : List Entry) (e : Entry) → IsPrefix v h → IsPrefix v (h ++ e ∷ [])
+longer v h e p = (p.0 ++ e ∷ [], sym (append_assoc v p.0 (e ∷ [])) ∙ ap (λ (l : List Entry). l ++ e ∷ []) p.1)
+
+-- the fiber has made no call up to now
+pub quiet_now : (k : Limits) (h : List Entry) (f : ℕ) → f < (left k h).next_fiber → IsQuietSince k h h f
+quiet_now k h f born = record { calls = refl; cell = refl; born = born }
+
+quiet_still : (k : Limits) (h g : List Entry) (e : Entry) (f : ℕ) → e.by ≢ f → IsQuietSince k h g f → IsQuietSince k (h ++ e ∷ []) g f
+quiet_still k h g e f apart o = record {
+  calls = calls_by-other f h e apart ∙ o.calls;
+  cell = ap (λ (s : Cells). owned (cell_of s f)) (left-push k h e) ∙ owned-after (left k h) e.by e.call f apart ∙ o.cell;
+  born = rw (left-push k h e) (let p = o.born in let q = next_fiber-after (left k h) e.by e.call in omega arith);
+}
+
+-- another pass, after an entry that is not of its fibers
+fits_still : (k : Limits) (h : List Entry) (e : Entry) (u : Knowledge) → ((f : ℕ) → Owns u f → e.by ≢ f) → Fits k h u → Fits k (h ++ e ∷ []) u
+fits_still k h e u apart o = record {
+  limits = o.limits;
+  seen = longer u.seen h e o.seen;
+  heard = longer u.heard h e o.heard;
+  own = λ f has. quiet_still k h u.seen e f (apart f (inl has)) (o.own f has);
+  guest = λ f has. quiet_still k h u.heard e f (apart f (inr has)) (o.guest f has);
+}
+
+-- a pass that has seen all, and has no guest
+pub fits_now : (k : Limits) (h : List Entry) (w : Knowledge) → w.limits ≡ k → w.seen ≡ h → w.guests ≡ [] → w.heard ≡ [] → ((f : ℕ) → Has w.fibers f → f < (left k h).next_fiber) → Fits k h w
+fits_now k h w limits seen guests heard born = record {
+  limits = λ f has. limits;
+  seen = ([], append-nil w.seen ∙ seen);
+  heard = (h, rw heard refl);
+  own = λ f has. subst (λ (g : List Entry). IsQuietSince k h g f) (sym seen) (quiet_now k h f (born f has));
+  guest = λ f has. absurd (subst (λ (fs : List ℕ). Has fs f) guests has);
+}
+
+pub owner_born : (k : Limits) (h : List Entry) (v : Knowledge) (f : ℕ) → Fits k h v → Owns v f → f < (left k h).next_fiber
+owner_born k h v f o = λ a. ⊎_elim (λ (b : Has v.fibers f). (o.own f b).born) (λ (b : Has v.guests f). (o.guest f b).born) a
+
+-- a fact on each view and its place, after one view was changed
+pub each_view : (P : ℕ → Knowledge → Type 0) (views : List Knowledge) (id : ℕ) (w : Knowledge) → ((j : ℕ) (u : Knowledge) → j ≢ id → get_elem? views j ≡ some u → P j u) → P id w → (j : ℕ) (u : Knowledge) → get_elem? (set views id w) j ≡ some u → P j u
+each_view P views id w others mine j u e =
+    ⊎_elim
+    (λ (x : (j ≡ id) × (w ≡ u)). subst (λ (y : ℕ × Knowledge). P y.0 y.1) (λ i. (sym x.0 i, x.1 i)) mine)
+    (λ (x : (j ≢ id) × (get_elem? views j ≡ some u)). others j u x.0 x.1)
+    (at_set views id j w u e)
+
+-- the views stay apart, where the one that changed stays apart from each other one
+pub apart_still : (views : List Knowledge) (id : ℕ) (w : Knowledge) → ((i j : ℕ) (x y : Knowledge) → get_elem? views i ≡ some x → get_elem? views j ≡ some y → j ≢ i → Apart x y)
+    → ((j : ℕ) (u : Knowledge) → j ≢ id → get_elem? views j ≡ some u → Apart w u)
+    → (i j : ℕ) (x y : Knowledge) → get_elem? (set views id w) i ≡ some x → get_elem? (set views id w) j ≡ some y → j ≢ i → Apart x y
+apart_still views id w before mine =
+    λ i j x y ei ej ne. each_view (λ i x. (j : ℕ) (y : Knowledge) → get_elem? (set views id w) j ≡ some y → j ≢ i → Apart x y) views id w
+    (λ i x other at. each_view (λ j y. j ≢ i → Apart x y) views id w (λ j y _ atj ne. before i j x y at atj ne) (λ ne f a b. mine i x other at f b a))
+    (each_view (λ j y. j ≢ id → Apart w y) views id w (λ j y other atj ne. mine j y other atj) (λ ne. absurd (ne refl)))
+    i x ei j y ej ne
+
+-- what one call has to show, where h is the history before it
+pub record Turn (k : Limits) (v : Knowledge) (i x : ℕ) (then : ℕ → Knowledge → Type 0) (h : List Entry) (words : List ℕ) : Type 0 where
+  pub call : Call
+  pub accepted : IsAccepted k (left k h) v.number call
+  pub word : Leaves (set words i x) (after (left k h) v.number call)
+  pub view : Knowledge
+  pub limits : view.limits ≡ v.limits
+  pub seen : view.seen ≡ h ++ entry v.number call (reply_of (left k h) v.number call) ∷ []
+  pub guests : view.guests ≡ []
+  pub heard : view.heard ≡ []
+  pub fibers : (g : ℕ) → Has view.fibers g → Has v.fibers g ⊎ (((left k h).next_fiber ≤ g) × (g < (after (left k h) v.number call).next_fiber))
+  pub told : Called v call (reply_of (left k h) v.number call) view → then (get_or words i 0) view
+
+-- what a step that makes no call has to show: the pass has the view afterwards, and has seen the history of that moment
+pub record Look (k : Limits) (v : Knowledge) (i x : ℕ) (then : ℕ → Knowledge → Type 0) (h : List Entry) (words : List ℕ) : Type 0 where
+  pub view : Knowledge
+  pub word : Leaves (set words i x) (left k h)
+  pub limits : view.limits ≡ v.limits
+  pub seen : view.seen ≡ h
+  pub guests : view.guests ≡ []
+  pub heard : view.heard ≡ []
+  pub fibers : (g : ℕ) → Has view.fibers g → Owns v g
+  pub told : then (get_or words i 0) view
+
+module _ {S : Type 0} where
+  -- at one moment: the word i becomes x, the pass gets a view, and `then` is told
+  abbrev pub Goes : Limits → State S Knowledge → ℕ → ℕ → ℕ → Me S Knowledge → (ℕ → Me S Knowledge → Type 0) → Type 0
+  Goes k s i x id me then = (w : Knowledge) × (a : Act S) × Valid s.homes me.1 a × WordsAreAHistory k (stepped s i x id me.1 w a) × then (get_or s.words i 0) (w, carried_after me.1 a)
+
+  abbrev pub Tells : (ℕ → Knowledge → Type 0) → ℕ → Me S Knowledge → Type 0
+  Tells then n now = (now.1 ≡ []) × then n now.0
+
+  pub turn_at : (k : Limits) (id : ℕ) (me : Me S Knowledge) (i x : ℕ) (then : ℕ → Knowledge → Type 0) → me.1 ≡ [] → Has me.0.fibers me.0.number
+      → (s : State S Knowledge) (kept : WordsAreAHistory k s) → get_elem? s.views id ≡ some me.0 → Turn k me.0 i x then kept.0 s.words → Goes k s i x id me (Tells then)
+  turn_at k id me i x then none_out has s kept at t =
+      let v : Knowledge = me.0 in
+      let h = kept.0 in let r = kept.1 in
+      let mine : Fits k h v = r.fits id v at in
+      let limits : v.limits ≡ k = mine.limits v.number has in
+      let e : Entry = entry v.number t.call (reply_of (left k h) v.number t.call) in
+      let w : Knowledge = t.view in
+      let push = left-push k h e in
+      let up = next_fiber-after (left k h) v.number t.call in
+      let legal = IsLegal-push k h e r.legal record { born = (mine.own v.number has).born; accepted = t.accepted; replied = refl } in
+      let kept' : IsHistory k (set s.words i x) (set s.views id w) (h ++ e ∷ []) = record {
+        limits = r.limits;
+        legal = legal;
+        words_are = subst (Leaves (set s.words i x)) (sym push) t.word;
+        fits = each_view (λ j u. Fits k (h ++ e ∷ []) u) s.views id w
+            (λ j u other atj. fits_still k h e u (λ g hasu is. r.apart id j v u at atj other g (subst (Owns v) is (inl has)) hasu) (r.fits j u atj))
+            (fits_now k (h ++ e ∷ []) w (t.limits ∙ limits) t.seen t.guests t.heard
+            (λ g hasw. rw push (⊎_elim (λ (a : Has v.fibers g). let b = (mine.own g a).born in let c : g < (after (left k h) v.number t.call).next_fiber = omega arith in c) (λ b. b.1) (t.fibers g hasw))));
+        apart = apart_still s.views id w r.apart
+            (λ j u other atj g ownw hasu. ⊎_elim
+            (λ (hasw : Has w.fibers g). ⊎_elim (λ (a : Has v.fibers g). r.apart id j v u at atj other g (inl a) hasu)
+            (λ (b : ((left k h).next_fiber ≤ g) × (g < (after (left k h) v.number t.call).next_fiber)). let low = b.0 in let c = owner_born k h u g (r.fits j u atj) hasu in absurd (omega arith)) (t.fibers g hasw))
+            (λ (no : Has w.guests g). absurd (subst (λ (fs : List ℕ). Has fs g) t.guests no)) ownw);
+      } in
+      let made : Called v t.call (reply_of (left k h) v.number t.call) w = record {
+        between = mine.seen.0;
+        seen = t.seen ∙ ap (λ (l : List Entry). l ++ e ∷ []) (sym mine.seen.1);
+        legal = subst (λ (x : Limits × List Entry). IsLegal x.0 x.1) (λ i. (sym limits i, sym t.seen i)) legal;
+        own = ap (calls_by v.number) t.seen ∙ calls_by-push v.number h e refl ∙ ap (λ (l : List Entry). l ++ e ∷ []) (mine.own v.number has).calls;
+        others = λ g hasv ne. ap (calls_by g) t.seen ∙ calls_by-other g h e (λ q. ne (sym q)) ∙ (mine.own g hasv).calls;
+      } in
+      (w, keeps, tt, (h ++ e ∷ [], kept'), (none_out, t.told made))
+
+  pub turns : (k : Limits) (id : ℕ) (me : Me S Knowledge) (i : ℕ) (f : ℕ → ℕ) (then : ℕ → Knowledge → Type 0) (slots : ℕ) → me.1 ≡ [] → Has me.0.fibers me.0.number
+      → ((h : List Entry) (words : List ℕ) → AreLimits k → IsLegal k h → Leaves words (left k h) → Fits k h me.0 → Turn k me.0 i (f (get_or words i 0)) then h words)
+      → Allows (WordsAreAHistory k) slots id me i f (Tells then)
+  turns k id me i f then slots none_out has makes s kept len at small =
+      let r = kept.1 in
+      turn_at k id me i (f (get_or s.words i 0)) then none_out has s kept at
+      (makes kept.0 s.words r.limits r.legal r.words_are (r.fits id me.0 at))
+
+  pub look_at : (k : Limits) (id : ℕ) (me : Me S Knowledge) (i x : ℕ) (then : ℕ → Knowledge → Type 0) → me.1 ≡ [] → Has me.0.fibers me.0.number
+      → (s : State S Knowledge) (kept : WordsAreAHistory k s) → get_elem? s.views id ≡ some me.0 → Look k me.0 i x then kept.0 s.words → Goes k s i x id me (Tells then)
+  look_at k id me i x then none_out has s kept at t =
+      let v : Knowledge = me.0 in
+      let h = kept.0 in let r = kept.1 in
+      let mine : Fits k h v = r.fits id v at in
+      let w : Knowledge = t.view in
+      let kept' : IsHistory k (set s.words i x) (set s.views id w) h = record {
+        limits = r.limits;
+        legal = r.legal;
+        words_are = t.word;
+        fits = each_view (λ j u. Fits k h u) s.views id w (λ j u other atj. r.fits j u atj) (fits_now k h w (t.limits ∙ mine.limits v.number has) t.seen t.guests t.heard (λ g hasw. owner_born k h v g mine (t.fibers g hasw)));
+        apart = apart_still s.views id w r.apart (λ j u other atj g ownw hasu. ⊎_elim (λ (hasw : Has w.fibers g). r.apart id j v u at atj other g (t.fibers g hasw) hasu) (λ (no : Has w.guests g). absurd (subst (λ (fs : List ℕ). Has fs g) t.guests no)) ownw);
+      } in
+      (w, keeps, tt, (h, kept'), (none_out, t.told))
+
+  pub looks : (k : Limits) (id : ℕ) (me : Me S Knowledge) (i : ℕ) (then : ℕ → Knowledge → Type 0) (slots : ℕ) → me.1 ≡ [] → Has me.0.fibers me.0.number
+      → ((h : List Entry) (words : List ℕ) → IsLegal k h → Leaves words (left k h) → Fits k h me.0 → Look k me.0 i (get_or words i 0) then h words)
+      → Allows (WordsAreAHistory k) slots id me i (λ n. n) (Tells then)
+  looks k id me i then slots none_out has makes s kept len at small =
+      let r = kept.1 in
+      look_at k id me i (get_or s.words i 0) then none_out has s kept at
+      (makes kept.0 s.words r.legal r.words_are (r.fits id me.0 at))

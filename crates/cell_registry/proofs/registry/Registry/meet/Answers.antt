@@ -1,0 +1,30 @@
+use Rattle.std.proofs.Common.{◌≡◌, ℕ, ◌+◌, ◌<◌, ◌++◌, [], ◌∷◌, sym, ◌∙◌, ap, arith, subst, refl, rules}
+use Rattle.atomic_table.specs.Table.{Me}
+use Rattle.cell_registry.specs.declared.knowledge.Knowledge.{Knowledge}
+use Rattle.cell_registry.specs.Rule.{Has}
+use Rattle.cell_registry.specs.Steps.{hosting}
+use Rattle.cell_registry.specs.Passes.{RegistryView, PassView}
+use Rattle.cell_registry.proofs.Seats.{hosts, meets}
+use Rattle.cell_registry.proofs.Tokens.{of_registry, seat_has, met_seated}
+use Rattle.cell_registry.proofs.registry.Registry.meet.Goals as goal
+
+pub join_seat-requires : goal.join_seat-requires
+join_seat-requires c =
+    let this = ap (λ (s : RegistryView). s.table) (of_registry _ _ _ _ c.self.view_is c.met.view_is c.requires.first) in
+    let that = ap (λ (s : RegistryView). s.table) (of_registry _ _ _ _ c.self.view_is c.b.view_is c.requires.second) in
+    let words = c.self.invariant.words in
+    (this, that, c.b.invariant.0, omega arith, hosts _ _ _ _ _)
+
+pub load-requires : goal.load-requires
+load-requires c =
+    let this = ap (λ (s : RegistryView). s.table) (of_registry _ _ _ _ c.self.view_is c.met.view_is c.requires.first) in
+    let words = c.self.invariant.words in
+    let j = c.join_seat.ensures in
+    let has = subst (λ (v : Knowledge). Has v.fibers v.number) (sym (ap (λ (m : Me ℕ Knowledge). m.0) j.2)) (seat_has _ _ refl c.met.invariant.1) in
+    (j.0 ∙ this, omega arith, meets _ _ _ _ (ap (λ (m : Me ℕ Knowledge). m.1) j.2 ∙ c.met.invariant.0) has)
+
+pub invariant_of-met : goal.invariant_of-met
+invariant_of-met c =
+    let j = c.join_seat.ensures in
+    let l = c.load.ensures in
+    (l.2.0, met_seated c.met.inside.seat.me.0 c.b.inside.seat.me.0 _ _ _ _ _ _ _ _ _ (ap (λ (m : Me ℕ Knowledge). m.0) j.2) l.2.1 c.met.invariant.1)

@@ -1,0 +1,45 @@
+use Rattle.std.proofs.Common.{◌≡◌, ◌<◌, ◌≤◌, ◌+◌, ℕ, sym, ◌∙◌, ap, arith, refl, subst}
+use Rattle.atomic_table.specs.Table.{Me}
+use Rattle.cell_registry.specs.declared.limits.Limits.{Limits}
+use Rattle.cell_registry.specs.declared.limits.Band.TheVariants.{Fibers}
+use Rattle.cell_registry.specs.declared.knowledge.Knowledge.{Knowledge}
+use Rattle.cell_registry.specs.Cells.{IsOpen}
+use Rattle.cell_registry.specs.Passes.{RegistryView, PassView, IsSeated, pass_of}
+use Rattle.cell_registry.proofs.Seats.{splits}
+use Rattle.cell_registry.proofs.Tokens.{of_registry, seat_has, seat_cell, call-prefix, seated_still, parent-same, child_seated}
+use Rattle.cell_registry.proofs.registry.Registry.start.Goals as goal
+
+pub claim-requires-clause-table : goal.claim-requires-clause-table
+claim-requires-clause-table c =
+    let of = of_registry _ _ _ _ c.self.view_is c.pass.view_is c.requires.own in
+    let words = c.self.invariant.words in
+    (ap (λ (s : RegistryView). s.table) of, omega arith, c.pass.invariant.0)
+
+pub claim-requires-clause-limit : goal.claim-requires-clause-limit
+claim-requires-clause-limit c =
+    let of = of_registry _ _ _ _ c.self.view_is c.pass.view_is c.requires.own in
+    (sym (ap (λ (k : Limits). k.fibers) c.self.invariant.key_is), sym (ap (λ (s : RegistryView). s.limits.fibers) of), c.pass.invariant.1.pass.limits)
+
+pub claim-requires-clause-may : goal.claim-requires-clause-may
+claim-requires-clause-may c = (seat_has _ _ refl c.pass.invariant.1, subst IsOpen (sym (ap (λ o. o.0) (seat_cell _ _ _ _ _ _ _ c.pass.invariant.1))) (subst (λ (q : PassView). IsOpen q.stage) (sym c.pass.view_is) c.requires.open))
+
+-- where all numbers were given
+pub invariant_of-pass : goal.invariant_of-pass
+invariant_of-pass c =
+    let e = c.in_default.ensures.claim in
+    (c.claim.ensures.seat.1, seated_still _ _ _ _ _ _ _ _ _ e.1 e.0.seen e.0.legal c.pass.invariant.1)
+
+pub split_seat-seat-requires : goal.split_seat-seat-requires
+split_seat-seat-requires c =
+    let of = of_registry _ _ _ _ c.self.view_is c.pass.view_is c.requires.own in
+    let words = c.self.invariant.words in
+    let t = c.in-Some.ensures.claim in
+    (c.claim.ensures.seat.0 ∙ ap (λ (s : RegistryView). s.table) of, omega arith, splits _ _ _ c.in-Some.number _ t.fibers t.new.above)
+
+pub invariant_of-pass-2 : goal.invariant_of-pass-2
+invariant_of-pass-2 c =
+    let e = c.split_seat-seat.ensures in
+    let t = c.in-Some.ensures.claim in
+    let old = c.pass.inside in
+    let P : Knowledge → Type 0 = λ v. IsSeated v (pass_of c.split_seat-seat.new.seat.table_id v old.number old.stage old.depth old.count old.saw) in
+    (ap (λ (m : Me ℕ Knowledge). m.1) e.2 ∙ c.claim.ensures.seat.1, subst P (sym (ap (λ (m : Me ℕ Knowledge). m.0) e.2)) (seated_still _ _ _ _ _ _ _ _ _ (parent-same _ _ _ t) (call-prefix _ _ _ _ _ _ _ t.call) t.call.legal c.pass.invariant.1))

@@ -1,0 +1,124 @@
+-- What contracts see of a registry and of its passes, and what the calls promise.
+use Rattle.std.specs.Prelude.{◌≡◌, ℕ, ◌+◌, ◌<◌, List, [], ◌∷◌, ◌++◌, Bool, true, false}
+use mathlib.Core.List.{IsPrefix}
+use Rattle.atomic_table.specs.Seated.{TableId}
+use Rattle.effect_term.specs.declared.reply.Reply.{Reply}
+use Rattle.effect_term.specs.declared.reply.Reply.TheVariants as reply
+use Rattle.cell_registry.specs.declared.limits.Limits.{Limits}
+use Rattle.cell_registry.specs.declared.limits.Band.{Band}
+use Rattle.cell_registry.specs.declared.limits.CellError.{CellError}
+use Rattle.cell_registry.specs.declared.limits.CellError.TheVariants.{Spent}
+use Rattle.cell_registry.specs.declared.cell.Stage.{Stage}
+use Rattle.cell_registry.specs.declared.cell.Stage.TheVariants.{Running}
+use Rattle.cell_registry.specs.declared.cell.Cell.{Cell}
+use Rattle.cell_registry.specs.declared.call.Call.{Call}
+use Rattle.cell_registry.specs.declared.call.Call.TheVariants.{Start}
+use Rattle.cell_registry.specs.declared.call.Entry.{Entry}
+use Rattle.cell_registry.specs.declared.knowledge.Knowledge.{Knowledge}
+use Rattle.cell_registry.specs.Cells.{AreLimits, cell_of, owned}
+use Rattle.cell_registry.specs.Histories.{left, IsLegal, calls_by}
+use Rattle.cell_registry.specs.Rule.{Has}
+use Rattle.cell_registry.specs.Steps.{IsCall, IsLook, claim_of, next_of, limit_of}
+
+-- ---- a registry
+-- which table it is, and its limits
+pub record RegistryView : Type 0 where
+  pub table : TableId
+  pub limits : Limits
+
+-- the table is for these limits, and has a word for each band, fiber, ref and deferred
+pub record IsRegistry (key : Limits) (r : RegistryView) : Type 0 where
+  pub key_is : key ≡ r.limits
+  pub limits : AreLimits r.limits
+  pub words : r.table.words ≡ r.limits.fibers + r.limits.refs + r.limits.deferreds + 3
+
+-- ---- a pass
+-- the registry that it is of, the fiber, what its owner knows of the fiber's cell, the reply of the last look, the fibers whose calls the pass makes or made, and the history that it has seen
+pub record PassView : Type 0 where
+  pub registry : RegistryView
+  pub number : ℕ
+  pub stage : Stage
+  pub depth : ℕ
+  pub count : ℕ
+  pub saw : Bool
+  pub fibers : List ℕ
+  pub seen : List Entry
+
+-- the fiber's cell after what the pass has seen
+abbrev pub own_cell : PassView → Cell
+own_cell p = cell_of (left p.registry.limits p.seen) p.number
+
+-- what holds of every pass: what it has seen is legal, and leaves the fiber's cell as the pass tells
+pub record IsPass (p : PassView) : Type 0 where
+  pub limits : AreLimits p.registry.limits
+  pub legal : IsLegal p.registry.limits p.seen
+  pub own : Has p.fibers p.number
+  pub within : p.number < p.registry.limits.fibers
+  pub cell : owned (own_cell p) ≡ (p.stage, p.depth, p.count)
+  pub request : p.saw ≡ true → (own_cell p).request ≡ true
+
+-- the pass whose seat has this knowledge
+abbrev pub pass_of : TableId → Knowledge → ℕ → Stage → ℕ → ℕ → Bool → PassView
+pass_of t v number stage depth count saw = record { registry = record { table = t; limits = v.limits }; number = number; stage = stage; depth = depth; count = count; saw = saw; fibers = v.fibers; seen = v.seen }
+
+pub record IsSeated (v : Knowledge) (p : PassView) : Type 0 where
+  pub number_is : p.number ≡ v.number
+  pub pass : IsPass p
+
+-- the pass is one of this registry's
+abbrev pub IsOf : RegistryView → PassView → Type 0
+IsOf r p = p.registry ≡ r
+
+-- fiber 0's pass, before any call
+abbrev pub first_pass : RegistryView → PassView
+first_pass r = record { registry = r; number = 0; stage = Running; depth = 0; count = 0; saw = false; fibers = 0 ∷ []; seen = [] }
+
+-- ---- the calls
+-- the pass has seen more, and nothing else has changed
+abbrev pub OnlySees : PassView → PassView → Type 0
+OnlySees p q = q ≡ record p { seen = q.seen }
+
+-- the pass p made this call, and is q since
+abbrev pub Calls : PassView → Call → Reply → PassView → Type 0
+Calls p c r q = IsCall p.registry.limits p.fibers p.seen p.number c r q.seen
+
+-- a change that the pass p made of its fiber's own cell: the fiber is at this stage and depth since, with one change more. The count was below the limit
+pub record Changes (p : PassView) (c : Call) (g : Stage) (depth : ℕ) (q : PassView) : Type 0 where
+  pub room : p.count < p.registry.limits.count
+  pub same : q ≡ record p { stage = g; depth = depth; count = p.count + 1; seen = q.seen }
+  pub call : Calls p c reply.Done q
+
+-- the fiber's changes are used up, and nothing has changed
+pub record IsSpent (p : PassView) (e : CellError) (q : PassView) : Type 0 where
+  pub error : e ≡ Spent p.count
+  pub limit : p.count ≡ p.registry.limits.count
+  pub same : q ≡ p
+
+-- the pass of a new fiber: it has seen what its parent has, and its fiber runs with no mask
+abbrev pub newborn : PassView → ℕ → PassView
+newborn p n = record p { number = n; stage = Running; depth = 0; count = 0; saw = false; fibers = n ∷ [] }
+
+-- the pass p started the fiber of the pass c, which has made no call, and is q since
+pub record Starts (p c q : PassView) : Type 0 where
+  pub call : Calls p Start (reply.Number c.number) q
+  pub child : c ≡ newborn q c.number
+  pub silent : calls_by c.number q.seen ≡ []
+
+-- the pass was given the number n of a band
+pub record Gives (b : Band) (p : PassView) (n : ℕ) (q : PassView) : Type 0 where
+  pub call : Calls p (claim_of b) (reply.Number n) q
+  pub within : n < limit_of b p.registry.limits
+
+-- the pass made no call, and has seen the giving of all numbers of the band
+pub record SeesAllGiven (b : Band) (p q : PassView) : Type 0 where
+  pub look : IsLook p.registry.limits p.fibers p.seen q.seen
+  pub given : next_of b (left p.registry.limits q.seen) ≡ limit_of b p.registry.limits
+
+-- The pass a has met b, and is q since: what it has seen is one legal history, which begins with what a had seen and with what b had seen. The calls in it of the fibers of a are those that a had seen, and of the fibers of b those that b had
+pub record Meets (a b q : PassView) : Type 0 where
+  pub same : q ≡ record a { fibers = a.fibers ++ b.fibers; seen = q.seen }
+  pub first : IsPrefix a.seen q.seen
+  pub second : IsPrefix b.seen q.seen
+  pub legal : IsLegal a.registry.limits q.seen
+  pub own : (f : ℕ) → Has a.fibers f → calls_by f q.seen ≡ calls_by f a.seen
+  pub other : (f : ℕ) → Has b.fibers f → calls_by f q.seen ≡ calls_by f b.seen

@@ -1,0 +1,19 @@
+//! What the holder of a pass knows, in contracts and proofs alone.
+use crate::call::Entry;
+use crate::limits::Limits;
+use std::collections::LinkedList;
+
+/// What a pass knows. No value of it is made: it is what contracts and proofs see of the pass's
+/// seat at the table.
+pub struct Knowledge {
+    pub limits: Limits,
+    /// The fiber that the pass is of.
+    pub number: u16,
+    /// The fibers whose calls no other pass makes: the pass's own, and those that it met.
+    pub fibers: LinkedList<u16>,
+    /// The whole history up to the last step of the pass.
+    pub seen: LinkedList<Entry>,
+    /// While another pass is met: its fibers, and what it had seen, until the next step.
+    pub guests: LinkedList<u16>,
+    pub heard: LinkedList<Entry>,
+}

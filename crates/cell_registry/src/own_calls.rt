@@ -1,0 +1,119 @@
+//! What a fiber changes in its own cell: masks, its cut, and its end.
+ghost use Rattle.std.specs.Prelude.{◌≡◌, ◌+◌, ◌-◌, ◌<◌, IfErr, IfOk, true};
+ghost use Rattle.control_word.specs.Word.{bit};
+ghost use Rattle.cell_registry.specs.declared.call.Call.TheVariants as call;
+ghost use Rattle.cell_registry.specs.declared.cell.Stage.TheVariants as at;
+ghost use Rattle.cell_registry.specs.Cells.{IsOpen, MayFinish, MayUnmask};
+ghost use Rattle.cell_registry.specs.Words.{phase_at};
+ghost use Rattle.cell_registry.specs.Passes.{Changes, IsOf, IsSpent};
+
+use crate::cell::Stage;
+use crate::limits::CellError;
+use crate::pass::Pass;
+use crate::registry::Registry;
+use crate::rule;
+use crate::words::cell_place;
+use control_word::{cut_amount, finish_amount, mask_amount, unmask_amount};
+use effect_term::Outcome;
+
+fn is_finalizing(stage: Stage) -> bool
+    requires { IsOpen stage }
+    ensures { phase_at stage ≡ bit result }
+{
+    match stage {
+        Stage::Running => false,
+        Stage::Finalizing => true,
+        Stage::Ended(_) => unreachable!(),
+    }
+}
+
+/// Each call adds 1 to the count of the caller's changes. It answers `Spent(count)` exactly where
+/// the count is the limit, and has then changed nothing.
+impl Registry {
+    /// Enters a mask, as in Cats Effect 3's `MonadCancel`. The fiber hasn't ended, and is under less
+    /// than 255 masks.
+    pub fn mask(&self, pass: &mut Pass) -> Result<(), CellError>
+        requires own { IsOf self.now pass.old }
+        requires open { IsOpen pass.old.stage }
+        requires depth { pass.old.depth < 255 }
+        ensures masked { IfOk result (λ _. Changes pass.old call.Mask pass.old.stage (pass.old.depth + 1) pass.new) }
+        ensures spent { IfErr result (λ e. IsSpent pass.old e pass.new) }
+    {
+        if pass.count == self.limits.count {
+            return Err(CellError::Spent(pass.count));
+        }
+        self.table.shared.fetch_add::<rule::Masks>(
+            &mut pass.seat,
+            cell_place(pass.number),
+            mask_amount(),
+        );
+        pass.depth += 1;
+        pass.count += 1;
+        Ok(())
+    }
+
+    /// Leaves a mask. The fiber hasn't ended, and is under a mask; while it finalizes, under one
+    /// beside that of its cut.
+    pub fn unmask(&self, pass: &mut Pass) -> Result<(), CellError>
+        requires own { IsOf self.now pass.old }
+        requires masked { MayUnmask pass.old.stage pass.old.depth }
+        ensures unmasked { IfOk result (λ _. Changes pass.old call.Unmask pass.old.stage (pass.old.depth - 1) pass.new) }
+        ensures spent { IfErr result (λ e. IsSpent pass.old e pass.new) }
+    {
+        if pass.count == self.limits.count {
+            return Err(CellError::Spent(pass.count));
+        }
+        self.table.shared.fetch_sub::<rule::Unmasks>(
+            &mut pass.seat,
+            cell_place(pass.number),
+            unmask_amount(),
+        );
+        pass.depth -= 1;
+        pass.count += 1;
+        Ok(())
+    }
+
+    /// Observes the request for cancellation: the fiber goes on to its finalizers, under one mask.
+    /// It is running and under no mask, and its last look saw the request.
+    pub fn cut(&self, pass: &mut Pass) -> Result<(), CellError>
+        requires own { IsOf self.now pass.old }
+        requires running { pass.old.stage ≡ at.Running }
+        requires unmasked { pass.old.depth ≡ 0 }
+        requires requested { pass.old.saw ≡ true }
+        ensures cut { IfOk result (λ _. Changes pass.old call.Cut at.Finalizing 1 pass.new) }
+        ensures spent { IfErr result (λ e. IsSpent pass.old e pass.new) }
+    {
+        if pass.count == self.limits.count {
+            return Err(CellError::Spent(pass.count));
+        }
+        self.table.shared.fetch_add::<rule::Cuts>(
+            &mut pass.seat,
+            cell_place(pass.number),
+            cut_amount(),
+        );
+        pass.stage = Stage::Finalizing;
+        pass.depth = 1;
+        pass.count += 1;
+        Ok(())
+    }
+
+    /// Ends the fiber. A running one is under no mask and doesn't end as canceled; one that
+    /// finalizes is under the mask of its cut alone, and does.
+    pub fn finish(&self, pass: &mut Pass, outcome: Outcome) -> Result<(), CellError>
+        requires own { IsOf self.now pass.old }
+        requires may { MayFinish pass.old.stage pass.old.depth outcome }
+        ensures ended { IfOk result (λ _. Changes pass.old (call.Finish outcome) (at.Ended outcome) pass.old.depth pass.new) }
+        ensures spent { IfErr result (λ e. IsSpent pass.old e pass.new) }
+    {
+        if pass.count == self.limits.count {
+            return Err(CellError::Spent(pass.count));
+        }
+        let amount = finish_amount(is_finalizing(pass.stage), outcome);
+        self.table
+            .shared
+            .fetch_add::<rule::Finishes>(&mut pass.seat, cell_place(pass.number), amount);
+        pass.stage = Stage::Ended(outcome);
+        pass.count += 1;
+        Ok(())
+    }
+}

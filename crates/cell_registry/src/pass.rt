@@ -1,0 +1,72 @@
+//! The pass: a fiber's token, with which it makes its calls.
+ghost use Rattle.std.specs.Prelude.{◌≡◌};
+ghost use Rattle.cell_registry.specs.Passes.{IsPass};
+
+use crate::cell::Stage;
+use crate::knowledge::Knowledge;
+use atomic_table::Seat;
+use std::marker::Model;
+
+/// A fiber's token, with which it makes its calls at the registry that gave it.
+///
+/// It isn't cloned: a fiber has one, and `Registry::new`, `start` and `meet` alone make it. It knows
+/// what only the fiber itself changes in its cell. Contracts see these numbers, the history that
+/// the pass has seen, and the fibers whose calls it makes or made.
+#[derive(Drop)]
+pub struct Pass {
+    pub(crate) seat: Seat<u8, Knowledge>,
+    pub(crate) number: u16,
+    pub(crate) stage: Stage,
+    pub(crate) depth: u8,
+    pub(crate) count: u32,
+    pub(crate) saw: bool,
+}
+
+impl Model for Pass {
+    ghost use Rattle.std.specs.Prelude.{◌≡◌, []};
+    ghost use Rattle.cell_registry.specs.Passes.{IsSeated, PassView, pass_of};
+
+    ghost Value = { PassView };
+
+    ghost view = { λ p. pass_of p.seat.table_id p.seat.me.0 p.number p.stage p.depth p.count p.saw };
+
+    ghost invariant = { λ p. (p.seat.me.1 ≡ []) × IsSeated p.seat.me.0 (pass_of p.seat.table_id p.seat.me.0 p.number p.stage p.depth p.count p.saw) };
+}
+
+impl Pass {
+    /// The fiber's number.
+    pub fn number(&self) -> u16
+        ensures number { result ≡ self.now.number }
+        ensures pass { IsPass self.now }
+    {
+        self.number
+    }
+
+    /// How many masks the fiber is under.
+    pub fn depth(&self) -> u8
+        ensures { result ≡ self.now.depth }
+    {
+        self.depth
+    }
+
+    /// How far the fiber has come: running, finalizing, or ended and how.
+    pub fn phase(&self) -> Stage
+        ensures { result ≡ self.now.stage }
+    {
+        self.stage
+    }
+
+    /// How often the fiber changed its own cell.
+    pub fn count(&self) -> u32
+        ensures { result ≡ self.now.count }
+    {
+        self.count
+    }
+
+    /// The reply of the fiber's last look, `false` before one.
+    pub fn saw(&self) -> bool
+        ensures { result ≡ self.now.saw }
+    {
+        self.saw
+    }
+}

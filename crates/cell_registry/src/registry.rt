@@ -1,0 +1,207 @@
+//! The registry: the cells that fibers share, each in one word that changes in single atomic steps.
+ghost use Rattle.std.specs.Prelude.{◌≡◌, ◌<◌, IfErr, IfOk};
+ghost use Rattle.effect_term.specs.declared.reply.Reply.TheVariants as reply;
+ghost use Rattle.cell_registry.specs.declared.limits.Band.TheVariants.{Deferreds, Fibers, Refs};
+ghost use Rattle.cell_registry.specs.declared.limits.CellError.TheVariants.{Full};
+ghost use Rattle.cell_registry.specs.declared.call.Call.TheVariants as call;
+ghost use Rattle.cell_registry.specs.Cells.{AreLimits, IsOpen};
+ghost use Rattle.cell_registry.specs.Passes.{Calls, Gives, IsOf, Meets, OnlySees, SeesAllGiven, Starts, first_pass};
+
+use crate::cell::Stage;
+use crate::claims::claim;
+use crate::knowledge::Knowledge;
+use crate::limits::{Band, CellError, Limits};
+use crate::pass::Pass;
+use crate::rule::{self, Rule};
+use crate::words::{CANCEL, CLAIM_WORDS, WAITED, cancel_answer, cell_place, join_answer, look_answer};
+use atomic_table::Table;
+use effect_term::{CancelReply, JoinReply};
+use std::alloc::{AllocError, Global};
+use std::marker::Model;
+
+/// The cells of all fibers, refs and deferreds, which fibers on any threads share.
+///
+/// Each call is one atomic step on one word, with a load before it where it takes a number. No call
+/// locks or waits, and none but `new` takes memory. Whatever the threads do, the calls stand in one
+/// order, a history that one thread could have made, and each pass has seen a beginning of it.
+#[derive(Drop)]
+pub struct Registry {
+    pub(crate) table: Table<u8, Knowledge, Limits, Rule, Global>,
+    pub(crate) limits: Limits,
+}
+
+impl Model for Registry {
+    ghost use Rattle.cell_registry.specs.Passes.{IsRegistry, RegistryView};
+
+    ghost Value = { RegistryView };
+
+    ghost view = { λ r. record { table = r.table.shared.table_id; limits = r.limits } };
+
+    ghost invariant = { λ r. IsRegistry r.table.shared.key record { table = r.table.shared.table_id; limits = r.limits } };
+}
+
+impl Registry {
+    /// A registry for so many fibers, refs and deferreds, each from 1 to 1000, in which each fiber
+    /// may change its own cell `limit` times, from 1 to 262,143. The pass is fiber 0's, which is
+    /// born and running. Answers `AllocError` where there is no memory for the words.
+    pub fn new(
+        alloc: Global,
+        fibers: u16,
+        refs: u16,
+        deferreds: u16,
+        limit: u32,
+    ) -> Result<(Registry, Pass), AllocError>
+        requires limits { AreLimits record { fibers = fibers; refs = refs; deferreds = deferreds; count = limit } }
+        ensures limits { IfOk result (λ r. r.0.limits ≡ record { fibers = fibers; refs = refs; deferreds = deferreds; count = limit }) }
+        ensures pass { IfOk result (λ r. r.1 ≡ first_pass r.0) }
+    {
+        let limits = Limits {
+            fibers,
+            refs,
+            deferreds,
+            count: limit,
+        };
+        let cells = usize::from(fibers) + usize::from(refs) + usize::from(deferreds);
+        let mut words = Vec::from_elem(alloc, 0u64, cells + CLAIM_WORDS)?;
+        words[0] = 1;
+        let (table, seat) = Table::of_words(alloc, words.as_slice(), &limits)?;
+        let pass = Pass {
+            seat,
+            number: 0,
+            stage: Stage::Running,
+            depth: 0,
+            count: 0,
+            saw: false,
+        };
+        Ok((Registry { table, limits }, pass))
+    }
+
+    /// Makes a fiber, which begins running and unmasked, as in Cats Effect 3's `GenSpawn`. Its pass
+    /// has seen what the caller's has. The caller's fiber hasn't ended. Answers
+    /// `Full(Band::Fibers, n)` where all n fibers of the registry were made.
+    pub fn start(&self, pass: &mut Pass) -> Result<Pass, CellError>
+        requires own { IsOf self.now pass.old }
+        requires open { IsOpen pass.old.stage }
+        ensures same { OnlySees pass.old pass.new }
+        ensures started { IfOk result (λ child. Starts pass.old child pass.new) }
+        ensures full { IfErr result (λ e. (e ≡ Full Fibers self.now.limits.fibers) × SeesAllGiven Fibers pass.old pass.new) }
+    {
+        let limit = self.limits.fibers;
+        let Some(number) = claim(&self.table.shared, &mut pass.seat, Band::Fibers, limit) else {
+            return Err(CellError::Full(Band::Fibers, limit));
+        };
+        let seat = self
+            .table
+            .shared
+            .split_seat::<rule::Child>(&mut pass.seat);
+        Ok(Pass {
+            seat,
+            number,
+            stage: Stage::Running,
+            depth: 0,
+            count: 0,
+            saw: false,
+        })
+    }
+
+    /// Makes a ref, which holds 0, and gives its number. Answers `Full(Band::Refs, n)` where all n
+    /// refs of the registry were made.
+    pub fn new_ref(&self, pass: &mut Pass) -> Result<u16, CellError>
+        requires own { IsOf self.now pass.old }
+        ensures same { OnlySees pass.old pass.new }
+        ensures made { IfOk result (λ r. Gives Refs pass.old r pass.new) }
+        ensures full { IfErr result (λ e. (e ≡ Full Refs self.now.limits.refs) × SeesAllGiven Refs pass.old pass.new) }
+    {
+        let limit = self.limits.refs;
+        claim(&self.table.shared, &mut pass.seat, Band::Refs, limit)
+            .ok_or(CellError::Full(Band::Refs, limit))
+    }
+
+    /// Makes an empty deferred, and gives its number. Answers `Full(Band::Deferreds, n)` where all
+    /// n deferreds of the registry were made.
+    pub fn new_deferred(&self, pass: &mut Pass) -> Result<u16, CellError>
+        requires own { IsOf self.now pass.old }
+        ensures same { OnlySees pass.old pass.new }
+        ensures made { IfOk result (λ d. Gives Deferreds pass.old d pass.new) }
+        ensures full { IfErr result (λ e. (e ≡ Full Deferreds self.now.limits.deferreds) × SeesAllGiven Deferreds pass.old pass.new) }
+    {
+        let limit = self.limits.deferreds;
+        claim(&self.table.shared, &mut pass.seat, Band::Deferreds, limit)
+            .ok_or(CellError::Full(Band::Deferreds, limit))
+    }
+
+    /// Requests the cancellation of a fiber, whose number is below the limit of fibers. Answers
+    /// `Ended` where the fiber has ended, else whether it had been asked before.
+    pub fn cancel(&self, pass: &mut Pass, fiber: u16) -> CancelReply
+        requires own { IsOf self.now pass.old }
+        requires within { fiber < self.now.limits.fibers }
+        ensures same { OnlySees pass.old pass.new }
+        ensures call { Calls pass.old (call.Cancel fiber) (reply.Cancel result) pass.new }
+    {
+        let found = self.table.shared.fetch_or::<rule::Cancels>(
+            &mut pass.seat,
+            cell_place(fiber),
+            CANCEL,
+        );
+        cancel_answer(found)
+    }
+
+    /// Asks for the end of a fiber, whose number is below the limit of fibers, and notes in its
+    /// cell that somebody waits for it. Answers how it ended, or `Waits`.
+    pub fn join(&self, pass: &mut Pass, fiber: u16) -> JoinReply
+        requires own { IsOf self.now pass.old }
+        requires within { fiber < self.now.limits.fibers }
+        ensures same { OnlySees pass.old pass.new }
+        ensures call { Calls pass.old (call.Join fiber) (reply.Join result) pass.new }
+    {
+        let found = self.table.shared.fetch_or::<rule::Joins>(
+            &mut pass.seat,
+            cell_place(fiber),
+            WAITED,
+        );
+        join_answer(found)
+    }
+
+    /// Looks whether the caller's own cancellation is requested. The fiber hasn't ended, and is
+    /// under no mask.
+    pub fn look(&self, pass: &mut Pass) -> bool
+        requires own { IsOf self.now pass.old }
+        requires open { IsOpen pass.old.stage }
+        requires unmasked { pass.old.depth ≡ 0 }
+        ensures same { pass.new ≡ record pass.old { saw = result; seen = pass.new.seen } }
+        ensures call { Calls pass.old call.Look (reply.Seen result) pass.new }
+    {
+        let found = self
+            .table
+            .shared
+            .load::<rule::Looks>(&mut pass.seat, cell_place(pass.number));
+        let requested = look_answer(found);
+        pass.saw = requested;
+        requested
+    }
+
+    /// The pass `a` with the calls of both fibers in what it has seen. It is `a`'s fiber's, and
+    /// `b`'s fiber makes no more calls.
+    pub fn meet(&self, a: Pass, b: Pass) -> Pass
+        requires first { IsOf self.now a }
+        requires second { IsOf self.now b }
+        ensures { Meets a b result }
+    {
+        let mut met = a;
+        let Pass {
+            seat,
+            number: _,
+            stage: _,
+            depth: _,
+            count: _,
+            saw: _,
+        } = b;
+        let shared = &self.table.shared;
+        shared.join_seat::<rule::Host>(&mut met.seat, seat);
+        shared.load::<rule::Meets>(&mut met.seat, 0);
+        met
+    }
+}
+
+#[cfg(test)]
+mod tests;
