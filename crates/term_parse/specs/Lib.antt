@@ -1,5 +1,6 @@
 pub mod Atoms
 pub mod Lexemes
 pub mod Reading
+pub mod Seen
 pub mod Faults
 pub mod Grammar

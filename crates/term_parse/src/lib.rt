@@ -5,6 +5,7 @@
 
 mod error;
 mod table;
+mod token;
 
 pub use error::ParseError;
 pub use table::{Part, Row, SPELLINGS, TABLE, Word};
