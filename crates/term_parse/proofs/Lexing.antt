@@ -64,7 +64,7 @@ run_goes_on text from at r h s =
       low = omega (arith, r.low);
       high = omega arith;
       run = rw (slice_more text from at r.low h, append_assoc) (ap (λ x. slice_range text from at ++ x) (sym (run_of-more b (drop (at + 1) text) s) ∙ ap run_of (sym d)) ∙ r.run);
-      skipped = r.skipped ∙ ap (lexemes true at) d ∙ lexemes-run b at (drop (at + 1) text) s ∙ ap (λ n. lexemes true n (drop (at + 1) text)) (sym (add-one at))
+      skipped = r.skipped ∙ ap (lexemes true at) d ∙ lexemes-run b at (drop (at + 1) text) s ∙ ap (λ n. lexemes true n (drop (at + 1) text)) (sym (add-one at));
     }
 
 pub record RunIs (text : List ℕ) (from at : ℕ) : Type 0 where
@@ -79,7 +79,7 @@ run_stops text from at r h s =
     let none : run_of (drop at text) ≡ [] = ap run_of d ∙ run_of-over b (drop (suc at) text) s in
     record {
       run = sym (ap (λ x. slice_range text from at ++ x) none ∙ search rules) ∙ r.run;
-      skipped = r.skipped ∙ ap (lexemes true at) d ∙ lexemes-run_over b at (drop (suc at) text) s ∙ ap (lexemes false at) (sym d)
+      skipped = r.skipped ∙ ap (lexemes true at) d ∙ lexemes-run_over b at (drop (suc at) text) s ∙ ap (lexemes false at) (sym d);
     }
 
 pub run_ends : (text : List ℕ) (from at : ℕ) → RunsTo text from at → length text ≤ at → RunIs text from at
@@ -88,7 +88,7 @@ run_ends text from at r h =
     let d : drop at text ≡ [] = grind (arith, common_steps) in
     record {
       run = sym (ap (λ x. slice_range text from at ++ x) (ap run_of d) ∙ search rules) ∙ r.run;
-      skipped = r.skipped ∙ rw d refl
+      skipped = r.skipped ∙ rw d refl;
     }
 
 pub no_tokens : (text : List ℕ) (at : ℕ) → length text ≤ at → lexemes_at at text ≡ []
@@ -139,7 +139,7 @@ long_token text at end k h s r low high run skipped kind =
       tokens = token_begins text at h s ∙ ap (λ x. record { lexeme = lexeme_of b (drop (at + 1) text); place = at } ∷ lexemes x (at + 1) (drop (at + 1) text)) r ∙ ap (λ x. record { lexeme = lexeme_of b (drop (at + 1) text); place = at } ∷ x) skipped ∙ ap (λ x. record { lexeme = x; place = at } ∷ lexemes_at end text) (sym same);
       within = high;
       later = omega arith;
-      some = omega arith
+      some = omega arith;
     }
 
 or_fails : (l d m : Bool) → ((l || d) || m) ≡ false → (l ≡ false) × ((d || m) ≡ false)
@@ -163,7 +163,7 @@ short_token text at k h s r kind =
       tokens = token_begins text at h s ∙ ap (λ x. record { lexeme = lexeme_of b (drop (at + 1) text); place = at } ∷ lexemes x (at + 1) (drop (at + 1) text)) r ∙ ap (λ x. record { lexeme = x; place = at } ∷ lexemes_at (at + 1) text) (sym same);
       within = omega arith;
       later = omega arith;
-      some = omega arith
+      some = omega arith;
     }
 
 pub plain_none : (ds : List ℕ) → all_digits ds ≡ false → None ≡ plain_value ds

@@ -31,6 +31,12 @@ seen_kind run tokens.BadByte = bad_byte
 abbrev pub seen : List ℕ → Token → Lexeme
 seen text t = seen_kind (slice_range text t.start t.end) t.kind
 
+-- the token is none of the bad ones
+abbrev pub IsGood : TokenKind → Type 0
+IsGood tokens.BadNumber = ⊥
+IsGood tokens.BadByte = ⊥
+IsGood k = Unit {0}
+
 -- the next token from this place on, and where the tokens go on
 pub record IsNext (text : List ℕ) (at : ℕ) (t : Token) : Type 0 where
   pub tokens : lexemes_at at text ≡ record { lexeme = seen text t; place = t.start } ∷ lexemes_at t.end text

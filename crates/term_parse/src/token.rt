@@ -140,7 +140,11 @@ fn number(run: &[u8]) -> Option<i32>
         return Some(negated(value));
     }
     let value = plain_value(run)?;
-    if value < LARGEST { Some(value as i32) } else { None }
+    if value < LARGEST {
+        Some(value as i32)
+    } else {
+        None
+    }
 }
 
 /// What the token is that begins with this byte and, if it is an identifier or a number, has these.
@@ -173,10 +177,18 @@ fn token_from(text: &[u8], start: usize) -> Token
     let first = text[start];
     if begins_run(first) {
         let end = run_end(text, start + 1);
-        Token { kind: kind_of(first, &text[start..end]), start, end }
+        Token {
+            kind: kind_of(first, &text[start..end]),
+            start,
+            end,
+        }
     } else {
         let end = start + 1;
-        Token { kind: kind_of(first, &text[start..end]), start, end }
+        Token {
+            kind: kind_of(first, &text[start..end]),
+            start,
+            end,
+        }
     }
 }
 

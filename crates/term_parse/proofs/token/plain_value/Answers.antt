@@ -12,5 +12,5 @@ pub loop-digit-preserved : goal.loop-digit-preserved
 loop-digit-preserved c = record {
   digits = digits_more c.args.digits.now c.loop-digit.digit-index c.loop-digit-test.true c.loop-digit.invariant.digits (search rules);
   value = value_more c.args.digits.now c.loop-digit.digit-index c.loop-digit.value c.from.result c.loop-digit-test.true (search rules) (search rules) c.loop-digit.invariant.value;
-  small = omega arith
+  small = omega arith;
 }
