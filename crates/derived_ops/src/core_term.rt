@@ -10,7 +10,7 @@ pub enum Value {
 /// A term of core words. The slot that a form binds stands before the part that it is bound in.
 ///
 /// A slot is the number of binders around its own binder, in the whole term.
-#[derive(Drop)]
+#[derive(PartialEq, Drop)]
 pub enum Core {
     /// Gives the value.
     Pure(Value),

@@ -13,3 +13,6 @@ mod supported;
 
 pub use code::{Code, expand, is_supported};
 pub use core_term::{Core, Value};
+
+#[cfg(test)]
+mod tests;
