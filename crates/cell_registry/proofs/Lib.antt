@@ -10,3 +10,4 @@ pub mod Claiming
 pub mod Seats
 pub mod Tokens
 pub mod OwnTurns
+pub mod ValueTurns

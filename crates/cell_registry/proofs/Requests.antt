@@ -1,14 +1,18 @@
--- A request for cancellation stays.
-use Rattle.std.proofs.Common.{◌≡◌, ℕ, zero, suc, Bool, true, List, [], ◌∷◌, ◌++◌, set, get_or, refl, sym, subst}
+-- A request for cancellation stays, and comes from a call.
+use Rattle.std.proofs.Common.{◌≡◌, ℕ, zero, suc, Bool, true, false, true≢false, List, [], ◌∷◌, ◌++◌, ◌⊎◌, inl, inr, ⊎_elim, set, get_or, get_or-set_other, refl, sym, ap, ◌∙◌, subst, append_assoc}
+use mathlib.Core.Logic.{dite}
+use native.Mathlib.Decide.{ℕ_discrete}
 use mathlib.Core.List.{IsPrefix}
 use Rattle.cell_registry.specs.declared.limits.Limits.{Limits}
 use Rattle.cell_registry.specs.declared.call.Call.{Call}
 use Rattle.cell_registry.specs.declared.call.Call.TheVariants.{Start, Cancel, Join, Look, Mask, Unmask, Cut, Finish, NewRef, NewDeferred, Get, Set, Modify, Complete, Read}
 use Rattle.cell_registry.specs.declared.call.Entry.{Entry}
 use Rattle.cell_registry.specs.declared.cell.Cell.{Cell}
-use Rattle.cell_registry.specs.Cells.{fresh, Cells, opening, cell_of, after, requested, awaited, masked, unmasked, cut, finished}
-use Rattle.cell_registry.specs.Histories.{left_from, left}
-use Rattle.cell_registry.proofs.Legal.{left_from-append}
+use Rattle.cell_registry.specs.Cells.{fresh, Cells, opening, cell_of, after, requested, awaited, masked, unmasked, cut, finished, IsAllowed}
+use Rattle.cell_registry.specs.Histories.{left_from, left, IsLegal}
+use Rattle.cell_registry.specs.Cancellation.{WasCancelled, CutsAfterCancel}
+use Rattle.cell_registry.proofs.Lists.{get_or-set_kept, get_or-replicate_default}
+use Rattle.cell_registry.proofs.Legal.{left_from-append, IsLegal-prefix, IsLegal-last}
 
 -- what is true of an element stays true where an element is set of which it is true if it was
 get_or-set_rises : {A : Type 0} (g : A → Bool) (l : List A) (i : ℕ) (c d : A) → (g (get_or l i d) ≡ true → g c ≡ true) → (j : ℕ) → g (get_or l j d) ≡ true → g (get_or (set l i c) j d) ≡ true
@@ -48,3 +52,49 @@ unfolding left
 request-prefix k g h f p e =
     subst (λ (x : List Entry). (cell_of (left_from (opening k) x) f).request ≡ true) p.1
         (subst (λ (x : Cells). (cell_of x f).request ≡ true) (sym (left_from-append (opening k) g p.0)) (request-left_from (left_from (opening k) g) p.0 f e))
+
+-- ---- where a request comes from
+request_kept : (s : Cells) (g f : ℕ) (c : Cell) → c.request ≡ (cell_of s g).request → (get_or (set s.cells g c) f fresh).request ≡ true → (cell_of s f).request ≡ true
+request_kept s g f c same e = sym (get_or-set_kept (λ (x : Cell). x.request) s.cells g c fresh same f) ∙ e
+
+request-new : (s : Cells) (by : ℕ) (c : Call) (f : ℕ) → (cell_of (after s by c) f).request ≡ true → ((cell_of s f).request ≡ true) ⊎ (c ≡ Cancel f)
+unfolding after
+request-new s by Start f e = inl e
+request-new s by (Cancel g) f e = dite (ℕ_discrete g f) (λ (is : g ≡ f). inr (ap Cancel is)) (λ other. inl (ap (λ (x : Cell). x.request) (sym (get_or-set_other s.cells g f (requested (cell_of s g)) fresh (λ q. other (sym q)))) ∙ e))
+request-new s by (Join g) f e = inl (request_kept s g f (awaited (cell_of s g)) refl e)
+request-new s by Look f e = inl e
+request-new s by Mask f e = inl (request_kept s by f (masked (cell_of s by)) refl e)
+request-new s by Unmask f e = inl (request_kept s by f (unmasked (cell_of s by)) refl e)
+request-new s by Cut f e = inl (request_kept s by f (cut (cell_of s by)) refl e)
+request-new s by (Finish o) f e = inl (request_kept s by f (finished o (cell_of s by)) refl e)
+request-new s by NewRef f e = inl e
+request-new s by NewDeferred f e = inl e
+request-new s by (Get r) f e = inl e
+request-new s by (Set r v) f e = inl e
+request-new s by (Modify r v) f e = inl e
+request-new s by (Complete d v) f e = inl e
+request-new s by (Read d) f e = inl e
+
+request-left : (s : Cells) (h : List Entry) (f : ℕ) → (cell_of (left_from s h) f).request ≡ true → ((cell_of s f).request ≡ true) ⊎ WasCancelled h f
+request-left s [] f e = inl e
+request-left s (x ∷ h) f e = ⊎_elim
+    (λ (a : (cell_of (after s x.by x.call) f).request ≡ true). ⊎_elim (λ b. inl b) (λ (b : x.call ≡ Cancel f). inr (inl b)) (request-new s x.by x.call f a))
+    (λ (a : WasCancelled h f). inr (inr a))
+    (request-left (after s x.by x.call) h f e)
+
+-- a request that a history leaves was made in it
+pub request-cancelled : (k : Limits) (h : List Entry) (f : ℕ) → (cell_of (left k h) f).request ≡ true → WasCancelled h f
+unfolding left
+request-cancelled k h f e = ⊎_elim
+    (λ (a : (cell_of (opening k) f).request ≡ true). absurd (true≢false (sym a ∙ ap (λ (x : Cell). x.request) (get_or-replicate_default fresh k.fibers f))))
+    (λ (a : WasCancelled h f). a)
+    (request-left (opening k) h f e)
+
+-- cut after cancel, in each legal history
+pub legal-cuts : (k : Limits) (h : List Entry) → IsLegal k h → CutsAfterCancel h
+unfolding IsAllowed
+legal-cuts k h legal before rest e is cut =
+    let part : IsLegal k (before ++ e ∷ []) = IsLegal-prefix k (before ++ e ∷ []) h (rest, append_assoc before (e ∷ []) rest ∙ sym is) legal in
+    let follows = (IsLegal-last k before e part).1 in
+    let allowed : IsAllowed k (left k before) e.by Cut = subst (IsAllowed k (left k before) e.by) cut follows.accepted.allowed in
+    request-cancelled k before e.by allowed.2

@@ -107,6 +107,19 @@ own_place v p r key i s of reg is =
     let words = reg.words in
     omega arith
 
+-- ---- the words of refs and deferreds
+pub ref_here : (k l : Limits) (i n : ℕ) → k ≡ l → i ≡ n + (3 + k.fibers) → i ≡ n + (3 + l.fibers)
+ref_here k l i n e is = is ∙ ap (λ (x : Limits). n + (3 + x.fibers)) e
+
+pub ref_word : (r : RegistryView) (key : Limits) (i n : ℕ) → IsRegistry key r → n < r.limits.refs → i ≡ n + (3 + r.limits.fibers) → i < r.table.words
+ref_word r key i n reg within is = let words = reg.words in omega arith
+
+pub deferred_here : (k l : Limits) (i n : ℕ) → k ≡ l → i ≡ n + (3 + k.fibers + k.refs) → i ≡ n + (3 + l.fibers + l.refs)
+deferred_here k l i n e is = is ∙ ap (λ (x : Limits). n + (3 + x.fibers + x.refs)) e
+
+pub deferred_word : (r : RegistryView) (key : Limits) (i n : ℕ) → IsRegistry key r → n < r.limits.deferreds → i ≡ n + (3 + r.limits.fibers + r.limits.refs) → i < r.table.words
+deferred_word r key i n reg within is = let words = reg.words in omega arith
+
 -- ---- a new fiber
 -- the parent, once the number is handed out
 pub parent-same : (v w : Knowledge) (n : ℕ) → Claimed Fibers v n w → IsSame v (parent w)

@@ -1,5 +1,6 @@
 pub mod Cells
 pub mod Histories
+pub mod Cancellation
 pub mod Words
 pub mod Rule
 pub mod Steps

@@ -1,6 +1,6 @@
 -- What each step tells the pass that makes it.
-use Rattle.std.specs.Prelude.{◌≡◌, ◌≢◌, ℕ, ◌+◌, ◌%◌, ◌^◌, ◌<◌, Bool, ◌==◌, List, [], ◌∷◌, ◌++◌, ◌⊎◌, Option, Some, ℤ}
-use Rattle.std.specs.Int.{w32, cast_signed, cast_unsigned}
+use Rattle.std.specs.Prelude.{◌≡◌, ◌≢◌, ℕ, ◌+◌, ◌<◌, Bool, ◌==◌, List, [], ◌∷◌, ◌++◌, ◌⊎◌, Option, Some, ℤ}
+use Rattle.std.specs.Int.{w32, cast_unsigned}
 use Rattle.std.specs.Int.RustNames.{FitsSigned}
 use mathlib.Core.List.{IsPrefix}
 use Rattle.effect_term.specs.declared.reply.Outcome.{Outcome}
@@ -19,7 +19,7 @@ use Rattle.cell_registry.specs.declared.call.Entry.{Entry}
 use Rattle.cell_registry.specs.declared.knowledge.Knowledge.{Knowledge}
 use Rattle.cell_registry.specs.Cells.{Cells, masked, unmasked, cut, finished, owned, IsOpen, cancel_reply, join_reply, ValueFits}
 use Rattle.cell_registry.specs.Histories.{left, IsLegal, calls_by}
-use Rattle.cell_registry.specs.Words.{phase_at, control, cell_word, deferred_word}
+use Rattle.cell_registry.specs.Words.{phase_at, control, cell_word, deferred_word, ref_value}
 use Rattle.cell_registry.specs.Rule.{Has, seen_cell}
 
 -- ---- calls and looks
@@ -109,10 +109,6 @@ AtDeferred i k P = (d : ℕ) → i ≡ d + (3 + k.fibers + k.refs) → P d
 -- n has the 32 bits of v
 abbrev pub HasBits : ℕ → ℤ → Type 0
 HasBits n v = FitsSigned w32 v × (n ≡ cast_unsigned w32 v)
-
--- the value of a ref with this word
-abbrev pub ref_value : ℕ → ℤ
-ref_value n = cast_signed w32 (n % 2 ^ 32)
 
 abbrev pub Got : ℕ → Knowledge → ℕ → Knowledge → Type 0
 Got i v found w = AtRef i v.limits (λ r. Called v (Get r) (reply.Value (ref_value found)) w × IsSame v w)

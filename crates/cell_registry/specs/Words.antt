@@ -1,6 +1,6 @@
 -- The words of the table, and the registry that they are left by.
 use Rattle.std.specs.Prelude.{◌≡◌, ℕ, ◌+◌, ◌%◌, ◌^◌, List, ◌∷◌, ◌++◌, length, map, Bool, Option, Some, None, slice_index_or, ℤ, pos}
-use Rattle.std.specs.Int.{w32, cast_unsigned}
+use Rattle.std.specs.Int.{w32, cast_signed, cast_unsigned}
 use Rattle.effect_term.specs.declared.reply.CancelReply.{CancelReply}
 use Rattle.effect_term.specs.declared.reply.JoinReply.{JoinReply}
 use Rattle.control_word.specs.declared.control.Control.{Control}
@@ -8,7 +8,7 @@ use Rattle.control_word.specs.Word.{word_of, kind_of, value_of, InRange}
 use Rattle.cell_registry.specs.declared.cell.Stage.{Stage}
 use Rattle.cell_registry.specs.declared.cell.Stage.TheVariants.{Running, Finalizing, Ended}
 use Rattle.cell_registry.specs.declared.cell.Cell.{Cell}
-use Rattle.cell_registry.specs.Cells.{Cells, ref_of, cancel_reply, join_reply}
+use Rattle.cell_registry.specs.Cells.{Cells, ref_of, cancel_reply, join_reply, ValueFits}
 
 -- ---- the word of a fiber
 abbrev pub phase_at : Stage → ℕ
@@ -45,7 +45,11 @@ pub record Leaves (words : List ℕ) (s : Cells) : Type 0 where
   pub long : length raw ≡ length s.refs
   pub refs : (r : ℕ) → slice_index_or raw r 0 % 2 ^ 32 ≡ cast_unsigned w32 (ref_of s r)
 
--- ---- the reply that the word of a fiber tells
+-- the value of a ref with this word
+abbrev pub ref_value : ℕ → ℤ
+ref_value n = cast_signed w32 (n % 2 ^ 32)
+
+-- ---- the reply that a word tells
 abbrev pub TellsCancel : ℕ → CancelReply → Type 0
 TellsCancel n r = (c : Cell) → InRange (control c) → cell_word c ≡ n → r ≡ cancel_reply c.stage c.request
 
@@ -54,3 +58,6 @@ TellsJoin n r = (c : Cell) → InRange (control c) → cell_word c ≡ n → r �
 
 abbrev pub TellsLook : ℕ → Bool → Type 0
 TellsLook n b = (c : Cell) → InRange (control c) → cell_word c ≡ n → b ≡ c.request
+
+abbrev pub TellsRead : ℕ → Option ℤ → Type 0
+TellsRead n o = (x : Option ℤ) → ValueFits x → deferred_word x ≡ n → o ≡ x

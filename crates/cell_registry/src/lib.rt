@@ -22,6 +22,7 @@ mod plain;
 mod plain_tests;
 mod registry;
 mod rule;
+mod shared_values;
 mod words;
 
 pub use call::{Call, Entry};

@@ -4,6 +4,7 @@ ghost use Rattle.control_word.specs.Word.{bit};
 ghost use Rattle.cell_registry.specs.declared.call.Call.TheVariants as call;
 ghost use Rattle.cell_registry.specs.declared.cell.Stage.TheVariants as at;
 ghost use Rattle.cell_registry.specs.Cells.{IsOpen, MayFinish, MayUnmask};
+ghost use Rattle.cell_registry.specs.Cancellation.{CutsAfterCancel};
 ghost use Rattle.cell_registry.specs.Words.{phase_at};
 ghost use Rattle.cell_registry.specs.Passes.{Changes, IsOf, IsSpent};
 
@@ -81,6 +82,7 @@ impl Registry {
         requires unmasked { pass.old.depth ≡ 0 }
         requires requested { pass.old.saw ≡ true }
         ensures cut { IfOk result (λ _. Changes pass.old call.Cut at.Finalizing 1 pass.new) }
+        ensures after_cancel { IfOk result (λ _. CutsAfterCancel pass.new.seen) }
         ensures spent { IfErr result (λ e. IsSpent pass.old e pass.new) }
     {
         if pass.count == self.limits.count {

@@ -1,10 +1,11 @@
 //! The registry: the cells that fibers share, each in one word that changes in single atomic steps.
-ghost use Rattle.std.specs.Prelude.{◌≡◌, ◌<◌, IfErr, IfOk};
+ghost use Rattle.std.specs.Prelude.{◌≡◌, ◌<◌, IfErr, IfOk, true};
 ghost use Rattle.effect_term.specs.declared.reply.Reply.TheVariants as reply;
 ghost use Rattle.cell_registry.specs.declared.limits.Band.TheVariants.{Deferreds, Fibers, Refs};
 ghost use Rattle.cell_registry.specs.declared.limits.CellError.TheVariants.{Full};
 ghost use Rattle.cell_registry.specs.declared.call.Call.TheVariants as call;
 ghost use Rattle.cell_registry.specs.Cells.{AreLimits, IsOpen};
+ghost use Rattle.cell_registry.specs.Cancellation.{WasCancelled};
 ghost use Rattle.cell_registry.specs.Passes.{Calls, Gives, IsOf, Meets, OnlySees, SeesAllGiven, Starts, first_pass};
 
 use crate::cell::Stage;
@@ -31,7 +32,8 @@ pub struct Registry {
 }
 
 impl Model for Registry {
-    ghost use Rattle.cell_registry.specs.Passes.{IsRegistry, RegistryView};
+    ghost use Rattle.cell_registry.specs.Cancellation.{WasCancelled};
+ghost use Rattle.cell_registry.specs.Passes.{IsRegistry, RegistryView};
 
     ghost Value = { RegistryView };
 
@@ -170,6 +172,7 @@ impl Registry {
         requires unmasked { pass.old.depth ≡ 0 }
         ensures same { pass.new ≡ record pass.old { saw = result; seen = pass.new.seen } }
         ensures call { Calls pass.old call.Look (reply.Seen result) pass.new }
+        ensures asked { result ≡ true → WasCancelled pass.new.seen pass.old.number }
     {
         let found = self
             .table

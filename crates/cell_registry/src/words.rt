@@ -1,9 +1,10 @@
 //! Where the words of the table lie, and what the word of a fiber answers.
-ghost use Rattle.std.specs.Prelude.{◌≡◌, ◌+◌};
+ghost use Rattle.std.specs.Prelude.{◌≡◌, ◌+◌, ◌^◌, ◌<◌};
+ghost use Rattle.std.specs.Int.{w32, cast_unsigned};
 ghost use Rattle.cell_registry.specs.Steps.{band_word};
-ghost use Rattle.cell_registry.specs.Words.{TellsCancel, TellsJoin, TellsLook};
+ghost use Rattle.cell_registry.specs.Words.{TellsCancel, TellsJoin, TellsLook, TellsRead, ref_value};
 
-use crate::limits::Band;
+use crate::limits::{Band, Limits};
 use control_word::unpack;
 use effect_term::{CancelReply, JoinReply, Outcome};
 
@@ -15,6 +16,9 @@ pub(crate) const CANCEL: u64 = 1 << 30;
 
 /// The bit by which a joiner says that it waits.
 pub(crate) const WAITED: u64 = 1 << 31;
+
+/// The bit that the word of a completed deferred has above its value.
+pub(crate) const FILLED: u64 = 1 << 32;
 
 /// The place of the band's claim word, which holds the next number.
 pub(crate) fn claim_place(band: Band) -> usize
@@ -32,6 +36,46 @@ pub(crate) fn cell_place(fiber: u16) -> usize
     ensures { result ≡ fiber + 3 }
 {
     usize::from(fiber) + CLAIM_WORDS
+}
+
+/// The place of a ref's word.
+pub(crate) fn ref_place(limits: Limits, number: u16) -> usize
+    ensures { result ≡ number + (3 + limits.fibers) }
+{
+    usize::from(number) + (CLAIM_WORDS + usize::from(limits.fibers))
+}
+
+/// The place of a deferred's word.
+pub(crate) fn deferred_place(limits: Limits, number: u16) -> usize
+    ensures { result ≡ number + (3 + limits.fibers + limits.refs) }
+{
+    usize::from(number) + (CLAIM_WORDS + usize::from(limits.fibers) + usize::from(limits.refs))
+}
+
+/// The 32 bits of a value.
+pub(crate) fn value_bits(value: i32) -> u64
+    ensures bits { result ≡ cast_unsigned w32 value }
+    ensures small { result < 2 ^ 32 }
+{
+    u64::from(value.cast_unsigned())
+}
+
+/// The value of a ref with this word: its low 32 bits.
+pub(crate) fn word_value(word: u64) -> i32
+    ensures { result ≡ ref_value word }
+{
+    ((word & 0xffff_ffff) as u32).cast_signed()
+}
+
+/// What a read is answered by the word of a deferred.
+pub(crate) fn read_answer(word: u64) -> Option<i32>
+    ensures { TellsRead word result }
+{
+    if word == 0 {
+        None
+    } else {
+        Some(word_value(word))
+    }
 }
 
 /// What a request for cancellation is answered by the word that it found.

@@ -8,6 +8,7 @@ use Rattle.cell_registry.specs.Rule.{seen_cell}
 use Rattle.cell_registry.specs.Passes.{RegistryView, PassView, Changes, pass_of}
 use Rattle.cell_registry.proofs.OwnTurns.{cuts_as}
 use Rattle.cell_registry.proofs.Tokens.{of_registry, own_place, seat_has, seat_cell, called_by, call-prefix, pass_of-step, seated_changed, count_below, seen_count_below}
+use Rattle.cell_registry.proofs.Requests.{legal-cuts}
 use Rattle.cell_registry.proofs.registry.Registry.cut.Goals as goal
 
 pub fetch_add-requires : goal.fetch_add-requires
@@ -50,3 +51,6 @@ returns-clause-cut c =
         same = pass_of-step _ _ old.seat.me.0 new.me.0 _ Finalizing 1 (old.count + 1) _ c.fetch_add.ensures.0 told.1.limits told.1.fibers;
         call = called_by old.seat.me.0 new.me.0 _ _ _ p.1.number_is told.0;
     }
+
+pub returns-clause-after_cancel : goal.returns-clause-after_cancel
+returns-clause-after_cancel c = legal-cuts _ c.fetch_add.new.seat.me.0.seen c.fetch_add.ensures.2.1.0.legal

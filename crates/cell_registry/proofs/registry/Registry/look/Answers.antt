@@ -5,9 +5,11 @@ use Rattle.cell_registry.specs.declared.cell.Stage.{Stage}
 use Rattle.cell_registry.specs.declared.call.Call.TheVariants as call
 use Rattle.cell_registry.specs.Cells.{IsOpen}
 use Rattle.cell_registry.specs.Steps.{Called}
+use Rattle.cell_registry.specs.Cancellation.{WasCancelled}
 use Rattle.cell_registry.specs.Passes.{RegistryView, PassView, Calls, pass_of}
 use Rattle.cell_registry.proofs.CellTurns.{sees}
 use Rattle.cell_registry.proofs.Tokens.{of_registry, own_place, seat_has, seat_cell, called_by, pass_of-step, seated_looked}
+use Rattle.cell_registry.proofs.Requests.{request-cancelled}
 use Rattle.cell_registry.proofs.registry.Registry.look.Goals as goal
 
 pub load-found-requires : goal.load-found-requires
@@ -43,3 +45,12 @@ returns-clause-call c =
     let new = c.load-found.new.seat in
     let P : PassView → Type 0 = λ h. Calls h call.Look (reply.Seen c.look_answer-requested.result) (pass_of new.table_id new.me.0 old.number old.stage old.depth old.count c.look_answer-requested.result) in
     subst P c.pass.view_is (called_by old.seat.me.0 new.me.0 _ _ _ c.pass.invariant.1.number_is (subst (λ (b : Bool). Called old.seat.me.0 call.Look (reply.Seen b) new.me.0) (sym answer) t.3.0))
+
+pub returns-clause-asked : goal.returns-clause-asked
+returns-clause-asked c saw =
+    let t = c.load-found.ensures.2.1 in
+    let answer = c.look_answer-requested.ensures t.0 t.1 t.2 in
+    let new = c.load-found.new.seat.me.0 in
+    let asked : WasCancelled new.seen c.pass.inside.seat.me.0.number = request-cancelled new.limits new.seen _ (t.3.2 ∙ sym answer ∙ saw) in
+    let number = sym c.pass.invariant.1.number_is ∙ ap (λ (q : PassView). q.number) c.pass.view_is in
+    subst (WasCancelled new.seen) number asked

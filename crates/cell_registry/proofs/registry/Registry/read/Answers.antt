@@ -1,0 +1,48 @@
+use Rattle.std.proofs.Common.{◌≡◌, ◌+◌, ◌^◌, ◌<◌, ℤ, sym, ◌∙◌, ap, subst, refl}
+use Rattle.std.specs.Prelude.{Option}
+use Rattle.effect_term.specs.declared.reply.Reply.TheVariants as reply
+use Rattle.cell_registry.specs.declared.limits.Limits.{Limits}
+use Rattle.cell_registry.specs.declared.call.Call.TheVariants as call
+use Rattle.cell_registry.specs.Steps.{Called}
+use Rattle.cell_registry.specs.Passes.{RegistryView, PassView, OnlySees, Calls, pass_of}
+use Rattle.cell_registry.proofs.ValueTurns.{reads}
+use Rattle.cell_registry.proofs.Tokens.{of_registry, seat_has, deferred_here, deferred_word, called_by, call-prefix, pass_of-step, seated_still}
+use Rattle.cell_registry.proofs.registry.Registry.read.Goals as goal
+
+pub load-found-requires : goal.load-found-requires
+load-found-requires c =
+    let r = c.self.invariant in
+    let p = c.pass.invariant in
+    let of = of_registry _ _ _ _ c.self.view_is c.pass.view_is c.requires.own in
+    let place = c.deferred_place-place.ensures in
+    let within = subst (λ (x : RegistryView). c.args.number < x.limits.deferreds) (sym c.self.view_is) c.requires.within in
+    (ap (λ (s : RegistryView). s.table) of, deferred_word _ _ _ c.args.number r within place, reads _ _ _ c.deferred_place-place.result _ c.args.number p.0 (seat_has _ _ refl p.1) (subst (λ (k : Limits). c.args.number < k.deferreds) (sym r.key_is) within) (deferred_here _ _ _ c.args.number (sym r.key_is) place))
+
+pub invariant_of-pass : goal.invariant_of-pass
+invariant_of-pass c =
+    let p = c.pass.invariant in
+    let of = of_registry _ _ _ _ c.self.view_is c.pass.view_is c.requires.own in
+    let place = deferred_here _ _ _ c.args.number (sym (ap (λ (s : RegistryView). s.limits) of)) c.deferred_place-place.ensures in
+    let t = c.load-found.ensures.2.1 c.args.number place in
+    (c.load-found.ensures.2.0, seated_still _ _ _ _ _ _ _ _ _ t.4 (call-prefix _ _ _ _ _ _ _ t.3) t.3.legal p.1)
+
+pub returns-clause-same : goal.returns-clause-same
+returns-clause-same c =
+    let of = of_registry _ _ _ _ c.self.view_is c.pass.view_is c.requires.own in
+    let place = deferred_here _ _ _ c.args.number (sym (ap (λ (s : RegistryView). s.limits) of)) c.deferred_place-place.ensures in
+    let t = c.load-found.ensures.2.1 c.args.number place in
+    let old = c.pass.inside in
+    let new = c.load-found.new.seat in
+    let P : PassView → Type 0 = λ h. OnlySees h (pass_of new.table_id new.me.0 old.number old.stage old.depth old.count old.saw) in
+    subst P c.pass.view_is (pass_of-step _ _ old.seat.me.0 new.me.0 _ _ _ _ _ c.load-found.ensures.0 t.4.limits t.4.fibers)
+
+pub returns-clause-call : goal.returns-clause-call
+returns-clause-call c =
+    let of = of_registry _ _ _ _ c.self.view_is c.pass.view_is c.requires.own in
+    let place = deferred_here _ _ _ c.args.number (sym (ap (λ (s : RegistryView). s.limits) of)) c.deferred_place-place.ensures in
+    let t = c.load-found.ensures.2.1 c.args.number place in
+    let answer = c.read_answer.ensures t.0 t.1 t.2 in
+    let old = c.pass.inside in
+    let new = c.load-found.new.seat in
+    let P : PassView → Type 0 = λ h. Calls h (call.Read c.args.number) (reply.Read c.read_answer.result) (pass_of new.table_id new.me.0 old.number old.stage old.depth old.count old.saw) in
+    subst P c.pass.view_is (called_by old.seat.me.0 new.me.0 _ _ _ c.pass.invariant.1.number_is (subst (λ (x : Option ℤ). Called old.seat.me.0 (call.Read c.args.number) (reply.Read x) new.me.0) (sym answer) t.3))

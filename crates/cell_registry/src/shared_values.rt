@@ -1,0 +1,85 @@
+//! Refs and deferreds: values that fibers share, as in Cats Effect 3's `GenConcurrent`.
+ghost use Rattle.std.specs.Prelude.{◌≡◌, ◌<◌};
+ghost use Rattle.effect_term.specs.declared.reply.Reply.TheVariants as reply;
+ghost use Rattle.cell_registry.specs.declared.call.Call.TheVariants as call;
+ghost use Rattle.cell_registry.specs.Passes.{Calls, IsOf, OnlySees};
+
+use crate::pass::Pass;
+use crate::registry::Registry;
+use crate::rule;
+use crate::words::{FILLED, deferred_place, read_answer, ref_place, value_bits, word_value};
+
+impl Registry {
+    /// The value of a ref, whose number is below the limit of refs.
+    pub fn get(&self, pass: &mut Pass, number: u16) -> i32
+        requires own { IsOf self.now pass.old }
+        requires within { number < self.now.limits.refs }
+        ensures same { OnlySees pass.old pass.new }
+        ensures call { Calls pass.old (call.Get number) (reply.Value result) pass.new }
+    {
+        let place = ref_place(self.limits, number);
+        let found = self.table.shared.load::<rule::Gets>(&mut pass.seat, place);
+        word_value(found)
+    }
+
+    /// Sets a ref, whose number is below the limit of refs.
+    pub fn set(&self, pass: &mut Pass, number: u16, value: i32)
+        requires own { IsOf self.now pass.old }
+        requires within { number < self.now.limits.refs }
+        ensures same { OnlySees pass.old pass.new }
+        ensures call { Calls pass.old (call.Set number value) reply.Done pass.new }
+    {
+        let place = ref_place(self.limits, number);
+        let bits = value_bits(value);
+        self.table
+            .shared
+            .store::<rule::Sets>(&mut pass.seat, place, bits);
+    }
+
+    /// Adds to a ref modulo 2^32, and gives its old value. The number is below the limit of refs.
+    pub fn modify(&self, pass: &mut Pass, number: u16, value: i32) -> i32
+        requires own { IsOf self.now pass.old }
+        requires within { number < self.now.limits.refs }
+        ensures same { OnlySees pass.old pass.new }
+        ensures call { Calls pass.old (call.Modify number value) (reply.Value result) pass.new }
+    {
+        let place = ref_place(self.limits, number);
+        let bits = value_bits(value);
+        let found = self
+            .table
+            .shared
+            .fetch_add::<rule::Modifies>(&mut pass.seat, place, bits);
+        word_value(found)
+    }
+
+    /// Completes a deferred, whose number is below the limit of deferreds. Answers whether this
+    /// call did it: a deferred is completed at most once.
+    pub fn complete(&self, pass: &mut Pass, number: u16, value: i32) -> bool
+        requires own { IsOf self.now pass.old }
+        requires within { number < self.now.limits.deferreds }
+        ensures same { OnlySees pass.old pass.new }
+        ensures call { Calls pass.old (call.Complete number value) (reply.Completed result) pass.new }
+    {
+        let place = deferred_place(self.limits, number);
+        let filled = FILLED + value_bits(value);
+        let found = self.table.shared.compare_exchange::<rule::Completes>(
+            &mut pass.seat,
+            place,
+            0,
+            filled,
+        );
+        found == 0
+    }
+
+    /// The value of a deferred, if it was completed. The number is below the limit of deferreds.
+    pub fn read(&self, pass: &mut Pass, number: u16) -> Option<i32>
+        requires own { IsOf self.now pass.old }
+        requires within { number < self.now.limits.deferreds }
+        ensures same { OnlySees pass.old pass.new }
+        ensures call { Calls pass.old (call.Read number) (reply.Read result) pass.new }
+    {
+        let place = deferred_place(self.limits, number);
+        let found = self.table.shared.load::<rule::Reads>(&mut pass.seat, place);
+        read_answer(found)
+    }
+}
