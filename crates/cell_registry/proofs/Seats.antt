@@ -34,9 +34,9 @@ module _ {S : Type 0} where
       let c : Knowledge = child v in
       let h = kept.0 in let r = kept.1 in
       let mine : Fits k h v = r.fits id v at in
-      let fits_p : Fits k h p = record { limits = λ f a. mine.limits f (inr a); seen = mine.seen; heard = (h, refl); own = λ f a. mine.own f (inr a); guest = λ f a. absurd a } in
+      let fits_p : Fits k h p = record { limits = λ f a. mine.limits f (inr a); seen = mine.seen; heard = (h, refl); own = λ f a. mine.own f (inr a); guest = λ f a. absurd a; apart = λ f _ b. absurd b } in
       let own_c = λ (f : ℕ) (a : Has (n ∷ []) f). let b : n ≡ f = ⊎_elim (λ (x : n ≡ f). x) (λ x. absurd x) a in mine.own f (inl b) in
-      let fits_c : Fits k h c = record { limits = λ f a. mine.limits n (inl refl); seen = mine.seen; heard = (h, refl); own = own_c; guest = λ f a. absurd a } in
+      let fits_c : Fits k h c = record { limits = λ f a. mine.limits n (inl refl); seen = mine.seen; heard = (h, refl); own = own_c; guest = λ f a. absurd a; apart = λ f _ b. absurd b } in
       let of_child : (f : ℕ) → Owns c f → n ≡ f = λ f a. ⊎_elim (λ (b : Has (n ∷ []) f). ⊎_elim (λ (x : n ≡ f). x) (λ x. absurd x) b) (λ (b : Has [] f). absurd b) a in
       let of_parent : (f : ℕ) → Owns p f → Has fs f = λ f a. ⊎_elim (λ (b : Has fs f). b) (λ (b : Has [] f). absurd b) a in
       let with_child : (j : ℕ) (x : Knowledge) → get_elem? (set s.views id p) j ≡ some x → Apart x c = each_view (λ j x. Apart x c) s.views id p
@@ -111,8 +111,8 @@ module _ {S : Type 0} where
       let there : get_elem? s.views other ≡ some w = sym (set_else s.views id other (hosting v w) apart) ∙ there' in
       let mine : Fits k h v = r.fits id v at in
       let theirs : Fits k h w = r.fits other w there in
-      let both : Fits k h (hosting v w) = record { limits = mine.limits; seen = mine.seen; heard = theirs.seen; own = mine.own; guest = theirs.own } in
-      let gone : Fits k h nothing = record { limits = λ f a. absurd a; seen = (h, refl); heard = (h, refl); own = λ f a. absurd a; guest = λ f a. absurd a } in (
+      let both : Fits k h (hosting v w) = record { limits = mine.limits; seen = mine.seen; heard = theirs.seen; own = mine.own; guest = theirs.own; apart = λ f a b. r.apart id other v w at there apart f (inl a) (inl b) } in
+      let gone : Fits k h nothing = record { limits = λ f a. absurd a; seen = (h, refl); heard = (h, refl); own = λ f a. absurd a; guest = λ f a. absurd a; apart = λ f a _. absurd a } in (
         h,
         record {
           limits = r.limits;
@@ -139,6 +139,7 @@ module _ {S : Type 0} where
           legal = subst (λ (x : Limits). IsLegal x h) (sym (mine.limits v.number has)) legal;
           own = λ f a. (mine.own f a).calls;
           guest = λ f a. (mine.guest f a).calls;
+          apart = mine.apart;
           limits = refl;
           fibers = refl;
           number = refl;
@@ -161,7 +162,7 @@ begins S k words limits is = (
     )
   where
     fits : Fits k [] (first_knowledge k)
-    fits = record { limits = λ f a. refl; seen = ([], refl); heard = ([], refl); own = λ f a. record { calls = refl; cell = refl; born = ⊎_elim (λ (e : 0 ≡ f). omega arith) (λ b. absurd b) a }; guest = λ f a. absurd a }
+    fits = record { limits = λ f a. refl; seen = ([], refl); heard = ([], refl); own = λ f a. record { calls = refl; cell = refl; born = ⊎_elim (λ (e : 0 ≡ f). omega arith) (λ b. absurd b) a }; guest = λ f a. absurd a; apart = λ f _ b. absurd b }
 
     one : (i : ℕ) (v : Knowledge) → get_elem? (first_knowledge k ∷ []) i ≡ some v → Fits k [] v
     one zero v e = subst (Fits k []) (some-injective (first_knowledge k) v e) fits

@@ -42,6 +42,7 @@ fits_still k h e u apart o = record {
   heard = longer u.heard h e o.heard;
   own = λ f has. quiet_still k h u.seen e f (apart f (inl has)) (o.own f has);
   guest = λ f has. quiet_still k h u.heard e f (apart f (inr has)) (o.guest f has);
+  apart = o.apart;
 }
 
 -- a pass that has seen all, and has no guest
@@ -52,6 +53,7 @@ fits_now k h w limits seen guests heard born = record {
   heard = (h, rw heard refl);
   own = λ f has. subst (λ (g : List Entry). IsQuietSince k h g f) (sym seen) (quiet_now k h f (born f has));
   guest = λ f has. absurd (subst (λ (fs : List ℕ). Has fs f) guests has);
+  apart = λ f _ has. absurd (subst (λ (fs : List ℕ). Has fs f) guests has);
 }
 
 pub owner_born : (k : Limits) (h : List Entry) (v : Knowledge) (f : ℕ) → Fits k h v → Owns v f → f < (left k h).next_fiber

@@ -114,7 +114,7 @@ pub record SeesAllGiven (b : Band) (p q : PassView) : Type 0 where
   pub look : IsLook p.registry.limits p.fibers p.seen q.seen
   pub given : next_of b (left p.registry.limits q.seen) ≡ limit_of b p.registry.limits
 
--- The pass a has met b, and is q since: what it has seen is one legal history, which begins with what a had seen and with what b had seen. The calls in it of the fibers of a are those that a had seen, and of the fibers of b those that b had
+-- The pass a has met b, and is q since: what it has seen is one legal history, which begins with what a had seen and with what b had seen. The calls in it of the fibers of a are those that a had seen, and of the fibers of b those that b had. No fiber is of both
 pub record Meets (a b q : PassView) : Type 0 where
   pub same : q ≡ record a { fibers = a.fibers ++ b.fibers; seen = q.seen }
   pub first : IsPrefix a.seen q.seen
@@ -122,3 +122,4 @@ pub record Meets (a b q : PassView) : Type 0 where
   pub legal : IsLegal a.registry.limits q.seen
   pub own : (f : ℕ) → Has a.fibers f → calls_by f q.seen ≡ calls_by f a.seen
   pub other : (f : ℕ) → Has b.fibers f → calls_by f q.seen ≡ calls_by f b.seen
+  pub apart : (f : ℕ) → Has a.fibers f → Has b.fibers f → ⊥

@@ -34,6 +34,7 @@ pub record Fits (k : Limits) (h : List Entry) (v : Knowledge) : Type 0 where
   pub heard : IsPrefix v.heard h
   pub own : (f : ℕ) → Has v.fibers f → IsQuietSince k h v.seen f
   pub guest : (f : ℕ) → Has v.guests f → IsQuietSince k h v.heard f
+  pub apart : (f : ℕ) → Has v.fibers f → Has v.guests f → ⊥
 
 abbrev pub Owns : Knowledge → ℕ → Type 0
 Owns v f = Has v.fibers f ⊎ Has v.guests f

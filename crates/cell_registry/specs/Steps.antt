@@ -230,6 +230,7 @@ pub record Met (v w : Knowledge) : Type 0 where
   pub legal : IsLegal v.limits w.seen
   pub own : (f : ℕ) → Has v.fibers f → calls_by f w.seen ≡ calls_by f v.seen
   pub guest : (f : ℕ) → Has v.guests f → calls_by f w.seen ≡ calls_by f v.heard
+  pub apart : (f : ℕ) → Has v.fibers f → Has v.guests f → ⊥
   pub limits : w.limits ≡ v.limits
   pub number : w.number ≡ v.number
   pub fibers : w.fibers ≡ v.fibers ++ v.guests

@@ -1,6 +1,7 @@
 //! What a fiber changes in its own cell: masks, its cut, and its end.
-ghost use Rattle.std.specs.Prelude.{◌≡◌, ◌+◌, ◌-◌, ◌<◌, IfErr, IfOk, true};
+ghost use Rattle.std.specs.Prelude.{◌≡◌, ◌≢◌, ◌+◌, ◌-◌, ◌<◌, IfErr, IfOk, true};
 ghost use Rattle.control_word.specs.Word.{bit};
+ghost use Rattle.cell_registry.specs.declared.limits.CellError.TheVariants.{Spent};
 ghost use Rattle.cell_registry.specs.declared.call.Call.TheVariants as call;
 ghost use Rattle.cell_registry.specs.declared.cell.Stage.TheVariants as at;
 ghost use Rattle.cell_registry.specs.Cells.{IsOpen, MayFinish, MayUnmask};
@@ -16,6 +17,17 @@ use crate::rule;
 use crate::words::cell_place;
 use control_word::{cut_amount, finish_amount, mask_amount, unmask_amount};
 use effect_term::Outcome;
+
+// Refuses where the count of changes is used up.
+fn room(count: u32, limit: u32) -> Result<(), CellError>
+    ensures room { IfOk result (λ _. count ≢ limit) }
+    ensures spent { IfErr result (λ e. (e ≡ Spent count) × (count ≡ limit)) }
+{
+    if count == limit {
+        return Err(CellError::Spent(count));
+    }
+    Ok(())
+}
 
 fn is_finalizing(stage: Stage) -> bool
     requires { IsOpen stage }
@@ -40,9 +52,7 @@ impl Registry {
         ensures masked { IfOk result (λ _. Changes pass.old call.Mask pass.old.stage (pass.old.depth + 1) pass.new) }
         ensures spent { IfErr result (λ e. IsSpent pass.old e pass.new) }
     {
-        if pass.count == self.limits.count {
-            return Err(CellError::Spent(pass.count));
-        }
+        room(pass.count, self.limits.count)?;
         self.table.shared.fetch_add::<rule::Masks>(
             &mut pass.seat,
             cell_place(pass.number),
@@ -61,9 +71,7 @@ impl Registry {
         ensures unmasked { IfOk result (λ _. Changes pass.old call.Unmask pass.old.stage (pass.old.depth - 1) pass.new) }
         ensures spent { IfErr result (λ e. IsSpent pass.old e pass.new) }
     {
-        if pass.count == self.limits.count {
-            return Err(CellError::Spent(pass.count));
-        }
+        room(pass.count, self.limits.count)?;
         self.table.shared.fetch_sub::<rule::Unmasks>(
             &mut pass.seat,
             cell_place(pass.number),
@@ -85,9 +93,7 @@ impl Registry {
         ensures after_cancel { IfOk result (λ _. CutsAfterCancel pass.new.seen) }
         ensures spent { IfErr result (λ e. IsSpent pass.old e pass.new) }
     {
-        if pass.count == self.limits.count {
-            return Err(CellError::Spent(pass.count));
-        }
+        room(pass.count, self.limits.count)?;
         self.table.shared.fetch_add::<rule::Cuts>(
             &mut pass.seat,
             cell_place(pass.number),
@@ -107,9 +113,7 @@ impl Registry {
         ensures ended { IfOk result (λ _. Changes pass.old (call.Finish outcome) (at.Ended outcome) pass.old.depth pass.new) }
         ensures spent { IfErr result (λ e. IsSpent pass.old e pass.new) }
     {
-        if pass.count == self.limits.count {
-            return Err(CellError::Spent(pass.count));
-        }
+        room(pass.count, self.limits.count)?;
         let amount = finish_amount(is_finalizing(pass.stage), outcome);
         self.table
             .shared
