@@ -19,9 +19,10 @@ use Rattle.cell_registry.specs.Cells.{AreLimits, fresh, owned, IsOpen, Cells, ce
 use Rattle.cell_registry.specs.Histories.{left, IsLegal, calls_by}
 use Rattle.cell_registry.specs.Words.{Leaves}
 use Rattle.cell_registry.specs.Rule.{Has, seen_cell, Fits, WordsAreAHistory}
-use Rattle.cell_registry.specs.Steps.{entry, IsCall, IsLook, Called, Looked, IsSame, band_word, next_of, limit_of, claim_of, MayClaim, fibers_with, IsUnused, IsNew, Claimed, SawNext, Tried, AtBand, FoundNone}
+use Rattle.cell_registry.specs.Steps.{entry, IsCall, IsLook, Called, Looked, IsSame, band_word, next_of, limit_of, claim_of, MayClaim, fibers_with, IsUnused, IsNew, Claimed, SawNext, Tried, AtBand, AreAllGiven, FoundNone}
 use Rattle.cell_registry.proofs.Calls.{full-none}
 use Rattle.cell_registry.proofs.Legal.{left-push, sound, next_fiber-prefix, next_ref-prefix, next_deferred-prefix, unborn, unborn_cell, calls_by-other}
+use Rattle.cell_registry.proofs.Giving.{reply-claim, given}
 use Rattle.cell_registry.proofs.TableWords.{next_at, put_next, same_words}
 use Rattle.cell_registry.proofs.Turns.{Turn, Look, Goes, Tells, turn_at, looks, look_at}
 use Rattle.cell_registry.proofs.CellTurns.{own_same, own_stage}
@@ -33,12 +34,6 @@ unfolding after
 after-claim Fibers s by = refl
 after-claim Refs s by = refl
 after-claim Deferreds s by = refl
-
-reply-claim : (b : Band) (s : Cells) (by : ℕ) → reply_of s by (claim_of b) ≡ reply.Number (next_of b s)
-unfolding reply_of
-reply-claim Fibers s by = refl
-reply-claim Refs s by = refl
-reply-claim Deferreds s by = refl
 
 accepts-claim : (b : Band) (k : Limits) (s : Cells) (by : ℕ) → MayClaim b (cell_of s by).stage → next_of b s ≢ limit_of b k → IsAccepted k s by (claim_of b)
 unfolding IsAllowed refusal
@@ -243,4 +238,5 @@ pub all_given : (b : Band) (u v : Knowledge) (next limit : ℕ) → AreLimits u.
 all_given b u v next limit lim a s e le is =
     let most = next_of-most b u.limits v.seen lim a.legal in
     let now : next_of b (left u.limits v.seen) ≡ next = (λ j. next_of b (left (sym s.limits j) v.seen)) ∙ e in
-    (a, s, omega arith)
+    let all : next_of b (left u.limits v.seen) ≡ limit_of b u.limits = omega arith in
+    (a, s, record { next = all; each = λ n lo hi. given b u.limits v.seen n a.legal lo (omega arith) })

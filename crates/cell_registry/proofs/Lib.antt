@@ -6,6 +6,7 @@ pub mod Replies
 pub mod Turns
 pub mod Requests
 pub mod CellTurns
+pub mod Giving
 pub mod Claiming
 pub mod Seats
 pub mod Tokens

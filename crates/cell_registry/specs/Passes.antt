@@ -18,7 +18,7 @@ use Rattle.cell_registry.specs.declared.knowledge.Knowledge.{Knowledge}
 use Rattle.cell_registry.specs.Cells.{AreLimits, cell_of, owned}
 use Rattle.cell_registry.specs.Histories.{left, IsLegal, calls_by}
 use Rattle.cell_registry.specs.Rule.{Has}
-use Rattle.cell_registry.specs.Steps.{IsCall, IsLook, claim_of, next_of, limit_of}
+use Rattle.cell_registry.specs.Steps.{IsCall, IsLook, claim_of, limit_of, AreAllGiven}
 
 -- ---- a registry
 -- which table it is, and its limits
@@ -112,7 +112,7 @@ pub record Gives (b : Band) (p : PassView) (n : ℕ) (q : PassView) : Type 0 whe
 -- the pass made no call, and has seen the giving of all numbers of the band
 pub record SeesAllGiven (b : Band) (p q : PassView) : Type 0 where
   pub look : IsLook p.registry.limits p.fibers p.seen q.seen
-  pub given : next_of b (left p.registry.limits q.seen) ≡ limit_of b p.registry.limits
+  pub given : AreAllGiven b p.registry.limits q.seen
 
 -- The pass a has met b, and is q since: what it has seen is one legal history, which begins with what a had seen and with what b had seen. The calls in it of the fibers of a are those that a had seen, and of the fibers of b those that b had. No fiber is of both
 pub record Meets (a b q : PassView) : Type 0 where

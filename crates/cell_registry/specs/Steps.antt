@@ -1,5 +1,5 @@
 -- What each step tells the pass that makes it.
-use Rattle.std.specs.Prelude.{◌≡◌, ◌≢◌, ℕ, ◌+◌, ◌<◌, Bool, ◌==◌, List, [], ◌∷◌, ◌++◌, ◌⊎◌, Option, Some, ℤ}
+use Rattle.std.specs.Prelude.{◌≡◌, ◌≢◌, ℕ, ◌+◌, ◌<◌, ◌≤◌, Bool, ◌==◌, List, [], ◌∷◌, ◌++◌, ◌⊎◌, Option, Some, ℤ}
 use Rattle.std.specs.Int.{w32, cast_unsigned}
 use Rattle.std.specs.Int.RustNames.{FitsSigned}
 use mathlib.Core.List.{IsPrefix}
@@ -196,9 +196,24 @@ Tried b old v found w = ((found ≡ old) × Claimed b v found w) ⊎ ((found ≢
 abbrev pub AtBand : ℕ → (Band → Type 0) → Type 0
 AtBand i P = (b : Band) → i ≡ band_word b → P b
 
--- all numbers of the band were given
+-- the first number that a call gives: fiber 0 is born with the registry
+abbrev pub first_of : Band → ℕ
+first_of Fibers = 1
+first_of Refs = 0
+first_of Deferreds = 0
+
+-- some call in the history was answered the number n of the band
+abbrev pub WasGiven : Band → List Entry → ℕ → Type 0
+WasGiven b [] n = ⊥
+WasGiven b (e ∷ es) n = ((e.call ≡ claim_of b) × (e.reply ≡ reply.Number n)) ⊎ WasGiven b es n
+
+-- all numbers of the band were given: the next one is the limit, and each number below it stands in the history
+pub record AreAllGiven (b : Band) (k : Limits) (h : List Entry) : Type 0 where
+  pub next : next_of b (left k h) ≡ limit_of b k
+  pub each : (n : ℕ) → first_of b ≤ n → n < limit_of b k → WasGiven b h n
+
 abbrev pub FoundNone : Band → Knowledge → Knowledge → Type 0
-FoundNone b v w = Looked v w × IsSame v w × (next_of b (left v.limits w.seen) ≡ limit_of b v.limits)
+FoundNone b v w = Looked v w × IsSame v w × AreAllGiven b v.limits w.seen
 
 -- ---- what passes between seats
 abbrev pub eldest : List ℕ → ℕ
