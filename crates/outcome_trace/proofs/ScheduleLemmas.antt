@@ -266,3 +266,10 @@ pub refuses : {A : Type 0} (text : List ℕ) (r : Result (Vec ℕ A) ScheduleErr
 refuses text (Ok v) found place p b = no_first_bad found.items text p found.good found.text_is (rw (← found.entries_are) found.few) b
 refuses text (Err NoMemory) found place p b = tt
 refuses text (Err (BadSchedule q)) found place p b = same_place text q p (place q refl) b
+
+pub same_entries : (text one other : List ℕ) → SpellsEntries text one → SpellsEntries text other → one ≡ other
+same_entries text one other s t =
+    s.entries_are ∙ ap entries_of (same_items s.items t.items s.good t.good (sym s.text_is ∙ t.text_is)) ∙ sym t.entries_are
+
+pub never_both : (text entries : List ℕ) (place : ℕ) → SpellsEntries text entries → IsFirstBad text place → ⊥
+never_both text entries place s b = no_first_bad s.items text place s.good s.text_is (rw (← s.entries_are) s.few) b

@@ -1,4 +1,5 @@
 pub mod Device
+pub mod Lines
 pub mod ReportText
 pub mod Wrapped
 pub mod Text

@@ -7,8 +7,10 @@
 //! report or of a line.
 #![tactic(auto)]
 
+mod borrowed;
 mod device;
 mod fault;
+mod lines;
 
 mod mark;
 mod report;
@@ -19,10 +21,12 @@ mod schedule;
 mod tests;
 mod text;
 
+pub use borrowed::{Band, RunError, TermError};
 pub use device::{FromRead, ReadError, TextIn, TextOut, ToWrite, WriteFailed};
 pub use fault::TextFault;
+pub use lines::{Refused, line};
 pub use mark::Mark;
 pub use report::{FiberReport, FiberReports, Marks, Report};
-pub use report_text::text_of_report;
-pub use schedule::{MOST_ENTRIES, ScheduleError, read_schedule};
+pub use report_text::{print_report, text_of_report};
+pub use schedule::{MOST_ENTRIES, ScheduleError, read_schedule, schedule_text_means_one_thing};
 pub use text::{TEXT_BOUND, read_text, write_text};

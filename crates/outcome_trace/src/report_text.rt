@@ -1,11 +1,14 @@
 //! The text of a report.
 
-ghost use Rattle.std.specs.Prelude.{◌≡◌, ◌++◌, ℕ, true, false, IfOk, IfErr, OnOk, OnErr, IsErrOf, length, string_bytes};
-ghost use Rattle.std.specs.Io.KnownBytes.{Appends};
+ghost use Rattle.std.specs.Prelude.{◌≡◌, ◌++◌, false, IfOk, OnOk, IsErrOf, string_bytes};
+ghost use Rattle.outcome_trace.specs.Text.{GoesOut, OnlyOutFaults, is_write_fault};
 ghost use Rattle.outcome_trace.specs.ReportText.{mark_text, later_marks_text, marks_text, outcome_text, fiber_line, text_of_fibers};
 
+use crate::device::TextOut;
+use crate::fault::TextFault;
 use crate::mark::Mark;
 use crate::report::{FiberReport, Report};
+use crate::text::write_text;
 use effect_term::Outcome;
 use std::alloc::{AllocError, Global};
 
@@ -77,4 +80,18 @@ pub fn text_of_report(alloc: Global, report: &Report) -> Result<String, AllocErr
         push_fiber(&mut text, number, fiber)?;
     }
     Ok(text)
+}
+
+/// Writes the text of a report. Where memory runs out, nothing is written.
+pub fn print_report<T: TextOut>(alloc: Global, report: &Report, out: &mut T) -> Result<(), TextFault>
+    requires { T.has_failed out.old ≡ false }
+
+    // All of it goes out, or as much of its front as the fault tells.
+    ensures text { GoesOut (T.contents out.old) (T.contents out.new) (text_of_fibers report.now.fibers) result }
+    ensures memory { IsErrOf result TextFault.NoMemory → out.new ≡ out.old }
+    ensures only { OnlyOutFaults result }
+    ensures failed { T.has_failed out.new ≡ is_write_fault result }
+{
+    let text = text_of_report(alloc, report)?;
+    write_text(text.as_bytes(), out)
 }

@@ -147,3 +147,12 @@ pub fn read_schedule(alloc: Global, text: &str) -> Result<Vec<u16>, ScheduleErro
     }
     read_items(alloc, text)
 }
+
+/// What a schedule's text means is one thing: its entries or the place of its first bad item, and
+/// never both. This law does nothing.
+pub fn schedule_text_means_one_thing()
+    ensures entries { (text one other : List ℕ) → SpellsEntries text one → SpellsEntries text other → one ≡ other }
+    ensures place { (text : List ℕ) (one other : ℕ) → IsFirstBad text one → IsFirstBad text other → one ≡ other }
+    ensures either { (text entries : List ℕ) (place : ℕ) → SpellsEntries text entries → IsFirstBad text place → ⊥ }
+{
+}

@@ -1,9 +1,9 @@
 //! Whole texts, read from a device and written to one.
 
-ghost use Rattle.std.specs.Prelude.{◌≡◌, ◌≢◌, ◌+◌, ◌-◌, ◌<◌, ◌≤◌, ◌^◌, ◌↔◌, ℕ, true, false, IfOk, IfErr, OnOk, OnErr, IsOk, IsErrOf, IfSome, length, take, drop, vec_len};
-ghost use Rattle.std.specs.Io.KnownBytes.{Appends, Consumes, IsAtEnd, ReadConsumes};
+ghost use Rattle.std.specs.Prelude.{◌≡◌, ◌≢◌, ◌+◌, ◌-◌, ◌<◌, ◌≤◌, ◌^◌, ℕ, false, IfOk, IsErrOf, length, take, drop, vec_len};
+ghost use Rattle.std.specs.Io.KnownBytes.{Consumes, IsAtEnd, ReadConsumes};
 ghost use Rattle.outcome_trace.specs.Device.{read_failed};
-ghost use Rattle.outcome_trace.specs.Text.{WritesFront};
+ghost use Rattle.outcome_trace.specs.Text.{GoesOut, OnlyWriteFaults, is_read_fault, is_write_fault};
 
 use crate::device::{ReadError, TextIn, TextOut};
 use crate::fault::TextFault;
@@ -13,6 +13,9 @@ use std::alloc::{AllocError, Global};
 pub const TEXT_BOUND: usize = 65_537;
 
 /// What is left of the input, up to `TEXT_BOUND` bytes. An interrupted read is tried again.
+///
+/// It makes at most `TEXT_BOUND` reads. After so many without the end of the input or the last of
+/// the bytes the answer is `TurnBound`.
 pub fn read_text<T: TextIn>(alloc: Global, input: &mut T) -> Result<Vec<u8>, TextFault>
     requires healthy { T.has_failed input.old ≡ false }
     requires countable { T.reads input.old < 2 ^ 63 }
@@ -22,7 +25,8 @@ pub fn read_text<T: TextIn>(alloc: Global, input: &mut T) -> Result<Vec<u8>, Tex
     ensures bound { IfOk result (λ text. vec_len text ≤ TEXT_BOUND) }
     ensures ended { IfOk result (λ text. vec_len text < TEXT_BOUND → IsAtEnd (T.remaining input.new)) }
 
-    ensures failed { IsErrOf result TextFault.ReadFault ↔ (T.has_failed input.new ≡ true) }
+    // The fault is told exactly where the reader failed.
+    ensures failed { T.has_failed input.new ≡ is_read_fault result }
     ensures turns { IsErrOf result TextFault.TurnBound → T.reads input.new ≡ T.reads input.old + TEXT_BOUND }
     ensures memory { IsErrOf result TextFault.NoMemory → input.new ≡ input.old }
     ensures nothing_written { (written : ℕ) → result ≢ Err (TextFault.WriteFault written) }
@@ -70,14 +74,14 @@ fn zeros(alloc: Global, count: usize) -> Result<Vec<u8>, AllocError>
     vec![in alloc; 0u8; count]
 }
 
-/// Writes the whole text. It takes no memory.
+/// Writes the whole text. It takes no memory: the only fault is the writer's.
 pub fn write_text<T: TextOut>(text: &[u8], out: &mut T) -> Result<(), TextFault>
     requires { T.has_failed out.old ≡ false }
 
-    ensures written { OnOk result (Appends (T.contents out.old) (T.contents out.new) text.now) }
-    ensures fault { IfErr result (WritesFront (T.contents out.old) (T.contents out.new) text.now) }
-    ensures failed { OnErr result (T.has_failed out.new ≡ true) }
-    ensures healthy { OnOk result (T.has_failed out.new ≡ false) }
+    // All of it goes out, or as much of its front as the fault tells.
+    ensures text { GoesOut (T.contents out.old) (T.contents out.new) text.now result }
+    ensures only { OnlyWriteFaults result }
+    ensures failed { T.has_failed out.new ≡ is_write_fault result }
 {
     let mut written: usize = 0;
     while written < text.len() {
