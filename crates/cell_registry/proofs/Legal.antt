@@ -1,0 +1,151 @@
+-- Histories, one entry longer, and what a legal one leaves.
+use Rattle.std.proofs.Common.{◌≡◌, ◌≢◌, ◌⊎◌, inl, inr, ℕ, ◌+◌, ◌<◌, ◌≤◌, Bool, List, [], ◌∷◌, ◌++◌, refl, sym, ap, ◌∙◌, subst, arith, eqb, eq-eqb, ne_eqb, le_trans, append-nil}
+use Rattle.std.specs.Prelude.{cond}
+use Rattle.std.proofs.lemmas.List.Elements.{filter-append}
+use mathlib.Core.List.{IsPrefix}
+use Rattle.cell_registry.specs.declared.limits.Limits.{Limits}
+use Rattle.cell_registry.specs.declared.call.Entry.{Entry}
+use Rattle.cell_registry.specs.declared.call.Call.{Call}
+use Rattle.cell_registry.specs.declared.call.Call.TheVariants.{Start}
+use Rattle.effect_term.specs.declared.reply.Reply.TheVariants.{Number}
+use Rattle.cell_registry.specs.Cells.{AreLimits, fresh, owned, Cells, opening, cell_of, after, reply_of, IsSound}
+use Rattle.cell_registry.specs.Histories.{MayFollow, left_from, IsLegalFrom, left, IsLegal, calls_by, WasStarted, WasBorn}
+use Rattle.cell_registry.proofs.Lists.{get_or-replicate_default}
+use Rattle.cell_registry.proofs.Calls.{next_fiber-after, next_fiber-new, next_ref-after, next_deferred-after, owned-after, opening-sound, after-sound}
+
+-- ---- one entry more
+left_from-append : (s : Cells) (g h : List Entry) → left_from s (g ++ h) ≡ left_from (left_from s g) h
+left_from-append s [] h = refl
+left_from-append s (e ∷ g) h = left_from-append (after s e.by e.call) g h
+
+pub left-push : (k : Limits) (h : List Entry) (e : Entry) → left k (h ++ e ∷ []) ≡ after (left k h) e.by e.call
+unfolding left
+left-push k h e = left_from-append (opening k) h (e ∷ [])
+
+IsLegalFrom-push : (k : Limits) (s : Cells) (h : List Entry) (e : Entry) → IsLegalFrom k s h → MayFollow k (left_from s h) e → IsLegalFrom k s (h ++ e ∷ [])
+IsLegalFrom-push k s [] e l m = (m, tt)
+IsLegalFrom-push k s (x ∷ h) e l m = (l.0, IsLegalFrom-push k (after s x.by x.call) h e l.1 m)
+
+pub IsLegal-push : (k : Limits) (h : List Entry) (e : Entry) → IsLegal k h → MayFollow k (left k h) e → IsLegal k (h ++ e ∷ [])
+unfolding left IsLegal
+IsLegal-push k h e l m = IsLegalFrom-push k (opening k) h e l m
+
+IsLegalFrom-append : (k : Limits) (s : Cells) (g h : List Entry) → IsLegalFrom k s (g ++ h) → IsLegalFrom k s g × IsLegalFrom k (left_from s g) h
+IsLegalFrom-append k s [] h l = (tt, l)
+IsLegalFrom-append k s (e ∷ g) h l = let rest = IsLegalFrom-append k (after s e.by e.call) g h l.1 in ((l.0, rest.0), rest.1)
+
+-- the last entry of a legal history follows a legal history
+pub IsLegal-last : (k : Limits) (h : List Entry) (e : Entry) → IsLegal k (h ++ e ∷ []) → IsLegal k h × MayFollow k (left k h) e
+unfolding left IsLegal
+IsLegal-last k h e l = let parts = IsLegalFrom-append k (opening k) h (e ∷ []) l in (parts.0, parts.1.0)
+
+-- the beginning of a legal history is legal
+pub IsLegal-prefix : (k : Limits) (g h : List Entry) → IsPrefix g h → IsLegal k h → IsLegal k g
+unfolding IsLegal
+IsLegal-prefix k g h p l = (IsLegalFrom-append k (opening k) g p.0 (subst (λ (x : List Entry). IsLegalFrom k (opening k) x) (sym p.1) l)).0
+
+-- ---- the next numbers only rise
+next_fiber-left_from : (s : Cells) (h : List Entry) → s.next_fiber ≤ (left_from s h).next_fiber
+next_fiber-left_from s [] = omega arith
+next_fiber-left_from s (e ∷ h) = le_trans (next_fiber-after s e.by e.call) (next_fiber-left_from (after s e.by e.call) h)
+
+next_ref-left_from : (s : Cells) (h : List Entry) → s.next_ref ≤ (left_from s h).next_ref
+next_ref-left_from s [] = omega arith
+next_ref-left_from s (e ∷ h) = le_trans (next_ref-after s e.by e.call) (next_ref-left_from (after s e.by e.call) h)
+
+next_deferred-left_from : (s : Cells) (h : List Entry) → s.next_deferred ≤ (left_from s h).next_deferred
+next_deferred-left_from s [] = omega arith
+next_deferred-left_from s (e ∷ h) = le_trans (next_deferred-after s e.by e.call) (next_deferred-left_from (after s e.by e.call) h)
+
+-- what only rises over entries is higher at the end of a longer history
+left-prefix : (k : Limits) (n : Cells → ℕ) → ((s : Cells) (h : List Entry) → n s ≤ n (left_from s h)) → (g h : List Entry) → IsPrefix g h → n (left k g) ≤ n (left k h)
+unfolding left
+left-prefix k n rises g h p =
+    subst (λ (x : List Entry). n (left_from (opening k) g) ≤ n (left_from (opening k) x)) p.1
+    (subst (λ (x : Cells). n (left_from (opening k) g) ≤ n x) (sym (left_from-append (opening k) g p.0)) (rises (left_from (opening k) g) p.0))
+
+pub next_fiber-prefix : (k : Limits) (g h : List Entry) → IsPrefix g h → (left k g).next_fiber ≤ (left k h).next_fiber
+next_fiber-prefix k g h p = left-prefix k (λ s. s.next_fiber) next_fiber-left_from g h p
+
+pub next_ref-prefix : (k : Limits) (g h : List Entry) → IsPrefix g h → (left k g).next_ref ≤ (left k h).next_ref
+next_ref-prefix k g h p = left-prefix k (λ s. s.next_ref) next_ref-left_from g h p
+
+pub next_deferred-prefix : (k : Limits) (g h : List Entry) → IsPrefix g h → (left k g).next_deferred ≤ (left k h).next_deferred
+next_deferred-prefix k g h p = left-prefix k (λ s. s.next_deferred) next_deferred-left_from g h p
+
+-- ---- the calls of one fiber
+pub calls_by-push : (f : ℕ) (h : List Entry) (e : Entry) → e.by ≡ f → calls_by f (h ++ e ∷ []) ≡ calls_by f h ++ e ∷ []
+calls_by-push f h e is = filter-append (λ (x : Entry). eqb x.by f) h (e ∷ []) ∙ ap (λ (b : Bool). calls_by f h ++ cond b (e ∷ []) []) (eq-eqb e.by f is)
+
+pub calls_by-other : (f : ℕ) (h : List Entry) (e : Entry) → e.by ≢ f → calls_by f (h ++ e ∷ []) ≡ calls_by f h
+calls_by-other f h e is = filter-append (λ (x : Entry). eqb x.by f) h (e ∷ []) ∙ ap (λ (b : Bool). calls_by f h ++ cond b (e ∷ []) []) (ne_eqb e.by f is) ∙ append-nil (calls_by f h)
+
+-- an unborn fiber has made no call
+unborn_from : (k : Limits) (s : Cells) (h : List Entry) (f : ℕ) → IsLegalFrom k s h → (left_from s h).next_fiber ≤ f → calls_by f h ≡ []
+unborn_from k s [] f l h = refl
+unborn_from k s (e ∷ es) f l h =
+    let m = l.0.born in
+    let up = next_fiber-after s e.by e.call in
+    let more = next_fiber-left_from (after s e.by e.call) es in
+    let apart : e.by ≢ f = λ (q : e.by ≡ f). omega arith in
+    rw (ne_eqb e.by f apart) (unborn_from k (after s e.by e.call) es f l.1 h)
+
+pub unborn : (k : Limits) (h : List Entry) (f : ℕ) → IsLegal k h → (left k h).next_fiber ≤ f → calls_by f h ≡ []
+unfolding left IsLegal
+unborn k h f l up = unborn_from k (opening k) h f l up
+
+-- the cell of an unborn fiber is as it opened, but for what others set
+unborn_cell_from : (k : Limits) (s : Cells) (h : List Entry) (f : ℕ) → IsLegalFrom k s h → (left_from s h).next_fiber ≤ f → owned (cell_of (left_from s h) f) ≡ owned (cell_of s f)
+unborn_cell_from k s [] f l h = refl
+unborn_cell_from k s (e ∷ es) f l h =
+    let m = l.0.born in
+    let up = next_fiber-after s e.by e.call in
+    let more = next_fiber-left_from (after s e.by e.call) es in
+    let apart : e.by ≢ f = λ (q : e.by ≡ f). omega arith in
+    unborn_cell_from k (after s e.by e.call) es f l.1 h ∙ owned-after s e.by e.call f apart
+
+pub unborn_cell : (k : Limits) (h : List Entry) (f : ℕ) → IsLegal k h → (left k h).next_fiber ≤ f → owned (cell_of (left k h) f) ≡ owned fresh
+unfolding left IsLegal
+unborn_cell k h f l up = unborn_cell_from k (opening k) h f l up ∙ ap owned (get_or-replicate_default fresh k.fibers f)
+
+-- ---- every legal history leaves a sound registry
+sound_from : (k : Limits) (s : Cells) (h : List Entry) → IsSound k s → IsLegalFrom k s h → IsSound k (left_from s h)
+sound_from k s [] i m = i
+sound_from k s (e ∷ h) i m = sound_from k (after s e.by e.call) h (after-sound k s e.by e.call i m.0.accepted) m.1
+
+pub sound : (k : Limits) (h : List Entry) → AreLimits k → IsLegal k h → IsSound k (left k h)
+unfolding left IsLegal
+sound k h l m = sound_from k (opening k) h (opening-sound k l) m
+
+-- ---- the callers of a legal history are the first fiber and those that a start in it gave
+WasStarted-next_from : (k : Limits) (s : Cells) (h : List Entry) (f : ℕ) → IsLegalFrom k s h → WasStarted h f → f < (left_from s h).next_fiber
+unfolding after reply_of
+WasStarted-next_from k s [] f l w = absurd w
+WasStarted-next_from k s (e ∷ es) f l (inl w) =
+    let answered : Number f ≡ reply_of s e.by Start = sym w.1 ∙ l.0.replied ∙ ap (reply_of s e.by) w.0 in
+    let given : f ≡ s.next_fiber = cc in
+    let next : (after s e.by e.call).next_fiber ≡ s.next_fiber + 1 = ap (λ (c : Call). (after s e.by c).next_fiber) w.0 in
+    let more = next_fiber-left_from (after s e.by e.call) es in
+    omega arith
+WasStarted-next_from k s (e ∷ es) f l (inr w) = WasStarted-next_from k (after s e.by e.call) es f l.1 w
+
+pub WasBorn-next : (k : Limits) (h : List Entry) (f : ℕ) → IsLegal k h → WasBorn h f → f < (left k h).next_fiber
+unfolding left IsLegal
+WasBorn-next k h f l (inl w) = let more = next_fiber-left_from (opening k) h in omega arith
+WasBorn-next k h f l (inr w) = WasStarted-next_from k (opening k) h f l w
+
+next-WasStarted_from : (k : Limits) (s : Cells) (h : List Entry) (f : ℕ) → IsLegalFrom k s h → f < (left_from s h).next_fiber → (f < s.next_fiber) ⊎ WasStarted h f
+unfolding reply_of
+next-WasStarted_from k s [] f l below = inl below
+next-WasStarted_from k s (e ∷ es) f l below =
+    elim (next-WasStarted_from k (after s e.by e.call) es f l.1 below) [
+      | inl before ↦ elim (next_fiber-new s e.by e.call f before) [
+        | inl q ↦ inl q
+        | inr q ↦ inr (inl (q.0, l.0.replied ∙ ap (reply_of s e.by) q.0 ∙ ap Number (sym q.1)))
+      ]
+      | inr later ↦ inr (inr later)
+    ]
+
+pub next-WasBorn : (k : Limits) (h : List Entry) (f : ℕ) → IsLegal k h → f < (left k h).next_fiber → WasBorn h f
+unfolding left IsLegal
+next-WasBorn k h f l below = elim (next-WasStarted_from k (opening k) h f l below) [ inl q ↦ inl (omega arith) | inr q ↦ inr q ]

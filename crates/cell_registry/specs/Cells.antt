@@ -1,0 +1,262 @@
+-- A registry as one thread would keep it: plain records, and what each call does to them.
+use Rattle.std.specs.Prelude.{◌≡◌, ℕ, ◌+◌, ◌-◌, ◌^◌, ◌<◌, ◌≤◌, Bool, true, false, ◌==◌, List, length, Option, Some, None, cond, is_none, replicate, slice_index_or, slice_set, ℤ, pos, ◌+ℤ◌}
+use Rattle.std.specs.Int.{w32, int_wrap}
+use Rattle.std.specs.Int.RustNames.{FitsSigned}
+use Rattle.effect_term.specs.declared.reply.Outcome.{Outcome}
+use Rattle.effect_term.specs.declared.reply.Outcome.TheVariants.{Succeeded, Errored, Canceled}
+use Rattle.effect_term.specs.declared.reply.CancelReply.{CancelReply}
+use Rattle.effect_term.specs.declared.reply.CancelReply.TheVariants as canceled
+use Rattle.effect_term.specs.declared.reply.JoinReply.{JoinReply}
+use Rattle.effect_term.specs.declared.reply.JoinReply.TheVariants as joined
+use Rattle.effect_term.specs.declared.reply.Reply.{Reply}
+use Rattle.effect_term.specs.declared.reply.Reply.TheVariants as reply
+use Rattle.cell_registry.specs.declared.limits.Limits.{Limits}
+use Rattle.cell_registry.specs.declared.limits.Band.{Band}
+use Rattle.cell_registry.specs.declared.limits.Band.TheVariants.{Fibers, Refs, Deferreds}
+use Rattle.cell_registry.specs.declared.limits.CellError.{CellError}
+use Rattle.cell_registry.specs.declared.limits.CellError.TheVariants.{Full, Spent}
+use Rattle.cell_registry.specs.declared.cell.Stage.{Stage}
+use Rattle.cell_registry.specs.declared.cell.Stage.TheVariants.{Running, Finalizing, Ended}
+use Rattle.cell_registry.specs.declared.cell.Cell.{Cell}
+use Rattle.cell_registry.specs.declared.call.Call.{Call}
+use Rattle.cell_registry.specs.declared.call.Call.TheVariants.{Start, Cancel, Join, Look, Mask, Unmask, Cut, Finish, NewRef, NewDeferred, Get, Set, Modify, Complete, Read}
+
+-- the limits that a registry can have
+pub record AreLimits (k : Limits) : Type 0 where
+  pub some_fiber : 0 < k.fibers
+  pub fibers : k.fibers ≤ 1000
+  pub some_ref : 0 < k.refs
+  pub refs : k.refs ≤ 1000
+  pub some_deferred : 0 < k.deferreds
+  pub deferreds : k.deferreds ≤ 1000
+  pub some_count : 0 < k.count
+  pub count : k.count < 2 ^ 18
+
+-- ---- the cell of one fiber
+-- a cell at the opening
+abbrev pub fresh : Cell
+fresh = record { stage = Running; depth = 0; request = false; waited = false; count = 0 }
+
+-- what others change in a cell
+abbrev pub requested : Cell → Cell
+requested c = record c { request = true }
+
+abbrev pub awaited : Cell → Cell
+awaited c = record c { waited = true }
+
+-- what its owner changes: each such change adds 1 to the count
+abbrev pub masked : Cell → Cell
+masked c = record c { depth = c.depth + 1; count = c.count + 1 }
+
+abbrev pub unmasked : Cell → Cell
+unmasked c = record c { depth = c.depth - 1; count = c.count + 1 }
+
+abbrev pub cut : Cell → Cell
+cut c = record c { stage = Finalizing; depth = c.depth + 1; count = c.count + 1 }
+
+abbrev pub finished : Outcome → Cell → Cell
+finished o c = record c { stage = Ended o; count = c.count + 1 }
+
+-- what only the owner changes
+abbrev pub owned : Cell → Stage × ℕ × ℕ
+owned c = (c.stage, c.depth, c.count)
+
+-- what a request for cancellation is answered
+abbrev pub cancel_reply : Stage → Bool → CancelReply
+cancel_reply (Ended o) request = canceled.Ended
+cancel_reply Running true = canceled.Already
+cancel_reply Finalizing true = canceled.Already
+cancel_reply Running false = canceled.Asked
+cancel_reply Finalizing false = canceled.Asked
+
+-- what a join is answered
+abbrev pub join_reply : Stage → JoinReply
+join_reply (Ended o) = joined.Ended o
+join_reply Running = joined.Waits
+join_reply Finalizing = joined.Waits
+
+-- the fiber hasn't ended
+abbrev pub IsOpen : Stage → Type 0
+IsOpen Running = Unit {0}
+IsOpen Finalizing = Unit {0}
+IsOpen (Ended o) = ⊥
+
+-- a mask may be left: the one that a cut enters stays
+abbrev pub MayUnmask : Stage → ℕ → Type 0
+MayUnmask Running depth = 0 < depth
+MayUnmask Finalizing depth = 1 < depth
+MayUnmask (Ended o) depth = ⊥
+
+-- the fiber may end with this outcome: a running one unmasked and not as canceled, and one that runs its finalizers as canceled, under the mask of the cut alone
+abbrev pub MayFinish : Stage → ℕ → Outcome → Type 0
+MayFinish Running depth (Succeeded v) = (depth ≡ 0) × FitsSigned w32 v
+MayFinish Running depth (Errored c) = (depth ≡ 0) × FitsSigned w32 c
+MayFinish Running depth Canceled = ⊥
+MayFinish Finalizing depth (Succeeded v) = ⊥
+MayFinish Finalizing depth (Errored c) = ⊥
+MayFinish Finalizing depth Canceled = depth ≡ 1
+MayFinish (Ended p) depth o = ⊥
+
+-- ---- the registry
+-- a cell for each fiber number, a value for each ref, an optional value for each deferred, and the next number of each band
+pub record Cells : Type 0 where
+  pub next_fiber : ℕ
+  pub next_ref : ℕ
+  pub next_deferred : ℕ
+  pub cells : List Cell
+  pub refs : List ℤ
+  pub deferreds : List (Option ℤ)
+
+-- the registry before all calls: the first fiber is born, and no other
+abbrev pub opening : Limits → Cells
+opening k = record {
+  next_fiber = 1;
+  next_ref = 0;
+  next_deferred = 0;
+  cells = replicate k.fibers fresh;
+  refs = replicate k.refs (pos 0);
+  deferreds = replicate k.deferreds None;
+}
+
+abbrev pub cell_of : Cells → ℕ → Cell
+cell_of s f = slice_index_or s.cells f fresh
+
+abbrev pub ref_of : Cells → ℕ → ℤ
+ref_of s r = slice_index_or s.refs r (pos 0)
+
+abbrev pub deferred_of : Cells → ℕ → Option ℤ
+deferred_of s d = slice_index_or s.deferreds d None
+
+abbrev pub with_cell : Cells → ℕ → Cell → Cells
+with_cell s f c = record s { cells = slice_set s.cells f c }
+
+abbrev pub with_ref : Cells → ℕ → ℤ → Cells
+with_ref s r v = record s { refs = slice_set s.refs r v }
+
+abbrev pub with_deferred : Cells → ℕ → Option ℤ → Cells
+with_deferred s d v = record s { deferreds = slice_set s.deferreds d v }
+
+-- a deferred is filled at most once
+abbrev pub filled : Option ℤ → ℤ → Option ℤ
+filled None v = Some v
+filled (Some w) v = Some w
+
+-- the registry after a call by a fiber
+unfoldable pub after : Cells → ℕ → Call → Cells
+after s by Start = record s { next_fiber = s.next_fiber + 1 }
+after s by (Cancel f) = with_cell s f (requested (cell_of s f))
+after s by (Join f) = with_cell s f (awaited (cell_of s f))
+after s by Look = s
+after s by Mask = with_cell s by (masked (cell_of s by))
+after s by Unmask = with_cell s by (unmasked (cell_of s by))
+after s by Cut = with_cell s by (cut (cell_of s by))
+after s by (Finish o) = with_cell s by (finished o (cell_of s by))
+after s by NewRef = record s { next_ref = s.next_ref + 1 }
+after s by NewDeferred = record s { next_deferred = s.next_deferred + 1 }
+after s by (Get r) = s
+after s by (Set r v) = with_ref s r v
+after s by (Modify r v) = with_ref s r (int_wrap w32 (ref_of s r +ℤ v))
+after s by (Complete d v) = with_deferred s d (filled (deferred_of s d) v)
+after s by (Read d) = s
+
+-- what the call is answered
+unfoldable pub reply_of : Cells → ℕ → Call → Reply
+reply_of s by Start = reply.Number s.next_fiber
+reply_of s by (Cancel f) = reply.Cancel (cancel_reply (cell_of s f).stage (cell_of s f).request)
+reply_of s by (Join f) = reply.Join (join_reply (cell_of s f).stage)
+reply_of s by Look = reply.Seen (cell_of s by).request
+reply_of s by Mask = reply.Done
+reply_of s by Unmask = reply.Done
+reply_of s by Cut = reply.Done
+reply_of s by (Finish o) = reply.Done
+reply_of s by NewRef = reply.Number s.next_ref
+reply_of s by NewDeferred = reply.Number s.next_deferred
+reply_of s by (Get r) = reply.Value (ref_of s r)
+reply_of s by (Set r v) = reply.Done
+reply_of s by (Modify r v) = reply.Value (ref_of s r)
+reply_of s by (Complete d v) = reply.Completed (is_none (deferred_of s d))
+reply_of s by (Read d) = reply.Read (deferred_of s d)
+
+-- the condition of a call holds; that of a cut asks for the request itself
+unfoldable pub IsAllowed : Limits → Cells → ℕ → Call → Type 0
+IsAllowed k s by Start = IsOpen (cell_of s by).stage
+IsAllowed k s by (Cancel f) = f < k.fibers
+IsAllowed k s by (Join f) = f < k.fibers
+IsAllowed k s by Look = IsOpen (cell_of s by).stage × ((cell_of s by).depth ≡ 0)
+IsAllowed k s by Mask = IsOpen (cell_of s by).stage × ((cell_of s by).depth < 255)
+IsAllowed k s by Unmask = MayUnmask (cell_of s by).stage (cell_of s by).depth
+IsAllowed k s by Cut = ((cell_of s by).stage ≡ Running) × ((cell_of s by).depth ≡ 0) × ((cell_of s by).request ≡ true)
+IsAllowed k s by (Finish o) = MayFinish (cell_of s by).stage (cell_of s by).depth o
+IsAllowed k s by NewRef = Unit {0}
+IsAllowed k s by NewDeferred = Unit {0}
+IsAllowed k s by (Get r) = r < k.refs
+IsAllowed k s by (Set r v) = (r < k.refs) × FitsSigned w32 v
+IsAllowed k s by (Modify r v) = (r < k.refs) × FitsSigned w32 v
+IsAllowed k s by (Complete d v) = (d < k.deferreds) × FitsSigned w32 v
+IsAllowed k s by (Read d) = d < k.deferreds
+
+-- all numbers of the band are given
+abbrev pub full : Band → ℕ → ℕ → Option CellError
+full band next limit = cond (next == limit) (Some (Full band limit)) None
+
+-- the count of an owner's changes is used up
+abbrev pub spent : ℕ → ℕ → Option CellError
+spent count limit = cond (count == limit) (Some (Spent count)) None
+
+-- how a call is refused, if it is
+unfoldable pub refusal : Limits → Cells → ℕ → Call → Option CellError
+refusal k s by Start = full Fibers s.next_fiber k.fibers
+refusal k s by (Cancel f) = None
+refusal k s by (Join f) = None
+refusal k s by Look = None
+refusal k s by Mask = spent (cell_of s by).count k.count
+refusal k s by Unmask = spent (cell_of s by).count k.count
+refusal k s by Cut = spent (cell_of s by).count k.count
+refusal k s by (Finish o) = spent (cell_of s by).count k.count
+refusal k s by NewRef = full Refs s.next_ref k.refs
+refusal k s by NewDeferred = full Deferreds s.next_deferred k.deferreds
+refusal k s by (Get r) = None
+refusal k s by (Set r v) = None
+refusal k s by (Modify r v) = None
+refusal k s by (Complete d v) = None
+refusal k s by (Read d) = None
+
+-- the condition of the call holds, and it isn't refused
+pub record IsAccepted (k : Limits) (s : Cells) (by : ℕ) (c : Call) : Type 0 where
+  pub allowed : IsAllowed k s by c
+  pub room : refusal k s by c ≡ None
+
+-- ---- what holds of the registry after each legal history
+-- the value of an outcome is one of 32 bits
+abbrev pub OutcomeFits : Outcome → Type 0
+OutcomeFits (Succeeded v) = FitsSigned w32 v
+OutcomeFits (Errored c) = FitsSigned w32 c
+OutcomeFits Canceled = Unit {0}
+
+abbrev pub StageFits : Stage → Type 0
+StageFits Running = Unit {0}
+StageFits Finalizing = Unit {0}
+StageFits (Ended o) = OutcomeFits o
+
+abbrev pub ValueFits : Option ℤ → Type 0
+ValueFits None = Unit {0}
+ValueFits (Some v) = FitsSigned w32 v
+
+-- a cell within its limits
+pub record IsCell (k : Limits) (c : Cell) : Type 0 where
+  pub count : c.count ≤ k.count
+  pub depth : c.depth < 256
+  pub stage : StageFits c.stage
+
+-- a registry within its limits
+pub record IsSound (k : Limits) (s : Cells) : Type 0 where
+  pub fibers : length s.cells ≡ k.fibers
+  pub refs : length s.refs ≡ k.refs
+  pub deferreds : length s.deferreds ≡ k.deferreds
+  pub some_fiber : 0 < s.next_fiber
+  pub next_fiber : s.next_fiber ≤ k.fibers
+  pub next_ref : s.next_ref ≤ k.refs
+  pub next_deferred : s.next_deferred ≤ k.deferreds
+  pub each_cell : (f : ℕ) → IsCell k (cell_of s f)
+  pub each_ref : (r : ℕ) → FitsSigned w32 (ref_of s r)
+  pub each_deferred : (d : ℕ) → ValueFits (deferred_of s d)

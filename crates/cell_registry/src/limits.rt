@@ -1,0 +1,47 @@
+//! How much a registry has, and what is answered where it is used up.
+
+/// How many numbers each band of a registry has, each from 1 to 1000, and how often the owner of a
+/// fiber may change its cell, from 1 to 262,143.
+#[derive(Clone, Copy, PartialEq, Eq, Debug)]
+pub struct Limits {
+    /// How many fibers, the first one included.
+    pub fibers: u16,
+    /// How many refs.
+    pub refs: u16,
+    /// How many deferreds.
+    pub deferreds: u16,
+    /// How many owner's changes each fiber may make.
+    pub count: u32,
+}
+
+/// The kinds of numbers that a registry gives.
+#[derive(Clone, Copy, PartialEq, Eq, Debug)]
+pub enum Band {
+    Fibers,
+    Refs,
+    Deferreds,
+}
+
+/// Why a registry refuses a call. A refused call changes nothing.
+#[derive(Clone, Copy, PartialEq, Eq, Debug)]
+pub enum CellError {
+    /// All numbers of the band are given. It has so many.
+    Full(Band, u16),
+    /// The caller has made as many changes of its cell as the limit allows, which is this number.
+    Spent(u32),
+}
+
+/// Why a run of a whole program ends without a report.
+#[derive(Clone, Copy, PartialEq, Eq, Debug)]
+pub enum RunError {
+    /// A fiber wanted a further number of the band, which has so many.
+    Full(Band, u16),
+    /// The fiber of this number has used up its count.
+    Spent(u16),
+    /// Memory ran out.
+    NoMemory,
+    /// The fiber of this number was to go on, and couldn't be found.
+    Lost(u16),
+    /// No worker thread could be started.
+    NoWorker,
+}
