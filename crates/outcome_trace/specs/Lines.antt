@@ -3,12 +3,12 @@ use Rattle.std.specs.Prelude.{ℕ, Bool, true, false, List, [], ◌∷◌, ◌++
 use Rattle.std.specs.Fmt.{decimal}
 use Rattle.term_parse.specs.declared.error.ParseError.{ParseError}
 use Rattle.term_parse.specs.declared.error.ParseError.TheVariants as parse
-use Rattle.outcome_trace.specs.declared.borrowed.Band.{Band}
-use Rattle.outcome_trace.specs.declared.borrowed.Band.TheVariants.{Fibers, Refs, Deferreds}
+use Rattle.cell_registry.specs.declared.limits.Band.{Band}
+use Rattle.cell_registry.specs.declared.limits.Band.TheVariants.{Fibers, Refs, Deferreds}
 use Rattle.outcome_trace.specs.declared.borrowed.TermError.{TermError}
 use Rattle.outcome_trace.specs.declared.borrowed.TermError.TheVariants as term
-use Rattle.outcome_trace.specs.declared.borrowed.RunError.{RunError}
-use Rattle.outcome_trace.specs.declared.borrowed.RunError.TheVariants as run
+use Rattle.cell_registry.specs.declared.limits.RunError.{RunError}
+use Rattle.cell_registry.specs.declared.limits.RunError.TheVariants as run
 use Rattle.outcome_trace.specs.declared.lines.Refused.{Refused}
 use Rattle.outcome_trace.specs.declared.lines.Refused.TheVariants.{Parse, Term, Run}
 

@@ -21,7 +21,7 @@ mod schedule;
 mod tests;
 mod text;
 
-pub use borrowed::{Band, RunError, TermError};
+pub use borrowed::TermError;
 pub use device::{FromRead, ReadError, TextIn, TextOut, ToWrite, WriteFailed};
 pub use fault::TextFault;
 pub use lines::{Refused, line};
