@@ -5,8 +5,8 @@ use Rattle.term_parse.specs.declared.error.ParseError.{ParseError}
 use Rattle.term_parse.specs.declared.error.ParseError.TheVariants as parse
 use Rattle.cell_registry.specs.declared.limits.Band.{Band}
 use Rattle.cell_registry.specs.declared.limits.Band.TheVariants.{Fibers, Refs, Deferreds}
-use Rattle.outcome_trace.specs.declared.borrowed.TermError.{TermError}
-use Rattle.outcome_trace.specs.declared.borrowed.TermError.TheVariants as term
+use Rattle.effect_term.specs.declared.refusal.TermError.{TermError}
+use Rattle.effect_term.specs.declared.refusal.TermError.TheVariants as term
 use Rattle.cell_registry.specs.declared.limits.RunError.{RunError}
 use Rattle.cell_registry.specs.declared.limits.RunError.TheVariants as run
 use Rattle.outcome_trace.specs.declared.lines.Refused.{Refused}

@@ -7,21 +7,17 @@
 //! report or of a line.
 #![tactic(auto)]
 
-mod borrowed;
 mod device;
 mod fault;
 mod lines;
-
 mod mark;
 mod report;
 mod report_text;
-
 mod schedule;
 #[cfg(test)]
 mod tests;
 mod text;
 
-pub use borrowed::TermError;
 pub use device::{FromRead, ReadError, TextIn, TextOut, ToWrite, WriteFailed};
 pub use fault::TextFault;
 pub use lines::{Refused, line};

@@ -3,8 +3,8 @@
 ghost use Rattle.std.specs.Prelude.{IsTrue, IfOk, ◌≡◌, string_bytes};
 ghost use Rattle.outcome_trace.specs.Lines.{has_line, line_of, parse_line, term_line, run_line};
 
-use crate::borrowed::TermError;
 use cell_registry::{Band, RunError};
+use effect_term::TermError;
 use std::alloc::{AllocError, Global};
 use term_parse::ParseError;
 

@@ -83,7 +83,11 @@ pub fn text_of_report(alloc: Global, report: &Report) -> Result<String, AllocErr
 }
 
 /// Writes the text of a report. Where memory runs out, nothing is written.
-pub fn print_report<T: TextOut>(alloc: Global, report: &Report, out: &mut T) -> Result<(), TextFault>
+pub fn print_report<T: TextOut>(
+    alloc: Global,
+    report: &Report,
+    out: &mut T,
+) -> Result<(), TextFault>
     requires { T.has_failed out.old ≡ false }
 
     // All of it goes out, or as much of its front as the fault tells.

@@ -154,5 +154,4 @@ pub fn schedule_text_means_one_thing()
     ensures entries { (text one other : List ℕ) → SpellsEntries text one → SpellsEntries text other → one ≡ other }
     ensures place { (text : List ℕ) (one other : ℕ) → IsFirstBad text one → IsFirstBad text other → one ≡ other }
     ensures either { (text entries : List ℕ) (place : ℕ) → SpellsEntries text entries → IsFirstBad text place → ⊥ }
-{
-}
+{}

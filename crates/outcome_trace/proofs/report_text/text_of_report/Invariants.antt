@@ -1,4 +1,4 @@
-use Rattle.std.proofs.Common.{◌≡◌, ◌++◌, string_bytes, drop, length}
+use Rattle.std.proofs.Common.{◌≡◌, ◌++◌, string_bytes, drop}
 use Rattle.outcome_trace.specs.ReportText.{lines_from}
 use Rattle.outcome_trace.proofs.report_text.text_of_report.Given as goal
 
