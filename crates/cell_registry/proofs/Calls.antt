@@ -31,6 +31,12 @@ refused-none : (b : Bool) (e : CellError) → cond b (Some e) None ≡ None → 
 refused-none true e h t = cc
 refused-none false e h t = cc
 
+pub full-some : (band : Band) (next limit : ℕ) → next ≡ limit → full band next limit ≡ Some (Full band limit)
+full-some band next limit h = rw (eq-eqb next limit h) refl
+
+pub spent-some : (count limit : ℕ) → count ≡ limit → spent count limit ≡ Some (Spent count)
+spent-some count limit h = rw (eq-eqb count limit h) refl
+
 pub full-room : (band : Band) (next limit : ℕ) → full band next limit ≡ None → next ≢ limit
 full-room band next limit h e = refused-none (eqb next limit) (Full band limit) h (eq-eqb next limit e)
 

@@ -9,8 +9,12 @@
 mod call;
 mod cell;
 mod limits;
+mod plain;
+#[cfg(test)]
+mod plain_tests;
 
 pub use call::{Call, Entry};
 pub use cell::{Cell, Stage};
 pub use effect_term::{CancelReply, JoinReply, Outcome, Reply};
 pub use limits::{Band, CellError, Limits, RunError};
+pub use plain::PlainRegistry;

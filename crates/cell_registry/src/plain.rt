@@ -1,0 +1,280 @@
+//! The registry for one thread.
+ghost use Rattle.std.specs.Prelude.{◌≡◌, ◌+◌, ◌≤◌, IfOk, MatchResult, Some, None};
+ghost use Rattle.cell_registry.specs.Cells.{AreLimits, spent};
+ghost use Rattle.cell_registry.specs.Plain.{kept_open, MayCall, IsMade, IsRefused};
+
+use crate::call::Call;
+use crate::cell::{Cell, Stage};
+use crate::limits::{Band, CellError, Limits};
+use effect_term::{CancelReply, JoinReply, Outcome, Reply};
+use std::alloc::{AllocError, Global};
+use std::marker::Model;
+
+/// The registry of all fibers, refs and deferreds, for one thread.
+///
+/// Each call is made by a fiber that was born: 0, or a number that [`start`](PlainRegistry::start)
+/// gave. A call that is refused changes nothing. Only [`new`](PlainRegistry::new) takes memory.
+#[derive(Drop)]
+pub struct PlainRegistry {
+    limits: Limits,
+    next_fiber: u16,
+    next_ref: u16,
+    next_deferred: u16,
+    cells: Vec<Cell>,
+    refs: Vec<i32>,
+    deferreds: Vec<Option<i32>>,
+}
+
+impl Model for PlainRegistry {
+    ghost use Rattle.cell_registry.specs.Plain.{Kept, IsKept};
+
+    ghost Value = { Kept };
+
+    ghost view = { λ r. record { limits = r.limits; state = record { next_fiber = r.next_fiber; next_ref = r.next_ref; next_deferred = r.next_deferred; cells = r.cells.items; refs = r.refs.items; deferreds = r.deferreds.items } } };
+
+    ghost invariant = { λ r. IsKept record { limits = r.limits; state = record { next_fiber = r.next_fiber; next_ref = r.next_ref; next_deferred = r.next_deferred; cells = r.cells.items; refs = r.refs.items; deferreds = r.deferreds.items } } };
+}
+
+const FRESH: Cell = Cell {
+    stage: Stage::Running,
+    depth: 0,
+    request: false,
+    waited: false,
+    count: 0,
+};
+
+#[tactic(auto, unfolding(crate::specs::Cells::after, crate::specs::Cells::reply_of, crate::specs::Cells::refusal, crate::specs::Cells::IsAllowed))]
+impl PlainRegistry {
+    /// A registry with so many fibers, refs and deferreds, in which each fiber may make `limit`
+    /// owner's changes. Fiber 0 is born. The ranges are those of [`Limits`].
+    pub fn new(
+        alloc: Global,
+        fibers: u16,
+        refs: u16,
+        deferreds: u16,
+        limit: u32,
+    ) -> Result<PlainRegistry, AllocError>
+        requires { AreLimits record { fibers = fibers; refs = refs; deferreds = deferreds; count = limit } }
+        ensures { IfOk result (λ r. r ≡ kept_open record { fibers = fibers; refs = refs; deferreds = deferreds; count = limit }) }
+    {
+        Ok(PlainRegistry {
+            limits: Limits {
+                fibers,
+                refs,
+                deferreds,
+                count: limit,
+            },
+            next_fiber: 1,
+            next_ref: 0,
+            next_deferred: 0,
+            cells: vec![in alloc; FRESH; usize::from(fibers)]?,
+            refs: vec![in alloc; 0; usize::from(refs)]?,
+            deferreds: vec![in alloc; None; usize::from(deferreds)]?,
+        })
+    }
+
+    /// Makes a fiber, and gives its number. The caller hasn't ended. Answers `Full` where all
+    /// fibers were started.
+    pub fn start(&mut self, by: u16) -> Result<u16, CellError>
+        requires { MayCall self.old by Call.Start }
+        ensures { MatchResult result (λ n. IsMade self.old self.new by Call.Start (Reply.Number n)) (λ e. IsRefused self.old self.new by Call.Start e) }
+    {
+        if self.next_fiber == self.limits.fibers {
+            return Err(CellError::Full(Band::Fibers, self.limits.fibers));
+        }
+        let number = self.next_fiber;
+        self.next_fiber = number + 1;
+        Ok(number)
+    }
+
+    /// Requests the cancellation of a fiber, whose number is below the limit.
+    pub fn cancel(&mut self, by: u16, fiber: u16) -> CancelReply
+        requires { MayCall self.old by (Call.Cancel fiber) }
+        ensures { IsMade self.old self.new by (Call.Cancel fiber) (Reply.Cancel result) }
+    {
+        let cell = self.cells[usize::from(fiber)];
+        self.cells[usize::from(fiber)] = Cell {
+            request: true,
+            ..cell
+        };
+        match cell.stage {
+            Stage::Ended(_) => CancelReply::Ended,
+            Stage::Running | Stage::Finalizing => {
+                if cell.request {
+                    CancelReply::Already
+                } else {
+                    CancelReply::Asked
+                }
+            }
+        }
+    }
+
+    /// Whether a fiber, whose number is below the limit, has ended, and how.
+    pub fn join(&mut self, by: u16, fiber: u16) -> JoinReply
+        requires { MayCall self.old by (Call.Join fiber) }
+        ensures { IsMade self.old self.new by (Call.Join fiber) (Reply.Join result) }
+    {
+        let cell = self.cells[usize::from(fiber)];
+        self.cells[usize::from(fiber)] = Cell {
+            waited: true,
+            ..cell
+        };
+        match cell.stage {
+            Stage::Ended(outcome) => JoinReply::Ended(outcome),
+            Stage::Running | Stage::Finalizing => JoinReply::Waits,
+        }
+    }
+
+    /// Whether the caller's cancellation is requested. The caller hasn't ended and isn't masked.
+    pub fn look(&mut self, by: u16) -> bool
+        requires { MayCall self.old by Call.Look }
+        ensures { IsMade self.old self.new by Call.Look (Reply.Seen result) }
+    {
+        self.cells[usize::from(by)].request
+    }
+
+    /// Enters a mask. The caller hasn't ended, and is in fewer than 255 masks. Answers `Spent` where
+    /// its count is used up.
+    pub fn mask(&mut self, by: u16) -> Result<(), CellError>
+        requires { MayCall self.old by Call.Mask }
+        ensures { MatchResult result (λ _. IsMade self.old self.new by Call.Mask Reply.Done) (λ e. IsRefused self.old self.new by Call.Mask e) }
+    {
+        let cell = counted(self.cells[usize::from(by)], self.limits.count)?;
+        self.cells[usize::from(by)] = Cell {
+            depth: cell.depth + 1,
+            ..cell
+        };
+        Ok(())
+    }
+
+    /// Leaves a mask. The caller hasn't ended, and is in a mask, other than that of its cut. Answers
+    /// `Spent` where its count is used up.
+    pub fn unmask(&mut self, by: u16) -> Result<(), CellError>
+        requires { MayCall self.old by Call.Unmask }
+        ensures { MatchResult result (λ _. IsMade self.old self.new by Call.Unmask Reply.Done) (λ e. IsRefused self.old self.new by Call.Unmask e) }
+    {
+        let cell = counted(self.cells[usize::from(by)], self.limits.count)?;
+        self.cells[usize::from(by)] = Cell {
+            depth: cell.depth - 1,
+            ..cell
+        };
+        Ok(())
+    }
+
+    /// Observes the request, and enters the mask of the finalizers. The caller is running and isn't
+    /// masked, and its cancellation is requested. Answers `Spent` where its count is used up.
+    pub fn cut(&mut self, by: u16) -> Result<(), CellError>
+        requires { MayCall self.old by Call.Cut }
+        ensures { MatchResult result (λ _. IsMade self.old self.new by Call.Cut Reply.Done) (λ e. IsRefused self.old self.new by Call.Cut e) }
+    {
+        let cell = counted(self.cells[usize::from(by)], self.limits.count)?;
+        self.cells[usize::from(by)] = Cell {
+            stage: Stage::Finalizing,
+            depth: 1,
+            ..cell
+        };
+        Ok(())
+    }
+
+    /// Ends the caller: with a value or an error where it is running and isn't masked, and as
+    /// canceled where it has run its finalizers. Answers `Spent` where its count is used up.
+    pub fn finish(&mut self, by: u16, outcome: Outcome) -> Result<(), CellError>
+        requires { MayCall self.old by (Call.Finish outcome) }
+        ensures { MatchResult result (λ _. IsMade self.old self.new by (Call.Finish outcome) Reply.Done) (λ e. IsRefused self.old self.new by (Call.Finish outcome) e) }
+    {
+        let cell = counted(self.cells[usize::from(by)], self.limits.count)?;
+        self.cells[usize::from(by)] = Cell {
+            stage: Stage::Ended(outcome),
+            ..cell
+        };
+        Ok(())
+    }
+
+    /// Makes a ref that holds 0, and gives its number. Answers `Full` where all refs were made.
+    pub fn new_ref(&mut self, by: u16) -> Result<u16, CellError>
+        requires { MayCall self.old by Call.NewRef }
+        ensures { MatchResult result (λ n. IsMade self.old self.new by Call.NewRef (Reply.Number n)) (λ e. IsRefused self.old self.new by Call.NewRef e) }
+    {
+        if self.next_ref == self.limits.refs {
+            return Err(CellError::Full(Band::Refs, self.limits.refs));
+        }
+        let number = self.next_ref;
+        self.next_ref = number + 1;
+        Ok(number)
+    }
+
+    /// Makes an empty deferred, and gives its number. Answers `Full` where all deferreds were made.
+    pub fn new_deferred(&mut self, by: u16) -> Result<u16, CellError>
+        requires { MayCall self.old by Call.NewDeferred }
+        ensures { MatchResult result (λ n. IsMade self.old self.new by Call.NewDeferred (Reply.Number n)) (λ e. IsRefused self.old self.new by Call.NewDeferred e) }
+    {
+        if self.next_deferred == self.limits.deferreds {
+            return Err(CellError::Full(Band::Deferreds, self.limits.deferreds));
+        }
+        let number = self.next_deferred;
+        self.next_deferred = number + 1;
+        Ok(number)
+    }
+
+    /// The value of a ref, whose number is below the limit.
+    pub fn get(&mut self, by: u16, number: u16) -> i32
+        requires { MayCall self.old by (Call.Get number) }
+        ensures { IsMade self.old self.new by (Call.Get number) (Reply.Value result) }
+    {
+        self.refs[usize::from(number)]
+    }
+
+    /// Sets the value of a ref, whose number is below the limit.
+    pub fn set(&mut self, by: u16, number: u16, value: i32)
+        requires { MayCall self.old by (Call.Set number value) }
+        ensures { IsMade self.old self.new by (Call.Set number value) Reply.Done }
+    {
+        self.refs[usize::from(number)] = value;
+    }
+
+    /// Adds to a ref, whose number is below the limit, modulo 2^32, and gives its old value.
+    pub fn modify(&mut self, by: u16, number: u16, value: i32) -> i32
+        requires { MayCall self.old by (Call.Modify number value) }
+        ensures { IsMade self.old self.new by (Call.Modify number value) (Reply.Value result) }
+    {
+        let place = usize::from(number);
+        let old = self.refs[place];
+        self.refs[place] = old.wrapping_add(value);
+        old
+    }
+
+    /// Fills a deferred, whose number is below the limit, unless it is filled. Whether this did it.
+    pub fn complete(&mut self, by: u16, number: u16, value: i32) -> bool
+        requires { MayCall self.old by (Call.Complete number value) }
+        ensures { IsMade self.old self.new by (Call.Complete number value) (Reply.Completed result) }
+    {
+        let place = usize::from(number);
+        let empty = self.deferreds[place].is_none();
+        if empty {
+            self.deferreds[place] = Some(value);
+        }
+        empty
+    }
+
+    /// The value of a deferred, whose number is below the limit, if it is filled.
+    pub fn read(&mut self, by: u16, number: u16) -> Option<i32>
+        requires { MayCall self.old by (Call.Read number) }
+        ensures { IsMade self.old self.new by (Call.Read number) (Reply.Read result) }
+    {
+        self.deferreds[usize::from(number)]
+    }
+}
+
+// The cell with one more change of its owner's, unless these are used up.
+fn counted(cell: Cell, limit: u32) -> Result<Cell, CellError>
+    requires { cell.count ≤ limit }
+    ensures { MatchResult result (λ c. (spent cell.count limit ≡ None) × (c ≡ record cell { count = cell.count + 1 })) (λ e. spent cell.count limit ≡ Some e) }
+{
+    if cell.count == limit {
+        return Err(CellError::Spent(cell.count));
+    }
+    Ok(Cell {
+        count: cell.count + 1,
+        ..cell
+    })
+}
