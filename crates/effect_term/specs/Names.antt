@@ -11,12 +11,14 @@ use Rattle.effect_term.specs.declared.refusal.TermError.TheVariants.{NoMemory, U
 use Rattle.effect_term.specs.declared.term.Term.{Term, Row_of-Term, end_of-Term, more_of-Term}
 use Rattle.effect_term.specs.declared.term.Term.TheVariants.{Pure, Raise, Let', Seq', Handle', If0', Add, Say, Cede, Never, Canceled, Uncancelable', Poll', OnCancel', Start', Join', Cancel, Ref', Get, Set, Modify, Deferred', Complete, Await, Repeat', Forever', Guarantee', Bracket', BracketCase', Race', Both'}
 
--- a name in a place of a kind, and the kinds of the binders around it, outermost first
+-- A name in a place of a kind, and the kinds of the binders around it, outermost first: a name's slot is the number of
+-- binders that enclose its binder, and so the index of its binder's kind.
 pub record Use : Type 0 where
   pub around : List Kind
   pub place : Kind
   pub name : Name
 
+-- whether two kinds are one
 abbrev pub same_kind : Kind → Kind → Bool
 same_kind Value Value = true
 same_kind Poll Poll = true
@@ -31,6 +33,7 @@ fault_with None place name = Some (Unbound name.slot)
 fault_with (Some binder) place name =
     if same_kind binder place && same_kind name.kind place then None else Some (WrongKind name.slot)
 
+-- the fault of a use, if there is one
 abbrev pub fault_of : Use → Option TermError
 fault_of u = fault_with (slice_get u.around u.name.slot) u.place u.name
 
@@ -43,9 +46,11 @@ first_fault (u ∷ us) = option_or (fault_of u) (first_fault us)
 abbrev pub IsFault : List Use → TermError → Type 0
 IsFault uses e = (e ≡ NoMemory) ⊎ (first_fault uses ≡ Some e)
 
+-- one use
 abbrev pub use_of : List Kind → Kind → Name → List Use
 use_of around place name = record { around = around; place = place; name = name } ∷ []
 
+-- a value is a number, or a use of a name in a value's place
 abbrev pub value_uses : List Kind → Operand → List Use
 value_uses around (Number n) = []
 value_uses around (Named name) = use_of around Value name

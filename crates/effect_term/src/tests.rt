@@ -243,3 +243,19 @@ fn names_come_first_and_then_masks(rt: HostRuntime) -> Result<(), AllocError> {
     assert_eq!(rt; told(alloc, term), Err(TermError::Unbound(900)));
     Ok(())
 }
+
+/// `let x (cede) (pure x)`.
+fn bound(alloc: Global) -> Result<Term, AllocError> {
+    let body = Term::Pure(value(0));
+    Ok(Term::Let(boxed(alloc, Term::Cede)?, boxed(alloc, body)?))
+}
+
+/// Holds whichever allocation is refused.
+#[test]
+fn want_of_memory_changes_no_answer(rt: HostRuntime) {
+    let alloc = rt.alloc();
+    if let Ok(term) = bound(alloc) {
+        let answer = told(alloc, term);
+        assert!(rt; answer == Ok((3, 2, 0, false)) || answer == Err(TermError::NoMemory));
+    }
+}

@@ -1,0 +1,162 @@
+-- What the words of a program stand for. A derived word takes the slot d of its first new binder; its parts stand above
+-- the slots that are bound around them.
+use Rattle.std.specs.Prelude.{ℕ, zero, suc, ◌+◌, pos, List, [], ◌∷◌, ◌++◌}
+use Rattle.derived_ops.specs.Tree.{Value, Number, Slot, Open_slot, Mask, Named, Add, Say, Cede, Never, Canceled, Get, Set, Modify, Complete, Await, Acquire, Release, Free, New_ref, New_deferred, Times, Always, Last, More, Tree, Pure, Raise, Act, Note, Cancel, Let, Seq, Handled, If0, Join, Make, Start, Loop, Uncancelable, Poll, On_cancel}
+use Rattle.derived_ops.specs.Source as word
+use Rattle.derived_ops.specs.Source.{Source}
+
+abbrev pub nil : Tree
+nil = Pure (Number (pos 0))
+
+-- `(seq e k)`, and `(seq a b c)`
+abbrev pub in_order : Tree → Tree → Tree
+in_order e k = Seq Last e k
+
+abbrev pub in_three : Tree → Tree → Tree → Tree
+in_three a b c = Seq More a (Seq Last b c)
+
+abbrev pub in_four : Tree → Tree → Tree → Tree → Tree
+in_four a b c e = Seq More a (Seq More b (Seq Last c e))
+
+-- the release e of the bracket p failed: p is released, and the error that w binds goes on
+abbrev pub released_then_raised : Mask → Tree → ℕ → Tree
+released_then_raised p e w = Handled e w (in_order (Note Free p) (Raise (Slot w)))
+
+abbrev pub bracket_case : ℕ → Tree → Tree → Tree → Tree → Tree → Tree
+bracket_case d acq body rs re rc =
+    let p = Named d in
+    let q = Named (d + 2) in
+    let canceled = in_three (Note Release p) (released_then_raised p rc (d + 3)) (Note Free p) in
+    let failed = in_four (Note Release p) (Handled re (d + 4) nil) (Note Free p) (Raise (Slot (d + 3))) in
+    let done = in_four (Note Release p) (released_then_raised p rs (d + 4)) (Note Free p) (Pure (Slot (d + 3))) in
+    Uncancelable d (Let acq (d + 1) (in_order (Note Acquire p) (Uncancelable (d + 2)
+    (Let (Handled (On_cancel (Poll q (Poll p body)) canceled) (d + 3) failed) (d + 3) done))))
+
+-- the finalizer stands three times, at its depth in each place
+abbrev pub guarantee : ℕ → Tree → Tree → Tree → Tree → Tree
+guarantee d e on_cancel on_error on_value =
+    let failed = in_order (Handled on_error (d + 2) nil) (Raise (Slot (d + 1))) in
+    let done = in_order on_value (Pure (Slot (d + 1))) in
+    Uncancelable d (Let (Handled (On_cancel (Poll (Named d) e) on_cancel) (d + 1) failed) (d + 1) done)
+
+-- waits for the end of f, whatever it is
+abbrev pub ended : ℕ → ℕ → Tree
+ended c f = Join (Open_slot f) c nil c nil nil
+
+-- both sides were canceled: observes a request for the own cancellation, and else waits without end
+abbrev pub gives_up : ℕ → Tree
+gives_up p = in_order (Poll (Named p) (Act Canceled)) (Act Never)
+
+-- completes its side of the race, after every outcome
+abbrev pub runs_side : ℕ → ℕ → ℕ → Tree → Tree
+runs_side c d z e =
+    let done = Act (Complete (Open_slot d) (Number (pos z))) in
+    guarantee c e done done done
+
+-- cancels both sides at once, and waits for them
+abbrev pub cancels_both : ℕ → Tree
+cancels_both p =
+    Start (p + 4) (Cancel (Open_slot (p + 2))) (Start (p + 5) (Cancel (Open_slot (p + 3)))
+    (in_order (ended (p + 6) (p + 4)) (ended (p + 6) (p + 5))))
+
+-- the pair race of the poll p: the deferred p + 1, the fibers p + 2 and p + 3, and in s the winner p + 4
+abbrev pub pair_race : ℕ → Tree → Tree → Tree → Tree
+pair_race p a b s =
+    let winner = On_cancel (Poll (Named p) (Act (Await (Open_slot (p + 1))))) (cancels_both p) in
+    Make New_deferred (p + 1) (Start (p + 2) (runs_side (p + 2) (p + 1) 0 a)
+    (Start (p + 3) (runs_side (p + 3) (p + 1) 1 b) (Let winner (p + 4) s)))
+
+-- waits for g below the poll, and cancels it where the wait is cut
+abbrev pub awaits : ℕ → ℕ → ℕ → Tree
+awaits p c g = On_cancel (Poll (Named p) (ended c g)) (Cancel (Open_slot g))
+
+-- f has ended first, g is the other one
+abbrev pub race_side : ℕ → ℕ → ℕ → ℕ → Tree
+race_side p c f g =
+    let loser = Open_slot g in
+    let other = Join loser c (Pure (Slot c)) c (Raise (Slot c)) (gives_up p) in
+    Join (Open_slot f) c (in_order (Cancel loser) (Pure (Slot c))) c (in_order (Cancel loser) (Raise (Slot c)))
+    (in_order (awaits p c g) other)
+
+-- f has ended first, g is the other one; first and second are the slots of the values of the two sides
+abbrev pub both_side : ℕ → ℕ → ℕ → ℕ → ℕ → ℕ → ℕ → Tree
+both_side p r c f g second first =
+    let other = Open_slot g in
+    let values = in_order (Act (Set (Open_slot r) (Slot second))) (Pure (Slot first)) in
+    Join (Open_slot f) c
+    (in_order (awaits p (c + 1) g) (Join other (c + 1) values (c + 1) (Raise (Slot (c + 1))) (gives_up p)))
+    c (in_order (Cancel other) (Raise (Slot c)))
+    (in_order (Cancel other) (gives_up p))
+
+abbrev pub race : ℕ → Tree → Tree → Tree
+race d a b =
+    let first = race_side d (d + 5) (d + 2) (d + 3) in
+    let second = race_side d (d + 5) (d + 3) (d + 2) in
+    Uncancelable d (pair_race d a b (If0 (Slot (d + 4)) first second))
+
+-- the ref d holds the second value, below the poll d + 1
+abbrev pub both : ℕ → Tree → Tree → Tree → Tree
+both d a b k =
+    let p = d + 1 in
+    let first = both_side p d (p + 5) (p + 2) (p + 3) (p + 6) (p + 5) in
+    let second = both_side p d (p + 5) (p + 3) (p + 2) (p + 5) (p + 6) in
+    Make (New_ref (Number (pos 0))) d (Let
+    (Uncancelable p (pair_race p a b (If0 (Slot (p + 4)) first second)))
+    (d + 1)
+    (Let (Act (Get (Open_slot d))) (d + 2) k))
+
+-- the new slot of a program's slot
+abbrev pub slot_at : List ℕ → ℕ → ℕ
+slot_at [] v = 0
+slot_at (c ∷ cs) zero = c
+slot_at (c ∷ cs) (suc v) = slot_at cs v
+
+abbrev pub value_in : List ℕ → Value → Value
+value_in m (Number z) = Number z
+value_in m (Slot v) = Slot (slot_at m v)
+
+-- The expansion below d binders; m gives the new slot of each binder of the program that is around, outermost first.
+abbrev pub expansion : List ℕ → ℕ → Source → Tree
+expansion m d (word.Pure v) = Pure (value_in m v)
+expansion m d (word.Raise v) = Raise (value_in m v)
+expansion m d (word.Let e k) = Let (expansion m d e) d (expansion (m ++ d ∷ []) (d + 1) k)
+expansion m d (word.Seq w e k) = Seq w (expansion m d e) (expansion m d k)
+expansion m d (word.Handle e h) = Handled (expansion m d e) d (expansion (m ++ d ∷ []) (d + 1) h)
+expansion m d (word.If0 v s e) = If0 (value_in m v) (expansion m d s) (expansion m d e)
+expansion m d (word.Add v w) = Act (Add (value_in m v) (value_in m w))
+expansion m d (word.Say v) = Act (Say (value_in m v))
+expansion m d word.Cede = Act Cede
+expansion m d word.Never = Act Never
+expansion m d word.Canceled = Act Canceled
+expansion m d (word.Uncancelable e) = Uncancelable d (expansion (m ++ d ∷ []) (d + 1) e)
+expansion m d (word.Poll p e) = Poll (Named (slot_at m p)) (expansion m d e)
+expansion m d (word.On_cancel e fin) = On_cancel (expansion m d e) (expansion m d fin)
+expansion m d (word.Start e k) = Start d (expansion m d e) (expansion (m ++ d ∷ []) (d + 1) k)
+expansion m d (word.Join f s e c) =
+    Join (Open_slot (slot_at m f)) d (expansion (m ++ d ∷ []) (d + 1) s) d (expansion (m ++ d ∷ []) (d + 1) e) (expansion m d c)
+expansion m d (word.Cancel f) = Cancel (Open_slot (slot_at m f))
+expansion m d (word.Ref v k) = Make (New_ref (value_in m v)) d (expansion (m ++ d ∷ []) (d + 1) k)
+expansion m d (word.Get r) = Act (Get (Open_slot (slot_at m r)))
+expansion m d (word.Set r v) = Act (Set (Open_slot (slot_at m r)) (value_in m v))
+expansion m d (word.Modify r v) = Act (Modify (Open_slot (slot_at m r)) (value_in m v))
+expansion m d (word.Deferred k) = Make New_deferred d (expansion (m ++ d ∷ []) (d + 1) k)
+expansion m d (word.Complete c v) = Act (Complete (Open_slot (slot_at m c)) (value_in m v))
+expansion m d (word.Await c) = Act (Await (Open_slot (slot_at m c)))
+expansion m d (word.Repeat v e) = Loop (Times (value_in m v)) (expansion m d e)
+expansion m d (word.Forever e) = Loop Always (expansion m d e)
+expansion m d (word.Guarantee e fin) =
+    guarantee d (expansion m (d + 1) e) (expansion m (d + 1) fin) (expansion m (d + 2) fin) (expansion m (d + 2) fin)
+expansion m d (word.Bracket acq body rel) =
+    let x = m ++ (d + 1) ∷ [] in
+    bracket_case d (expansion m (d + 1) acq) (expansion x (d + 3) body) (expansion x (d + 4) rel) (expansion x (d + 4) rel) (expansion x (d + 3) rel)
+expansion m d (word.Bracket_case acq body rs re rc) =
+    let x = m ++ (d + 1) ∷ [] in
+    let y = x ++ (d + 3) ∷ [] in
+    bracket_case d (expansion m (d + 1) acq) (expansion x (d + 3) body) (expansion y (d + 4) rs) (expansion y (d + 4) re) (expansion x (d + 3) rc)
+expansion m d (word.Race a b) = race d (expansion m (d + 3) a) (expansion m (d + 4) b)
+expansion m d (word.Both a b k) =
+    both d (expansion m (d + 4) a) (expansion m (d + 5) b) (expansion ((m ++ (d + 1) ∷ []) ++ (d + 2) ∷ []) (d + 3) k)
+
+-- the code of a program
+abbrev pub code_of : Source → Tree
+code_of t = expansion [] 0 t

@@ -1,0 +1,9 @@
+pub mod Tree
+pub mod Put
+pub mod Source
+pub mod Reading
+pub mod Expansion
+pub mod Codes
+pub mod Supported
+pub mod Stored
+pub mod Cores

@@ -1,0 +1,37 @@
+-- The terms of a program, in all 31 words, without pointers. A name is the slot of its binder, which is the number of
+-- binders around that one. The parts stand in the order in which they are written.
+use Rattle.std.specs.Prelude.{ℕ}
+use Rattle.derived_ops.specs.Tree.{Value, Rest}
+
+pub data Source : Type 0 where
+  Pure : Value → Source
+  Raise : Value → Source
+  Let : (e k : Source) → Source
+  Seq : Rest → (e k : Source) → Source
+  Handle : (e h : Source) → Source
+  If0 : Value → (s e : Source) → Source
+  Add : Value → Value → Source
+  Say : Value → Source
+  Cede : Source
+  Never : Source
+  Canceled : Source
+  Uncancelable : Source → Source
+  Poll : ℕ → Source → Source
+  On_cancel : (e fin : Source) → Source
+  Start : (e k : Source) → Source
+  Join : ℕ → (s e c : Source) → Source
+  Cancel : ℕ → Source
+  Ref : Value → Source → Source
+  Get : ℕ → Source
+  Set : ℕ → Value → Source
+  Modify : ℕ → Value → Source
+  Deferred : Source → Source
+  Complete : ℕ → Value → Source
+  Await : ℕ → Source
+  Repeat : Value → Source → Source
+  Forever : Source → Source
+  Guarantee : (e fin : Source) → Source
+  Bracket : (acq body rel : Source) → Source
+  Bracket_case : (acq body rs re rc : Source) → Source
+  Race : (a b : Source) → Source
+  Both : (a b k : Source) → Source

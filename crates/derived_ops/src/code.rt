@@ -1,0 +1,68 @@
+//! The code of a program.
+
+ghost use Rattle.std.specs.Prelude.{◌≡◌, IfOk, IsTrue};
+ghost use Rattle.derived_ops.specs.Codes.{IsCode};
+ghost use Rattle.derived_ops.specs.Cores.{tree_of};
+ghost use Rattle.derived_ops.specs.Expansion.{code_of};
+ghost use Rattle.derived_ops.specs.Reading.{source_of};
+ghost use Rattle.derived_ops.specs.Supported.{supported};
+
+use crate::core_term::Core;
+use crate::expansion::expanded;
+use crate::supported::has_supported_words;
+use effect_term::Program;
+use std::alloc::{AllocError, Global};
+use std::marker::Model;
+
+/// The code of a program: a term of core words that is the expansion of a program.
+///
+/// In contracts a code is that term.
+#[derive(Drop)]
+pub struct Code {
+    core: Core,
+}
+
+impl Model for Code {
+    ghost use Rattle.derived_ops.specs.Tree.{Tree};
+    ghost use Rattle.derived_ops.specs.Stored.{tree_code};
+    ghost use Rattle.derived_ops.specs.Cores.{tree_of};
+    ghost use Rattle.derived_ops.specs.Codes.{IsCode};
+
+    ghost Value = { Tree };
+
+    ghost coded = { tree_code };
+
+    ghost view = { λ c. tree_of c.core };
+
+    ghost invariant = { λ c. IsCode (tree_of c.core) };
+}
+
+impl Code {
+    /// The term of this code.
+    pub fn core(&self) -> &Core
+        ensures term { tree_of result.now ≡ self.now }
+        ensures code { IsCode self.now }
+    {
+        &self.core
+    }
+}
+
+/// Whether all words of the program are among those that run today: `pure`, `let`, `say`,
+/// `canceled`, `uncancelable` and `poll`.
+pub fn is_supported(program: &Program) -> bool
+    ensures { result ≡ supported (source_of program.now) }
+{
+    has_supported_words(program.term())
+}
+
+/// The code of a program, whose words are all among those that run today ([`is_supported`]).
+///
+/// Core words are expanded part by part, and a binder's slot is the number of binders around it.
+pub fn expand(alloc: Global, program: &Program) -> Result<Code, AllocError>
+    requires { IsTrue (supported (source_of program.now)) }
+    ensures { IfOk result (λ code. code ≡ code_of (source_of program.now)) }
+{
+    let mut slots = Vec::new(alloc);
+    let core = expanded(alloc, program.term(), &mut slots, 0)?;
+    Ok(Code { core })
+}

@@ -1,0 +1,4 @@
+pub mod Walking
+pub mod Trees
+pub mod Moving
+pub mod Samples
