@@ -1,0 +1,5 @@
+pub mod Atoms
+pub mod Lexemes
+pub mod Reading
+pub mod Faults
+pub mod Grammar

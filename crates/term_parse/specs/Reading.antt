@@ -1,0 +1,140 @@
+-- What the forms want, token by token, and the first fault of a text.
+use Rattle.std.specs.Prelude.{ℕ, suc, Bool, true, false, nat_lt, List, [], ◌∷◌, ◌++◌, length, Option, Some, None, Result, Ok, Err, if◌then◌else◌, slice_get, map}
+use Rattle.std.specs.Str.{bytes_eq}
+use Rattle.effect_term.specs.declared.term.Kind.{Kind}
+use Rattle.effect_term.specs.declared.term.Kind.TheVariants as kinds
+use Rattle.effect_term.specs.declared.term.Name.{Name}
+use Rattle.effect_term.specs.declared.term.Operand.TheVariants.{Number, Named}
+use Rattle.term_parse.specs.declared.table.Row.{Row}
+use Rattle.term_parse.specs.declared.table.Part.{Part}
+use Rattle.term_parse.specs.declared.table.Part.TheVariants.{Bind, Use, Value, Term, Under, UnderBoth, More, Close}
+use Rattle.term_parse.specs.declared.table.TheConstants.{TABLE, SPELLINGS}
+use Rattle.term_parse.specs.declared.error.ParseError.{ParseError}
+use Rattle.term_parse.specs.declared.error.ParseError.TheVariants as errors
+use Rattle.term_parse.specs.Atoms.{Atom, word, value, name, ended}
+use Rattle.term_parse.specs.Lexemes.{Lexeme, opens, closes, called, number, bad_number, bad_byte, Placed, lexemes_at}
+
+-- a binder by its spelling
+pub record Bound : Type 0 where
+  pub spelling : List ℕ
+  pub kind : Kind
+
+-- the innermost binder of a spelling in a scope, which stands last; the slot of the first is given
+unfoldable pub find_from : ℕ → List Bound → List ℕ → Option Name
+find_from n [] x = None
+find_from n (b ∷ bs) x = elim (find_from (suc n) bs x) [
+  | Some found ↦ Some found
+  | None ↦ if bytes_eq b.spelling x then Some (record { slot = n; kind = b.kind }) else None
+]
+
+abbrev pub same_kind : Kind → Kind → Bool
+same_kind kinds.Value kinds.Value = true
+same_kind kinds.Poll kinds.Poll = true
+same_kind kinds.Fiber kinds.Fiber = true
+same_kind kinds.Ref kinds.Ref = true
+same_kind kinds.Deferred kinds.Deferred = true
+same_kind a b = false
+
+-- what a use of this kind at this place means: the innermost binder of its spelling, whatever its kind
+unfoldable pub meaning : List Bound → Kind → List ℕ → ℕ → Result Name ParseError
+meaning scope kind x at = elim (find_from 0 scope x) [
+  | None ↦ Err (errors.UnknownName at)
+  | Some found ↦ if same_kind found.kind kind then Ok found else Err (errors.NameKind at)
+]
+
+-- a row of the table, by its spelling
+abbrev pub row_among : List (List ℕ) → List Row → List ℕ → Option Row
+row_among [] rows x = None
+row_among (s ∷ ss) [] x = None
+row_among (s ∷ ss) (r ∷ rows) x = if bytes_eq s x then Some r else row_among ss rows x
+
+unfoldable pub row_of : List ℕ → Option Row
+row_of x = row_among (map (λ s. s.now) SPELLINGS) TABLE x
+
+unfoldable pub picked : List Bound → ℕ → List Bound
+picked bound i = elim (slice_get bound i) [ Some b ↦ b ∷ [] | None ↦ [] ]
+
+-- the binders that enclose a term: those around the form, and of the form's own those that the part names
+unfoldable pub entered : List Bound → List Bound → Part → List Bound
+entered scope bound (Under i) = scope ++ picked bound i
+entered scope bound (UnderBoth i j) = (scope ++ picked bound i) ++ picked bound j
+entered scope bound part = scope
+
+-- what is wanted: a whole term, the word of a form, or the other parts of a form under the binders that it has so far
+pub data Want : Type 0 where
+  term : List Bound → Want
+  a_word : List Bound → Want
+  parts : List Bound → List Bound → List Part → Want
+
+-- what a token gives, and what is wanted in its want's place
+pub record Step : Type 0 where
+  pub atoms : List Atom
+  pub wants : List Want
+
+-- an opening bracket that is wanted, where so many are open
+abbrev pub opening : ℕ → ℕ → List Want → Result Step ParseError
+opening depth at wants = if nat_lt depth 100 then Ok (record { atoms = []; wants = wants }) else Err (errors.TooDeep at)
+
+abbrev pub used : Result Name ParseError → (Name → Atom) → Want → Result Step ParseError
+used (Ok n) atom after = Ok (record { atoms = atom n ∷ []; wants = after ∷ [] })
+used (Err e) atom after = Err e
+
+abbrev pub begun : Option Row → List Bound → ℕ → Result Step ParseError
+begun (Some r) scope at = Ok (record { atoms = word r.word ∷ []; wants = parts scope [] r.parts ∷ [] })
+begun None scope at = Err (errors.UnknownWord at)
+
+-- a good token where a part of a form is wanted; a token of another kind is a fault of the form
+unfoldable pub part_step : ℕ → List Bound → List Bound → Part → List Part → Lexeme → ℕ → Result Step ParseError
+part_step depth s b (Bind k) ps (called x) at = Ok (record { atoms = []; wants = parts s (b ++ record { spelling = x; kind = k } ∷ []) ps ∷ [] })
+part_step depth s b (Use k) ps (called x) at = used (meaning s k x at) (λ n. name n) (parts s b ps)
+part_step depth s b Value ps (called x) at = used (meaning s kinds.Value x at) (λ n. value (Named n)) (parts s b ps)
+part_step depth s b Value ps (number n) at = Ok (record { atoms = value (Number n) ∷ []; wants = parts s b ps ∷ [] })
+part_step depth s b Term ps opens at = opening depth at (a_word (entered s b Term) ∷ parts s b ps ∷ [])
+part_step depth s b (Under i) ps opens at = opening depth at (a_word (entered s b (Under i)) ∷ parts s b ps ∷ [])
+part_step depth s b (UnderBoth i j) ps opens at = opening depth at (a_word (entered s b (UnderBoth i j)) ∷ parts s b ps ∷ [])
+part_step depth s b More ps opens at = opening depth at (a_word (entered s b More) ∷ parts s b (More ∷ ps) ∷ [])
+part_step depth s b More ps closes at = Ok (record { atoms = ended ∷ []; wants = [] })
+part_step depth s b Close ps closes at = Ok (record { atoms = ended ∷ []; wants = [] })
+part_step depth s b p ps t at = Err (errors.Arity at)
+
+-- the fault table: what a token gives where this is wanted and so many brackets are open, or its fault.
+-- A token that is no good comes before one in the wrong place.
+unfoldable pub want_step : ℕ → Want → Lexeme → ℕ → Result Step ParseError
+want_step depth w bad_byte at = Err (errors.BadByte at)
+want_step depth w bad_number at = Err (errors.BadNumber at)
+want_step depth (term s) opens at = opening depth at (a_word s ∷ [])
+want_step depth (term s) t at = Err (errors.Arity at)
+want_step depth (a_word s) (called x) at = begun (row_of x) s at
+want_step depth (a_word s) t at = Err (errors.UnknownWord at)
+want_step depth (parts s b []) t at = Err (errors.Arity at)
+want_step depth (parts s b (p ∷ ps)) t at = part_step depth s b p ps t at
+
+-- how many brackets are open where these are wanted
+abbrev pub open_of : List Want → ℕ
+open_of [] = 0
+open_of (term s ∷ todo) = open_of todo
+open_of (a_word s ∷ todo) = suc (open_of todo)
+open_of (parts s b ps ∷ todo) = suc (open_of todo)
+
+abbrev pub with_front : List Atom → Result (List Atom) ParseError → Result (List Atom) ParseError
+with_front front (Ok atoms) = Ok (front ++ atoms)
+with_front front (Err e) = Err e
+
+-- what the tokens say where these are wanted, or their first fault: once nothing is wanted a token is one too many,
+-- and where something is wanted the text mustn't be over, which has this length
+unfoldable pub reads : ℕ → List Want → List Placed → Result (List Atom) ParseError
+reads end [] [] = Ok []
+reads end [] (t ∷ ts) = Err (errors.Trailing t.place)
+reads end (w ∷ todo) [] = Err (errors.End end)
+reads end (w ∷ todo) (t ∷ ts) = elim (want_step (open_of (w ∷ todo)) w t.lexeme t.place) [
+  | Ok s ↦ with_front s.atoms (reads end (s.wants ++ todo) ts)
+  | Err e ↦ Err e
+]
+
+-- what a text says from this place on
+unfoldable pub reads_at : List ℕ → ℕ → List Want → Result (List Atom) ParseError
+reads_at text at todo = reads (length text) todo (lexemes_at at text)
+
+-- what a whole text says: the atoms of one closed term, or its first fault
+unfoldable pub reading : List ℕ → Result (List Atom) ParseError
+reading text = if nat_lt 65536 (length text) then Err (errors.TooLong 65536) else reads_at text 0 (term [] ∷ [])

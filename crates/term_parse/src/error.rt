@@ -1,0 +1,62 @@
+//! Why a text is refused.
+
+ghost use Rattle.std.specs.Prelude.{◌≡◌};
+ghost use Rattle.term_parse.specs.declared.error.ParseError.TheVariants.{NoMemory};
+
+use std::alloc::{AllocError, AllocFailed};
+use thiserror::Error;
+
+/// Why a text is refused, and where. A place is the number of bytes before the token that is at
+/// fault, so it counts from 0.
+#[derive(Clone, Copy, PartialEq, Eq, Debug, Error)]
+pub enum ParseError {
+    /// There was no memory for the term.
+    #[error("no memory")]
+    NoMemory,
+    /// No token begins here.
+    #[error("no token begins at byte {0}")]
+    BadByte(usize),
+    /// The text is over before its term is. The place is the text's length.
+    #[error("the text is over at byte {0}")]
+    End(usize),
+    /// Behind an opening bracket stands no word.
+    #[error("no word stands at byte {0}")]
+    UnknownWord(usize),
+    /// The form wants a token of another kind.
+    #[error("another kind of token is wanted at byte {0}")]
+    Arity(usize),
+    /// The number isn't well formed, or is out of the range of an `i32`.
+    #[error("the number at byte {0} is bad")]
+    BadNumber(usize),
+    /// No binder of the name encloses it.
+    #[error("the name at byte {0} has no binder")]
+    UnknownName(usize),
+    /// The innermost binder of the name is of another kind.
+    #[error("the name at byte {0} is of another kind")]
+    NameKind(usize),
+    /// With this opening bracket more than 100 would be open.
+    #[error("the brackets go too deep at byte {0}")]
+    TooDeep(usize),
+    /// The text has more than 65,536 bytes. The place is 65,536.
+    #[error("the text is too long at byte {0}")]
+    TooLong(usize),
+    /// Something other than space stands behind the term.
+    #[error("more text stands at byte {0}")]
+    Trailing(usize),
+}
+
+impl From<AllocError> for ParseError {
+    ghost from_gives = { λ _ e. e ≡ NoMemory };
+
+    fn from(_error: AllocError) -> ParseError {
+        ParseError::NoMemory
+    }
+}
+
+impl<T: Drop> From<AllocFailed<T>> for ParseError {
+    ghost from_gives = { λ _ e. e ≡ NoMemory };
+
+    fn from(_error: AllocFailed<T>) -> ParseError {
+        ParseError::NoMemory
+    }
+}
