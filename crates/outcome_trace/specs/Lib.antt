@@ -6,3 +6,7 @@ pub mod Text
 pub mod Schedule
 pub mod Reading
 pub mod Digits
+pub mod Core
+pub mod Room
+pub mod Fit
+pub mod Steps
