@@ -1,0 +1,12 @@
+pub mod Device
+pub mod Lines
+pub mod ReportText
+pub mod Wrapped
+pub mod Text
+pub mod Schedule
+pub mod Reading
+pub mod Digits
+pub mod Core
+pub mod Room
+pub mod Fit
+pub mod Steps
