@@ -22,7 +22,8 @@ IsOwn (Modify r v) = ⊥
 IsOwn (Complete d v) = ⊥
 IsOwn (Await d) = ⊥
 
--- a term of a program, which below n masks never has more than the most masks
+-- A term of a program, which below n masks never has more than the most masks. Its words need nothing of others and
+-- register no finalizer: the other words have no room yet.
 abbrev pub HasRoom : ℕ → Tree → Type 0
 HasRoom n (Pure v) = n ≤ MOST_MASKS
 HasRoom n (Raise v) = n ≤ MOST_MASKS

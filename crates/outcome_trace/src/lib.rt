@@ -1,10 +1,12 @@
 //! What comes in and what goes out: texts read from and written to devices, the text of a
 //! schedule, and the texts of reports, refusals and faults.
 //!
-//! It stands on the terms and outcomes of `effect_term`. It promises that a text is read whole or
-//! its fault is told, that a schedule's text is accepted exactly where it is well formed, with the
-//! place of its first bad item where it isn't, and that what goes out is exactly the text of a
-//! report or of a line.
+//! It stands on the programs of `effect_term`, the fibers of `fiber_frames` and the registry of
+//! `cell_registry`. It promises that a program under a schedule is reported as the core says, where
+//! each entry makes one move of a fiber beside one registry; that a text is read whole or its fault
+//! is told, that a schedule's text is accepted exactly where it is well formed, with the place of
+//! its first bad item where it isn't, and that what goes out is exactly the text of a report or of
+//! a line.
 #![tactic(auto)]
 
 mod device;

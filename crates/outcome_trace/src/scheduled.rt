@@ -35,6 +35,7 @@ pub fn replay(
     requires limits { AreLimits limits }
     ensures { (result ≡ Fails RunError.NoMemory) ⊎ (result ≡ reported (core (code_of (source_of program.now)) limits schedule.now)) }
 {
+    // A program has at most 250 masks below one another.
     let _ = program.term();
     let code = expand(alloc, program)?;
     let mut config = Config::new(alloc, &code)?;
@@ -91,6 +92,7 @@ fn reply(config: &Config, registry: &mut PlainRegistry) -> Result<Option<Reply>,
     ensures rests { IfOk result (λ it. IfNone it ((registry.new ≡ registry.old) × (entered registry.old.limits (Goes (one_fiber config.now registry.old.state)) 0 ≡ Goes (one_fiber config.now registry.old.state)))) }
     ensures stops { IfErr result (λ e. entered registry.old.limits (Goes (one_fiber config.now registry.old.state)) 0 ≡ Stops e) }
 {
+    // The registry is within its limits.
     let _ = registry.limits();
     let call = match Wish::of(config.ask()) {
         Wish::Nothing => return Ok(None),

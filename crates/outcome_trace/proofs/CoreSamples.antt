@@ -1,0 +1,93 @@
+-- The core of some programs of many fibers, with reports worked by hand.
+use Rattle.std.proofs.Common.{◌≡◌, ℕ, pos, List, [], ◌∷◌, ◌++◌, replicate, refl, Ok, Err}
+use Rattle.std.specs.Prelude.{Some, None, Result}
+use Rattle.effect_term.specs.declared.reply.Outcome.TheVariants.{Succeeded, Errored, Canceled}
+use Rattle.derived_ops.specs.Tree.{Number, Slot, Last, More}
+use Rattle.derived_ops.specs.Source as word
+use Rattle.derived_ops.specs.Source.{Source}
+use Rattle.derived_ops.specs.Expansion.{code_of}
+use Rattle.fiber_frames.specs.declared.mark.Mark.TheVariants.{Say, Enter, Leave, PollIn, PollOut, Cut, Acquired, Releasing, Released, Dropped}
+use Rattle.cell_registry.specs.declared.limits.Limits.{Limits}
+use Rattle.cell_registry.specs.declared.limits.Band.TheVariants.{Fibers, Deferreds}
+use Rattle.cell_registry.specs.declared.limits.RunError.{RunError}
+use Rattle.cell_registry.specs.declared.limits.RunError.TheVariants.{Full, Spent}
+use Rattle.cell_registry.specs.Cells.{after, reply_of, refusal}
+use Rattle.outcome_trace.specs.declared.report.Report.{Report}
+use Rattle.outcome_trace.specs.Core.{core, reported}
+
+abbrev few : Limits
+few = record { fibers = 3; refs = 1; deferreds = 1; count = 100 }
+
+abbrev report_of : Limits → Source → List ℕ → Result Report RunError
+report_of k t schedule = reported (core (code_of t) k schedule)
+
+-- `(start f (never) (pure 1))`
+abbrev started : Source
+started = word.Start word.Never (word.Pure (Number (pos 1)))
+
+-- entries of unborn and of ended fibers change nothing
+unended_child : report_of few started (5 ∷ 1 ∷ (replicate 13 0 ++ replicate 6 1)) ≡ Ok record {
+    fibers = record { outcome = Some (Succeeded (pos 1)); marks = [] } ∷ record { outcome = None; marks = [] } ∷ [];
+}
+unfolding core after reply_of refusal
+unended_child = refl
+
+-- `(start f (uncancelable p (seq (say 1) (poll p (say 2)) (say 3))) (cancel f))`
+abbrev canceled_child : Source
+canceled_child =
+    word.Start
+        (word.Uncancelable (word.Seq More (word.Say (Number (pos 1))) (word.Seq Last (word.Poll 0 (word.Say (Number (pos 2)))) (word.Say (Number (pos 3))))))
+        (word.Cancel 0)
+
+canceled_at_once : report_of few canceled_child (replicate 5 0 ++ replicate 30 1 ++ replicate 9 0) ≡ Ok record {
+    fibers = record { outcome = Some (Succeeded (pos 0)); marks = Enter 0 ∷ Leave 0 ∷ [] } ∷ record { outcome = Some Canceled; marks = Cut ∷ [] } ∷ [];
+}
+unfolding core after reply_of refusal
+canceled_at_once = refl
+
+canceled_in_the_poll : report_of few canceled_child (replicate 2 0 ++ replicate 4 1 ++ replicate 3 0 ++ replicate 30 1 ++ replicate 9 0) ≡ Ok record {
+    fibers = record { outcome = Some (Succeeded (pos 0)); marks = Enter 0 ∷ Leave 0 ∷ [] } ∷ record { outcome = Some Canceled; marks = Enter 0 ∷ Say (pos 1) ∷ PollIn 0 ∷ Cut ∷ [] } ∷ [];
+}
+unfolding core after reply_of refusal
+canceled_in_the_poll = refl
+
+canceled_too_late : report_of few canceled_child (replicate 2 0 ++ replicate 13 1 ++ replicate 3 0 ++ replicate 30 1 ++ replicate 9 0) ≡ Ok record {
+    fibers = record { outcome = Some (Succeeded (pos 0)); marks = Enter 0 ∷ Leave 0 ∷ [] }
+        ∷ record { outcome = Some (Succeeded (pos 0)); marks = Enter 0 ∷ Say (pos 1) ∷ PollIn 0 ∷ Say (pos 2) ∷ PollOut 0 ∷ Say (pos 3) ∷ Leave 0 ∷ [] }
+        ∷ [];
+}
+unfolding core after reply_of refusal
+canceled_too_late = refl
+
+-- `(ref r 0 (let x (race (pure 4) (oncancel (never) (set r 9))) (let y (get r) (add x y))))`
+abbrev raced : Source
+raced =
+    word.Ref (Number (pos 0)) (word.Let
+        (word.Race (word.Pure (Number (pos 4))) (word.On_cancel word.Never (word.Set 0 (Number (pos 9)))))
+        (word.Let (word.Get 0) (word.Add (Slot 1) (Slot 2))))
+
+loser_runs_its_finalizer : report_of few raced (replicate 15 0 ++ replicate 10 2 ++ replicate 40 1 ++ replicate 40 0 ++ replicate 40 2 ++ replicate 40 0) ≡ Ok record {
+    fibers = record { outcome = Some (Succeeded (pos 13)); marks = Enter 0 ∷ PollIn 0 ∷ PollOut 0 ∷ Enter 1 ∷ Leave 1 ∷ Leave 0 ∷ [] }
+        ∷ record { outcome = Some (Succeeded (pos 4)); marks = Enter 0 ∷ PollIn 0 ∷ PollOut 0 ∷ Leave 0 ∷ [] }
+        ∷ record { outcome = Some Canceled; marks = Enter 0 ∷ PollIn 0 ∷ Cut ∷ [] }
+        ∷ [];
+}
+unfolding core after reply_of refusal
+loser_runs_its_finalizer = refl
+
+-- the second side of `(race (pure 1) (pure 2))` is a third fiber
+too_many_fibers : report_of (record few { fibers = 2 }) (word.Race (word.Pure (Number (pos 1))) (word.Pure (Number (pos 2)))) (replicate 99 0) ≡ Err (Full Fibers 2)
+unfolding core after reply_of refusal
+too_many_fibers = refl
+
+-- the fourth change of the only fiber's cell is refused: `(uncancelable p (canceled))` makes four
+count_used_up : report_of (record few { count = 3 }) (word.Uncancelable word.Canceled) (replicate 7 0) ≡ Err (Spent 0)
+unfolding core after reply_of refusal
+count_used_up = refl
+
+-- `(bracket x (pure 1) (pure 2) (raise 8))`
+released_with_an_error : report_of few (word.Bracket (word.Pure (Number (pos 1))) (word.Pure (Number (pos 2))) (word.Raise (Number (pos 8)))) (replicate 99 0) ≡ Ok record {
+    fibers = record { outcome = Some (Errored (pos 8)); marks = Enter 0 ∷ Acquired 0 ∷ Enter 1 ∷ PollIn 1 ∷ PollIn 0 ∷ PollOut 0 ∷ PollOut 1 ∷ Releasing 0 ∷ Released 0 ∷ Leave 1 ∷ Leave 0 ∷ [] } ∷ [];
+}
+unfolding core after reply_of refusal
+released_with_an_error = refl
