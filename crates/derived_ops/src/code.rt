@@ -55,7 +55,8 @@ pub fn is_supported(program: &Program) -> bool
     has_supported_words(program.term())
 }
 
-/// The code of a program, whose words are all among those that run today ([`is_supported`]).
+/// The code of a program, whose words are all among those that run today ([`is_supported`]), or
+/// `AllocError` where memory is refused.
 ///
 /// Core words are expanded part by part, and a binder's slot is the number of binders around it.
 pub fn expand(alloc: Global, program: &Program) -> Result<Code, AllocError>

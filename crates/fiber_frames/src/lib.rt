@@ -2,9 +2,10 @@
 //!
 //! A [`Config`] is one fiber. It says which shared call its next move wants ([`Config::ask`]) and
 //! makes the move under the reply ([`Config::resume`]), so whoever holds the shared state decides
-//! what is answered, and when. The crate stands on `derived_ops`. It promises that asks and moves
-//! are those of the model: masks, polls, cancellation and finalizers as in Cats Effect 3's
-//! `MonadCancel`.
+//! what is answered, and when. The crate stands on `derived_ops`. Its definitions are the focus path of
+//! a running term, the active masks and pending finalizers along it, the table of rows, and the move.
+//! It promises that asks and moves are those of the model: masks, polls, cancellation and finalizers
+//! as in Cats Effect 3's `MonadCancel`.
 #![tactic(auto)]
 
 mod active;
