@@ -3,3 +3,5 @@ pub mod Lexemes
 pub mod Reading
 pub mod Faults
 pub mod Grammar
+pub mod Scopes
+pub mod Laws

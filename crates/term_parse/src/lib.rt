@@ -4,6 +4,7 @@
 #![tactic(auto)]
 
 mod error;
+pub mod laws;
 mod table;
 
 pub use error::ParseError;
