@@ -1,0 +1,4 @@
+pub mod Faults
+pub mod KindLaws
+pub mod ProgramLaws
+pub mod Rows

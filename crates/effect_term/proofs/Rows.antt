@@ -1,0 +1,35 @@
+-- What is counted over a row of terms, read at the items of its `Vec`.
+use Rattle.std.proofs.Common.{◌≡◌, ◌+◌, max, ◌||◌, ◌++◌, ap, refl}
+use Rattle.effect_term.specs.declared.term.Term.{Row_of-Term, end_of-Term, more_of-Term, items-the_row-Term}
+use Rattle.effect_term.specs.ExpansionSize.{expansion_size_of, expansion_sizes_of, total_expansion_size}
+use Rattle.effect_term.specs.Masks.{masks_of, most_masks_of, most_masks}
+use Rattle.effect_term.specs.Names.{uses_of, uses_of_row, uses_of_all}
+use Rattle.effect_term.specs.Sizes.{size_of, sizes_of, total_size, nest_of, nests_of, deepest}
+use Rattle.effect_term.specs.Starts.{starts_fiber, any_starts_fiber, some_starts_fiber}
+
+pub sizes_of-row : (m : _) (row : Row_of-Term m) → sizes_of row ≡ total_size (items-the_row-Term m row)
+sizes_of-row _ end_of-Term = refl
+sizes_of-row _ (more_of-Term t rest) = ap (λ n. size_of t + n) (sizes_of-row _ rest)
+
+pub nests_of-row : (m : _) (row : Row_of-Term m) → nests_of row ≡ deepest (items-the_row-Term m row)
+nests_of-row _ end_of-Term = refl
+nests_of-row _ (more_of-Term t rest) = ap (λ n. max (nest_of t) n) (nests_of-row _ rest)
+
+pub most_masks_of-row : (m : _) (row : Row_of-Term m) → most_masks_of row ≡ most_masks (items-the_row-Term m row)
+most_masks_of-row _ end_of-Term = refl
+most_masks_of-row _ (more_of-Term t rest) = ap (λ n. max (masks_of t) n) (most_masks_of-row _ rest)
+
+pub expansion_sizes_of-row : (m : _) (row : Row_of-Term m) → expansion_sizes_of row ≡ total_expansion_size (items-the_row-Term m row)
+expansion_sizes_of-row _ end_of-Term = refl
+expansion_sizes_of-row _ (more_of-Term t rest) =
+    ap (λ n. expansion_size_of t + n) (expansion_sizes_of-row _ rest)
+
+pub any_starts_fiber-row : (m : _) (row : Row_of-Term m) → any_starts_fiber row ≡ some_starts_fiber (items-the_row-Term m row)
+any_starts_fiber-row _ end_of-Term = refl
+any_starts_fiber-row _ (more_of-Term t rest) =
+    ap (λ b. starts_fiber t || b) (any_starts_fiber-row _ rest)
+
+pub uses_of_row-row : (around : _) (m : _) (row : Row_of-Term m) → uses_of_row around row ≡ uses_of_all around (items-the_row-Term m row)
+uses_of_row-row around _ end_of-Term = refl
+uses_of_row-row around _ (more_of-Term t rest) =
+    ap (λ us. uses_of around t ++ us) (uses_of_row-row around _ rest)

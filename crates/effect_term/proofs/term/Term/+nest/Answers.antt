@@ -1,0 +1,16 @@
+use Rattle.std.proofs.Common.{rules, arith, ap, ◌≡◌, ◌≤◌, ℕ, List, drop, length}
+use Rattle.std.proofs.lemmas.List.{drop_all}
+use Rattle.effect_term.proofs.Rows.{nests_of-row}
+use Rattle.effect_term.specs.Sizes.{deepest}
+use Rattle.effect_term.specs.declared.term.Term.{Term}
+use Rattle.effect_term.specs.declared.term.Term.TheViews.{the_lemmas}
+use Rattle.effect_term.proofs.term.Term.+nest.Goals as goal
+
+none_left : (n : ℕ) (ts : List Term) → length ts ≤ n → deepest (drop n ts) ≡ 0
+none_left n ts l = ap deepest (drop_all n ts l)
+
+pub loop-t-init : goal.loop-t-init
+loop-t-init t c = search (rules, the_lemmas, nests_of-row)
+
+pub returns-after-loop-t : goal.returns-after-loop-t
+returns-after-loop-t t c = grind (arith, none_left c.loop-t.t-index c.deref-t-items.result.now)

@@ -1,0 +1,30 @@
+-- Which terms are programs, and why another is refused.
+use Rattle.std.specs.Prelude.{◌≡◌, ◌-◌, ◌^◌, ◌≤◌, ◌⊎◌, min, nat_lt, [], Option, Some, None, if◌then◌else◌}
+use Rattle.std.specs.Option.{option_or}
+use Rattle.effect_term.specs.declared.term.Term.{Term}
+use Rattle.effect_term.specs.declared.refusal.TermError.{TermError}
+use Rattle.effect_term.specs.declared.refusal.TermError.TheVariants.{NoMemory, DeepMasks, Large}
+use Rattle.effect_term.specs.ExpansionSize.{expansion_size_of}
+use Rattle.effect_term.specs.Kinds.{WellKinded}
+use Rattle.effect_term.specs.Masks.{masks_of}
+use Rattle.effect_term.specs.Names.{uses_of, first_fault}
+
+-- a closed, well-kinded term within the limits
+pub record IsProgram (t : Term) : Type 0 where
+  pub closed : WellKinded [] t
+  pub masks : masks_of t ≤ 250
+  pub expansion : expansion_size_of t ≤ 1000000
+
+-- the refusal of a term whose names are good, if there is one
+abbrev pub limit_passed : Term → Option TermError
+limit_passed t =
+    if nat_lt 250 (masks_of t) then Some (DeepMasks (min (masks_of t) (2 ^ 64 - 1)))
+    else (if nat_lt 1000000 (expansion_size_of t) then Some Large else None)
+
+-- the first fault of a name in reading order, and then a limit that is passed
+abbrev pub refusal_of : Term → Option TermError
+refusal_of t = option_or (first_fault (uses_of [] t)) (limit_passed t)
+
+-- the refusal is the term's, or memory was wanting
+abbrev pub IsRefusal : Term → TermError → Type 0
+IsRefusal t e = (e ≡ NoMemory) ⊎ (refusal_of t ≡ Some e)

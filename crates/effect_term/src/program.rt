@@ -1,0 +1,83 @@
+//! Programs: the terms that a fiber may run.
+
+ghost use Rattle.std.specs.Prelude.{◌≡◌, None, IfOk, OnOk, IfErr, IsOkUnless, IsTrue, ◌↔◌};
+ghost use Rattle.effect_term.specs.Programs.{IsProgram, IsRefusal, refusal_of};
+ghost use Rattle.effect_term.specs.Starts.{starts_fiber};
+
+use crate::names::check_names;
+use crate::refusal::TermError;
+use crate::term::Term;
+use std::alloc::Global;
+use std::marker::Model;
+
+/// The most masks of a program.
+const MASKS_LIMIT: u64 = 250;
+
+/// The most words and marks of a program's expansion.
+const EXPANSION_LIMIT: u64 = 1_000_000;
+
+/// A closed, well-kinded term with at most 250 masks, whose expansion has at most 1,000,000 words
+/// and marks.
+#[derive(Drop)]
+pub struct Program {
+    term: Term,
+}
+
+impl Model for Program {
+    ghost use Rattle.effect_term.specs.declared.term.Term.{Term};
+    ghost use Rattle.effect_term.specs.contracts.term.Term as term_type;
+    ghost use Rattle.std.specs.Coded.{codes};
+    ghost use Rattle.effect_term.specs.Programs.{IsProgram};
+
+    ghost Value = { Term };
+
+    ghost coded = { Prim.hlevel (codes, term_type.the_row.coded) };
+
+    ghost view = { λ p. p.term };
+
+    ghost invariant = { λ p. IsProgram p.term };
+}
+
+impl Program {
+    /// The program of a term, or why it has none. The term is dropped on a refusal.
+    ///
+    /// Refusals, in this order: the first name in reading order that has no binder
+    /// ([`TermError::Unbound`]) or one of another kind ([`TermError::WrongKind`]); more than 250
+    /// masks ([`TermError::DeepMasks`]); an expansion of more than 1,000,000 words and marks
+    /// ([`TermError::Large`]). Where the table of the binders' kinds finds no memory,
+    /// [`TermError::NoMemory`] comes in place of these.
+    pub fn check(alloc: Global, term: Term) -> Result<Program, TermError>
+        ensures kept { IfOk result (λ program. program ≡ term) }
+        ensures found { OnOk result (IsProgram term) }
+        ensures good { OnOk result (refusal_of term ≡ None) }
+        ensures only { IsProgram term → IsOkUnless result TermError.NoMemory }
+        ensures refused { IfErr result (IsRefusal term) }
+    {
+        let mut kinds = Vec::new(alloc);
+        check_names(&mut kinds, &term)?;
+        let masks = term.masks();
+        if masks > MASKS_LIMIT {
+            return Err(TermError::DeepMasks(masks));
+        }
+        if term.expansion_size() > EXPANSION_LIMIT {
+            return Err(TermError::Large);
+        }
+        Ok(Program { term })
+    }
+
+    /// The program's term.
+    pub fn term(&self) -> &Term
+        ensures term { result.now ≡ self.now }
+        ensures program { IsProgram self.now }
+    {
+        &self.term
+    }
+
+    /// Whether a word `start`, `race` or `both` stands in the program, so that it may run more than
+    /// one fiber.
+    pub fn starts(&self) -> bool
+        ensures { result ≡ starts_fiber self.now }
+    {
+        self.term.starts_fiber()
+    }
+}
