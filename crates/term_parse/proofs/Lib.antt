@@ -4,3 +4,10 @@ pub mod GrammarLaws
 pub mod Coverage
 pub mod SpelledLaws
 pub mod ScopeLaws
+pub mod TermRows
+pub mod Weights
+pub mod Parts
+pub mod Tokens
+pub mod CanonicalScopes
+pub mod ReadBack
+pub mod RoundTrip

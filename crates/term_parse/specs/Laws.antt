@@ -1,14 +1,19 @@
 -- The laws of the grammar and its faults.
-use Rattle.std.specs.Prelude.{◌≡◌, ◌≢◌, ◌↔◌, ℕ, List, Ok, Err}
+use Rattle.std.specs.Prelude.{◌≡◌, ◌≢◌, ◌↔◌, ◌≤◌, ℕ, List, [], length, Ok, Err}
 use Rattle.effect_term.specs.declared.term.Kind.{Kind}
 use Rattle.effect_term.specs.declared.term.Name.{Name}
+use Rattle.effect_term.specs.declared.term.Term.{Term}
+use Rattle.effect_term.specs.Kinds.{WellKinded}
+use Rattle.effect_term.specs.Sizes.{nest_of}
 use Rattle.term_parse.specs.declared.error.ParseError.{ParseError}
 use Rattle.term_parse.specs.declared.error.ParseError.TheVariants as errors
-use Rattle.term_parse.specs.Atoms.{Atom}
+use Rattle.term_parse.specs.Atoms.{Atom, atoms_of}
 use Rattle.term_parse.specs.Reading.{Bound, meaning, reading}
 use Rattle.term_parse.specs.Faults.{IsFaultOf}
 use Rattle.term_parse.specs.Grammar.{Spells}
+use Rattle.term_parse.specs.Numbers.{NumbersFit}
 use Rattle.term_parse.specs.Scopes.{Unspelled, IsInnermost}
+use Rattle.term_parse.specs.Spelling.{canonical}
 
 -- no two faults, and no fault at two places, are the first
 abbrev pub OneFirstFault : Type 0
@@ -39,3 +44,9 @@ abbrev pub OtherKindIsRefused : Type 0
 OtherKindIsRefused =
     (scope : List Bound) (kind : Kind) (x : List ℕ) (at : ℕ) →
     ((n : Name) × IsInnermost scope x n × (n.kind ≢ kind)) ↔ (meaning scope kind x at ≡ Err (errors.NameKind at))
+
+-- the canonical spelling of a closed, well-kinded term within the limits is read as that term
+abbrev pub CanonicalIsRead : Type 0
+CanonicalIsRead =
+    (t : Term) → WellKinded [] t → NumbersFit (atoms_of t) → nest_of t ≤ 100 → length (canonical t) ≤ 65536 →
+    reading (canonical t) ≡ Ok (atoms_of t)

@@ -5,3 +5,6 @@ pub mod Faults
 pub mod Grammar
 pub mod Scopes
 pub mod Laws
+pub mod Spelling
+pub mod Pieces
+pub mod Numbers

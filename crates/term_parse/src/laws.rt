@@ -1,8 +1,9 @@
-//! The laws of the text: its first fault is unique, and reading is the grammar.
+//! The laws of the text: its first fault is unique, reading is the grammar, and what is printed is
+//! read back.
 //!
 //! Each function does nothing. Its contract is the law, so that a caller can use it.
 
-ghost use Rattle.term_parse.specs.Laws.{OneFirstFault, FirstFaultIsRead, SpelledIsRead, InnermostIsMeant, UnboundIsUnknown, OtherKindIsRefused};
+ghost use Rattle.term_parse.specs.Laws.{OneFirstFault, FirstFaultIsRead, SpelledIsRead, InnermostIsMeant, UnboundIsUnknown, OtherKindIsRefused, CanonicalIsRead};
 
 /// A text has at most one first fault, at one place, and reading the text gives it.
 pub fn first_fault_law()
@@ -23,4 +24,10 @@ pub fn names_law()
     ensures meant { InnermostIsMeant }
     ensures unknown { UnboundIsUnknown }
     ensures refused { OtherKindIsRefused }
+{}
+
+/// The canonical spelling of a closed, well-kinded term is read as that term, if its brackets go at
+/// most 100 deep and the spelling has at most 65,536 bytes. Its numbers are those of an `i32`.
+pub fn round_trip_law()
+    ensures { CanonicalIsRead }
 {}

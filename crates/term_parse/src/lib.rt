@@ -5,7 +5,9 @@
 
 mod error;
 pub mod laws;
+mod printer;
 mod table;
 
 pub use error::ParseError;
+pub use printer::print;
 pub use table::{Part, Row, SPELLINGS, TABLE, Word};
