@@ -7,6 +7,7 @@ pub mod ScopeLaws
 pub mod TermRows
 pub mod Weights
 pub mod Parts
+pub mod PrintedNumbers
 pub mod Tokens
 pub mod CanonicalScopes
 pub mod ReadBack

@@ -1,9 +1,13 @@
 //! Printing: the canonical spelling of a term, by the table.
 
 ghost use Rattle.std.specs.Prelude.{◌≡◌, ◌≤◌, ◌+◌, ◌++◌, ◌∷◌, [], OnOk, IfOk, slice_get, vec_len, length};
-ghost use Rattle.term_parse.specs.Atoms.{atoms_of, ended, word as a_word};
+ghost use Rattle.effect_term.specs.Kinds.{WellKinded};
+ghost use Rattle.effect_term.specs.Sizes.{nest_of};
+ghost use Rattle.term_parse.specs.Atoms.{atoms_of, ended, word as a_word, value as a_value};
+ghost use Rattle.term_parse.specs.Grammar.{Spells};
+ghost use Rattle.term_parse.specs.Numbers.{NumbersFit};
 ghost use Rattle.term_parse.specs.Spelling.{name_spelling, operand_spelling, letter_of, parts_of, word_spelling, piece_spelling, parts_spelling, more_spelling, binders_of, outer_binders, form, spelling, canonical};
-ghost use Rattle.term_parse.specs.Pieces.{piece_of, pieces_of, terms_spelled, terms_atoms, pieces_atoms, Suffice};
+ghost use Rattle.term_parse.specs.Pieces.{piece_of, pieces_of, terms_spelled, terms_atoms, piece_atoms, pieces_atoms, Suffice};
 
 use crate::table::{Part, SPELLINGS, TABLE, Word};
 use effect_term::{Kind, Name, Operand, Term};
@@ -26,253 +30,71 @@ struct Form<'a> {
     more: &'a [Term],
 }
 
+// A form of this word with these pieces.
+macro_rules! form_with {
+    ($word:ident) => {
+        Form { word: Word::$word, pieces: [None, None, None, None, None], more: &[] }
+    };
+    ($word:ident, $a:expr) => {
+        Form { word: Word::$word, pieces: [Some($a), None, None, None, None], more: &[] }
+    };
+    ($word:ident, $a:expr, $b:expr) => {
+        Form { word: Word::$word, pieces: [Some($a), Some($b), None, None, None], more: &[] }
+    };
+    ($word:ident, $a:expr, $b:expr, $c:expr) => {
+        Form { word: Word::$word, pieces: [Some($a), Some($b), Some($c), None, None], more: &[] }
+    };
+    ($word:ident, $a:expr, $b:expr, $c:expr, $d:expr) => {
+        Form { word: Word::$word, pieces: [Some($a), Some($b), Some($c), Some($d), None], more: &[] }
+    };
+    ($word:ident, $a:expr, $b:expr, $c:expr, $d:expr, $e:expr) => {
+        Form { word: Word::$word, pieces: [Some($a), Some($b), Some($c), Some($d), Some($e)], more: &[] }
+    };
+}
+
 // The form of a term.
 #[tactic(auto, unfolding(crate::specs::Spelling::parts_of))]
 fn form_of(term: &Term) -> Form<'_>
     ensures spelled { spelling term.now ≡ form result.word (pieces_of result.pieces) (terms_spelled result.more.now) }
     ensures atoms { atoms_of term.now ≡ a_word result.word ∷ pieces_atoms result.pieces (terms_atoms result.more.now (ended ∷ [])) }
-    ensures enough { Suffice (parts_of result.word) result.pieces }
+    ensures enough { Suffice (parts_of result.word) result.pieces result.more.now }
 {
     match term {
-        Term::Pure(v) => Form {
-            word: Word::Pure,
-            pieces: [Some(Piece::Value(*v)), None, None, None, None],
-            more: &[],
-        },
-        Term::Raise(v) => Form {
-            word: Word::Raise,
-            pieces: [Some(Piece::Value(*v)), None, None, None, None],
-            more: &[],
-        },
-        Term::Let(e, k) => Form {
-            word: Word::Let,
-            pieces: [Some(Piece::Term(e)), Some(Piece::Term(k)), None, None, None],
-            more: &[],
-        },
+        Term::Pure(v) => form_with!(Pure, Piece::Value(*v)),
+        Term::Raise(v) => form_with!(Raise, Piece::Value(*v)),
+        Term::Let(e, k) => form_with!(Let, Piece::Term(e), Piece::Term(k)),
         Term::Seq(a, b, more) => Form {
             word: Word::Seq,
             pieces: [Some(Piece::Term(a)), Some(Piece::Term(b)), None, None, None],
             more,
         },
-        Term::Handle(e, h) => Form {
-            word: Word::Handle,
-            pieces: [Some(Piece::Term(e)), Some(Piece::Term(h)), None, None, None],
-            more: &[],
-        },
-        Term::If0(v, s, e) => Form {
-            word: Word::If0,
-            pieces: [
-                Some(Piece::Value(*v)),
-                Some(Piece::Term(s)),
-                Some(Piece::Term(e)),
-                None,
-                None,
-            ],
-            more: &[],
-        },
-        Term::Add(v, w) => Form {
-            word: Word::Add,
-            pieces: [
-                Some(Piece::Value(*v)),
-                Some(Piece::Value(*w)),
-                None,
-                None,
-                None,
-            ],
-            more: &[],
-        },
-        Term::Say(v) => Form {
-            word: Word::Say,
-            pieces: [Some(Piece::Value(*v)), None, None, None, None],
-            more: &[],
-        },
-        Term::Cede => Form {
-            word: Word::Cede,
-            pieces: [None, None, None, None, None],
-            more: &[],
-        },
-        Term::Never => Form {
-            word: Word::Never,
-            pieces: [None, None, None, None, None],
-            more: &[],
-        },
-        Term::Canceled => Form {
-            word: Word::Canceled,
-            pieces: [None, None, None, None, None],
-            more: &[],
-        },
-        Term::Uncancelable(e) => Form {
-            word: Word::Uncancelable,
-            pieces: [Some(Piece::Term(e)), None, None, None, None],
-            more: &[],
-        },
-        Term::Poll(p, e) => Form {
-            word: Word::Poll,
-            pieces: [
-                Some(Piece::Name(*p)),
-                Some(Piece::Term(e)),
-                None,
-                None,
-                None,
-            ],
-            more: &[],
-        },
-        Term::OnCancel(e, fin) => Form {
-            word: Word::OnCancel,
-            pieces: [
-                Some(Piece::Term(e)),
-                Some(Piece::Term(fin)),
-                None,
-                None,
-                None,
-            ],
-            more: &[],
-        },
-        Term::Start(e, k) => Form {
-            word: Word::Start,
-            pieces: [Some(Piece::Term(e)), Some(Piece::Term(k)), None, None, None],
-            more: &[],
-        },
-        Term::Join(f, s, e, c) => Form {
-            word: Word::Join,
-            pieces: [
-                Some(Piece::Name(*f)),
-                Some(Piece::Term(s)),
-                Some(Piece::Term(e)),
-                Some(Piece::Term(c)),
-                None,
-            ],
-            more: &[],
-        },
-        Term::Cancel(f) => Form {
-            word: Word::Cancel,
-            pieces: [Some(Piece::Name(*f)), None, None, None, None],
-            more: &[],
-        },
-        Term::Ref(v, k) => Form {
-            word: Word::Ref,
-            pieces: [
-                Some(Piece::Value(*v)),
-                Some(Piece::Term(k)),
-                None,
-                None,
-                None,
-            ],
-            more: &[],
-        },
-        Term::Get(r) => Form {
-            word: Word::Get,
-            pieces: [Some(Piece::Name(*r)), None, None, None, None],
-            more: &[],
-        },
-        Term::Set(r, v) => Form {
-            word: Word::Set,
-            pieces: [
-                Some(Piece::Name(*r)),
-                Some(Piece::Value(*v)),
-                None,
-                None,
-                None,
-            ],
-            more: &[],
-        },
-        Term::Modify(r, v) => Form {
-            word: Word::Modify,
-            pieces: [
-                Some(Piece::Name(*r)),
-                Some(Piece::Value(*v)),
-                None,
-                None,
-                None,
-            ],
-            more: &[],
-        },
-        Term::Deferred(k) => Form {
-            word: Word::Deferred,
-            pieces: [Some(Piece::Term(k)), None, None, None, None],
-            more: &[],
-        },
-        Term::Complete(d, v) => Form {
-            word: Word::Complete,
-            pieces: [
-                Some(Piece::Name(*d)),
-                Some(Piece::Value(*v)),
-                None,
-                None,
-                None,
-            ],
-            more: &[],
-        },
-        Term::Await(d) => Form {
-            word: Word::Await,
-            pieces: [Some(Piece::Name(*d)), None, None, None, None],
-            more: &[],
-        },
-        Term::Repeat(v, e) => Form {
-            word: Word::Repeat,
-            pieces: [
-                Some(Piece::Value(*v)),
-                Some(Piece::Term(e)),
-                None,
-                None,
-                None,
-            ],
-            more: &[],
-        },
-        Term::Forever(e) => Form {
-            word: Word::Forever,
-            pieces: [Some(Piece::Term(e)), None, None, None, None],
-            more: &[],
-        },
-        Term::Guarantee(e, fin) => Form {
-            word: Word::Guarantee,
-            pieces: [
-                Some(Piece::Term(e)),
-                Some(Piece::Term(fin)),
-                None,
-                None,
-                None,
-            ],
-            more: &[],
-        },
-        Term::Bracket(a, b, rel) => Form {
-            word: Word::Bracket,
-            pieces: [
-                Some(Piece::Term(a)),
-                Some(Piece::Term(b)),
-                Some(Piece::Term(rel)),
-                None,
-                None,
-            ],
-            more: &[],
-        },
-        Term::BracketCase(a, b, rs, re, rc) => Form {
-            word: Word::BracketCase,
-            pieces: [
-                Some(Piece::Term(a)),
-                Some(Piece::Term(b)),
-                Some(Piece::Term(rs)),
-                Some(Piece::Term(re)),
-                Some(Piece::Term(rc)),
-            ],
-            more: &[],
-        },
-        Term::Race(a, b) => Form {
-            word: Word::Race,
-            pieces: [Some(Piece::Term(a)), Some(Piece::Term(b)), None, None, None],
-            more: &[],
-        },
-        Term::Both(a, b, k) => Form {
-            word: Word::Both,
-            pieces: [
-                Some(Piece::Term(a)),
-                Some(Piece::Term(b)),
-                Some(Piece::Term(k)),
-                None,
-                None,
-            ],
-            more: &[],
-        },
+        Term::Handle(e, h) => form_with!(Handle, Piece::Term(e), Piece::Term(h)),
+        Term::If0(v, s, e) => form_with!(If0, Piece::Value(*v), Piece::Term(s), Piece::Term(e)),
+        Term::Add(v, w) => form_with!(Add, Piece::Value(*v), Piece::Value(*w)),
+        Term::Say(v) => form_with!(Say, Piece::Value(*v)),
+        Term::Cede => form_with!(Cede),
+        Term::Never => form_with!(Never),
+        Term::Canceled => form_with!(Canceled),
+        Term::Uncancelable(e) => form_with!(Uncancelable, Piece::Term(e)),
+        Term::Poll(p, e) => form_with!(Poll, Piece::Name(*p), Piece::Term(e)),
+        Term::OnCancel(e, fin) => form_with!(OnCancel, Piece::Term(e), Piece::Term(fin)),
+        Term::Start(e, k) => form_with!(Start, Piece::Term(e), Piece::Term(k)),
+        Term::Join(f, s, e, c) => form_with!(Join, Piece::Name(*f), Piece::Term(s), Piece::Term(e), Piece::Term(c)),
+        Term::Cancel(f) => form_with!(Cancel, Piece::Name(*f)),
+        Term::Ref(v, k) => form_with!(Ref, Piece::Value(*v), Piece::Term(k)),
+        Term::Get(r) => form_with!(Get, Piece::Name(*r)),
+        Term::Set(r, v) => form_with!(Set, Piece::Name(*r), Piece::Value(*v)),
+        Term::Modify(r, v) => form_with!(Modify, Piece::Name(*r), Piece::Value(*v)),
+        Term::Deferred(k) => form_with!(Deferred, Piece::Term(k)),
+        Term::Complete(d, v) => form_with!(Complete, Piece::Name(*d), Piece::Value(*v)),
+        Term::Await(d) => form_with!(Await, Piece::Name(*d)),
+        Term::Repeat(v, e) => form_with!(Repeat, Piece::Value(*v), Piece::Term(e)),
+        Term::Forever(e) => form_with!(Forever, Piece::Term(e)),
+        Term::Guarantee(e, fin) => form_with!(Guarantee, Piece::Term(e), Piece::Term(fin)),
+        Term::Bracket(a, b, rel) => form_with!(Bracket, Piece::Term(a), Piece::Term(b), Piece::Term(rel)),
+        Term::BracketCase(a, b, rs, re, rc) => form_with!(BracketCase, Piece::Term(a), Piece::Term(b), Piece::Term(rs), Piece::Term(re), Piece::Term(rc)),
+        Term::Race(a, b) => form_with!(Race, Piece::Term(a), Piece::Term(b)),
+        Term::Both(a, b, k) => form_with!(Both, Piece::Term(a), Piece::Term(b), Piece::Term(k)),
     }
 }
 
@@ -317,7 +139,8 @@ fn write_name(out: &mut Vec<u8>, kind: Kind, slot: usize) -> Result<(), AllocErr
 
 // Writes a number or the name of a value.
 fn write_operand(out: &mut Vec<u8>, operand: Operand) -> Result<(), AllocError>
-    ensures { OnOk result (out.new.items ≡ out.old.items ++ operand_spelling operand) }
+    ensures text { OnOk result (out.new.items ≡ out.old.items ++ operand_spelling operand) }
+    ensures numbers { NumbersFit (a_value operand ∷ []) }
 {
     match operand {
         Operand::Number(n) => {
@@ -349,18 +172,8 @@ fn outer_binders(index: usize, parts: &[Part]) -> usize
         return 0;
     };
     match part {
-        Part::UnderBoth(_, second) => if *second == index {
-            1
-        } else {
-            outer_binders(index, rest)
-        },
-        Part::Bind(_)
-        | Part::Use(_)
-        | Part::Value
-        | Part::Term
-        | Part::Under(_)
-        | Part::More
-        | Part::Close => outer_binders(index, rest),
+        Part::UnderBoth(_, second) => if *second == index { 1 } else { outer_binders(index, rest) },
+        Part::Bind(_) | Part::Use(_) | Part::Value | Part::Term | Part::Under(_) | Part::More | Part::Close => outer_binders(index, rest),
     }
 }
 
@@ -372,35 +185,23 @@ fn outer_binders(index: usize, parts: &[Part]) -> usize
 fn write_term(out: &mut Vec<u8>, term: &Term, around: usize) -> Result<(), AllocError>
     requires { around ≤ vec_len out.old }
     ensures text { OnOk result (out.new.items ≡ out.old.items ++ spelling term.now around) }
+    ensures numbers { OnOk result (NumbersFit (atoms_of term.now)) }
     ensures longer { OnOk result (vec_len out.old ≤ vec_len out.new) }
 {
     let form = form_of(term);
     out.push(b'(')?;
     out.extend_from_slice(spelling_of(form.word))?;
-    write_parts(
-        out,
-        &parts_of(form.word),
-        &form.pieces,
-        form.more,
-        around,
-        0,
-    )
+    write_parts(out, &parts_of(form.word), &form.pieces, form.more, around, 0)
 }
 
 // Writes the rest of a form, before which so many of its own binders stand.
 #[cycle(writing)]
-fn write_parts(
-    out: &mut Vec<u8>,
-    parts: &[Part],
-    pieces: &[Option<Piece<'_>>],
-    more: &[Term],
-    around: usize,
-    bound: usize,
-) -> Result<(), AllocError>
+fn write_parts(out: &mut Vec<u8>, parts: &[Part], pieces: &[Option<Piece<'_>>], more: &[Term], around: usize, bound: usize) -> Result<(), AllocError>
     requires room { around + 2 ≤ vec_len out.old }
     requires few { bound + length parts.now ≤ 9 }
-    requires enough { Suffice parts.now pieces.now }
+    requires enough { Suffice parts.now pieces.now more.now }
     ensures text { OnOk result (out.new.items ≡ out.old.items ++ parts_spelling around bound parts.now (pieces_of pieces.now) (terms_spelled more.now)) }
+    ensures numbers { OnOk result (NumbersFit (pieces_atoms pieces.now (terms_atoms more.now (ended ∷ [])))) }
     ensures longer { OnOk result (vec_len out.old ≤ vec_len out.new) }
 {
     let [part, rest @ ..] = parts else {
@@ -436,14 +237,10 @@ fn write_parts(
 
 // Writes a piece of a form.
 #[cycle(writing)]
-fn write_piece(
-    out: &mut Vec<u8>,
-    part: Part,
-    piece: Piece<'_>,
-    around: usize,
-) -> Result<(), AllocError>
+fn write_piece(out: &mut Vec<u8>, part: Part, piece: Piece<'_>, around: usize) -> Result<(), AllocError>
     requires { around + 2 ≤ vec_len out.old }
     ensures text { OnOk result (out.new.items ≡ out.old.items ++ piece_spelling around part (piece_of piece.entry)) }
+    ensures numbers { OnOk result (NumbersFit (piece_atoms piece.entry)) }
     ensures longer { OnOk result (vec_len out.old ≤ vec_len out.new) }
 {
     match piece {
@@ -462,6 +259,7 @@ fn write_piece(
 fn write_more(out: &mut Vec<u8>, terms: &[Term], around: usize) -> Result<(), AllocError>
     requires { around ≤ vec_len out.old }
     ensures text { OnOk result (out.new.items ≡ out.old.items ++ more_spelling around (terms_spelled terms.now)) }
+    ensures numbers { OnOk result (NumbersFit (terms_atoms terms.now (ended ∷ []))) }
     ensures longer { OnOk result (vec_len out.old ≤ vec_len out.new) }
 {
     let [term, rest @ ..] = terms else {
@@ -475,8 +273,13 @@ fn write_more(out: &mut Vec<u8>, terms: &[Term], around: usize) -> Result<(), Al
 
 /// Writes a term in its canonical spelling: one space between parts and none inside the brackets,
 /// and each name as the letter of its kind (`v`, `p`, `f`, `r` or `d`) followed by its slot.
+///
+/// The text of a closed, well-kinded term spells that term again, if the term is at most 100 words
+/// deep and the text has at most 65,536 bytes.
 pub fn print(alloc: Global, term: &Term) -> Result<Vec<u8>, AllocError>
-    ensures { IfOk result (λ text. text.items ≡ canonical term.now) }
+    ensures canonical { IfOk result (λ text. text.items ≡ canonical term.now) }
+    ensures read_back { IfOk result (λ text.
+        WellKinded [] term.now → nest_of term.now ≤ 100 → length text.items ≤ 65536 → Spells text.items (atoms_of term.now)) }
 {
     let mut text = Vec::new(alloc);
     write_term(&mut text, term, 0)?;
