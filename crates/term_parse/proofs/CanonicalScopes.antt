@@ -6,7 +6,7 @@ use Rattle.effect_term.specs.declared.term.Name.{Name}
 use Rattle.term_parse.specs.declared.table.Part.{Part}
 use Rattle.term_parse.specs.declared.table.Part.TheVariants.{Bind, Use, Value, Term, Under, UnderBoth, More, Close}
 use Rattle.term_parse.specs.Reading.{Bound, meaning, picked, entered}
-use Rattle.term_parse.specs.Scopes.{Unspelled, IsInnermost}
+use Rattle.term_parse.specs.Innermost.{Unspelled, IsInnermost}
 use Rattle.term_parse.specs.Spelling.{name_spelling, outer_binders}
 use Rattle.term_parse.proofs.ScopeLaws.{meaning-from_innermost}
 

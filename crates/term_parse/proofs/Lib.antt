@@ -12,3 +12,8 @@ pub mod Tokens
 pub mod CanonicalScopes
 pub mod ReadBack
 pub mod RoundTrip
+pub mod Lexing
+pub mod Steps
+pub mod Tables
+pub mod Stacks
+pub mod Builds

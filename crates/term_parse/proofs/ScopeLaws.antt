@@ -8,7 +8,7 @@ use Rattle.effect_term.specs.declared.term.Kind.TheVariants as kinds
 use Rattle.effect_term.specs.declared.term.Name.{Name}
 use Rattle.term_parse.specs.declared.error.ParseError.TheVariants as errors
 use Rattle.term_parse.specs.Reading.{Bound, find_from, same_kind, meaning}
-use Rattle.term_parse.specs.Scopes.{Unspelled, IsInnermost}
+use Rattle.term_parse.specs.Innermost.{Unspelled, IsInnermost}
 
 -- the innermost binder, where the scope's first has this slot
 record IsInnermostFrom (from : ℕ) (scope : List Bound) (x : List ℕ) (n : Name) : Type 0 where

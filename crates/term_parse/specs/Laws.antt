@@ -12,7 +12,7 @@ use Rattle.term_parse.specs.Reading.{Bound, meaning, reading}
 use Rattle.term_parse.specs.Faults.{IsFaultOf}
 use Rattle.term_parse.specs.Grammar.{Spells}
 use Rattle.term_parse.specs.Numbers.{NumbersFit}
-use Rattle.term_parse.specs.Scopes.{Unspelled, IsInnermost}
+use Rattle.term_parse.specs.Innermost.{Unspelled, IsInnermost}
 use Rattle.term_parse.specs.Spelling.{canonical}
 
 -- no two faults, and no fault at two places, are the first

@@ -1,9 +1,12 @@
 pub mod Atoms
 pub mod Lexemes
 pub mod Reading
+pub mod Seen
+pub mod Scopes
+pub mod Forms
 pub mod Faults
 pub mod Grammar
-pub mod Scopes
+pub mod Innermost
 pub mod Laws
 pub mod Spelling
 pub mod Pieces

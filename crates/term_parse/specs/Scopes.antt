@@ -1,20 +1,16 @@
--- The innermost binder of a spelling, in plain words.
-use Rattle.std.specs.Prelude.{◌≡◌, ◌≢◌, ℕ, List, [], ◌∷◌, ◌++◌, length}
-use Rattle.effect_term.specs.declared.term.Name.{Name}
+-- The binders in scope, as the parser keeps them.
+use Rattle.std.specs.Prelude.{◌≤◌, ℕ, List, [], ◌∷◌, length, slice_range}
+use Rattle.term_parse.specs.declared.scope.Binding.{Binding}
 use Rattle.term_parse.specs.Reading.{Bound}
 
--- none of these binders is spelled so
-abbrev pub Unspelled : List Bound → List ℕ → Type 0
-Unspelled [] x = Unit {0}
-Unspelled (b ∷ bs) x = (b.spelling ≢ x) × Unspelled bs x
+abbrev pub bound_of : List ℕ → Binding → Bound
+bound_of text b = record { spelling = slice_range text b.start b.end; kind = b.kind }
 
--- the name is that of a binder of this spelling, and nothing of that spelling stands behind it
-pub record IsInnermost (scope : List Bound) (x : List ℕ) (n : Name) : Type 0 where
-  pub before : List Bound
-  pub binder : Bound
-  pub behind : List Bound
-  pub scope_is : scope ≡ before ++ binder ∷ behind
-  pub spelled : binder.spelling ≡ x
-  pub unshadowed : Unspelled behind x
-  pub slot_is : n.slot ≡ length before
-  pub kind_is : n.kind ≡ binder.kind
+abbrev pub bounds : List ℕ → List Binding → List Bound
+bounds text [] = []
+bounds text (b ∷ bs) = bound_of text b ∷ bounds text bs
+
+-- the spellings stand within the text
+abbrev pub InText : List ℕ → List Binding → Type 0
+InText text [] = Unit {0}
+InText text (b ∷ bs) = (b.start ≤ b.end) × (b.end ≤ length text) × InText text bs

@@ -3,11 +3,21 @@
 //! The crate stands on `effect_term`. One table of signatures says what stands in each form.
 #![tactic(auto)]
 
+mod build;
 mod error;
+mod form;
 pub mod laws;
+#[cfg(test)]
+mod printed_terms;
 mod printer;
+mod reader;
+mod scope;
 mod table;
+#[cfg(test)]
+mod tests;
+mod token;
 
 pub use error::ParseError;
 pub use printer::print;
+pub use reader::parse;
 pub use table::{Part, Row, SPELLINGS, TABLE, Word};
