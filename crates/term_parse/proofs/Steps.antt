@@ -25,7 +25,7 @@ use Rattle.term_parse.specs.Atoms.{Atom, word, value, name, ended, atoms_of}
 use Rattle.term_parse.specs.Lexemes.{Lexeme, opens, closes, called, number, bad_number, bad_byte, lexemes_at}
 use Rattle.term_parse.specs.Reading.{Bound, Want, term, a_word, parts, Step, want_step, part_step, begun, used, opening, entered, meaning, row_of, open_of, with_front, reads, reads_at}
 use Rattle.term_parse.specs.Seen.{seen, seen_kind, IsNext, IsGood}
-use Rattle.term_parse.specs.Scopes.{bounds, bound_of, InText}
+use Rattle.term_parse.specs.Bindings.{bounds, bound_of, InText}
 use Rattle.term_parse.specs.Forms.{Sort, a_name, a_value, a_term, sorts, sort_of, pieces_atoms, piece_atoms, Completes, Shaped, Tabled, Sound, Awaits, want_of, front_of, NextIs, Adds, IsTermPart, IsOneTerm, after, FailsAt, Reads, Opens, Closes}
 
 pub read_step : (text : List ℕ) (at : ℕ) (t : Token) (w : Want) (todo : List Want) (s : Step) → IsNext text at t → want_step (open_of (w ∷ todo)) w (seen text t) t.start ≡ Ok s → reads_at text at (w ∷ todo) ≡ with_front s.atoms (reads_at text t.end (s.wants ++ todo))

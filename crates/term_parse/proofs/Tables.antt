@@ -7,7 +7,7 @@ use Rattle.term_parse.specs.declared.table.Row.{Row}
 use Rattle.term_parse.specs.declared.table.TheConstants.{TABLE, SPELLINGS}
 use Rattle.term_parse.specs.declared.scope.Binding.{Binding}
 use Rattle.term_parse.specs.Reading.{Bound, row_among, row_of, picked}
-use Rattle.term_parse.specs.Scopes.{bounds, bound_of, InText}
+use Rattle.term_parse.specs.Bindings.{bounds, bound_of, InText}
 use Rattle.term_parse.specs.Forms.{Sort, a_name, a_value, a_term, Tabled}
 use Rattle.term_parse.proofs.Steps.{bounds-append, in_text-append}
 

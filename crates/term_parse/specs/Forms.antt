@@ -18,7 +18,7 @@ use Rattle.term_parse.specs.declared.reader.Turn.{Turn}
 use Rattle.term_parse.specs.declared.reader.Turn.TheVariants as turns
 use Rattle.term_parse.specs.Atoms.{Atom, word, value, name, ended, atoms_of}
 use Rattle.term_parse.specs.Reading.{Bound, Want, term, a_word, parts, open_of, with_front, reads_at, Fails}
-use Rattle.term_parse.specs.Scopes.{bounds, InText}
+use Rattle.term_parse.specs.Bindings.{bounds, InText}
 
 -- what kind of piece a part gives
 pub data Sort : Type 0 where

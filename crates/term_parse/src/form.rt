@@ -85,18 +85,11 @@ pub(crate) fn word(text: &[u8], at: usize) -> Result<(Row, usize), ParseError>
 }
 
 /// Reads a binder.
-fn bind(
-    text: &[u8],
-    at: usize,
-    mut form: Form,
-    token: Token,
-    kind: Kind,
-) -> Result<Step, ParseError>
-    requires token { IsNext text.now at token }
+fn bind(mut form: Form, token: Token, kind: Kind) -> Result<Step, ParseError>
     requires good { IsGood token.kind }
     requires part { NextIs form (Part.Bind kind) }
-    ensures found { (depth : ℕ) → IfOk result (Stepped text.now at depth form) }
-    ensures fault { (depth : ℕ) → IfErr result (FailsAt text.now at depth form) }
+    ensures found { (text : List ℕ) (at depth : ℕ) → IsNext text at token → IfOk result (Stepped text at depth form) }
+    ensures fault { (text : List ℕ) (at depth : ℕ) → IsNext text at token → IfErr result (FailsAt text at depth form) }
 {
     let TokenKind::Called = token.kind else {
         return Err(ParseError::Arity(token.start));
@@ -120,20 +113,14 @@ pub(crate) fn with_piece(mut form: Form, piece: Piece, next: usize) -> Result<Fo
 }
 
 /// Reads a use of a name.
-fn use_name(
-    text: &[u8],
-    at: usize,
-    form: Form,
-    token: Token,
-    kind: Kind,
-) -> Result<Step, ParseError>
-    requires token { IsNext text.now at token }
+fn use_name(text: &[u8], form: Form, token: Token, kind: Kind) -> Result<Step, ParseError>
+    requires within { (token.start ≤ token.end) × (token.end ≤ length text.now) }
     requires good { IsGood token.kind }
     requires part { NextIs form (Part.Use kind) }
     requires sound { Sound text.now form }
     requires few { length form.scope.items < 2 ^ 32 }
-    ensures found { (depth : ℕ) → IfOk result (Stepped text.now at depth form) }
-    ensures fault { (depth : ℕ) → IfErr result (FailsAt text.now at depth form) }
+    ensures found { (at depth : ℕ) → IsNext text.now at token → IfOk result (Stepped text.now at depth form) }
+    ensures fault { (at depth : ℕ) → IsNext text.now at token → IfErr result (FailsAt text.now at depth form) }
 {
     let TokenKind::Called = token.kind else {
         return Err(ParseError::Arity(token.start));
@@ -155,34 +142,34 @@ fn number(n: i32) -> Operand
 }
 
 /// Reads a number or a use of a value's name.
-fn value(text: &[u8], at: usize, form: Form, token: Token) -> Result<Step, ParseError>
-    requires token { IsNext text.now at token }
+fn value(text: &[u8], form: Form, token: Token) -> Result<Step, ParseError>
+    requires within { (token.start ≤ token.end) × (token.end ≤ length text.now) }
     requires good { IsGood token.kind }
     requires part { NextIs form Part.Value }
     requires sound { Sound text.now form }
     requires few { length form.scope.items < 2 ^ 32 }
-    ensures found { (depth : ℕ) → IfOk result (Stepped text.now at depth form) }
-    ensures fault { (depth : ℕ) → IfErr result (FailsAt text.now at depth form) }
+    ensures found { (at depth : ℕ) → IsNext text.now at token → IfOk result (Stepped text.now at depth form) }
+    ensures fault { (at depth : ℕ) → IsNext text.now at token → IfErr result (FailsAt text.now at depth form) }
 {
     match token.kind {
         TokenKind::Number(n) => {
             let next = form.next + 1;
             Ok(Step::Read(with_piece(form, Piece::Value(number(n)), next)?, token.end))
         }
-        TokenKind::Called => named_value(text, at, form, token),
+        TokenKind::Called => named_value(text, form, token),
         _ => Err(ParseError::Arity(token.start)),
     }
 }
 
 /// Reads a use of a value's name.
-fn named_value(text: &[u8], at: usize, form: Form, token: Token) -> Result<Step, ParseError>
-    requires token { IsNext text.now at token }
+fn named_value(text: &[u8], form: Form, token: Token) -> Result<Step, ParseError>
+    requires within { (token.start ≤ token.end) × (token.end ≤ length text.now) }
     requires called { token.kind ≡ TokenKind.Called }
     requires part { NextIs form Part.Value }
     requires sound { Sound text.now form }
     requires few { length form.scope.items < 2 ^ 32 }
-    ensures found { (depth : ℕ) → IfOk result (Stepped text.now at depth form) }
-    ensures fault { (depth : ℕ) → IfErr result (FailsAt text.now at depth form) }
+    ensures found { (at depth : ℕ) → IsNext text.now at token → IfOk result (Stepped text.now at depth form) }
+    ensures fault { (at depth : ℕ) → IsNext text.now at token → IfErr result (FailsAt text.now at depth form) }
 {
     let spelling = &text[token.start..token.end];
     match meaning(text, &form.scope, Kind::Value, spelling, token.start) {
@@ -201,20 +188,19 @@ fn named_value(text: &[u8], at: usize, form: Form, token: Token) -> Result<Step,
 fn open(
     alloc: Global,
     text: &[u8],
-    at: usize,
     mut form: Form,
     token: Token,
     part: Part,
     rest: usize,
     depth: usize,
 ) -> Result<Step, ParseError>
-    requires token { IsNext text.now at token }
+    requires within { token.end ≤ length text.now }
     requires opens { token.kind ≡ TokenKind.Open }
     requires part { NextIs form part }
     requires term { IsTermPart part }
     requires rest { drop rest form.row.parts ≡ after part (drop (form.next + 1) form.row.parts) }
-    ensures found { IfOk result (Stepped text.now at depth form) }
-    ensures fault { IfErr result (FailsAt text.now at depth form) }
+    ensures found { (at : ℕ) → IsNext text.now at token → IfOk result (Stepped text.now at depth form) }
+    ensures fault { (at : ℕ) → IsNext text.now at token → IfErr result (FailsAt text.now at depth form) }
 {
     if depth >= MOST_OPEN {
         return Err(ParseError::TooDeep(token.start));
@@ -240,45 +226,43 @@ fn open(
 fn one_term(
     alloc: Global,
     text: &[u8],
-    at: usize,
     form: Form,
     token: Token,
     part: Part,
     depth: usize,
 ) -> Result<Step, ParseError>
-    requires token { IsNext text.now at token }
+    requires within { token.end ≤ length text.now }
     requires good { IsGood token.kind }
     requires part { NextIs form part }
     requires term { IsOneTerm part }
-    ensures found { IfOk result (Stepped text.now at depth form) }
-    ensures fault { IfErr result (FailsAt text.now at depth form) }
+    ensures found { (at : ℕ) → IsNext text.now at token → IfOk result (Stepped text.now at depth form) }
+    ensures fault { (at : ℕ) → IsNext text.now at token → IfErr result (FailsAt text.now at depth form) }
 {
     let TokenKind::Open = token.kind else {
         return Err(ParseError::Arity(token.start));
     };
     let rest = form.next + 1;
-    open(alloc, text, at, form, token, part, rest, depth)
+    open(alloc, text, form, token, part, rest, depth)
 }
 
 /// Reads one more term's opening bracket, or the closing bracket.
 fn more_terms(
     alloc: Global,
     text: &[u8],
-    at: usize,
     form: Form,
     token: Token,
     depth: usize,
 ) -> Result<Step, ParseError>
-    requires token { IsNext text.now at token }
+    requires within { token.end ≤ length text.now }
     requires good { IsGood token.kind }
     requires part { NextIs form Part.More }
-    ensures found { IfOk result (Stepped text.now at depth form) }
-    ensures fault { IfErr result (FailsAt text.now at depth form) }
+    ensures found { (at : ℕ) → IsNext text.now at token → IfOk result (Stepped text.now at depth form) }
+    ensures fault { (at : ℕ) → IsNext text.now at token → IfErr result (FailsAt text.now at depth form) }
 {
     match token.kind {
         TokenKind::Open => {
             let rest = form.next;
-            open(alloc, text, at, form, token, Part::More, rest, depth)
+            open(alloc, text, form, token, Part::More, rest, depth)
         }
         TokenKind::Close => Ok(Step::Closed(form, token.end)),
         _ => Err(ParseError::Arity(token.start)),
@@ -286,15 +270,12 @@ fn more_terms(
 }
 
 /// Reads the closing bracket.
-fn close(text: &[u8], at: usize, form: Form, token: Token) -> Result<Step, ParseError>
-    requires token { IsNext text.now at token }
+fn close(form: Form, token: Token) -> Result<Step, ParseError>
     requires good { IsGood token.kind }
     requires part { NextIs form Part.Close }
-    ensures found { (depth : ℕ) → IfOk result (Stepped text.now at depth form) }
-    ensures fault { (depth : ℕ) → IfErr result (FailsAt text.now at depth form) }
+    ensures found { (text : List ℕ) (at depth : ℕ) → IsNext text at token → IfOk result (Stepped text at depth form) }
+    ensures fault { (text : List ℕ) (at depth : ℕ) → IsNext text at token → IfErr result (FailsAt text at depth form) }
 {
-    let _ = text;
-    let _ = at;
     let TokenKind::Close = token.kind else {
         return Err(ParseError::Arity(token.start));
     };
@@ -321,21 +302,13 @@ pub(crate) fn advance(
         return Err(ParseError::Arity(token.start));
     }
     match parts[form.next] {
-        Part::Bind(kind) => bind(text, at, form, token, kind),
-        Part::Use(kind) => use_name(text, at, form, token, kind),
-        Part::Value => value(text, at, form, token),
-        Part::Term => one_term(alloc, text, at, form, token, Part::Term, depth),
-        Part::Under(i) => one_term(alloc, text, at, form, token, Part::Under(i), depth),
-        Part::UnderBoth(i, j) => one_term(
-            alloc,
-            text,
-            at,
-            form,
-            token,
-            Part::UnderBoth(i, j),
-            depth,
-        ),
-        Part::More => more_terms(alloc, text, at, form, token, depth),
-        Part::Close => close(text, at, form, token),
+        Part::Bind(kind) => bind(form, token, kind),
+        Part::Use(kind) => use_name(text, form, token, kind),
+        Part::Value => value(text, form, token),
+        Part::Term => one_term(alloc, text, form, token, Part::Term, depth),
+        Part::Under(i) => one_term(alloc, text, form, token, Part::Under(i), depth),
+        Part::UnderBoth(i, j) => one_term(alloc, text, form, token, Part::UnderBoth(i, j), depth),
+        Part::More => more_terms(alloc, text, form, token, depth),
+        Part::Close => close(form, token),
     }
 }

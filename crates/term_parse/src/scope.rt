@@ -2,7 +2,7 @@
 
 ghost use Rattle.std.specs.Prelude.{◌≡◌, ◌≤◌, ◌+◌, ◌<◌, ◌^◌, ℕ, List, IfOk, IfSome, IfNone, ◌++◌, length, map};
 ghost use Rattle.term_parse.specs.Reading.{find_from, same_kind, meaning, entered, picked, row_among, row_of};
-ghost use Rattle.term_parse.specs.Scopes.{bounds, InText};
+ghost use Rattle.term_parse.specs.Bindings.{bounds, InText};
 
 use crate::error::ParseError;
 use crate::table::{Part, Row, SPELLINGS, TABLE};

@@ -9,13 +9,49 @@ returns-then-form-ge9-clause-fault c =
     fails_over c.args.text.now c.args.at c.args.form c.in_ok-token.token c.in_ok-token.ensures.found c.in_ok-token.ensures.good over c.args.depth
 
 pub returns-in-Bind-clause-found : goal.returns-in-Bind-clause-found
-returns-in-Bind-clause-found c = c.bind.ensures.found c.args.depth
+returns-in-Bind-clause-found c = c.bind.ensures.found c.args.text.now c.args.at c.args.depth c.in_ok-token.ensures.found
+
+pub returns-in-Bind-clause-fault : goal.returns-in-Bind-clause-fault
+returns-in-Bind-clause-fault c = c.bind.ensures.fault c.args.text.now c.args.at c.args.depth c.in_ok-token.ensures.found
 
 pub returns-in-Use-clause-found : goal.returns-in-Use-clause-found
-returns-in-Use-clause-found c = c.use_name.ensures.found c.args.depth
+returns-in-Use-clause-found c = c.use_name.ensures.found c.args.at c.args.depth c.in_ok-token.ensures.found
+
+pub returns-in-Use-clause-fault : goal.returns-in-Use-clause-fault
+returns-in-Use-clause-fault c = c.use_name.ensures.fault c.args.at c.args.depth c.in_ok-token.ensures.found
 
 pub returns-in-Value-clause-found : goal.returns-in-Value-clause-found
-returns-in-Value-clause-found c = c.value.ensures.found c.args.depth
+returns-in-Value-clause-found c = c.value.ensures.found c.args.at c.args.depth c.in_ok-token.ensures.found
+
+pub returns-in-Value-clause-fault : goal.returns-in-Value-clause-fault
+returns-in-Value-clause-fault c = c.value.ensures.fault c.args.at c.args.depth c.in_ok-token.ensures.found
+
+pub returns-in-Term-clause-found : goal.returns-in-Term-clause-found
+returns-in-Term-clause-found c = c.one_term.ensures.found c.args.at c.in_ok-token.ensures.found
+
+pub returns-in-Term-clause-fault : goal.returns-in-Term-clause-fault
+returns-in-Term-clause-fault c = c.one_term.ensures.fault c.args.at c.in_ok-token.ensures.found
+
+pub returns-in-Under-clause-found : goal.returns-in-Under-clause-found
+returns-in-Under-clause-found c = c.one_term-in-Under.ensures.found c.args.at c.in_ok-token.ensures.found
+
+pub returns-in-Under-clause-fault : goal.returns-in-Under-clause-fault
+returns-in-Under-clause-fault c = c.one_term-in-Under.ensures.fault c.args.at c.in_ok-token.ensures.found
+
+pub returns-in-UnderBoth-clause-found : goal.returns-in-UnderBoth-clause-found
+returns-in-UnderBoth-clause-found c = c.one_term-in-UnderBoth.ensures.found c.args.at c.in_ok-token.ensures.found
+
+pub returns-in-UnderBoth-clause-fault : goal.returns-in-UnderBoth-clause-fault
+returns-in-UnderBoth-clause-fault c = c.one_term-in-UnderBoth.ensures.fault c.args.at c.in_ok-token.ensures.found
+
+pub returns-in-More-clause-found : goal.returns-in-More-clause-found
+returns-in-More-clause-found c = c.more_terms.ensures.found c.args.at c.in_ok-token.ensures.found
+
+pub returns-in-More-clause-fault : goal.returns-in-More-clause-fault
+returns-in-More-clause-fault c = c.more_terms.ensures.fault c.args.at c.in_ok-token.ensures.found
 
 pub returns-in-Close-clause-found : goal.returns-in-Close-clause-found
-returns-in-Close-clause-found c = c.close.ensures.found c.args.depth
+returns-in-Close-clause-found c = c.close.ensures.found c.args.text.now c.args.at c.args.depth c.in_ok-token.ensures.found
+
+pub returns-in-Close-clause-fault : goal.returns-in-Close-clause-fault
+returns-in-Close-clause-fault c = c.close.ensures.fault c.args.text.now c.args.at c.args.depth c.in_ok-token.ensures.found

@@ -4,12 +4,12 @@ use Rattle.term_parse.proofs.form.use_name.Goals as goal
 
 pub returns-in_default : goal.returns-in_default
 returns-in_default c = record {
-  found = λ d. tt;
-  fault = fails_use c.args.text.now c.args.at c.args.form c.args.kind c.args.token c.requires.token c.requires.good c.requires.part c.in_default.not-Called;
+  found = λ at d n. tt;
+  fault = λ at d n. fails_use c.args.text.now at c.args.form c.args.kind c.args.token n c.requires.good c.requires.part c.in_default.not-Called d;
 }
 
 pub returns-in_ok-with_piece-in-Ok-clause-found : goal.returns-in_ok-with_piece-in-Ok-clause-found
-returns-in_ok-with_piece-in-Ok-clause-found c = λ d. (reads_name c.args.text.now c.args.at c.args.form c.in_ok-with_piece-in-Ok.field-0 c.args.kind c.args.token c.in-Ok.name c.requires.token c.in-Called.is c.requires.part (search rules) c.in_ok-with_piece-in-Ok.ensures, omega (arith, c.requires.token.later, c.requires.token.some), c.requires.token.within)
+returns-in_ok-with_piece-in-Ok-clause-found c = λ at d n. (reads_name c.args.text.now at c.args.form c.in_ok-with_piece-in-Ok.field-0 c.args.kind c.args.token c.in-Ok.name n c.in-Called.is c.requires.part (search rules) c.in_ok-with_piece-in-Ok.ensures, omega (arith, n.later, n.some), n.within)
 
 pub returns-in-Err-clause-fault : goal.returns-in-Err-clause-fault
-returns-in-Err-clause-fault c = fails_name c.args.text.now c.args.at c.args.form c.args.kind c.args.token c.in-Err.error c.requires.token c.in-Called.is c.requires.part (search rules)
+returns-in-Err-clause-fault c = λ at d n. fails_name c.args.text.now at c.args.form c.args.kind c.args.token c.in-Err.error n c.in-Called.is c.requires.part (search rules) d

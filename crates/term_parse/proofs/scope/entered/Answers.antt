@@ -1,5 +1,5 @@
 use Rattle.std.proofs.Common.{sym, subst}
-use Rattle.term_parse.specs.Scopes.{InText}
+use Rattle.term_parse.specs.Bindings.{InText}
 use Rattle.term_parse.proofs.scope.entered.Goals as goal
 
 pub returns-in_ok-inner-in-UnderBoth-clause-within : goal.returns-in_ok-inner-in-UnderBoth-clause-within
