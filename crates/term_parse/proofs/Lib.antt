@@ -17,3 +17,4 @@ pub mod Steps
 pub mod Tables
 pub mod Stacks
 pub mod Builds
+pub mod ShapeLaws

@@ -13,6 +13,7 @@ use Rattle.term_parse.specs.Faults.{IsFaultOf}
 use Rattle.term_parse.specs.Grammar.{Spells}
 use Rattle.term_parse.specs.Numbers.{NumbersFit}
 use Rattle.term_parse.specs.Innermost.{Unspelled, IsInnermost}
+use Rattle.term_parse.specs.Shapes.{shape_of}
 use Rattle.term_parse.specs.Spelling.{canonical}
 
 -- no two faults, and no fault at two places, are the first
@@ -50,3 +51,7 @@ abbrev pub CanonicalIsRead : Type 0
 CanonicalIsRead =
     (t : Term) → WellKinded [] t → NumbersFit (atoms_of t) → nest_of t ≤ 100 → length (canonical t) ≤ 65536 →
     reading (canonical t) ≡ Ok (atoms_of t)
+
+-- terms with the same atoms are the same, but for where they lie in memory
+abbrev pub AtomsTellTerms : Type 0
+AtomsTellTerms = (t u : Term) → atoms_of t ≡ atoms_of u → shape_of t ≡ shape_of u

@@ -7,6 +7,7 @@ pub mod Forms
 pub mod Faults
 pub mod Grammar
 pub mod Innermost
+pub mod Shapes
 pub mod Laws
 pub mod Spelling
 pub mod Pieces

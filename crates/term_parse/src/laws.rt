@@ -3,7 +3,7 @@
 //!
 //! Each function does nothing. Its contract is the law, so that a caller can use it.
 
-ghost use Rattle.term_parse.specs.Laws.{OneFirstFault, FirstFaultIsRead, SpelledIsRead, InnermostIsMeant, UnboundIsUnknown, OtherKindIsRefused, CanonicalIsRead};
+ghost use Rattle.term_parse.specs.Laws.{OneFirstFault, FirstFaultIsRead, SpelledIsRead, InnermostIsMeant, UnboundIsUnknown, OtherKindIsRefused, CanonicalIsRead, AtomsTellTerms};
 
 /// A text has at most one first fault, at one place, and reading the text gives it.
 pub fn first_fault_law()
@@ -30,4 +30,10 @@ pub fn names_law()
 /// most 100 deep and the spelling has at most 65,536 bytes. Its numbers are those of an `i32`.
 pub fn round_trip_law()
     ensures { CanonicalIsRead }
+{}
+
+/// Terms that are one line of words, values, names and ends of forms are the same term, but for
+/// where they lie in memory. So a text spells at most one term.
+pub fn terms_law()
+    ensures { AtomsTellTerms }
 {}
