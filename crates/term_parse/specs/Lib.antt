@@ -6,3 +6,9 @@ pub mod Bindings
 pub mod Forms
 pub mod Faults
 pub mod Grammar
+pub mod Innermost
+pub mod Shapes
+pub mod Laws
+pub mod Spelling
+pub mod Pieces
+pub mod Numbers

@@ -6,6 +6,10 @@
 mod build;
 mod error;
 mod form;
+pub mod laws;
+#[cfg(test)]
+mod printed_terms;
+mod printer;
 mod reader;
 mod scope;
 mod table;
@@ -14,5 +18,6 @@ mod tests;
 mod token;
 
 pub use error::ParseError;
+pub use printer::print;
 pub use reader::parse;
 pub use table::{Part, Row, SPELLINGS, TABLE, Word};

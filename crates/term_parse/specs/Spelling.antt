@@ -1,0 +1,157 @@
+-- The canonical spelling of a term: one space between parts, none inside the brackets, and each name as a letter of its
+-- kind and its slot.
+use Rattle.std.specs.Prelude.{ℕ, ◌+◌, ◌==◌, List, [], ◌∷◌, ◌++◌, Some, None, if◌then◌else◌, slice_get, decimal}
+use Rattle.std.specs.Fmt.{signed_decimal}
+use Rattle.effect_term.specs.declared.term.Kind.{Kind}
+use Rattle.effect_term.specs.declared.term.Kind.TheVariants as kinds
+use Rattle.effect_term.specs.declared.term.Name.{Name}
+use Rattle.effect_term.specs.declared.term.Operand.{Operand}
+use Rattle.effect_term.specs.declared.term.Operand.TheVariants.{Number, Named}
+use Rattle.effect_term.specs.declared.term.Term.{Term, Row_of-Term, end_of-Term, more_of-Term}
+use Rattle.effect_term.specs.declared.term.Term.TheVariants.{Pure, Raise, Let', Seq', Handle', If0', Add, Say, Cede, Never, Canceled, Uncancelable', Poll', OnCancel', Start', Join', Cancel, Ref', Get, Set, Modify, Deferred', Complete, Await, Repeat', Forever', Guarantee', Bracket', BracketCase', Race', Both'}
+use Rattle.term_parse.specs.declared.table.Part.{Part}
+use Rattle.term_parse.specs.declared.table.Part.TheVariants as parts
+use Rattle.term_parse.specs.declared.table.Word.{Word}
+use Rattle.term_parse.specs.declared.table.Word.TheVariants as words
+use Rattle.term_parse.specs.declared.table.TheConstants.{TABLE, SPELLINGS}
+
+-- `v`, `p`, `f`, `r`, `d`
+abbrev pub letter_of : Kind → ℕ
+letter_of kinds.Value = 118
+letter_of kinds.Poll = 112
+letter_of kinds.Fiber = 102
+letter_of kinds.Ref = 114
+letter_of kinds.Deferred = 100
+
+abbrev pub name_spelling : Kind → ℕ → List ℕ
+name_spelling kind slot = letter_of kind ∷ decimal slot
+
+abbrev pub operand_spelling : Operand → List ℕ
+operand_spelling (Number n) = signed_decimal n
+operand_spelling (Named n) = name_spelling n.kind n.slot
+
+-- where a word stands in the table
+abbrev pub place_of : Word → ℕ
+place_of words.Pure = 0
+place_of words.Raise = 1
+place_of words.Let = 2
+place_of words.Seq = 3
+place_of words.Handle = 4
+place_of words.If0 = 5
+place_of words.Add = 6
+place_of words.Say = 7
+place_of words.Cede = 8
+place_of words.Never = 9
+place_of words.Canceled = 10
+place_of words.Uncancelable = 11
+place_of words.Poll = 12
+place_of words.OnCancel = 13
+place_of words.Start = 14
+place_of words.Join = 15
+place_of words.Cancel = 16
+place_of words.Ref = 17
+place_of words.Get = 18
+place_of words.Set = 19
+place_of words.Modify = 20
+place_of words.Deferred = 21
+place_of words.Complete = 22
+place_of words.Await = 23
+place_of words.Repeat = 24
+place_of words.Forever = 25
+place_of words.Guarantee = 26
+place_of words.Bracket = 27
+place_of words.BracketCase = 28
+place_of words.Race = 29
+place_of words.Both = 30
+
+-- the table's spelling of a word, and the parts of its form
+unfoldable pub word_spelling : Word → List ℕ
+word_spelling w = elim (slice_get SPELLINGS (place_of w)) [ Some s ↦ s.now | None ↦ [] ]
+
+unfoldable pub parts_of : Word → List Part
+parts_of w = elim (slice_get TABLE (place_of w)) [ Some r ↦ r.parts | None ↦ [] ]
+
+-- what stands in a form beside its binders: a value, a name, or a term, which is spelled by how many binders enclose it
+pub data Piece : Type 0 where
+  value : Operand → Piece
+  name : Name → Piece
+  inner : (ℕ → List ℕ) → Piece
+
+-- how many of its form's binders enclose a term in this part
+abbrev pub binders_of : Part → ℕ
+binders_of (parts.Under i) = 1
+binders_of (parts.UnderBoth i j) = 2
+binders_of p = 0
+
+-- how many of its form's binders enclose the binder with this index, by the parts behind it
+abbrev pub outer_binders : ℕ → List Part → ℕ
+outer_binders i [] = 0
+outer_binders i (parts.UnderBoth j k ∷ ps) = if k == i then 1 else outer_binders i ps
+outer_binders i (p ∷ ps) = outer_binders i ps
+
+-- a part, where so many binders enclose its form
+abbrev pub piece_spelling : ℕ → Part → Piece → List ℕ
+piece_spelling around p (value v) = operand_spelling v
+piece_spelling around p (name n) = name_spelling n.kind n.slot
+piece_spelling around p (inner f) = f (around + binders_of p)
+
+-- the further terms of a form, each behind a space, and the closing bracket
+abbrev pub more_spelling : ℕ → List (ℕ → List ℕ) → List ℕ
+more_spelling around [] = 41 ∷ []
+more_spelling around (f ∷ fs) = 32 ∷ (f around ++ more_spelling around fs)
+
+-- the parts of a form, each behind a space, and the closing bracket, where so many binders enclose the form and so many
+-- of its own stand before
+unfoldable pub parts_spelling : ℕ → ℕ → List Part → List Piece → List (ℕ → List ℕ) → List ℕ
+parts_spelling around bound (parts.Close ∷ ps) q more = 41 ∷ []
+parts_spelling around bound (parts.More ∷ ps) q more = more_spelling around more
+parts_spelling around bound (parts.Bind k ∷ ps) q more = 32 ∷ (name_spelling k (around + outer_binders bound ps) ++ parts_spelling around (bound + 1) ps q more)
+parts_spelling around bound (p ∷ ps) (x ∷ q) more = 32 ∷ (piece_spelling around p x ++ parts_spelling around bound ps q more)
+parts_spelling around bound ps q more = []
+
+-- a form from its opening bracket to its closing one
+unfoldable pub form : Word → List Piece → List (ℕ → List ℕ) → ℕ → List ℕ
+form w q more around = 40 ∷ (word_spelling w ++ parts_spelling around 0 (parts_of w) q more)
+
+-- a term, by how many binders enclose it
+abbrev mutual
+  pub spelling : Term → ℕ → List ℕ
+  spelling (Pure v) = form words.Pure (value v ∷ []) []
+  spelling (Raise v) = form words.Raise (value v ∷ []) []
+  spelling (Let' p e q k) = form words.Let (inner (spelling e) ∷ inner (spelling k) ∷ []) []
+  spelling (Seq' p a q b shape more) = form words.Seq (inner (spelling a) ∷ inner (spelling b) ∷ []) (row_spellings more)
+  spelling (Handle' p e q h) = form words.Handle (inner (spelling e) ∷ inner (spelling h) ∷ []) []
+  spelling (If0' v p s q e) = form words.If0 (value v ∷ inner (spelling s) ∷ inner (spelling e) ∷ []) []
+  spelling (Add v w) = form words.Add (value v ∷ value w ∷ []) []
+  spelling (Say v) = form words.Say (value v ∷ []) []
+  spelling Cede = form words.Cede [] []
+  spelling Never = form words.Never [] []
+  spelling Canceled = form words.Canceled [] []
+  spelling (Uncancelable' p e) = form words.Uncancelable (inner (spelling e) ∷ []) []
+  spelling (Poll' n p e) = form words.Poll (name n ∷ inner (spelling e) ∷ []) []
+  spelling (OnCancel' p e q fin) = form words.OnCancel (inner (spelling e) ∷ inner (spelling fin) ∷ []) []
+  spelling (Start' p e q k) = form words.Start (inner (spelling e) ∷ inner (spelling k) ∷ []) []
+  spelling (Join' f p s q e r c) = form words.Join (name f ∷ inner (spelling s) ∷ inner (spelling e) ∷ inner (spelling c) ∷ []) []
+  spelling (Cancel f) = form words.Cancel (name f ∷ []) []
+  spelling (Ref' v p k) = form words.Ref (value v ∷ inner (spelling k) ∷ []) []
+  spelling (Get r) = form words.Get (name r ∷ []) []
+  spelling (Set r v) = form words.Set (name r ∷ value v ∷ []) []
+  spelling (Modify r v) = form words.Modify (name r ∷ value v ∷ []) []
+  spelling (Deferred' p k) = form words.Deferred (inner (spelling k) ∷ []) []
+  spelling (Complete d v) = form words.Complete (name d ∷ value v ∷ []) []
+  spelling (Await d) = form words.Await (name d ∷ []) []
+  spelling (Repeat' v p e) = form words.Repeat (value v ∷ inner (spelling e) ∷ []) []
+  spelling (Forever' p e) = form words.Forever (inner (spelling e) ∷ []) []
+  spelling (Guarantee' p e q fin) = form words.Guarantee (inner (spelling e) ∷ inner (spelling fin) ∷ []) []
+  spelling (Bracket' p acq q body r rel) = form words.Bracket (inner (spelling acq) ∷ inner (spelling body) ∷ inner (spelling rel) ∷ []) []
+  spelling (BracketCase' p acq q body r rs s re t rc) = form words.BracketCase (inner (spelling acq) ∷ inner (spelling body) ∷ inner (spelling rs) ∷ inner (spelling re) ∷ inner (spelling rc) ∷ []) []
+  spelling (Race' p a q b) = form words.Race (inner (spelling a) ∷ inner (spelling b) ∷ []) []
+  spelling (Both' p a q b r k) = form words.Both (inner (spelling a) ∷ inner (spelling b) ∷ inner (spelling k) ∷ []) []
+
+  pub row_spellings : {m : _} → Row_of-Term m → List (ℕ → List ℕ)
+  row_spellings end_of-Term = []
+  row_spellings (more_of-Term t rest) = spelling t ∷ row_spellings rest
+
+-- the canonical spelling of a whole term
+abbrev pub canonical : Term → List ℕ
+canonical t = spelling t 0

@@ -1,0 +1,287 @@
+//! Printing: the canonical spelling of a term, by the table.
+
+ghost use Rattle.std.specs.Prelude.{◌≡◌, ◌≤◌, ◌+◌, ◌++◌, ◌∷◌, [], OnOk, IfOk, slice_get, vec_len, length};
+ghost use Rattle.effect_term.specs.Kinds.{WellKinded};
+ghost use Rattle.effect_term.specs.Sizes.{nest_of};
+ghost use Rattle.term_parse.specs.Atoms.{atoms_of, ended, word as a_word, value as a_value};
+ghost use Rattle.term_parse.specs.Grammar.{Spells};
+ghost use Rattle.term_parse.specs.Numbers.{NumbersFit};
+ghost use Rattle.term_parse.specs.Spelling.{name_spelling, operand_spelling, letter_of, parts_of, word_spelling, piece_spelling, parts_spelling, more_spelling, binders_of, outer_binders, form, spelling, canonical};
+ghost use Rattle.term_parse.specs.Pieces.{piece_of, pieces_of, terms_spelled, terms_atoms, piece_atoms, pieces_atoms, Suffice};
+
+use crate::table::{Part, SPELLINGS, TABLE, Word};
+use effect_term::{Kind, Name, Operand, Term};
+use itoa::Buffer;
+use std::alloc::{AllocError, Global};
+
+/// What stands in a form beside its binders.
+#[derive(Clone, Copy)]
+enum Piece<'a> {
+    Value(Operand),
+    Name(Name),
+    Term(&'a Term),
+}
+
+/// A term as its word and pieces. The terms that a `seq` has behind its first two stand apart.
+#[derive(Clone, Copy)]
+struct Form<'a> {
+    word: Word,
+    pieces: [Option<Piece<'a>>; 5],
+    more: &'a [Term],
+}
+
+// A form of this word with these pieces.
+macro_rules! form_with {
+    ($word:ident) => {
+        Form { word: Word::$word, pieces: [None, None, None, None, None], more: &[] }
+    };
+    ($word:ident, $a:expr) => {
+        Form { word: Word::$word, pieces: [Some($a), None, None, None, None], more: &[] }
+    };
+    ($word:ident, $a:expr, $b:expr) => {
+        Form { word: Word::$word, pieces: [Some($a), Some($b), None, None, None], more: &[] }
+    };
+    ($word:ident, $a:expr, $b:expr, $c:expr) => {
+        Form { word: Word::$word, pieces: [Some($a), Some($b), Some($c), None, None], more: &[] }
+    };
+    ($word:ident, $a:expr, $b:expr, $c:expr, $d:expr) => {
+        Form { word: Word::$word, pieces: [Some($a), Some($b), Some($c), Some($d), None], more: &[] }
+    };
+    ($word:ident, $a:expr, $b:expr, $c:expr, $d:expr, $e:expr) => {
+        Form { word: Word::$word, pieces: [Some($a), Some($b), Some($c), Some($d), Some($e)], more: &[] }
+    };
+}
+
+// The form of a term.
+#[tactic(auto, unfolding(crate::specs::Spelling::parts_of))]
+fn form_of(term: &Term) -> Form<'_>
+    ensures spelled { spelling term.now ≡ form result.word (pieces_of result.pieces) (terms_spelled result.more.now) }
+    ensures atoms { atoms_of term.now ≡ a_word result.word ∷ pieces_atoms result.pieces (terms_atoms result.more.now (ended ∷ [])) }
+    ensures enough { Suffice (parts_of result.word) result.pieces result.more.now }
+{
+    match term {
+        Term::Pure(v) => form_with!(Pure, Piece::Value(*v)),
+        Term::Raise(v) => form_with!(Raise, Piece::Value(*v)),
+        Term::Let(e, k) => form_with!(Let, Piece::Term(e), Piece::Term(k)),
+        Term::Seq(a, b, more) => Form {
+            word: Word::Seq,
+            pieces: [Some(Piece::Term(a)), Some(Piece::Term(b)), None, None, None],
+            more,
+        },
+        Term::Handle(e, h) => form_with!(Handle, Piece::Term(e), Piece::Term(h)),
+        Term::If0(v, s, e) => form_with!(If0, Piece::Value(*v), Piece::Term(s), Piece::Term(e)),
+        Term::Add(v, w) => form_with!(Add, Piece::Value(*v), Piece::Value(*w)),
+        Term::Say(v) => form_with!(Say, Piece::Value(*v)),
+        Term::Cede => form_with!(Cede),
+        Term::Never => form_with!(Never),
+        Term::Canceled => form_with!(Canceled),
+        Term::Uncancelable(e) => form_with!(Uncancelable, Piece::Term(e)),
+        Term::Poll(p, e) => form_with!(Poll, Piece::Name(*p), Piece::Term(e)),
+        Term::OnCancel(e, fin) => form_with!(OnCancel, Piece::Term(e), Piece::Term(fin)),
+        Term::Start(e, k) => form_with!(Start, Piece::Term(e), Piece::Term(k)),
+        Term::Join(f, s, e, c) => form_with!(Join, Piece::Name(*f), Piece::Term(s), Piece::Term(e), Piece::Term(c)),
+        Term::Cancel(f) => form_with!(Cancel, Piece::Name(*f)),
+        Term::Ref(v, k) => form_with!(Ref, Piece::Value(*v), Piece::Term(k)),
+        Term::Get(r) => form_with!(Get, Piece::Name(*r)),
+        Term::Set(r, v) => form_with!(Set, Piece::Name(*r), Piece::Value(*v)),
+        Term::Modify(r, v) => form_with!(Modify, Piece::Name(*r), Piece::Value(*v)),
+        Term::Deferred(k) => form_with!(Deferred, Piece::Term(k)),
+        Term::Complete(d, v) => form_with!(Complete, Piece::Name(*d), Piece::Value(*v)),
+        Term::Await(d) => form_with!(Await, Piece::Name(*d)),
+        Term::Repeat(v, e) => form_with!(Repeat, Piece::Value(*v), Piece::Term(e)),
+        Term::Forever(e) => form_with!(Forever, Piece::Term(e)),
+        Term::Guarantee(e, fin) => form_with!(Guarantee, Piece::Term(e), Piece::Term(fin)),
+        Term::Bracket(a, b, rel) => form_with!(Bracket, Piece::Term(a), Piece::Term(b), Piece::Term(rel)),
+        Term::BracketCase(a, b, rs, re, rc) => form_with!(BracketCase, Piece::Term(a), Piece::Term(b), Piece::Term(rs), Piece::Term(re), Piece::Term(rc)),
+        Term::Race(a, b) => form_with!(Race, Piece::Term(a), Piece::Term(b)),
+        Term::Both(a, b, k) => form_with!(Both, Piece::Term(a), Piece::Term(b), Piece::Term(k)),
+    }
+}
+
+// The row of a word.
+#[tactic(auto, unfolding(crate::specs::Spelling::parts_of))]
+fn parts_of(word: Word) -> [Part; 9]
+    ensures value { result ≡ parts_of word }
+    ensures nine { length result ≡ 9 }
+{
+    TABLE[word as usize].parts
+}
+
+// The spelling of a word.
+#[tactic(auto, unfolding(crate::specs::Spelling::word_spelling))]
+fn spelling_of(word: Word) -> &'static [u8]
+    ensures value { result.now ≡ word_spelling word }
+    ensures long { 3 ≤ length result.now }
+{
+    SPELLINGS[word as usize]
+}
+
+fn letter_of(kind: Kind) -> u8
+    ensures { result ≡ letter_of kind }
+{
+    match kind {
+        Kind::Value => b'v',
+        Kind::Poll => b'p',
+        Kind::Fiber => b'f',
+        Kind::Ref => b'r',
+        Kind::Deferred => b'd',
+    }
+}
+
+// Writes the name of this kind and slot.
+fn write_name(out: &mut Vec<u8>, kind: Kind, slot: usize) -> Result<(), AllocError>
+    ensures { OnOk result (out.new.items ≡ out.old.items ++ name_spelling kind slot) }
+{
+    out.push(letter_of(kind))?;
+    let mut buffer = Buffer::new();
+    out.extend_from_slice(buffer.format(slot).as_bytes())
+}
+
+// Writes a number or the name of a value.
+fn write_operand(out: &mut Vec<u8>, operand: Operand) -> Result<(), AllocError>
+    ensures text { OnOk result (out.new.items ≡ out.old.items ++ operand_spelling operand) }
+    ensures numbers { NumbersFit (a_value operand ∷ []) }
+{
+    match operand {
+        Operand::Number(n) => {
+            let mut buffer = Buffer::new();
+            out.extend_from_slice(buffer.format(n).as_bytes())
+        }
+        Operand::Named(name) => write_name(out, name.kind, name.slot as usize),
+    }
+}
+
+// How many of its form's binders enclose a term in this part.
+fn binders_of(part: Part) -> usize
+    ensures value { result ≡ binders_of part }
+    ensures few { result ≤ 2 }
+{
+    match part {
+        Part::Under(_) => 1,
+        Part::UnderBoth(_, _) => 2,
+        Part::Bind(_) | Part::Use(_) | Part::Value | Part::Term | Part::More | Part::Close => 0,
+    }
+}
+
+// How many of its form's binders enclose the binder with this index, by the parts behind it.
+fn outer_binders(index: usize, parts: &[Part]) -> usize
+    ensures value { result ≡ outer_binders index parts.now }
+    ensures few { result ≤ 1 }
+{
+    let [part, rest @ ..] = parts else {
+        return 0;
+    };
+    match part {
+        Part::UnderBoth(_, second) => if *second == index { 1 } else { outer_binders(index, rest) },
+        Part::Bind(_) | Part::Use(_) | Part::Value | Part::Term | Part::Under(_) | Part::More | Part::Close => outer_binders(index, rest),
+    }
+}
+
+// Writes a term, which so many binders enclose.
+//
+// Each binder is part of a form whose bracket and word are written before its terms, so there are
+// no more binders than bytes, and no slot is too large for a number.
+#[cycle(writing)]
+fn write_term(out: &mut Vec<u8>, term: &Term, around: usize) -> Result<(), AllocError>
+    requires { around ≤ vec_len out.old }
+    ensures text { OnOk result (out.new.items ≡ out.old.items ++ spelling term.now around) }
+    ensures numbers { OnOk result (NumbersFit (atoms_of term.now)) }
+    ensures longer { OnOk result (vec_len out.old ≤ vec_len out.new) }
+{
+    let form = form_of(term);
+    out.push(b'(')?;
+    out.extend_from_slice(spelling_of(form.word))?;
+    write_parts(out, &parts_of(form.word), &form.pieces, form.more, around, 0)
+}
+
+// Writes the rest of a form, before which so many of its own binders stand.
+#[cycle(writing)]
+fn write_parts(out: &mut Vec<u8>, parts: &[Part], pieces: &[Option<Piece<'_>>], more: &[Term], around: usize, bound: usize) -> Result<(), AllocError>
+    requires room { around + 2 ≤ vec_len out.old }
+    requires few { bound + length parts.now ≤ 9 }
+    requires enough { Suffice parts.now pieces.now more.now }
+    ensures text { OnOk result (out.new.items ≡ out.old.items ++ parts_spelling around bound parts.now (pieces_of pieces.now) (terms_spelled more.now)) }
+    ensures numbers { OnOk result (NumbersFit (pieces_atoms pieces.now (terms_atoms more.now (ended ∷ [])))) }
+    ensures longer { OnOk result (vec_len out.old ≤ vec_len out.new) }
+{
+    let [part, rest @ ..] = parts else {
+        unreachable!();
+    };
+    match *part {
+        Part::Close => {
+            out.push(b')')?;
+            Ok(())
+        }
+        Part::More => write_more(out, more, around),
+        Part::Bind(kind) => {
+            out.push(b' ')?;
+            let room = out.len();
+            prove!(around < room - 1);
+            write_name(out, kind, around + outer_binders(bound, rest))?;
+            write_parts(out, rest, pieces, more, around, bound + 1)
+        }
+        _ => {
+            let [first, others @ ..] = pieces else {
+                unreachable!();
+            };
+            let first = *first;
+            let Some(piece) = first else {
+                unreachable!();
+            };
+            out.push(b' ')?;
+            write_piece(out, *part, piece, around)?;
+            write_parts(out, rest, others, more, around, bound)
+        }
+    }
+}
+
+// Writes a piece of a form.
+#[cycle(writing)]
+fn write_piece(out: &mut Vec<u8>, part: Part, piece: Piece<'_>, around: usize) -> Result<(), AllocError>
+    requires { around + 2 ≤ vec_len out.old }
+    ensures text { OnOk result (out.new.items ≡ out.old.items ++ piece_spelling around part (piece_of piece.entry)) }
+    ensures numbers { OnOk result (NumbersFit (piece_atoms piece.entry)) }
+    ensures longer { OnOk result (vec_len out.old ≤ vec_len out.new) }
+{
+    match piece {
+        Piece::Value(operand) => write_operand(out, operand),
+        Piece::Name(name) => write_name(out, name.kind, name.slot as usize),
+        Piece::Term(term) => {
+            let room = out.len();
+            prove!(around < room - 1);
+            write_term(out, term, around + binders_of(part))
+        }
+    }
+}
+
+// Writes the further terms of a form, and its closing bracket.
+#[cycle(writing)]
+fn write_more(out: &mut Vec<u8>, terms: &[Term], around: usize) -> Result<(), AllocError>
+    requires { around ≤ vec_len out.old }
+    ensures text { OnOk result (out.new.items ≡ out.old.items ++ more_spelling around (terms_spelled terms.now)) }
+    ensures numbers { OnOk result (NumbersFit (terms_atoms terms.now (ended ∷ []))) }
+    ensures longer { OnOk result (vec_len out.old ≤ vec_len out.new) }
+{
+    let [term, rest @ ..] = terms else {
+        out.push(b')')?;
+        return Ok(());
+    };
+    out.push(b' ')?;
+    write_term(out, term, around)?;
+    write_more(out, rest, around)
+}
+
+/// Writes a term in its canonical spelling: one space between parts and none inside the brackets,
+/// and each name as the letter of its kind (`v`, `p`, `f`, `r` or `d`) followed by its slot.
+///
+/// The text of a closed, well-kinded term spells that term again, if the term is at most 100 words
+/// deep and the text has at most 65,536 bytes.
+pub fn print(alloc: Global, term: &Term) -> Result<Vec<u8>, AllocError>
+    ensures canonical { IfOk result (λ text. text.items ≡ canonical term.now) }
+    ensures read_back { IfOk result (λ text.
+        WellKinded [] term.now → nest_of term.now ≤ 100 → length text.items ≤ 65536 → Spells text.items (atoms_of term.now)) }
+{
+    let mut text = Vec::new(alloc);
+    write_term(&mut text, term, 0)?;
+    Ok(text)
+}
