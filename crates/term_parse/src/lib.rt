@@ -1,6 +1,11 @@
-//! The text of terms: what it means, and where a text is at fault.
+//! The text of terms, both ways: what a text means or where it is at fault, and how a term is
+//! spelled.
 //!
-//! The crate stands on `effect_term`. One table of signatures says what stands in each form.
+//! It stands on `effect_term`, whose terms it reads and writes. One table of signatures says what
+//! stands in each form; the grammar, the faults and the parser all read it. It promises that
+//! [`parse`] gives a term exactly where the grammar spells it, and else the first fault with its
+//! place, and that [`print`] writes the canonical spelling, which spells the same term again. The
+//! laws of the grammar stand in [`laws`].
 #![tactic(auto)]
 
 mod build;
