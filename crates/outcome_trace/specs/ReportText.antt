@@ -3,8 +3,8 @@ use Rattle.std.specs.Prelude.{◌+◌, ℕ, Option, Some, None, List, [], ◌∷
 use Rattle.std.specs.Fmt.{decimal, signed_decimal}
 use Rattle.effect_term.specs.declared.reply.Outcome.{Outcome}
 use Rattle.effect_term.specs.declared.reply.Outcome.TheVariants.{Succeeded, Errored, Canceled}
-use Rattle.outcome_trace.specs.declared.mark.Mark.{Mark}
-use Rattle.outcome_trace.specs.declared.mark.Mark.TheVariants.{Say, Enter, Leave, PollIn, PollOut, Cut, Acquired, Releasing, Released, Dropped}
+use Rattle.fiber_frames.specs.declared.mark.Mark.{Mark}
+use Rattle.fiber_frames.specs.declared.mark.Mark.TheVariants.{Say, Enter, Leave, PollIn, PollOut, Cut, Acquired, Releasing, Released, Dropped}
 use Rattle.outcome_trace.specs.declared.report.FiberReport.{FiberReport}
 
 -- a mark, with its value, its code or the number of its mask

@@ -10,7 +10,6 @@
 mod device;
 mod fault;
 mod lines;
-mod mark;
 mod report;
 mod report_text;
 mod schedule;
@@ -21,7 +20,6 @@ mod text;
 pub use device::{FromRead, ReadError, TextIn, TextOut, ToWrite, WriteFailed};
 pub use fault::TextFault;
 pub use lines::{Refused, line};
-pub use mark::Mark;
 pub use report::{FiberReport, FiberReports, Marks, Report};
 pub use report_text::{print_report, text_of_report};
 pub use schedule::{MOST_ENTRIES, ScheduleError, read_schedule, schedule_text_means_one_thing};

@@ -2,8 +2,8 @@
 
 ghost use Rattle.std.specs.Prelude.{◌≡◌};
 
-use crate::mark::Mark;
 use effect_term::Outcome;
+use fiber_frames::Mark;
 use std::marker::Model;
 
 /// The marks of a fiber, in the order in which it made them.
@@ -14,7 +14,7 @@ pub struct Marks {
 
 impl Model for Marks {
     ghost use Rattle.std.specs.Prelude.{List};
-    ghost use Rattle.outcome_trace.specs.declared.mark.Mark.{Mark};
+    ghost use Rattle.fiber_frames.specs.declared.mark.Mark.{Mark};
 
     ghost Value = { List Mark };
 

@@ -6,10 +6,10 @@ ghost use Rattle.outcome_trace.specs.ReportText.{mark_text, later_marks_text, ma
 
 use crate::device::TextOut;
 use crate::fault::TextFault;
-use crate::mark::Mark;
 use crate::report::{FiberReport, Report};
 use crate::text::write_text;
 use effect_term::Outcome;
+use fiber_frames::Mark;
 use std::alloc::{AllocError, Global};
 
 fn push_mark(text: &mut String, mark: Mark) -> Result<(), AllocError>
