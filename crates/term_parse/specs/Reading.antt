@@ -1,5 +1,5 @@
 -- What the forms want, token by token, and the first fault of a text.
-use Rattle.std.specs.Prelude.{ℕ, suc, Bool, true, false, nat_lt, List, [], ◌∷◌, ◌++◌, length, Option, Some, None, Result, Ok, Err, if◌then◌else◌, slice_get, map}
+use Rattle.std.specs.Prelude.{◌≡◌, ℕ, suc, Bool, true, false, nat_lt, List, [], ◌∷◌, ◌++◌, length, Option, Some, None, Result, Ok, Err, if◌then◌else◌, slice_get, map}
 use Rattle.std.specs.Str.{bytes_eq}
 use Rattle.effect_term.specs.declared.term.Kind.{Kind}
 use Rattle.effect_term.specs.declared.term.Kind.TheVariants as kinds
@@ -138,3 +138,7 @@ reads_at text at todo = reads (length text) todo (lexemes_at at text)
 -- what a whole text says: the atoms of one closed term, or its first fault
 unfoldable pub reading : List ℕ → Result (List Atom) ParseError
 reading text = if nat_lt 65536 (length text) then Err (errors.TooLong 65536) else reads_at text 0 (term [] ∷ [])
+
+-- the error is that of the reading, unless it says that memory ran out
+abbrev pub Fails : ParseError → Result (List Atom) ParseError → Type 0
+Fails e r = (e ≡ errors.NoMemory → ⊥) → r ≡ Err e

@@ -1,0 +1,5 @@
+pub mod Lexing
+pub mod Steps
+pub mod Tables
+pub mod Stacks
+pub mod Builds

@@ -1,0 +1,161 @@
+-- The rows of the table, and the binders that a part names.
+use Rattle.std.proofs.Common.{◌≡◌, ◌≤◌, ◌<◌, get_or, ℕ, suc, Bool, true, false, List, [], ◌∷◌, ◌++◌, length, Option, Some, None, refl, ap, sym, subst, ◌∙◌, slice_get, map, if◌then◌else◌}
+use Prim.Native.Nat.{zero}
+use Rattle.std.specs.Str.{bytes_eq}
+use Rattle.std.proofs.lemmas.Option.{slice_get-get_or, slice_get_past}
+use Rattle.term_parse.specs.declared.table.Row.{Row}
+use Rattle.term_parse.specs.declared.table.TheConstants.{TABLE, SPELLINGS}
+use Rattle.term_parse.specs.declared.scope.Binding.{Binding}
+use Rattle.term_parse.specs.Reading.{Bound, row_among, row_of, picked}
+use Rattle.term_parse.specs.Scopes.{bounds, bound_of, InText}
+use Rattle.term_parse.specs.Forms.{Sort, a_name, a_value, a_term, Tabled}
+use Rattle.term_parse.proofs.Steps.{bounds-append, in_text-append}
+
+AllTabled : List Row → Type 0
+AllTabled [] = Unit {0}
+AllTabled (r ∷ rs) = Tabled r × AllTabled rs
+
+every_row : AllTabled TABLE
+unfolding AllTabled
+every_row = (
+  record { full = refl; shape = λ m c. cc },
+  (
+    record { full = refl; shape = λ m c. cc },
+    (
+      record { full = refl; shape = λ m c. cc },
+      (
+        record { full = refl; shape = λ m c. (c.2.0, c.1 ∙ ap (λ x. a_term ∷ x) c.2.1, c.2.2) },
+        (
+          record { full = refl; shape = λ m c. cc },
+          (
+            record { full = refl; shape = λ m c. cc },
+            (
+              record { full = refl; shape = λ m c. cc },
+              (
+                record { full = refl; shape = λ m c. cc },
+                (
+                  record { full = refl; shape = λ m c. cc },
+                  (
+                    record { full = refl; shape = λ m c. cc },
+                    (
+                      record { full = refl; shape = λ m c. cc },
+                      (
+                        record { full = refl; shape = λ m c. cc },
+                        (
+                          record { full = refl; shape = λ m c. cc },
+                          (
+                            record { full = refl; shape = λ m c. cc },
+                            (
+                              record { full = refl; shape = λ m c. cc },
+                              (
+                                record { full = refl; shape = λ m c. cc },
+                                (
+                                  record { full = refl; shape = λ m c. cc },
+                                  (
+                                    record { full = refl; shape = λ m c. cc },
+                                    (
+                                      record { full = refl; shape = λ m c. cc },
+                                      (
+                                        record { full = refl; shape = λ m c. cc },
+                                        (
+                                          record { full = refl; shape = λ m c. cc },
+                                          (
+                                            record { full = refl; shape = λ m c. cc },
+                                            (
+                                              record { full = refl; shape = λ m c. cc },
+                                              (
+                                                record { full = refl; shape = λ m c. cc },
+                                                (
+                                                  record { full = refl; shape = λ m c. cc },
+                                                  (
+                                                    record { full = refl; shape = λ m c. cc },
+                                                    (
+                                                      record { full = refl; shape = λ m c. cc },
+                                                      (
+                                                        record { full = refl; shape = λ m c. cc },
+                                                        (
+                                                          record { full = refl; shape = λ m c. cc },
+                                                          (
+                                                            record { full = refl; shape = λ m c. cc },
+                                                            (
+                                                              record { full = refl; shape = λ m c. cc },
+                                                              tt,
+                                                            ),
+                                                          ),
+                                                        ),
+                                                      ),
+                                                    ),
+                                                  ),
+                                                ),
+                                              ),
+                                            ),
+                                          ),
+                                        ),
+                                      ),
+                                    ),
+                                  ),
+                                ),
+                              ),
+                            ),
+                          ),
+                        ),
+                      ),
+                    ),
+                  ),
+                ),
+              ),
+            ),
+          ),
+        ),
+      ),
+    ),
+  ),
+)
+
+chosen : (b : Bool) (q r : Row) (others : Option Row) → Tabled q → (others ≡ Some r → Tabled r) → (if b then Some q else others) ≡ Some r → Tabled r
+chosen true q r others t h e = let i : q ≡ r = cc in subst (λ x. Tabled x) i t
+chosen false q r others t h e = h e
+
+among_tabled : (ss : List (List ℕ)) (rows : List Row) (x : List ℕ) (r : Row) → AllTabled rows → row_among ss rows x ≡ Some r → Tabled r
+unfolding AllTabled
+among_tabled [] rows x r a e = cc
+among_tabled (s ∷ ss) [] x r a e = cc
+among_tabled (s ∷ ss) (q ∷ rows) x r a e = chosen (bytes_eq s x) q r (row_among ss rows x) a.0 (among_tabled ss rows x r a.1) e
+
+pub tabled : (x : List ℕ) (r : Row) → row_of x ≡ Some r → Tabled r
+unfolding row_of
+tabled x r e = among_tabled (map (λ s. s.now) SPELLINGS) TABLE x r every_row e
+
+bounds-get : (text : List ℕ) (xs : List Binding) (i : ℕ) (b : Binding) → slice_get xs i ≡ Some b → slice_get (bounds text xs) i ≡ Some (bound_of text b)
+bounds-get text [] i b e = cc
+bounds-get text (x ∷ xs) zero b e = let i : x ≡ b = cc in ap (λ y. Some (bound_of text y)) i
+bounds-get text (x ∷ xs) (suc i) b e = bounds-get text xs i b e
+
+bounds-get_none : (text : List ℕ) (xs : List Binding) (i : ℕ) → slice_get xs i ≡ None → slice_get (bounds text xs) i ≡ None
+bounds-get_none text [] i e = refl
+bounds-get_none text (x ∷ xs) zero e = cc
+bounds-get_none text (x ∷ xs) (suc i) e = bounds-get_none text xs i e
+
+in_text-get : (text : List ℕ) (xs : List Binding) (i : ℕ) (b : Binding) → slice_get xs i ≡ Some b → InText text xs → InText text (b ∷ [])
+in_text-get text [] i b e h = cc
+in_text-get text (x ∷ xs) zero b e h = let i : x ≡ b = cc in subst (λ y. InText text (y ∷ [])) i (h.0, h.1, tt)
+in_text-get text (x ∷ xs) (suc i) b e h = in_text-get text xs i b e h.2
+
+append_none : (xs : List Bound) → xs ++ [] ≡ xs
+append_none [] = refl
+append_none (x ∷ xs) = ap (λ r. x ∷ r) (append_none xs)
+
+pub picked_some : (text : List ℕ) (scope bound new : List Binding) (i : ℕ) (b : Binding) → i < length bound → b ≡ get_or bound i b → new ≡ scope ++ b ∷ [] → bounds text new ≡ bounds text scope ++ picked (bounds text bound) i
+unfolding picked
+picked_some text scope bound new i b l e n =
+    let g : slice_get bound i ≡ Some b = slice_get-get_or bound i b l ∙ ap (λ y. Some y) (sym e) in
+    rw (n, bounds-get text bound i b g, picked) (bounds-append text scope (b ∷ []))
+
+pub picked_none : (text : List ℕ) (scope bound : List Binding) (i : ℕ) → length bound ≤ i → bounds text scope ≡ bounds text scope ++ picked (bounds text bound) i
+unfolding picked
+picked_none text scope bound i l = rw (bounds-get_none text bound i (slice_get_past bound i l), picked) (sym (append_none (bounds text scope)))
+
+pub picked_within : (text : List ℕ) (scope bound new : List Binding) (i : ℕ) (b : Binding) → i < length bound → b ≡ get_or bound i b → new ≡ scope ++ b ∷ [] → InText text scope → InText text bound → InText text new
+picked_within text scope bound new i b l e n s h =
+    let g : slice_get bound i ≡ Some b = slice_get-get_or bound i b l ∙ ap (λ y. Some y) (sym e) in
+    rw n (in_text-append text scope (b ∷ []) s (in_text-get text bound i b g h))

@@ -1,0 +1,11 @@
+use Rattle.std.proofs.Common.{◌≡◌, [], ◌∷◌}
+use Rattle.term_parse.specs.Atoms.{ended}
+use Rattle.term_parse.specs.Forms.{sorts, ends}
+use Rattle.term_parse.proofs.Builds.{ends_none}
+use Rattle.term_parse.proofs.build.one_term.Goals as goal
+
+pub returns : goal.returns
+returns c =
+    let none : sorts c.boxed.new.pieces.items ≡ [] = cc (c.requires, c.boxed.ensures.sorts) in
+    let last : ends c.boxed.new.pieces.items ≡ ended ∷ [] = ends_none c.boxed.new.pieces.items none in
+    cc (c.in_ok-term.ensures.atoms, last)

@@ -1,0 +1,245 @@
+-- What an open form stands for, and which pieces its word wants.
+use Rattle.std.specs.Prelude.{◌≡◌, ◌≤◌, ◌<◌, ◌+◌, ℕ, suc, List, [], ◌∷◌, ◌++◌, length, drop, slice_range, Result, Ok, Err}
+use Rattle.effect_term.specs.declared.term.Kind.{Kind}
+use Rattle.effect_term.specs.declared.term.Term as terms
+use Rattle.term_parse.specs.declared.table.Word.{Word}
+use Rattle.term_parse.specs.declared.table.Word.TheVariants as words
+use Rattle.term_parse.specs.declared.table.Row.{Row}
+use Rattle.term_parse.specs.declared.table.Part.{Part}
+use Rattle.term_parse.specs.declared.table.Part.TheVariants.{Bind, Use, Value, Term, Under, UnderBoth, More, Close}
+use Rattle.term_parse.specs.declared.error.ParseError.{ParseError}
+use Rattle.term_parse.specs.declared.scope.Binding.{Binding}
+use Rattle.term_parse.specs.declared.form.Piece.{Piece}
+use Rattle.term_parse.specs.declared.form.Piece.TheVariants as pieces
+use Rattle.term_parse.specs.declared.form.Form.{Form}
+use Rattle.term_parse.specs.declared.form.Step.{Step}
+use Rattle.term_parse.specs.declared.form.Step.TheVariants as steps
+use Rattle.term_parse.specs.declared.reader.Turn.{Turn}
+use Rattle.term_parse.specs.declared.reader.Turn.TheVariants as turns
+use Rattle.term_parse.specs.Atoms.{Atom, word, value, name, ended, atoms_of}
+use Rattle.term_parse.specs.Reading.{Bound, Want, term, a_word, parts, open_of, with_front, reads_at, Fails}
+use Rattle.term_parse.specs.Scopes.{bounds, InText}
+
+-- what kind of piece a part gives
+pub data Sort : Type 0 where
+  a_name : Sort
+  a_value : Sort
+  a_term : Sort
+
+abbrev pub sort_of : Piece → Sort
+sort_of (pieces.Name n) = a_name
+sort_of (pieces.Value v) = a_value
+sort_of (pieces.Term t) = a_term
+
+abbrev pub sorts : List Piece → List Sort
+sorts [] = []
+sorts (p ∷ ps) = sort_of p ∷ sorts ps
+
+abbrev pub piece_atoms : Piece → List Atom
+piece_atoms (pieces.Name n) = name n ∷ []
+piece_atoms (pieces.Value v) = value v ∷ []
+piece_atoms (pieces.Term t) = atoms_of t
+
+abbrev pub pieces_atoms : List Piece → List Atom
+pieces_atoms [] = []
+pieces_atoms (p ∷ ps) = piece_atoms p ++ pieces_atoms ps
+
+-- the atoms of these pieces, and the end of their form
+abbrev pub ends : List Piece → List Atom
+ends ps = pieces_atoms ps ++ ended ∷ []
+
+abbrev pub terms_atoms : List terms.Term → List Atom
+terms_atoms [] = []
+terms_atoms (t ∷ ts) = atoms_of t ++ terms_atoms ts
+
+abbrev pub AllTerms : List Sort → Type 0
+AllTerms [] = Unit {0}
+AllTerms (a_term ∷ s) = AllTerms s
+AllTerms (x ∷ s) = ⊥
+
+-- these pieces are what these parts give
+abbrev pub Completes : List Part → List Sort → Type 0
+Completes [] s = ⊥
+Completes (Close ∷ ps) s = s ≡ []
+Completes (More ∷ ps) s = AllTerms s
+Completes (Bind k ∷ ps) s = Completes ps s
+Completes (Use k ∷ ps) s = (r : List Sort) × (s ≡ a_name ∷ r) × Completes ps r
+Completes (Value ∷ ps) s = (r : List Sort) × (s ≡ a_value ∷ r) × Completes ps r
+Completes (Term ∷ ps) s = (r : List Sort) × (s ≡ a_term ∷ r) × Completes ps r
+Completes (Under i ∷ ps) s = (r : List Sort) × (s ≡ a_term ∷ r) × Completes ps r
+Completes (UnderBoth i j ∷ ps) s = (r : List Sort) × (s ≡ a_term ∷ r) × Completes ps r
+
+-- the pieces of which a term of this word is made
+abbrev pub Shaped : Word → List Sort → Type 0
+Shaped words.Pure s = s ≡ a_value ∷ []
+Shaped words.Raise s = s ≡ a_value ∷ []
+Shaped words.Let s = s ≡ a_term ∷ a_term ∷ []
+Shaped words.Seq s = (r : List Sort) × (s ≡ a_term ∷ a_term ∷ r) × AllTerms r
+Shaped words.Handle s = s ≡ a_term ∷ a_term ∷ []
+Shaped words.If0 s = s ≡ a_value ∷ a_term ∷ a_term ∷ []
+Shaped words.Add s = s ≡ a_value ∷ a_value ∷ []
+Shaped words.Say s = s ≡ a_value ∷ []
+Shaped words.Cede s = s ≡ []
+Shaped words.Never s = s ≡ []
+Shaped words.Canceled s = s ≡ []
+Shaped words.Uncancelable s = s ≡ a_term ∷ []
+Shaped words.Poll s = s ≡ a_name ∷ a_term ∷ []
+Shaped words.OnCancel s = s ≡ a_term ∷ a_term ∷ []
+Shaped words.Start s = s ≡ a_term ∷ a_term ∷ []
+Shaped words.Join s = s ≡ a_name ∷ a_term ∷ a_term ∷ a_term ∷ []
+Shaped words.Cancel s = s ≡ a_name ∷ []
+Shaped words.Ref s = s ≡ a_value ∷ a_term ∷ []
+Shaped words.Get s = s ≡ a_name ∷ []
+Shaped words.Set s = s ≡ a_name ∷ a_value ∷ []
+Shaped words.Modify s = s ≡ a_name ∷ a_value ∷ []
+Shaped words.Deferred s = s ≡ a_term ∷ []
+Shaped words.Complete s = s ≡ a_name ∷ a_value ∷ []
+Shaped words.Await s = s ≡ a_name ∷ []
+Shaped words.Repeat s = s ≡ a_value ∷ a_term ∷ []
+Shaped words.Forever s = s ≡ a_term ∷ []
+Shaped words.Guarantee s = s ≡ a_term ∷ a_term ∷ []
+Shaped words.Bracket s = s ≡ a_term ∷ a_term ∷ a_term ∷ []
+Shaped words.BracketCase s = s ≡ a_term ∷ a_term ∷ a_term ∷ a_term ∷ a_term ∷ []
+Shaped words.Race s = s ≡ a_term ∷ a_term ∷ []
+Shaped words.Both s = s ≡ a_term ∷ a_term ∷ a_term ∷ []
+
+-- a word with a term in it
+abbrev pub NotPlain : Word → Type 0
+NotPlain w = (w ≡ words.Pure → ⊥) × (w ≡ words.Raise → ⊥) × (w ≡ words.Add → ⊥) × (w ≡ words.Say → ⊥) × (w ≡ words.Cede → ⊥) × (w ≡ words.Never → ⊥) × (w ≡ words.Canceled → ⊥) × (w ≡ words.Cancel → ⊥) × (w ≡ words.Get → ⊥) × (w ≡ words.Set → ⊥) × (w ≡ words.Modify → ⊥) × (w ≡ words.Complete → ⊥) × (w ≡ words.Await → ⊥)
+
+-- none of the words with one term in it
+abbrev pub NotOne : Word → Type 0
+NotOne w = (w ≡ words.Uncancelable → ⊥) × (w ≡ words.Poll → ⊥) × (w ≡ words.Ref → ⊥) × (w ≡ words.Deferred → ⊥) × (w ≡ words.Repeat → ⊥) × (w ≡ words.Forever → ⊥)
+
+-- none of the words with two terms in it
+abbrev pub NotTwo : Word → Type 0
+NotTwo w = (w ≡ words.Let → ⊥) × (w ≡ words.Handle → ⊥) × (w ≡ words.If0 → ⊥) × (w ≡ words.OnCancel → ⊥) × (w ≡ words.Start → ⊥) × (w ≡ words.Guarantee → ⊥) × (w ≡ words.Race → ⊥)
+
+-- what the parts of this row give is what its word wants
+pub record Tabled (r : Row) : Type 0 where
+  pub full : length r.parts ≡ 9
+  pub shape : (more : List Sort) → Completes r.parts more → Shaped r.word more
+
+-- what the parts that are left give completes the form, and its binders stand within the text
+pub record Sound (text : List ℕ) (f : Form) : Type 0 where
+  pub full : length f.row.parts ≡ 9
+  pub shape : (more : List Sort) → Completes (drop f.next f.row.parts) more → Shaped f.row.word (sorts f.pieces.items ++ more)
+  pub scope : InText text f.scope.items
+  pub bound : InText text f.bound.items
+
+-- the same, once a term has been added
+pub record Awaits (text : List ℕ) (f : Form) : Type 0 where
+  pub full : length f.row.parts ≡ 9
+  pub shape : (more : List Sort) → Completes (drop f.next f.row.parts) more → Shaped f.row.word (sorts f.pieces.items ++ (a_term ∷ more))
+  pub scope : InText text f.scope.items
+  pub bound : InText text f.bound.items
+
+-- what is wanted of a form
+abbrev pub want_of : List ℕ → Form → Want
+want_of text f = parts (bounds text f.scope.items) (bounds text f.bound.items) (drop f.next f.row.parts)
+
+-- what has been read of a form
+abbrev pub front_of : Form → List Atom
+front_of f = word f.row.word ∷ pieces_atoms f.pieces.items
+
+-- the part that is wanted next
+pub record NextIs (f : Form) (p : Part) : Type 0 where
+  pub below : f.next < 9
+  pub part_is : drop f.next f.row.parts ≡ p ∷ drop (f.next + 1) f.row.parts
+
+abbrev pub IsTermPart : Part → Type 0
+IsTermPart (Bind k) = ⊥
+IsTermPart (Use k) = ⊥
+IsTermPart Value = ⊥
+IsTermPart Close = ⊥
+IsTermPart p = Unit {0}
+
+abbrev pub IsOneTerm : Part → Type 0
+IsOneTerm More = ⊥
+IsOneTerm p = IsTermPart p
+
+-- what is wanted after a term: more terms may stand where any number may
+abbrev pub after : Part → List Part → List Part
+after More ps = More ∷ ps
+after p ps = ps
+
+-- g is f with this piece added, and this part wanted next
+pub record Adds (f : Form) (p : Piece) (next : ℕ) (g : Form) : Type 0 where
+  pub same_row : g.row ≡ f.row
+  pub next_is : g.next ≡ next
+  pub same_scope : g.scope ≡ f.scope
+  pub same_bound : g.bound ≡ f.bound
+  pub pieces_are : g.pieces.items ≡ f.pieces.items ++ p ∷ []
+
+-- whatever is wanted around this form, with so many brackets open, the reading from here on fails so
+abbrev pub FailsAt : List ℕ → ℕ → ℕ → Form → ParseError → Type 0
+FailsAt text at depth f e = (todo : List Want) → suc (open_of todo) ≡ depth → Fails e (reads_at text at (want_of text f ∷ todo))
+
+-- a part of the form was read
+pub record Reads (text : List ℕ) (at : ℕ) (f g : Form) (next : ℕ) : Type 0 where
+  pub goes_on : (todo : List Want) → with_front (front_of f) (reads_at text at (want_of text f ∷ todo)) ≡ with_front (front_of g) (reads_at text next (want_of text g ∷ todo))
+  pub sound : Sound text f → Sound text g
+  pub same_scope : length g.scope.items ≡ length f.scope.items
+
+-- a form inside this one was opened
+pub record Opens (text : List ℕ) (at depth : ℕ) (f outer inner : Form) (next : ℕ) : Type 0 where
+  pub goes_on : (todo : List Want) → suc (open_of todo) ≡ depth → with_front (front_of f) (reads_at text at (want_of text f ∷ todo)) ≡ with_front (front_of outer ++ front_of inner) (reads_at text next (want_of text inner ∷ want_of text outer ∷ todo))
+  pub awaits : Sound text f → Awaits text outer
+  pub sound : Sound text f → Sound text inner
+  pub same_scope : length outer.scope.items ≡ length f.scope.items
+  pub deeper : length inner.scope.items ≤ length f.scope.items + 2
+
+-- the form was closed
+pub record Closes (text : List ℕ) (at : ℕ) (f : Form) (next : ℕ) : Type 0 where
+  pub goes_on : (todo : List Want) → reads_at text at (want_of text f ∷ todo) ≡ with_front (ended ∷ []) (reads_at text next todo)
+  pub shaped : Sound text f → Shaped f.row.word (sorts f.pieces.items)
+
+-- what a token did to this form, under which so many brackets are open
+abbrev pub Stepped : List ℕ → ℕ → ℕ → Form → Step → Type 0
+Stepped text at depth f (steps.Read g next) = Reads text at f g next × (at < next) × (next ≤ length text)
+Stepped text at depth f (steps.Opened outer inner next) = Opens text at depth f outer inner next × (at + 2 ≤ next) × (next ≤ length text)
+Stepped text at depth f (steps.Closed g next) = Closes text at f next × (g ≡ f) × (at < next) × (next ≤ length text)
+
+-- what is wanted of the forms around, the innermost first, which stand with the outermost first
+abbrev pub todo_onto : List ℕ → List Want → List Form → List Want
+todo_onto text around [] = around
+todo_onto text around (f ∷ fs) = todo_onto text (want_of text f ∷ around) fs
+
+-- what has been read of these forms
+abbrev pub fronts : List Form → List Atom
+fronts [] = []
+fronts (f ∷ fs) = front_of f ++ fronts fs
+
+abbrev pub AllAwait : List ℕ → List Form → Type 0
+AllAwait text [] = Unit {0}
+AllAwait text (f ∷ fs) = Awaits text f × AllAwait text fs
+
+abbrev pub ScopesWithin : ℕ → List Form → Type 0
+ScopesWithin n [] = Unit {0}
+ScopesWithin n (f ∷ fs) = (length f.scope.items ≤ n) × ScopesWithin n fs
+
+-- these forms are open, the first inside the others, and what was read of them and is left of the text is the whole text
+pub record IsStack (text : List ℕ) (at : ℕ) (f : Form) (fs : List Form) : Type 0 where
+  pub within : at ≤ length text
+  pub left : with_front (fronts fs ++ front_of f) (reads_at text at (want_of text f ∷ todo_onto text [] fs)) ≡ reads_at text 0 (term [] ∷ [])
+  pub sound : Sound text f
+  pub awaits : AllAwait text fs
+  pub few : length f.scope.items ≤ at
+  pub few_around : ScopesWithin at fs
+  pub forms : length fs ≤ at
+
+-- the text is one term up to this place, and this is what is left
+pub record IsWhole (text : List ℕ) (t : terms.Term) (end : ℕ) : Type 0 where
+  pub within : end ≤ length text
+  pub left : reads_at text 0 (term [] ∷ []) ≡ with_front (atoms_of t) (reads_at text end [])
+
+-- what one token did to the open forms
+abbrev pub Turned : List ℕ → ℕ → Turn → Type 0
+Turned text at (turns.More f fs next) = IsStack text next f fs.items × (at < next)
+Turned text at (turns.Done t end) = IsWhole text t end
+
+-- a form that was closed has the pieces that its word wants
+abbrev pub Buildable : Step → Type 0
+Buildable (steps.Read f next) = Unit {0}
+Buildable (steps.Opened outer inner next) = Unit {0}
+Buildable (steps.Closed f next) = Shaped f.row.word (sorts f.pieces.items)

@@ -1,0 +1,341 @@
+//! The forms whose closing bracket hasn't come, and what one token does to the innermost.
+
+ghost use Rattle.std.specs.Prelude.{◌≡◌, ◌≤◌, ◌+◌, ◌<◌, ◌^◌, ℕ, suc, List, [], ◌∷◌, ◌++◌, Err, IfOk, IfErr, length, drop};
+ghost use Rattle.term_parse.specs.Atoms.{word};
+ghost use Rattle.term_parse.specs.Reading.{Bound, Want, a_word, parts, open_of, with_front, reads_at};
+ghost use Rattle.term_parse.specs.Seen.{IsNext, IsGood};
+ghost use Rattle.term_parse.specs.Forms.{Tabled, Sound, NextIs, Adds, IsTermPart, IsOneTerm, after, FailsAt, Stepped};
+
+use crate::error::ParseError;
+use crate::scope::{Binding, entered, meaning, row_of};
+use crate::table::{Part, Row};
+use crate::token::{Token, TokenKind, token_at};
+use effect_term::{Kind, Operand, Term};
+use std::alloc::{AllocError, Global};
+use std::collections::VecDeque;
+
+/// A part of a form that has been read, apart from binders.
+#[derive(Drop)]
+pub(crate) enum Piece {
+    Name(effect_term::Name),
+    Value(Operand),
+    Term(Term),
+}
+
+/// A form whose closing bracket hasn't come.
+#[derive(Drop)]
+pub(crate) struct Form {
+    /// Its word and parts.
+    pub row: Row,
+    /// How many of its parts have been read.
+    pub next: usize,
+    /// The binders around it, the innermost last.
+    pub scope: Vec<Binding>,
+    /// Its own binders so far.
+    pub bound: Vec<Binding>,
+    /// What its parts gave so far.
+    pub pieces: VecDeque<Piece>,
+}
+
+/// What a token did: it read a part of the form, opened a form inside it, or closed it. The number
+/// is where the text goes on.
+#[derive(Drop)]
+pub(crate) enum Step {
+    Read(Form, usize),
+    Opened(Form, Form, usize),
+    Closed(Form, usize),
+}
+
+/// How many brackets may be open.
+const MOST_OPEN: usize = 100;
+
+/// The token that is wanted here, which is a good one.
+pub(crate) fn wanted(text: &[u8], at: usize) -> Result<Token, ParseError>
+    requires { at ≤ length text.now }
+    ensures found { IfOk result (IsNext text.now at) }
+    ensures good { IfOk result (λ t. IsGood t.kind) }
+    ensures fault { IfErr result (λ e. (w : Want) (todo : List Want) → reads_at text.now at (w ∷ todo) ≡ Err e) }
+{
+    let Some(token) = token_at(text, at) else {
+        return Err(ParseError::End(text.len()));
+    };
+    match token.kind {
+        TokenKind::BadByte => Err(ParseError::BadByte(token.start)),
+        TokenKind::BadNumber => Err(ParseError::BadNumber(token.start)),
+        _ => Ok(token),
+    }
+}
+
+/// The row of the word that is wanted here, and where the text goes on.
+pub(crate) fn word(text: &[u8], at: usize) -> Result<(Row, usize), ParseError>
+    requires { at ≤ length text.now }
+    ensures within { IfOk result (λ r. (at < r.1) × (r.1 ≤ length text.now)) }
+    ensures tabled { IfOk result (λ r. Tabled r.0) }
+    ensures found { IfOk result (λ r. (s : List Bound) (todo : List Want) → reads_at text.now at (a_word s ∷ todo) ≡ with_front (word r.0.word ∷ []) (reads_at text.now r.1 (parts s [] r.0.parts ∷ todo))) }
+    ensures fault { IfErr result (λ e. (s : List Bound) (todo : List Want) → reads_at text.now at (a_word s ∷ todo) ≡ Err e) }
+{
+    let token = wanted(text, at)?;
+    let TokenKind::Called = token.kind else {
+        return Err(ParseError::UnknownWord(token.start));
+    };
+    match row_of(&text[token.start..token.end]) {
+        Some(row) => Ok((row, token.end)),
+        None => Err(ParseError::UnknownWord(token.start)),
+    }
+}
+
+/// Reads a binder.
+fn bind(
+    text: &[u8],
+    at: usize,
+    mut form: Form,
+    token: Token,
+    kind: Kind,
+) -> Result<Step, ParseError>
+    requires token { IsNext text.now at token }
+    requires good { IsGood token.kind }
+    requires part { NextIs form (Part.Bind kind) }
+    ensures found { (depth : ℕ) → IfOk result (Stepped text.now at depth form) }
+    ensures fault { (depth : ℕ) → IfErr result (FailsAt text.now at depth form) }
+{
+    let TokenKind::Called = token.kind else {
+        return Err(ParseError::Arity(token.start));
+    };
+    form.bound.push(Binding {
+        start: token.start,
+        end: token.end,
+        kind,
+    })?;
+    form.next += 1;
+    Ok(Step::Read(form, token.end))
+}
+
+/// The form with one more piece, and the next part wanted.
+pub(crate) fn with_piece(mut form: Form, piece: Piece, next: usize) -> Result<Form, AllocError>
+    ensures { IfOk result (Adds form piece next) }
+{
+    form.pieces.push_back(piece)?;
+    form.next = next;
+    Ok(form)
+}
+
+/// Reads a use of a name.
+fn use_name(
+    text: &[u8],
+    at: usize,
+    form: Form,
+    token: Token,
+    kind: Kind,
+) -> Result<Step, ParseError>
+    requires token { IsNext text.now at token }
+    requires good { IsGood token.kind }
+    requires part { NextIs form (Part.Use kind) }
+    requires sound { Sound text.now form }
+    requires few { length form.scope.items < 2 ^ 32 }
+    ensures found { (depth : ℕ) → IfOk result (Stepped text.now at depth form) }
+    ensures fault { (depth : ℕ) → IfErr result (FailsAt text.now at depth form) }
+{
+    let TokenKind::Called = token.kind else {
+        return Err(ParseError::Arity(token.start));
+    };
+    let spelling = &text[token.start..token.end];
+    match meaning(text, &form.scope, kind, spelling, token.start) {
+        Ok(name) => {
+            let next = form.next + 1;
+            Ok(Step::Read(with_piece(form, Piece::Name(name), next)?, token.end))
+        }
+        Err(error) => Err(error),
+    }
+}
+
+fn number(n: i32) -> Operand
+    ensures { result ≡ Operand.Number n }
+{
+    Operand::Number(n)
+}
+
+/// Reads a number or a use of a value's name.
+fn value(text: &[u8], at: usize, form: Form, token: Token) -> Result<Step, ParseError>
+    requires token { IsNext text.now at token }
+    requires good { IsGood token.kind }
+    requires part { NextIs form Part.Value }
+    requires sound { Sound text.now form }
+    requires few { length form.scope.items < 2 ^ 32 }
+    ensures found { (depth : ℕ) → IfOk result (Stepped text.now at depth form) }
+    ensures fault { (depth : ℕ) → IfErr result (FailsAt text.now at depth form) }
+{
+    match token.kind {
+        TokenKind::Number(n) => {
+            let next = form.next + 1;
+            Ok(Step::Read(with_piece(form, Piece::Value(number(n)), next)?, token.end))
+        }
+        TokenKind::Called => named_value(text, at, form, token),
+        _ => Err(ParseError::Arity(token.start)),
+    }
+}
+
+/// Reads a use of a value's name.
+fn named_value(text: &[u8], at: usize, form: Form, token: Token) -> Result<Step, ParseError>
+    requires token { IsNext text.now at token }
+    requires called { token.kind ≡ TokenKind.Called }
+    requires part { NextIs form Part.Value }
+    requires sound { Sound text.now form }
+    requires few { length form.scope.items < 2 ^ 32 }
+    ensures found { (depth : ℕ) → IfOk result (Stepped text.now at depth form) }
+    ensures fault { (depth : ℕ) → IfErr result (FailsAt text.now at depth form) }
+{
+    let spelling = &text[token.start..token.end];
+    match meaning(text, &form.scope, Kind::Value, spelling, token.start) {
+        Ok(name) => {
+            let next = form.next + 1;
+            Ok(Step::Read(
+                with_piece(form, Piece::Value(Operand::Named(name)), next)?,
+                token.end,
+            ))
+        }
+        Err(error) => Err(error),
+    }
+}
+
+/// Opens a form inside this one, of which this part is wanted once the other has closed.
+fn open(
+    alloc: Global,
+    text: &[u8],
+    at: usize,
+    mut form: Form,
+    token: Token,
+    part: Part,
+    rest: usize,
+    depth: usize,
+) -> Result<Step, ParseError>
+    requires token { IsNext text.now at token }
+    requires opens { token.kind ≡ TokenKind.Open }
+    requires part { NextIs form part }
+    requires term { IsTermPart part }
+    requires rest { drop rest form.row.parts ≡ after part (drop (form.next + 1) form.row.parts) }
+    ensures found { IfOk result (Stepped text.now at depth form) }
+    ensures fault { IfErr result (FailsAt text.now at depth form) }
+{
+    if depth >= MOST_OPEN {
+        return Err(ParseError::TooDeep(token.start));
+    }
+    let scope = entered(alloc, &form.scope, &form.bound, part)?;
+    match word(text, token.end) {
+        Ok((row, next)) => {
+            form.next = rest;
+            let inner = Form {
+                row,
+                next: 0,
+                scope,
+                bound: Vec::new(alloc),
+                pieces: VecDeque::new(alloc),
+            };
+            Ok(Step::Opened(form, inner, next))
+        }
+        Err(error) => Err(error),
+    }
+}
+
+/// Reads the opening bracket of the one term that is wanted.
+fn one_term(
+    alloc: Global,
+    text: &[u8],
+    at: usize,
+    form: Form,
+    token: Token,
+    part: Part,
+    depth: usize,
+) -> Result<Step, ParseError>
+    requires token { IsNext text.now at token }
+    requires good { IsGood token.kind }
+    requires part { NextIs form part }
+    requires term { IsOneTerm part }
+    ensures found { IfOk result (Stepped text.now at depth form) }
+    ensures fault { IfErr result (FailsAt text.now at depth form) }
+{
+    let TokenKind::Open = token.kind else {
+        return Err(ParseError::Arity(token.start));
+    };
+    let rest = form.next + 1;
+    open(alloc, text, at, form, token, part, rest, depth)
+}
+
+/// Reads one more term's opening bracket, or the closing bracket.
+fn more_terms(
+    alloc: Global,
+    text: &[u8],
+    at: usize,
+    form: Form,
+    token: Token,
+    depth: usize,
+) -> Result<Step, ParseError>
+    requires token { IsNext text.now at token }
+    requires good { IsGood token.kind }
+    requires part { NextIs form Part.More }
+    ensures found { IfOk result (Stepped text.now at depth form) }
+    ensures fault { IfErr result (FailsAt text.now at depth form) }
+{
+    match token.kind {
+        TokenKind::Open => {
+            let rest = form.next;
+            open(alloc, text, at, form, token, Part::More, rest, depth)
+        }
+        TokenKind::Close => Ok(Step::Closed(form, token.end)),
+        _ => Err(ParseError::Arity(token.start)),
+    }
+}
+
+/// Reads the closing bracket.
+fn close(text: &[u8], at: usize, form: Form, token: Token) -> Result<Step, ParseError>
+    requires token { IsNext text.now at token }
+    requires good { IsGood token.kind }
+    requires part { NextIs form Part.Close }
+    ensures found { (depth : ℕ) → IfOk result (Stepped text.now at depth form) }
+    ensures fault { (depth : ℕ) → IfErr result (FailsAt text.now at depth form) }
+{
+    let _ = text;
+    let _ = at;
+    let TokenKind::Close = token.kind else {
+        return Err(ParseError::Arity(token.start));
+    };
+    Ok(Step::Closed(form, token.end))
+}
+
+/// What the next token does to the innermost form, under which so many brackets are open.
+pub(crate) fn advance(
+    alloc: Global,
+    text: &[u8],
+    at: usize,
+    form: Form,
+    depth: usize,
+) -> Result<Step, ParseError>
+    requires at { at ≤ length text.now }
+    requires sound { Sound text.now form }
+    requires few { length form.scope.items < 2 ^ 32 }
+    ensures found { IfOk result (Stepped text.now at depth form) }
+    ensures fault { IfErr result (FailsAt text.now at depth form) }
+{
+    let token = wanted(text, at)?;
+    let parts = form.row.parts;
+    if form.next >= parts.len() {
+        return Err(ParseError::Arity(token.start));
+    }
+    match parts[form.next] {
+        Part::Bind(kind) => bind(text, at, form, token, kind),
+        Part::Use(kind) => use_name(text, at, form, token, kind),
+        Part::Value => value(text, at, form, token),
+        Part::Term => one_term(alloc, text, at, form, token, Part::Term, depth),
+        Part::Under(i) => one_term(alloc, text, at, form, token, Part::Under(i), depth),
+        Part::UnderBoth(i, j) => one_term(
+            alloc,
+            text,
+            at,
+            form,
+            token,
+            Part::UnderBoth(i, j),
+            depth,
+        ),
+        Part::More => more_terms(alloc, text, at, form, token, depth),
+        Part::Close => close(text, at, form, token),
+    }
+}

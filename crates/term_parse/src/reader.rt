@@ -1,0 +1,180 @@
+//! Reads a text from left to right, one token at a time, with the forms that are open on a stack.
+
+ghost use Rattle.std.specs.Prelude.{◌≡◌, ◌≤◌, ◌<◌, ◌+◌, ℕ, List, [], ◌∷◌, IfOk, IfErr, Ok, Err, length};
+ghost use Rattle.term_parse.specs.declared.error.ParseError.{ParseError};
+ghost use Rattle.term_parse.specs.Atoms.{Atom, word, atoms_of};
+ghost use Rattle.term_parse.specs.declared.form.Form.{Form};
+ghost use Rattle.term_parse.specs.Reading.{reads_at, reading, term, Fails};
+ghost use Rattle.term_parse.specs.Forms.{Buildable, Shaped, sorts, ends, Closes, IsStack, IsWhole, Stepped, Turned};
+
+use crate::build::build;
+use crate::error::ParseError;
+use crate::form::{Form, Piece, Step, advance, wanted, with_piece, word};
+use crate::token::{TokenKind, token_at};
+use effect_term::Term;
+use std::alloc::{AllocError, Global};
+use std::collections::VecDeque;
+
+/// How many bytes a text may have.
+const LONGEST: usize = 65536;
+
+/// What one token did: the innermost form, those around it and the place where the text goes on, or
+/// the whole term and the place behind it.
+#[derive(Drop)]
+pub(crate) enum Turn {
+    More(Form, Vec<Form>, usize),
+    Done(Term, usize),
+}
+
+/// The whole term's form, once its word has been read, and where the text goes on.
+fn first_form(alloc: Global, text: &[u8]) -> Result<(Form, usize), ParseError>
+    ensures found { IfOk result (λ r. IsStack text.now r.1 r.0 []) }
+    ensures fault { IfErr result (λ e. Fails e (reads_at text.now 0 (term [] ∷ []))) }
+{
+    let token = wanted(text, 0)?;
+    let TokenKind::Open = token.kind else {
+        return Err(ParseError::Arity(token.start));
+    };
+    match word(text, token.end) {
+        Ok((row, next)) => {
+            let scope = Vec::new(alloc);
+            let bound = Vec::new(alloc);
+            let form = Form {
+                row,
+                next: 0,
+                scope,
+                bound,
+                pieces: VecDeque::new(alloc),
+            };
+            Ok((form, next))
+        }
+        Err(error) => Err(error),
+    }
+}
+
+/// The term of a form that has closed.
+fn term_of(alloc: Global, form: Form) -> Result<Term, AllocError>
+    requires { Shaped form.row.word (sorts form.pieces.items) }
+    ensures { IfOk result (λ t. atoms_of t ≡ word form.row.word ∷ ends form.pieces.items) }
+{
+    let Form {
+        row,
+        next: _,
+        scope: _,
+        bound: _,
+        pieces,
+    } = form;
+    build(alloc, row.word, pieces)
+}
+
+/// Goes on in the form around one that has closed, if there is one.
+fn resume(alloc: Global, form: Form, mut around: Vec<Form>, next: usize) -> Result<Turn, AllocError>
+    requires { Shaped form.row.word (sorts form.pieces.items) }
+    ensures { (text : List ℕ) (at : ℕ) → IsStack text at form around.items → Closes text at form next → at < next → next ≤ length text → IfOk result (Turned text at) }
+{
+    let term = term_of(alloc, form)?;
+    let Some(outer) = around.pop() else {
+        return Ok(Turn::Done(term, next));
+    };
+    let part = outer.next;
+    let form = with_piece(outer, Piece::Term(term), part)?;
+    Ok(Turn::More(form, around, next))
+}
+
+/// The open forms after a step of the innermost.
+fn apply(alloc: Global, step: Step, mut around: Vec<Form>) -> Result<Turn, AllocError>
+    requires { Buildable step }
+    ensures { (text : List ℕ) (at depth : ℕ) (form : Form) → IsStack text at form around.items → depth ≡ length around.items + 1 → Stepped text at depth form step → IfOk result (Turned text at) }
+{
+    match step {
+        Step::Read(form, next) => Ok(Turn::More(form, around, next)),
+        Step::Opened(outer, inner, next) => {
+            around.push(outer)?;
+            Ok(Turn::More(inner, around, next))
+        }
+        Step::Closed(form, next) => resume(alloc, form, around, next),
+    }
+}
+
+/// Reads one token, or the two that open a form.
+fn read_token(
+    alloc: Global,
+    text: &[u8],
+    at: usize,
+    form: Form,
+    around: Vec<Form>,
+) -> Result<Turn, ParseError>
+    requires stack { IsStack text.now at form around.items }
+    requires short { length text.now ≤ 65536 }
+    ensures found { IfOk result (Turned text.now at) }
+    ensures fault { IfErr result (λ e. Fails e (reads_at text.now 0 (term [] ∷ []))) }
+{
+    let depth = around.len() + 1;
+    match advance(alloc, text, at, form, depth) {
+        Ok(step) => Ok(apply(alloc, step, around)?),
+        Err(error) => Err(error),
+    }
+}
+
+/// The term with which the text begins, and the place behind it.
+fn whole(alloc: Global, text: &[u8]) -> Result<(Term, usize), ParseError>
+    requires { length text.now ≤ 65536 }
+    ensures found { IfOk result (λ r. IsWhole text.now r.0 r.1) }
+    ensures fault { IfErr result (λ e. Fails e (reads_at text.now 0 (term [] ∷ []))) }
+{
+    let (mut form, mut at) = first_form(alloc, text)?;
+    let mut around = Vec::new(alloc);
+    'tokens: loop {
+        match read_token(alloc, text, at, form, around) {
+            Ok(Turn::More(inner, outer, next)) => {
+                form = inner;
+                around = outer;
+                at = next;
+            }
+            Ok(Turn::Done(term, end)) => return Ok((term, end)),
+            Err(error) => return Err(error),
+        }
+    }
+}
+
+/// The term, if nothing but space stands behind it.
+fn alone(text: &[u8], term: Term, end: usize) -> Result<Term, ParseError>
+    requires short { length text.now ≤ 65536 }
+    requires whole { IsWhole text.now term end }
+    ensures found { IfOk result (λ t. reading text.now ≡ Ok (atoms_of t)) }
+    ensures fault { IfErr result (λ e. Fails e (reading text.now)) }
+{
+    match token_at(text, end) {
+        None => Ok(term),
+        Some(token) => Err(ParseError::Trailing(token.start)),
+    }
+}
+
+/// The term of a text, or its first fault.
+fn read(alloc: Global, text: &[u8]) -> Result<Term, ParseError>
+    ensures found { IfOk result (λ t. reading text.now ≡ Ok (atoms_of t)) }
+    ensures fault { IfErr result (λ e. Fails e (reading text.now)) }
+{
+    if text.len() > LONGEST {
+        return Err(ParseError::TooLong(LONGEST));
+    }
+    match whole(alloc, text) {
+        Ok((term, end)) => alone(text, term, end),
+        Err(error) => Err(error),
+    }
+}
+
+/// Reads the text of a term: one term with space around its tokens, by the grammar of the table.
+///
+/// A text has at most 65,536 bytes, and at most 100 brackets are open in it. Names stand for the
+/// innermost binder of their spelling. The answer is the term that the text spells, or its first
+/// fault from left to right, with its place; [`ParseError::TooLong`] comes before all others. It is
+/// [`ParseError::NoMemory`] only where a request for memory was refused.
+pub fn parse(alloc: Global, text: &[u8]) -> Result<Term, ParseError>
+    ensures found { IfOk result (λ t. reading text.now ≡ Ok (atoms_of t)) }
+    ensures only { (atoms : List Atom) → reading text.now ≡ Ok atoms → IfErr result (λ e. e ≡ ParseError.NoMemory) }
+    ensures fault { IfErr result (λ e. Fails e (reading text.now)) }
+    ensures refused { (e : ParseError) → reading text.now ≡ Err e → IfOk result (λ _. ⊥) }
+{
+    read(alloc, text)
+}

@@ -1,0 +1,208 @@
+//! The tokens of a text, one after another.
+
+ghost use Rattle.std.specs.Prelude.{◌≡◌, ◌≤◌, ◌<◌, ◌+◌, ◌||◌, ◌==◌, false, true, ℕ, List, [], IfSome, IfNone, length, neg_ℤ, pos, slice_index, slice_range, drop};
+ghost use Rattle.term_parse.specs.Lexemes.{is_space, is_digit, is_letter, is_run, run_of, lexemes, lexemes_at, number_of};
+ghost use Rattle.term_parse.specs.Seen.{IsNext, lexeme_as, plain_value, seen_kind};
+
+/// What a token is.
+#[derive(Clone, Copy, PartialEq, Eq, Debug)]
+pub(crate) enum TokenKind {
+    Open,
+    Close,
+    Called,
+    Number(i32),
+    BadNumber,
+    BadByte,
+}
+
+/// A token, and where its bytes stand in the text.
+#[derive(Clone, Copy, Debug)]
+pub(crate) struct Token {
+    pub kind: TokenKind,
+    pub start: usize,
+    pub end: usize,
+}
+
+/// The greatest number that may stand behind a minus sign.
+const LARGEST: u64 = 2147483648;
+
+fn is_letter(byte: u8) -> bool
+    ensures { result ≡ is_letter byte }
+{
+    97 <= byte && byte <= 122
+}
+
+fn is_digit(byte: u8) -> bool
+    ensures { result ≡ is_digit byte }
+{
+    48 <= byte && byte <= 57
+}
+
+fn is_run(byte: u8) -> bool
+    ensures { result ≡ is_run byte }
+{
+    is_letter(byte) || is_digit(byte)
+}
+
+/// Whether an identifier or a number begins with this byte.
+fn begins_run(byte: u8) -> bool
+    ensures { result ≡ (is_run byte || (byte == 45)) }
+{
+    is_run(byte) || byte == 45
+}
+
+fn is_space(byte: u8) -> bool
+    ensures { result ≡ is_space byte }
+{
+    byte == 32 || byte == 9 || byte == 13 || byte == 10
+}
+
+/// Where the space ends that begins here.
+#[tactic(auto, using(crate::proofs::Lexing::skip_space))]
+fn space_end(text: &[u8], from: usize) -> usize
+    requires { from ≤ length text.now }
+    ensures within { (from ≤ result) × (result ≤ length text.now) }
+    ensures skipped { lexemes_at from text.now ≡ lexemes_at result text.now }
+    ensures over { result < length text.now → is_space (slice_index text.now result) ≡ false }
+{
+    let mut at = from;
+    while at < text.len() {
+        if !is_space(text[at]) {
+            return at;
+        }
+        at += 1;
+    }
+    at
+}
+
+/// Where the run of letters and digits ends that goes on here.
+#[tactic(auto, using(crate::proofs::Lexing::run_stops, crate::proofs::Lexing::run_ends))]
+fn run_end(text: &[u8], from: usize) -> usize
+    requires { from ≤ length text.now }
+    ensures within { (from ≤ result) × (result ≤ length text.now) }
+    ensures run { slice_range text.now from result ≡ run_of (drop from text.now) }
+    ensures skipped { lexemes true from (drop from text.now) ≡ lexemes_at result text.now }
+{
+    let mut at = from;
+    while at < text.len() {
+        if !is_run(text[at]) {
+            return at;
+        }
+        at += 1;
+    }
+    at
+}
+
+/// The value of digits that don't begin with 0, where it is at most [`LARGEST`].
+#[tactic(auto, unfolding(crate::specs::Seen::plain_value))]
+fn plain_value(digits: &[u8]) -> Option<u64>
+    ensures { result ≡ plain_value digits.now }
+{
+    let [first, ..] = digits else {
+        return None;
+    };
+    if *first <= 48 {
+        return None;
+    }
+    let mut value: u64 = 0;
+    for &digit in digits {
+        if !is_digit(digit) {
+            return None;
+        }
+        value = value * 10 + u64::from(digit - 48);
+        if value > LARGEST {
+            return None;
+        }
+    }
+    Some(value)
+}
+
+fn negated(value: u64) -> i32
+    requires { value ≤ 2147483648 }
+    ensures { result ≡ neg_ℤ (pos value) }
+{
+    (0 - value as i64) as i32
+}
+
+/// The number that a run is, if it is one.
+#[tactic(auto, unfolding(crate::specs::Seen::plain_value, crate::specs::Lexemes::number_of))]
+fn number(run: &[u8]) -> Option<i32>
+    ensures { result ≡ number_of run.now }
+{
+    let [first, digits @ ..] = run else {
+        return None;
+    };
+    if *first == 48 && digits.is_empty() {
+        return Some(0);
+    }
+    if *first == 45 {
+        let value = plain_value(digits)?;
+        return Some(negated(value));
+    }
+    let value = plain_value(run)?;
+    if value < LARGEST {
+        Some(value as i32)
+    } else {
+        None
+    }
+}
+
+/// What the token is that begins with this byte and, if it is an identifier or a number, has these.
+#[tactic(auto, unfolding(crate::specs::Seen::lexeme_as, crate::specs::Lexemes::numbered))]
+fn kind_of(first: u8, run: &[u8]) -> TokenKind
+    ensures { seen_kind run.now result ≡ lexeme_as first run.now }
+{
+    if first == 40 {
+        TokenKind::Open
+    } else if first == 41 {
+        TokenKind::Close
+    } else if is_letter(first) {
+        TokenKind::Called
+    } else if is_digit(first) || first == 45 {
+        match number(run) {
+            Some(n) => TokenKind::Number(n),
+            None => TokenKind::BadNumber,
+        }
+    } else {
+        TokenKind::BadByte
+    }
+}
+
+/// The token that begins here.
+fn token_from(text: &[u8], start: usize) -> Token
+    requires within { start < length text.now }
+    requires begins { is_space (slice_index text.now start) ≡ false }
+    ensures { IsNext text.now start result }
+{
+    let first = text[start];
+    if begins_run(first) {
+        let end = run_end(text, start + 1);
+        Token {
+            kind: kind_of(first, &text[start..end]),
+            start,
+            end,
+        }
+    } else {
+        let end = start + 1;
+        Token {
+            kind: kind_of(first, &text[start..end]),
+            start,
+            end,
+        }
+    }
+}
+
+/// The next token from here on, if there is one.
+#[tactic(auto, using(crate::proofs::Lexing::no_tokens))]
+pub(crate) fn token_at(text: &[u8], at: usize) -> Option<Token>
+    requires { at ≤ length text.now }
+    ensures found { IfSome result (IsNext text.now at) }
+    ensures none { IfNone result (lexemes_at at text.now ≡ []) }
+{
+    let start = space_end(text, at);
+    if start < text.len() {
+        Some(token_from(text, start))
+    } else {
+        None
+    }
+}
