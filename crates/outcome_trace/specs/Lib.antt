@@ -1,4 +1,8 @@
+pub mod Answers
 pub mod Device
+pub mod Exchange
+pub mod FaultLines
+pub mod Orders
 pub mod Lines
 pub mod ReportText
 pub mod Wrapped

@@ -7,9 +7,12 @@
 //! report or of a line.
 #![tactic(auto)]
 
+mod answers;
 mod device;
 mod fault;
+mod fault_lines;
 mod lines;
+mod orders;
 mod report;
 mod report_text;
 mod schedule;
@@ -17,9 +20,11 @@ mod schedule;
 mod tests;
 mod text;
 
+pub use answers::{FAULT, REFUSED, check_text};
 pub use device::{FromRead, ReadError, TextIn, TextOut, ToWrite, WriteFailed};
 pub use fault::TextFault;
 pub use lines::{Refused, line};
+pub use orders::{Order, USAGE, obey, tell_fault, tell_no_memory};
 pub use report::{FiberReport, FiberReports, Marks, Report};
 pub use report_text::{print_report, text_of_report};
 pub use schedule::{MOST_ENTRIES, ScheduleError, read_schedule, schedule_text_means_one_thing};
