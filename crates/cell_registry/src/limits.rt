@@ -1,4 +1,8 @@
 //! How much a registry has, and what is answered where it is used up.
+ghost use Rattle.std.specs.Prelude.{◌≡◌};
+ghost use Rattle.cell_registry.specs.declared.limits.RunError.TheVariants.{NoMemory};
+
+use std::alloc::AllocError;
 
 /// How many numbers each band of a registry has, each from 1 to 1000, and how often the owner of a
 /// fiber may change its cell, from 1 to 262,143.
@@ -44,4 +48,12 @@ pub enum RunError {
     Lost(u16),
     /// No worker thread could be started.
     NoWorker,
+}
+
+impl From<AllocError> for RunError {
+    ghost from_gives = { λ _ e. e ≡ NoMemory };
+
+    fn from(_: AllocError) -> RunError {
+        RunError::NoMemory
+    }
 }

@@ -1,7 +1,7 @@
 //! The registry for one thread.
 ghost use Rattle.std.specs.Prelude.{◌≡◌, ◌+◌, ◌≤◌, IfOk, MatchResult, Some, None};
 ghost use Rattle.cell_registry.specs.Cells.{AreLimits, spent};
-ghost use Rattle.cell_registry.specs.Plain.{kept_open, MayCall, IsMade, IsRefused};
+ghost use Rattle.cell_registry.specs.Plain.{kept_open, IsKept, MayCall, IsMade, IsRefused};
 
 use crate::call::Call;
 use crate::cell::{Cell, Stage};
@@ -71,6 +71,14 @@ impl PlainRegistry {
             refs: vec![in alloc; 0; usize::from(refs)]?,
             deferreds: vec![in alloc; None; usize::from(deferreds)]?,
         })
+    }
+
+    /// The limits that the registry was made with.
+    pub fn limits(&self) -> Limits
+        ensures limits { result ≡ self.now.limits }
+        ensures kept { IsKept self.now }
+    {
+        self.limits
     }
 
     /// Makes a fiber, and gives its number. The caller hasn't ended. Answers `Full` where all

@@ -19,3 +19,6 @@ mod turn;
 pub use ask::{Ask, Look};
 pub use config::{Config, Moved};
 pub use mark::Mark;
+
+#[cfg(test)]
+mod tests;

@@ -4,9 +4,14 @@ pub mod Exchange
 pub mod FaultLines
 pub mod Orders
 pub mod Lines
+pub mod ReplayAnswers
 pub mod ReportText
 pub mod Wrapped
 pub mod Text
 pub mod Schedule
 pub mod Reading
 pub mod Digits
+pub mod Core
+pub mod Room
+pub mod Fit
+pub mod Steps

@@ -2,14 +2,17 @@
 
 ghost use Rattle.std.specs.Prelude.{◌≡◌, ◌<◌, ◌^◌, false};
 ghost use Rattle.outcome_trace.specs.FaultLines.{TellsFault};
-ghost use Rattle.outcome_trace.specs.Orders.{Obeys, Told, TellsResult, status_of};
+ghost use Rattle.outcome_trace.specs.Orders.{HasLimits, Obeys, RefusesSchedule, Told, TellsResult, status_of};
 ghost use Rattle.outcome_trace.specs.declared.fault.TextFault.TheVariants.{NoMemory};
 
 use crate::answers::{FAULT, check_text};
 use crate::device::{TextIn, TextOut};
 use crate::fault::TextFault;
-use crate::fault_lines::fault_line;
+use crate::fault_lines::{fault_line, schedule_line};
+use crate::replay_texts::replay_text;
+use crate::schedule::{ScheduleError, read_schedule};
 use crate::text::write_text;
+use cell_registry::Limits;
 use std::alloc::Global;
 
 /// The status where the words or the schedule are wrong.
@@ -17,9 +20,11 @@ pub const USAGE: u8 = 64;
 
 /// What to do with the text that comes in.
 #[derive(Clone, Copy, Debug)]
-pub enum Order {
+pub enum Order<'a> {
     /// Tell whether it is a program.
     Check,
+    /// Run it under the schedule that this text is, within these limits.
+    Replay { schedule: &'a str, limits: Limits },
 }
 
 /// Tells that there was no memory. It takes none itself.
@@ -58,11 +63,29 @@ fn status<E: TextOut>(alloc: Global, outcome: Result<u8, TextFault>, err: &mut E
     }
 }
 
+/// Tells that a schedule's text is bad, or that there was no memory.
+fn refuse_schedule<E: TextOut>(alloc: Global, error: ScheduleError, err: &mut E) -> u8
+    requires { E.has_failed err.old ≡ false }
+    ensures { RefusesSchedule error (record { old = E.contents err.old; new = E.contents err.new; failed = E.has_failed err.new }) result }
+{
+    let ScheduleError::BadSchedule(place) = error else {
+        return tell_no_memory(err);
+    };
+    let Ok(line) = schedule_line(alloc, place) else {
+        return tell_no_memory(err);
+    };
+    let _ = write_text(line.as_bytes(), err);
+    USAGE
+}
+
 /// Obeys an order: reads the text, and writes its answer. Gives the status of the program: that of
 /// the answer, or 70 where a device failed or memory ran out, which is told on the last device.
+///
+/// A schedule's text is looked at first. Where it is bad, that is told on the last device, and the
+/// text isn't read.
 pub fn obey<I: TextIn, O: TextOut, E: TextOut>(
     alloc: Global,
-    order: Order,
+    order: Order<'_>,
     input: &mut I,
     out: &mut O,
     err: &mut E,
@@ -71,12 +94,24 @@ pub fn obey<I: TextIn, O: TextOut, E: TextOut>(
     requires countable { I.reads input.old < 2 ^ 63 }
     requires out { O.has_failed out.old ≡ false }
     requires err { E.has_failed err.old ≡ false }
-    ensures { Obeys order (I.remaining input.old) (I.remaining input.new) (O.contents out.old) (O.contents out.new) (record { old = E.contents err.old; new = E.contents err.new; failed = E.has_failed err.new }) result }
+    requires limits { HasLimits order }
+    ensures obeyed { Obeys order.entry (I.remaining input.old) (I.remaining input.new) (O.contents out.old) (O.contents out.new) (record { old = E.contents err.old; new = E.contents err.new; failed = E.has_failed err.new }) result }
+
+    // Where the schedule is bad, the text isn't read and nothing is answered.
+    ensures unread { result ≡ USAGE → input.new ≡ input.old }
+    ensures unanswered { result ≡ USAGE → out.new ≡ out.old }
 {
     match order {
         Order::Check => {
             let outcome = check_text(alloc, input, out);
             status(alloc, outcome, err)
         }
+        Order::Replay { schedule, limits } => match read_schedule(alloc, schedule) {
+            Ok(entries) => {
+                let outcome = replay_text(alloc, input, entries.as_slice(), limits, out);
+                status(alloc, outcome, err)
+            }
+            Err(error) => refuse_schedule(alloc, error, err),
+        },
     }
 }

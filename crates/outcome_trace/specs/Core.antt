@@ -1,0 +1,118 @@
+-- The core: the states of the born fibers beside one registry, and what a schedule makes of them.
+use Rattle.std.specs.Prelude.{ℕ, List, [], ◌∷◌, ◌++◌, Option, Some, None, Result, Ok, Err, map, slice_set}
+use Rattle.std.specs.List.{slice_get}
+use Rattle.effect_term.specs.declared.reply.Outcome.{Outcome}
+use Rattle.effect_term.specs.declared.reply.Reply.{Reply}
+use Rattle.effect_term.specs.declared.reply.Reply.TheVariants.{Done}
+use Rattle.derived_ops.specs.Tree.{Tree}
+use Rattle.fiber_frames.specs.declared.ask.Ask.{Ask}
+use Rattle.fiber_frames.specs.declared.ask.Ask.TheVariants as ask
+use Rattle.fiber_frames.specs.Rows.{number_in}
+use Rattle.fiber_frames.specs.Fiber.{Fiber, begins, ask_of, move, child, outcome_of}
+use Rattle.cell_registry.specs.declared.limits.Limits.{Limits}
+use Rattle.cell_registry.specs.declared.limits.CellError.{CellError}
+use Rattle.cell_registry.specs.declared.limits.CellError.TheVariants as cell
+use Rattle.cell_registry.specs.declared.limits.RunError.{RunError}
+use Rattle.cell_registry.specs.declared.limits.RunError.TheVariants as run
+use Rattle.cell_registry.specs.declared.call.Call.{Call}
+use Rattle.cell_registry.specs.declared.call.Call.TheVariants as call
+use Rattle.cell_registry.specs.Cells.{Cells, opening, after, reply_of, refusal}
+use Rattle.outcome_trace.specs.declared.wish.Wish.{Wish}
+use Rattle.outcome_trace.specs.declared.wish.Wish.TheVariants.{Shared, Alone, Nothing}
+use Rattle.outcome_trace.specs.declared.report.FiberReport.{FiberReport}
+use Rattle.outcome_trace.specs.declared.report.Report.{Report}
+
+-- what the next move of a fiber wants: a shared call, or none; or there is no next move
+abbrev pub wish_of : Ask → Wish
+wish_of ask.Look = Shared call.Look
+wish_of ask.Cut = Shared call.Cut
+wish_of ask.Mask = Shared call.Mask
+wish_of ask.Unmask = Shared call.Unmask
+wish_of (ask.Finish o) = Shared (call.Finish o)
+wish_of (ask.Cancel f) = Shared (call.Cancel f)
+wish_of (ask.Join f) = Shared (call.Join f)
+wish_of ask.Start = Shared call.Start
+wish_of ask.NewRef = Shared call.NewRef
+wish_of (ask.Get r) = Shared (call.Get r)
+wish_of (ask.Set r v) = Shared (call.Set r v)
+wish_of (ask.Modify r v) = Shared (call.Modify r v)
+wish_of ask.NewDeferred = Shared call.NewDeferred
+wish_of (ask.Complete d v) = Shared (call.Complete d v)
+wish_of (ask.Read d) = Shared (call.Read d)
+wish_of ask.Silent = Alone
+wish_of (ask.Over o) = Nothing
+wish_of ask.Broken = Nothing
+
+-- the states of the born fibers, by their numbers, and the registry
+pub record World : Type 0 where
+  pub fibers : List Fiber
+  pub cells : Cells
+
+-- the world of a program before the first move: fiber 0 at the root of the code, and no other
+abbrev pub first_world : Tree → Limits → World
+first_world code k = record { fibers = begins 0 code ∷ []; cells = opening k }
+
+-- how a schedule goes: on, or it is ended by a fault
+pub data Course : Type 0 where
+  Goes : World → Course
+  Stops : RunError → Course
+
+-- the fault of a refused call
+abbrev pub fault_of : ℕ → CellError → RunError
+fault_of f (cell.Full band n) = run.Full band n
+fault_of f (cell.Spent count) = run.Spent f
+
+-- the child that a call makes
+abbrev pub born : Fiber → Call → Reply → List Fiber
+born g call.Start r = child g (number_in r) ∷ []
+born g _ r = []
+
+-- the move of fiber f, which is in state g, with the registry's reply
+abbrev pub called : World → ℕ → Fiber → Call → Reply → World
+called w f g c r = record { fibers = slice_set w.fibers f (move g r) ++ born g c r; cells = after w.cells f c }
+
+-- a call that is refused ends the schedule by its fault
+abbrev pub answered : World → ℕ → Fiber → Call → Option CellError → Course
+answered w f g c None = Goes (called w f g c (reply_of w.cells f c))
+answered w f g c (Some e) = Stops (fault_of f e)
+
+abbrev pub wished : Limits → World → ℕ → Fiber → Wish → Course
+wished k w f g (Shared c) = answered w f g c (refusal k w.cells f c)
+wished k w f g Alone = Goes record w { fibers = slice_set w.fibers f (move g Done) }
+wished k w f g Nothing = Goes w
+
+-- the one move of the fiber of this number; an unborn number changes nothing
+abbrev pub turned : Limits → World → ℕ → Option Fiber → Course
+turned k w f None = Goes w
+turned k w f (Some g) = wished k w f g (wish_of (ask_of g))
+
+-- an entry of a schedule
+abbrev pub entered : Limits → Course → ℕ → Course
+entered k (Stops e) f = Stops e
+entered k (Goes w) f = turned k w f (slice_get w.fibers f)
+
+abbrev pub core_from : Limits → Course → List ℕ → Course
+core_from k x [] = x
+core_from k x (f ∷ fs) = core_from k (entered k x f) fs
+
+-- the core of a code under a schedule
+unfoldable pub core : Tree → Limits → List ℕ → Course
+core code k schedule = core_from k (Goes (first_world code k)) schedule
+
+-- a world with one fiber
+abbrev pub one_fiber : Fiber → Cells → World
+one_fiber g s = record { fibers = g ∷ []; cells = s }
+
+-- ---- the report of a world
+abbrev pub fiber_report : Fiber → FiberReport
+fiber_report g = record { outcome = outcome_of g; marks = g.marks }
+
+-- the outcome that an ask tells
+abbrev pub over_in : Ask → Option Outcome
+over_in (ask.Over o) = Some o
+over_in _ = None
+
+-- the report of the core, or its fault
+abbrev pub reported : Course → Result Report RunError
+reported (Goes w) = Ok record { fibers = map fiber_report w.fibers }
+reported (Stops e) = Err e
