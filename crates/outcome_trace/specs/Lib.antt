@@ -1,5 +1,10 @@
+pub mod Answers
 pub mod Device
+pub mod Exchange
+pub mod FaultLines
+pub mod Orders
 pub mod Lines
+pub mod ReplayAnswers
 pub mod ReportText
 pub mod Wrapped
 pub mod Text

@@ -1,17 +1,21 @@
-//! What comes in and what goes out: texts read from and written to devices, the text of a
-//! schedule, and the texts of reports, refusals and faults.
+//! From the bytes that come in to the bytes that go out: texts read from and written to devices,
+//! schedules' texts, the core under a schedule, and the texts of reports, refusals and faults.
 //!
-//! It stands on the programs of `effect_term`, the fibers of `fiber_frames` and the registry of
-//! `cell_registry`. It promises that a program under a schedule is reported as the core says, where
-//! each entry makes one move of a fiber beside one registry; that a text is read whole or its fault
-//! is told, that a schedule's text is accepted exactly where it is well formed, with the place of
-//! its first bad item where it isn't, and that what goes out is exactly the text of a report or of
-//! a line.
+//! It stands on the parser (`term_parse`), the programs (`effect_term`), their code
+//! (`derived_ops`), the moves of a fiber (`fiber_frames`) and the registry for one thread
+//! (`cell_registry`). It promises that a text is read whole or its fault is told, that a schedule's
+//! text is accepted exactly where it is well formed, with the place of its first bad item where it
+//! isn't, that a run under a schedule is the core's, and that what goes out is exactly the text of
+//! the report or of the line that answers the text.
 #![tactic(auto)]
 
+mod answers;
 mod device;
 mod fault;
+mod fault_lines;
 mod lines;
+mod orders;
+mod replay_texts;
 mod report;
 mod report_text;
 mod schedule;
@@ -23,9 +27,12 @@ mod tests;
 mod text;
 mod wish;
 
+pub use answers::{FAULT, REFUSED, check_text};
 pub use device::{FromRead, ReadError, TextIn, TextOut, ToWrite, WriteFailed};
 pub use fault::TextFault;
 pub use lines::{Refused, line};
+pub use orders::{Order, USAGE, obey, tell_fault, tell_no_memory};
+pub use replay_texts::replay_text;
 pub use report::{FiberReport, FiberReports, Marks, Report};
 pub use report_text::{print_report, text_of_report};
 pub use schedule::{MOST_ENTRIES, ScheduleError, read_schedule, schedule_text_means_one_thing};

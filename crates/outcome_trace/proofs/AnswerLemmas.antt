@@ -1,0 +1,42 @@
+-- Answers to texts.
+use Rattle.std.proofs.Common.{◌≡◌, ◌≢◌, ℕ, Bool, true, false, IsTrue, List, [], Result, Ok, Err, IfOk, OnOk, subst, inl, inr, rules, refl}
+use Rattle.effect_term.specs.declared.term.Term.{Term}
+use Rattle.effect_term.specs.declared.refusal.TermError.{TermError}
+use Rattle.effect_term.specs.declared.refusal.TermError.TheVariants as term
+use Rattle.effect_term.specs.Programs.{IsProgram, IsRefusal, refusal_of}
+use Rattle.term_parse.specs.declared.error.ParseError.{ParseError}
+use Rattle.term_parse.specs.declared.error.ParseError.TheVariants as parse
+use Rattle.term_parse.specs.Atoms.{atoms_of}
+use Rattle.term_parse.specs.Reading.{reading}
+use Rattle.outcome_trace.specs.declared.answers.Answer.{Answer}
+use Rattle.outcome_trace.specs.declared.lines.Refused.{Refused}
+use Rattle.outcome_trace.specs.declared.lines.Refused.TheVariants as refusals
+use Rattle.outcome_trace.specs.Lines.{has_line, line_of}
+use Rattle.outcome_trace.specs.Answers.{IsRefusalAnswer, no_term, no_program, IsCheckAnswer, refused, counted, IsRefused, ok_line}
+
+-- what has a line isn't want of memory
+parse_memory : (e : ParseError) → has_line (refusals.Parse e) ≡ true → e ≢ parse.NoMemory
+parse_memory e h = λ same. let bad : false ≡ true = subst (λ (x : ParseError). has_line (refusals.Parse x) ≡ true) same h in cc
+
+term_memory : (e : TermError) → has_line (refusals.Term e) ≡ true → e ≢ term.NoMemory
+term_memory e h = λ same. let bad : false ≡ true = subst (λ (x : TermError). has_line (refusals.Term x) ≡ true) same h in cc
+
+refused_so : (text : List ℕ) (r : Refused) → IsRefused text r → has_line r ≡ true → IsRefusalAnswer text (line_of r) 65
+refused_so text (refusals.Parse e) h told = no_term text e (h (parse_memory e told))
+refused_so text (refusals.Term e) h told = elim h.2 [
+  | inl memory ↦ absurd (term_memory e told memory)
+  | inr why ↦ no_program text h.0 e h.1 why
+]
+refused_so text (refusals.Run e) h told = absurd h
+
+pub refusal_answers : {E : Type 0} (text : List ℕ) (r : Refused) (a : Result Answer E) → IsRefused text r → IfOk a (λ a. a.text.items ≡ line_of r) → IfOk a (λ a. a.status ≡ 65) → OnOk a (IsTrue (has_line r)) → IfOk a (λ a. IsRefusalAnswer text a.text.items a.status)
+refusal_answers text r (Ok a) h line status told = rw (line, status) (refused_so text r h told)
+refusal_answers text r (Err e) h line status told = tt
+
+pub refusal_checks : {E : Type 0} (text : List ℕ) (a : Result Answer E) → IfOk a (λ a. IsRefusalAnswer text a.text.items a.status) → IfOk a (λ a. IsCheckAnswer text a.text.items a.status)
+refusal_checks text (Ok a) h = refused text a.text.items a.status h
+refusal_checks text (Err e) h = tt
+
+pub counts_check : {E : Type 0} (text : List ℕ) (t : Term) (a : Result Answer E) → reading text ≡ Ok (atoms_of t) → IsProgram t → IfOk a (λ a. a.text.items ≡ ok_line t) → IfOk a (λ a. a.status ≡ 0) → IfOk a (λ a. IsCheckAnswer text a.text.items a.status)
+counts_check text t (Ok a) e p line status = rw (line, status) (counted text t e p)
+counts_check text t (Err x) e p line status = tt

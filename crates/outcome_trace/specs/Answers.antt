@@ -1,0 +1,42 @@
+-- What is answered to a text.
+use Rattle.std.specs.Prelude.{◌≡◌, ◌≢◌, ◌-◌, ◌^◌, ℕ, min, List, [], ◌∷◌, ◌++◌, codes, Ok, Err, Some}
+use Rattle.std.specs.Fmt.{decimal}
+use Rattle.effect_term.specs.declared.term.Term.{Term}
+use Rattle.effect_term.specs.declared.refusal.TermError.{TermError}
+use Rattle.effect_term.specs.Masks.{masks_of}
+use Rattle.effect_term.specs.Programs.{IsProgram, IsRefusal, refusal_of}
+use Rattle.effect_term.specs.Sizes.{size_of, nest_of}
+use Rattle.term_parse.specs.declared.error.ParseError.{ParseError}
+use Rattle.term_parse.specs.declared.error.ParseError.TheVariants as parse
+use Rattle.term_parse.specs.Atoms.{atoms_of}
+use Rattle.term_parse.specs.Reading.{reading}
+use Rattle.outcome_trace.specs.declared.lines.Refused.{Refused}
+use Rattle.outcome_trace.specs.declared.lines.Refused.TheVariants.{Parse, Run}
+use Rattle.outcome_trace.specs.declared.lines.Refused.TheVariants as refusals
+use Rattle.outcome_trace.specs.Lines.{parse_line, term_line}
+
+-- a count as it is told, which is the greatest of 64 bits where it is above that
+abbrev pub count_text : ℕ → List ℕ
+count_text n = decimal (min n (2 ^ 64 - 1))
+
+-- the size, the nesting and the masks of a program
+abbrev pub ok_line : Term → List ℕ
+ok_line t =
+    codes "ok size " ++ (count_text (size_of t) ++ (codes " nest " ++ (count_text (nest_of t) ++ (codes " masks " ++ (count_text (masks_of t) ++ 10 ∷ [])))))
+
+-- What is answered where there is no program, with its status: the text's first fault, or the refusal of the term that
+-- it spells.
+pub data IsRefusalAnswer : List ℕ → List ℕ → ℕ → Type 0 where
+  no_term : (text : List ℕ) (e : ParseError) → reading text ≡ Err e → IsRefusalAnswer text (parse_line e) 65
+  no_program : (text : List ℕ) (t : Term) (e : TermError) → reading text ≡ Ok (atoms_of t) → refusal_of t ≡ Some e → IsRefusalAnswer text (term_line e) 65
+
+-- what `check` answers, with its status: a refusal, or the counts of the program that the text spells
+pub data IsCheckAnswer : List ℕ → List ℕ → ℕ → Type 0 where
+  refused : (text answer : List ℕ) (status : ℕ) → IsRefusalAnswer text answer status → IsCheckAnswer text answer status
+  counted : (text : List ℕ) (t : Term) → reading text ≡ Ok (atoms_of t) → IsProgram t → IsCheckAnswer text (ok_line t) 0
+
+-- why a text is refused, unless memory was wanting
+abbrev pub IsRefused : List ℕ → Refused → Type 0
+IsRefused text (Parse e) = e ≢ parse.NoMemory → reading text ≡ Err e
+IsRefused text (refusals.Term e) = (t : Term) × (reading text ≡ Ok (atoms_of t)) × IsRefusal t e
+IsRefused text (Run e) = ⊥

@@ -1,0 +1,117 @@
+//! What the program can be told to do, and what comes of it.
+
+ghost use Rattle.std.specs.Prelude.{◌≡◌, ◌<◌, ◌^◌, false};
+ghost use Rattle.outcome_trace.specs.FaultLines.{TellsFault};
+ghost use Rattle.outcome_trace.specs.Orders.{HasLimits, Obeys, RefusesSchedule, Told, TellsResult, status_of};
+ghost use Rattle.outcome_trace.specs.declared.fault.TextFault.TheVariants.{NoMemory};
+
+use crate::answers::{FAULT, check_text};
+use crate::device::{TextIn, TextOut};
+use crate::fault::TextFault;
+use crate::fault_lines::{fault_line, schedule_line};
+use crate::replay_texts::replay_text;
+use crate::schedule::{ScheduleError, read_schedule};
+use crate::text::write_text;
+use cell_registry::Limits;
+use std::alloc::Global;
+
+/// The status where the words or the schedule are wrong.
+pub const USAGE: u8 = 64;
+
+/// What to do with the text that comes in.
+#[derive(Clone, Copy, Debug)]
+pub enum Order<'a> {
+    /// Tell whether it is a program.
+    Check,
+    /// Run it under the schedule that this text is, within these limits.
+    Replay { schedule: &'a str, limits: Limits },
+}
+
+/// Tells that there was no memory. It takes none itself.
+pub fn tell_no_memory<E: TextOut>(err: &mut E) -> u8
+    requires { E.has_failed err.old ≡ false }
+    ensures told { Told (TellsFault NoMemory) (record { old = E.contents err.old; new = E.contents err.new; failed = E.has_failed err.new }) }
+    ensures status { result ≡ FAULT }
+{
+    let _ = write_text(b"fault 20 NoMemory\n", err);
+    FAULT
+}
+
+/// Tells a fault, or that there was no memory to tell it. If this device fails too, nothing more
+/// is said.
+pub fn tell_fault<E: TextOut>(alloc: Global, fault: TextFault, err: &mut E) -> u8
+    requires { E.has_failed err.old ≡ false }
+    ensures told { Told (TellsFault fault) (record { old = E.contents err.old; new = E.contents err.new; failed = E.has_failed err.new }) }
+    ensures status { result ≡ FAULT }
+{
+    let Ok(line) = fault_line(alloc, fault) else {
+        return tell_no_memory(err);
+    };
+    let _ = write_text(line.as_bytes(), err);
+    FAULT
+}
+
+/// The status of a result, whose fault is told.
+fn status<E: TextOut>(alloc: Global, outcome: Result<u8, TextFault>, err: &mut E) -> u8
+    requires { E.has_failed err.old ≡ false }
+    ensures told { TellsResult outcome (record { old = E.contents err.old; new = E.contents err.new; failed = E.has_failed err.new }) }
+    ensures status { result ≡ status_of outcome }
+{
+    match outcome {
+        Ok(status) => status,
+        Err(fault) => tell_fault(alloc, fault, err),
+    }
+}
+
+/// Tells that a schedule's text is bad, or that there was no memory.
+fn refuse_schedule<E: TextOut>(alloc: Global, error: ScheduleError, err: &mut E) -> u8
+    requires { E.has_failed err.old ≡ false }
+    ensures { RefusesSchedule error (record { old = E.contents err.old; new = E.contents err.new; failed = E.has_failed err.new }) result }
+{
+    let ScheduleError::BadSchedule(place) = error else {
+        return tell_no_memory(err);
+    };
+    let Ok(line) = schedule_line(alloc, place) else {
+        return tell_no_memory(err);
+    };
+    let _ = write_text(line.as_bytes(), err);
+    USAGE
+}
+
+/// Obeys an order: reads the text, and writes its answer. Gives the status of the program: that of
+/// the answer, or 70 where a device failed or memory ran out, which is told on the last device.
+///
+/// A schedule's text is looked at first. Where it is bad, that is told on the last device, and the
+/// text isn't read.
+pub fn obey<I: TextIn, O: TextOut, E: TextOut>(
+    alloc: Global,
+    order: Order<'_>,
+    input: &mut I,
+    out: &mut O,
+    err: &mut E,
+) -> u8
+    requires input { I.has_failed input.old ≡ false }
+    requires countable { I.reads input.old < 2 ^ 63 }
+    requires out { O.has_failed out.old ≡ false }
+    requires err { E.has_failed err.old ≡ false }
+    requires limits { HasLimits order }
+    ensures obeyed { Obeys order.entry (I.remaining input.old) (I.remaining input.new) (O.contents out.old) (O.contents out.new) (record { old = E.contents err.old; new = E.contents err.new; failed = E.has_failed err.new }) result }
+
+    // Where the schedule is bad, the text isn't read and nothing is answered.
+    ensures unread { result ≡ USAGE → input.new ≡ input.old }
+    ensures unanswered { result ≡ USAGE → out.new ≡ out.old }
+{
+    match order {
+        Order::Check => {
+            let outcome = check_text(alloc, input, out);
+            status(alloc, outcome, err)
+        }
+        Order::Replay { schedule, limits } => match read_schedule(alloc, schedule) {
+            Ok(entries) => {
+                let outcome = replay_text(alloc, input, entries.as_slice(), limits, out);
+                status(alloc, outcome, err)
+            }
+            Err(error) => refuse_schedule(alloc, error, err),
+        },
+    }
+}
