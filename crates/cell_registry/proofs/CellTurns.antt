@@ -141,13 +141,13 @@ module _ {S : Type 0} where
         leaves = λ j. record s { cells = sym (set-get_or s.cells v.number fresh) j };
         packs = refl;
         told = λ made now. (
-            c,
-            range,
-            refl,
-            (
-              made,
-              same_knowledge k h v _ (with_cell s v.number c) has mine refl refl refl (ap owned now) (get_or-set_kept owned s.cells v.number c fresh refl v.number),
-              ap (λ (x : Cell). x.request) (now ∙ get_or-set_same s.cells v.number c fresh there),
-            ),
+          c,
+          range,
+          refl,
+          (
+            made,
+            same_knowledge k h v _ (with_cell s v.number c) has mine refl refl refl (ap owned now) (get_or-set_kept owned s.cells v.number c fresh refl v.number),
+            ap (λ (x : Cell). x.request) (now ∙ get_or-set_same s.cells v.number c fresh there),
+          ),
         );
       })

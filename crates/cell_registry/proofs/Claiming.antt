@@ -79,22 +79,22 @@ same_now k h v has mine = (λ j. owned (cell_of (left (mine.limits v.number has 
 
 saw_next : (b : Band) (k : Limits) (h : List Entry) (words : List ℕ) (v : Knowledge) → Has v.fibers v.number → IsLegal k h → Leaves words (left k h) → Fits k h v → SawNext b v (get_or words (band_word b) 0) (up_to v h)
 saw_next b k h words v has legal leaves mine = (
-    looked k h v has legal mine,
-    record { limits = refl; number = refl; fibers = refl; cell = same_now k h v has mine },
-    (λ j. next_of b (left (mine.limits v.number has j) h)) ∙ sym (next_at b words (left k h) leaves),
+  looked k h v has legal mine,
+  record { limits = refl; number = refl; fibers = refl; cell = same_now k h v has mine },
+  (λ j. next_of b (left (mine.limits v.number has j) h)) ∙ sym (next_at b words (left k h) leaves),
 )
 
 -- a step at the word i that only looks
 pub sees_all : (k : Limits) (h : List Entry) (words : List ℕ) (v : Knowledge) (i : ℕ) (then : ℕ → Knowledge → Type 0) → Leaves words (left k h) → then (get_or words i 0) (up_to v h) → Look k v i (get_or words i 0) then h words
 sees_all k h words v i then leaves told = record {
-    view = up_to v h;
-    word = same_words words (left k h) i leaves;
-    limits = refl;
-    seen = refl;
-    guests = refl;
-    heard = refl;
-    fibers = λ g a. inl a;
-    told = told;
+  view = up_to v h;
+  word = same_words words (left k h) i leaves;
+  limits = refl;
+  seen = refl;
+  guests = refl;
+  heard = refl;
+  fibers = λ g a. inl a;
+  told = told;
 }
 
 module _ {S : Type 0} where

@@ -51,7 +51,7 @@ pub request-prefix : (k : Limits) (g h : List Entry) (f : ℕ) → IsPrefix g h 
 unfolding left
 request-prefix k g h f p e =
     subst (λ (x : List Entry). (cell_of (left_from (opening k) x) f).request ≡ true) p.1
-        (subst (λ (x : Cells). (cell_of x f).request ≡ true) (sym (left_from-append (opening k) g p.0)) (request-left_from (left_from (opening k) g) p.0 f e))
+    (subst (λ (x : Cells). (cell_of x f).request ≡ true) (sym (left_from-append (opening k) g p.0)) (request-left_from (left_from (opening k) g) p.0 f e))
 
 -- ---- where a request comes from
 request_kept : (s : Cells) (g f : ℕ) (c : Cell) → c.request ≡ (cell_of s g).request → (get_or (set s.cells g c) f fresh).request ≡ true → (cell_of s f).request ≡ true

@@ -151,15 +151,15 @@ module _ {S : Type 0} where
 pub begins : (S : Type 0) (k : Limits) (words : List ℕ) → AreLimits k → words ≡ set (replicate (k.fibers + k.refs + k.deferreds + 3) 0) 0 1 → WordsAreAHistory {S = S} k record { words = words; homes = []; views = first_knowledge k ∷ [] }
 unfolding left IsLegal
 begins S k words limits is = (
-      [],
-      record {
-        limits = limits;
-        legal = tt;
-        words_are = opening_words k words is;
-        fits = one;
-        apart = two;
-      },
-    )
+  [],
+  record {
+    limits = limits;
+    legal = tt;
+    words_are = opening_words k words is;
+    fits = one;
+    apart = two;
+  },
+)
   where
     fits : Fits k [] (first_knowledge k)
     fits = record { limits = λ f a. refl; seen = ([], refl); heard = ([], refl); own = λ f a. record { calls = refl; cell = refl; born = ⊎_elim (λ (e : 0 ≡ f). omega arith) (λ b. absurd b) a }; guest = λ f a. absurd a; apart = λ f _ b. absurd b }

@@ -114,7 +114,7 @@ pub opening_words : (k : Limits) (words : List ℕ) → words ≡ set (replicate
 opening_words k words is =
     let three : k.fibers + k.refs + k.deferreds + 3 ≡ suc (suc (suc (k.fibers + (k.refs + k.deferreds)))) = omega arith in
     let all : replicate (k.fibers + (k.refs + k.deferreds)) 0 ≡ map cell_word (replicate k.fibers fresh) ++ (replicate k.refs 0 ++ map deferred_word (replicate k.deferreds None)) =
-        replicate-add k.fibers (k.refs + k.deferreds) ∙ (λ j. fresh_words k.fibers j ++ (replicate-add k.refs k.deferreds ∙ ap (λ (l : List ℕ). replicate k.refs 0 ++ l) (empty_words k.deferreds)) j) in
+    replicate-add k.fibers (k.refs + k.deferreds) ∙ (λ j. fresh_words k.fibers j ++ (replicate-add k.refs k.deferreds ∙ ap (λ (l : List ℕ). replicate k.refs 0 ++ l) (empty_words k.deferreds)) j) in
     record {
       raw = replicate k.refs 0;
       words_are = is ∙ ap (λ n. set (replicate n 0) 0 1) three ∙ (λ j. 1 ∷ 0 ∷ 0 ∷ all j);

@@ -46,7 +46,7 @@ returns-clause-ended c =
     let told = c.fetch_add.ensures.2.1 c.is_finalizing.result c.args.outcome phase (finish-fits _ _ _ may) c.finish_amount-amount.ensures.sum in
     let P : PassView → Type 0 = λ h. Changes h (call.Finish c.args.outcome) (Ended c.args.outcome) h.depth (pass_of new.table_id new.me.0 old.number (Ended c.args.outcome) old.depth (old.count + 1) old.saw) in
     subst P c.pass.view_is record {
-        room = count_below _ _ _ p.1 of c.in_ok-room.ensures.room;
-        same = pass_of-step _ _ old.seat.me.0 new.me.0 _ (Ended c.args.outcome) old.depth (old.count + 1) _ c.fetch_add.ensures.0 told.1.limits told.1.fibers;
-        call = called_by old.seat.me.0 new.me.0 _ _ _ p.1.number_is told.0;
+      room = count_below _ _ _ p.1 of c.in_ok-room.ensures.room;
+      same = pass_of-step _ _ old.seat.me.0 new.me.0 _ (Ended c.args.outcome) old.depth (old.count + 1) _ c.fetch_add.ensures.0 told.1.limits told.1.fibers;
+      call = called_by old.seat.me.0 new.me.0 _ _ _ p.1.number_is told.0;
     }

@@ -44,7 +44,7 @@ returns-clause-masked c =
     let told = c.fetch_add.ensures.2.1 in
     let P : PassView → Type 0 = λ h. Changes h call.Mask h.stage (h.depth + 1) (pass_of new.table_id new.me.0 old.number old.stage (old.depth + 1) (old.count + 1) old.saw) in
     subst P c.pass.view_is record {
-        room = count_below _ _ _ p.1 of c.in_ok-room.ensures.room;
-        same = pass_of-step _ _ old.seat.me.0 new.me.0 _ old.stage (old.depth + 1) (old.count + 1) _ c.fetch_add.ensures.0 told.1.limits told.1.fibers;
-        call = called_by old.seat.me.0 new.me.0 _ _ _ p.1.number_is told.0;
+      room = count_below _ _ _ p.1 of c.in_ok-room.ensures.room;
+      same = pass_of-step _ _ old.seat.me.0 new.me.0 _ old.stage (old.depth + 1) (old.count + 1) _ c.fetch_add.ensures.0 told.1.limits told.1.fibers;
+      call = called_by old.seat.me.0 new.me.0 _ _ _ p.1.number_is told.0;
     }
