@@ -1,5 +1,5 @@
 -- The numbers below the next one were given.
-use Rattle.std.proofs.Common.{◌≡◌, ◌≢◌, ℕ, ◌+◌, ◌<◌, ◌≤◌, List, [], ◌∷◌, ◌⊎◌, inl, inr, ⊎_elim, refl, sym, ap, ◌∙◌, subst, arith}
+use Rattle.std.proofs.Common.{◌≡◌, ℕ, ◌<◌, ◌≤◌, List, [], ◌∷◌, ◌⊎◌, inl, inr, ⊎_elim, refl, sym, ap, ◌∙◌, arith}
 use mathlib.Core.Logic.{dite}
 use native.Mathlib.Decide.{ℕ_discrete}
 use Rattle.effect_term.specs.declared.reply.Reply.TheVariants.{Number}
@@ -66,9 +66,9 @@ given_from : (b : Band) (k : Limits) (s : Cells) (h : List Entry) (n : ℕ) → 
 given_from b k s [] n l below = inl below
 given_from b k s (e ∷ es) n l below = ⊎_elim
     (λ (before : n < next_of b (after s e.by e.call)). ⊎_elim
-        (λ (q : n < next_of b s). inl q)
-        (λ (q : (e.call ≡ claim_of b) × (n ≡ next_of b s)). inr (inl (q.0, l.0.replied ∙ ap (reply_of s e.by) q.0 ∙ reply-claim b s e.by ∙ ap Number (sym q.1))))
-        (next_of-new b s e.by e.call n before))
+    (λ (q : n < next_of b s). inl q)
+    (λ (q : (e.call ≡ claim_of b) × (n ≡ next_of b s)). inr (inl (q.0, l.0.replied ∙ ap (reply_of s e.by) q.0 ∙ reply-claim b s e.by ∙ ap Number (sym q.1))))
+    (next_of-new b s e.by e.call n before))
     (λ (later : WasGiven b es n). inr (inr later))
     (given_from b k (after s e.by e.call) es n l.1 below)
 

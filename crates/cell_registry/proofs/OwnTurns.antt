@@ -1,13 +1,10 @@
 -- The steps by which a fiber changes its own cell.
-use Rattle.std.proofs.Common.{◌≡◌, ◌≢◌, ℕ, ◌+◌, ◌-◌, ◌%◌, ◌^◌, ◌<◌, ◌≤◌, Bool, true, false, List, [], ◌∷◌, ◌++◌, length, set, get_or, ◌⊎◌, inl, inr, refl, sym, ap, ◌∙◌, subst, arith, get_or-set_same, FitsSigned}
+use Rattle.std.proofs.Common.{◌≡◌, ℕ, ◌+◌, ◌-◌, ◌%◌, ◌<◌, Bool, true, false, List, [], inr, refl, sym, ap, ◌∙◌, subst, arith, get_or-set_same}
 use Rattle.std.specs.Prelude.{None}
-use mathlib.Core.List.{IsPrefix}
-use Rattle.atomic_table.specs.Table.{State, Me, Allows}
+use Rattle.atomic_table.specs.Table.{Me, Allows}
 use Rattle.effect_term.specs.declared.reply.Outcome.{Outcome}
-use Rattle.effect_term.specs.declared.reply.Outcome.TheVariants.{Succeeded, Errored, Canceled}
 use Rattle.effect_term.specs.declared.reply.Reply.{Reply}
 use Rattle.effect_term.specs.declared.reply.Reply.TheVariants as reply
-use Rattle.control_word.specs.declared.control.Control.{Control}
 use Rattle.control_word.specs.Word as word
 use Rattle.control_word.proofs.Sums.{finish_one}
 use Rattle.cell_registry.specs.declared.limits.Limits.{Limits}
@@ -19,14 +16,14 @@ use Rattle.cell_registry.specs.declared.call.Call.TheVariants.{Mask, Unmask, Cut
 use Rattle.cell_registry.specs.declared.call.Entry.{Entry}
 use Rattle.cell_registry.specs.declared.knowledge.Knowledge.{Knowledge}
 use Rattle.cell_registry.specs.Cells.{AreLimits, fresh, masked, unmasked, cut, finished, owned, IsOpen, MayUnmask, MayFinish, Cells, cell_of, with_cell, after, reply_of, IsAllowed, spent, refusal, IsAccepted}
-use Rattle.cell_registry.specs.Histories.{left, IsLegal}
+use Rattle.cell_registry.specs.Histories.{left}
 use Rattle.cell_registry.specs.Words.{phase_at, control, cell_word}
 use Rattle.cell_registry.specs.Rule.{Has, seen_cell, Fits, WordsAreAHistory}
-use Rattle.cell_registry.specs.Steps.{entry, Called, IsChanged, Changed, Masked, Unmasked, WasCut, Finished}
+use Rattle.cell_registry.specs.Steps.{entry, Called, Changed, Masked, Unmasked, WasCut, Finished}
 use Rattle.cell_registry.proofs.Calls.{spent-none, outcome-fits}
 use Rattle.cell_registry.proofs.Requests.{request-prefix}
 use Rattle.cell_registry.proofs.TableWords.{no_outcome, value-fits}
-use Rattle.cell_registry.proofs.CellTurns.{CellTurn, cell_turns, own_same, own_stage, own_depth, own_count, advanced}
+use Rattle.cell_registry.proofs.CellTurns.{cell_turns, own_same, own_stage, own_depth, own_count, advanced}
 
 -- ---- what a stage allows
 unmask-open : (g : Stage) (depth : ℕ) → MayUnmask g depth → IsOpen g × (0 < depth)
@@ -112,8 +109,8 @@ module _ {S : Type 0} where
         leaves = leaves s;
         packs = packs h mine o range;
         told = λ made now. let w : Knowledge = advanced v h (entry v.number c (reply_of s v.number c)) in tells w (
-            subst (λ (r : Reply). Called v c r w) (replies s) made,
-            record { limits = refl; number = refl; fibers = refl; cell = ap owned (now ∙ get_or-set_same s.cells v.number (φ a) fresh there) ∙ owns a (seen_cell v v.number) o.same },
+          subst (λ (r : Reply). Called v c r w) (replies s) made,
+          record { limits = refl; number = refl; fibers = refl; cell = ap owned (now ∙ get_or-set_same s.cells v.number (φ a) fresh there) ∙ owns a (seen_cell v v.number) o.same },
         );
       })
 
@@ -133,8 +130,8 @@ module _ {S : Type 0} where
   unmasks_as k id me i amount slots none_out has is below may law = let v : Knowledge = me.0 in changes k id me i slots Unmask unmasked (λ n. (n + (18446744073709551616 - amount)) % 18446744073709551616) (Unmasked v) none_out has is below (λ s. refl) (λ s. refl) owned-unmasked
       (λ h mine o. record { allowed = subst (λ (x : Stage × ℕ × ℕ). MayUnmask x.0 x.1) (sym o.same) may; room = o.room })
       (λ h mine o range.
-          let m = unmask-open _ _ (subst (λ (x : Stage × ℕ × ℕ). MayUnmask x.0 x.1) (sym o.same) may) in
-          law (control (cell_of (left k h) v.number)) range (no_outcome _ m.0) o.small m.1)
+      let m = unmask-open _ _ (subst (λ (x : Stage × ℕ × ℕ). MayUnmask x.0 x.1) (sym o.same) may) in
+      law (control (cell_of (left k h) v.number)) range (no_outcome _ m.0) o.small m.1)
       (λ w told. told)
 
   pub cuts_as : (k : Limits) (id : ℕ) (me : Me S Knowledge) (i amount slots : ℕ) → me.1 ≡ [] → Has me.0.fibers me.0.number → i ≡ me.0.number + 3 → (seen_cell me.0 me.0.number).count < k.count
@@ -143,8 +140,8 @@ module _ {S : Type 0} where
   unfolding after reply_of IsAllowed refusal
   cuts_as k id me i amount slots none_out has is below running depth request law = let v : Knowledge = me.0 in changes k id me i slots Cut cut (λ n. (n + amount) % 18446744073709551616) (WasCut v) none_out has is below (λ s. refl) (λ s. refl) owned-cut
       (λ h mine o.
-          let asked : (cell_of (left k v.seen) v.number).request ≡ true = (λ j. (cell_of (left (sym (mine.limits v.number has) j) v.seen) v.number).request) ∙ request in
-          record { allowed = (own_stage k h v has mine ∙ running, own_depth k h v has mine ∙ depth, request-prefix k v.seen h v.number mine.seen asked); room = o.room })
+      let asked : (cell_of (left k v.seen) v.number).request ≡ true = (λ j. (cell_of (left (sym (mine.limits v.number has) j) v.seen) v.number).request) ∙ request in
+      record { allowed = (own_stage k h v has mine ∙ running, own_depth k h v has mine ∙ depth, request-prefix k v.seen h v.number mine.seen asked); room = o.room })
       (λ h mine o range. cut_word k h v amount (own_stage k h v has mine ∙ running) (own_depth k h v has mine ∙ depth) o.small law range)
       (λ w told. told)
 
@@ -156,6 +153,6 @@ module _ {S : Type 0} where
       (λ h mine own. record { allowed = subst (λ (x : Stage × ℕ × ℕ). MayFinish x.0 x.1 o) (sym own.same) may; room = own.room })
       (λ h mine own range. law (control (cell_of (left k h) v.number)) range (no_outcome _ (finish-open _ _ o (subst (λ (x : Stage × ℕ × ℕ). MayFinish x.0 x.1 o) (sym own.same) may))) own.small (ap phase_at (own_stage k h v has mine) ∙ phase))
       (λ w told b' p ph fits e.
-          let bs : b' ≡ b = bit_one b' b (sym ph ∙ phase) in
-          let same : o ≡ p = finish_one b o p (finish-fits _ _ o may) fits (sym sum ∙ e ∙ ap (λ x. word.finish_sum x p) bs) in
-          subst (λ (x : Outcome). Changed v (Finish x) (finished x) w) same told)
+      let bs : b' ≡ b = bit_one b' b (sym ph ∙ phase) in
+      let same : o ≡ p = finish_one b o p (finish-fits _ _ o may) fits (sym sum ∙ e ∙ ap (λ x. word.finish_sum x p) bs) in
+      subst (λ (x : Outcome). Changed v (Finish x) (finished x) w) same told)

@@ -1,5 +1,5 @@
 -- A request for cancellation stays, and comes from a call.
-use Rattle.std.proofs.Common.{◌≡◌, ℕ, zero, suc, Bool, true, false, true≢false, List, [], ◌∷◌, ◌++◌, ◌⊎◌, inl, inr, ⊎_elim, set, get_or, get_or-set_other, refl, sym, ap, ◌∙◌, subst, append_assoc}
+use Rattle.std.proofs.Common.{◌≡◌, ℕ, zero, suc, Bool, true, true≢false, List, [], ◌∷◌, ◌++◌, ◌⊎◌, inl, inr, ⊎_elim, set, get_or, get_or-set_other, refl, sym, ap, ◌∙◌, subst, append_assoc}
 use mathlib.Core.Logic.{dite}
 use native.Mathlib.Decide.{ℕ_discrete}
 use mathlib.Core.List.{IsPrefix}
@@ -51,7 +51,7 @@ pub request-prefix : (k : Limits) (g h : List Entry) (f : ℕ) → IsPrefix g h 
 unfolding left
 request-prefix k g h f p e =
     subst (λ (x : List Entry). (cell_of (left_from (opening k) x) f).request ≡ true) p.1
-        (subst (λ (x : Cells). (cell_of x f).request ≡ true) (sym (left_from-append (opening k) g p.0)) (request-left_from (left_from (opening k) g) p.0 f e))
+    (subst (λ (x : Cells). (cell_of x f).request ≡ true) (sym (left_from-append (opening k) g p.0)) (request-left_from (left_from (opening k) g) p.0 f e))
 
 -- ---- where a request comes from
 request_kept : (s : Cells) (g f : ℕ) (c : Cell) → c.request ≡ (cell_of s g).request → (get_or (set s.cells g c) f fresh).request ≡ true → (cell_of s f).request ≡ true

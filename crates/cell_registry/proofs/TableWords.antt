@@ -1,6 +1,6 @@
 -- The words that a registry leaves, read and set one at a time.
-use Rattle.std.proofs.Common.{◌≡◌, ◌≢◌, ℕ, zero, suc, ◌+◌, ◌-◌, ◌%◌, ◌^◌, ◌<◌, ◌≤◌, Bool, true, false, List, [], ◌∷◌, ◌++◌, length, map, set, get_or, refl, sym, ap, ◌∙◌, subst, arith, length-set, replicate, FitsSigned, ℤ, pos}
-use Rattle.std.specs.Prelude.{Option, Some, None}
+use Rattle.std.proofs.Common.{◌≡◌, ℕ, zero, suc, ◌+◌, ◌%◌, ◌^◌, ◌<◌, List, ◌∷◌, ◌++◌, length, map, set, get_or, refl, sym, ap, ◌∙◌, subst, arith, replicate, FitsSigned, pos}
+use Rattle.std.specs.Prelude.{None}
 use Rattle.std.specs.Int.{w32, cast_unsigned}
 use Rattle.std.proofs.Math.ListN.{get_or-append}
 use Rattle.std.proofs.lemmas.List.{set-append_left, length-map, map-set, get_or-map, length-replicate}
@@ -114,7 +114,7 @@ pub opening_words : (k : Limits) (words : List ℕ) → words ≡ set (replicate
 opening_words k words is =
     let three : k.fibers + k.refs + k.deferreds + 3 ≡ suc (suc (suc (k.fibers + (k.refs + k.deferreds)))) = omega arith in
     let all : replicate (k.fibers + (k.refs + k.deferreds)) 0 ≡ map cell_word (replicate k.fibers fresh) ++ (replicate k.refs 0 ++ map deferred_word (replicate k.deferreds None)) =
-        replicate-add k.fibers (k.refs + k.deferreds) ∙ (λ j. fresh_words k.fibers j ++ (replicate-add k.refs k.deferreds ∙ ap (λ (l : List ℕ). replicate k.refs 0 ++ l) (empty_words k.deferreds)) j) in
+    replicate-add k.fibers (k.refs + k.deferreds) ∙ (λ j. fresh_words k.fibers j ++ (replicate-add k.refs k.deferreds ∙ ap (λ (l : List ℕ). replicate k.refs 0 ++ l) (empty_words k.deferreds)) j) in
     record {
       raw = replicate k.refs 0;
       words_are = is ∙ ap (λ n. set (replicate n 0) 0 1) three ∙ (λ j. 1 ∷ 0 ∷ 0 ∷ all j);

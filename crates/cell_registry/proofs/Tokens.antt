@@ -1,23 +1,22 @@
 -- A pass, and the seat in it.
-use Rattle.std.proofs.Common.{◌≡◌, ◌≢◌, ℕ, ◌+◌, ◌<◌, ◌≤◌, Bool, true, false, List, [], ◌∷◌, ◌++◌, ◌⊎◌, inl, inr, ⊎_elim, refl, sym, ap, ◌∙◌, subst, arith, append_assoc}
+use Rattle.std.proofs.Common.{◌≡◌, ◌≢◌, ℕ, ◌+◌, ◌<◌, Bool, true, false, List, [], ◌∷◌, ◌++◌, inl, inr, ⊎_elim, refl, sym, ap, ◌∙◌, subst, arith, append_assoc}
 use Rattle.std.specs.Prelude.{Option, Some, None, MatchOption}
 use mathlib.Core.List.{IsPrefix}
 use Rattle.atomic_table.specs.Seated.{TableId}
 use Rattle.effect_term.specs.declared.reply.Reply.{Reply}
 use Rattle.cell_registry.specs.declared.limits.Limits.{Limits}
 use Rattle.cell_registry.specs.declared.limits.Band.{Band}
-use Rattle.cell_registry.specs.declared.limits.Band.TheVariants.{Fibers, Refs, Deferreds}
+use Rattle.cell_registry.specs.declared.limits.Band.TheVariants.{Fibers}
 use Rattle.cell_registry.specs.declared.cell.Stage.{Stage}
 use Rattle.cell_registry.specs.declared.cell.Stage.TheVariants.{Running}
-use Rattle.cell_registry.specs.declared.cell.Cell.{Cell}
 use Rattle.cell_registry.specs.declared.call.Call.{Call}
 use Rattle.cell_registry.specs.declared.call.Entry.{Entry}
 use Rattle.cell_registry.specs.declared.knowledge.Knowledge.{Knowledge}
 use Rattle.cell_registry.specs.Cells.{AreLimits, fresh, owned, cell_of}
-use Rattle.cell_registry.specs.Histories.{left, IsLegal, calls_by}
+use Rattle.cell_registry.specs.Histories.{left, IsLegal}
 use Rattle.cell_registry.specs.Rule.{Has, seen_cell, first_knowledge}
 use Rattle.cell_registry.specs.Steps.{entry, IsCall, Called, IsSame, IsChanged, fibers_with, FoundNone, eldest, younger, Claimed, parent, child, hosting, Met}
-use Rattle.cell_registry.specs.Passes.{RegistryView, IsRegistry, PassView, IsPass, pass_of, IsSeated, IsOf}
+use Rattle.cell_registry.specs.Passes.{RegistryView, IsRegistry, PassView, pass_of, IsSeated, IsOf}
 use Rattle.cell_registry.proofs.Lists.{get_or-replicate_default}
 use Rattle.cell_registry.proofs.Legal.{sound}
 use Rattle.cell_registry.proofs.Requests.{request-prefix}
@@ -47,15 +46,15 @@ pass_of-step t u v w n g d c b table limits fibers = λ j. record { registry = r
 -- a pass of the same fiber, with its own part of the cell as it was, and another last look
 pub seated_looked : (v w : Knowledge) (t u : TableId) (n : ℕ) (g : Stage) (d c : ℕ) (b b' : Bool) → IsSame v w → IsLegal v.limits w.seen → (b' ≡ true → (seen_cell w v.number).request ≡ true) → IsSeated v (pass_of t v n g d c b) → IsSeated w (pass_of u w n g d c b')
 seated_looked v w t u n g d c b b' s legal request i = record {
-    number_is = i.number_is ∙ sym s.number;
-    pass = record {
-        limits = rw s.limits i.pass.limits;
-        legal = rw s.limits legal;
-        own = rw s.fibers i.pass.own;
-        within = rw s.limits i.pass.within;
-        cell = ap (λ (f : ℕ). owned (seen_cell w f)) i.number_is ∙ s.cell ∙ seat_cell v t n g d c b i;
-        request = λ e. ap (λ (f : ℕ). (seen_cell w f).request) i.number_is ∙ request e;
-    };
+  number_is = i.number_is ∙ sym s.number;
+  pass = record {
+    limits = rw s.limits i.pass.limits;
+    legal = rw s.limits legal;
+    own = rw s.fibers i.pass.own;
+    within = rw s.limits i.pass.within;
+    cell = ap (λ (f : ℕ). owned (seen_cell w f)) i.number_is ∙ s.cell ∙ seat_cell v t n g d c b i;
+    request = λ e. ap (λ (f : ℕ). (seen_cell w f).request) i.number_is ∙ request e;
+  };
 }
 
 -- a pass whose own part of the cell and whose last look are as they were
@@ -68,18 +67,18 @@ seated_still v w t u n g d c b s more legal i =
 -- a pass whose own part of the cell has changed
 pub seated_changed : (v w : Knowledge) (t u : TableId) (n : ℕ) (g g' : Stage) (d d' c c' : ℕ) (b : Bool) (own : Stage × ℕ × ℕ) → own ≡ (g', d', c') → IsChanged v w own → IsPrefix v.seen w.seen → IsLegal v.limits w.seen → IsSeated v (pass_of t v n g d c b) → IsSeated w (pass_of u w n g' d' c' b)
 seated_changed v w t u n g g' d d' c c' b own is s more legal i = record {
-    number_is = i.number_is ∙ sym s.number;
-    pass = record {
-        limits = rw s.limits i.pass.limits;
-        legal = rw s.limits legal;
-        own = rw s.fibers i.pass.own;
-        within = rw s.limits i.pass.within;
-        cell = ap (λ (f : ℕ). owned (seen_cell w f)) i.number_is ∙ s.cell ∙ is;
-        request = λ e.
-            let before : (seen_cell v n).request ≡ true = i.pass.request e in
-            let now : (cell_of (left v.limits w.seen) n).request ≡ true = request-prefix v.limits v.seen w.seen n more before in
-            (λ j. (cell_of (left (s.limits j) w.seen) n).request) ∙ now;
-    };
+  number_is = i.number_is ∙ sym s.number;
+  pass = record {
+    limits = rw s.limits i.pass.limits;
+    legal = rw s.limits legal;
+    own = rw s.fibers i.pass.own;
+    within = rw s.limits i.pass.within;
+    cell = ap (λ (f : ℕ). owned (seen_cell w f)) i.number_is ∙ s.cell ∙ is;
+    request = λ e.
+        let before : (seen_cell v n).request ≡ true = i.pass.request e in
+        let now : (cell_of (left v.limits w.seen) n).request ≡ true = request-prefix v.limits v.seen w.seen n more before in
+        (λ j. (cell_of (left (s.limits j) w.seen) n).request) ∙ now;
+  };
 }
 
 -- where the count of a pass isn't the limit, it is below it
@@ -127,15 +126,15 @@ parent-same v w n c = record { limits = c.limits; number = c.number; fibers = ap
 
 pub child_seated : (v w : Knowledge) (u : TableId) (n : ℕ) → AreLimits v.limits → Claimed Fibers v n w → IsSeated (child w) (pass_of u (child w) n Running 0 0 false)
 child_seated v w u n limits c = record {
-    number_is = ap eldest (sym c.fibers);
-    pass = record {
-        limits = rw c.limits limits;
-        legal = rw c.limits c.call.legal;
-        own = inl (ap eldest c.fibers);
-        within = rw c.limits c.within;
-        cell = c.new.cell;
-        request = λ e. cc;
-    };
+  number_is = ap eldest (sym c.fibers);
+  pass = record {
+    limits = rw c.limits limits;
+    legal = rw c.limits c.call.legal;
+    own = inl (ap eldest c.fibers);
+    within = rw c.limits c.within;
+    cell = c.new.cell;
+    request = λ e. cc;
+  };
 }
 
 -- ---- a new ref or deferred, which adds no fiber, or none
@@ -152,31 +151,31 @@ has-append (x ∷ xs) ys f a = ⊎_elim (λ e. inl e) (λ b. inr (has-append xs 
 
 pub met_seated : (u a v w : Knowledge) (t t' : TableId) (n : ℕ) (g : Stage) (d c : ℕ) (b : Bool) → v ≡ hosting u a → Met v w → IsSeated u (pass_of t u n g d c b) → IsSeated w (pass_of t' w n g d c b)
 met_seated u a v w t t' n g d c b is = subst (λ (x : Knowledge). Met x w → IsSeated u (pass_of t u n g d c b) → IsSeated w (pass_of t' w n g d c b)) (sym is) (λ m i. record {
-    number_is = i.number_is ∙ sym m.number;
-    pass = record {
-        limits = rw m.limits i.pass.limits;
-        legal = rw m.limits m.legal;
-        own = rw m.fibers (has-append u.fibers a.fibers n i.pass.own);
-        within = rw m.limits i.pass.within;
-        cell = ap (λ (f : ℕ). owned (seen_cell w f)) i.number_is ∙ m.cell ∙ seat_cell u t n g d c b i;
-        request = λ e.
-            let before : (seen_cell u n).request ≡ true = i.pass.request e in
-            let now : (cell_of (left u.limits w.seen) n).request ≡ true = request-prefix u.limits u.seen w.seen n m.seen before in
-            (λ j. (cell_of (left (m.limits j) w.seen) n).request) ∙ now;
-    };
+  number_is = i.number_is ∙ sym m.number;
+  pass = record {
+    limits = rw m.limits i.pass.limits;
+    legal = rw m.limits m.legal;
+    own = rw m.fibers (has-append u.fibers a.fibers n i.pass.own);
+    within = rw m.limits i.pass.within;
+    cell = ap (λ (f : ℕ). owned (seen_cell w f)) i.number_is ∙ m.cell ∙ seat_cell u t n g d c b i;
+    request = λ e.
+        let before : (seen_cell u n).request ≡ true = i.pass.request e in
+        let now : (cell_of (left u.limits w.seen) n).request ≡ true = request-prefix u.limits u.seen w.seen n m.seen before in
+        (λ j. (cell_of (left (m.limits j) w.seen) n).request) ∙ now;
+  };
 })
 
 -- ---- the first pass
 pub first_seated : (k : Limits) (t : TableId) → AreLimits k → IsSeated (first_knowledge k) (pass_of t (first_knowledge k) 0 Running 0 0 false)
 unfolding left IsLegal
 first_seated k t l = record {
-    number_is = refl;
-    pass = record {
-        limits = l;
-        legal = tt;
-        own = inl refl;
-        within = l.some_fiber;
-        cell = ap owned (get_or-replicate_default fresh k.fibers 0);
-        request = λ e. cc;
-    };
+  number_is = refl;
+  pass = record {
+    limits = l;
+    legal = tt;
+    own = inl refl;
+    within = l.some_fiber;
+    cell = ap owned (get_or-replicate_default fresh k.fibers 0);
+    request = λ e. cc;
+  };
 }

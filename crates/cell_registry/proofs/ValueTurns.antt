@@ -1,13 +1,12 @@
 -- The steps on the word of a ref or a deferred.
-use Rattle.std.proofs.Common.{◌≡◌, ◌≢◌, ℕ, zero, suc, ◌+◌, ◌-◌, ◌*◌, ◌%◌, ◌^◌, ◌<◌, ◌≤◌, Bool, true, false, List, [], ◌∷◌, ◌++◌, length, map, set, get_or, ◌⊎◌, inl, refl, sym, ap, ◌∙◌, subst, arith, eqb, ne_eqb, length-set, FitsSigned, ℤ, pos, ◌+ℤ◌}
+use Rattle.std.proofs.Common.{◌≡◌, ℕ, zero, suc, ◌+◌, ◌-◌, ◌%◌, ◌^◌, ◌<◌, Bool, List, [], ◌∷◌, ◌++◌, length, map, set, get_or, inl, refl, sym, ap, ◌∙◌, subst, arith, eqb, ne_eqb, length-set, FitsSigned, ℤ, pos, ◌+ℤ◌}
 use Rattle.std.specs.Prelude.{Option, Some, None, is_none}
 use Rattle.std.specs.Int.{w32, int_wrap, cast_unsigned, cast_signed}
 use Rattle.std.proofs.lemmas.Int.{ints, wrapping_add-bits, of_z-to_z, to_z-of_z}
 use Rattle.std.proofs.Math.ListN.{get_or-append}
 use Rattle.std.proofs.lemmas.List.{set-append_left, set-append_right, get_or-append_right, length-map, map-set, get_or-map}
 use prog.Atomic.{either}
-use Rattle.atomic_table.specs.Table.{State, Me, Allows}
-use Rattle.effect_term.specs.declared.reply.Reply.{Reply}
+use Rattle.atomic_table.specs.Table.{Me, Allows}
 use Rattle.effect_term.specs.declared.reply.Reply.TheVariants as reply
 use Rattle.cell_registry.specs.declared.limits.Limits.{Limits}
 use Rattle.cell_registry.specs.declared.cell.Cell.{Cell}
@@ -15,8 +14,8 @@ use Rattle.cell_registry.specs.declared.call.Call.{Call}
 use Rattle.cell_registry.specs.declared.call.Call.TheVariants.{Get, Set, Modify, Complete, Read}
 use Rattle.cell_registry.specs.declared.call.Entry.{Entry}
 use Rattle.cell_registry.specs.declared.knowledge.Knowledge.{Knowledge}
-use Rattle.cell_registry.specs.Cells.{AreLimits, fresh, owned, Cells, cell_of, ref_of, deferred_of, with_ref, with_deferred, filled, after, reply_of, IsAllowed, refusal, IsAccepted, ValueFits}
-use Rattle.cell_registry.specs.Histories.{left, IsLegal}
+use Rattle.cell_registry.specs.Cells.{fresh, owned, Cells, cell_of, ref_of, deferred_of, with_ref, with_deferred, filled, after, reply_of, IsAllowed, refusal, IsAccepted, ValueFits}
+use Rattle.cell_registry.specs.Histories.{left}
 use Rattle.cell_registry.specs.Words.{cell_word, deferred_word, ref_value, Leaves}
 use Rattle.cell_registry.specs.Rule.{Has, seen_cell, Fits, WordsAreAHistory}
 use Rattle.cell_registry.specs.Steps.{entry, Called, IsSame, HasBits, Got, WasSet, Modified, Completed, WasRead}
@@ -52,9 +51,9 @@ put_ref words s r i n v l is within e =
     let back : (length s.cells + r) - length s.cells ≡ r = omega arith in
     let last : List ℕ = map deferred_word s.deferreds in
     let rest : set (map cell_word s.cells ++ (l.raw ++ last)) (length s.cells + r) n ≡ map cell_word s.cells ++ (set l.raw r n ++ last) =
-        set-append_right (map cell_word s.cells) (l.raw ++ last) (length s.cells) (length s.cells + r) n long (omega arith)
-        ∙ ap (λ m. map cell_word s.cells ++ set (l.raw ++ last) m n) back
-        ∙ ap (λ (x : List ℕ). map cell_word s.cells ++ x) (set-append_left l.raw last r n (omega arith)) in
+    set-append_right (map cell_word s.cells) (l.raw ++ last) (length s.cells) (length s.cells + r) n long (omega arith)
+    ∙ ap (λ m. map cell_word s.cells ++ set (l.raw ++ last) m n) back
+    ∙ ap (λ (x : List ℕ). map cell_word s.cells ++ x) (set-append_left l.raw last r n (omega arith)) in
     record { raw = set l.raw r n; words_are = rw (l.words_are, j) (λ t. s.next_fiber ∷ s.next_ref ∷ s.next_deferred ∷ rest t); long = length-set l.raw r n ∙ l.long ∙ sym (length-set s.refs r v); refs = put_both (λ a b. a % 2 ^ 32 ≡ cast_unsigned w32 b) l.raw s.refs r n v l.long e l.refs }
 
 -- ---- a word for each deferred, behind the refs'
@@ -67,11 +66,11 @@ deferred_at words s d i l is within =
     let again : (length s.refs + d) - length s.refs ≡ d = omega arith in
     let last : List ℕ = map deferred_word s.deferreds in
     rw (l.words_are, e) (
-        get_or-append_right (map cell_word s.cells) (l.raw ++ last) (length s.cells) (length s.cells + (length s.refs + d)) 0 long (omega arith)
-        ∙ ap (λ x. get_or (l.raw ++ last) x 0) back
-        ∙ get_or-append_right l.raw last (length s.refs) (length s.refs + d) 0 l.long (omega arith)
-        ∙ ap (λ x. get_or last x 0) again
-        ∙ get_or-map deferred_word s.deferreds d None 0 within)
+    get_or-append_right (map cell_word s.cells) (l.raw ++ last) (length s.cells) (length s.cells + (length s.refs + d)) 0 long (omega arith)
+    ∙ ap (λ x. get_or (l.raw ++ last) x 0) back
+    ∙ get_or-append_right l.raw last (length s.refs) (length s.refs + d) 0 l.long (omega arith)
+    ∙ ap (λ x. get_or last x 0) again
+    ∙ get_or-map deferred_word s.deferreds d None 0 within)
 
 put_deferred : (words : List ℕ) (s : Cells) (d i n : ℕ) (o : Option ℤ) → Leaves words s → i ≡ d + (3 + length s.cells + length s.refs) → n ≡ deferred_word o → Leaves (set words i n) (with_deferred s d o)
 put_deferred words s d i n o l is e =
@@ -82,11 +81,11 @@ put_deferred words s d i n o l is e =
     let cells : List ℕ = map cell_word s.cells in
     let last : List ℕ = map deferred_word s.deferreds in
     let rest : set (cells ++ (l.raw ++ last)) (length s.cells + (length s.refs + d)) n ≡ cells ++ (l.raw ++ map deferred_word (set s.deferreds d o)) =
-        set-append_right cells (l.raw ++ last) (length s.cells) (length s.cells + (length s.refs + d)) n long (omega arith)
-        ∙ ap (λ m. cells ++ set (l.raw ++ last) m n) back
-        ∙ ap (λ (x : List ℕ). cells ++ x) (set-append_right l.raw last (length s.refs) (length s.refs + d) n l.long (omega arith) ∙ ap (λ m. l.raw ++ set last m n) again)
-        ∙ ap (λ x. cells ++ (l.raw ++ set last d x)) e
-        ∙ ap (λ (x : List ℕ). cells ++ (l.raw ++ x)) (sym (map-set deferred_word s.deferreds d o)) in
+    set-append_right cells (l.raw ++ last) (length s.cells) (length s.cells + (length s.refs + d)) n long (omega arith)
+    ∙ ap (λ m. cells ++ set (l.raw ++ last) m n) back
+    ∙ ap (λ (x : List ℕ). cells ++ x) (set-append_right l.raw last (length s.refs) (length s.refs + d) n l.long (omega arith) ∙ ap (λ m. l.raw ++ set last m n) again)
+    ∙ ap (λ x. cells ++ (l.raw ++ set last d x)) e
+    ∙ ap (λ (x : List ℕ). cells ++ (l.raw ++ x)) (sym (map-set deferred_word s.deferreds d o)) in
     record { raw = l.raw; words_are = rw (l.words_are, j) (λ t. s.next_fiber ∷ s.next_ref ∷ s.next_deferred ∷ rest t); long = l.long; refs = l.refs }
 
 -- ---- bits
@@ -163,9 +162,9 @@ module _ {S : Type 0} where
       let found : ref_of s r ≡ ref_value (get_or words i 0) = sym (to_z-of_z w32 (ref_of s r) (good.each_ref r)) ∙ ap (cast_signed w32) (sym (ap (λ n. n % 2 ^ 32) at ∙ leaves.refs r)) in
       value_turn k h words v i (get_or words i 0) (Got i v) (Get r) has mine record { allowed = within; room = refl } refl (same_words words s i leaves)
       (λ w made same q iq.
-          let limits = ap (λ (l : Limits). l.fibers) (mine.limits v.number has) in
-          let one : r ≡ q = omega arith in
-          (subst (λ (t : ℕ × ℤ). Called v (Get t.0) (reply.Value t.1) w) (λ j. (one j, found j)) made, same)))
+      let limits = ap (λ (l : Limits). l.fibers) (mine.limits v.number has) in
+      let one : r ≡ q = omega arith in
+      (subst (λ (t : ℕ × ℤ). Called v (Get t.0) (reply.Value t.1) w) (λ j. (one j, found j)) made, same)))
 
   pub sets : (k : Limits) (id : ℕ) (me : Me S Knowledge) (i n slots r : ℕ) (x : ℤ) → me.1 ≡ [] → Has me.0.fibers me.0.number → r < k.refs → i ≡ r + (3 + k.fibers) → HasBits n x
       → Allows (WordsAreAHistory k) slots id me i (λ _. n) (λ _ now. (now.1 ≡ []) × WasSet i n me.0 now.0)
@@ -180,9 +179,9 @@ module _ {S : Type 0} where
       let low : n % 2 ^ 32 ≡ cast_unsigned w32 x = let e = bits.1 in omega arith in
       value_turn k h words v i n (λ _ w. WasSet i n v w) (Set r x) has mine record { allowed = (within, bits.0); room = refl } refl (put_ref words s r i n x leaves place (omega arith) low)
       (λ w made same q iq z hz.
-          let limits = ap (λ (l : Limits). l.fibers) (mine.limits v.number has) in
-          let one : r ≡ q = omega arith in
-          (subst (λ (t : ℕ × ℤ). Called v (Set t.0 t.1) reply.Done w) (λ j. (one j, bits_one n x z bits hz j)) made, same)))
+      let limits = ap (λ (l : Limits). l.fibers) (mine.limits v.number has) in
+      let one : r ≡ q = omega arith in
+      (subst (λ (t : ℕ × ℤ). Called v (Set t.0 t.1) reply.Done w) (λ j. (one j, bits_one n x z bits hz j)) made, same)))
 
   pub modifies : (k : Limits) (id : ℕ) (me : Me S Knowledge) (i n slots r : ℕ) (x : ℤ) → me.1 ≡ [] → Has me.0.fibers me.0.number → r < k.refs → i ≡ r + (3 + k.fibers) → HasBits n x
       → Allows (WordsAreAHistory k) slots id me i (λ a. (a + n) % 18446744073709551616) (Tells (Modified i n me.0))
@@ -200,9 +199,9 @@ module _ {S : Type 0} where
       let found : y ≡ ref_value (get_or words i 0) = sym (to_z-of_z w32 y (good.each_ref r)) ∙ ap (cast_signed w32) (sym low) in
       value_turn k h words v i ((get_or words i 0 + n) % 18446744073709551616) (Modified i n v) (Modify r x) has mine record { allowed = (within, bits.0); room = refl } refl (put_ref words s r i _ _ leaves place (omega arith) law)
       (λ w made same q iq z hz.
-          let limits = ap (λ (l : Limits). l.fibers) (mine.limits v.number has) in
-          let one : r ≡ q = omega arith in
-          (subst (λ (t : ℕ × ℤ × ℤ). Called v (Modify t.0 t.1) (reply.Value t.2) w) (λ j. (one j, bits_one n x z bits hz j, found j)) made, same)))
+      let limits = ap (λ (l : Limits). l.fibers) (mine.limits v.number has) in
+      let one : r ≡ q = omega arith in
+      (subst (λ (t : ℕ × ℤ × ℤ). Called v (Modify t.0 t.1) (reply.Value t.2) w) (λ j. (one j, bits_one n x z bits hz j, found j)) made, same)))
 
   pub completes : (k : Limits) (id : ℕ) (me : Me S Knowledge) (i n slots d : ℕ) (x : ℤ) → me.1 ≡ [] → Has me.0.fibers me.0.number → d < k.deferreds → i ≡ d + (3 + k.fibers + k.refs) → FitsSigned w32 x → n ≡ deferred_word (Some x)
       → Allows (WordsAreAHistory k) slots id me i (λ a. either (eqb a 0) n a) (Tells (Completed i n me.0))
@@ -219,11 +218,11 @@ module _ {S : Type 0} where
       let did : is_none o ≡ eqb (get_or words i 0) 0 = empty_word o ∙ ap (λ a. eqb a 0) (sym at) in
       value_turn k h words v i (either (eqb (get_or words i 0) 0) n (get_or words i 0)) (Completed i n v) (Complete d x) has mine record { allowed = (within, fits); room = refl } refl (put_deferred words s d i _ (filled o x) leaves place law)
       (λ w made same q iq z fz ez.
-          let fs = ap (λ (l : Limits). l.fibers) (mine.limits v.number has) in
-          let rs = ap (λ (l : Limits). l.refs) (mine.limits v.number has) in
-          let one : d ≡ q = omega arith in
-          let value : x ≡ z = some-one (deferred_word-one (Some x) (Some z) fits fz (sym bits ∙ ez)) in
-          (subst (λ (t : ℕ × ℤ × Bool). Called v (Complete t.0 t.1) (reply.Completed t.2) w) (λ j. (one j, value j, did j)) made, same)))
+      let fs = ap (λ (l : Limits). l.fibers) (mine.limits v.number has) in
+      let rs = ap (λ (l : Limits). l.refs) (mine.limits v.number has) in
+      let one : d ≡ q = omega arith in
+      let value : x ≡ z = some-one (deferred_word-one (Some x) (Some z) fits fz (sym bits ∙ ez)) in
+      (subst (λ (t : ℕ × ℤ × Bool). Called v (Complete t.0 t.1) (reply.Completed t.2) w) (λ j. (one j, value j, did j)) made, same)))
 
   pub reads : (k : Limits) (id : ℕ) (me : Me S Knowledge) (i slots d : ℕ) → me.1 ≡ [] → Has me.0.fibers me.0.number → d < k.deferreds → i ≡ d + (3 + k.fibers + k.refs)
       → Allows (WordsAreAHistory k) slots id me i (λ n. n) (Tells (WasRead i me.0))
@@ -238,7 +237,7 @@ module _ {S : Type 0} where
       let at : get_or words i 0 ≡ deferred_word o = deferred_at words s d i leaves place (omega arith) in
       value_turn k h words v i (get_or words i 0) (WasRead i v) (Read d) has mine record { allowed = within; room = refl } refl (same_words words s i leaves)
       (λ w made same q iq.
-          let fs = ap (λ (l : Limits). l.fibers) (mine.limits v.number has) in
-          let rs = ap (λ (l : Limits). l.refs) (mine.limits v.number has) in
-          let one : d ≡ q = omega arith in
-          (o, good.each_deferred d, sym at, subst (λ (t : ℕ). Called v (Read t) (reply.Read o) w) one made, same)))
+      let fs = ap (λ (l : Limits). l.fibers) (mine.limits v.number has) in
+      let rs = ap (λ (l : Limits). l.refs) (mine.limits v.number has) in
+      let one : d ≡ q = omega arith in
+      (o, good.each_deferred d, sym at, subst (λ (t : ℕ). Called v (Read t) (reply.Read o) w) one made, same)))

@@ -53,11 +53,9 @@ impl Registry {
         ensures spent { IfErr result (λ e. IsSpent pass.old e pass.new) }
     {
         room(pass.count, self.limits.count)?;
-        self.table.shared.fetch_add::<rule::Masks>(
-            &mut pass.seat,
-            cell_place(pass.number),
-            mask_amount(),
-        );
+        self.table
+            .shared
+            .fetch_add::<rule::Masks>(&mut pass.seat, cell_place(pass.number), mask_amount());
         pass.depth += 1;
         pass.count += 1;
         Ok(())
@@ -72,11 +70,9 @@ impl Registry {
         ensures spent { IfErr result (λ e. IsSpent pass.old e pass.new) }
     {
         room(pass.count, self.limits.count)?;
-        self.table.shared.fetch_sub::<rule::Unmasks>(
-            &mut pass.seat,
-            cell_place(pass.number),
-            unmask_amount(),
-        );
+        self.table
+            .shared
+            .fetch_sub::<rule::Unmasks>(&mut pass.seat, cell_place(pass.number), unmask_amount());
         pass.depth -= 1;
         pass.count += 1;
         Ok(())
@@ -94,11 +90,9 @@ impl Registry {
         ensures spent { IfErr result (λ e. IsSpent pass.old e pass.new) }
     {
         room(pass.count, self.limits.count)?;
-        self.table.shared.fetch_add::<rule::Cuts>(
-            &mut pass.seat,
-            cell_place(pass.number),
-            cut_amount(),
-        );
+        self.table
+            .shared
+            .fetch_add::<rule::Cuts>(&mut pass.seat, cell_place(pass.number), cut_amount());
         pass.stage = Stage::Finalizing;
         pass.depth = 1;
         pass.count += 1;

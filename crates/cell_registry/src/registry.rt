@@ -14,7 +14,9 @@ use crate::knowledge::Knowledge;
 use crate::limits::{Band, CellError, Limits};
 use crate::pass::Pass;
 use crate::rule::{self, Rule};
-use crate::words::{CANCEL, CLAIM_WORDS, WAITED, cancel_answer, cell_place, join_answer, look_answer};
+use crate::words::{
+    CANCEL, CLAIM_WORDS, WAITED, cancel_answer, cell_place, join_answer, look_answer,
+};
 use atomic_table::Table;
 use effect_term::{CancelReply, JoinReply};
 use std::alloc::{AllocError, Global};
@@ -32,8 +34,7 @@ pub struct Registry {
 }
 
 impl Model for Registry {
-    ghost use Rattle.cell_registry.specs.Cancellation.{WasCancelled};
-ghost use Rattle.cell_registry.specs.Passes.{IsRegistry, RegistryView};
+    ghost use Rattle.cell_registry.specs.Passes.{IsRegistry, RegistryView};
 
     ghost Value = { RegistryView };
 
@@ -92,10 +93,7 @@ impl Registry {
         let Some(number) = claim(&self.table.shared, &mut pass.seat, Band::Fibers, limit) else {
             return Err(CellError::Full(Band::Fibers, limit));
         };
-        let seat = self
-            .table
-            .shared
-            .split_seat::<rule::Child>(&mut pass.seat);
+        let seat = self.table.shared.split_seat::<rule::Child>(&mut pass.seat);
         Ok(Pass {
             seat,
             number,
@@ -115,8 +113,10 @@ impl Registry {
         ensures full { IfErr result (λ e. (e ≡ Full Refs self.now.limits.refs) × SeesAllGiven Refs pass.old pass.new) }
     {
         let limit = self.limits.refs;
-        claim(&self.table.shared, &mut pass.seat, Band::Refs, limit)
-            .ok_or(CellError::Full(Band::Refs, limit))
+        claim(&self.table.shared, &mut pass.seat, Band::Refs, limit).ok_or(CellError::Full(
+            Band::Refs,
+            limit,
+        ))
     }
 
     /// Makes an empty deferred, and gives its number. Answers `Full(Band::Deferreds, n)` where all
@@ -128,8 +128,10 @@ impl Registry {
         ensures full { IfErr result (λ e. (e ≡ Full Deferreds self.now.limits.deferreds) × SeesAllGiven Deferreds pass.old pass.new) }
     {
         let limit = self.limits.deferreds;
-        claim(&self.table.shared, &mut pass.seat, Band::Deferreds, limit)
-            .ok_or(CellError::Full(Band::Deferreds, limit))
+        claim(&self.table.shared, &mut pass.seat, Band::Deferreds, limit).ok_or(CellError::Full(
+            Band::Deferreds,
+            limit,
+        ))
     }
 
     /// Requests the cancellation of a fiber, whose number is below the limit of fibers. Answers
@@ -140,11 +142,10 @@ impl Registry {
         ensures same { OnlySees pass.old pass.new }
         ensures call { Calls pass.old (call.Cancel fiber) (reply.Cancel result) pass.new }
     {
-        let found = self.table.shared.fetch_or::<rule::Cancels>(
-            &mut pass.seat,
-            cell_place(fiber),
-            CANCEL,
-        );
+        let found = self
+            .table
+            .shared
+            .fetch_or::<rule::Cancels>(&mut pass.seat, cell_place(fiber), CANCEL);
         cancel_answer(found)
     }
 
@@ -156,11 +157,10 @@ impl Registry {
         ensures same { OnlySees pass.old pass.new }
         ensures call { Calls pass.old (call.Join fiber) (reply.Join result) pass.new }
     {
-        let found = self.table.shared.fetch_or::<rule::Joins>(
-            &mut pass.seat,
-            cell_place(fiber),
-            WAITED,
-        );
+        let found = self
+            .table
+            .shared
+            .fetch_or::<rule::Joins>(&mut pass.seat, cell_place(fiber), WAITED);
         join_answer(found)
     }
 

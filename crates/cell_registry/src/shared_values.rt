@@ -62,12 +62,10 @@ impl Registry {
     {
         let place = deferred_place(self.limits, number);
         let filled = FILLED + value_bits(value);
-        let found = self.table.shared.compare_exchange::<rule::Completes>(
-            &mut pass.seat,
-            place,
-            0,
-            filled,
-        );
+        let found = self
+            .table
+            .shared
+            .compare_exchange::<rule::Completes>(&mut pass.seat, place, 0, filled);
         found == 0
     }
 

@@ -1,10 +1,9 @@
-use Rattle.std.proofs.Common.{◌≡◌, ◌≢◌, ℕ, ◌+◌, ◌-◌, ◌^◌, ◌<◌, ◌≤◌, sym, ◌∙◌, ap, arith, subst, refl, rules, true}
+use Rattle.std.proofs.Common.{ℕ, ◌+◌, sym, ◌∙◌, ap, subst, refl, rules}
 use Rattle.cell_registry.specs.declared.cell.Stage.{Stage}
-use Rattle.cell_registry.specs.declared.cell.Stage.TheVariants.{Running, Finalizing, Ended}
+use Rattle.cell_registry.specs.declared.cell.Stage.TheVariants.{Ended}
 use Rattle.cell_registry.specs.declared.call.Call.TheVariants as call
-use Rattle.cell_registry.specs.Cells.{masked, unmasked, cut, finished, owned, IsOpen, MayUnmask, MayFinish}
+use Rattle.cell_registry.specs.Cells.{MayFinish}
 use Rattle.cell_registry.specs.Words.{phase_at}
-use Rattle.cell_registry.specs.Rule.{seen_cell}
 use Rattle.cell_registry.specs.Passes.{RegistryView, PassView, Changes, pass_of}
 use Rattle.cell_registry.proofs.OwnTurns.{finishes_as, finish-fits}
 use Rattle.cell_registry.proofs.Tokens.{of_registry, own_place, seat_has, seat_cell, called_by, call-prefix, pass_of-step, seated_changed, count_below, seen_count_below}
@@ -46,7 +45,7 @@ returns-clause-ended c =
     let told = c.fetch_add.ensures.2.1 c.is_finalizing.result c.args.outcome phase (finish-fits _ _ _ may) c.finish_amount-amount.ensures.sum in
     let P : PassView → Type 0 = λ h. Changes h (call.Finish c.args.outcome) (Ended c.args.outcome) h.depth (pass_of new.table_id new.me.0 old.number (Ended c.args.outcome) old.depth (old.count + 1) old.saw) in
     subst P c.pass.view_is record {
-        room = count_below _ _ _ p.1 of c.in_ok-room.ensures.room;
-        same = pass_of-step _ _ old.seat.me.0 new.me.0 _ (Ended c.args.outcome) old.depth (old.count + 1) _ c.fetch_add.ensures.0 told.1.limits told.1.fibers;
-        call = called_by old.seat.me.0 new.me.0 _ _ _ p.1.number_is told.0;
+      room = count_below _ _ _ p.1 of c.in_ok-room.ensures.room;
+      same = pass_of-step _ _ old.seat.me.0 new.me.0 _ (Ended c.args.outcome) old.depth (old.count + 1) _ c.fetch_add.ensures.0 told.1.limits told.1.fibers;
+      call = called_by old.seat.me.0 new.me.0 _ _ _ p.1.number_is told.0;
     }

@@ -1,4 +1,4 @@
-use Rattle.std.proofs.Common.{◌≡◌, ℕ, ◌+◌, ◌<◌, [], ◌∷◌, sym, ◌∙◌, ap, arith, subst, refl, rules, set, false}
+use Rattle.std.proofs.Common.{◌≡◌, ℕ, ◌+◌, sym, ◌∙◌, ap, subst, set, false}
 use Rattle.std.specs.Prelude.{replicate}
 use Rattle.atomic_table.specs.Table.{Me}
 use Rattle.cell_registry.specs.declared.cell.Stage.TheVariants.{Running}
@@ -12,7 +12,7 @@ pub of_words-requires : goal.of_words-requires
 of_words-requires c =
     let is = c.in_ok-words.ensures in
     let items : c.as_slice.result.now ≡ set (replicate (c.args.fibers + c.args.refs + c.args.deferreds + 3) 0) 0 1 =
-        c.as_slice.ensures.value ∙ ap (λ l. set l 0 1) (is.items_if_clones_equal (λ y e. e)) ∙ (λ j. set (replicate (c.from.ensures j + c.from-2.ensures j + c.from-3.ensures j + 3) 0) 0 1) in
+    c.as_slice.ensures.value ∙ ap (λ l. set l 0 1) (is.items_if_clones_equal (λ y e. e)) ∙ (λ j. set (replicate (c.from.ensures j + c.from-2.ensures j + c.from-3.ensures j + 3) 0) 0 1) in
     begins ℕ _ c.as_slice.result.now c.requires.limits items
 
 pub invariant_of-pass : goal.invariant_of-pass

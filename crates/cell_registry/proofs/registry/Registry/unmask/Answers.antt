@@ -1,10 +1,7 @@
-use Rattle.std.proofs.Common.{◌≡◌, ◌≢◌, ℕ, ◌+◌, ◌-◌, ◌^◌, ◌<◌, ◌≤◌, sym, ◌∙◌, ap, arith, subst, refl, rules, true}
+use Rattle.std.proofs.Common.{ℕ, ◌+◌, ◌-◌, sym, ◌∙◌, ap, subst, refl, rules}
 use Rattle.cell_registry.specs.declared.cell.Stage.{Stage}
-use Rattle.cell_registry.specs.declared.cell.Stage.TheVariants.{Running, Finalizing, Ended}
 use Rattle.cell_registry.specs.declared.call.Call.TheVariants as call
-use Rattle.cell_registry.specs.Cells.{masked, unmasked, cut, finished, owned, IsOpen, MayUnmask, MayFinish}
-use Rattle.cell_registry.specs.Words.{phase_at}
-use Rattle.cell_registry.specs.Rule.{seen_cell}
+use Rattle.cell_registry.specs.Cells.{MayUnmask}
 use Rattle.cell_registry.specs.Passes.{RegistryView, PassView, Changes, pass_of}
 use Rattle.cell_registry.proofs.OwnTurns.{unmasks_as}
 use Rattle.cell_registry.proofs.Tokens.{of_registry, own_place, seat_has, seat_cell, called_by, call-prefix, pass_of-step, seated_changed, count_below, seen_count_below}
@@ -42,7 +39,7 @@ returns-clause-unmasked c =
     let told = c.fetch_sub.ensures.2.1 in
     let P : PassView → Type 0 = λ h. Changes h call.Unmask h.stage (h.depth - 1) (pass_of new.table_id new.me.0 old.number old.stage (old.depth - 1) (old.count + 1) old.saw) in
     subst P c.pass.view_is record {
-        room = count_below _ _ _ p.1 of c.in_ok-room.ensures.room;
-        same = pass_of-step _ _ old.seat.me.0 new.me.0 _ old.stage (old.depth - 1) (old.count + 1) _ c.fetch_sub.ensures.0 told.1.limits told.1.fibers;
-        call = called_by old.seat.me.0 new.me.0 _ _ _ p.1.number_is told.0;
+      room = count_below _ _ _ p.1 of c.in_ok-room.ensures.room;
+      same = pass_of-step _ _ old.seat.me.0 new.me.0 _ old.stage (old.depth - 1) (old.count + 1) _ c.fetch_sub.ensures.0 told.1.limits told.1.fibers;
+      call = called_by old.seat.me.0 new.me.0 _ _ _ p.1.number_is told.0;
     }
