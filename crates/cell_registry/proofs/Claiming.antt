@@ -1,25 +1,21 @@
 -- The steps on the claim word of a band.
-use Rattle.std.proofs.Common.{◌≡◌, ◌≢◌, ℕ, zero, suc, ◌+◌, ◌-◌, ◌<◌, ◌≤◌, Bool, List, [], ◌∷◌, ◌++◌, length, set, get_or, ◌⊎◌, inl, inr, ⊎_elim, refl, sym, ap, ◌∙◌, subst, arith, eqb, append_assoc, FitsSigned}
+use Rattle.std.proofs.Common.{◌≡◌, ◌≢◌, ℕ, ◌+◌, ◌<◌, ◌≤◌, List, [], ◌∷◌, ◌++◌, get_or, ◌⊎◌, inl, inr, ⊎_elim, refl, sym, ap, ◌∙◌, subst, arith, eqb, append_assoc}
 use prog.Atomic.{either}
-use mathlib.Core.Option.{some}
 use mathlib.Core.List.{IsPrefix}
-use lib.ListN.{get_elem?}
-use Rattle.atomic_table.specs.Table.{State, Me, Allows}
+use Rattle.atomic_table.specs.Table.{Me, Allows}
 use Rattle.atomic_table.proofs.Lists.{exchanged}
 use Rattle.effect_term.specs.declared.reply.Reply.TheVariants as reply
 use Rattle.cell_registry.specs.declared.limits.Limits.{Limits}
 use Rattle.cell_registry.specs.declared.limits.Band.{Band}
 use Rattle.cell_registry.specs.declared.limits.Band.TheVariants.{Fibers, Refs, Deferreds}
-use Rattle.cell_registry.specs.declared.cell.Stage.{Stage}
 use Rattle.cell_registry.specs.declared.cell.Cell.{Cell}
-use Rattle.cell_registry.specs.declared.call.Call.{Call}
 use Rattle.cell_registry.specs.declared.call.Entry.{Entry}
 use Rattle.cell_registry.specs.declared.knowledge.Knowledge.{Knowledge}
-use Rattle.cell_registry.specs.Cells.{AreLimits, fresh, owned, IsOpen, Cells, cell_of, after, reply_of, IsAllowed, refusal, IsAccepted}
+use Rattle.cell_registry.specs.Cells.{AreLimits, fresh, owned, Cells, cell_of, after, IsAllowed, refusal, IsAccepted}
 use Rattle.cell_registry.specs.Histories.{left, IsLegal, calls_by}
 use Rattle.cell_registry.specs.Words.{Leaves}
 use Rattle.cell_registry.specs.Rule.{Has, seen_cell, Fits, WordsAreAHistory}
-use Rattle.cell_registry.specs.Steps.{entry, IsCall, IsLook, Called, Looked, IsSame, band_word, next_of, limit_of, claim_of, MayClaim, fibers_with, IsUnused, IsNew, Claimed, SawNext, Tried, AtBand, AreAllGiven, FoundNone}
+use Rattle.cell_registry.specs.Steps.{entry, Called, Looked, IsSame, band_word, next_of, limit_of, claim_of, MayClaim, fibers_with, IsNew, Claimed, SawNext, Tried, AtBand, FoundNone}
 use Rattle.cell_registry.proofs.Calls.{full-none}
 use Rattle.cell_registry.proofs.Legal.{left-push, sound, next_fiber-prefix, next_ref-prefix, next_deferred-prefix, unborn, unborn_cell, calls_by-other}
 use Rattle.cell_registry.proofs.Giving.{reply-claim, given}

@@ -1,13 +1,10 @@
 -- The steps by which a fiber changes its own cell.
-use Rattle.std.proofs.Common.{◌≡◌, ◌≢◌, ℕ, ◌+◌, ◌-◌, ◌%◌, ◌^◌, ◌<◌, ◌≤◌, Bool, true, false, List, [], ◌∷◌, ◌++◌, length, set, get_or, ◌⊎◌, inl, inr, refl, sym, ap, ◌∙◌, subst, arith, get_or-set_same, FitsSigned}
+use Rattle.std.proofs.Common.{◌≡◌, ℕ, ◌+◌, ◌-◌, ◌%◌, ◌<◌, Bool, true, false, List, [], inr, refl, sym, ap, ◌∙◌, subst, arith, get_or-set_same}
 use Rattle.std.specs.Prelude.{None}
-use mathlib.Core.List.{IsPrefix}
-use Rattle.atomic_table.specs.Table.{State, Me, Allows}
+use Rattle.atomic_table.specs.Table.{Me, Allows}
 use Rattle.effect_term.specs.declared.reply.Outcome.{Outcome}
-use Rattle.effect_term.specs.declared.reply.Outcome.TheVariants.{Succeeded, Errored, Canceled}
 use Rattle.effect_term.specs.declared.reply.Reply.{Reply}
 use Rattle.effect_term.specs.declared.reply.Reply.TheVariants as reply
-use Rattle.control_word.specs.declared.control.Control.{Control}
 use Rattle.control_word.specs.Word as word
 use Rattle.control_word.proofs.Sums.{finish_one}
 use Rattle.cell_registry.specs.declared.limits.Limits.{Limits}
@@ -19,14 +16,14 @@ use Rattle.cell_registry.specs.declared.call.Call.TheVariants.{Mask, Unmask, Cut
 use Rattle.cell_registry.specs.declared.call.Entry.{Entry}
 use Rattle.cell_registry.specs.declared.knowledge.Knowledge.{Knowledge}
 use Rattle.cell_registry.specs.Cells.{AreLimits, fresh, masked, unmasked, cut, finished, owned, IsOpen, MayUnmask, MayFinish, Cells, cell_of, with_cell, after, reply_of, IsAllowed, spent, refusal, IsAccepted}
-use Rattle.cell_registry.specs.Histories.{left, IsLegal}
+use Rattle.cell_registry.specs.Histories.{left}
 use Rattle.cell_registry.specs.Words.{phase_at, control, cell_word}
 use Rattle.cell_registry.specs.Rule.{Has, seen_cell, Fits, WordsAreAHistory}
-use Rattle.cell_registry.specs.Steps.{entry, Called, IsChanged, Changed, Masked, Unmasked, WasCut, Finished}
+use Rattle.cell_registry.specs.Steps.{entry, Called, Changed, Masked, Unmasked, WasCut, Finished}
 use Rattle.cell_registry.proofs.Calls.{spent-none, outcome-fits}
 use Rattle.cell_registry.proofs.Requests.{request-prefix}
 use Rattle.cell_registry.proofs.TableWords.{no_outcome, value-fits}
-use Rattle.cell_registry.proofs.CellTurns.{CellTurn, cell_turns, own_same, own_stage, own_depth, own_count, advanced}
+use Rattle.cell_registry.proofs.CellTurns.{cell_turns, own_same, own_stage, own_depth, own_count, advanced}
 
 -- ---- what a stage allows
 unmask-open : (g : Stage) (depth : ℕ) → MayUnmask g depth → IsOpen g × (0 < depth)

@@ -1,17 +1,16 @@
 -- What passes between seats: a new fiber gets a seat of its own, and one pass takes in another.
-use Rattle.std.proofs.Common.{◌≡◌, ◌≢◌, ℕ, zero, suc, ◌+◌, ◌<◌, ◌≤◌, List, [], ◌∷◌, ◌++◌, length, set, get_or, ◌⊎◌, inl, inr, ⊎_elim, refl, sym, ap, ◌∙◌, subst, arith}
-use mathlib.Core.Option.{Option, some, some-injective, some-ne-none}
+use Rattle.std.proofs.Common.{◌≡◌, ◌≢◌, ℕ, zero, suc, ◌+◌, ◌<◌, List, [], ◌∷◌, ◌++◌, length, set, ◌⊎◌, inl, inr, ⊎_elim, refl, sym, ap, ◌∙◌, subst, arith}
+use mathlib.Core.Option.{some, some-injective, some-ne-none}
 use mathlib.Core.Logic.{dite}
 use native.Mathlib.Decide.{ℕ_discrete}
 use lib.ListN.{get_elem?}
-use Rattle.atomic_table.specs.Table.{State, Me, Allows, Splits, Joins}
+use Rattle.atomic_table.specs.Table.{Me, Allows, Splits, Joins}
 use Rattle.atomic_table.proofs.Lists.{set_else}
 use Rattle.cell_registry.specs.declared.limits.Limits.{Limits}
-use Rattle.cell_registry.specs.declared.call.Entry.{Entry}
 use Rattle.cell_registry.specs.declared.knowledge.Knowledge.{Knowledge}
-use Rattle.cell_registry.specs.Cells.{AreLimits, owned, Cells}
+use Rattle.cell_registry.specs.Cells.{AreLimits}
 use Rattle.cell_registry.specs.Histories.{left, IsLegal}
-use Rattle.cell_registry.specs.Rule.{Has, seen_cell, IsQuietSince, Fits, Owns, Apart, IsHistory, WordsAreAHistory, first_knowledge}
+use Rattle.cell_registry.specs.Rule.{Has, Fits, Owns, Apart, WordsAreAHistory, first_knowledge}
 use Rattle.cell_registry.specs.Steps.{parent, child, hosting, nothing, Met}
 use Rattle.cell_registry.proofs.TableWords.{same_words, opening_words}
 use Rattle.cell_registry.proofs.Turns.{Tells, looks, each_view, apart_still}

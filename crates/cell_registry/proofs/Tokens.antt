@@ -1,23 +1,22 @@
 -- A pass, and the seat in it.
-use Rattle.std.proofs.Common.{◌≡◌, ◌≢◌, ℕ, ◌+◌, ◌<◌, ◌≤◌, Bool, true, false, List, [], ◌∷◌, ◌++◌, ◌⊎◌, inl, inr, ⊎_elim, refl, sym, ap, ◌∙◌, subst, arith, append_assoc}
+use Rattle.std.proofs.Common.{◌≡◌, ◌≢◌, ℕ, ◌+◌, ◌<◌, Bool, true, false, List, [], ◌∷◌, ◌++◌, inl, inr, ⊎_elim, refl, sym, ap, ◌∙◌, subst, arith, append_assoc}
 use Rattle.std.specs.Prelude.{Option, Some, None, MatchOption}
 use mathlib.Core.List.{IsPrefix}
 use Rattle.atomic_table.specs.Seated.{TableId}
 use Rattle.effect_term.specs.declared.reply.Reply.{Reply}
 use Rattle.cell_registry.specs.declared.limits.Limits.{Limits}
 use Rattle.cell_registry.specs.declared.limits.Band.{Band}
-use Rattle.cell_registry.specs.declared.limits.Band.TheVariants.{Fibers, Refs, Deferreds}
+use Rattle.cell_registry.specs.declared.limits.Band.TheVariants.{Fibers}
 use Rattle.cell_registry.specs.declared.cell.Stage.{Stage}
 use Rattle.cell_registry.specs.declared.cell.Stage.TheVariants.{Running}
-use Rattle.cell_registry.specs.declared.cell.Cell.{Cell}
 use Rattle.cell_registry.specs.declared.call.Call.{Call}
 use Rattle.cell_registry.specs.declared.call.Entry.{Entry}
 use Rattle.cell_registry.specs.declared.knowledge.Knowledge.{Knowledge}
 use Rattle.cell_registry.specs.Cells.{AreLimits, fresh, owned, cell_of}
-use Rattle.cell_registry.specs.Histories.{left, IsLegal, calls_by}
+use Rattle.cell_registry.specs.Histories.{left, IsLegal}
 use Rattle.cell_registry.specs.Rule.{Has, seen_cell, first_knowledge}
 use Rattle.cell_registry.specs.Steps.{entry, IsCall, Called, IsSame, IsChanged, fibers_with, FoundNone, eldest, younger, Claimed, parent, child, hosting, Met}
-use Rattle.cell_registry.specs.Passes.{RegistryView, IsRegistry, PassView, IsPass, pass_of, IsSeated, IsOf}
+use Rattle.cell_registry.specs.Passes.{RegistryView, IsRegistry, PassView, pass_of, IsSeated, IsOf}
 use Rattle.cell_registry.proofs.Lists.{get_or-replicate_default}
 use Rattle.cell_registry.proofs.Legal.{sound}
 use Rattle.cell_registry.proofs.Requests.{request-prefix}

@@ -1,13 +1,12 @@
 -- The steps on the word of a ref or a deferred.
-use Rattle.std.proofs.Common.{◌≡◌, ◌≢◌, ℕ, zero, suc, ◌+◌, ◌-◌, ◌*◌, ◌%◌, ◌^◌, ◌<◌, ◌≤◌, Bool, true, false, List, [], ◌∷◌, ◌++◌, length, map, set, get_or, ◌⊎◌, inl, refl, sym, ap, ◌∙◌, subst, arith, eqb, ne_eqb, length-set, FitsSigned, ℤ, pos, ◌+ℤ◌}
+use Rattle.std.proofs.Common.{◌≡◌, ℕ, zero, suc, ◌+◌, ◌-◌, ◌%◌, ◌^◌, ◌<◌, Bool, List, [], ◌∷◌, ◌++◌, length, map, set, get_or, inl, refl, sym, ap, ◌∙◌, subst, arith, eqb, ne_eqb, length-set, FitsSigned, ℤ, pos, ◌+ℤ◌}
 use Rattle.std.specs.Prelude.{Option, Some, None, is_none}
 use Rattle.std.specs.Int.{w32, int_wrap, cast_unsigned, cast_signed}
 use Rattle.std.proofs.lemmas.Int.{ints, wrapping_add-bits, of_z-to_z, to_z-of_z}
 use Rattle.std.proofs.Math.ListN.{get_or-append}
 use Rattle.std.proofs.lemmas.List.{set-append_left, set-append_right, get_or-append_right, length-map, map-set, get_or-map}
 use prog.Atomic.{either}
-use Rattle.atomic_table.specs.Table.{State, Me, Allows}
-use Rattle.effect_term.specs.declared.reply.Reply.{Reply}
+use Rattle.atomic_table.specs.Table.{Me, Allows}
 use Rattle.effect_term.specs.declared.reply.Reply.TheVariants as reply
 use Rattle.cell_registry.specs.declared.limits.Limits.{Limits}
 use Rattle.cell_registry.specs.declared.cell.Cell.{Cell}
@@ -15,8 +14,8 @@ use Rattle.cell_registry.specs.declared.call.Call.{Call}
 use Rattle.cell_registry.specs.declared.call.Call.TheVariants.{Get, Set, Modify, Complete, Read}
 use Rattle.cell_registry.specs.declared.call.Entry.{Entry}
 use Rattle.cell_registry.specs.declared.knowledge.Knowledge.{Knowledge}
-use Rattle.cell_registry.specs.Cells.{AreLimits, fresh, owned, Cells, cell_of, ref_of, deferred_of, with_ref, with_deferred, filled, after, reply_of, IsAllowed, refusal, IsAccepted, ValueFits}
-use Rattle.cell_registry.specs.Histories.{left, IsLegal}
+use Rattle.cell_registry.specs.Cells.{fresh, owned, Cells, cell_of, ref_of, deferred_of, with_ref, with_deferred, filled, after, reply_of, IsAllowed, refusal, IsAccepted, ValueFits}
+use Rattle.cell_registry.specs.Histories.{left}
 use Rattle.cell_registry.specs.Words.{cell_word, deferred_word, ref_value, Leaves}
 use Rattle.cell_registry.specs.Rule.{Has, seen_cell, Fits, WordsAreAHistory}
 use Rattle.cell_registry.specs.Steps.{entry, Called, IsSame, HasBits, Got, WasSet, Modified, Completed, WasRead}

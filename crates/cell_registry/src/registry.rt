@@ -34,7 +34,6 @@ pub struct Registry {
 }
 
 impl Model for Registry {
-    ghost use Rattle.cell_registry.specs.Cancellation.{WasCancelled};
     ghost use Rattle.cell_registry.specs.Passes.{IsRegistry, RegistryView};
 
     ghost Value = { RegistryView };

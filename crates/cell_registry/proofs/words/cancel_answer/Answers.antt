@@ -1,4 +1,4 @@
-use Rattle.std.proofs.Common.{◌≡◌, sym, ◌∙◌, ap, arith}
+use Rattle.std.proofs.Common.{sym, ◌∙◌}
 use Rattle.cell_registry.proofs.Replies.{ended_reply, already_reply, asked_reply, control-phase, control-cancel}
 use Rattle.cell_registry.proofs.words.cancel_answer.Goals as goal
 

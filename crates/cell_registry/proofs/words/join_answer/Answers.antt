@@ -1,4 +1,4 @@
-use Rattle.std.proofs.Common.{◌≡◌, sym, ◌∙◌, ap, arith}
+use Rattle.std.proofs.Common.{sym, ◌∙◌}
 use Rattle.cell_registry.proofs.Replies.{waits_reply, succeeded_reply, errored_reply, canceled_reply, control-phase, control-kind, control-value}
 use Rattle.cell_registry.proofs.words.join_answer.Goals as goal
 

@@ -1,4 +1,4 @@
-use Rattle.std.proofs.Common.{◌≡◌, sym}
+use Rattle.std.proofs.Common.{sym}
 use Rattle.cell_registry.proofs.Replies.{control-cancel}
 use Rattle.cell_registry.proofs.words.look_answer.Goals as goal
 

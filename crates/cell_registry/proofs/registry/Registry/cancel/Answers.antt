@@ -1,4 +1,4 @@
-use Rattle.std.proofs.Common.{◌≡◌, ◌+◌, ◌<◌, sym, ◌∙◌, ap, arith, subst, refl}
+use Rattle.std.proofs.Common.{◌<◌, sym, ◌∙◌, ap, arith, subst, refl}
 use Rattle.effect_term.specs.declared.reply.CancelReply.{CancelReply}
 use Rattle.effect_term.specs.declared.reply.Reply.TheVariants as reply
 use Rattle.cell_registry.specs.declared.limits.Limits.{Limits}

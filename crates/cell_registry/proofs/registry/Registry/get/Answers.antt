@@ -1,12 +1,8 @@
-use Rattle.std.proofs.Common.{◌≡◌, ◌+◌, ◌^◌, ◌<◌, ℤ, sym, ◌∙◌, ap, subst, refl}
-use Rattle.std.specs.Prelude.{Option}
-use Rattle.effect_term.specs.declared.reply.Reply.TheVariants as reply
+use Rattle.std.proofs.Common.{◌<◌, sym, ap, subst, refl}
 use Rattle.cell_registry.specs.declared.limits.Limits.{Limits}
-use Rattle.cell_registry.specs.declared.call.Call.TheVariants as call
-use Rattle.cell_registry.specs.Steps.{Called}
-use Rattle.cell_registry.specs.Passes.{RegistryView, PassView, OnlySees, Calls, pass_of}
+use Rattle.cell_registry.specs.Passes.{RegistryView, PassView, OnlySees, pass_of}
 use Rattle.cell_registry.proofs.ValueTurns.{gets}
-use Rattle.cell_registry.proofs.Tokens.{of_registry, seat_has, ref_here, ref_word, called_by, call-prefix, pass_of-step, seated_still}
+use Rattle.cell_registry.proofs.Tokens.{of_registry, seat_has, ref_here, ref_word, call-prefix, pass_of-step, seated_still}
 use Rattle.cell_registry.proofs.registry.Registry.get.Goals as goal
 
 pub load-found-requires : goal.load-found-requires

@@ -1,10 +1,6 @@
-use Rattle.std.proofs.Common.{◌≡◌, ◌≢◌, ℕ, ◌+◌, ◌-◌, ◌^◌, ◌<◌, ◌≤◌, sym, ◌∙◌, ap, arith, subst, refl, rules, true}
-use Rattle.cell_registry.specs.declared.cell.Stage.{Stage}
-use Rattle.cell_registry.specs.declared.cell.Stage.TheVariants.{Running, Finalizing, Ended}
+use Rattle.std.proofs.Common.{◌+◌, ◌<◌, sym, ◌∙◌, ap, arith, subst, refl, rules}
 use Rattle.cell_registry.specs.declared.call.Call.TheVariants as call
-use Rattle.cell_registry.specs.Cells.{masked, unmasked, cut, finished, owned, IsOpen, MayUnmask, MayFinish}
-use Rattle.cell_registry.specs.Words.{phase_at}
-use Rattle.cell_registry.specs.Rule.{seen_cell}
+use Rattle.cell_registry.specs.Cells.{IsOpen}
 use Rattle.cell_registry.specs.Passes.{RegistryView, PassView, Changes, pass_of}
 use Rattle.cell_registry.proofs.OwnTurns.{masks_as}
 use Rattle.cell_registry.proofs.Tokens.{of_registry, own_place, seat_has, seat_cell, called_by, call-prefix, pass_of-step, seated_changed, count_below, seen_count_below}

@@ -1,9 +1,8 @@
-use Rattle.std.proofs.Common.{◌≡◌, ℕ, ◌+◌, ◌<◌, ◌++◌, [], ◌∷◌, sym, ◌∙◌, ap, arith, subst, refl, rules}
+use Rattle.std.proofs.Common.{ℕ, sym, ◌∙◌, ap, arith, subst, refl}
 use Rattle.atomic_table.specs.Table.{Me}
 use Rattle.cell_registry.specs.declared.knowledge.Knowledge.{Knowledge}
 use Rattle.cell_registry.specs.Rule.{Has}
-use Rattle.cell_registry.specs.Steps.{hosting}
-use Rattle.cell_registry.specs.Passes.{RegistryView, PassView}
+use Rattle.cell_registry.specs.Passes.{RegistryView}
 use Rattle.cell_registry.proofs.Seats.{hosts, meets}
 use Rattle.cell_registry.proofs.Tokens.{of_registry, seat_has, met_seated}
 use Rattle.cell_registry.proofs.registry.Registry.meet.Goals as goal

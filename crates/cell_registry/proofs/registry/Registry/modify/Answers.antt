@@ -1,14 +1,10 @@
-use Rattle.std.proofs.Common.{◌≡◌, ◌+◌, ◌^◌, ◌<◌, ℤ, sym, ◌∙◌, ap, subst, refl}
-use Rattle.std.specs.Prelude.{Option}
+use Rattle.std.proofs.Common.{◌<◌, sym, ◌∙◌, ap, subst, refl}
 use Rattle.std.specs.Int.{w32, cast_unsigned}
 use Rattle.std.proofs.lemmas.Int.{to_z-of_z}
-use Rattle.effect_term.specs.declared.reply.Reply.TheVariants as reply
 use Rattle.cell_registry.specs.declared.limits.Limits.{Limits}
-use Rattle.cell_registry.specs.declared.call.Call.TheVariants as call
-use Rattle.cell_registry.specs.Steps.{Called}
-use Rattle.cell_registry.specs.Passes.{RegistryView, PassView, OnlySees, Calls, pass_of}
+use Rattle.cell_registry.specs.Passes.{RegistryView, PassView, OnlySees, pass_of}
 use Rattle.cell_registry.proofs.ValueTurns.{modifies}
-use Rattle.cell_registry.proofs.Tokens.{of_registry, seat_has, ref_here, ref_word, called_by, call-prefix, pass_of-step, seated_still}
+use Rattle.cell_registry.proofs.Tokens.{of_registry, seat_has, ref_here, ref_word, call-prefix, pass_of-step, seated_still}
 use Rattle.cell_registry.proofs.registry.Registry.modify.Goals as goal
 
 pub fetch_add-found-requires : goal.fetch_add-found-requires

@@ -1,4 +1,4 @@
-use Rattle.std.proofs.Common.{◌≡◌, ℕ, ◌+◌, ◌<◌, [], ◌∷◌, sym, ◌∙◌, ap, arith, subst, refl, rules, set, false}
+use Rattle.std.proofs.Common.{◌≡◌, ℕ, ◌+◌, sym, ◌∙◌, ap, subst, set, false}
 use Rattle.std.specs.Prelude.{replicate}
 use Rattle.atomic_table.specs.Table.{Me}
 use Rattle.cell_registry.specs.declared.cell.Stage.TheVariants.{Running}

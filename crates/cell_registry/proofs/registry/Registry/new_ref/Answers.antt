@@ -1,4 +1,4 @@
-use Rattle.std.proofs.Common.{◌≡◌, ◌<◌, ◌≤◌, ◌+◌, sym, ◌∙◌, ap, arith, refl, subst}
+use Rattle.std.proofs.Common.{sym, ap, arith, refl}
 use Rattle.cell_registry.specs.declared.limits.Limits.{Limits}
 use Rattle.cell_registry.specs.declared.limits.Band.TheVariants.{Refs}
 use Rattle.cell_registry.specs.Passes.{RegistryView}

@@ -1,12 +1,11 @@
-use Rattle.std.proofs.Common.{◌≡◌, ◌<◌, ◌≤◌, ◌+◌, ℕ, sym, ◌∙◌, ap, arith, refl, subst}
+use Rattle.std.proofs.Common.{ℕ, sym, ◌∙◌, ap, arith, refl, subst}
 use Rattle.atomic_table.specs.Table.{Me}
 use Rattle.cell_registry.specs.declared.limits.Limits.{Limits}
-use Rattle.cell_registry.specs.declared.limits.Band.TheVariants.{Fibers}
 use Rattle.cell_registry.specs.declared.knowledge.Knowledge.{Knowledge}
 use Rattle.cell_registry.specs.Cells.{IsOpen}
 use Rattle.cell_registry.specs.Passes.{RegistryView, PassView, IsSeated, pass_of}
 use Rattle.cell_registry.proofs.Seats.{splits}
-use Rattle.cell_registry.proofs.Tokens.{of_registry, seat_has, seat_cell, call-prefix, seated_still, parent-same, child_seated}
+use Rattle.cell_registry.proofs.Tokens.{of_registry, seat_has, seat_cell, call-prefix, seated_still, parent-same}
 use Rattle.cell_registry.proofs.registry.Registry.start.Goals as goal
 
 pub claim-requires-clause-table : goal.claim-requires-clause-table

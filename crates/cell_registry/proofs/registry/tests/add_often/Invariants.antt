@@ -1,4 +1,3 @@
-use Rattle.std.proofs.Common.{◌≡◌}
 use Rattle.cell_registry.specs.Passes.{IsOf}
 use Rattle.cell_registry.proofs.registry.tests.add_often.Given as goal
 
