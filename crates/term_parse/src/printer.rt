@@ -79,7 +79,13 @@ fn form_of(term: &Term) -> Form<'_>
         Term::Poll(p, e) => form_with!(Poll, Piece::Name(*p), Piece::Term(e)),
         Term::OnCancel(e, fin) => form_with!(OnCancel, Piece::Term(e), Piece::Term(fin)),
         Term::Start(e, k) => form_with!(Start, Piece::Term(e), Piece::Term(k)),
-        Term::Join(f, s, e, c) => form_with!(Join, Piece::Name(*f), Piece::Term(s), Piece::Term(e), Piece::Term(c)),
+        Term::Join(f, s, e, c) => form_with!(
+            Join,
+            Piece::Name(*f),
+            Piece::Term(s),
+            Piece::Term(e),
+            Piece::Term(c)
+        ),
         Term::Cancel(f) => form_with!(Cancel, Piece::Name(*f)),
         Term::Ref(v, k) => form_with!(Ref, Piece::Value(*v), Piece::Term(k)),
         Term::Get(r) => form_with!(Get, Piece::Name(*r)),
@@ -91,8 +97,20 @@ fn form_of(term: &Term) -> Form<'_>
         Term::Repeat(v, e) => form_with!(Repeat, Piece::Value(*v), Piece::Term(e)),
         Term::Forever(e) => form_with!(Forever, Piece::Term(e)),
         Term::Guarantee(e, fin) => form_with!(Guarantee, Piece::Term(e), Piece::Term(fin)),
-        Term::Bracket(a, b, rel) => form_with!(Bracket, Piece::Term(a), Piece::Term(b), Piece::Term(rel)),
-        Term::BracketCase(a, b, rs, re, rc) => form_with!(BracketCase, Piece::Term(a), Piece::Term(b), Piece::Term(rs), Piece::Term(re), Piece::Term(rc)),
+        Term::Bracket(a, b, rel) => form_with!(
+            Bracket,
+            Piece::Term(a),
+            Piece::Term(b),
+            Piece::Term(rel)
+        ),
+        Term::BracketCase(a, b, rs, re, rc) => form_with!(
+            BracketCase,
+            Piece::Term(a),
+            Piece::Term(b),
+            Piece::Term(rs),
+            Piece::Term(re),
+            Piece::Term(rc)
+        ),
         Term::Race(a, b) => form_with!(Race, Piece::Term(a), Piece::Term(b)),
         Term::Both(a, b, k) => form_with!(Both, Piece::Term(a), Piece::Term(b), Piece::Term(k)),
     }
@@ -172,8 +190,18 @@ fn outer_binders(index: usize, parts: &[Part]) -> usize
         return 0;
     };
     match part {
-        Part::UnderBoth(_, second) => if *second == index { 1 } else { outer_binders(index, rest) },
-        Part::Bind(_) | Part::Use(_) | Part::Value | Part::Term | Part::Under(_) | Part::More | Part::Close => outer_binders(index, rest),
+        Part::UnderBoth(_, second) => if *second == index {
+            1
+        } else {
+            outer_binders(index, rest)
+        },
+        Part::Bind(_)
+        | Part::Use(_)
+        | Part::Value
+        | Part::Term
+        | Part::Under(_)
+        | Part::More
+        | Part::Close => outer_binders(index, rest),
     }
 }
 
@@ -191,12 +219,26 @@ fn write_term(out: &mut Vec<u8>, term: &Term, around: usize) -> Result<(), Alloc
     let form = form_of(term);
     out.push(b'(')?;
     out.extend_from_slice(spelling_of(form.word))?;
-    write_parts(out, &parts_of(form.word), &form.pieces, form.more, around, 0)
+    write_parts(
+        out,
+        &parts_of(form.word),
+        &form.pieces,
+        form.more,
+        around,
+        0,
+    )
 }
 
 // Writes the rest of a form, before which so many of its own binders stand.
 #[cycle(writing)]
-fn write_parts(out: &mut Vec<u8>, parts: &[Part], pieces: &[Option<Piece<'_>>], more: &[Term], around: usize, bound: usize) -> Result<(), AllocError>
+fn write_parts(
+    out: &mut Vec<u8>,
+    parts: &[Part],
+    pieces: &[Option<Piece<'_>>],
+    more: &[Term],
+    around: usize,
+    bound: usize,
+) -> Result<(), AllocError>
     requires room { around + 2 ≤ vec_len out.old }
     requires few { bound + length parts.now ≤ 9 }
     requires enough { Suffice parts.now pieces.now more.now }
@@ -237,7 +279,12 @@ fn write_parts(out: &mut Vec<u8>, parts: &[Part], pieces: &[Option<Piece<'_>>], 
 
 // Writes a piece of a form.
 #[cycle(writing)]
-fn write_piece(out: &mut Vec<u8>, part: Part, piece: Piece<'_>, around: usize) -> Result<(), AllocError>
+fn write_piece(
+    out: &mut Vec<u8>,
+    part: Part,
+    piece: Piece<'_>,
+    around: usize,
+) -> Result<(), AllocError>
     requires { around + 2 ≤ vec_len out.old }
     ensures text { OnOk result (out.new.items ≡ out.old.items ++ piece_spelling around part (piece_of piece.entry)) }
     ensures numbers { OnOk result (NumbersFit (piece_atoms piece.entry)) }

@@ -1,4 +1,4 @@
-use Rattle.std.proofs.Common.{◌≡◌, ◌∷◌, [], ◌++◌, ◌∙◌, ap, sym, subst, arith, length}
+use Rattle.std.proofs.Common.{◌++◌, ◌∙◌, ap, sym, subst, arith}
 use Rattle.std.proofs.lemmas.Result.{on_ok_weaker}
 use Rattle.term_parse.specs.Pieces.{Suffice}
 use Rattle.term_parse.proofs.Parts.{appended, close_text, more_text, bind_text, piece_text, form_text}
@@ -21,25 +21,26 @@ write_parts-returns-in-More-clause-text t c =
 pub write_parts-returns-in_ok-write_name-in-Bind-clause-text : goal.write_parts-returns-in_ok-write_name-in-Bind-clause-text
 write_parts-returns-in_ok-write_name-in-Bind-clause-text t c =
     appended c.write_parts.result 32 _ _ _ _ _ _ _ c.write_parts.ensures.text c.in_ok-write_name-in-Bind.ensures c.in_ok-push-in-Bind.ensures.items
-        (bind_text c.args.parts.now _ c.in-Bind.kind _ _ _ _ _ c.in-len1-up.len_at_least c.in-Bind.is c.outer_binders.ensures.value)
+    (bind_text c.args.parts.now _ c.in-Bind.kind _ _ _ _ _ c.in-len1-up.len_at_least c.in-Bind.is c.outer_binders.ensures.value)
 
 pub write_parts-returns-in_ok-write_piece-in_default-part : goal.write_parts-returns-in_ok-write_piece-in_default-part
 write_parts-returns-in_ok-write_piece-in_default-part t c = record {
   text = appended c.write_parts-in_default-part.result 32 _ _ _ _ _ _ _ c.write_parts-in_default-part.ensures.text c.in_ok-write_piece-in_default-part.ensures.text c.in_ok-push-in_default-part.ensures.items
       (piece_text c.args.parts.now c.args.pieces.now _ _ c.in-Some.piece _ _ _ c.in-len1-up.len_at_least c.in-len1-up-pieces.len_at_least c.in_default-part.not-Bind c.in_default-part.not-More c.in_default-part.not-Close (sym c.first-item.is ∙ c.in-Some.is));
   numbers = on_ok_weaker c.write_parts-in_default-part.result (λ h. piece_numbers c.args.pieces.now _ c.in-Some.piece _ c.in-len1-up-pieces.len_at_least (sym c.first-item.is ∙ c.in-Some.is) c.in_ok-write_piece-in_default-part.ensures.numbers h) c.write_parts-in_default-part.ensures.numbers;
-  longer = on_ok_weaker c.write_parts-in_default-part.result (λ h. omega (arith, h, c.in_ok-write_piece-in_default-part.ensures.longer)) c.write_parts-in_default-part.ensures.longer
+  longer = on_ok_weaker c.write_parts-in_default-part.result (λ h. omega (arith, h, c.in_ok-write_piece-in_default-part.ensures.longer)) c.write_parts-in_default-part.ensures.longer;
 }
 
 pub write_term-write_parts-requires : goal.write_term-write_parts-requires
-write_term-write_parts-requires t c =
-    (omega (arith, weight_form c.args.term.now c.form_of-form.result.word c.form_of-form.result.pieces c.form_of-form.result.more.now c.form_of-form.ensures.atoms),
-     (omega (arith, c.requires, c.in_ok-push.ensures.len, c.in_ok-extend_from_slice.ensures.len, c.spelling_of.ensures.long), (omega (arith, c.parts_of.ensures.nine), subst (λ x. Suffice x c.form_of-form.result.pieces c.form_of-form.result.more.now) (sym c.parts_of.ensures.value) c.form_of-form.ensures.enough)))
+write_term-write_parts-requires t c = (
+  omega (arith, weight_form c.args.term.now c.form_of-form.result.word c.form_of-form.result.pieces c.form_of-form.result.more.now c.form_of-form.ensures.atoms),
+  (omega (arith, c.requires, c.in_ok-push.ensures.len, c.in_ok-extend_from_slice.ensures.len, c.spelling_of.ensures.long), (omega (arith, c.parts_of.ensures.nine), subst (λ x. Suffice x c.form_of-form.result.pieces c.form_of-form.result.more.now) (sym c.parts_of.ensures.value) c.form_of-form.ensures.enough)),
+)
 
 pub write_term-returns-clause-text : goal.write_term-returns-clause-text
 write_term-returns-clause-text t c =
     appended c.write_parts.result 40 _ _ _ _ _ _ _ c.write_parts.ensures.text c.in_ok-extend_from_slice.ensures.items c.in_ok-push.ensures.items
-        (ap (λ f. f c.args.around) c.form_of-form.ensures.spelled ∙ form_text c.form_of-form.result.word _ _ _ _ _ c.spelling_of.ensures.value c.parts_of.ensures.value)
+    (ap (λ f. f c.args.around) c.form_of-form.ensures.spelled ∙ form_text c.form_of-form.result.word _ _ _ _ _ c.spelling_of.ensures.value c.parts_of.ensures.value)
 
 pub write_parts-returns-in_ok-push-in-Close-clause-numbers : goal.write_parts-returns-in_ok-push-in-Close-clause-numbers
 write_parts-returns-in_ok-push-in-Close-clause-numbers t c = close_numbers c.args.parts.now _ c.args.pieces.now c.args.more.now c.in-len1-up.len_at_least c.in-Close.is c.requires.enough

@@ -9,6 +9,6 @@ use Rattle.term_parse.proofs.printer.print.Goals as goal
 pub returns-clause-read_back : goal.returns-clause-read_back
 returns-clause-read_back c = λ kinded deep short.
     let same : c.write_term.new.out.items ≡ canonical c.args.term.now =
-        c.in_ok-write_term.ensures.text ∙ ap (λ xs. xs ++ canonical c.args.term.now) c.new-text.ensures.items in
+    c.in_ok-write_term.ensures.text ∙ ap (λ xs. xs ++ canonical c.args.term.now) c.new-text.ensures.items in
     let fits : length (canonical c.args.term.now) ≤ 65536 = subst (λ xs. length xs ≤ 65536) same short in
     subst (λ xs. Spells xs (atoms_of c.args.term.now)) (sym same) (spelled-from_reading (canonical c.args.term.now) (atoms_of c.args.term.now) (reading-canonical c.args.term.now kinded c.in_ok-write_term.ensures.numbers deep fits))
