@@ -1,11 +1,11 @@
 -- The numbers of what is written fit an `i32`.
-use Rattle.std.proofs.Common.{◌≡◌, ◌-◌, ◌≤◌, ℕ, List, [], ◌∷◌, ◌++◌, length, get_or, take, drop, Option, Some, None, refl, ap, sym, subst, arith}
+use Rattle.std.proofs.Common.{◌≡◌, ◌-◌, ◌≤◌, List, [], ◌∷◌, ◌++◌, length, get_or, take, drop, Option, Some, None, sym, subst, arith}
 use Rattle.std.proofs.Math.Seq.{take_all}
 use Rattle.effect_term.specs.declared.term.Operand.TheVariants.{Number, Named}
 use Rattle.effect_term.specs.declared.term.Term.{Term}
 use Rattle.term_parse.specs.declared.printer.Piece.{Piece}
 use Rattle.term_parse.specs.declared.table.Part.{Part}
-use Rattle.term_parse.specs.declared.table.Part.TheVariants.{Bind, Use, Value, Term as term_part, Under, UnderBoth, More, Close}
+use Rattle.term_parse.specs.declared.table.Part.TheVariants.{More, Close}
 use Rattle.term_parse.specs.Atoms.{Atom, word, value, name, ended, atoms_of}
 use Rattle.term_parse.specs.Numbers.{NumbersFit}
 use Rattle.term_parse.specs.Pieces.{piece_atoms, pieces_atoms, terms_atoms, Spent, Suffice}

@@ -5,7 +5,7 @@ use Rattle.term_parse.specs.declared.printer.Piece.{Piece}
 use Rattle.term_parse.specs.declared.printer.Piece.TheVariants as held
 use Rattle.term_parse.specs.declared.table.Part.{Part}
 use Rattle.term_parse.specs.declared.table.Part.TheVariants as parts
-use Rattle.term_parse.specs.Atoms.{Atom, value, name, ended, atoms_of}
+use Rattle.term_parse.specs.Atoms.{Atom, value, name, atoms_of}
 use Rattle.term_parse.specs.Spelling as spelled
 
 -- a piece as it is spelled

@@ -1,4 +1,4 @@
-use Rattle.std.proofs.Common.{◌≡◌, ◌∷◌, [], ◌++◌, ◌∙◌, ap, sym, subst, arith, length}
+use Rattle.std.proofs.Common.{◌++◌, ◌∙◌, ap, sym, subst, arith}
 use Rattle.std.proofs.lemmas.Result.{on_ok_weaker}
 use Rattle.term_parse.specs.Pieces.{Suffice}
 use Rattle.term_parse.proofs.Parts.{appended, close_text, more_text, bind_text, piece_text, form_text}
