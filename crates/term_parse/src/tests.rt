@@ -70,7 +70,7 @@ fn tokens_in_the_wrong_place(rt: HostRuntime) {
 fn names_without_a_meaning(rt: HostRuntime) {
     let table: [(&[u8], ParseError); 9] = [
         (b"(pure x)", ParseError::UnknownName(6)),
-        (b"(pure scope.md)", ParseError::UnknownName(6)),
+        (b"(pure x.y)", ParseError::UnknownName(6)),
         (b"(uncancelable p (pure p))", ParseError::NameKind(22)),
         (
             b"(let p (pure 1) (uncancelable p (pure p)))",
