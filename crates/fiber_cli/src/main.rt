@@ -1,0 +1,30 @@
+//! The program: one command line over the standard streams.
+//!
+//! It reads its words by `clap`, and obeys the order that they give by `outcome_trace`, which
+//! promises what goes out and with which status.
+#![tactic(auto)]
+
+mod cli;
+mod words;
+
+use outcome_trace::{FromRead, ToWrite, USAGE, tell_no_memory};
+use std::alloc::AllocError;
+use std::env;
+use std::io::ErrorKind;
+use std::process::ExitCode;
+
+fn main(rt: HostRuntime) -> ExitCode {
+    let mut input = FromRead::new(rt.stdin());
+    let mut out = ToWrite::new(rt.stdout());
+    let mut err = ToWrite::new(rt.stderr());
+    let words: Result<Vec<String>, AllocError> = match env::args(&rt) {
+        Ok(words) => words.collect(rt.alloc()),
+        Err(error) if error.kind() == ErrorKind::OutOfMemory => Err(AllocError),
+        Err(_) => return ExitCode::from(USAGE),
+    };
+    let status = match words {
+        Ok(words) => cli::command(&rt, words.as_slice(), &mut input, &mut out, &mut err),
+        Err(_) => tell_no_memory(&mut err),
+    };
+    ExitCode::from(status)
+}
