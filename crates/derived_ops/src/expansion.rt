@@ -67,12 +67,18 @@ pub(crate) fn expanded(
             let body = Box::new(alloc, expanded(alloc, &**body, &mut *slots, depth)?)?;
             Ok(Core::Poll(slot_at(slots.as_slice(), poll.slot), body))
         }
-        Term::Raise(_) | Term::Handle(_, _) | Term::If0(_, _, _) | Term::Add(_, _) => unreachable!(),
+        Term::Raise(_) | Term::Handle(_, _) | Term::If0(_, _, _) | Term::Add(_, _) =>
+            unreachable!(),
         Term::Cede | Term::Never | Term::OnCancel(_, _) | Term::Start(_, _) => unreachable!(),
         Term::Join(_, _, _, _) | Term::Cancel(_) | Term::Ref(_, _) | Term::Get(_) => unreachable!(),
-        Term::Set(_, _) | Term::Modify(_, _) | Term::Deferred(_) | Term::Complete(_, _) => unreachable!(),
-        Term::Await(_) | Term::Repeat(_, _) | Term::Forever(_) | Term::Guarantee(_, _) => unreachable!(),
-        Term::Bracket(_, _, _) | Term::BracketCase(_, _, _, _, _) | Term::Race(_, _) | Term::Both(_, _, _) => unreachable!(),
+        Term::Set(_, _) | Term::Modify(_, _) | Term::Deferred(_) | Term::Complete(_, _) =>
+            unreachable!(),
+        Term::Await(_) | Term::Repeat(_, _) | Term::Forever(_) | Term::Guarantee(_, _) =>
+            unreachable!(),
+        Term::Bracket(_, _, _)
+        | Term::BracketCase(_, _, _, _, _)
+        | Term::Race(_, _)
+        | Term::Both(_, _, _) => unreachable!(),
         Term::Seq(_, _, _) => unreachable!(),
     }
 }

@@ -20,7 +20,10 @@ pub(crate) fn has_supported_words(term: &Term) -> bool
         Term::Join(_, _, _, _) | Term::Cancel(_) | Term::Ref(_, _) | Term::Get(_) => false,
         Term::Set(_, _) | Term::Modify(_, _) | Term::Deferred(_) | Term::Complete(_, _) => false,
         Term::Await(_) | Term::Repeat(_, _) | Term::Forever(_) | Term::Guarantee(_, _) => false,
-        Term::Bracket(_, _, _) | Term::BracketCase(_, _, _, _, _) | Term::Race(_, _) | Term::Both(_, _, _) => false,
+        Term::Bracket(_, _, _)
+        | Term::BracketCase(_, _, _, _, _)
+        | Term::Race(_, _)
+        | Term::Both(_, _, _) => false,
         Term::Seq(_, _, _) => false,
     }
 }
