@@ -1,7 +1,7 @@
 -- Expansions worked by hand, by computing.
 use Rattle.std.proofs.Common.{◌≡◌, ℕ, ◌+◌, pos, refl}
 use Rattle.std.specs.Prelude.{max}
-use Rattle.derived_ops.specs.Tree.{Value, Number, Slot, Named, Say, Last, More, Tree, Pure, Raise, Act, Note, Cancel, Let, Seq, Handled, If0, Join, Make, Start, Loop, Uncancelable, Poll, On_cancel, Masked, Polled, Guarded}
+use Rattle.derived_ops.specs.Tree.{Number, Slot, Named, Say, Last, More, Tree, Pure, Raise, Act, Cancel, Let, Seq, Handled, If0, Join, Make, Start, Loop, Uncancelable, Poll, On_cancel, Masked, Polled, Guarded}
 use Rattle.derived_ops.specs.Source as word
 use Rattle.derived_ops.specs.Source.{Source}
 use Rattle.derived_ops.specs.Expansion.{code_of}
