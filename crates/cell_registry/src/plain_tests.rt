@@ -33,7 +33,10 @@ fn refs_wrap_and_deferreds_fill_once(rt: HostRuntime) -> Result<(), AllocError> 
     assert_eq!(rt; registry.modify(0, 0, 1), 2_147_483_647);
     assert_eq!(rt; registry.get(0, 0), -2_147_483_648);
     assert_eq!(rt; registry.new_deferred(0), Ok(0));
-    assert_eq!(rt; registry.new_deferred(0), Err(CellError::Full(Band::Deferreds, 1)));
+    assert_eq!(rt;
+        registry.new_deferred(0),
+        Err(CellError::Full(Band::Deferreds, 1))
+    );
     assert_eq!(rt; registry.read(0, 0), None);
     assert_eq!(rt; registry.complete(0, 0, 5), true);
     assert_eq!(rt; registry.complete(0, 0, 6), false);
@@ -54,6 +57,9 @@ fn an_owner_changes_its_cell_so_often(rt: HostRuntime) -> Result<(), AllocError>
     assert_eq!(rt; registry.cancel(1, 0), CancelReply::Asked);
     assert_eq!(rt; registry.look(1), false);
     assert_eq!(rt; registry.finish(1, Outcome::Succeeded(-1)), Ok(()));
-    assert_eq!(rt; registry.join(0, 1), JoinReply::Ended(Outcome::Succeeded(-1)));
+    assert_eq!(rt;
+        registry.join(0, 1),
+        JoinReply::Ended(Outcome::Succeeded(-1))
+    );
     Ok(())
 }

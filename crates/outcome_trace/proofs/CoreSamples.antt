@@ -27,7 +27,7 @@ started = word.Start word.Never (word.Pure (Number (pos 1)))
 
 -- entries of unborn and of ended fibers change nothing
 unended_child : report_of few started (5 ∷ 1 ∷ (replicate 13 0 ++ replicate 6 1)) ≡ Ok record {
-    fibers = record { outcome = Some (Succeeded (pos 1)); marks = [] } ∷ record { outcome = None; marks = [] } ∷ [];
+  fibers = record { outcome = Some (Succeeded (pos 1)); marks = [] } ∷ record { outcome = None; marks = [] } ∷ [];
 }
 unfolding core after reply_of refusal
 unended_child = refl
@@ -36,25 +36,25 @@ unended_child = refl
 abbrev canceled_child : Source
 canceled_child =
     word.Start
-        (word.Uncancelable (word.Seq More (word.Say (Number (pos 1))) (word.Seq Last (word.Poll 0 (word.Say (Number (pos 2)))) (word.Say (Number (pos 3))))))
-        (word.Cancel 0)
+    (word.Uncancelable (word.Seq More (word.Say (Number (pos 1))) (word.Seq Last (word.Poll 0 (word.Say (Number (pos 2)))) (word.Say (Number (pos 3))))))
+    (word.Cancel 0)
 
 canceled_at_once : report_of few canceled_child (replicate 5 0 ++ replicate 30 1 ++ replicate 9 0) ≡ Ok record {
-    fibers = record { outcome = Some (Succeeded (pos 0)); marks = Enter 0 ∷ Leave 0 ∷ [] } ∷ record { outcome = Some Canceled; marks = Cut ∷ [] } ∷ [];
+  fibers = record { outcome = Some (Succeeded (pos 0)); marks = Enter 0 ∷ Leave 0 ∷ [] } ∷ record { outcome = Some Canceled; marks = Cut ∷ [] } ∷ [];
 }
 unfolding core after reply_of refusal
 canceled_at_once = refl
 
 canceled_in_the_poll : report_of few canceled_child (replicate 2 0 ++ replicate 4 1 ++ replicate 3 0 ++ replicate 30 1 ++ replicate 9 0) ≡ Ok record {
-    fibers = record { outcome = Some (Succeeded (pos 0)); marks = Enter 0 ∷ Leave 0 ∷ [] } ∷ record { outcome = Some Canceled; marks = Enter 0 ∷ Say (pos 1) ∷ PollIn 0 ∷ Cut ∷ [] } ∷ [];
+  fibers = record { outcome = Some (Succeeded (pos 0)); marks = Enter 0 ∷ Leave 0 ∷ [] } ∷ record { outcome = Some Canceled; marks = Enter 0 ∷ Say (pos 1) ∷ PollIn 0 ∷ Cut ∷ [] } ∷ [];
 }
 unfolding core after reply_of refusal
 canceled_in_the_poll = refl
 
 canceled_too_late : report_of few canceled_child (replicate 2 0 ++ replicate 13 1 ++ replicate 3 0 ++ replicate 30 1 ++ replicate 9 0) ≡ Ok record {
-    fibers = record { outcome = Some (Succeeded (pos 0)); marks = Enter 0 ∷ Leave 0 ∷ [] }
-        ∷ record { outcome = Some (Succeeded (pos 0)); marks = Enter 0 ∷ Say (pos 1) ∷ PollIn 0 ∷ Say (pos 2) ∷ PollOut 0 ∷ Say (pos 3) ∷ Leave 0 ∷ [] }
-        ∷ [];
+  fibers = record { outcome = Some (Succeeded (pos 0)); marks = Enter 0 ∷ Leave 0 ∷ [] }
+      ∷ record { outcome = Some (Succeeded (pos 0)); marks = Enter 0 ∷ Say (pos 1) ∷ PollIn 0 ∷ Say (pos 2) ∷ PollOut 0 ∷ Say (pos 3) ∷ Leave 0 ∷ [] }
+      ∷ [];
 }
 unfolding core after reply_of refusal
 canceled_too_late = refl
@@ -63,14 +63,14 @@ canceled_too_late = refl
 abbrev raced : Source
 raced =
     word.Ref (Number (pos 0)) (word.Let
-        (word.Race (word.Pure (Number (pos 4))) (word.On_cancel word.Never (word.Set 0 (Number (pos 9)))))
-        (word.Let (word.Get 0) (word.Add (Slot 1) (Slot 2))))
+    (word.Race (word.Pure (Number (pos 4))) (word.On_cancel word.Never (word.Set 0 (Number (pos 9)))))
+    (word.Let (word.Get 0) (word.Add (Slot 1) (Slot 2))))
 
 loser_runs_its_finalizer : report_of few raced (replicate 15 0 ++ replicate 10 2 ++ replicate 40 1 ++ replicate 40 0 ++ replicate 40 2 ++ replicate 40 0) ≡ Ok record {
-    fibers = record { outcome = Some (Succeeded (pos 13)); marks = Enter 0 ∷ PollIn 0 ∷ PollOut 0 ∷ Enter 1 ∷ Leave 1 ∷ Leave 0 ∷ [] }
-        ∷ record { outcome = Some (Succeeded (pos 4)); marks = Enter 0 ∷ PollIn 0 ∷ PollOut 0 ∷ Leave 0 ∷ [] }
-        ∷ record { outcome = Some Canceled; marks = Enter 0 ∷ PollIn 0 ∷ Cut ∷ [] }
-        ∷ [];
+  fibers = record { outcome = Some (Succeeded (pos 13)); marks = Enter 0 ∷ PollIn 0 ∷ PollOut 0 ∷ Enter 1 ∷ Leave 1 ∷ Leave 0 ∷ [] }
+      ∷ record { outcome = Some (Succeeded (pos 4)); marks = Enter 0 ∷ PollIn 0 ∷ PollOut 0 ∷ Leave 0 ∷ [] }
+      ∷ record { outcome = Some Canceled; marks = Enter 0 ∷ PollIn 0 ∷ Cut ∷ [] }
+      ∷ [];
 }
 unfolding core after reply_of refusal
 loser_runs_its_finalizer = refl
@@ -87,7 +87,7 @@ count_used_up = refl
 
 -- `(bracket x (pure 1) (pure 2) (raise 8))`
 released_with_an_error : report_of few (word.Bracket (word.Pure (Number (pos 1))) (word.Pure (Number (pos 2))) (word.Raise (Number (pos 8)))) (replicate 99 0) ≡ Ok record {
-    fibers = record { outcome = Some (Errored (pos 8)); marks = Enter 0 ∷ Acquired 0 ∷ Enter 1 ∷ PollIn 1 ∷ PollIn 0 ∷ PollOut 0 ∷ PollOut 1 ∷ Releasing 0 ∷ Released 0 ∷ Leave 1 ∷ Leave 0 ∷ [] } ∷ [];
+  fibers = record { outcome = Some (Errored (pos 8)); marks = Enter 0 ∷ Acquired 0 ∷ Enter 1 ∷ PollIn 1 ∷ PollIn 0 ∷ PollOut 0 ∷ PollOut 1 ∷ Releasing 0 ∷ Released 0 ∷ Leave 1 ∷ Leave 0 ∷ [] } ∷ [];
 }
 unfolding core after reply_of refusal
 released_with_an_error = refl

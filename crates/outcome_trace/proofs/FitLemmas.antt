@@ -72,7 +72,7 @@ keeps_runs i next r t h = keeps_row i next r (path t []) (leaf t) h.0 h.1
 keeps_reduced : (g : Fiber) (t : Tree) (r : Reply) → g.running ≡ Runs t → RunningRoom g.number g.running → RowKeeps g.number (row_of g reply.Done).call (length (active_of g)) g.next (row_of g r)
 keeps_reduced g t r is room =
     subst (λ (w : Running). RowKeeps g.number (row_at g.number g.next reply.Done (focus w) w).call (length (active_at g.number (focus w))) g.next (row_at g.number g.next r (focus w) w)) (sym is)
-        (keeps_runs g.number g.next r t (subst (RunningRoom g.number) is room))
+    (keeps_runs g.number g.next r t (subst (RunningRoom g.number) is room))
 
 -- a row after which the term runs on
 rowed : (g new : Fiber) (w : Row Running) (masks next : ℕ) → new ≡ reduced g w → (t : Tree) → w.becomes ≡ Runs t → RunningRoom g.number w.becomes → length (active_at g.number (focus w.becomes)) ≡ masks → w.next ≤ next → Rowed g new masks next
@@ -98,7 +98,7 @@ next_by_ask i g c ask.Unmask asks number running deep moves keeps =
 next_by_ask i g c (ask.Finish o) asks number running deep moves keeps =
     let now = keeps reply.Done in
     Finishes_now o asks (may_finish c.stage c.depth o running (deep ∙ now.depth) now.on.1)
-        (λ r. let k = keeps r in subst (λ (f : Fiber). Finished g f o) (sym (moves r)) record { number = refl; running = k.on.0; look = refl; next_is = (let n = k.next_is in omega arith) })
+    (λ r. let k = keeps r in subst (λ (f : Fiber). Finished g f o) (sym (moves r)) record { number = refl; running = k.on.0; look = refl; next_is = (let n = k.next_is in omega arith) })
 next_by_ask i g c (ask.Cancel f) asks number running deep moves keeps =
     Cancels_now f asks ((keeps reply.Done).depth.1 ∙ number) running (λ r. let k = keeps r in rowed g (move g r) (row_of g r) c.depth g.next (moves r) k.on.0 k.on.1 k.room (k.depth.0 ∙ sym deep) (let n = k.next_is in omega arith))
 next_by_ask i g c ask.Silent asks number running deep moves keeps =
@@ -123,21 +123,21 @@ next_runs i g c t is h =
     let deep : c.depth ≡ length (active_of g) = subst (λ (w : Running). DepthFits w (length (active_of g)) c.depth) is h.depth in
     let turns : turn g ≡ turn_under (active_of g) g.look = ap (λ (w : Running). turn_in w (active_of g) g.look) is in
     let none : pending_at (focus g.running) ≡ [] =
-        subst (λ (w : Running). pending_at (focus w) ≡ []) (sym is) (pending-none g.number (path t []) (subst (RunningRoom g.number) is h.room).0) in
+    subst (λ (w : Running). pending_at (focus w) ≡ []) (sym is) (pending-none g.number (path t []) (subst (RunningRoom g.number) is h.room).0) in
     elim (turn-under (active_of g) g.look) [
-        inl q ↦ Looks_now (ap (ask_in g) (turns ∙ q.0)) running (deep ∙ ap length q.1) (λ r. ap (move_in g r) (turns ∙ q.0))
+      | inl q ↦ Looks_now (ap (ask_in g) (turns ∙ q.0)) running (deep ∙ ap length q.1) (λ r. ap (move_in g r) (turns ∙ q.0))
       | inr q ↦ elim q [
-            inl e ↦ Cuts_now (ap (ask_in g) (turns ∙ e.0)) running (deep ∙ ap length e.1) (subst (λ (l : Look). LookFits l c.request) e.2 h.look) (λ r. ap (move_in g r) (turns ∙ e.0)) none
-          | inr e ↦ next_by_ask i g c (row_of g reply.Done).call (ap (ask_in g) (turns ∙ e)) h.number running deep (λ r. ap (move_in g r) (turns ∙ e)) (λ r. keeps_reduced g t r is h.room)
-          ]
+        | inl e ↦ Cuts_now (ap (ask_in g) (turns ∙ e.0)) running (deep ∙ ap length e.1) (subst (λ (l : Look). LookFits l c.request) e.2 h.look) (λ r. ap (move_in g r) (turns ∙ e.0)) none
+        | inr e ↦ next_by_ask i g c (row_of g reply.Done).call (ap (ask_in g) (turns ∙ e)) h.number running deep (λ r. ap (move_in g r) (turns ∙ e)) (λ r. keeps_reduced g t r is h.room)
       ]
+    ]
 
 -- a fiber with no finalizer left
 final_moves : (g : Fiber) (m : ℕ) (r : Reply) → g.running ≡ Final m [] → (ask_of g ≡ ask.Finish Canceled) × Finished g (move g r) Canceled
 final_moves g m r is =
     subst (λ (w : Running). (ask_of (record { number = g.number; running = w; look = g.look; next = g.next; marks = g.marks }) ≡ ask.Finish Canceled)
-            × Finished g (move (record { number = g.number; running = w; look = g.look; next = g.next; marks = g.marks }) r) Canceled) (sym is)
-        (refl, record { number = refl; running = refl; look = refl; next_is = omega arith })
+    × Finished g (move (record { number = g.number; running = w; look = g.look; next = g.next; marks = g.marks }) r) Canceled) (sym is)
+    (refl, record { number = refl; running = refl; look = refl; next_is = omega arith })
 
 final_may_finish : (g : Stage) (d : ℕ) → g ≡ stage.Finalizing → d ≡ 1 → MayFinish g d Canceled
 final_may_finish stage.Finalizing d is one = one
@@ -166,32 +166,32 @@ pub allowed : (k : Limits) (s : Cells) (i : ℕ) (g : Fiber) (c : Call) → i < 
 unfolding IsAllowed
 allowed k s i g c born h wish range =
     elim (next_move i g (cell_of s i) h) [
-        Looks_now asks running flat moves ↦
-            let is : call.Look ≡ c = (let q = shares (ask_of g) ask.Look c wish asks in cc) in
-            subst (IsAllowed k s i) is (subst IsOpen (sym running) tt, flat)
+      | Looks_now asks running flat moves ↦
+          let is : call.Look ≡ c = (let q = shares (ask_of g) ask.Look c wish asks in cc) in
+          subst (IsAllowed k s i) is (subst IsOpen (sym running) tt, flat)
       | Cuts_now asks running flat request moves none ↦
-            let is : call.Cut ≡ c = (let q = shares (ask_of g) ask.Cut c wish asks in cc) in
-            subst (IsAllowed k s i) is (running, flat, request)
+          let is : call.Cut ≡ c = (let q = shares (ask_of g) ask.Cut c wish asks in cc) in
+          subst (IsAllowed k s i) is (running, flat, request)
       | Masks_now asks running less moves ↦
-            let is : call.Mask ≡ c = (let q = shares (ask_of g) ask.Mask c wish asks in cc) in
-            subst (IsAllowed k s i) is (subst IsOpen (sym running) tt, less)
+          let is : call.Mask ≡ c = (let q = shares (ask_of g) ask.Mask c wish asks in cc) in
+          subst (IsAllowed k s i) is (subst IsOpen (sym running) tt, less)
       | Unmasks_now asks running some moves ↦
-            let is : call.Unmask ≡ c = (let q = shares (ask_of g) ask.Unmask c wish asks in cc) in
-            subst (IsAllowed k s i) is (subst (λ g. registry.MayUnmask g (cell_of s i).depth) (sym running) some)
+          let is : call.Unmask ≡ c = (let q = shares (ask_of g) ask.Unmask c wish asks in cc) in
+          subst (IsAllowed k s i) is (subst (λ g. registry.MayUnmask g (cell_of s i).depth) (sym running) some)
       | Cancels_now f asks own running moves ↦
-            let is : call.Cancel f ≡ c = (let q = shares (ask_of g) (ask.Cancel f) c wish asks in cc) in
-            subst (IsAllowed k s i) is (omega arith)
+          let is : call.Cancel f ≡ c = (let q = shares (ask_of g) (ask.Cancel f) c wish asks in cc) in
+          subst (IsAllowed k s i) is (omega arith)
       | Goes_alone asks running moves ↦ absurd (let q = shares (ask_of g) ask.Silent c wish asks in cc)
       | Finishes_now o asks may moves ↦
-            let is : call.Finish o ≡ c = (let q = shares (ask_of g) (ask.Finish o) c wish asks in cc) in
-            subst (IsAllowed k s i) is (may (subst IsInRange (sym is) range))
+          let is : call.Finish o ≡ c = (let q = shares (ask_of g) (ask.Finish o) c wish asks in cc) in
+          subst (IsAllowed k s i) is (may (subst IsInRange (sym is) range))
       | Has_ended o asks running ↦ absurd (let q = shares (ask_of g) (ask.Over o) c wish asks in cc)
-      ]
+    ]
 
 pub no_start : (i : ℕ) (g : Fiber) (cell : Cell) (c : Call) → Fits i g cell → wish_of (ask_of g) ≡ Shared c → c ≢ call.Start
 no_start i g cell c h wish start =
     elim (next_move i g cell h) [
-        Looks_now asks running flat moves ↦ (let q = shares (ask_of g) ask.Look c wish asks in cc)
+      | Looks_now asks running flat moves ↦ (let q = shares (ask_of g) ask.Look c wish asks in cc)
       | Cuts_now asks running flat request moves none ↦ (let q = shares (ask_of g) ask.Cut c wish asks in cc)
       | Masks_now asks running less moves ↦ (let q = shares (ask_of g) ask.Mask c wish asks in cc)
       | Unmasks_now asks running some moves ↦ (let q = shares (ask_of g) ask.Unmask c wish asks in cc)
@@ -199,31 +199,31 @@ no_start i g cell c h wish start =
       | Goes_alone asks running moves ↦ (let q = shares (ask_of g) ask.Silent c wish asks in cc)
       | Finishes_now o asks may moves ↦ (let q = shares (ask_of g) (ask.Finish o) c wish asks in cc)
       | Has_ended o asks running ↦ (let q = shares (ask_of g) (ask.Over o) c wish asks in cc)
-      ]
+    ]
 
 -- ---- the fiber and its cell after the move
 rowed_fits : (i : ℕ) (g new : Fiber) (c : Cell) (masks next : ℕ) → g.number ≡ i → Rowed g new masks next → c.stage ≡ stage.Running → c.depth ≡ masks → next ≤ c.count → Fits i new c
 rowed_fits i g new c masks next number h running deep less =
     let below = h.next_is in
     record {
-        number = h.number ∙ number;
-        stage = subst (λ (w : Running). StageFits w c.stage) (sym h.runs) running;
-        depth = subst (λ (w : Running). DepthFits w (length (active_of new)) c.depth) (sym h.runs) (deep ∙ sym h.depth);
-        look = subst (λ (l : Look). LookFits l c.request) (sym h.look) tt;
-        masks = omega arith;
-        room = h.room;
+      number = h.number ∙ number;
+      stage = subst (λ (w : Running). StageFits w c.stage) (sym h.runs) running;
+      depth = subst (λ (w : Running). DepthFits w (length (active_of new)) c.depth) (sym h.runs) (deep ∙ sym h.depth);
+      look = subst (λ (l : Look). LookFits l c.request) (sym h.look) tt;
+      masks = omega arith;
+      room = h.room;
     }
 
 finished_fits : (i : ℕ) (g new : Fiber) (c : Cell) (o : Outcome) → g.number ≡ i → Finished g new o → c.stage ≡ stage.Ended o → g.next ≤ c.count → Fits i new c
 finished_fits i g new c o number h ended less =
     let below = h.next_is in
     record {
-        number = h.number ∙ number;
-        stage = subst (λ (w : Running). StageFits w c.stage) (sym h.running) ended;
-        depth = subst (λ (w : Running). DepthFits w (length (active_of new)) c.depth) (sym h.running) tt;
-        look = subst (λ (l : Look). LookFits l c.request) (sym h.look) tt;
-        masks = omega arith;
-        room = subst (RunningRoom new.number) (sym h.running) tt;
+      number = h.number ∙ number;
+      stage = subst (λ (w : Running). StageFits w c.stage) (sym h.running) ended;
+      depth = subst (λ (w : Running). DepthFits w (length (active_of new)) c.depth) (sym h.running) tt;
+      look = subst (λ (l : Look). LookFits l c.request) (sym h.look) tt;
+      masks = omega arith;
+      room = subst (RunningRoom new.number) (sym h.running) tt;
     }
 
 seen_fits : (b : Bool) → LookFits (Rattle.fiber_frames.specs.Fiber.seen (reply.Seen b)) b
@@ -237,7 +237,7 @@ cut_fits : (i : ℕ) (g : Fiber) (c : Cell) → Fits i g c → c.depth ≡ 0 →
 cut_fits i g c h flat none =
     let less = h.masks in
     subst (λ (ts : List Tree). Fits i (record { number = g.number; running = Final g.next ts; look = Due; next = g.next + 1; marks = (cut g).marks }) (registry.cut c)) (sym none)
-        record { number = h.number; stage = refl; depth = (let z = flat in omega arith); look = tt; masks = omega arith; room = tt }
+    record { number = h.number; stage = refl; depth = (let z = flat in omega arith); look = tt; masks = omega arith; room = tt }
 
 own_cell : (s : Cells) (i : ℕ) (c : Cell) → i < length s.cells → cell_of (registry.with_cell s i c) i ≡ c
 own_cell s i c within = get_or-set_same s.cells i c fresh within
@@ -247,44 +247,44 @@ unfolding after reply_of
 called_fits k s i g c within h wish =
     let less = h.masks in
     elim (next_move i g (cell_of s i) h) [
-        Looks_now asks running flat moves ↦
-            let is : call.Look ≡ c = (let q = shares (ask_of g) ask.Look c wish asks in cc) in
-            subst (λ (x : Call). Fits i (move g (reply_of s i x)) (cell_of (after s i x) i)) is
-                (subst (λ (f : Fiber). Fits i f (cell_of s i)) (sym (moves (reply.Seen (cell_of s i).request))) (looked_fits i g (cell_of s i) h))
+      | Looks_now asks running flat moves ↦
+          let is : call.Look ≡ c = (let q = shares (ask_of g) ask.Look c wish asks in cc) in
+          subst (λ (x : Call). Fits i (move g (reply_of s i x)) (cell_of (after s i x) i)) is
+          (subst (λ (f : Fiber). Fits i f (cell_of s i)) (sym (moves (reply.Seen (cell_of s i).request))) (looked_fits i g (cell_of s i) h))
       | Cuts_now asks running flat request moves none ↦
-            let is : call.Cut ≡ c = (let q = shares (ask_of g) ask.Cut c wish asks in cc) in
-            subst (λ (x : Call). Fits i (move g (reply_of s i x)) (cell_of (after s i x) i)) is
-                (subst (Fits i (move g reply.Done)) (sym (own_cell s i (registry.cut (cell_of s i)) within))
-                    (subst (λ (f : Fiber). Fits i f (registry.cut (cell_of s i))) (sym (moves reply.Done)) (cut_fits i g (cell_of s i) h flat none)))
+          let is : call.Cut ≡ c = (let q = shares (ask_of g) ask.Cut c wish asks in cc) in
+          subst (λ (x : Call). Fits i (move g (reply_of s i x)) (cell_of (after s i x) i)) is
+          (subst (Fits i (move g reply.Done)) (sym (own_cell s i (registry.cut (cell_of s i)) within))
+          (subst (λ (f : Fiber). Fits i f (registry.cut (cell_of s i))) (sym (moves reply.Done)) (cut_fits i g (cell_of s i) h flat none)))
       | Masks_now asks running small moves ↦
-            let is : call.Mask ≡ c = (let q = shares (ask_of g) ask.Mask c wish asks in cc) in
-            subst (λ (x : Call). Fits i (move g (reply_of s i x)) (cell_of (after s i x) i)) is
-                (subst (Fits i (move g reply.Done)) (sym (own_cell s i (masked (cell_of s i)) within))
-                    (rowed_fits i g (move g reply.Done) (masked (cell_of s i)) ((cell_of s i).depth + 1) (g.next + 1) h.number (moves reply.Done) running refl (omega arith)))
+          let is : call.Mask ≡ c = (let q = shares (ask_of g) ask.Mask c wish asks in cc) in
+          subst (λ (x : Call). Fits i (move g (reply_of s i x)) (cell_of (after s i x) i)) is
+          (subst (Fits i (move g reply.Done)) (sym (own_cell s i (masked (cell_of s i)) within))
+          (rowed_fits i g (move g reply.Done) (masked (cell_of s i)) ((cell_of s i).depth + 1) (g.next + 1) h.number (moves reply.Done) running refl (omega arith)))
       | Unmasks_now asks running some moves ↦
-            let is : call.Unmask ≡ c = (let q = shares (ask_of g) ask.Unmask c wish asks in cc) in
-            subst (λ (x : Call). Fits i (move g (reply_of s i x)) (cell_of (after s i x) i)) is
-                (subst (Fits i (move g reply.Done)) (sym (own_cell s i (unmasked (cell_of s i)) within))
-                    (rowed_fits i g (move g reply.Done) (unmasked (cell_of s i)) ((cell_of s i).depth - 1) g.next h.number (moves reply.Done) running refl (omega arith)))
+          let is : call.Unmask ≡ c = (let q = shares (ask_of g) ask.Unmask c wish asks in cc) in
+          subst (λ (x : Call). Fits i (move g (reply_of s i x)) (cell_of (after s i x) i)) is
+          (subst (Fits i (move g reply.Done)) (sym (own_cell s i (unmasked (cell_of s i)) within))
+          (rowed_fits i g (move g reply.Done) (unmasked (cell_of s i)) ((cell_of s i).depth - 1) g.next h.number (moves reply.Done) running refl (omega arith)))
       | Cancels_now f asks own running moves ↦
-            let is : call.Cancel i ≡ c = (let q = shares (ask_of g) (ask.Cancel f) c wish asks in ap call.Cancel (sym own) ∙ cc) in
-            let r = reply_of s i (call.Cancel i) in
-            subst (λ (x : Call). Fits i (move g (reply_of s i x)) (cell_of (after s i x) i)) is
-                (subst (Fits i (move g r)) (sym (own_cell s i (requested (cell_of s i)) within))
-                    (rowed_fits i g (move g r) (requested (cell_of s i)) (cell_of s i).depth g.next h.number (moves r) running refl less))
+          let is : call.Cancel i ≡ c = (let q = shares (ask_of g) (ask.Cancel f) c wish asks in ap call.Cancel (sym own) ∙ cc) in
+          let r = reply_of s i (call.Cancel i) in
+          subst (λ (x : Call). Fits i (move g (reply_of s i x)) (cell_of (after s i x) i)) is
+          (subst (Fits i (move g r)) (sym (own_cell s i (requested (cell_of s i)) within))
+          (rowed_fits i g (move g r) (requested (cell_of s i)) (cell_of s i).depth g.next h.number (moves r) running refl less))
       | Goes_alone asks running moves ↦ absurd (let q = shares (ask_of g) ask.Silent c wish asks in cc)
       | Finishes_now o asks may moves ↦
-            let is : call.Finish o ≡ c = (let q = shares (ask_of g) (ask.Finish o) c wish asks in cc) in
-            subst (λ (x : Call). Fits i (move g (reply_of s i x)) (cell_of (after s i x) i)) is
-                (subst (Fits i (move g reply.Done)) (sym (own_cell s i (finished o (cell_of s i)) within))
-                    (finished_fits i g (move g reply.Done) (finished o (cell_of s i)) o h.number (moves reply.Done) refl (omega arith)))
+          let is : call.Finish o ≡ c = (let q = shares (ask_of g) (ask.Finish o) c wish asks in cc) in
+          subst (λ (x : Call). Fits i (move g (reply_of s i x)) (cell_of (after s i x) i)) is
+          (subst (Fits i (move g reply.Done)) (sym (own_cell s i (finished o (cell_of s i)) within))
+          (finished_fits i g (move g reply.Done) (finished o (cell_of s i)) o h.number (moves reply.Done) refl (omega arith)))
       | Has_ended o asks running ↦ absurd (let q = shares (ask_of g) (ask.Over o) c wish asks in cc)
-      ]
+    ]
 
 pub alone_fits : (i : ℕ) (g : Fiber) (c : Cell) → Fits i g c → wish_of (ask_of g) ≡ Alone → Fits i (move g reply.Done) c
 alone_fits i g c h wish =
     elim (next_move i g c h) [
-        Looks_now asks running flat moves ↦ absurd (let q = ap wish_of (sym asks) ∙ wish in cc)
+      | Looks_now asks running flat moves ↦ absurd (let q = ap wish_of (sym asks) ∙ wish in cc)
       | Cuts_now asks running flat request moves none ↦ absurd (let q = ap wish_of (sym asks) ∙ wish in cc)
       | Masks_now asks running small moves ↦ absurd (let q = ap wish_of (sym asks) ∙ wish in cc)
       | Unmasks_now asks running some moves ↦ absurd (let q = ap wish_of (sym asks) ∙ wish in cc)
@@ -292,7 +292,7 @@ alone_fits i g c h wish =
       | Goes_alone asks running moves ↦ rowed_fits i g (move g reply.Done) c c.depth g.next h.number (moves reply.Done) running refl h.masks
       | Finishes_now o asks may moves ↦ absurd (let q = ap wish_of (sym asks) ∙ wish in cc)
       | Has_ended o asks running ↦ absurd (let q = ap wish_of (sym asks) ∙ wish in cc)
-      ]
+    ]
 
 -- the outcome is told by the ask
 working : (g : Fiber) (w : Running) (a : Ask) → ask_of g ≡ a → over_in a ≡ None → g.running ≡ w → outcome_in w ≡ None → outcome_of g ≡ over_in (ask_of g)
@@ -301,7 +301,7 @@ working g w a asks none is still = ap outcome_in is ∙ still ∙ sym none ∙ a
 asked_outcome_by : (i : ℕ) (g : Fiber) (c : Cell) (w : Running) → g.running ≡ w → outcome_in w ≡ None → Fits i g c → outcome_of g ≡ over_in (ask_of g)
 asked_outcome_by i g c w is still h =
     elim (next_move i g c h) [
-        Looks_now asks running flat moves ↦ working g w ask.Look asks refl is still
+      | Looks_now asks running flat moves ↦ working g w ask.Look asks refl is still
       | Cuts_now asks running flat request moves none ↦ working g w ask.Cut asks refl is still
       | Masks_now asks running small moves ↦ working g w ask.Mask asks refl is still
       | Unmasks_now asks running some moves ↦ working g w ask.Unmask asks refl is still
@@ -309,7 +309,7 @@ asked_outcome_by i g c w is still h =
       | Goes_alone asks running moves ↦ working g w ask.Silent asks refl is still
       | Finishes_now o asks may moves ↦ working g w (ask.Finish o) asks refl is still
       | Has_ended o asks running ↦ ap outcome_in running ∙ ap over_in (sym asks)
-      ]
+    ]
 
 ended_asks : (g : Fiber) (o : Outcome) → g.running ≡ Over o → ask_of g ≡ ask.Over o
 ended_asks g o is = subst (λ (w : Running). ask_of (record { number = g.number; running = w; look = g.look; next = g.next; marks = g.marks }) ≡ ask.Over o) (sym is) refl
@@ -328,7 +328,7 @@ pub opening_fits : (k : Limits) (t : Tree) → 0 < k.fibers → HasRoom 0 t → 
 opening_fits k t some room =
     let l = root_room 0 t room in
     subst (Fits 0 (Rattle.fiber_frames.specs.Fiber.begins 0 t)) (sym (Rattle.cell_registry.proofs.Lists.get_or-replicate_default fresh k.fibers 0))
-        record { number = refl; stage = refl; depth = sym (ap length l.1); look = tt; masks = omega arith; room = l.0 }
+    record { number = refl; stage = refl; depth = sym (ap length l.1); look = tt; masks = omega arith; room = l.0 }
 
 -- ---- replies
 pub called_answers : (s : Cells) (i n : ℕ) (a : Ask) (c : Call) → wish_of a ≡ Shared c → c ≢ call.Start → Answers n a (reply_of s i c)

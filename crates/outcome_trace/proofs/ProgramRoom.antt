@@ -34,9 +34,10 @@ expansion-room : (t : Term) (m : List ℕ) (d n : ℕ) → supported (source_of 
 expansion-room (Pure v) m d n h l = omega arith
 expansion-room (Say v) m d n h l = (omega arith, tt)
 expansion-room Canceled m d n h l = (omega arith, tt)
-expansion-room (Let' p e q k) m d n h l =
-    (expansion-room e m d n (and-left (supported (source_of e)) (supported (source_of k)) h) (omega arith),
-    expansion-room k (m ++ d ∷ []) (d + 1) n (and-right (supported (source_of e)) (supported (source_of k)) h) (omega arith))
+expansion-room (Let' p e q k) m d n h l = (
+  expansion-room e m d n (and-left (supported (source_of e)) (supported (source_of k)) h) (omega arith),
+  expansion-room k (m ++ d ∷ []) (d + 1) n (and-right (supported (source_of e)) (supported (source_of k)) h) (omega arith),
+)
 expansion-room (Uncancelable' p e) m d n h l = expansion-room e (m ++ d ∷ []) (d + 1) (n + 1) h (omega arith)
 expansion-room (Poll' x p e) m d n h l = expansion-room e m d n h l
 expansion-room (Raise v) m d n h l = no h

@@ -43,10 +43,10 @@ silent : (i next n : ℕ) (p : List Step) (e : Tree) (w : Row Running) → w.bec
 silent i next n p e w becomes same r h is =
     let l = landed i p p e e refl refl r h in
     record {
-        on = (whole p e, becomes);
-        room = rw becomes l.0;
-        depth = ap (λ v. length (active_at i (focus v))) becomes ∙ ap length l.1 ∙ sym is;
-        next_is = same;
+      on = (whole p e, becomes);
+      room = rw becomes l.0;
+      depth = ap (λ v. length (active_at i (focus v))) becomes ∙ ap length l.1 ∙ sym is;
+      next_is = same;
     }
 
 one_less_than : (d e n : ℕ) → e ≡ n → d ≡ suc n → d ≡ e + 1
@@ -67,10 +67,10 @@ polled i next p e w q true (a ∷ up) eq is becomes same r h =
     let long : length (active i At_term p) ≡ suc (length up) = ap length is in
     let now : length (active_at i (focus w.becomes)) ≡ length (active i At_term p) = ap (λ v. length (active_at i (focus v))) becomes ∙ ap length l.1 in
     record {
-        on = (whole p e, becomes);
-        room = rw becomes l.0;
-        depth = (one_more_than (length up) (length (active_at i (focus w.becomes))) (length (active i At_term p)) now long, subst (λ n. n ≤ MOST_MASKS) (sym now) most);
-        next_is = subst (λ n. n ≤ next + 1) (sym same) (omega arith);
+      on = (whole p e, becomes);
+      room = rw becomes l.0;
+      depth = (one_more_than (length up) (length (active_at i (focus w.becomes))) (length (active i At_term p)) now long, subst (λ n. n ≤ MOST_MASKS) (sym now) most);
+      next_is = subst (λ n. n ≤ next + 1) (sym same) (omega arith);
     }
 polled i next p e w q false up eq is becomes same r h = silent i next (length up) p e w becomes same r h (sym (ap length is))
 
@@ -84,10 +84,10 @@ keeps_value i next (In_guarded fin ∷ p) v pr h = absurd pr.0
 keeps_value i next (In_masked m ∷ p) v pr h =
     let l = landed i p p (Pure v) (Pure v) refl refl pr.1 pr.0 in
     record {
-        on = (whole p (Pure v), refl);
-        room = l.0;
-        depth = one_less_than (suc (length (active i At_term p))) (length (active_at i (focus (Runs (whole p (Pure v)))))) (length (active i At_term p)) (ap length l.1) refl;
-        next_is = refl;
+      on = (whole p (Pure v), refl);
+      room = l.0;
+      depth = one_less_than (suc (length (active i At_term p))) (length (active_at i (focus (Runs (whole p (Pure v)))))) (length (active i At_term p)) (ap length l.1) refl;
+      next_is = refl;
     }
 keeps_value i next (In_polled q ∷ p) v pr h = polled i next p (Pure v) _ q (is_effective q (active i At_term p)) (active i At_term p) refl refl refl refl pr.1 pr.0
 
@@ -100,10 +100,10 @@ keeps_error i next (In_guarded fin ∷ p) c pr h = absurd pr.0
 keeps_error i next (In_masked m ∷ p) c pr h =
     let l = landed i p p (Raise c) (Raise c) refl refl pr.1 pr.0 in
     record {
-        on = (whole p (Raise c), refl);
-        room = l.0;
-        depth = one_less_than (suc (length (active i At_term p))) (length (active_at i (focus (Runs (whole p (Raise c)))))) (length (active i At_term p)) (ap length l.1) refl;
-        next_is = refl;
+      on = (whole p (Raise c), refl);
+      room = l.0;
+      depth = one_less_than (suc (length (active i At_term p))) (length (active_at i (focus (Runs (whole p (Raise c)))))) (length (active i At_term p)) (ap length l.1) refl;
+      next_is = refl;
     }
 keeps_error i next (In_polled q ∷ p) c pr h = polled i next p (Raise c) _ q (is_effective q (active i At_term p)) (active i At_term p) refl refl refl refl pr.1 pr.0
 
@@ -172,19 +172,19 @@ keeps_row i next r p (Uncancelable x e) pr h =
     let l = landed i p (In_masked next ∷ p) (Masked next body) body refl refl (HasRoom-most d (Uncancelable x e) h, pr) (subst (λ n. HasRoom n body) more (HasRoom-put (Put_mask x (Pair i next)) (d + 1) e h)) in
     let deep : length (active_at i (focus (Runs (whole p (Masked next body))))) ≡ d + 1 = ap length l.1 ∙ sym more in
     record {
-        on = (whole p (Masked next body), refl);
-        room = l.0;
-        depth = (deep, subst (λ n. n ≤ MOST_MASKS) (sym deep) most);
-        next_is = omega arith;
+      on = (whole p (Masked next body), refl);
+      room = l.0;
+      depth = (deep, subst (λ n. n ≤ MOST_MASKS) (sym deep) most);
+      next_is = omega arith;
     }
 keeps_row i next r p (Poll q e) pr h =
     let up = active i At_term p in
     let l = landed i p (In_polled q ∷ p) (Polled q e) e refl refl (HasRoom-most (length up) e h, pr) (HasRoom-fewer (length (undone q up)) (length up) e (undone_fewer q up) h) in
     record {
-        on = on_by (is_effective q up) (whole p (Polled q e));
-        room = l.0;
-        depth = undone_depth i q up (length (active_at i (focus (Runs (whole p (Polled q e)))))) (ap length l.1);
-        next_is = next_by (is_effective q up) next;
+      on = on_by (is_effective q up) (whole p (Polled q e));
+      room = l.0;
+      depth = undone_depth i q up (length (active_at i (focus (Runs (whole p (Polled q e)))))) (ap length l.1);
+      next_is = next_by (is_effective q up) next;
     }
 keeps_row i next r p (On_cancel e fin) pr h = absurd h
 keeps_row i next r p (Masked m e) pr h = absurd h

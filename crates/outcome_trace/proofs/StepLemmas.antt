@@ -24,10 +24,10 @@ few_masks r g kept h =
 
 pub alone_steps : (r : Kept) (g : Fiber) → IsKept r → Fits 0 g (cell_of r.state 0) → wish_of (ask_of g) ≡ Alone → Steps r.limits g r.state Done r.state
 alone_steps r g kept h wish = record {
-    answers = alone_answers g.number (ask_of g) wish;
-    masks = few_masks r g kept h;
-    fits = alone_fits 0 g (cell_of r.state 0) h wish;
-    goes = entered-alone r.limits g r.state wish;
+  answers = alone_answers g.number (ask_of g) wish;
+  masks = few_masks r g kept h;
+  fits = alone_fits 0 g (cell_of r.state 0) h wish;
+  goes = entered-alone r.limits g r.state wish;
 }
 
 made_steps_at : (r : Kept) (g : Fiber) (c : Call) → IsKept r → Fits 0 g (cell_of r.state 0) → wish_of (ask_of g) ≡ Shared c → refusal r.limits r.state 0 c ≡ None → Steps r.limits g r.state (reply_of r.state 0 c) (after r.state 0 c)
@@ -36,13 +36,13 @@ made_steps_at r g c kept h wish room =
     let some = kept.limits.some_fiber in
     let cells = kept.sound.fibers in
     record {
-        answers = called_answers r.state 0 g.number (ask_of g) c wish other;
-        masks = few_masks r g kept h;
-        fits = called_fits r.limits r.state 0 g c (omega arith) h wish;
-        goes = entered-made r.limits g r.state c wish other room;
+      answers = called_answers r.state 0 g.number (ask_of g) c wish other;
+      masks = few_masks r g kept h;
+      fits = called_fits r.limits r.state 0 g c (omega arith) h wish;
+      goes = entered-made r.limits g r.state c wish other room;
     }
 
 pub made_steps : (r new : Kept) (g : Fiber) (c : Call) (answer : Reply) → IsKept r → Fits 0 g (cell_of r.state 0) → wish_of (ask_of g) ≡ Shared c → IsMade r new 0 c answer → Steps r.limits g r.state answer new.state
 made_steps r new g c answer kept h wish made =
     subst (λ (a : Reply). Steps r.limits g r.state a new.state) (sym made.reply)
-        (subst (λ (n : Kept). Steps r.limits g r.state (reply_of r.state 0 c) n.state) (sym made.left) (made_steps_at r g c kept h wish made.room))
+    (subst (λ (n : Kept). Steps r.limits g r.state (reply_of r.state 0 c) n.state) (sym made.left) (made_steps_at r g c kept h wish made.room))

@@ -82,7 +82,13 @@ fn a_masked_request_is_respected_at_the_end(rt: HostRuntime) -> Result<(), Fail>
         (6, "fiber 0 unended: enter 0, leave 0, cut\n"),
     ] {
         let schedule = vec![in alloc; 0; entries]?;
-        let text = run(&rt, alloc, masked_request(alloc)?, schedule.as_slice(), limits(4))?;
+        let text = run(
+            &rt,
+            alloc,
+            masked_request(alloc)?,
+            schedule.as_slice(),
+            limits(4),
+        )?;
         assert!(&rt; matches!(&text, Ok(text) if text.as_str() == want));
     }
     Ok(())
@@ -94,7 +100,9 @@ fn a_request_is_seen_in_a_poll(rt: HostRuntime) -> Result<(), Fail> {
     let schedule = vec![in alloc; 0; 99]?;
     let term = request_before_a_poll(alloc)?;
     let text = run(&rt, alloc, term, schedule.as_slice(), limits(10))?;
-    assert!(&rt; matches!(&text, Ok(text) if text.as_str() == "fiber 0 canceled: enter 0, say 1, in 0, cut\n"));
+    assert!(&rt;
+        matches!(&text, Ok(text) if text.as_str() == "fiber 0 canceled: enter 0, say 1, in 0, cut\n")
+    );
     Ok(())
 }
 
@@ -112,7 +120,13 @@ fn a_used_up_count_ends_the_run(rt: HostRuntime) -> Result<(), Fail> {
     let alloc = rt.alloc();
     for count in [1, 2, 3] {
         let schedule = vec![in alloc; 0; 7]?;
-        let text = run(&rt, alloc, masked_request(alloc)?, schedule.as_slice(), limits(count))?;
+        let text = run(
+            &rt,
+            alloc,
+            masked_request(alloc)?,
+            schedule.as_slice(),
+            limits(count),
+        )?;
         assert!(&rt; matches!(text, Err(RunError::Spent(0))));
     }
     Ok(())

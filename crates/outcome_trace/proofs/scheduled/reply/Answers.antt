@@ -12,8 +12,8 @@ answer-requires c = λ range.
     let some = c.limits.ensures.kept.limits.some_fiber in
     let wish : wish_of (ask_of c.args.config.now) ≡ Shared c.in-Shared.call = ap wish_of (sym c.ask.ensures) ∙ sym c.in-Shared.ensures in
     record {
-        born = c.limits.ensures.kept.sound.some_fiber;
-        allowed = allowed c.args.registry.now.limits c.args.registry.now.state 0 c.args.config.now c.in-Shared.call some c.requires wish range;
+      born = c.limits.ensures.kept.sound.some_fiber;
+      allowed = allowed c.args.registry.now.limits c.args.registry.now.state 0 c.args.config.now c.in-Shared.call some c.requires wish range;
     }
 
 pub returns-in-Nothing-clause-rests : goal.returns-in-Nothing-clause-rests

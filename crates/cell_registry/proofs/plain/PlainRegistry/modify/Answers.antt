@@ -27,7 +27,7 @@ returns c =
     let is : x ≡ get_or xs c.args.number x = c.index-old.ensures ∙ ap (λ j. get_or xs j x) c.from-place.ensures in
     let within : c.args.number < length xs = rw sound.refs (subst (λ (k : Rattle.cell_registry.specs.Plain.Kept). c.args.number < k.limits.refs) (sym c.self.view_is) c.requires.allowed.0) in
     rw (← c.self.view_is) record {
-        room = refl;
-        reply = ap Value (read xs c.args.number x is within sound.each_ref);
-        left = rw (c.from-place.ensures, added xs c.args.number x c.args.value is within sound.each_ref c.ranges.value) refl;
+      room = refl;
+      reply = ap Value (read xs c.args.number x is within sound.each_ref);
+      left = rw (c.from-place.ensures, added xs c.args.number x c.args.value is within sound.each_ref c.ranges.value) refl;
     }
