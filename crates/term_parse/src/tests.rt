@@ -2,7 +2,6 @@
 
 use crate::{ParseError, parse};
 use effect_term::{Kind, Name, Operand, Term};
-use std::process::Abort;
 use std::test::Fail;
 
 fn fault(rt: HostRuntime, text: &[u8]) -> Option<ParseError> {
@@ -199,4 +198,159 @@ fn prefixes(rt: HostRuntime) {
             word = None;
         }
     }
+}
+
+/// The word of a term.
+fn word_of(term: &Term) -> &'static str {
+    match term {
+        Term::Pure(_) => "pure",
+        Term::Raise(_) => "raise",
+        Term::Let(_, _) => "let",
+        Term::Seq(_, _, _) => "seq",
+        Term::Handle(_, _) => "handle",
+        Term::If0(_, _, _) => "if0",
+        Term::Add(_, _) => "add",
+        Term::Say(_) => "say",
+        Term::Cede => "cede",
+        Term::Never => "never",
+        Term::Canceled => "canceled",
+        Term::Uncancelable(_) => "uncancelable",
+        Term::Poll(_, _) => "poll",
+        Term::OnCancel(_, _) => "oncancel",
+        Term::Start(_, _) => "start",
+        Term::Join(_, _, _, _) => "join",
+        Term::Cancel(_) => "cancel",
+        Term::Ref(_, _) => "ref",
+        Term::Get(_) => "get",
+        Term::Set(_, _) => "set",
+        Term::Modify(_, _) => "modify",
+        Term::Deferred(_) => "deferred",
+        Term::Complete(_, _) => "complete",
+        Term::Await(_) => "await",
+        Term::Repeat(_, _) => "repeat",
+        Term::Forever(_) => "forever",
+        Term::Guarantee(_, _) => "guarantee",
+        Term::Bracket(_, _, _) => "bracket",
+        Term::BracketCase(_, _, _, _, _) => "bracketcase",
+        Term::Race(_, _) => "race",
+        Term::Both(_, _, _) => "both",
+    }
+}
+
+#[test]
+fn words_outside(rt: HostRuntime) -> Result<(), Fail> {
+    let table: [(&[u8], &str); 23] = [
+        (b"(pure 1)", "pure"),
+        (b"(raise -1)", "raise"),
+        (b"(let x (cede) (pure x))", "let"),
+        (b"(seq (cede) (cede) (cede))", "seq"),
+        (b"(handle (cede) x (raise x))", "handle"),
+        (b"(if0 0 (cede) (never))", "if0"),
+        (b"(add 1-1)", "add"),
+        (b"(say 0)", "say"),
+        (b"(cede)", "cede"),
+        (b"(never)", "never"),
+        (b"(canceled)", "canceled"),
+        (b"(uncancelable p (poll p (cede)))", "uncancelable"),
+        (b"(oncancel (cede) (cede))", "oncancel"),
+        (b"(start f (cede) (cancel f))", "start"),
+        (b"(ref r 1 (get r))", "ref"),
+        (b"(deferred d (await d))", "deferred"),
+        (b"(repeat 2 (cede))", "repeat"),
+        (b"(forever (cede))", "forever"),
+        (b"(guarantee (cede) (cede))", "guarantee"),
+        (b"(bracket x (cede) (pure x) (pure x))", "bracket"),
+        (
+            b"(bracketcase x (cede) (pure x) y (add x y) z (add x z) (pure x))",
+            "bracketcase",
+        ),
+        (b"(race (cede) (never))", "race"),
+        (b"(both (cede) (cede) x y (add x y))", "both"),
+    ];
+    for (text, word) in table {
+        let term = parse(rt.alloc(), text)?;
+        assert_eq!(rt; word_of(&term), word);
+    }
+    Ok(())
+}
+
+/// The last term of a form that binds a name in it.
+fn inside(term: Term) -> Option<Term> {
+    match term {
+        Term::Uncancelable(inner) => Some(Box::into_inner(inner)),
+        Term::Start(_, inner) => Some(Box::into_inner(inner)),
+        Term::Ref(_, inner) => Some(Box::into_inner(inner)),
+        Term::Deferred(inner) => Some(Box::into_inner(inner)),
+        Term::Let(_, inner) => Some(Box::into_inner(inner)),
+        _ => None,
+    }
+}
+
+#[test]
+fn words_inside(rt: HostRuntime) -> Result<(), Fail> {
+    let table: [(&[u8], &str); 8] = [
+        (b"(uncancelable p (poll p (cede)))", "poll"),
+        (
+            b"(start f (cede) (join f x (pure x) y (pure y) (cede)))",
+            "join",
+        ),
+        (b"(start f (cede) (cancel f))", "cancel"),
+        (b"(ref r 1 (get r))", "get"),
+        (b"(ref r 1 (set r 2))", "set"),
+        (b"(ref r 1 (modify r 2))", "modify"),
+        (b"(deferred d (complete d 1))", "complete"),
+        (b"(deferred d (await d))", "await"),
+    ];
+    for (text, word) in table {
+        let term = inside(parse(rt.alloc(), text)?).ok_or("no binder")?;
+        assert_eq!(rt; word_of(&term), word);
+    }
+    Ok(())
+}
+
+/// The value of a `pure`.
+fn value_of(term: Term) -> Option<Operand> {
+    match term {
+        Term::Pure(value) => Some(value),
+        _ => None,
+    }
+}
+
+/// A name's slot counts the binders around its binder, and it means the innermost of its spelling.
+#[test]
+fn slots(rt: HostRuntime) -> Result<(), Fail> {
+    let value = |slot| Operand::Named(Name {
+        slot,
+        kind: Kind::Value,
+    });
+    let term = inside(parse(
+        rt.alloc(),
+        b"(start f (cede) (join f x (pure x) y (pure y) (cede)))",
+    )?)
+    .ok_or("no start")?;
+    let Term::Join(fiber, given, raised, _) = term else {
+        return Err("no join".into());
+    };
+    assert_eq!(rt;
+        fiber,
+        Name {
+            slot: 0,
+            kind: Kind::Fiber
+        }
+    );
+    assert_eq!(rt; value_of(Box::into_inner(given)), Some(value(1)));
+    assert_eq!(rt; value_of(Box::into_inner(raised)), Some(value(1)));
+    let shadowed = inside(parse(
+        rt.alloc(),
+        b"(let let (cede) (let let (pure let) (pure let)))",
+    )?)
+    .ok_or("no let")?;
+    let Term::Let(outer, inner) = shadowed else {
+        return Err("no let".into());
+    };
+    assert_eq!(rt; value_of(Box::into_inner(outer)), Some(value(0)));
+    assert_eq!(rt; value_of(Box::into_inner(inner)), Some(value(1)));
+    let lowest = parse(rt.alloc(), b" ( pure\t-2147483648\r\n) ")?;
+    assert_eq!(rt; value_of(lowest), Some(Operand::Number(-2147483648)));
+    Ok(())
 }
