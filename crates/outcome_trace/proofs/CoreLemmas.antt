@@ -1,6 +1,6 @@
 -- The core of a program of one fiber, entry by entry.
-use Rattle.std.proofs.Common.{◌≡◌, ◌≢◌, ℕ, zero, suc, List, [], ◌∷◌, ◌++◌, ◌+◌, ◌<◌, length, drop, get_or, drop-cons, add-one, refl, sym, ap, ◌∙◌, subst}
-use Rattle.std.specs.Prelude.{Option, Some, None}
+use Rattle.std.proofs.Common.{◌≡◌, ◌≢◌, ℕ, zero, suc, List, [], ◌∷◌, ◌+◌, ◌<◌, length, drop, get_or, drop-cons, add-one, refl, sym, ap, ◌∙◌}
+use Rattle.std.specs.Prelude.{Some, None}
 use Rattle.effect_term.specs.declared.reply.Reply.{Reply}
 use Rattle.effect_term.specs.declared.reply.Reply.TheVariants.{Done}
 use Rattle.derived_ops.specs.Tree.{Tree}
@@ -12,7 +12,6 @@ use Rattle.cell_registry.specs.declared.call.Call.{Call}
 use Rattle.cell_registry.specs.declared.call.Call.TheVariants.{Start, Cancel, Join, Look, Mask, Unmask, Cut, Finish, NewRef, NewDeferred, Get, Set, Modify, Complete, Read}
 use Rattle.cell_registry.specs.Cells.{Cells, opening, after, reply_of, refusal}
 use Rattle.cell_registry.specs.Plain.{Kept, kept_open}
-use Rattle.outcome_trace.specs.declared.wish.Wish.{Wish}
 use Rattle.outcome_trace.specs.declared.wish.Wish.TheVariants.{Shared, Alone, Nothing}
 use Rattle.outcome_trace.specs.Core.{Course, Goes, Stops, World, one_fiber, wish_of, fault_of, born, called, answered, wished, entered, core_from, core}
 

@@ -6,9 +6,9 @@ use Rattle.derived_ops.specs.Tree.{Number, Slot, Last, More}
 use Rattle.derived_ops.specs.Source as word
 use Rattle.derived_ops.specs.Source.{Source}
 use Rattle.derived_ops.specs.Expansion.{code_of}
-use Rattle.fiber_frames.specs.declared.mark.Mark.TheVariants.{Say, Enter, Leave, PollIn, PollOut, Cut, Acquired, Releasing, Released, Dropped}
+use Rattle.fiber_frames.specs.declared.mark.Mark.TheVariants.{Say, Enter, Leave, PollIn, PollOut, Cut, Acquired, Releasing, Released}
 use Rattle.cell_registry.specs.declared.limits.Limits.{Limits}
-use Rattle.cell_registry.specs.declared.limits.Band.TheVariants.{Fibers, Deferreds}
+use Rattle.cell_registry.specs.declared.limits.Band.TheVariants.{Fibers}
 use Rattle.cell_registry.specs.declared.limits.RunError.{RunError}
 use Rattle.cell_registry.specs.declared.limits.RunError.TheVariants.{Full, Spent}
 use Rattle.cell_registry.specs.Cells.{after, reply_of, refusal}

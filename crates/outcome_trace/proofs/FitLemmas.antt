@@ -1,6 +1,6 @@
 -- A fiber that fits its cell: what its next move is, that the registry allows its call, and that it fits again afterwards.
-use Rattle.std.proofs.Common.{◌≡◌, ◌≢◌, ◌⊎◌, inl, inr, ℕ, ◌+◌, ◌-◌, ◌<◌, ◌≤◌, ◌^◌, Bool, true, false, List, [], ◌∷◌, length, refl, sym, ap, ◌∙◌, subst, arith, le_trans}
-use Rattle.std.specs.Prelude.{Some, None}
+use Rattle.std.proofs.Common.{◌≡◌, ◌≢◌, ◌⊎◌, inl, inr, ℕ, ◌+◌, ◌-◌, ◌<◌, ◌≤◌, Bool, true, false, List, [], ◌∷◌, length, refl, sym, ap, ◌∙◌, subst, arith}
+use Rattle.std.specs.Prelude.{None}
 use Rattle.std.proofs.lemmas.List.{get_or-set_same}
 use Rattle.effect_term.specs.declared.reply.Outcome.{Outcome}
 use Rattle.effect_term.specs.declared.reply.Outcome.TheVariants.{Succeeded, Errored, Canceled}
@@ -23,13 +23,12 @@ use Rattle.cell_registry.specs.declared.call.Call.{Call}
 use Rattle.cell_registry.specs.declared.call.Call.TheVariants as call
 use Rattle.cell_registry.specs.Cells.{fresh, requested, masked, unmasked, finished, IsOpen, MayFinish, OutcomeFits, Cells, cell_of, after, reply_of, IsAllowed, IsSound}
 use Rattle.cell_registry.specs.Cells as registry
-use Rattle.outcome_trace.specs.declared.wish.Wish.{Wish}
-use Rattle.outcome_trace.specs.declared.wish.Wish.TheVariants.{Shared, Alone, Nothing}
+use Rattle.outcome_trace.specs.declared.wish.Wish.TheVariants.{Shared, Alone}
 use Rattle.outcome_trace.specs.Core.{wish_of, over_in}
-use Rattle.outcome_trace.specs.Room.{MOST_MASKS, HasRoom, RunningRoom}
+use Rattle.outcome_trace.specs.Room.{HasRoom, RunningRoom}
 use Rattle.outcome_trace.specs.Fit.{StageFits, DepthFits, LookFits, Fits, IsInRange}
 use Rattle.outcome_trace.proofs.RoomLemmas.{pending-none, final-none, root_room}
-use Rattle.outcome_trace.proofs.RowLemmas.{DepthAfter, NextAfter, GoesOn, RowKeeps, keeps_row}
+use Rattle.outcome_trace.proofs.RowLemmas.{RowKeeps, keeps_row}
 
 -- a fiber after a row after which its term runs on
 pub record Rowed (g new : Fiber) (masks next : ℕ) : Type 0 where

@@ -1,12 +1,10 @@
 -- Moves leave room for masks, and change the number of active ones by their shared calls alone.
-use Rattle.std.proofs.Common.{◌≡◌, ℕ, zero, suc, ◌+◌, ◌<◌, ◌≤◌, Bool, true, false, List, [], ◌∷◌, length, refl, sym, ap, ◌∙◌, subst, arith, le_trans}
-use Rattle.std.specs.Prelude.{if◌then◌else◌, ℤ}
-use Rattle.effect_term.specs.declared.reply.Reply.{Reply}
-use Rattle.effect_term.specs.declared.reply.Reply.TheVariants.{Done}
-use Rattle.derived_ops.specs.Tree.{Value, Number, Mask, Pair, Action, Add, Say, Cede, Never, Canceled, Request, Ending, Get, Set, Modify, Complete, Await, Turns, Times, Always, Last, Tree, Pure, Raise, Act, Note, Cancel, Let, Seq, Handled, If0, Join, Make, Start, Loop, Uncancelable, Poll, On_cancel, Masked, Polled, Guarded}
-use Rattle.derived_ops.specs.Put.{Put, Put_value, Put_handle, Put_mask, action_at, put}
-use Rattle.fiber_frames.specs.Path.{Running, Runs, Step, In_let, In_seq, In_handle, In_guarded, In_masked, In_polled, around, path, leaf, whole, Root, At_term, At_final, is_effective, without_first, undone, same_mask, active, Leaf, focus, active_at, pending}
-use Rattle.outcome_trace.specs.Room.{MOST_MASKS, IsOwn, HasRoom, StepRoom, RootRoom, PathRoom, FocusRoom, RunningRoom}
+use Rattle.std.proofs.Common.{◌≡◌, ℕ, ◌+◌, ◌≤◌, Bool, true, false, List, [], ◌∷◌, length, refl, ◌∙◌, arith, le_trans}
+use Rattle.std.specs.Prelude.{if◌then◌else◌}
+use Rattle.derived_ops.specs.Tree.{Action, Add, Say, Cede, Never, Canceled, Request, Ending, Get, Set, Modify, Complete, Await, Tree, Pure, Raise, Act, Note, Cancel, Let, Seq, Handled, If0, Join, Make, Start, Loop, Uncancelable, Poll, On_cancel, Masked, Polled, Guarded}
+use Rattle.derived_ops.specs.Put.{Put, action_at, put}
+use Rattle.fiber_frames.specs.Path.{Runs, Step, In_let, In_seq, In_handle, In_guarded, In_masked, In_polled, around, path, leaf, whole, At_term, At_final, active, focus, active_at, pending}
+use Rattle.outcome_trace.specs.Room.{MOST_MASKS, IsOwn, HasRoom, PathRoom, RunningRoom}
 
 -- ---- terms
 IsOwn-put : (p : Put) (a : Action) → IsOwn a → IsOwn (action_at p a)

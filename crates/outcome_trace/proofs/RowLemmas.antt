@@ -1,10 +1,10 @@
 -- What a row does to the number of active masks, by its shared call, and that it leaves room.
-use Rattle.std.proofs.Common.{◌≡◌, ◌≢◌, ℕ, zero, suc, ◌+◌, ◌<◌, ◌≤◌, Bool, true, false, List, [], ◌∷◌, length, refl, sym, ap, ◌∙◌, subst, arith, le_trans, ◌+ℤ◌}
+use Rattle.std.proofs.Common.{◌≡◌, ◌≢◌, ℕ, suc, ◌+◌, ◌≤◌, Bool, true, false, List, [], ◌∷◌, length, refl, sym, ap, ◌∙◌, subst, arith, ◌+ℤ◌}
 use Rattle.std.specs.Prelude.{if◌then◌else◌}
 use Rattle.effect_term.specs.declared.reply.Reply.{Reply}
 use Rattle.effect_term.specs.declared.reply.Reply.TheVariants.{Done}
-use Rattle.derived_ops.specs.Tree.{Value, Number, Mask, Pair, Action, Add, Say, Cede, Never, Canceled, Request, Ending, Get, Set, Modify, Complete, Await, Turns, Times, Always, Last, Tree, Pure, Raise, Act, Note, Cancel, Let, Seq, Handled, If0, Join, Make, Start, Loop, Uncancelable, Poll, On_cancel, Masked, Polled, Guarded}
-use Rattle.derived_ops.specs.Put.{Put, Put_value, Put_mask, put}
+use Rattle.derived_ops.specs.Tree.{Value, Mask, Pair, Add, Say, Cede, Never, Canceled, Request, Ending, Get, Set, Modify, Complete, Await, Turns, Times, Always, Last, Tree, Pure, Raise, Act, Note, Cancel, Let, Seq, Handled, If0, Join, Make, Start, Loop, Uncancelable, Poll, On_cancel, Masked, Polled, Guarded}
+use Rattle.derived_ops.specs.Put.{Put_value, Put_mask, put}
 use Rattle.fiber_frames.specs.declared.ask.Ask.{Ask}
 use Rattle.fiber_frames.specs.declared.ask.Ask.TheVariants as ask
 use Rattle.fiber_frames.specs.Path.{Running, Runs, Over, Step, In_let, In_seq, In_handle, In_guarded, In_masked, In_polled, whole, At_term, is_effective, without_first, undone, same_mask, active, focus, active_at}

@@ -1,12 +1,11 @@
 -- The moves of a fiber that fits its cell are the core's.
-use Rattle.std.proofs.Common.{◌≡◌, ◌≢◌, ℕ, ◌+◌, ◌<◌, ◌≤◌, ◌^◌, length, refl, sym, ap, ◌∙◌, subst, arith}
+use Rattle.std.proofs.Common.{◌≡◌, ◌<◌, ◌^◌, sym, subst, arith}
 use Rattle.std.specs.Prelude.{None}
 use Rattle.effect_term.specs.declared.reply.Reply.{Reply}
 use Rattle.effect_term.specs.declared.reply.Reply.TheVariants.{Done}
 use Rattle.fiber_frames.specs.Fiber.{Fiber, ask_of}
-use Rattle.cell_registry.specs.declared.limits.Limits.{Limits}
 use Rattle.cell_registry.specs.declared.call.Call.{Call}
-use Rattle.cell_registry.specs.Cells.{Cells, cell_of, after, reply_of, refusal}
+use Rattle.cell_registry.specs.Cells.{cell_of, after, reply_of, refusal}
 use Rattle.cell_registry.specs.Plain.{Kept, IsKept, IsMade}
 use Rattle.outcome_trace.specs.declared.wish.Wish.TheVariants.{Shared, Alone}
 use Rattle.outcome_trace.specs.Core.{wish_of}

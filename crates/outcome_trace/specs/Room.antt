@@ -1,7 +1,7 @@
 -- Terms that leave room for the masks to come.
 use Rattle.std.specs.Prelude.{ℕ, ◌+◌, ◌≤◌, List, [], ◌∷◌, length}
 use Rattle.derived_ops.specs.Tree.{Action, Add, Say, Cede, Never, Canceled, Request, Ending, Get, Set, Modify, Complete, Await, Tree, Pure, Raise, Act, Note, Cancel, Let, Seq, Handled, If0, Join, Make, Start, Loop, Uncancelable, Poll, On_cancel, Masked, Polled, Guarded}
-use Rattle.fiber_frames.specs.Path.{Running, Runs, Final, Over, Broken, Step, In_let, In_seq, In_handle, In_guarded, In_masked, In_polled, Root, At_term, At_final, active, Focus, Leaf, No_finalizer, Nowhere, focus}
+use Rattle.fiber_frames.specs.Path.{Running, Step, In_let, In_seq, In_handle, In_guarded, In_masked, In_polled, Root, At_term, At_final, active, Focus, Leaf, No_finalizer, Nowhere, focus}
 
 -- as many masks as a program may have active
 abbrev pub MOST_MASKS : ℕ

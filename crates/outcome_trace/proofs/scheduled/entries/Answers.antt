@@ -1,7 +1,7 @@
-use Rattle.std.proofs.Common.{◌≡◌, ◌⊎◌, inl, inr, ℕ, ◌+◌, ◌<◌, length, drop, get_or, refl, sym, ap, ◌∙◌, subst}
+use Rattle.std.proofs.Common.{◌≡◌, inl, inr, get_or, refl, sym, ◌∙◌, subst}
 use Rattle.std.proofs.lemmas.Result.{err_from_is_err_and}
 use Rattle.cell_registry.specs.declared.limits.Limits.{Limits}
-use Rattle.outcome_trace.specs.Core.{Goes, Stops, one_fiber, entered, core_from}
+use Rattle.outcome_trace.specs.Core.{Goes, Stops, one_fiber, entered}
 use Rattle.outcome_trace.proofs.CoreLemmas.{core_from-goes, core_from-stops, entered-unborn}
 use Rattle.outcome_trace.proofs.scheduled.entries.Goals as goal
 use Rattle.outcome_trace.proofs.scheduled.entries.Goals.{then-number-eq0+in_ok-entry, else-number-eq0}

@@ -1,9 +1,9 @@
-use Rattle.std.proofs.Common.{◌≡◌, ◌⊎◌, inl, inr, Ok, Err, refl, sym, ap, ◌∙◌}
+use Rattle.std.proofs.Common.{inl, inr, Ok, Err, sym, ap, ◌∙◌}
 use Rattle.std.proofs.lemmas.Result.{err_from_is_err_and}
 use Rattle.derived_ops.specs.Expansion.{code_of}
 use Rattle.derived_ops.specs.Reading.{source_of}
 use Rattle.fiber_frames.specs.Fiber.{begins}
-use Rattle.outcome_trace.specs.Core.{Goes, one_fiber, core_from, core, reported}
+use Rattle.outcome_trace.specs.Core.{reported}
 use Rattle.outcome_trace.proofs.FitLemmas.{opening_fits}
 use Rattle.outcome_trace.proofs.CoreLemmas.{core_from-opened}
 use Rattle.outcome_trace.proofs.ProgramRoom.{code_room}

@@ -3,7 +3,7 @@ use Rattle.fiber_frames.specs.Fiber.{ask_of}
 use Rattle.outcome_trace.specs.declared.wish.Wish.TheVariants.{Shared, Alone, Nothing}
 use Rattle.outcome_trace.specs.Core.{wish_of}
 use Rattle.outcome_trace.proofs.FitLemmas.{allowed}
-use Rattle.outcome_trace.proofs.CoreLemmas.{entered-nothing, entered-refused}
+use Rattle.outcome_trace.proofs.CoreLemmas.{entered-nothing}
 use Rattle.outcome_trace.proofs.StepLemmas.{alone_steps, made_steps}
 use Rattle.outcome_trace.proofs.scheduled.reply.Goals as goal
 
