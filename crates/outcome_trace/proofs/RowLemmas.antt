@@ -8,7 +8,7 @@ use Rattle.derived_ops.specs.Put.{Put_value, Put_mask, put}
 use Rattle.fiber_frames.specs.declared.ask.Ask.{Ask}
 use Rattle.fiber_frames.specs.declared.ask.Ask.TheVariants as ask
 use Rattle.fiber_frames.specs.Path.{Running, Runs, Over, Step, In_let, In_seq, In_handle, In_guarded, In_masked, In_polled, whole, At_term, is_effective, without_first, undone, same_mask, active, focus, active_at}
-use Rattle.fiber_frames.specs.Rows.{Row, number_of, is_zero, is_positive, one_less, unit, fits, turn_of, row, value_row, error_row}
+use Rattle.fiber_frames.specs.Rows.{Row, number_of, is_zero, is_positive, one_less, unit, fits, looped, row, value_row, error_row}
 use Rattle.outcome_trace.specs.Room.{MOST_MASKS, HasRoom, PathRoom, RunningRoom}
 use Rattle.outcome_trace.proofs.RoomLemmas.{HasRoom-put, HasRoom-fewer, HasRoom-most, HasRoom-if, landed}
 
@@ -132,7 +132,7 @@ on_by : (b : Bool) (t : Tree) → GoesOn (if b then ask.Unmask else ask.Silent) 
 on_by true t = (t, refl)
 on_by false t = (t, refl)
 
-keeps_loop : (n : ℕ) (t : Turns) (e : Tree) → HasRoom n e → HasRoom n (turn_of t e)
+keeps_loop : (n : ℕ) (t : Turns) (e : Tree) → HasRoom n e → HasRoom n (looped t e)
 keeps_loop n Always e h = (h, h)
 keeps_loop n (Times v) e h = HasRoom-if (is_positive v) n (Seq Last e (Loop (Times (one_less v)) e)) unit (h, h) (HasRoom-most n e h)
 
@@ -163,7 +163,7 @@ keeps_row i next r p (If0 v s e) pr h = silent i next (length (active i At_term 
 keeps_row i next r p (Join f x s y e c) pr h = absurd h
 keeps_row i next r p (Make m x k) pr h = absurd h
 keeps_row i next r p (Start x e k) pr h = absurd h
-keeps_row i next r p (Loop n e) pr h = silent i next (length (active i At_term p)) p (turn_of n e) _ refl refl pr (keeps_loop (length (active i At_term p)) n e h) refl
+keeps_row i next r p (Loop n e) pr h = silent i next (length (active i At_term p)) p (looped n e) _ refl refl pr (keeps_loop (length (active i At_term p)) n e h) refl
 keeps_row i next r p (Uncancelable x e) pr h =
     let d = length (active i At_term p) in
     let body = put (Put_mask x (Pair i next)) e in
