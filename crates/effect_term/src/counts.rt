@@ -1,4 +1,4 @@
-//! How large a term is, how deep, and how many masks it may hold.
+//! How large a term is, how deep, and how many masks can be active in it at most.
 
 ghost use Rattle.std.specs.Prelude.{◌≡◌, ◌+◌, ◌-◌, ◌*◌, ◌^◌, ◌<◌, min, max};
 ghost use Rattle.effect_term.specs.ExpansionSize.{expansion_size_of};
@@ -8,7 +8,7 @@ ghost use Rattle.effect_term.specs.Starts.{starts_fiber};
 
 use crate::term::Term;
 
-/// Where the count of an expansion stops: past each limit.
+/// Where the count of an expansion stops: one past the greatest expansion of a program.
 const EXPANSION_STOP: u64 = 1_000_001;
 
 impl Term {

@@ -14,7 +14,8 @@ pub enum TermError {
     Unbound(u32),
     /// The kinds of the binder with this slot, of the name and of its place aren't one.
     WrongKind(u32),
-    /// So many masks may be active at once, above 250.
+    /// The bound on the masks that a fiber can have active at once is this, above 250. It is the
+    /// greatest `u64` where the bound is above that.
     DeepMasks(u64),
     /// The expansion has more than 1,000,000 words and marks.
     Large,

@@ -1,26 +1,38 @@
 //! The terms of effect programs, as boxed trees of the 31 words.
+//!
+//! The words are those of Cats Effect 3's `MonadCancel`, `GenSpawn` and `GenConcurrent`, with terms in
+//! the place of functions and whole numbers in the place of values.
 
 /// What a name stands for.
 #[derive(Clone, Copy, PartialEq, Eq, Debug)]
 pub enum Kind {
+    /// A whole number of 32 bits with sign.
     Value,
+    /// The poll of a mask.
     Poll,
+    /// A fiber that was started.
     Fiber,
+    /// A ref: a shared cell that holds a value.
     Ref,
+    /// A deferred: a shared cell that is completed with a value at most once.
     Deferred,
 }
 
-/// A name. Its slot is the number of binders that enclose its binder.
+/// A use of a name, which names its binder by a slot.
 #[derive(Clone, Copy, PartialEq, Eq, Debug)]
 pub struct Name {
+    /// The number of binders that enclose the binder, from 0 on.
     pub slot: u32,
+    /// What the name stands for.
     pub kind: Kind,
 }
 
 /// A number, or the name of a value.
 #[derive(Clone, Copy, PartialEq, Eq, Debug)]
 pub enum Operand {
+    /// This number.
     Number(i32),
+    /// The value that this name stands for.
     Named(Name),
 }
 

@@ -250,9 +250,9 @@ fn bound(alloc: Global) -> Result<Term, AllocError> {
     Ok(Term::Let(boxed(alloc, Term::Cede)?, boxed(alloc, body)?))
 }
 
-/// Holds whichever allocation is refused.
+/// Holds whichever request for memory is refused.
 #[test]
-fn want_of_memory_changes_no_answer(rt: HostRuntime) {
+fn a_term_is_checked_or_memory_ran_out(rt: HostRuntime) {
     let alloc = rt.alloc();
     if let Ok(term) = bound(alloc) {
         let answer = told(alloc, term);

@@ -1,11 +1,12 @@
 //! The table of signatures: for each word its spelling and the parts of its form.
 //!
-//! The grammar, the faults, the parser and the printer all read this one table, so that a further
-//! word is one more variant, row and spelling.
+//! The grammar, the faults, the parser and the printer all read this one table. A further word is one
+//! more variant, row and spelling here, and says in `build`, `printer` and the atoms of a term which
+//! of the parts are its own.
 
 use effect_term::Kind;
 
-/// The 31 words.
+/// The 31 words of the language. Each variant is the word of its own name in small letters.
 #[derive(Clone, Copy, PartialEq, Eq, Debug)]
 pub enum Word {
     Pure,
@@ -66,7 +67,9 @@ pub enum Part {
 /// the part that closes the form is never read.
 #[derive(Clone, Copy)]
 pub struct Row {
+    /// The word behind the opening bracket.
     pub word: Word,
+    /// The parts behind the word, up to the first that closes the form.
     pub parts: [Part; 9],
 }
 

@@ -1,7 +1,6 @@
 //! The meaning of texts and their first faults, from worked examples.
 
-use crate::{ParseError, parse};
-use effect_term::{Kind, Name, Operand, Term};
+use crate::{ParseError, parse, print};
 use std::test::Fail;
 
 fn fault(rt: HostRuntime, text: &[u8]) -> Option<ParseError> {
@@ -200,157 +199,111 @@ fn prefixes(rt: HostRuntime) {
     }
 }
 
-/// The word of a term.
-fn word_of(term: &Term) -> &'static str {
-    match term {
-        Term::Pure(_) => "pure",
-        Term::Raise(_) => "raise",
-        Term::Let(_, _) => "let",
-        Term::Seq(_, _, _) => "seq",
-        Term::Handle(_, _) => "handle",
-        Term::If0(_, _, _) => "if0",
-        Term::Add(_, _) => "add",
-        Term::Say(_) => "say",
-        Term::Cede => "cede",
-        Term::Never => "never",
-        Term::Canceled => "canceled",
-        Term::Uncancelable(_) => "uncancelable",
-        Term::Poll(_, _) => "poll",
-        Term::OnCancel(_, _) => "oncancel",
-        Term::Start(_, _) => "start",
-        Term::Join(_, _, _, _) => "join",
-        Term::Cancel(_) => "cancel",
-        Term::Ref(_, _) => "ref",
-        Term::Get(_) => "get",
-        Term::Set(_, _) => "set",
-        Term::Modify(_, _) => "modify",
-        Term::Deferred(_) => "deferred",
-        Term::Complete(_, _) => "complete",
-        Term::Await(_) => "await",
-        Term::Repeat(_, _) => "repeat",
-        Term::Forever(_) => "forever",
-        Term::Guarantee(_, _) => "guarantee",
-        Term::Bracket(_, _, _) => "bracket",
-        Term::BracketCase(_, _, _, _, _) => "bracketcase",
-        Term::Race(_, _) => "race",
-        Term::Both(_, _, _) => "both",
-    }
-}
-
+/// Each word's form, with other names and spaces than its canonical spelling, which is what parsing
+/// and printing give.
 #[test]
-fn words_outside(rt: HostRuntime) -> Result<(), Fail> {
-    let table: [(&[u8], &str); 23] = [
-        (b"(pure 1)", "pure"),
-        (b"(raise -1)", "raise"),
-        (b"(let x (cede) (pure x))", "let"),
-        (b"(seq (cede) (cede) (cede))", "seq"),
-        (b"(handle (cede) x (raise x))", "handle"),
-        (b"(if0 0 (cede) (never))", "if0"),
-        (b"(add 1-1)", "add"),
-        (b"(say 0)", "say"),
-        (b"(cede)", "cede"),
-        (b"(never)", "never"),
-        (b"(canceled)", "canceled"),
-        (b"(uncancelable p (poll p (cede)))", "uncancelable"),
-        (b"(oncancel (cede) (cede))", "oncancel"),
-        (b"(start f (cede) (cancel f))", "start"),
-        (b"(ref r 1 (get r))", "ref"),
-        (b"(deferred d (await d))", "deferred"),
-        (b"(repeat 2 (cede))", "repeat"),
-        (b"(forever (cede))", "forever"),
-        (b"(guarantee (cede) (cede))", "guarantee"),
-        (b"(bracket x (cede) (pure x) (pure x))", "bracket"),
+fn each_form_is_read_and_printed(rt: HostRuntime) -> Result<(), Fail> {
+    let table: [(&[u8], &[u8]); 33] = [
+        (b" ( pure\t-2147483648\r\n) ", b"(pure -2147483648)"),
+        (b"(raise 2147483647)", b"(raise 2147483647)"),
+        (b"(let x(cede)(pure x))", b"(let v0 (cede) (pure v0))"),
+        (b"(seq (cede) (never))", b"(seq (cede) (never))"),
         (
-            b"(bracketcase x (cede) (pure x) y (add x y) z (add x z) (pure x))",
-            "bracketcase",
+            b"(seq (cede)(never)(cede)(canceled))",
+            b"(seq (cede) (never) (cede) (canceled))",
         ),
-        (b"(race (cede) (never))", "race"),
-        (b"(both (cede) (cede) x y (add x y))", "both"),
+        (
+            b"(handle (raise 1) e (raise e))",
+            b"(handle (raise 1) v0 (raise v0))",
+        ),
+        (b"(if0 0 (cede) (never))", b"(if0 0 (cede) (never))"),
+        (b"(add 1-1)", b"(add 1 -1)"),
+        (b"(say 0)", b"(say 0)"),
+        (b"(cede)", b"(cede)"),
+        (b"(never)", b"(never)"),
+        (b"(canceled)", b"(canceled)"),
+        (
+            b"(uncancelable x (poll x (say 1)))",
+            b"(uncancelable p0 (poll p0 (say 1)))",
+        ),
+        (
+            b"(uncancelable a (uncancelable b (poll a (poll b (cede)))))",
+            b"(uncancelable p0 (uncancelable p1 (poll p0 (poll p1 (cede)))))",
+        ),
+        (b"(oncancel (cede) (say 1))", b"(oncancel (cede) (say 1))"),
+        (
+            b"(start x (say 1) (cancel x))",
+            b"(start f0 (say 1) (cancel f0))",
+        ),
+        (
+            b"(start f (cede) (join f x (pure x) y (raise y) (never)))",
+            b"(start f0 (cede) (join f0 v1 (pure v1) v1 (raise v1) (never)))",
+        ),
+        (b"(ref x 1 (get x))", b"(ref r0 1 (get r0))"),
+        (b"(ref x 1 (set x 2))", b"(ref r0 1 (set r0 2))"),
+        (b"(ref x 1 (modify x -2))", b"(ref r0 1 (modify r0 -2))"),
+        (
+            b"(deferred x (complete x 5))",
+            b"(deferred d0 (complete d0 5))",
+        ),
+        (b"(deferred x (await x))", b"(deferred d0 (await d0))"),
+        (b"(repeat 2 (cede))", b"(repeat 2 (cede))"),
+        (b"(forever (cede))", b"(forever (cede))"),
+        (b"(guarantee (cede) (say 1))", b"(guarantee (cede) (say 1))"),
+        (
+            b"(bracket x (pure 1) (pure x) (say x))",
+            b"(bracket v0 (pure 1) (pure v0) (say v0))",
+        ),
+        (
+            b"(bracketcase x (cede) (pure x) y (add x y) z (add z x) (say x))",
+            b"(bracketcase v0 (cede) (pure v0) v1 (add v0 v1) v1 (add v1 v0) (say v0))",
+        ),
+        (b"(race (cede) (never))", b"(race (cede) (never))"),
+        (
+            b"(both (cede) (never) x y (add x y))",
+            b"(both (cede) (never) v0 v1 (add v0 v1))",
+        ),
+        (
+            b"(let let (cede) (let let (pure let) (pure let)))",
+            b"(let v0 (cede) (let v1 (pure v0) (pure v1)))",
+        ),
+        (
+            b"(ref x 1 (deferred y (start z (cede) (seq (set x 1) (await y) (cancel z)))))",
+            b"(ref r0 1 (deferred d1 (start f2 (cede) (seq (set r0 1) (await d1) (cancel f2)))))",
+        ),
+        (
+            b"(start f (cede) (start g (cancel f) (cancel g)))",
+            b"(start f0 (cede) (start f1 (cancel f0) (cancel f1)))",
+        ),
+        (
+            b"(both (cede) (cede) x x (pure x))",
+            b"(both (cede) (cede) v0 v1 (pure v1))",
+        ),
     ];
-    for (text, word) in table {
+    for (text, canonical) in table {
         let term = parse(rt.alloc(), text)?;
-        assert_eq!(rt; word_of(&term), word);
+        assert_eq!(rt; print(rt.alloc(), &term)?.as_slice(), canonical);
     }
     Ok(())
 }
 
-/// The last term of a form that binds a name in it.
-fn inside(term: Term) -> Option<Term> {
-    match term {
-        Term::Uncancelable(inner) => Some(Box::into_inner(inner)),
-        Term::Start(_, inner) => Some(Box::into_inner(inner)),
-        Term::Ref(_, inner) => Some(Box::into_inner(inner)),
-        Term::Deferred(inner) => Some(Box::into_inner(inner)),
-        Term::Let(_, inner) => Some(Box::into_inner(inner)),
-        _ => None,
-    }
-}
-
+/// Holds whichever request for memory is refused.
 #[test]
-fn words_inside(rt: HostRuntime) -> Result<(), Fail> {
-    let table: [(&[u8], &str); 8] = [
-        (b"(uncancelable p (poll p (cede)))", "poll"),
-        (
-            b"(start f (cede) (join f x (pure x) y (pure y) (cede)))",
-            "join",
-        ),
-        (b"(start f (cede) (cancel f))", "cancel"),
-        (b"(ref r 1 (get r))", "get"),
-        (b"(ref r 1 (set r 2))", "set"),
-        (b"(ref r 1 (modify r 2))", "modify"),
-        (b"(deferred d (complete d 1))", "complete"),
-        (b"(deferred d (await d))", "await"),
-    ];
-    for (text, word) in table {
-        let term = inside(parse(rt.alloc(), text)?).ok_or("no binder")?;
-        assert_eq!(rt; word_of(&term), word);
-    }
-    Ok(())
-}
-
-/// The value of a `pure`.
-fn value_of(term: Term) -> Option<Operand> {
-    match term {
-        Term::Pure(value) => Some(value),
-        _ => None,
+fn a_text_is_read_or_memory_ran_out(rt: HostRuntime) {
+    let text: &[u8] = b"(bracket x (pure 1) (seq (pure x) (cede) (say 2)) (say x))";
+    match parse(rt.alloc(), text) {
+        Ok(term) => assert_eq!(rt; (term.size(), term.nest(), term.masks()), (7, 3, 3)),
+        Err(error) => assert_eq!(rt; error, ParseError::NoMemory),
     }
 }
 
-/// A name's slot counts the binders around its binder, and it means the innermost of its spelling.
+/// Holds whichever request for memory is refused: what is printed is whole.
 #[test]
-fn slots(rt: HostRuntime) -> Result<(), Fail> {
-    let value = |slot| Operand::Named(Name {
-        slot,
-        kind: Kind::Value,
-    });
-    let term = inside(parse(
-        rt.alloc(),
-        b"(start f (cede) (join f x (pure x) y (pure y) (cede)))",
-    )?)
-    .ok_or("no start")?;
-    let Term::Join(fiber, given, raised, _) = term else {
-        return Err("no join".into());
-    };
-    assert_eq!(rt;
-        fiber,
-        Name {
-            slot: 0,
-            kind: Kind::Fiber
-        }
-    );
-    assert_eq!(rt; value_of(Box::into_inner(given)), Some(value(1)));
-    assert_eq!(rt; value_of(Box::into_inner(raised)), Some(value(1)));
-    let shadowed = inside(parse(
-        rt.alloc(),
-        b"(let let (cede) (let let (pure let) (pure let)))",
-    )?)
-    .ok_or("no let")?;
-    let Term::Let(outer, inner) = shadowed else {
-        return Err("no let".into());
-    };
-    assert_eq!(rt; value_of(Box::into_inner(outer)), Some(value(0)));
-    assert_eq!(rt; value_of(Box::into_inner(inner)), Some(value(1)));
-    let lowest = parse(rt.alloc(), b" ( pure\t-2147483648\r\n) ")?;
-    assert_eq!(rt; value_of(lowest), Some(Operand::Number(-2147483648)));
-    Ok(())
+fn a_term_is_printed_whole_or_memory_ran_out(rt: HostRuntime) {
+    let text: &[u8] = b"(bracket v0 (pure 1) (seq (pure v0) (cede) (say 2)) (say v0))";
+    if let Ok(term) = parse(rt.alloc(), text)
+        && let Ok(printed) = print(rt.alloc(), &term)
+    {
+        assert_eq!(rt; printed.as_slice(), text);
+    }
 }

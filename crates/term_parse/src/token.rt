@@ -29,13 +29,13 @@ const LARGEST: u64 = 2147483648;
 fn is_letter(byte: u8) -> bool
     ensures { result ≡ is_letter byte }
 {
-    97 <= byte && byte <= 122
+    b'a' <= byte && byte <= b'z'
 }
 
 fn is_digit(byte: u8) -> bool
     ensures { result ≡ is_digit byte }
 {
-    48 <= byte && byte <= 57
+    b'0' <= byte && byte <= b'9'
 }
 
 fn is_run(byte: u8) -> bool
@@ -48,13 +48,13 @@ fn is_run(byte: u8) -> bool
 fn begins_run(byte: u8) -> bool
     ensures { result ≡ (is_run byte || (byte == 45)) }
 {
-    is_run(byte) || byte == 45
+    is_run(byte) || byte == b'-'
 }
 
 fn is_space(byte: u8) -> bool
     ensures { result ≡ is_space byte }
 {
-    byte == 32 || byte == 9 || byte == 13 || byte == 10
+    byte == b' ' || byte == b'\t' || byte == b'\r' || byte == b'\n'
 }
 
 /// Where the space ends that begins here.
@@ -101,7 +101,7 @@ fn plain_value(digits: &[u8]) -> Option<u64>
     let [first, ..] = digits else {
         return None;
     };
-    if *first <= 48 {
+    if *first <= b'0' {
         return None;
     }
     let mut value: u64 = 0;
@@ -109,7 +109,7 @@ fn plain_value(digits: &[u8]) -> Option<u64>
         if !is_digit(digit) {
             return None;
         }
-        value = value * 10 + u64::from(digit - 48);
+        value = value * 10 + u64::from(digit - b'0');
         if value > LARGEST {
             return None;
         }
@@ -132,10 +132,10 @@ fn number(run: &[u8]) -> Option<i32>
     let [first, digits @ ..] = run else {
         return None;
     };
-    if *first == 48 && digits.is_empty() {
+    if *first == b'0' && digits.is_empty() {
         return Some(0);
     }
-    if *first == 45 {
+    if *first == b'-' {
         let value = plain_value(digits)?;
         return Some(negated(value));
     }
@@ -152,13 +152,13 @@ fn number(run: &[u8]) -> Option<i32>
 fn kind_of(first: u8, run: &[u8]) -> TokenKind
     ensures { seen_kind run.now result ≡ lexeme_as first run.now }
 {
-    if first == 40 {
+    if first == b'(' {
         TokenKind::Open
-    } else if first == 41 {
+    } else if first == b')' {
         TokenKind::Close
     } else if is_letter(first) {
         TokenKind::Called
-    } else if is_digit(first) || first == 45 {
+    } else if is_digit(first) || first == b'-' {
         match number(run) {
             Some(n) => TokenKind::Number(n),
             None => TokenKind::BadNumber,
@@ -175,20 +175,15 @@ fn token_from(text: &[u8], start: usize) -> Token
     ensures { IsNext text.now start result }
 {
     let first = text[start];
-    if begins_run(first) {
-        let end = run_end(text, start + 1);
-        Token {
-            kind: kind_of(first, &text[start..end]),
-            start,
-            end,
-        }
+    let end = if begins_run(first) {
+        run_end(text, start + 1)
     } else {
-        let end = start + 1;
-        Token {
-            kind: kind_of(first, &text[start..end]),
-            start,
-            end,
-        }
+        start + 1
+    };
+    Token {
+        kind: kind_of(first, &text[start..end]),
+        start,
+        end,
     }
 }
 
