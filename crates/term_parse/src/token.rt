@@ -168,22 +168,29 @@ fn kind_of(first: u8, run: &[u8]) -> TokenKind
     }
 }
 
+/// The token of these bytes.
+fn token_of(text: &[u8], start: usize, end: usize) -> Token
+    requires within { (start < end) × (end ≤ length text.now) }
+    ensures place { result ≡ record { kind = result.kind; start = start; end = end } }
+    ensures kind { seen_kind (slice_range text.now start end) result.kind ≡ lexeme_as (slice_index text.now start) (slice_range text.now start end) }
+{
+    Token {
+        kind: kind_of(text[start], &text[start..end]),
+        start,
+        end,
+    }
+}
+
 /// The token that begins here.
 fn token_from(text: &[u8], start: usize) -> Token
     requires within { start < length text.now }
     requires begins { is_space (slice_index text.now start) ≡ false }
     ensures { IsNext text.now start result }
 {
-    let first = text[start];
-    let end = if begins_run(first) {
-        run_end(text, start + 1)
+    if begins_run(text[start]) {
+        token_of(text, start, run_end(text, start + 1))
     } else {
-        start + 1
-    };
-    Token {
-        kind: kind_of(first, &text[start..end]),
-        start,
-        end,
+        token_of(text, start, start + 1)
     }
 }
 
