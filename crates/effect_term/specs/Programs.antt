@@ -28,3 +28,7 @@ refusal_of t = option_or (first_fault (uses_of [] t)) (limit_passed t)
 -- the refusal is the term's, or memory was wanting
 abbrev pub IsRefusal : Term → TermError → Type 0
 IsRefusal t e = (e ≡ NoMemory) ⊎ (refusal_of t ≡ Some e)
+
+-- the refusal is that of a limit, or memory was wanting
+abbrev pub IsPastLimit : Term → TermError → Type 0
+IsPastLimit t e = (e ≡ NoMemory) ⊎ (limit_passed t ≡ Some e)

@@ -1,7 +1,8 @@
 //! Programs: the terms that a fiber may run.
 
-ghost use Rattle.std.specs.Prelude.{◌≡◌, None, IfOk, OnOk, IfErr, IsOkUnless, IsTrue, ◌↔◌};
-ghost use Rattle.effect_term.specs.Programs.{IsProgram, IsRefusal, refusal_of};
+ghost use Rattle.std.specs.Prelude.{◌≡◌, [], None, IfOk, OnOk, IfErr, IsOkUnless, IsTrue, ◌↔◌};
+ghost use Rattle.effect_term.specs.Kinds.{WellKinded};
+ghost use Rattle.effect_term.specs.Programs.{IsPastLimit, IsProgram, IsRefusal, refusal_of};
 ghost use Rattle.effect_term.specs.Starts.{starts_fiber};
 
 use crate::names::check_names;
@@ -39,7 +40,8 @@ impl Model for Program {
 }
 
 impl Program {
-    /// The program of a term, or why it has none. The term is dropped on a refusal.
+    /// The program of a term, or why it has none. The term is dropped on a refusal. A closed,
+    /// well-kinded term is refused only for a limit.
     ///
     /// Refusals, in this order: the first name in reading order that has no binder
     /// ([`TermError::Unbound`]) or one of another kind ([`TermError::WrongKind`]); more than 250
@@ -52,6 +54,7 @@ impl Program {
         ensures good { OnOk result (refusal_of term ≡ None) }
         ensures only { IsProgram term → IsOkUnless result TermError.NoMemory }
         ensures refused { IfErr result (IsRefusal term) }
+        ensures limits { WellKinded [] term → IfErr result (IsPastLimit term) }
     {
         let mut kinds = Vec::new(alloc);
         check_names(&mut kinds, &term)?;

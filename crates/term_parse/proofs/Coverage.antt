@@ -14,6 +14,7 @@ use Rattle.term_parse.specs.Lexemes.{Lexeme, opens, closes, called, number, bad_
 use Rattle.term_parse.specs.Reading.{Bound, Want, term, a_word, parts, Step, want_step, part_step, begun, row_of, used, opening, entered, meaning, open_of, with_front, reads}
 use Rattle.term_parse.specs.Grammar.{Phrase, done, spelled, counted, form, tokens_of, depth_of, Means}
 use Rattle.term_parse.proofs.Fronts.{with_front-ok}
+use Rattle.term_parse.proofs.ScopeLaws.{innermost-from_meaning}
 
 -- the tokens are those of these wants in turn, and mean these atoms
 abbrev pub Covered : List Want → List Placed → List Atom → Type 0
@@ -88,11 +89,11 @@ part_onward s b (Bind k) ps (called x) at ws ts ys st low h =
 part_onward s b (Use k) ps (called x) at ws ts ys st low h =
     used_was (Onward (parts s b (Use k ∷ ps)) (called x) at ws ts ys) (meaning s k x at) (λ n. name n) (parts s b ps) st (λ n mean cover.
     let (p, first, more, rest, e, ye, m, deep, outside) = cover low in
-    (spelled at x p, name n ∷ first, more, rest, ap (λ z. record { lexeme = called x; place = at } ∷ z) e, ap (λ z. name n ∷ z) ye, (n, first, mean, refl, m), deep, outside)) h
+    (spelled at x p, name n ∷ first, more, rest, ap (λ z. record { lexeme = called x; place = at } ∷ z) e, ap (λ z. name n ∷ z) ye, (n, first, (innermost-from_meaning s k x at n mean).0, (innermost-from_meaning s k x at n mean).1, refl, m), deep, outside)) h
 part_onward s b Value ps (called x) at ws ts ys st low h =
     used_was (Onward (parts s b (Value ∷ ps)) (called x) at ws ts ys) (meaning s kinds.Value x at) (λ n. value (Named n)) (parts s b ps) st (λ n mean cover.
     let (p, first, more, rest, e, ye, m, deep, outside) = cover low in
-    (spelled at x p, value (Named n) ∷ first, more, rest, ap (λ z. record { lexeme = called x; place = at } ∷ z) e, ap (λ z. value (Named n) ∷ z) ye, (n, first, mean, refl, m), deep, outside)) h
+    (spelled at x p, value (Named n) ∷ first, more, rest, ap (λ z. record { lexeme = called x; place = at } ∷ z) e, ap (λ z. value (Named n) ∷ z) ye, (n, first, (innermost-from_meaning s kinds.Value x at n mean).0, (innermost-from_meaning s kinds.Value x at n mean).1, refl, m), deep, outside)) h
 part_onward s b Value ps (number n) at ws ts ys st low h =
     subst (Onward (parts s b (Value ∷ ps)) (number n) at ws ts ys) (same_step _ st h) (λ cover.
     let (p, first, more, rest, e, ye, m, deep, outside) = cover low in

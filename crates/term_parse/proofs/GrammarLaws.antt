@@ -1,5 +1,6 @@
 -- What the grammar spells is what is read, both ways.
 use Rattle.std.proofs.Common.{◌≡◌, ◌+◌, ◌≤◌, ◌<◌, ℕ, suc, List, [], ◌∷◌, ◌++◌, Some, refl, ap, sym, ◌∙◌, arith, append_assoc}
+use Rattle.effect_term.specs.declared.term.Kind.TheVariants as kinds
 use Rattle.effect_term.specs.declared.term.Operand.TheVariants.{Number, Named}
 use Rattle.term_parse.specs.declared.table.Row.{Row}
 use Rattle.term_parse.specs.declared.table.Part.{Part}
@@ -9,6 +10,7 @@ use Rattle.term_parse.specs.Lexemes.{opens, called, Placed}
 use Rattle.term_parse.specs.Reading.{Bound, Want, a_word, parts, want_step, part_step, row_of, opening, entered, open_of, with_front, reads}
 use Rattle.term_parse.specs.Grammar.{Phrase, done, spelled, counted, form, tokens_of, depth_of, Means}
 use Rattle.term_parse.proofs.Fronts.{with_none, with_both, opening_low}
+use Rattle.term_parse.proofs.ScopeLaws.{meaning-from_innermost}
 
 -- a form from its opening bracket on, wherever a bracket is wanted
 pub opened : (end a c : ℕ) (w : List ℕ) (r : Row) (v : Want) (inside : List Bound) (after todo : List Want) (ts : List Placed) → want_step (open_of (v ∷ todo)) v opens a ≡ opening (open_of (v ∷ todo)) a (a_word inside ∷ after) → open_of (v ∷ todo) < 100 → row_of w ≡ Some r → reads end (v ∷ todo) (record { lexeme = opens; place = a } ∷ record { lexeme = called w; place = c } ∷ ts) ≡ with_front (word r.word ∷ []) (reads end (parts inside [] r.parts ∷ (after ++ todo)) ts)
@@ -22,9 +24,9 @@ reads_phrase end (done a) s b (Close ∷ ps) xs todo rest m l = ap (λ x. with_f
 reads_phrase end (done a) s b (More ∷ ps) xs todo rest m l = ap (λ x. with_front x (reads end todo rest)) (sym m)
 reads_phrase end (spelled a x p) s b (Bind k ∷ ps) xs todo rest m l = with_none _ ∙ reads_phrase end p s (b ++ record { spelling = x; kind = k } ∷ []) ps xs todo rest m l
 reads_phrase end (spelled a x p) s b (Use k ∷ ps) xs todo rest m l =
-    rw (m.2, reads) (ap (with_front (name m.0 ∷ [])) (reads_phrase end p s b ps m.1 todo rest m.4 l) ∙ with_both (name m.0 ∷ []) m.1 (reads end todo rest) ∙ ap (λ x. with_front x (reads end todo rest)) (sym m.3))
+    rw (meaning-from_innermost s k x a m.0 (m.2, m.3), reads) (ap (with_front (name m.0 ∷ [])) (reads_phrase end p s b ps m.1 todo rest m.5 l) ∙ with_both (name m.0 ∷ []) m.1 (reads end todo rest) ∙ ap (λ x. with_front x (reads end todo rest)) (sym m.4))
 reads_phrase end (spelled a x p) s b (Value ∷ ps) xs todo rest m l =
-    rw (m.2, reads) (ap (with_front (value (Named m.0) ∷ [])) (reads_phrase end p s b ps m.1 todo rest m.4 l) ∙ with_both (value (Named m.0) ∷ []) m.1 (reads end todo rest) ∙ ap (λ x. with_front x (reads end todo rest)) (sym m.3))
+    rw (meaning-from_innermost s kinds.Value x a m.0 (m.2, m.3), reads) (ap (with_front (value (Named m.0) ∷ [])) (reads_phrase end p s b ps m.1 todo rest m.5 l) ∙ with_both (value (Named m.0) ∷ []) m.1 (reads end todo rest) ∙ ap (λ x. with_front x (reads end todo rest)) (sym m.4))
 reads_phrase end (form a c w q p) s b (Term ∷ ps) xs todo rest m l =
     opened end a c w m.0 (parts s b (Term ∷ ps)) (entered s b Term) (parts s b ps ∷ []) todo ((tokens_of q ++ tokens_of p) ++ rest) refl (omega arith) m.3
     ∙ ap (with_front (word m.0.word ∷ [])) (ap (reads end (parts (entered s b Term) [] m.0.parts ∷ parts s b ps ∷ todo)) (append_assoc (tokens_of q) (tokens_of p) rest) ∙ reads_phrase end q (entered s b Term) [] m.0.parts m.1 (parts s b ps ∷ todo) (tokens_of p ++ rest) m.5 (omega arith) ∙ ap (with_front m.1) (reads_phrase end p s b ps m.2 todo rest m.6 (omega arith)) ∙ with_both m.1 m.2 (reads end todo rest))

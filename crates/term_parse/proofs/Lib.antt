@@ -18,3 +18,5 @@ pub mod Tables
 pub mod Stacks
 pub mod Builds
 pub mod ShapeLaws
+pub mod ParseLaws
+pub mod KindLaws

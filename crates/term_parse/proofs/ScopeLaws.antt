@@ -1,11 +1,12 @@
 -- The meaning of a name is the innermost binder of its spelling.
-use Rattle.std.proofs.Common.{◌≡◌, ◌≢◌, ◌+◌, ℕ, suc, List, [], ◌∷◌, ◌++◌, length, Option, Some, None, Ok, Err, Bool, true, false, refl, ap, sym, subst, ◌∙◌, arith}
+use Rattle.std.proofs.Common.{◌≡◌, ◌≢◌, ◌↔◌, ◌+◌, ℕ, suc, List, [], ◌∷◌, ◌++◌, length, Option, Some, None, Result, Ok, Err, Bool, true, false, refl, ap, sym, subst, ◌∙◌, arith}
 use Rattle.std.specs.Str.{bytes_eq}
 use Rattle.std.proofs.lemmas.Slice.Eq.{bytes_eq-Decides}
 use Rattle.std.proofs.lemmas.Bool.Decides.{not_from_Decides}
 use Rattle.effect_term.specs.declared.term.Kind.{Kind}
 use Rattle.effect_term.specs.declared.term.Kind.TheVariants as kinds
 use Rattle.effect_term.specs.declared.term.Name.{Name}
+use Rattle.term_parse.specs.declared.error.ParseError.{ParseError}
 use Rattle.term_parse.specs.declared.error.ParseError.TheVariants as errors
 use Rattle.term_parse.specs.Reading.{Bound, find_from, same_kind, meaning}
 use Rattle.term_parse.specs.Innermost.{Unspelled, IsInnermost}
@@ -138,10 +139,10 @@ pub meaning-from_innermost : (scope : List Bound) (kind : Kind) (x : List ℕ) (
 meaning-from_innermost scope kind x at n (h, k) =
     meaning_same scope kind x at n (find-innermost scope x n h) (ap (λ y. same_kind n.kind y) (sym k) ∙ same_kind_self n.kind)
 
-pub meaning-unspelled : (scope : List Bound) (kind : Kind) (x : List ℕ) (at : ℕ) → Unspelled scope x → meaning scope kind x at ≡ Err (errors.UnknownName at)
+meaning-unspelled : (scope : List Bound) (kind : Kind) (x : List ℕ) (at : ℕ) → Unspelled scope x → meaning scope kind x at ≡ Err (errors.UnknownName at)
 meaning-unspelled scope kind x at h = meaning_none scope kind x at (find_none 0 scope x h)
 
-pub meaning-other_kind : (scope : List Bound) (kind : Kind) (x : List ℕ) (at : ℕ) → (n : Name) × IsInnermost scope x n × (n.kind ≢ kind) → meaning scope kind x at ≡ Err (errors.NameKind at)
+meaning-other_kind : (scope : List Bound) (kind : Kind) (x : List ℕ) (at : ℕ) → (n : Name) × IsInnermost scope x n × (n.kind ≢ kind) → meaning scope kind x at ≡ Err (errors.NameKind at)
 meaning-other_kind scope kind x at (n, h, k) = meaning_other scope kind x at n (find-innermost scope x n h) (other_kind n.kind kind k)
 
 -- the innermost binder is the wanted one, or of another kind, or there is none
@@ -182,8 +183,18 @@ other_refused (unknown h e) f = cc
 pub innermost-from_meaning : (scope : List Bound) (kind : Kind) (x : List ℕ) (at : ℕ) (n : Name) → meaning scope kind x at ≡ Ok n → IsInnermost scope x n × (n.kind ≡ kind)
 innermost-from_meaning scope kind x at n f = innermost_ok (said scope kind x at) n f
 
-pub unspelled-from_meaning : (scope : List Bound) (kind : Kind) (x : List ℕ) (at : ℕ) → meaning scope kind x at ≡ Err (errors.UnknownName at) → Unspelled scope x
+unspelled-from_meaning : (scope : List Bound) (kind : Kind) (x : List ℕ) (at : ℕ) → meaning scope kind x at ≡ Err (errors.UnknownName at) → Unspelled scope x
 unspelled-from_meaning scope kind x at f = unspelled_unknown (said scope kind x at) f
 
-pub other_kind-from_meaning : (scope : List Bound) (kind : Kind) (x : List ℕ) (at : ℕ) → meaning scope kind x at ≡ Err (errors.NameKind at) → (n : Name) × IsInnermost scope x n × (n.kind ≢ kind)
+other_kind-from_meaning : (scope : List Bound) (kind : Kind) (x : List ℕ) (at : ℕ) → meaning scope kind x at ≡ Err (errors.NameKind at) → (n : Name) × IsInnermost scope x n × (n.kind ≢ kind)
 other_kind-from_meaning scope kind x at f = other_refused (said scope kind x at) f
+
+-- what is answered for a use, in plain words
+pub meant_where : (scope : List Bound) (kind : Kind) (x : List ℕ) (at : ℕ) (r : Result Name ParseError) → r ≡ meaning scope kind x at → (n : Name) → (r ≡ Ok n) ↔ (IsInnermost scope x n × (n.kind ≡ kind))
+meant_where scope kind x at r e n = (λ h. innermost-from_meaning scope kind x at n (sym e ∙ h), λ h. e ∙ meaning-from_innermost scope kind x at n h)
+
+pub unknown_where : (scope : List Bound) (kind : Kind) (x : List ℕ) (at : ℕ) (r : Result Name ParseError) → r ≡ meaning scope kind x at → (r ≡ Err (errors.UnknownName at)) ↔ Unspelled scope x
+unknown_where scope kind x at r e = (λ h. unspelled-from_meaning scope kind x at (sym e ∙ h), λ h. e ∙ meaning-unspelled scope kind x at h)
+
+pub other_where : (scope : List Bound) (kind : Kind) (x : List ℕ) (at : ℕ) (r : Result Name ParseError) → r ≡ meaning scope kind x at → (r ≡ Err (errors.NameKind at)) ↔ ((n : Name) × IsInnermost scope x n × (n.kind ≢ kind))
+other_where scope kind x at r e = (λ h. other_kind-from_meaning scope kind x at (sym e ∙ h), λ h. e ∙ meaning-other_kind scope kind x at h)

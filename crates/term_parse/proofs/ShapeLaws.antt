@@ -6,14 +6,14 @@ use Rattle.term_parse.specs.declared.table.Word.TheVariants as words
 use Rattle.term_parse.specs.Atoms.{Atom, word, value, name, ended, atoms_of, row_atoms}
 use Rattle.term_parse.specs.Shapes.{Shape, closed, value_then, name_then, form_then, term_then, row_then, shape_of}
 
-abbrev flat : Shape → List Atom
+abbrev pub flat : Shape → List Atom
 flat closed = ended ∷ []
 flat (value_then v s) = value v ∷ flat s
 flat (name_then n s) = name n ∷ flat s
 flat (form_then w i s) = word w ∷ (flat i ++ flat s)
 
 -- no text of atoms ends within another
-apart : (s r : Shape) (xs ys : List Atom) → flat s ++ xs ≡ flat r ++ ys → (s ≡ r) × (xs ≡ ys)
+pub apart : (s r : Shape) (xs ys : List Atom) → flat s ++ xs ≡ flat r ++ ys → (s ≡ r) × (xs ≡ ys)
 apart closed closed xs ys e = (refl, cc)
 apart (value_then v s) (value_then w r) xs ys e =
     let same : v ≡ w = cc in
@@ -34,7 +34,7 @@ apart (form_then v i s) (form_then w j r) xs ys e =
 apart s r xs ys e = cc
 
 mutual
-  flat_term : (t : Term) (rest : Shape) → flat (term_then t rest) ≡ atoms_of t ++ flat rest
+  pub flat_term : (t : Term) (rest : Shape) → flat (term_then t rest) ≡ atoms_of t ++ flat rest
   flat_term (Pure v) rest = refl
   flat_term (Raise v) rest = refl
   flat_term (Let' p e q k) rest = ap (λ x. word words.Let ∷ (x ++ flat rest)) (flat_term e (term_then k closed) ∙ ap (λ x. atoms_of e ++ x) (flat_term k closed))

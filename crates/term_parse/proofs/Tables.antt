@@ -9,14 +9,16 @@ use Rattle.term_parse.specs.declared.scope.Binding.{Binding}
 use Rattle.term_parse.specs.Reading.{Bound, row_among, row_of, picked}
 use Rattle.term_parse.specs.Bindings.{bounds, bound_of, InText}
 use Rattle.term_parse.specs.Forms.{Sort, a_name, a_value, a_term, Tabled}
+use Rattle.term_parse.specs.Spelling.{parts_of}
 use Rattle.term_parse.proofs.Steps.{bounds-append, in_text-append}
 
-AllTabled : List Row → Type 0
-AllTabled [] = Unit {0}
-AllTabled (r ∷ rs) = Tabled r × AllTabled rs
+-- each of these rows is so
+AllRows : (Row → Type 0) → List Row → Type 0
+AllRows P [] = Unit {0}
+AllRows P (r ∷ rows) = P r × AllRows P rows
 
-every_row : AllTabled TABLE
-unfolding AllTabled
+every_row : AllRows Tabled TABLE
+unfolding AllRows
 every_row = (
   record { full = refl; shape = λ m c. cc },
   (
@@ -112,19 +114,31 @@ every_row = (
   ),
 )
 
-chosen : (b : Bool) (q r : Row) (others : Option Row) → Tabled q → (others ≡ Some r → Tabled r) → (if b then Some q else others) ≡ Some r → Tabled r
-chosen true q r others t h e = let i : q ≡ r = cc in subst (λ x. Tabled x) i t
-chosen false q r others t h e = h e
+-- the row has the parts of its word
+abbrev Known : Row → Type 0
+Known r = r.parts ≡ parts_of r.word
 
-among_tabled : (ss : List (List ℕ)) (rows : List Row) (x : List ℕ) (r : Row) → AllTabled rows → row_among ss rows x ≡ Some r → Tabled r
-unfolding AllTabled
-among_tabled [] rows x r a e = cc
-among_tabled (s ∷ ss) [] x r a e = cc
-among_tabled (s ∷ ss) (q ∷ rows) x r a e = chosen (bytes_eq s x) q r (row_among ss rows x) a.0 (among_tabled ss rows x r a.1) e
+every_known : AllRows Known TABLE
+unfolding AllRows parts_of
+every_known = (refl, (refl, (refl, (refl, (refl, (refl, (refl, (refl, (refl, (refl, (refl, (refl, (refl, (refl, (refl, (refl, (refl, (refl, (refl, (refl, (refl, (refl, (refl, (refl, (refl, (refl, (refl, (refl, (refl, (refl, (refl, tt)))))))))))))))))))))))))))))))
+
+chosen : (P : Row → Type 0) (b : Bool) (q r : Row) (others : Option Row) → P q → (others ≡ Some r → P r) → (if b then Some q else others) ≡ Some r → P r
+chosen P true q r others t h e = let i : q ≡ r = cc in subst P i t
+chosen P false q r others t h e = h e
+
+among : (P : Row → Type 0) (ss : List (List ℕ)) (rows : List Row) (x : List ℕ) (r : Row) → AllRows P rows → row_among ss rows x ≡ Some r → P r
+unfolding AllRows
+among P [] rows x r a e = cc
+among P (s ∷ ss) [] x r a e = cc
+among P (s ∷ ss) (q ∷ rows) x r a e = chosen P (bytes_eq s x) q r (row_among ss rows x) a.0 (among P ss rows x r a.1) e
 
 pub tabled : (x : List ℕ) (r : Row) → row_of x ≡ Some r → Tabled r
 unfolding row_of
-tabled x r e = among_tabled (map (λ s. s.now) SPELLINGS) TABLE x r every_row e
+tabled x r e = among Tabled (map (λ s. s.now) SPELLINGS) TABLE x r every_row e
+
+pub parts-row_of : (x : List ℕ) (r : Row) → row_of x ≡ Some r → r.parts ≡ parts_of r.word
+unfolding row_of
+parts-row_of x r e = among Known (map (λ s. s.now) SPELLINGS) TABLE x r every_known e
 
 bounds-get : (text : List ℕ) (xs : List Binding) (i : ℕ) (b : Binding) → slice_get xs i ≡ Some b → slice_get (bounds text xs) i ≡ Some (bound_of text b)
 bounds-get text [] i b e = cc

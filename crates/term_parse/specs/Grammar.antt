@@ -1,5 +1,5 @@
 -- The grammar: what stands in a form, and what it means, as a relation apart from any reading.
-use Rattle.std.specs.Prelude.{◌≡◌, ◌≤◌, ℕ, suc, max, ℤ, List, [], ◌∷◌, ◌++◌, length, Some, Ok}
+use Rattle.std.specs.Prelude.{◌≡◌, ◌≤◌, ℕ, suc, max, ℤ, List, [], ◌∷◌, ◌++◌, length, Some}
 use Rattle.term_parse.specs.Atoms.{Atom, word, value, name, ended}
 use Rattle.effect_term.specs.declared.term.Kind.TheVariants as kinds
 use Rattle.effect_term.specs.declared.term.Name.{Name}
@@ -8,7 +8,8 @@ use Rattle.term_parse.specs.declared.table.Row.{Row}
 use Rattle.term_parse.specs.declared.table.Part.{Part}
 use Rattle.term_parse.specs.declared.table.Part.TheVariants.{Bind, Use, Value, Term, Under, UnderBoth, More, Close}
 use Rattle.term_parse.specs.Lexemes.{opens, closes, called, number, Placed, lexemes_at}
-use Rattle.term_parse.specs.Reading.{Bound, meaning, row_of, entered}
+use Rattle.term_parse.specs.Innermost.{IsInnermost}
+use Rattle.term_parse.specs.Reading.{Bound, row_of, entered}
 
 -- what stands in a form behind its word, up to its closing bracket; each token with its place
 pub data Phrase : Type 0 where
@@ -30,13 +31,14 @@ depth_of (spelled a x p) = depth_of p
 depth_of (counted a n p) = depth_of p
 depth_of (form a c w q p) = max (suc (depth_of q)) (depth_of p)
 
--- in this scope and under these binders the phrase is these parts and means these atoms
+-- In this scope and under these binders the phrase is these parts and means these atoms. A use of a name means the
+-- innermost binder of its spelling, which has to be of the kind that the part wants.
 abbrev pub Means : List Bound → List Bound → List Part → Phrase → List Atom → Type 0
 Means s b (Close ∷ ps) (done a) xs = xs ≡ ended ∷ []
 Means s b (More ∷ ps) (done a) xs = xs ≡ ended ∷ []
 Means s b (Bind k ∷ ps) (spelled a x p) xs = Means s (b ++ record { spelling = x; kind = k } ∷ []) ps p xs
-Means s b (Use k ∷ ps) (spelled a x p) xs = (n : Name) × (rest : List Atom) × (meaning s k x a ≡ Ok n) × (xs ≡ name n ∷ rest) × Means s b ps p rest
-Means s b (Value ∷ ps) (spelled a x p) xs = (n : Name) × (rest : List Atom) × (meaning s kinds.Value x a ≡ Ok n) × (xs ≡ value (Named n) ∷ rest) × Means s b ps p rest
+Means s b (Use k ∷ ps) (spelled a x p) xs = (n : Name) × (rest : List Atom) × IsInnermost s x n × (n.kind ≡ k) × (xs ≡ name n ∷ rest) × Means s b ps p rest
+Means s b (Value ∷ ps) (spelled a x p) xs = (n : Name) × (rest : List Atom) × IsInnermost s x n × (n.kind ≡ kinds.Value) × (xs ≡ value (Named n) ∷ rest) × Means s b ps p rest
 Means s b (Value ∷ ps) (counted a n p) xs = (rest : List Atom) × (xs ≡ value (Number n) ∷ rest) × Means s b ps p rest
 Means s b (Term ∷ ps) (form a c w q p) xs = (r : Row) × (first : List Atom) × (rest : List Atom) × (row_of w ≡ Some r) × (xs ≡ word r.word ∷ (first ++ rest)) × Means (entered s b Term) [] r.parts q first × Means s b ps p rest
 Means s b (Under i ∷ ps) (form a c w q p) xs = (r : Row) × (first : List Atom) × (rest : List Atom) × (row_of w ≡ Some r) × (xs ≡ word r.word ∷ (first ++ rest)) × Means (entered s b (Under i)) [] r.parts q first × Means s b ps p rest

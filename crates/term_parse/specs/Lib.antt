@@ -8,7 +8,6 @@ pub mod Faults
 pub mod Grammar
 pub mod Innermost
 pub mod Shapes
-pub mod Laws
 pub mod Spelling
 pub mod Pieces
 pub mod Numbers

@@ -4,14 +4,13 @@
 //! It stands on `effect_term`, whose terms it reads and writes. One table of signatures says what
 //! stands in each form; the grammar, the faults and the parser all read it. It promises that
 //! [`parse`] gives a term exactly where the grammar spells it, and else the first fault with its
-//! place, and that [`print`] writes the canonical spelling, which spells the same term again. The
-//! laws of the grammar stand in [`laws`].
+//! place, and that [`print`] writes the canonical spelling, which spells the same term again. What
+//! is parsed is closed and well kinded.
 #![tactic(auto)]
 
 mod build;
 mod error;
 mod form;
-pub mod laws;
 #[cfg(test)]
 mod printed_terms;
 mod printer;

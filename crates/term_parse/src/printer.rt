@@ -1,11 +1,14 @@
 //! Printing: the canonical spelling of a term, by the table.
 
-ghost use Rattle.std.specs.Prelude.{◌≡◌, ◌≤◌, ◌+◌, ◌++◌, ◌∷◌, [], OnOk, IfOk, slice_get, vec_len, length};
+ghost use Rattle.std.specs.Prelude.{◌≡◌, ◌≤◌, ◌+◌, ◌++◌, ◌∷◌, [], Ok, OnOk, IfOk, slice_get, vec_len, length};
+ghost use Rattle.effect_term.specs.declared.term.Term as terms;
 ghost use Rattle.effect_term.specs.Kinds.{WellKinded};
 ghost use Rattle.effect_term.specs.Sizes.{nest_of};
 ghost use Rattle.term_parse.specs.Atoms.{atoms_of, ended, word as a_word, value as a_value};
 ghost use Rattle.term_parse.specs.Grammar.{Spells};
 ghost use Rattle.term_parse.specs.Numbers.{NumbersFit};
+ghost use Rattle.term_parse.specs.Reading.{reading};
+ghost use Rattle.term_parse.specs.Shapes.{shape_of};
 ghost use Rattle.term_parse.specs.Spelling.{name_spelling, operand_spelling, letter_of, parts_of, word_spelling, piece_spelling, parts_spelling, more_spelling, binders_of, outer_binders, form, spelling, canonical};
 ghost use Rattle.term_parse.specs.Pieces.{piece_of, pieces_of, terms_spelled, terms_atoms, piece_atoms, pieces_atoms, Suffice};
 
@@ -322,11 +325,17 @@ fn write_more(out: &mut Vec<u8>, terms: &[Term], around: usize) -> Result<(), Al
 /// and each name as the letter of its kind (`v`, `p`, `f`, `r` or `d`) followed by its slot.
 ///
 /// The text of a closed, well-kinded term spells that term again, if the term is at most 100 words
-/// deep and the text has at most 65,536 bytes.
+/// deep and the text has at most 65,536 bytes. So [`parse`](crate::parse) reads that term from it,
+/// and no other, but for where it lies in memory.
 pub fn print(alloc: Global, term: &Term) -> Result<Vec<u8>, AllocError>
     ensures canonical { IfOk result (λ text. text.items ≡ canonical term.now) }
     ensures read_back { IfOk result (λ text.
         WellKinded [] term.now → nest_of term.now ≤ 100 → length text.items ≤ 65536 → Spells text.items (atoms_of term.now)) }
+    ensures parsed { IfOk result (λ text.
+        WellKinded [] term.now → nest_of term.now ≤ 100 → length text.items ≤ 65536 → reading text.items ≡ Ok (atoms_of term.now)) }
+    ensures same_term { IfOk result (λ text.
+        WellKinded [] term.now → nest_of term.now ≤ 100 → length text.items ≤ 65536 →
+        (u : terms.Term) → reading text.items ≡ Ok (atoms_of u) → shape_of u ≡ shape_of term.now) }
 {
     let mut text = Vec::new(alloc);
     write_term(&mut text, term, 0)?;

@@ -1,10 +1,15 @@
 //! Reads a text from left to right, one token at a time, with the forms that are open on a stack.
 
-ghost use Rattle.std.specs.Prelude.{◌≡◌, ◌≤◌, ◌<◌, ◌+◌, ℕ, List, [], ◌∷◌, IfOk, IfErr, Ok, Err, length};
+ghost use Rattle.std.specs.Prelude.{◌≡◌, ◌≢◌, ◌≤◌, ◌<◌, ◌+◌, ℕ, List, [], ◌∷◌, IfOk, IfErr, Ok, Err, length};
+ghost use Rattle.effect_term.specs.Kinds.{WellKinded};
+ghost use Rattle.effect_term.specs.declared.term.Term as terms;
 ghost use Rattle.term_parse.specs.declared.error.ParseError.{ParseError};
 ghost use Rattle.term_parse.specs.Atoms.{Atom, word, atoms_of};
 ghost use Rattle.term_parse.specs.declared.form.Form.{Form};
+ghost use Rattle.term_parse.specs.Faults.{IsFaultOf};
+ghost use Rattle.term_parse.specs.Grammar.{Spells};
 ghost use Rattle.term_parse.specs.Reading.{reads_at, reading, term, Fails};
+ghost use Rattle.term_parse.specs.Shapes.{shape_of};
 ghost use Rattle.term_parse.specs.Forms.{Buildable, Shaped, sorts, ends, Closes, IsStack, IsWhole, Stepped, Turned};
 
 use crate::build::build;
@@ -167,14 +172,23 @@ fn read(alloc: Global, text: &[u8]) -> Result<Term, ParseError>
 /// Reads the text of a term: one term with space around its tokens, by the grammar of the table.
 ///
 /// A text has at most 65,536 bytes, and at most 100 brackets are open in it. Names stand for the
-/// innermost binder of their spelling. The answer is the term that the text spells, or its first
-/// fault from left to right, with its place; [`ParseError::TooLong`] comes before all others. It is
-/// [`ParseError::NoMemory`] only where a request for memory was refused.
+/// innermost binder of their spelling. The answer is the term that the grammar spells so; a text
+/// spells at most one, but for where it lies in memory, and that term is closed and well kinded. Of a text that spells none it is the first
+/// fault from left to right, with its place; [`ParseError::TooLong`] comes before all others. No
+/// other fault, and none at another place, is the first. The answer is [`ParseError::NoMemory`]
+/// only where a request for memory was refused.
 pub fn parse(alloc: Global, text: &[u8]) -> Result<Term, ParseError>
     ensures found { IfOk result (λ t. reading text.now ≡ Ok (atoms_of t)) }
     ensures only { (atoms : List Atom) → reading text.now ≡ Ok atoms → IfErr result (λ e. e ≡ ParseError.NoMemory) }
     ensures fault { IfErr result (λ e. Fails e (reading text.now)) }
     ensures refused { (e : ParseError) → reading text.now ≡ Err e → IfOk result (λ _. ⊥) }
+    ensures spelled { IfOk result (λ t. Spells text.now (atoms_of t)) }
+    ensures good { (atoms : List Atom) → Spells text.now atoms → IfErr result (λ e. e ≡ ParseError.NoMemory) }
+    ensures one_term { IfOk result (λ t. (u : terms.Term) → Spells text.now (atoms_of u) → shape_of u ≡ shape_of t) }
+    ensures closed { IfOk result (WellKinded []) }
+    ensures first_fault { IfErr result (λ e. e ≢ ParseError.NoMemory → IsFaultOf text.now e) }
+    ensures one_fault { IfErr result (λ e. e ≢ ParseError.NoMemory → (f : ParseError) → IsFaultOf text.now f → f ≡ e) }
+    ensures at_fault { (f : ParseError) → IsFaultOf text.now f → IfOk result (λ _. ⊥) }
 {
     read(alloc, text)
 }

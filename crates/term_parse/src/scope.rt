@@ -1,6 +1,8 @@
 //! The binders in scope, and the words of the table.
 
-ghost use Rattle.std.specs.Prelude.{◌≡◌, ◌≤◌, ◌+◌, ◌<◌, ◌^◌, ℕ, List, IfOk, IfSome, IfNone, ◌++◌, length, map};
+ghost use Rattle.std.specs.Prelude.{◌≡◌, ◌≢◌, ◌↔◌, ◌≤◌, ◌+◌, ◌<◌, ◌^◌, ℕ, List, Ok, Err, IfOk, IfSome, IfNone, ◌++◌, length, map};
+ghost use Rattle.effect_term.specs.declared.term.Name as names;
+ghost use Rattle.term_parse.specs.Innermost.{Unspelled, IsInnermost};
 ghost use Rattle.term_parse.specs.Reading.{find_from, same_kind, meaning, entered, picked, row_among, row_of};
 ghost use Rattle.term_parse.specs.Bindings.{bounds, InText};
 
@@ -80,7 +82,9 @@ fn same_kind(a: Kind, b: Kind) -> bool
     }
 }
 
-/// What a use of this kind means that stands at this place.
+/// What a use of this kind means that stands at this place: the innermost binder of its spelling,
+/// behind which nothing of that spelling stands. Where there is none the name is unknown, and where
+/// that binder is of another kind the use is refused.
 #[tactic(auto, unfolding(crate::specs::Reading::meaning))]
 pub(crate) fn meaning(
     text: &[u8],
@@ -91,7 +95,10 @@ pub(crate) fn meaning(
 ) -> Result<Name, ParseError>
     requires few { length scope.now < 2 ^ 32 }
     requires within { InText text.now scope.now }
-    ensures { result ≡ meaning (bounds text.now scope.now) kind spelling.now place }
+    ensures meaning { result ≡ meaning (bounds text.now scope.now) kind spelling.now place }
+    ensures meant { (n : names.Name) → (result ≡ Ok n) ↔ (IsInnermost (bounds text.now scope.now) spelling.now n × (n.kind ≡ kind)) }
+    ensures unknown { (result ≡ Err (ParseError.UnknownName place)) ↔ Unspelled (bounds text.now scope.now) spelling.now }
+    ensures other_kind { (result ≡ Err (ParseError.NameKind place)) ↔ ((n : names.Name) × IsInnermost (bounds text.now scope.now) spelling.now n × (n.kind ≢ kind)) }
 {
     let Some(name) = find_from(text, scope, spelling, 0) else {
         return Err(ParseError::UnknownName(place));
