@@ -15,10 +15,11 @@ use Rattle.cell_registry.specs.Cells.{AreLimits, fresh, owned, Cells, cell_of, a
 use Rattle.cell_registry.specs.Histories.{left, IsLegal, calls_by}
 use Rattle.cell_registry.specs.Words.{Leaves}
 use Rattle.cell_registry.specs.Rule.{Has, seen_cell, Fits, WordsAreAHistory}
-use Rattle.cell_registry.specs.Steps.{entry, Called, Looked, IsSame, band_word, next_of, limit_of, claim_of, MayClaim, fibers_with, IsNew, Claimed, SawNext, Tried, AtBand, FoundNone}
+use Rattle.cell_registry.specs.Bands.{next_of, limit_of, claim_of}
+use Rattle.cell_registry.specs.Steps.{entry, Called, Looked, IsSame, band_word, MayClaim, fibers_with, IsNew, Claimed, SawNext, Tried, AtBand, FoundNone}
 use Rattle.cell_registry.proofs.Calls.{full-none}
-use Rattle.cell_registry.proofs.Legal.{left-push, sound, next_fiber-prefix, next_ref-prefix, next_deferred-prefix, unborn, unborn_cell, calls_by-other}
-use Rattle.cell_registry.proofs.Giving.{reply-claim, given}
+use Rattle.cell_registry.proofs.Legal.{left-push, next_fiber-prefix, next_ref-prefix, next_deferred-prefix, unborn, unborn_cell, calls_by-other}
+use Rattle.cell_registry.proofs.Giving.{reply-claim, given, next_of-most}
 use Rattle.cell_registry.proofs.TableWords.{next_at, put_next, same_words}
 use Rattle.cell_registry.proofs.Turns.{Turn, Look, Goes, Tells, turn_at, looks, look_at}
 use Rattle.cell_registry.proofs.CellTurns.{own_same, own_stage}
@@ -36,11 +37,6 @@ unfolding IsAllowed refusal
 accepts-claim Fibers k s by may room = record { allowed = may; room = full-none _ _ _ room }
 accepts-claim Refs k s by may room = record { allowed = tt; room = full-none _ _ _ room }
 accepts-claim Deferreds k s by may room = record { allowed = tt; room = full-none _ _ _ room }
-
-next_of-most : (b : Band) (k : Limits) (h : List Entry) → AreLimits k → IsLegal k h → next_of b (left k h) ≤ limit_of b k
-next_of-most Fibers k h l legal = (sound k h l legal).next_fiber
-next_of-most Refs k h l legal = (sound k h l legal).next_ref
-next_of-most Deferreds k h l legal = (sound k h l legal).next_deferred
 
 next_of-prefix : (b : Band) (k : Limits) (g h : List Entry) → IsPrefix g h → next_of b (left k g) ≤ next_of b (left k h)
 next_of-prefix Fibers = next_fiber-prefix

@@ -1,17 +1,14 @@
 -- Histories, one entry longer, and what a legal one leaves.
-use Rattle.std.proofs.Common.{◌≡◌, ◌≢◌, ◌⊎◌, inl, inr, ℕ, ◌+◌, ◌<◌, ◌≤◌, Bool, List, [], ◌∷◌, ◌++◌, refl, sym, ap, ◌∙◌, subst, arith, eqb, eq-eqb, ne_eqb, le_trans, append-nil}
+use Rattle.std.proofs.Common.{◌≡◌, ◌≢◌, ℕ, ◌≤◌, Bool, List, [], ◌∷◌, ◌++◌, refl, sym, ap, ◌∙◌, subst, arith, eqb, eq-eqb, ne_eqb, le_trans, append-nil, append_assoc}
 use Rattle.std.specs.Prelude.{cond}
 use Rattle.std.proofs.lemmas.List.Elements.{filter-append}
 use mathlib.Core.List.{IsPrefix}
 use Rattle.cell_registry.specs.declared.limits.Limits.{Limits}
 use Rattle.cell_registry.specs.declared.call.Entry.{Entry}
-use Rattle.cell_registry.specs.declared.call.Call.{Call}
-use Rattle.cell_registry.specs.declared.call.Call.TheVariants.{Start}
-use Rattle.effect_term.specs.declared.reply.Reply.TheVariants.{Number}
-use Rattle.cell_registry.specs.Cells.{AreLimits, fresh, owned, Cells, opening, cell_of, after, reply_of, IsSound}
-use Rattle.cell_registry.specs.Histories.{MayFollow, left_from, IsLegalFrom, left, IsLegal, calls_by, WasStarted, WasBorn}
+use Rattle.cell_registry.specs.Cells.{AreLimits, fresh, owned, Cells, opening, cell_of, after, IsSound}
+use Rattle.cell_registry.specs.Histories.{MayFollow, left_from, IsLegalFrom, left, IsLegal, calls_by}
 use Rattle.cell_registry.proofs.Lists.{get_or-replicate_default}
-use Rattle.cell_registry.proofs.Calls.{next_fiber-after, next_fiber-new, next_ref-after, next_deferred-after, owned-after, opening-sound, after-sound}
+use Rattle.cell_registry.proofs.Calls.{next_fiber-after, next_ref-after, next_deferred-after, owned-after, opening-sound, after-sound}
 
 -- ---- one entry more
 pub left_from-append : (s : Cells) (g h : List Entry) → left_from s (g ++ h) ≡ left_from (left_from s g) h
@@ -44,16 +41,20 @@ pub IsLegal-prefix : (k : Limits) (g h : List Entry) → IsPrefix g h → IsLega
 unfolding IsLegal
 IsLegal-prefix k g h p l = (IsLegalFrom-append k (opening k) g p.0 (subst (λ (x : List Entry). IsLegalFrom k (opening k) x) (sym p.1) l)).0
 
+-- each entry of a legal history follows what stands before it
+pub IsLegal-at : (k : Limits) (h before rest : List Entry) (e : Entry) → h ≡ before ++ e ∷ rest → IsLegal k h → IsLegal k before × MayFollow k (left k before) e
+IsLegal-at k h before rest e is legal = IsLegal-last k before e (IsLegal-prefix k (before ++ e ∷ []) h (rest, append_assoc before (e ∷ []) rest ∙ sym is) legal)
+
 -- ---- the next numbers only rise
-next_fiber-left_from : (s : Cells) (h : List Entry) → s.next_fiber ≤ (left_from s h).next_fiber
+pub next_fiber-left_from : (s : Cells) (h : List Entry) → s.next_fiber ≤ (left_from s h).next_fiber
 next_fiber-left_from s [] = omega arith
 next_fiber-left_from s (e ∷ h) = le_trans (next_fiber-after s e.by e.call) (next_fiber-left_from (after s e.by e.call) h)
 
-next_ref-left_from : (s : Cells) (h : List Entry) → s.next_ref ≤ (left_from s h).next_ref
+pub next_ref-left_from : (s : Cells) (h : List Entry) → s.next_ref ≤ (left_from s h).next_ref
 next_ref-left_from s [] = omega arith
 next_ref-left_from s (e ∷ h) = le_trans (next_ref-after s e.by e.call) (next_ref-left_from (after s e.by e.call) h)
 
-next_deferred-left_from : (s : Cells) (h : List Entry) → s.next_deferred ≤ (left_from s h).next_deferred
+pub next_deferred-left_from : (s : Cells) (h : List Entry) → s.next_deferred ≤ (left_from s h).next_deferred
 next_deferred-left_from s [] = omega arith
 next_deferred-left_from s (e ∷ h) = le_trans (next_deferred-after s e.by e.call) (next_deferred-left_from (after s e.by e.call) h)
 
@@ -116,36 +117,3 @@ sound_from k s (e ∷ h) i m = sound_from k (after s e.by e.call) h (after-sound
 pub sound : (k : Limits) (h : List Entry) → AreLimits k → IsLegal k h → IsSound k (left k h)
 unfolding left IsLegal
 sound k h l m = sound_from k (opening k) h (opening-sound k l) m
-
--- ---- the callers of a legal history are the first fiber and those that a start in it gave
-WasStarted-next_from : (k : Limits) (s : Cells) (h : List Entry) (f : ℕ) → IsLegalFrom k s h → WasStarted h f → f < (left_from s h).next_fiber
-unfolding after reply_of
-WasStarted-next_from k s [] f l w = absurd w
-WasStarted-next_from k s (e ∷ es) f l (inl w) =
-    let answered : Number f ≡ reply_of s e.by Start = sym w.1 ∙ l.0.replied ∙ ap (reply_of s e.by) w.0 in
-    let given : f ≡ s.next_fiber = cc in
-    let next : (after s e.by e.call).next_fiber ≡ s.next_fiber + 1 = ap (λ (c : Call). (after s e.by c).next_fiber) w.0 in
-    let more = next_fiber-left_from (after s e.by e.call) es in
-    omega arith
-WasStarted-next_from k s (e ∷ es) f l (inr w) = WasStarted-next_from k (after s e.by e.call) es f l.1 w
-
-pub WasBorn-next : (k : Limits) (h : List Entry) (f : ℕ) → IsLegal k h → WasBorn h f → f < (left k h).next_fiber
-unfolding left IsLegal
-WasBorn-next k h f l (inl w) = let more = next_fiber-left_from (opening k) h in omega arith
-WasBorn-next k h f l (inr w) = WasStarted-next_from k (opening k) h f l w
-
-next-WasStarted_from : (k : Limits) (s : Cells) (h : List Entry) (f : ℕ) → IsLegalFrom k s h → f < (left_from s h).next_fiber → (f < s.next_fiber) ⊎ WasStarted h f
-unfolding reply_of
-next-WasStarted_from k s [] f l below = inl below
-next-WasStarted_from k s (e ∷ es) f l below =
-    elim (next-WasStarted_from k (after s e.by e.call) es f l.1 below) [
-      | inl before ↦ elim (next_fiber-new s e.by e.call f before) [
-        | inl q ↦ inl q
-        | inr q ↦ inr (inl (q.0, l.0.replied ∙ ap (reply_of s e.by) q.0 ∙ ap Number (sym q.1)))
-      ]
-      | inr later ↦ inr (inr later)
-    ]
-
-pub next-WasBorn : (k : Limits) (h : List Entry) (f : ℕ) → IsLegal k h → f < (left k h).next_fiber → WasBorn h f
-unfolding left IsLegal
-next-WasBorn k h f l below = elim (next-WasStarted_from k (opening k) h f l below) [ inl q ↦ inl (omega arith) | inr q ↦ inr q ]

@@ -4,9 +4,10 @@ pub mod Legal
 pub mod TableWords
 pub mod Replies
 pub mod Turns
-pub mod Requests
-pub mod CellTurns
 pub mod Giving
+pub mod Requests
+pub mod Told
+pub mod CellTurns
 pub mod Claiming
 pub mod Seats
 pub mod Tokens

@@ -56,12 +56,20 @@ errored_reply (Ended (Errored x)) v e k i = ap (λ (z : ℤ). joined.Ended (Erro
 errored_reply (Ended (Succeeded x)) v e k i = absurd (omega arith)
 errored_reply (Ended Canceled) v e k i = absurd (omega arith)
 
-pub canceled_reply : (g : Stage) → phase_at g ≡ 2 → (kind_at g ≡ 1 → ⊥) → (kind_at g ≡ 2 → ⊥) → joined.Ended Canceled ≡ join_reply g
-canceled_reply Running e k i = absurd (omega arith)
-canceled_reply Finalizing e k i = absurd (omega arith)
-canceled_reply (Ended (Errored x)) e k i = absurd (i refl)
-canceled_reply (Ended (Succeeded x)) e k i = absurd (k refl)
-canceled_reply (Ended Canceled) e k i = refl
+pub canceled_reply : (g : Stage) → phase_at g ≡ 2 → kind_at g ≡ 3 → joined.Ended Canceled ≡ join_reply g
+canceled_reply Running e k = absurd (omega arith)
+canceled_reply Finalizing e k = absurd (omega arith)
+canceled_reply (Ended (Errored x)) e k = absurd (omega arith)
+canceled_reply (Ended (Succeeded x)) e k = absurd (omega arith)
+canceled_reply (Ended Canceled) e k = refl
+
+-- a fiber that has ended has an outcome
+pub no_other_reply : (g : Stage) → phase_at g ≡ 2 → (kind_at g ≡ 1 → ⊥) → (kind_at g ≡ 2 → ⊥) → (kind_at g ≡ 3 → ⊥) → ⊥
+no_other_reply Running e k i c = omega arith
+no_other_reply Finalizing e k i c = omega arith
+no_other_reply (Ended (Succeeded x)) e k i c = k refl
+no_other_reply (Ended (Errored x)) e k i c = i refl
+no_other_reply (Ended Canceled) e k i c = c refl
 
 pub control-kind : (r : Control) (c : Cell) → r ≡ control c → kind_at c.stage ≡ r.kind
 unfolding control

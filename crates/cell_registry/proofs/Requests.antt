@@ -1,5 +1,5 @@
 -- A request for cancellation stays, and comes from a call.
-use Rattle.std.proofs.Common.{◌≡◌, ℕ, zero, suc, Bool, true, true≢false, List, [], ◌∷◌, ◌++◌, ◌⊎◌, inl, inr, ⊎_elim, set, get_or, get_or-set_other, refl, sym, ap, ◌∙◌, subst, append_assoc}
+use Rattle.std.proofs.Common.{◌≡◌, ℕ, zero, suc, Bool, true, true≢false, List, [], ◌∷◌, ◌⊎◌, inl, inr, ⊎_elim, set, get_or, get_or-set_other, refl, sym, ap, ◌∙◌, subst}
 use mathlib.Core.Logic.{dite}
 use native.Mathlib.Decide.{ℕ_discrete}
 use mathlib.Core.List.{IsPrefix}
@@ -12,7 +12,7 @@ use Rattle.cell_registry.specs.Cells.{fresh, Cells, opening, cell_of, after, req
 use Rattle.cell_registry.specs.Histories.{left_from, left, IsLegal}
 use Rattle.cell_registry.specs.Cancellation.{WasCancelled, CutsAfterCancel}
 use Rattle.cell_registry.proofs.Lists.{get_or-set_kept, get_or-replicate_default}
-use Rattle.cell_registry.proofs.Legal.{left_from-append, IsLegal-prefix, IsLegal-last}
+use Rattle.cell_registry.proofs.Legal.{left_from-append, IsLegal-at}
 
 -- what is true of an element stays true where an element is set of which it is true if it was
 get_or-set_rises : {A : Type 0} (g : A → Bool) (l : List A) (i : ℕ) (c d : A) → (g (get_or l i d) ≡ true → g c ≡ true) → (j : ℕ) → g (get_or l j d) ≡ true → g (get_or (set l i c) j d) ≡ true
@@ -94,7 +94,6 @@ request-cancelled k h f e = ⊎_elim
 pub legal-cuts : (k : Limits) (h : List Entry) → IsLegal k h → CutsAfterCancel h
 unfolding IsAllowed
 legal-cuts k h legal before rest e is cut =
-    let part : IsLegal k (before ++ e ∷ []) = IsLegal-prefix k (before ++ e ∷ []) h (rest, append_assoc before (e ∷ []) rest ∙ sym is) legal in
-    let follows = (IsLegal-last k before e part).1 in
+    let follows = (IsLegal-at k h before rest e is legal).1 in
     let allowed : IsAllowed k (left k before) e.by Cut = subst (IsAllowed k (left k before) e.by) cut follows.accepted.allowed in
     request-cancelled k before e.by allowed.2

@@ -1,10 +1,10 @@
 -- What passes between seats: a new fiber gets a seat of its own, and one pass takes in another.
-use Rattle.std.proofs.Common.{◌≡◌, ◌≢◌, ℕ, zero, suc, ◌+◌, ◌<◌, List, [], ◌∷◌, ◌++◌, length, set, ◌⊎◌, inl, inr, ⊎_elim, refl, sym, ap, ◌∙◌, subst, arith}
+use Rattle.std.proofs.Common.{◌≡◌, ◌≢◌, ℕ, zero, suc, ◌+◌, ◌<◌, List, [], ◌∷◌, ◌++◌, length, set, get_or, ◌⊎◌, inl, inr, ⊎_elim, refl, sym, ap, ◌∙◌, subst, arith}
 use mathlib.Core.Option.{some, some-injective, some-ne-none}
 use mathlib.Core.Logic.{dite}
 use native.Mathlib.Decide.{ℕ_discrete}
 use lib.ListN.{get_elem?}
-use Rattle.atomic_table.specs.Table.{Me, Allows, Splits, Joins}
+use Rattle.atomic_table.specs.Table.{Me, Allows, Splits, Joins, Final, Seen}
 use Rattle.atomic_table.proofs.Lists.{set_else}
 use Rattle.cell_registry.specs.declared.limits.Limits.{Limits}
 use Rattle.cell_registry.specs.declared.knowledge.Knowledge.{Knowledge}
@@ -12,7 +12,9 @@ use Rattle.cell_registry.specs.Cells.{AreLimits}
 use Rattle.cell_registry.specs.Histories.{left, IsLegal}
 use Rattle.cell_registry.specs.Rule.{Has, Fits, Owns, Apart, WordsAreAHistory, first_knowledge}
 use Rattle.cell_registry.specs.Steps.{parent, child, hosting, nothing, Met}
-use Rattle.cell_registry.proofs.TableWords.{same_words, opening_words}
+use Rattle.cell_registry.specs.Passes.{IsLeftWord}
+use Rattle.cell_registry.proofs.Legal.{sound}
+use Rattle.cell_registry.proofs.TableWords.{same_words, word_at, opening_words}
 use Rattle.cell_registry.proofs.Turns.{Tells, looks, each_view, apart_still}
 use Rattle.cell_registry.proofs.Claiming.{same_now}
 use Rattle.std.specs.Prelude.{replicate}
@@ -95,11 +97,11 @@ one_place views id other i j f apart ne ij a b = ab
     ab : ⊥
     ab = dite (ℕ_discrete b.place a.place) (λ same. go (sym same) a.how b.how) (λ ne'. apart a.place b.place a.view b.view a.at b.at ne' f a.owns b.owns)
 
-has_append : (xs bs : List ℕ) (f : ℕ) → Has (xs ++ bs) f → Has xs f ⊎ Has bs f
+pub has_append : (xs bs : List ℕ) (f : ℕ) → Has (xs ++ bs) f → Has xs f ⊎ Has bs f
 has_append [] bs f a = inr a
 has_append (x ∷ xs) bs f a = ⊎_elim (λ e. inl (inl e)) (λ b. ⊎_elim (λ c. inl (inr c)) (λ c. inr c) (has_append xs bs f b)) a
 
-in_append : (xs bs : List ℕ) (f : ℕ) → Has xs f → Has (xs ++ bs) f
+pub in_append : (xs bs : List ℕ) (f : ℕ) → Has xs f → Has (xs ++ bs) f
 in_append [] bs f a = absurd a
 in_append (x ∷ xs) bs f a = ⊎_elim (λ e. inl e) (λ b. inr (in_append xs bs f b)) a
 
@@ -171,3 +173,23 @@ begins S k words limits is = (
     two zero zero v w a b ne = absurd (ne refl)
     two zero (suc j) v w a b ne = absurd (some-ne-none w (sym b))
     two (suc i) j v w a b ne = absurd (some-ne-none v (sym a))
+
+-- ---- the table at the end
+get_elem?-get_or : (l : List ℕ) (i a : ℕ) → get_elem? l i ≡ some a → get_or l i 0 ≡ a
+get_elem?-get_or [] i a e = absurd (some-ne-none a (sym e))
+get_elem?-get_or (x ∷ xs) zero a e = some-injective x a e
+get_elem?-get_or (x ∷ xs) (suc i) a e = get_elem?-get_or xs i a e
+
+-- the word of a fiber is what one legal history leaves, which begins with what the last seat had seen
+pub last_word : (S : Type 0) (k : Limits) (words : List ℕ) (slots : List S) (id f i n : ℕ) (v : Knowledge) → Final (Seen (WordsAreAHistory {S = S} k) id v) words slots → i ≡ f + 3 → f < k.fibers → get_elem? words i ≡ some n → IsLeftWord k v.seen f n
+last_word S k words slots id f i n v final is within e =
+    let s = final.0 in
+    let h = final.1.0.0 in
+    let r = final.1.0.1 in
+    let long = (sound k h r.limits r.legal).fibers in
+    record {
+      history = h;
+      begins = (r.fits id v final.1.1).seen;
+      legal = r.legal;
+      word = sym (get_elem?-get_or words i n e) ∙ ap (λ (ws : List ℕ). get_or ws i 0) (sym final.2) ∙ word_at s.words (left k h) f i r.words_are is (rw long within);
+    }

@@ -14,9 +14,10 @@ use Rattle.cell_registry.specs.declared.limits.Band.TheVariants.{Fibers, Refs, D
 use Rattle.cell_registry.specs.declared.cell.Stage.{Stage}
 use Rattle.cell_registry.specs.declared.cell.Stage.TheVariants.{Running, Finalizing, Ended}
 use Rattle.cell_registry.specs.declared.cell.Cell.{Cell}
-use Rattle.cell_registry.specs.Cells.{AreLimits, fresh, Cells, cell_of, with_cell, IsOpen, after, OutcomeFits, StageFits, IsCell, opening}
+use Rattle.cell_registry.specs.Cells.{AreLimits, fresh, Cells, cell_of, with_cell, IsOpen, after, OutcomeFits, StageInRange, IsCell, opening}
 use Rattle.cell_registry.specs.Words.{phase_at, kind_at, value_at, control, cell_word, deferred_word, Leaves}
-use Rattle.cell_registry.specs.Steps.{band_word, next_of, claim_of}
+use Rattle.cell_registry.specs.Bands.{next_of, claim_of}
+use Rattle.cell_registry.specs.Steps.{band_word}
 
 -- ---- cells
 pub value-fits : (o : Outcome) → OutcomeFits o → FitsSigned w32 (value_of o)
@@ -41,7 +42,7 @@ in_range k c l i = let small = l.count in let below = i.count in let d = i.depth
     kind_lt (Ended (Errored v)) = omega arith
     kind_lt (Ended Canceled) = omega arith
 
-    fits : (g : Stage) → StageFits g → FitsSigned w32 (value_at g)
+    fits : (g : Stage) → StageInRange g → FitsSigned w32 (value_at g)
     fits Running v = record { sfits = omega arith }
     fits Finalizing v = record { sfits = omega arith }
     fits (Ended o) v = value-fits o v

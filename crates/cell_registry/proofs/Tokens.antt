@@ -4,6 +4,7 @@ use Rattle.std.specs.Prelude.{Option, Some, None, MatchOption}
 use mathlib.Core.List.{IsPrefix}
 use Rattle.atomic_table.specs.Seated.{TableId}
 use Rattle.effect_term.specs.declared.reply.Reply.{Reply}
+use Rattle.effect_term.specs.declared.reply.Reply.TheVariants.{Number}
 use Rattle.cell_registry.specs.declared.limits.Limits.{Limits}
 use Rattle.cell_registry.specs.declared.limits.Band.{Band}
 use Rattle.cell_registry.specs.declared.limits.Band.TheVariants.{Fibers}
@@ -15,11 +16,15 @@ use Rattle.cell_registry.specs.declared.knowledge.Knowledge.{Knowledge}
 use Rattle.cell_registry.specs.Cells.{AreLimits, fresh, owned, cell_of}
 use Rattle.cell_registry.specs.Histories.{left, IsLegal}
 use Rattle.cell_registry.specs.Rule.{Has, seen_cell, first_knowledge}
-use Rattle.cell_registry.specs.Steps.{entry, IsCall, Called, IsSame, IsChanged, fibers_with, FoundNone, eldest, younger, Claimed, parent, child, hosting, Met}
+use Rattle.cell_registry.specs.Bands.{claim_of, WasGiven, WasBorn}
+use Rattle.cell_registry.specs.Steps.{entry, IsCall, Called, IsSame, IsChanged, fibers_with, FoundNone, newest, without_newest, Claimed, parent, child, hosting, Met}
 use Rattle.cell_registry.specs.Passes.{RegistryView, IsRegistry, PassView, pass_of, IsSeated, IsOf}
 use Rattle.cell_registry.proofs.Lists.{get_or-replicate_default}
 use Rattle.cell_registry.proofs.Legal.{sound}
+use Rattle.cell_registry.proofs.Giving.{WasGiven-push, WasBorn-prefix}
 use Rattle.cell_registry.proofs.Requests.{request-prefix}
+use Rattle.cell_registry.proofs.Told.{legal-told}
+use Rattle.cell_registry.proofs.Seats.{has_append, in_append}
 
 -- ---- what the seat of a pass knows
 pub of_registry : (r s : RegistryView) (p q : PassView) → r ≡ s → p ≡ q → IsOf s q → p.registry ≡ r
@@ -44,8 +49,8 @@ pub pass_of-step : (t u : TableId) (v w : Knowledge) (n : ℕ) (g : Stage) (d c 
 pass_of-step t u v w n g d c b table limits fibers = λ j. record { registry = record { table = table j; limits = limits j }; number = n; stage = g; depth = d; count = c; saw = b; fibers = fibers j; seen = w.seen }
 
 -- a pass of the same fiber, with its own part of the cell as it was, and another last look
-pub seated_looked : (v w : Knowledge) (t u : TableId) (n : ℕ) (g : Stage) (d c : ℕ) (b b' : Bool) → IsSame v w → IsLegal v.limits w.seen → (b' ≡ true → (seen_cell w v.number).request ≡ true) → IsSeated v (pass_of t v n g d c b) → IsSeated w (pass_of u w n g d c b')
-seated_looked v w t u n g d c b b' s legal request i = record {
+pub seated_looked : (v w : Knowledge) (t u : TableId) (n : ℕ) (g : Stage) (d c : ℕ) (b b' : Bool) → IsSame v w → IsPrefix v.seen w.seen → IsLegal v.limits w.seen → (b' ≡ true → (seen_cell w v.number).request ≡ true) → IsSeated v (pass_of t v n g d c b) → IsSeated w (pass_of u w n g d c b')
+seated_looked v w t u n g d c b b' s more legal request i = record {
   number_is = i.number_is ∙ sym s.number;
   pass = record {
     limits = rw s.limits i.pass.limits;
@@ -54,6 +59,8 @@ seated_looked v w t u n g d c b b' s legal request i = record {
     within = rw s.limits i.pass.within;
     cell = ap (λ (f : ℕ). owned (seen_cell w f)) i.number_is ∙ s.cell ∙ seat_cell v t n g d c b i;
     request = λ e. ap (λ (f : ℕ). (seen_cell w f).request) i.number_is ∙ request e;
+    born = λ f owns. WasBorn-prefix v.seen w.seen f more (i.pass.born f (subst (λ (fs : List ℕ). Has fs f) s.fibers owns));
+    told = rw s.limits (legal-told v.limits w.seen i.pass.limits legal);
   };
 }
 
@@ -62,7 +69,7 @@ pub seated_still : (v w : Knowledge) (t u : TableId) (n : ℕ) (g : Stage) (d c 
 seated_still v w t u n g d c b s more legal i =
     let before : b ≡ true → (seen_cell v v.number).request ≡ true = λ e. ap (λ (f : ℕ). (seen_cell v f).request) (sym i.number_is) ∙ i.pass.request e in
     let now : b ≡ true → (cell_of (left v.limits w.seen) v.number).request ≡ true = λ e. request-prefix v.limits v.seen w.seen v.number more (before e) in
-    seated_looked v w t u n g d c b b s legal (λ e. (λ j. (cell_of (left (s.limits j) w.seen) v.number).request) ∙ now e) i
+    seated_looked v w t u n g d c b b s more legal (λ e. (λ j. (cell_of (left (s.limits j) w.seen) v.number).request) ∙ now e) i
 
 -- a pass whose own part of the cell has changed
 pub seated_changed : (v w : Knowledge) (t u : TableId) (n : ℕ) (g g' : Stage) (d d' c c' : ℕ) (b : Bool) (own : Stage × ℕ × ℕ) → own ≡ (g', d', c') → IsChanged v w own → IsPrefix v.seen w.seen → IsLegal v.limits w.seen → IsSeated v (pass_of t v n g d c b) → IsSeated w (pass_of u w n g' d' c' b)
@@ -78,6 +85,8 @@ seated_changed v w t u n g g' d d' c c' b own is s more legal i = record {
         let before : (seen_cell v n).request ≡ true = i.pass.request e in
         let now : (cell_of (left v.limits w.seen) n).request ≡ true = request-prefix v.limits v.seen w.seen n more before in
         (λ j. (cell_of (left (s.limits j) w.seen) n).request) ∙ now;
+    born = λ f owns. WasBorn-prefix v.seen w.seen f more (i.pass.born f (subst (λ (fs : List ℕ). Has fs f) s.fibers owns));
+    told = rw s.limits (legal-told v.limits w.seen i.pass.limits legal);
   };
 }
 
@@ -122,18 +131,26 @@ deferred_word r key i n reg within is = let words = reg.words in omega arith
 -- ---- a new fiber
 -- the parent, once the number is handed out
 pub parent-same : (v w : Knowledge) (n : ℕ) → Claimed Fibers v n w → IsSame v (parent w)
-parent-same v w n c = record { limits = c.limits; number = c.number; fibers = ap younger c.fibers; cell = c.cell }
+parent-same v w n c = record { limits = c.limits; number = c.number; fibers = ap without_newest c.fibers; cell = c.cell }
+
+-- a number that a call was answered was given
+call-given : (b : Band) (k : Limits) (fs : List ℕ) (before : List Entry) (by n : ℕ) (now : List Entry) → IsCall k fs before by (claim_of b) (Number n) now → WasGiven b now n
+call-given b k fs before by n now m = subst (λ (h : List Entry). WasGiven b h n) (sym m.seen) (WasGiven-push b (before ++ m.between) (entry by (claim_of b) (Number n)) n refl refl)
 
 pub child_seated : (v w : Knowledge) (u : TableId) (n : ℕ) → AreLimits v.limits → Claimed Fibers v n w → IsSeated (child w) (pass_of u (child w) n Running 0 0 false)
 child_seated v w u n limits c = record {
-  number_is = ap eldest (sym c.fibers);
+  number_is = ap newest (sym c.fibers);
   pass = record {
     limits = rw c.limits limits;
     legal = rw c.limits c.call.legal;
-    own = inl (ap eldest c.fibers);
+    own = inl (ap newest c.fibers);
     within = rw c.limits c.within;
     cell = c.new.cell;
     request = λ e. cc;
+    born = λ f owns.
+        let is : n ≡ f = ⊎_elim (λ (e : newest w.fibers ≡ f). sym (ap newest c.fibers) ∙ e) (λ none. absurd none) owns in
+        inr (subst (WasGiven Fibers w.seen) is (call-given Fibers v.limits v.fibers v.seen v.number n w.seen c.call));
+    told = rw c.limits (legal-told v.limits w.seen limits c.call.legal);
   };
 }
 
@@ -145,23 +162,24 @@ seated_given b adds (Some m) v w t u n g d c s e i =
     seated_still v w t u n g d c s record { limits = e.limits; number = e.number; fibers = e.fibers ∙ adds m v.fibers; cell = e.cell } (call-prefix _ _ _ _ _ _ _ e.call) e.call.legal i
 
 -- ---- a pass that met another
-has-append : (xs ys : List ℕ) (f : ℕ) → Has xs f → Has (xs ++ ys) f
-has-append [] ys f a = absurd a
-has-append (x ∷ xs) ys f a = ⊎_elim (λ e. inl e) (λ b. inr (has-append xs ys f b)) a
-
-pub met_seated : (u a v w : Knowledge) (t t' : TableId) (n : ℕ) (g : Stage) (d c : ℕ) (b : Bool) → v ≡ hosting u a → Met v w → IsSeated u (pass_of t u n g d c b) → IsSeated w (pass_of t' w n g d c b)
-met_seated u a v w t t' n g d c b is = subst (λ (x : Knowledge). Met x w → IsSeated u (pass_of t u n g d c b) → IsSeated w (pass_of t' w n g d c b)) (sym is) (λ m i. record {
+pub met_seated : (u a v w : Knowledge) (t t' : TableId) (n : ℕ) (g : Stage) (d c : ℕ) (b : Bool) → v ≡ hosting u a → Met v w → ((f : ℕ) → Has a.fibers f → WasBorn a.seen f) → IsSeated u (pass_of t u n g d c b) → IsSeated w (pass_of t' w n g d c b)
+met_seated u a v w t t' n g d c b is = subst (λ (x : Knowledge). Met x w → ((f : ℕ) → Has a.fibers f → WasBorn a.seen f) → IsSeated u (pass_of t u n g d c b) → IsSeated w (pass_of t' w n g d c b)) (sym is) (λ m guests i. record {
   number_is = i.number_is ∙ sym m.number;
   pass = record {
     limits = rw m.limits i.pass.limits;
     legal = rw m.limits m.legal;
-    own = rw m.fibers (has-append u.fibers a.fibers n i.pass.own);
+    own = rw m.fibers (in_append u.fibers a.fibers n i.pass.own);
     within = rw m.limits i.pass.within;
     cell = ap (λ (f : ℕ). owned (seen_cell w f)) i.number_is ∙ m.cell ∙ seat_cell u t n g d c b i;
     request = λ e.
         let before : (seen_cell u n).request ≡ true = i.pass.request e in
         let now : (cell_of (left u.limits w.seen) n).request ≡ true = request-prefix u.limits u.seen w.seen n m.seen before in
         (λ j. (cell_of (left (m.limits j) w.seen) n).request) ∙ now;
+    born = λ f owns. ⊎_elim
+        (λ (mine : Has u.fibers f). WasBorn-prefix u.seen w.seen f m.seen (i.pass.born f mine))
+        (λ (theirs : Has a.fibers f). WasBorn-prefix a.seen w.seen f m.heard (guests f theirs))
+        (has_append u.fibers a.fibers f (subst (λ (fs : List ℕ). Has fs f) m.fibers owns));
+    told = rw m.limits (legal-told u.limits w.seen i.pass.limits m.legal);
   };
 })
 
@@ -177,5 +195,7 @@ first_seated k t l = record {
     within = l.some_fiber;
     cell = ap owned (get_or-replicate_default fresh k.fibers 0);
     request = λ e. cc;
+    born = λ f owns. ⊎_elim (λ (e : 0 ≡ f). inl (sym e)) (λ none. absurd none) owns;
+    told = legal-told k [] l tt;
   };
 }

@@ -233,10 +233,11 @@ OutcomeFits (Succeeded v) = FitsSigned w32 v
 OutcomeFits (Errored c) = FitsSigned w32 c
 OutcomeFits Canceled = Unit {0}
 
-abbrev pub StageFits : Stage → Type 0
-StageFits Running = Unit {0}
-StageFits Finalizing = Unit {0}
-StageFits (Ended o) = OutcomeFits o
+-- the outcome of a fiber that has ended is in range
+abbrev pub StageInRange : Stage → Type 0
+StageInRange Running = Unit {0}
+StageInRange Finalizing = Unit {0}
+StageInRange (Ended o) = OutcomeFits o
 
 abbrev pub ValueFits : Option ℤ → Type 0
 ValueFits None = Unit {0}
@@ -246,7 +247,7 @@ ValueFits (Some v) = FitsSigned w32 v
 pub record IsCell (k : Limits) (c : Cell) : Type 0 where
   pub count : c.count ≤ k.count
   pub depth : c.depth < 256
-  pub stage : StageFits c.stage
+  pub stage : StageInRange c.stage
 
 -- a registry within its limits
 pub record IsSound (k : Limits) (s : Cells) : Type 0 where

@@ -1,10 +1,8 @@
 -- Histories: lists of calls with their callers and replies, in order.
-use Rattle.std.specs.Prelude.{◌≡◌, ◌⊎◌, ℕ, ◌<◌, ◌==◌, List, [], ◌∷◌}
+use Rattle.std.specs.Prelude.{◌≡◌, ℕ, ◌<◌, ◌==◌, List, [], ◌∷◌}
 use Rattle.std.specs.List.{filter}
 use Rattle.cell_registry.specs.declared.limits.Limits.{Limits}
 use Rattle.cell_registry.specs.declared.call.Entry.{Entry}
-use Rattle.cell_registry.specs.declared.call.Call.TheVariants.{Start}
-use Rattle.effect_term.specs.declared.reply.Reply.TheVariants.{Number}
 use Rattle.cell_registry.specs.Cells.{Cells, opening, after, reply_of, IsAccepted}
 
 -- the caller was born, its call is accepted, and the reply is the registry's
@@ -32,12 +30,3 @@ IsLegal k h = IsLegalFrom k (opening k) h
 -- the calls of one fiber, in order
 abbrev pub calls_by : ℕ → List Entry → List Entry
 calls_by f h = filter (λ e. e.by == f) h
-
--- some start in the history was answered this number
-abbrev pub WasStarted : List Entry → ℕ → Type 0
-WasStarted [] f = ⊥
-WasStarted (e ∷ es) f = ((e.call ≡ Start) × (e.reply ≡ Number f)) ⊎ WasStarted es f
-
--- the number is the first fiber's, or the reply of a start in the history: in a legal history these are the numbers below the next one
-abbrev pub WasBorn : List Entry → ℕ → Type 0
-WasBorn h f = (f ≡ 0) ⊎ WasStarted h f

@@ -1,6 +1,8 @@
 pub mod Cells
 pub mod Histories
+pub mod Bands
 pub mod Cancellation
+pub mod Told
 pub mod Words
 pub mod Rule
 pub mod Steps

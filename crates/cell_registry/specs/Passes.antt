@@ -18,7 +18,10 @@ use Rattle.cell_registry.specs.declared.knowledge.Knowledge.{Knowledge}
 use Rattle.cell_registry.specs.Cells.{AreLimits, cell_of, owned}
 use Rattle.cell_registry.specs.Histories.{left, IsLegal, calls_by}
 use Rattle.cell_registry.specs.Rule.{Has}
-use Rattle.cell_registry.specs.Steps.{IsCall, IsLook, claim_of, limit_of, AreAllGiven}
+use Rattle.cell_registry.specs.Bands.{limit_of, claim_of, AreAllGiven, WasBorn}
+use Rattle.cell_registry.specs.Told.{IsTold}
+use Rattle.cell_registry.specs.Words.{cell_word}
+use Rattle.cell_registry.specs.Steps.{IsCall, IsLook}
 
 -- ---- a registry
 -- which table it is, and its limits
@@ -26,11 +29,12 @@ pub record RegistryView : Type 0 where
   pub table : TableId
   pub limits : Limits
 
--- the table is for these limits, and has a word for each band, fiber, ref and deferred
+-- the table is for these limits, and has a word for each band, fiber, ref and deferred, and no slot
 pub record IsRegistry (key : Limits) (r : RegistryView) : Type 0 where
   pub key_is : key ≡ r.limits
   pub limits : AreLimits r.limits
   pub words : r.table.words ≡ r.limits.fibers + r.limits.refs + r.limits.deferreds + 3
+  pub slots : r.table.slots ≡ 0
 
 -- ---- a pass
 -- the registry that it is of, the fiber, what its owner knows of the fiber's cell, the reply of the last look, the fibers whose calls the pass makes or made, and the history that it has seen
@@ -48,7 +52,7 @@ pub record PassView : Type 0 where
 abbrev pub own_cell : PassView → Cell
 own_cell p = cell_of (left p.registry.limits p.seen) p.number
 
--- what holds of every pass: what it has seen is legal, and leaves the fiber's cell as the pass tells
+-- what holds of every pass: what it has seen is legal, and leaves the fiber's cell as the pass tells. The fiber is one of the pass's, and all of these were born in what it has seen
 pub record IsPass (p : PassView) : Type 0 where
   pub limits : AreLimits p.registry.limits
   pub legal : IsLegal p.registry.limits p.seen
@@ -56,6 +60,8 @@ pub record IsPass (p : PassView) : Type 0 where
   pub within : p.number < p.registry.limits.fibers
   pub cell : owned (own_cell p) ≡ (p.stage, p.depth, p.count)
   pub request : p.saw ≡ true → (own_cell p).request ≡ true
+  pub born : (f : ℕ) → Has p.fibers f → WasBorn p.seen f
+  pub told : IsTold p.registry.limits p.seen
 
 -- the pass whose seat has this knowledge
 abbrev pub pass_of : TableId → Knowledge → ℕ → Stage → ℕ → ℕ → Bool → PassView
@@ -98,10 +104,12 @@ pub record IsSpent (p : PassView) (e : CellError) (q : PassView) : Type 0 where
 abbrev pub newborn : PassView → ℕ → PassView
 newborn p n = record p { number = n; stage = Running; depth = 0; count = 0; saw = false; fibers = n ∷ [] }
 
--- the pass p started the fiber of the pass c, which has made no call, and is q since
+-- the pass p started the fiber of the pass c, and is q since. The fiber's number is below the limit and above those of p's fibers, and the fiber has made no call
 pub record Starts (p c q : PassView) : Type 0 where
   pub call : Calls p Start (reply.Number c.number) q
   pub child : c ≡ newborn q c.number
+  pub within : c.number < p.registry.limits.fibers
+  pub above : (f : ℕ) → Has p.fibers f → f < c.number
   pub silent : calls_by c.number q.seen ≡ []
 
 -- the pass was given the number n of a band
@@ -123,3 +131,10 @@ pub record Meets (a b q : PassView) : Type 0 where
   pub own : (f : ℕ) → Has a.fibers f → calls_by f q.seen ≡ calls_by f a.seen
   pub other : (f : ℕ) → Has b.fibers f → calls_by f q.seen ≡ calls_by f b.seen
   pub apart : (f : ℕ) → Has a.fibers f → Has b.fibers f → ⊥
+
+-- At the end, the word of the fiber f is n: some legal history, which begins with all that was seen, leaves it so
+pub record IsLeftWord (k : Limits) (seen : List Entry) (f n : ℕ) : Type 0 where
+  pub history : List Entry
+  pub begins : IsPrefix seen history
+  pub legal : IsLegal k history
+  pub word : n ≡ cell_word (cell_of (left k history) f)

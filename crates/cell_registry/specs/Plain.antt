@@ -6,32 +6,32 @@ use Rattle.cell_registry.specs.declared.limits.CellError.{CellError}
 use Rattle.cell_registry.specs.declared.call.Call.{Call}
 use Rattle.cell_registry.specs.Cells.{AreLimits, Cells, opening, after, reply_of, IsAllowed, refusal, IsSound}
 
--- a registry: its limits, and what its calls have left
-pub record Kept : Type 0 where
+-- what contracts see of a registry for one thread: its limits, and what its calls have left
+pub record PlainView : Type 0 where
   pub limits : Limits
   pub state : Cells
 
 -- a new registry
-abbrev pub kept_open : Limits → Kept
-kept_open k = record { limits = k; state = opening k }
+abbrev pub new_plain : Limits → PlainView
+new_plain k = record { limits = k; state = opening k }
 
--- the registry of these limits can be as it is
-pub record IsKept (r : Kept) : Type 0 where
+-- what holds of every such registry: its limits are ones that a registry can have, and it is within them
+pub record IsPlain (r : PlainView) : Type 0 where
   pub limits : AreLimits r.limits
   pub sound : IsSound r.limits r.state
 
 -- the caller was born, and the condition of its call holds
-pub record MayCall (r : Kept) (by : ℕ) (c : Call) : Type 0 where
+pub record MayCall (r : PlainView) (by : ℕ) (c : Call) : Type 0 where
   pub born : by < r.state.next_fiber
   pub allowed : IsAllowed r.limits r.state by c
 
 -- the call isn't refused: its reply, and the registry after it
-pub record IsMade (old new : Kept) (by : ℕ) (c : Call) (answer : Reply) : Type 0 where
+pub record IsMade (old new : PlainView) (by : ℕ) (c : Call) (answer : Reply) : Type 0 where
   pub room : refusal old.limits old.state by c ≡ None
   pub reply : answer ≡ reply_of old.state by c
   pub left : new ≡ record old { state = after old.state by c }
 
 -- the call is refused for this reason, and changes nothing
-pub record IsRefused (old new : Kept) (by : ℕ) (c : Call) (e : CellError) : Type 0 where
+pub record IsRefused (old new : PlainView) (by : ℕ) (c : Call) (e : CellError) : Type 0 where
   pub why : refusal old.limits old.state by c ≡ Some e
   pub same : new ≡ old

@@ -1,5 +1,5 @@
 -- What each step tells the pass that makes it.
-use Rattle.std.specs.Prelude.{◌≡◌, ◌≢◌, ℕ, ◌+◌, ◌<◌, ◌≤◌, Bool, ◌==◌, List, [], ◌∷◌, ◌++◌, ◌⊎◌, Option, Some, ℤ}
+use Rattle.std.specs.Prelude.{◌≡◌, ◌≢◌, ℕ, ◌+◌, ◌<◌, Bool, ◌==◌, List, [], ◌∷◌, ◌++◌, ◌⊎◌, Option, Some, ℤ}
 use Rattle.std.specs.Int.{w32, cast_unsigned}
 use Rattle.std.specs.Int.RustNames.{FitsSigned}
 use mathlib.Core.List.{IsPrefix}
@@ -14,11 +14,12 @@ use Rattle.cell_registry.specs.declared.cell.Stage.{Stage}
 use Rattle.cell_registry.specs.declared.cell.Stage.TheVariants.{Running}
 use Rattle.cell_registry.specs.declared.cell.Cell.{Cell}
 use Rattle.cell_registry.specs.declared.call.Call.{Call}
-use Rattle.cell_registry.specs.declared.call.Call.TheVariants.{Start, Cancel, Join, Look, Mask, Unmask, Cut, Finish, NewRef, NewDeferred, Get, Set, Modify, Complete, Read}
+use Rattle.cell_registry.specs.declared.call.Call.TheVariants.{Cancel, Join, Look, Mask, Unmask, Cut, Finish, Get, Set, Modify, Complete, Read}
 use Rattle.cell_registry.specs.declared.call.Entry.{Entry}
 use Rattle.cell_registry.specs.declared.knowledge.Knowledge.{Knowledge}
-use Rattle.cell_registry.specs.Cells.{Cells, masked, unmasked, cut, finished, owned, IsOpen, cancel_reply, join_reply, ValueFits}
+use Rattle.cell_registry.specs.Cells.{masked, unmasked, cut, finished, owned, IsOpen, cancel_reply, join_reply, ValueFits}
 use Rattle.cell_registry.specs.Histories.{left, IsLegal, calls_by}
+use Rattle.cell_registry.specs.Bands.{next_of, limit_of, claim_of, AreAllGiven}
 use Rattle.cell_registry.specs.Words.{phase_at, control, cell_word, deferred_word, ref_value}
 use Rattle.cell_registry.specs.Rule.{Has, seen_cell}
 
@@ -135,23 +136,7 @@ band_word Fibers = 0
 band_word Refs = 1
 band_word Deferreds = 2
 
-abbrev pub next_of : Band → Cells → ℕ
-next_of Fibers s = s.next_fiber
-next_of Refs s = s.next_ref
-next_of Deferreds s = s.next_deferred
-
-abbrev pub limit_of : Band → Limits → ℕ
-limit_of Fibers k = k.fibers
-limit_of Refs k = k.refs
-limit_of Deferreds k = k.deferreds
-
--- the call that takes the next number
-abbrev pub claim_of : Band → Call
-claim_of Fibers = Start
-claim_of Refs = NewRef
-claim_of Deferreds = NewDeferred
-
--- the condition of that call
+-- the condition of the call that takes the next number
 abbrev pub MayClaim : Band → Stage → Type 0
 MayClaim Fibers g = IsOpen g
 MayClaim Refs g = Unit {0}
@@ -196,40 +181,25 @@ Tried b old v found w = ((found ≡ old) × Claimed b v found w) ⊎ ((found ≢
 abbrev pub AtBand : ℕ → (Band → Type 0) → Type 0
 AtBand i P = (b : Band) → i ≡ band_word b → P b
 
--- the first number that a call gives: fiber 0 is born with the registry
-abbrev pub first_of : Band → ℕ
-first_of Fibers = 1
-first_of Refs = 0
-first_of Deferreds = 0
-
--- some call in the history was answered the number n of the band
-abbrev pub WasGiven : Band → List Entry → ℕ → Type 0
-WasGiven b [] n = ⊥
-WasGiven b (e ∷ es) n = ((e.call ≡ claim_of b) × (e.reply ≡ reply.Number n)) ⊎ WasGiven b es n
-
--- all numbers of the band were given: the next one is the limit, and each number below it stands in the history
-pub record AreAllGiven (b : Band) (k : Limits) (h : List Entry) : Type 0 where
-  pub next : next_of b (left k h) ≡ limit_of b k
-  pub each : (n : ℕ) → first_of b ≤ n → n < limit_of b k → WasGiven b h n
-
 abbrev pub FoundNone : Band → Knowledge → Knowledge → Type 0
 FoundNone b v w = Looked v w × IsSame v w × AreAllGiven b v.limits w.seen
 
 -- ---- what passes between seats
-abbrev pub eldest : List ℕ → ℕ
-eldest [] = 0
-eldest (x ∷ xs) = x
+-- the number that was claimed last, and the fibers without it
+abbrev pub newest : List ℕ → ℕ
+newest [] = 0
+newest (x ∷ xs) = x
 
-abbrev pub younger : List ℕ → List ℕ
-younger [] = []
-younger (x ∷ xs) = xs
+abbrev pub without_newest : List ℕ → List ℕ
+without_newest [] = []
+without_newest (x ∷ xs) = xs
 
 -- the number that was claimed last goes to the child, which has seen what its parent has
 abbrev pub parent : Knowledge → Knowledge
-parent v = record v { fibers = younger v.fibers; guests = []; heard = [] }
+parent v = record v { fibers = without_newest v.fibers; guests = []; heard = [] }
 
 abbrev pub child : Knowledge → Knowledge
-child v = record v { number = eldest v.fibers; fibers = eldest v.fibers ∷ []; guests = []; heard = [] }
+child v = record v { number = newest v.fibers; fibers = newest v.fibers ∷ []; guests = []; heard = [] }
 
 -- one pass takes in the fibers of another, which is spent
 abbrev pub hosting : Knowledge → Knowledge → Knowledge

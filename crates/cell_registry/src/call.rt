@@ -39,7 +39,10 @@ pub enum Call {
 /// A call that was made: by which fiber, and what it was answered.
 #[derive(Clone, Copy, PartialEq, Eq, Debug)]
 pub struct Entry {
+    /// The fiber that called.
     pub by: u16,
+    /// What it called.
     pub call: Call,
+    /// What it was answered.
     pub reply: Reply,
 }

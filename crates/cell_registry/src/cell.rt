@@ -15,6 +15,7 @@ pub enum Stage {
 /// The shared state of one fiber.
 #[derive(Clone, Copy, PartialEq, Eq, Debug)]
 pub struct Cell {
+    /// How far the fiber has come.
     pub stage: Stage,
     /// How many masks are active.
     pub depth: u8,

@@ -2,7 +2,8 @@
 ghost use Rattle.std.specs.Prelude.{◌≡◌, ◌<◌, [], MatchOption};
 ghost use Rattle.cell_registry.specs.Cells.{AreLimits};
 ghost use Rattle.cell_registry.specs.Rule.{Has, seen_cell};
-ghost use Rattle.cell_registry.specs.Steps.{Claimed, FoundNone, MayClaim, limit_of};
+ghost use Rattle.cell_registry.specs.Bands.{limit_of};
+ghost use Rattle.cell_registry.specs.Steps.{Claimed, FoundNone, MayClaim};
 
 use crate::knowledge::Knowledge;
 use crate::limits::{Band, Limits};

@@ -6,6 +6,7 @@ use std::collections::LinkedList;
 /// What a pass knows. No value of it is made: it is what contracts and proofs see of the pass's
 /// seat at the table.
 pub struct Knowledge {
+    /// The limits of the registry that the pass is of.
     pub limits: Limits,
     /// The fiber that the pass is of.
     pub number: u16,
@@ -13,7 +14,8 @@ pub struct Knowledge {
     pub fibers: LinkedList<u16>,
     /// The whole history up to the last step of the pass.
     pub seen: LinkedList<Entry>,
-    /// While another pass is met: its fibers, and what it had seen, until the next step.
+    /// While another pass is met: its fibers, until the next step.
     pub guests: LinkedList<u16>,
+    /// While another pass is met: the history that it had seen, until the next step.
     pub heard: LinkedList<Entry>,
 }

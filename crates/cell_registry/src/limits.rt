@@ -21,12 +21,17 @@ pub struct Limits {
 /// The kinds of numbers that a registry gives.
 #[derive(Clone, Copy, PartialEq, Eq, Debug)]
 pub enum Band {
+    /// The numbers of fibers. The first one, 0, is born with the registry; a start gives the others.
     Fibers,
+    /// The numbers of refs, from 0.
     Refs,
+    /// The numbers of deferreds, from 0.
     Deferreds,
 }
 
-/// Why a registry refuses a call. A refused call changes nothing.
+/// Why a registry refuses a call. A refused call is none of the calls that the registry has
+/// answered, and changes no cell. To learn that a band is full, a pass of the lock-free registry may
+/// have seen more of what others called.
 #[derive(Clone, Copy, PartialEq, Eq, Debug)]
 pub enum CellError {
     /// All numbers of the band are given. It has so many.

@@ -7,7 +7,7 @@ ghost use Rattle.cell_registry.specs.declared.cell.Stage.TheVariants as at;
 ghost use Rattle.cell_registry.specs.Cells.{IsOpen, MayFinish, MayUnmask};
 ghost use Rattle.cell_registry.specs.Cancellation.{CutsAfterCancel};
 ghost use Rattle.cell_registry.specs.Words.{phase_at};
-ghost use Rattle.cell_registry.specs.Passes.{Changes, IsOf, IsSpent};
+ghost use Rattle.cell_registry.specs.Passes.{Changes, IsOf, IsPass, IsSpent};
 
 use crate::cell::Stage;
 use crate::limits::CellError;
@@ -19,7 +19,7 @@ use control_word::{cut_amount, finish_amount, mask_amount, unmask_amount};
 use effect_term::Outcome;
 
 // Refuses where the count of changes is used up.
-fn room(count: u32, limit: u32) -> Result<(), CellError>
+fn refuse_if_spent(count: u32, limit: u32) -> Result<(), CellError>
     ensures room { IfOk result (λ _. count ≢ limit) }
     ensures spent { IfErr result (λ e. (e ≡ Spent count) × (count ≡ limit)) }
 {
@@ -30,8 +30,8 @@ fn room(count: u32, limit: u32) -> Result<(), CellError>
 }
 
 fn is_finalizing(stage: Stage) -> bool
-    requires { IsOpen stage }
-    ensures { phase_at stage ≡ bit result }
+    requires open { IsOpen stage }
+    ensures phase { phase_at stage ≡ bit result }
 {
     match stage {
         Stage::Running => false,
@@ -49,10 +49,11 @@ impl Registry {
         requires own { IsOf self.now pass.old }
         requires open { IsOpen pass.old.stage }
         requires depth { pass.old.depth < 255 }
+        ensures lawful { IsPass pass.new }
         ensures masked { IfOk result (λ _. Changes pass.old call.Mask pass.old.stage (pass.old.depth + 1) pass.new) }
         ensures spent { IfErr result (λ e. IsSpent pass.old e pass.new) }
     {
-        room(pass.count, self.limits.count)?;
+        refuse_if_spent(pass.count, self.limits.count)?;
         self.table
             .shared
             .fetch_add::<rule::Masks>(&mut pass.seat, cell_place(pass.number), mask_amount());
@@ -66,10 +67,11 @@ impl Registry {
     pub fn unmask(&self, pass: &mut Pass) -> Result<(), CellError>
         requires own { IsOf self.now pass.old }
         requires masked { MayUnmask pass.old.stage pass.old.depth }
+        ensures lawful { IsPass pass.new }
         ensures unmasked { IfOk result (λ _. Changes pass.old call.Unmask pass.old.stage (pass.old.depth - 1) pass.new) }
         ensures spent { IfErr result (λ e. IsSpent pass.old e pass.new) }
     {
-        room(pass.count, self.limits.count)?;
+        refuse_if_spent(pass.count, self.limits.count)?;
         self.table
             .shared
             .fetch_sub::<rule::Unmasks>(&mut pass.seat, cell_place(pass.number), unmask_amount());
@@ -85,11 +87,12 @@ impl Registry {
         requires running { pass.old.stage ≡ at.Running }
         requires unmasked { pass.old.depth ≡ 0 }
         requires requested { pass.old.saw ≡ true }
+        ensures lawful { IsPass pass.new }
         ensures cut { IfOk result (λ _. Changes pass.old call.Cut at.Finalizing 1 pass.new) }
         ensures after_cancel { IfOk result (λ _. CutsAfterCancel pass.new.seen) }
         ensures spent { IfErr result (λ e. IsSpent pass.old e pass.new) }
     {
-        room(pass.count, self.limits.count)?;
+        refuse_if_spent(pass.count, self.limits.count)?;
         self.table
             .shared
             .fetch_add::<rule::Cuts>(&mut pass.seat, cell_place(pass.number), cut_amount());
@@ -104,10 +107,11 @@ impl Registry {
     pub fn finish(&self, pass: &mut Pass, outcome: Outcome) -> Result<(), CellError>
         requires own { IsOf self.now pass.old }
         requires may { MayFinish pass.old.stage pass.old.depth outcome }
+        ensures lawful { IsPass pass.new }
         ensures ended { IfOk result (λ _. Changes pass.old (call.Finish outcome) (at.Ended outcome) pass.old.depth pass.new) }
         ensures spent { IfErr result (λ e. IsSpent pass.old e pass.new) }
     {
-        room(pass.count, self.limits.count)?;
+        refuse_if_spent(pass.count, self.limits.count)?;
         let amount = finish_amount(is_finalizing(pass.stage), outcome);
         self.table
             .shared

@@ -37,35 +37,35 @@ impl Pass {
     /// The fiber's number.
     pub fn number(&self) -> u16
         ensures number { result ≡ self.now.number }
-        ensures pass { IsPass self.now }
+        ensures lawful { IsPass self.now }
     {
         self.number
     }
 
     /// How many masks the fiber is under.
     pub fn depth(&self) -> u8
-        ensures { result ≡ self.now.depth }
+        ensures depth { result ≡ self.now.depth }
     {
         self.depth
     }
 
     /// How far the fiber has come: running, finalizing, or ended and how.
     pub fn phase(&self) -> Stage
-        ensures { result ≡ self.now.stage }
+        ensures stage { result ≡ self.now.stage }
     {
         self.stage
     }
 
     /// How often the fiber changed its own cell.
     pub fn count(&self) -> u32
-        ensures { result ≡ self.now.count }
+        ensures count { result ≡ self.now.count }
     {
         self.count
     }
 
     /// The reply of the fiber's last look, `false` before one.
     pub fn saw(&self) -> bool
-        ensures { result ≡ self.now.saw }
+        ensures saw { result ≡ self.now.saw }
     {
         self.saw
     }

@@ -1,7 +1,7 @@
 //! The registry for one thread.
-ghost use Rattle.std.specs.Prelude.{◌≡◌, ◌+◌, ◌≤◌, IfOk, MatchResult, Some, None};
+ghost use Rattle.std.specs.Prelude.{◌≡◌, ◌+◌, ◌≤◌, IfErr, IfOk, Some, None};
 ghost use Rattle.cell_registry.specs.Cells.{AreLimits, spent};
-ghost use Rattle.cell_registry.specs.Plain.{kept_open, IsKept, MayCall, IsMade, IsRefused};
+ghost use Rattle.cell_registry.specs.Plain.{new_plain, IsPlain, MayCall, IsMade, IsRefused};
 
 use crate::call::Call;
 use crate::cell::{Cell, Stage};
@@ -13,7 +13,9 @@ use std::marker::Model;
 /// The registry of all fibers, refs and deferreds, for one thread.
 ///
 /// Each call is made by a fiber that was born: 0, or a number that [`start`](PlainRegistry::start)
-/// gave. A call that is refused changes nothing. Only [`new`](PlainRegistry::new) takes memory.
+/// gave. The cells of all numbers below the limits exist from the start, so a call may name a number
+/// that no call has given yet. A call that is refused changes nothing. Only
+/// [`new`](PlainRegistry::new) takes memory.
 #[derive(Drop)]
 pub struct PlainRegistry {
     limits: Limits,
@@ -26,13 +28,13 @@ pub struct PlainRegistry {
 }
 
 impl Model for PlainRegistry {
-    ghost use Rattle.cell_registry.specs.Plain.{Kept, IsKept};
+    ghost use Rattle.cell_registry.specs.Plain.{PlainView, IsPlain};
 
-    ghost Value = { Kept };
+    ghost Value = { PlainView };
 
     ghost view = { λ r. record { limits = r.limits; state = record { next_fiber = r.next_fiber; next_ref = r.next_ref; next_deferred = r.next_deferred; cells = r.cells.items; refs = r.refs.items; deferreds = r.deferreds.items } } };
 
-    ghost invariant = { λ r. IsKept record { limits = r.limits; state = record { next_fiber = r.next_fiber; next_ref = r.next_ref; next_deferred = r.next_deferred; cells = r.cells.items; refs = r.refs.items; deferreds = r.deferreds.items } } };
+    ghost invariant = { λ r. IsPlain record { limits = r.limits; state = record { next_fiber = r.next_fiber; next_ref = r.next_ref; next_deferred = r.next_deferred; cells = r.cells.items; refs = r.refs.items; deferreds = r.deferreds.items } } };
 }
 
 const FRESH: Cell = Cell {
@@ -54,8 +56,9 @@ impl PlainRegistry {
         deferreds: u16,
         limit: u32,
     ) -> Result<PlainRegistry, AllocError>
-        requires { AreLimits record { fibers = fibers; refs = refs; deferreds = deferreds; count = limit } }
-        ensures { IfOk result (λ r. r ≡ kept_open record { fibers = fibers; refs = refs; deferreds = deferreds; count = limit }) }
+        requires limits { AreLimits record { fibers = fibers; refs = refs; deferreds = deferreds; count = limit } }
+        ensures opening { IfOk result (λ r. r ≡ new_plain record { fibers = fibers; refs = refs; deferreds = deferreds; count = limit }) }
+        ensures lawful { IfOk result (λ r. IsPlain r) }
     {
         Ok(PlainRegistry {
             limits: Limits {
@@ -76,7 +79,7 @@ impl PlainRegistry {
     /// The limits that the registry was made with.
     pub fn limits(&self) -> Limits
         ensures limits { result ≡ self.now.limits }
-        ensures kept { IsKept self.now }
+        ensures lawful { IsPlain self.now }
     {
         self.limits
     }
@@ -84,8 +87,10 @@ impl PlainRegistry {
     /// Makes a fiber, and gives its number. The caller hasn't ended. Answers `Full` where all
     /// fibers were started.
     pub fn start(&mut self, by: u16) -> Result<u16, CellError>
-        requires { MayCall self.old by Call.Start }
-        ensures { MatchResult result (λ n. IsMade self.old self.new by Call.Start (Reply.Number n)) (λ e. IsRefused self.old self.new by Call.Start e) }
+        requires may { MayCall self.old by Call.Start }
+        ensures lawful { IsPlain self.new }
+        ensures made { IfOk result (λ n. IsMade self.old self.new by Call.Start (Reply.Number n)) }
+        ensures refused { IfErr result (λ e. IsRefused self.old self.new by Call.Start e) }
     {
         if self.next_fiber == self.limits.fibers {
             return Err(CellError::Full(Band::Fibers, self.limits.fibers));
@@ -95,10 +100,12 @@ impl PlainRegistry {
         Ok(number)
     }
 
-    /// Requests the cancellation of a fiber, whose number is below the limit.
+    /// Requests the cancellation of a fiber, whose number is below the limit, as in Cats Effect 3's
+    /// `GenSpawn` (`Fiber::cancel`). The request is set whatever the fiber's phase.
     pub fn cancel(&mut self, by: u16, fiber: u16) -> CancelReply
-        requires { MayCall self.old by (Call.Cancel fiber) }
-        ensures { IsMade self.old self.new by (Call.Cancel fiber) (Reply.Cancel result) }
+        requires may { MayCall self.old by (Call.Cancel fiber) }
+        ensures lawful { IsPlain self.new }
+        ensures made { IsMade self.old self.new by (Call.Cancel fiber) (Reply.Cancel result) }
     {
         let cell = self.cells[usize::from(fiber)];
         self.cells[usize::from(fiber)] = Cell {
@@ -117,10 +124,12 @@ impl PlainRegistry {
         }
     }
 
-    /// Whether a fiber, whose number is below the limit, has ended, and how.
+    /// Whether a fiber, whose number is below the limit, has ended, and how, as in Cats Effect 3's
+    /// `GenSpawn` (`Fiber::join`). That somebody waits is noted whatever the fiber's phase.
     pub fn join(&mut self, by: u16, fiber: u16) -> JoinReply
-        requires { MayCall self.old by (Call.Join fiber) }
-        ensures { IsMade self.old self.new by (Call.Join fiber) (Reply.Join result) }
+        requires may { MayCall self.old by (Call.Join fiber) }
+        ensures lawful { IsPlain self.new }
+        ensures made { IsMade self.old self.new by (Call.Join fiber) (Reply.Join result) }
     {
         let cell = self.cells[usize::from(fiber)];
         self.cells[usize::from(fiber)] = Cell {
@@ -135,8 +144,9 @@ impl PlainRegistry {
 
     /// Whether the caller's cancellation is requested. The caller hasn't ended and isn't masked.
     pub fn look(&mut self, by: u16) -> bool
-        requires { MayCall self.old by Call.Look }
-        ensures { IsMade self.old self.new by Call.Look (Reply.Seen result) }
+        requires may { MayCall self.old by Call.Look }
+        ensures lawful { IsPlain self.new }
+        ensures made { IsMade self.old self.new by Call.Look (Reply.Seen result) }
     {
         self.cells[usize::from(by)].request
     }
@@ -144,8 +154,10 @@ impl PlainRegistry {
     /// Enters a mask. The caller hasn't ended, and is in fewer than 255 masks. Answers `Spent` where
     /// its count is used up.
     pub fn mask(&mut self, by: u16) -> Result<(), CellError>
-        requires { MayCall self.old by Call.Mask }
-        ensures { MatchResult result (λ _. IsMade self.old self.new by Call.Mask Reply.Done) (λ e. IsRefused self.old self.new by Call.Mask e) }
+        requires may { MayCall self.old by Call.Mask }
+        ensures lawful { IsPlain self.new }
+        ensures made { IfOk result (λ _. IsMade self.old self.new by Call.Mask Reply.Done) }
+        ensures refused { IfErr result (λ e. IsRefused self.old self.new by Call.Mask e) }
     {
         let cell = counted(self.cells[usize::from(by)], self.limits.count)?;
         self.cells[usize::from(by)] = Cell {
@@ -158,8 +170,10 @@ impl PlainRegistry {
     /// Leaves a mask. The caller hasn't ended, and is in a mask, other than that of its cut. Answers
     /// `Spent` where its count is used up.
     pub fn unmask(&mut self, by: u16) -> Result<(), CellError>
-        requires { MayCall self.old by Call.Unmask }
-        ensures { MatchResult result (λ _. IsMade self.old self.new by Call.Unmask Reply.Done) (λ e. IsRefused self.old self.new by Call.Unmask e) }
+        requires may { MayCall self.old by Call.Unmask }
+        ensures lawful { IsPlain self.new }
+        ensures made { IfOk result (λ _. IsMade self.old self.new by Call.Unmask Reply.Done) }
+        ensures refused { IfErr result (λ e. IsRefused self.old self.new by Call.Unmask e) }
     {
         let cell = counted(self.cells[usize::from(by)], self.limits.count)?;
         self.cells[usize::from(by)] = Cell {
@@ -172,8 +186,10 @@ impl PlainRegistry {
     /// Observes the request, and enters the mask of the finalizers. The caller is running and isn't
     /// masked, and its cancellation is requested. Answers `Spent` where its count is used up.
     pub fn cut(&mut self, by: u16) -> Result<(), CellError>
-        requires { MayCall self.old by Call.Cut }
-        ensures { MatchResult result (λ _. IsMade self.old self.new by Call.Cut Reply.Done) (λ e. IsRefused self.old self.new by Call.Cut e) }
+        requires may { MayCall self.old by Call.Cut }
+        ensures lawful { IsPlain self.new }
+        ensures made { IfOk result (λ _. IsMade self.old self.new by Call.Cut Reply.Done) }
+        ensures refused { IfErr result (λ e. IsRefused self.old self.new by Call.Cut e) }
     {
         let cell = counted(self.cells[usize::from(by)], self.limits.count)?;
         self.cells[usize::from(by)] = Cell {
@@ -187,8 +203,10 @@ impl PlainRegistry {
     /// Ends the caller: with a value or an error where it is running and isn't masked, and as
     /// canceled where it has run its finalizers. Answers `Spent` where its count is used up.
     pub fn finish(&mut self, by: u16, outcome: Outcome) -> Result<(), CellError>
-        requires { MayCall self.old by (Call.Finish outcome) }
-        ensures { MatchResult result (λ _. IsMade self.old self.new by (Call.Finish outcome) Reply.Done) (λ e. IsRefused self.old self.new by (Call.Finish outcome) e) }
+        requires may { MayCall self.old by (Call.Finish outcome) }
+        ensures lawful { IsPlain self.new }
+        ensures made { IfOk result (λ _. IsMade self.old self.new by (Call.Finish outcome) Reply.Done) }
+        ensures refused { IfErr result (λ e. IsRefused self.old self.new by (Call.Finish outcome) e) }
     {
         let cell = counted(self.cells[usize::from(by)], self.limits.count)?;
         self.cells[usize::from(by)] = Cell {
@@ -200,8 +218,10 @@ impl PlainRegistry {
 
     /// Makes a ref that holds 0, and gives its number. Answers `Full` where all refs were made.
     pub fn new_ref(&mut self, by: u16) -> Result<u16, CellError>
-        requires { MayCall self.old by Call.NewRef }
-        ensures { MatchResult result (λ n. IsMade self.old self.new by Call.NewRef (Reply.Number n)) (λ e. IsRefused self.old self.new by Call.NewRef e) }
+        requires may { MayCall self.old by Call.NewRef }
+        ensures lawful { IsPlain self.new }
+        ensures made { IfOk result (λ n. IsMade self.old self.new by Call.NewRef (Reply.Number n)) }
+        ensures refused { IfErr result (λ e. IsRefused self.old self.new by Call.NewRef e) }
     {
         if self.next_ref == self.limits.refs {
             return Err(CellError::Full(Band::Refs, self.limits.refs));
@@ -213,8 +233,10 @@ impl PlainRegistry {
 
     /// Makes an empty deferred, and gives its number. Answers `Full` where all deferreds were made.
     pub fn new_deferred(&mut self, by: u16) -> Result<u16, CellError>
-        requires { MayCall self.old by Call.NewDeferred }
-        ensures { MatchResult result (λ n. IsMade self.old self.new by Call.NewDeferred (Reply.Number n)) (λ e. IsRefused self.old self.new by Call.NewDeferred e) }
+        requires may { MayCall self.old by Call.NewDeferred }
+        ensures lawful { IsPlain self.new }
+        ensures made { IfOk result (λ n. IsMade self.old self.new by Call.NewDeferred (Reply.Number n)) }
+        ensures refused { IfErr result (λ e. IsRefused self.old self.new by Call.NewDeferred e) }
     {
         if self.next_deferred == self.limits.deferreds {
             return Err(CellError::Full(Band::Deferreds, self.limits.deferreds));
@@ -224,26 +246,29 @@ impl PlainRegistry {
         Ok(number)
     }
 
-    /// The value of a ref, whose number is below the limit.
+    /// The value of a ref (`Ref::get`), whose number is below the limit.
     pub fn get(&mut self, by: u16, number: u16) -> i32
-        requires { MayCall self.old by (Call.Get number) }
-        ensures { IsMade self.old self.new by (Call.Get number) (Reply.Value result) }
+        requires may { MayCall self.old by (Call.Get number) }
+        ensures lawful { IsPlain self.new }
+        ensures made { IsMade self.old self.new by (Call.Get number) (Reply.Value result) }
     {
         self.refs[usize::from(number)]
     }
 
-    /// Sets the value of a ref, whose number is below the limit.
+    /// Sets the value of a ref (`Ref::set`), whose number is below the limit.
     pub fn set(&mut self, by: u16, number: u16, value: i32)
-        requires { MayCall self.old by (Call.Set number value) }
-        ensures { IsMade self.old self.new by (Call.Set number value) Reply.Done }
+        requires may { MayCall self.old by (Call.Set number value) }
+        ensures lawful { IsPlain self.new }
+        ensures made { IsMade self.old self.new by (Call.Set number value) Reply.Done }
     {
         self.refs[usize::from(number)] = value;
     }
 
     /// Adds to a ref, whose number is below the limit, modulo 2^32, and gives its old value.
     pub fn modify(&mut self, by: u16, number: u16, value: i32) -> i32
-        requires { MayCall self.old by (Call.Modify number value) }
-        ensures { IsMade self.old self.new by (Call.Modify number value) (Reply.Value result) }
+        requires may { MayCall self.old by (Call.Modify number value) }
+        ensures lawful { IsPlain self.new }
+        ensures made { IsMade self.old self.new by (Call.Modify number value) (Reply.Value result) }
     {
         let place = usize::from(number);
         let old = self.refs[place];
@@ -251,10 +276,12 @@ impl PlainRegistry {
         old
     }
 
-    /// Fills a deferred, whose number is below the limit, unless it is filled. Whether this did it.
+    /// Fills a deferred (`Deferred::complete`), whose number is below the limit, unless it is filled.
+    /// Whether this did it.
     pub fn complete(&mut self, by: u16, number: u16, value: i32) -> bool
-        requires { MayCall self.old by (Call.Complete number value) }
-        ensures { IsMade self.old self.new by (Call.Complete number value) (Reply.Completed result) }
+        requires may { MayCall self.old by (Call.Complete number value) }
+        ensures lawful { IsPlain self.new }
+        ensures made { IsMade self.old self.new by (Call.Complete number value) (Reply.Completed result) }
     {
         let place = usize::from(number);
         let empty = self.deferreds[place].is_none();
@@ -264,10 +291,11 @@ impl PlainRegistry {
         empty
     }
 
-    /// The value of a deferred, whose number is below the limit, if it is filled.
+    /// The value of a deferred (`Deferred::tryGet`), whose number is below the limit, if it is filled.
     pub fn read(&mut self, by: u16, number: u16) -> Option<i32>
-        requires { MayCall self.old by (Call.Read number) }
-        ensures { IsMade self.old self.new by (Call.Read number) (Reply.Read result) }
+        requires may { MayCall self.old by (Call.Read number) }
+        ensures lawful { IsPlain self.new }
+        ensures made { IsMade self.old self.new by (Call.Read number) (Reply.Read result) }
     {
         self.deferreds[usize::from(number)]
     }
@@ -275,8 +303,10 @@ impl PlainRegistry {
 
 // The cell with one more change of its owner's, unless these are used up.
 fn counted(cell: Cell, limit: u32) -> Result<Cell, CellError>
-    requires { cell.count ≤ limit }
-    ensures { MatchResult result (λ c. (spent cell.count limit ≡ None) × (c ≡ record cell { count = cell.count + 1 })) (λ e. spent cell.count limit ≡ Some e) }
+    requires within { cell.count ≤ limit }
+    ensures room { IfOk result (λ _. spent cell.count limit ≡ None) }
+    ensures counted { IfOk result (λ c. c ≡ record cell { count = cell.count + 1 }) }
+    ensures refused { IfErr result (λ e. spent cell.count limit ≡ Some e) }
 {
     if cell.count == limit {
         return Err(CellError::Spent(cell.count));

@@ -1,8 +1,34 @@
 //! Calls of the registry for one thread, with answers worked by hand.
-use crate::limits::{Band, CellError};
+use crate::limits::{Band, CellError, Limits};
 use crate::plain::PlainRegistry;
 use effect_term::{CancelReply, JoinReply, Outcome};
 use std::alloc::AllocError;
+
+/// Holds whichever allocation is refused.
+#[test]
+#[tactic(auto, unfolding(crate::specs::Cells::after, crate::specs::Cells::reply_of, crate::specs::Cells::refusal, crate::specs::Cells::IsAllowed))]
+fn want_of_memory_or_a_fresh_plain_registry(rt: HostRuntime) {
+    match PlainRegistry::new(rt.alloc(), 2, 1, 1, 10) {
+        Err(AllocError) => {}
+        Ok(mut registry) => {
+            let limits = Limits {
+                fibers: 2,
+                refs: 1,
+                deferreds: 1,
+                count: 10,
+            };
+            assert_eq!(rt; registry.limits(), limits);
+            assert_eq!(rt; registry.look(0), false);
+            assert_eq!(rt; registry.join(0, 0), JoinReply::Waits);
+            assert_eq!(rt; registry.cancel(0, 0), CancelReply::Asked);
+            assert_eq!(rt; registry.get(0, 0), 0);
+            assert_eq!(rt; registry.read(0, 0), None);
+            assert_eq!(rt; registry.new_ref(0), Ok(0));
+            assert_eq!(rt; registry.new_deferred(0), Ok(0));
+            assert_eq!(rt; registry.start(0), Ok(1));
+        }
+    }
+}
 
 #[test]
 #[tactic(auto, unfolding(crate::specs::Cells::after, crate::specs::Cells::reply_of, crate::specs::Cells::refusal, crate::specs::Cells::IsAllowed))]

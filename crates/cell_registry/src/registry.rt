@@ -6,7 +6,7 @@ ghost use Rattle.cell_registry.specs.declared.limits.CellError.TheVariants.{Full
 ghost use Rattle.cell_registry.specs.declared.call.Call.TheVariants as call;
 ghost use Rattle.cell_registry.specs.Cells.{AreLimits, IsOpen};
 ghost use Rattle.cell_registry.specs.Cancellation.{WasCancelled};
-ghost use Rattle.cell_registry.specs.Passes.{Calls, Gives, IsOf, Meets, OnlySees, SeesAllGiven, Starts, first_pass};
+ghost use Rattle.cell_registry.specs.Passes.{Calls, Gives, IsLeftWord, IsOf, IsPass, Meets, OnlySees, SeesAllGiven, Starts, first_pass};
 
 use crate::cell::Stage;
 use crate::claims::claim;
@@ -15,7 +15,7 @@ use crate::limits::{Band, CellError, Limits};
 use crate::pass::Pass;
 use crate::rule::{self, Rule};
 use crate::words::{
-    CANCEL, CLAIM_WORDS, WAITED, cancel_answer, cell_place, join_answer, look_answer,
+    CANCEL, CLAIM_WORDS, WAITED, cancel_answer, cell_place, claim_place, join_answer, look_answer,
 };
 use atomic_table::Table;
 use effect_term::{CancelReply, JoinReply};
@@ -24,9 +24,16 @@ use std::marker::Model;
 
 /// The cells of all fibers, refs and deferreds, which fibers on any threads share.
 ///
-/// Each call is one atomic step on one word, with a load before it where it takes a number. No call
-/// locks or waits, and none but `new` takes memory. Whatever the threads do, the calls stand in one
-/// order, a history that one thread could have made, and each pass has seen a beginning of it.
+/// Each call takes effect in one atomic step on one word. A call that takes a number loads the word
+/// first, and tries again where somebody else took that number in between. Every step is `SeqCst`,
+/// the only ordering that `atomic_table` has: so all steps on all words stand in one order, and the
+/// history lists in that order those that made a call. It is a history that one thread could have
+/// made, and each pass has seen a beginning of it. No call locks or waits, and none but `new` takes
+/// memory.
+///
+/// The cells of all numbers below the limits exist from the start: a fiber's is running, under no
+/// mask, with no request, a ref holds 0 and a deferred is empty. So a call may name a number that no
+/// call has given yet.
 #[derive(Drop)]
 pub struct Registry {
     pub(crate) table: Table<u8, Knowledge, Limits, Rule, Global>,
@@ -57,6 +64,7 @@ impl Registry {
         requires limits { AreLimits record { fibers = fibers; refs = refs; deferreds = deferreds; count = limit } }
         ensures limits { IfOk result (λ r. r.0.limits ≡ record { fibers = fibers; refs = refs; deferreds = deferreds; count = limit }) }
         ensures pass { IfOk result (λ r. r.1 ≡ first_pass r.0) }
+        ensures lawful { IfOk result (λ r. IsPass r.1) }
     {
         let limits = Limits {
             fibers,
@@ -66,7 +74,7 @@ impl Registry {
         };
         let cells = usize::from(fibers) + usize::from(refs) + usize::from(deferreds);
         let mut words = Vec::from_elem(alloc, 0u64, cells + CLAIM_WORDS)?;
-        words[0] = 1;
+        words[claim_place(Band::Fibers)] = 1;
         let (table, seat) = Table::of_words(alloc, words.as_slice(), &limits)?;
         let pass = Pass {
             seat,
@@ -79,15 +87,18 @@ impl Registry {
         Ok((Registry { table, limits }, pass))
     }
 
-    /// Makes a fiber, which begins running and unmasked, as in Cats Effect 3's `GenSpawn`. Its pass
-    /// has seen what the caller's has. The caller's fiber hasn't ended. Answers
+    /// Makes a fiber, which begins running and unmasked, as in Cats Effect 3's `GenSpawn::start`. Its
+    /// pass has seen what the caller's has. The caller's fiber hasn't ended. Answers
     /// `Full(Band::Fibers, n)` where all n fibers of the registry were made.
     pub fn start(&self, pass: &mut Pass) -> Result<Pass, CellError>
         requires own { IsOf self.now pass.old }
         requires open { IsOpen pass.old.stage }
         ensures same { OnlySees pass.old pass.new }
+        ensures lawful { IsPass pass.new }
         ensures started { IfOk result (λ child. Starts pass.old child pass.new) }
-        ensures full { IfErr result (λ e. (e ≡ Full Fibers self.now.limits.fibers) × SeesAllGiven Fibers pass.old pass.new) }
+        ensures child { IfOk result (λ child. IsPass child) }
+        ensures limit { IfErr result (λ e. e ≡ Full Fibers self.now.limits.fibers) }
+        ensures given { IfErr result (λ _. SeesAllGiven Fibers pass.old pass.new) }
     {
         let limit = self.limits.fibers;
         let Some(number) = claim(&self.table.shared, &mut pass.seat, Band::Fibers, limit) else {
@@ -104,13 +115,15 @@ impl Registry {
         })
     }
 
-    /// Makes a ref, which holds 0, and gives its number. Answers `Full(Band::Refs, n)` where all n
-    /// refs of the registry were made.
+    /// Makes a ref, which holds 0, as in Cats Effect 3's `Ref`, and gives its number. Answers
+    /// `Full(Band::Refs, n)` where all n refs of the registry were made.
     pub fn new_ref(&self, pass: &mut Pass) -> Result<u16, CellError>
         requires own { IsOf self.now pass.old }
         ensures same { OnlySees pass.old pass.new }
+        ensures lawful { IsPass pass.new }
         ensures made { IfOk result (λ r. Gives Refs pass.old r pass.new) }
-        ensures full { IfErr result (λ e. (e ≡ Full Refs self.now.limits.refs) × SeesAllGiven Refs pass.old pass.new) }
+        ensures limit { IfErr result (λ e. e ≡ Full Refs self.now.limits.refs) }
+        ensures given { IfErr result (λ _. SeesAllGiven Refs pass.old pass.new) }
     {
         let limit = self.limits.refs;
         claim(&self.table.shared, &mut pass.seat, Band::Refs, limit).ok_or(CellError::Full(
@@ -119,13 +132,15 @@ impl Registry {
         ))
     }
 
-    /// Makes an empty deferred, and gives its number. Answers `Full(Band::Deferreds, n)` where all
-    /// n deferreds of the registry were made.
+    /// Makes an empty deferred, as in Cats Effect 3's `Deferred`, and gives its number. Answers
+    /// `Full(Band::Deferreds, n)` where all n deferreds of the registry were made.
     pub fn new_deferred(&self, pass: &mut Pass) -> Result<u16, CellError>
         requires own { IsOf self.now pass.old }
         ensures same { OnlySees pass.old pass.new }
+        ensures lawful { IsPass pass.new }
         ensures made { IfOk result (λ d. Gives Deferreds pass.old d pass.new) }
-        ensures full { IfErr result (λ e. (e ≡ Full Deferreds self.now.limits.deferreds) × SeesAllGiven Deferreds pass.old pass.new) }
+        ensures limit { IfErr result (λ e. e ≡ Full Deferreds self.now.limits.deferreds) }
+        ensures given { IfErr result (λ _. SeesAllGiven Deferreds pass.old pass.new) }
     {
         let limit = self.limits.deferreds;
         claim(&self.table.shared, &mut pass.seat, Band::Deferreds, limit).ok_or(CellError::Full(
@@ -134,12 +149,15 @@ impl Registry {
         ))
     }
 
-    /// Requests the cancellation of a fiber, whose number is below the limit of fibers. Answers
-    /// `Ended` where the fiber has ended, else whether it had been asked before.
+    /// Requests the cancellation of a fiber, as in Cats Effect 3's `GenSpawn` (`Fiber::cancel`), and
+    /// doesn't wait for its end. The number is below the limit of fibers; the cell of each such
+    /// number exists from the start. The request is set whatever the fiber's phase. Answers `Ended`
+    /// where the fiber has ended, else whether it had been asked before.
     pub fn cancel(&self, pass: &mut Pass, fiber: u16) -> CancelReply
         requires own { IsOf self.now pass.old }
         requires within { fiber < self.now.limits.fibers }
         ensures same { OnlySees pass.old pass.new }
+        ensures lawful { IsPass pass.new }
         ensures call { Calls pass.old (call.Cancel fiber) (reply.Cancel result) pass.new }
     {
         let found = self
@@ -149,12 +167,14 @@ impl Registry {
         cancel_answer(found)
     }
 
-    /// Asks for the end of a fiber, whose number is below the limit of fibers, and notes in its
-    /// cell that somebody waits for it. Answers how it ended, or `Waits`.
+    /// Asks for the end of a fiber, as in Cats Effect 3's `GenSpawn` (`Fiber::join`). Answers how it
+    /// ended, or `Waits`. The number is below the limit of fibers; the cell of each such number
+    /// exists from the start. That somebody waits is noted in the cell whatever the fiber's phase.
     pub fn join(&self, pass: &mut Pass, fiber: u16) -> JoinReply
         requires own { IsOf self.now pass.old }
         requires within { fiber < self.now.limits.fibers }
         ensures same { OnlySees pass.old pass.new }
+        ensures lawful { IsPass pass.new }
         ensures call { Calls pass.old (call.Join fiber) (reply.Join result) pass.new }
     {
         let found = self
@@ -171,6 +191,7 @@ impl Registry {
         requires open { IsOpen pass.old.stage }
         requires unmasked { pass.old.depth ≡ 0 }
         ensures same { pass.new ≡ record pass.old { saw = result; seen = pass.new.seen } }
+        ensures lawful { IsPass pass.new }
         ensures call { Calls pass.old call.Look (reply.Seen result) pass.new }
         ensures asked { result ≡ true → WasCancelled pass.new.seen pass.old.number }
     {
@@ -184,11 +205,13 @@ impl Registry {
     }
 
     /// The pass `a` with the calls of both fibers in what it has seen. It is `a`'s fiber's, and
-    /// `b`'s fiber makes no more calls.
+    /// `b`'s fiber makes no more calls. Joining the two seats tells nothing of the words, so a load
+    /// follows, by which the pass takes the whole history of that moment into what it has seen.
     pub fn meet(&self, a: Pass, b: Pass) -> Pass
         requires first { IsOf self.now a }
         requires second { IsOf self.now b }
-        ensures { Meets a b result }
+        ensures met { Meets a b result }
+        ensures lawful { IsPass result }
     {
         let mut met = a;
         let Pass {
@@ -201,8 +224,30 @@ impl Registry {
         } = b;
         let shared = &self.table.shared;
         shared.join_seat::<rule::Host>(&mut met.seat, seat);
-        shared.load::<rule::Meets>(&mut met.seat, 0);
+        shared.load::<rule::Meets>(&mut met.seat, claim_place(Band::Fibers));
         met
+    }
+
+    /// The word of a fiber when no thread shares the registry any more: it is what one legal history
+    /// leaves that begins with all that the pass had seen. The number is below the limit of fibers.
+    pub fn last_word(self, pass: Pass, fiber: u16) -> u64
+        requires own { IsOf self pass }
+        requires within { fiber < self.limits.fibers }
+        ensures left { IsLeftWord self.limits pass.seen fiber result }
+    {
+        let Registry { table, limits: _ } = self;
+        let Pass {
+            seat,
+            number: _,
+            stage: _,
+            depth: _,
+            count: _,
+            saw: _,
+        } = pass;
+        let closed = table.close_with(seat);
+        let word = closed.word(cell_place(fiber));
+        closed.free();
+        word
     }
 }
 

@@ -1,8 +1,11 @@
 //! Refs and deferreds: values that fibers share, as in Cats Effect 3's `GenConcurrent`.
+//!
+//! The cells of all numbers below the limits exist from the start, a ref's with 0 and a deferred's
+//! empty. So each of these calls may name a number that no call has given yet.
 ghost use Rattle.std.specs.Prelude.{◌≡◌, ◌<◌};
 ghost use Rattle.effect_term.specs.declared.reply.Reply.TheVariants as reply;
 ghost use Rattle.cell_registry.specs.declared.call.Call.TheVariants as call;
-ghost use Rattle.cell_registry.specs.Passes.{Calls, IsOf, OnlySees};
+ghost use Rattle.cell_registry.specs.Passes.{Calls, IsOf, IsPass, OnlySees};
 
 use crate::pass::Pass;
 use crate::registry::Registry;
@@ -10,11 +13,13 @@ use crate::rule;
 use crate::words::{FILLED, deferred_place, read_answer, ref_place, value_bits, word_value};
 
 impl Registry {
-    /// The value of a ref, whose number is below the limit of refs.
+    /// The value of a ref, as `Ref::get` gives it. The number is below the limit of refs; the cell of
+    /// each such number exists from the start, and holds 0.
     pub fn get(&self, pass: &mut Pass, number: u16) -> i32
         requires own { IsOf self.now pass.old }
         requires within { number < self.now.limits.refs }
         ensures same { OnlySees pass.old pass.new }
+        ensures lawful { IsPass pass.new }
         ensures call { Calls pass.old (call.Get number) (reply.Value result) pass.new }
     {
         let place = ref_place(self.limits, number);
@@ -22,11 +27,13 @@ impl Registry {
         word_value(found)
     }
 
-    /// Sets a ref, whose number is below the limit of refs.
+    /// Sets a ref, as `Ref::set` does. The number is below the limit of refs; the cell of each such
+    /// number exists from the start.
     pub fn set(&self, pass: &mut Pass, number: u16, value: i32)
         requires own { IsOf self.now pass.old }
         requires within { number < self.now.limits.refs }
         ensures same { OnlySees pass.old pass.new }
+        ensures lawful { IsPass pass.new }
         ensures call { Calls pass.old (call.Set number value) reply.Done pass.new }
     {
         let place = ref_place(self.limits, number);
@@ -36,11 +43,13 @@ impl Registry {
             .store::<rule::Sets>(&mut pass.seat, place, bits);
     }
 
-    /// Adds to a ref modulo 2^32, and gives its old value. The number is below the limit of refs.
+    /// Adds to a ref modulo 2^32, and gives its old value, as `Ref::getAndUpdate` with a sum does. The
+    /// number is below the limit of refs; the cell of each such number exists from the start.
     pub fn modify(&self, pass: &mut Pass, number: u16, value: i32) -> i32
         requires own { IsOf self.now pass.old }
         requires within { number < self.now.limits.refs }
         ensures same { OnlySees pass.old pass.new }
+        ensures lawful { IsPass pass.new }
         ensures call { Calls pass.old (call.Modify number value) (reply.Value result) pass.new }
     {
         let place = ref_place(self.limits, number);
@@ -52,12 +61,14 @@ impl Registry {
         word_value(found)
     }
 
-    /// Completes a deferred, whose number is below the limit of deferreds. Answers whether this
-    /// call did it: a deferred is completed at most once.
+    /// Completes a deferred, as `Deferred::complete` does. Answers whether this call did it: a
+    /// deferred is completed at most once. The number is below the limit of deferreds; the cell of
+    /// each such number exists from the start, and is empty.
     pub fn complete(&self, pass: &mut Pass, number: u16, value: i32) -> bool
         requires own { IsOf self.now pass.old }
         requires within { number < self.now.limits.deferreds }
         ensures same { OnlySees pass.old pass.new }
+        ensures lawful { IsPass pass.new }
         ensures call { Calls pass.old (call.Complete number value) (reply.Completed result) pass.new }
     {
         let place = deferred_place(self.limits, number);
@@ -69,11 +80,13 @@ impl Registry {
         found == 0
     }
 
-    /// The value of a deferred, if it was completed. The number is below the limit of deferreds.
+    /// The value of a deferred, if it was completed, as `Deferred::tryGet` gives it. The number is
+    /// below the limit of deferreds; the cell of each such number exists from the start.
     pub fn read(&self, pass: &mut Pass, number: u16) -> Option<i32>
         requires own { IsOf self.now pass.old }
         requires within { number < self.now.limits.deferreds }
         ensures same { OnlySees pass.old pass.new }
+        ensures lawful { IsPass pass.new }
         ensures call { Calls pass.old (call.Read number) (reply.Read result) pass.new }
     {
         let place = deferred_place(self.limits, number);

@@ -20,6 +20,16 @@ pub(crate) const WAITED: u64 = 1 << 31;
 /// The bit that the word of a completed deferred has above its value.
 pub(crate) const FILLED: u64 = 1 << 32;
 
+// The phase of a fiber that has ended, as its word has it.
+const ENDED: u8 = 2;
+
+// How a fiber ended, as its word has it.
+const SUCCEEDED: u8 = 1;
+
+const ERRORED: u8 = 2;
+
+const CANCELED: u8 = 3;
+
 /// The place of the band's claim word, which holds the next number.
 pub(crate) fn claim_place(band: Band) -> usize
     ensures { result ≡ band_word band }
@@ -83,7 +93,7 @@ pub(crate) fn cancel_answer(word: u64) -> CancelReply
     ensures { TellsCancel word result }
 {
     let control = unpack(word);
-    if control.phase == 2 {
+    if control.phase == ENDED {
         CancelReply::Ended
     } else if control.cancel {
         CancelReply::Already
@@ -97,14 +107,17 @@ pub(crate) fn join_answer(word: u64) -> JoinReply
     ensures { TellsJoin word result }
 {
     let control = unpack(word);
-    if control.phase != 2 {
+    if control.phase != ENDED {
         JoinReply::Waits
-    } else if control.kind == 1 {
+    } else if control.kind == SUCCEEDED {
         JoinReply::Ended(Outcome::Succeeded(control.value))
-    } else if control.kind == 2 {
+    } else if control.kind == ERRORED {
         JoinReply::Ended(Outcome::Errored(control.value))
-    } else {
+    } else if control.kind == CANCELED {
         JoinReply::Ended(Outcome::Canceled)
+    } else {
+        // No fiber's word is one that has ended without an outcome.
+        JoinReply::Waits
     }
 }
 

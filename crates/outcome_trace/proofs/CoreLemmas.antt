@@ -11,7 +11,7 @@ use Rattle.cell_registry.specs.declared.limits.RunError.{RunError}
 use Rattle.cell_registry.specs.declared.call.Call.{Call}
 use Rattle.cell_registry.specs.declared.call.Call.TheVariants.{Start, Cancel, Join, Look, Mask, Unmask, Cut, Finish, NewRef, NewDeferred, Get, Set, Modify, Complete, Read}
 use Rattle.cell_registry.specs.Cells.{Cells, opening, after, reply_of, refusal}
-use Rattle.cell_registry.specs.Plain.{Kept, kept_open}
+use Rattle.cell_registry.specs.Plain.{PlainView, new_plain}
 use Rattle.outcome_trace.specs.declared.wish.Wish.TheVariants.{Shared, Alone, Nothing}
 use Rattle.outcome_trace.specs.Core.{Course, Goes, Stops, World, one_fiber, wish_of, fault_of, born, called, answered, wished, entered, core_from, core}
 
@@ -74,8 +74,8 @@ core_from-stops k w e fs i f within is stops =
     core_from-next k w fs i within ∙ ap (λ (n : ℕ). core_from k (entered k (Goes w) n) (drop (i + 1) fs)) is ∙ ap (λ (x : Course). core_from k x (drop (i + 1) fs)) stops ∙ core_from-stopped k e (drop (i + 1) fs)
 
 -- ---- the opening
-pub core_from-opened : (k : Limits) (code : Tree) (g : Fiber) (r : Kept) (fs : List ℕ) → g ≡ begins 0 code → r ≡ kept_open k → core_from r.limits (Goes (one_fiber g r.state)) fs ≡ core code k fs
+pub core_from-opened : (k : Limits) (code : Tree) (g : Fiber) (r : PlainView) (fs : List ℕ) → g ≡ begins 0 code → r ≡ new_plain k → core_from r.limits (Goes (one_fiber g r.state)) fs ≡ core code k fs
 unfolding core
 core_from-opened k code g r fs first opened =
-    ap (λ (x : Kept). core_from x.limits (Goes (one_fiber g x.state)) fs) opened
+    ap (λ (x : PlainView). core_from x.limits (Goes (one_fiber g x.state)) fs) opened
     ∙ ap (λ (f : Fiber). core_from k (Goes (one_fiber f (opening k))) fs) first

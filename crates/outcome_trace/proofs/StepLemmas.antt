@@ -6,7 +6,7 @@ use Rattle.effect_term.specs.declared.reply.Reply.TheVariants.{Done}
 use Rattle.fiber_frames.specs.Fiber.{Fiber, ask_of}
 use Rattle.cell_registry.specs.declared.call.Call.{Call}
 use Rattle.cell_registry.specs.Cells.{cell_of, after, reply_of, refusal}
-use Rattle.cell_registry.specs.Plain.{Kept, IsKept, IsMade}
+use Rattle.cell_registry.specs.Plain.{PlainView, IsPlain, IsMade}
 use Rattle.outcome_trace.specs.declared.wish.Wish.TheVariants.{Shared, Alone}
 use Rattle.outcome_trace.specs.Core.{wish_of}
 use Rattle.outcome_trace.specs.Fit.{Fits}
@@ -14,14 +14,14 @@ use Rattle.outcome_trace.specs.Steps.{Steps}
 use Rattle.outcome_trace.proofs.FitLemmas.{no_start, called_fits, alone_fits, called_answers, alone_answers}
 use Rattle.outcome_trace.proofs.CoreLemmas.{entered-alone, entered-made}
 
-few_masks : (r : Kept) (g : Fiber) → IsKept r → Fits 0 g (cell_of r.state 0) → g.next < 2 ^ 63
+few_masks : (r : PlainView) (g : Fiber) → IsPlain r → Fits 0 g (cell_of r.state 0) → g.next < 2 ^ 63
 few_masks r g kept h =
     let made = (kept.sound.each_cell 0).count in
     let most = kept.limits.count in
     let less = h.masks in
     omega arith
 
-pub alone_steps : (r : Kept) (g : Fiber) → IsKept r → Fits 0 g (cell_of r.state 0) → wish_of (ask_of g) ≡ Alone → Steps r.limits g r.state Done r.state
+pub alone_steps : (r : PlainView) (g : Fiber) → IsPlain r → Fits 0 g (cell_of r.state 0) → wish_of (ask_of g) ≡ Alone → Steps r.limits g r.state Done r.state
 alone_steps r g kept h wish = record {
   answers = alone_answers g.number (ask_of g) wish;
   masks = few_masks r g kept h;
@@ -29,7 +29,7 @@ alone_steps r g kept h wish = record {
   goes = entered-alone r.limits g r.state wish;
 }
 
-made_steps_at : (r : Kept) (g : Fiber) (c : Call) → IsKept r → Fits 0 g (cell_of r.state 0) → wish_of (ask_of g) ≡ Shared c → refusal r.limits r.state 0 c ≡ None → Steps r.limits g r.state (reply_of r.state 0 c) (after r.state 0 c)
+made_steps_at : (r : PlainView) (g : Fiber) (c : Call) → IsPlain r → Fits 0 g (cell_of r.state 0) → wish_of (ask_of g) ≡ Shared c → refusal r.limits r.state 0 c ≡ None → Steps r.limits g r.state (reply_of r.state 0 c) (after r.state 0 c)
 made_steps_at r g c kept h wish room =
     let other = no_start 0 g (cell_of r.state 0) c h wish in
     let some = kept.limits.some_fiber in
@@ -41,7 +41,7 @@ made_steps_at r g c kept h wish room =
       goes = entered-made r.limits g r.state c wish other room;
     }
 
-pub made_steps : (r new : Kept) (g : Fiber) (c : Call) (answer : Reply) → IsKept r → Fits 0 g (cell_of r.state 0) → wish_of (ask_of g) ≡ Shared c → IsMade r new 0 c answer → Steps r.limits g r.state answer new.state
+pub made_steps : (r new : PlainView) (g : Fiber) (c : Call) (answer : Reply) → IsPlain r → Fits 0 g (cell_of r.state 0) → wish_of (ask_of g) ≡ Shared c → IsMade r new 0 c answer → Steps r.limits g r.state answer new.state
 made_steps r new g c answer kept h wish made =
     subst (λ (a : Reply). Steps r.limits g r.state a new.state) (sym made.reply)
-    (subst (λ (n : Kept). Steps r.limits g r.state (reply_of r.state 0 c) n.state) (sym made.left) (made_steps_at r g c kept h wish made.room))
+    (subst (λ (n : PlainView). Steps r.limits g r.state (reply_of r.state 0 c) n.state) (sym made.left) (made_steps_at r g c kept h wish made.room))

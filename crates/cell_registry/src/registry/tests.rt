@@ -12,6 +12,22 @@ use effect_term::{CancelReply, JoinReply, Outcome};
 use std::alloc::{AllocError, Global};
 use std::thread;
 
+/// Holds whichever allocation is refused.
+#[test]
+fn want_of_memory_or_a_fresh_registry(rt: HostRuntime) {
+    match Registry::new(rt.alloc(), 2, 1, 1, 10) {
+        Err(AllocError) => {}
+        Ok((registry, pass)) => {
+            assert_eq!(rt; pass.number(), 0);
+            assert_eq!(rt; pass.phase(), Stage::Running);
+            assert_eq!(rt; pass.depth(), 0);
+            assert_eq!(rt; pass.count(), 0);
+            assert_eq!(rt; pass.saw(), false);
+            assert_eq!(rt; registry.last_word(pass, 0), 0);
+        }
+    }
+}
+
 #[test]
 fn each_band_gives_its_numbers_once(rt: HostRuntime) -> Result<(), AllocError> {
     let (registry, mut pass) = Registry::new(rt.alloc(), 2, 1, 1, 10)?;
@@ -109,6 +125,21 @@ fn word_of(registry: &Registry, fiber: u16) -> u64
 }
 
 #[test]
+fn a_cut_leaves_one_word(rt: HostRuntime) -> Result<(), AllocError> {
+    let (registry, mut pass) = Registry::new(rt.alloc(), 2, 1, 1, 10)?;
+    let Ok(mut child) = registry.start(&mut pass) else {
+        panic!(rt; "no fiber was started");
+    };
+    assert_eq!(rt; registry.cancel(&mut pass, 1), CancelReply::Asked);
+    if !registry.look(&mut child) {
+        panic!(rt; "the request was not seen");
+    }
+    assert_eq!(rt; registry.cut(&mut child), Ok(()));
+    assert_eq!(rt; registry.last_word(child, 1), 1_141_112_833);
+    Ok(())
+}
+
+#[test]
 fn a_canceled_fiber_ends(rt: HostRuntime) -> Result<(), AllocError> {
     let (registry, mut pass) = Registry::new(rt.alloc(), 2, 1, 1, 10)?;
     let Ok(mut child) = registry.start(&mut pass) else {
@@ -121,11 +152,10 @@ fn a_canceled_fiber_ends(rt: HostRuntime) -> Result<(), AllocError> {
     let Ok(()) = registry.cut(&mut child) else {
         panic!(rt; "the cut was refused");
     };
-    assert_eq!(rt; word_of(&registry, 1), 0x4404_0001);
     let Ok(()) = registry.finish(&mut child, Outcome::Canceled) else {
         panic!(rt; "the end was refused");
     };
-    assert_eq!(rt; word_of(&registry, 1), 0x7804_0002);
+    assert_eq!(rt; word_of(&registry, 1), 2_013_528_066);
     assert_eq!(rt; child.phase(), Stage::Ended(Outcome::Canceled));
     assert_eq!(rt; child.depth(), 1);
     assert_eq!(rt; child.count(), 2);
@@ -136,6 +166,8 @@ fn a_canceled_fiber_ends(rt: HostRuntime) -> Result<(), AllocError> {
     let mut met = registry.meet(pass, child);
     assert_eq!(rt; met.number(), 0);
     assert_eq!(rt; registry.join(&mut met, 1), ended);
+    // The joins have noted that somebody waits.
+    assert_eq!(rt; registry.last_word(met, 1), 2_013_528_066 + (1 << 31));
     Ok(())
 }
 

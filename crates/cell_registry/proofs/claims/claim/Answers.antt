@@ -2,7 +2,8 @@ use Rattle.std.proofs.Common.{◌≡◌, ℕ, ◌<◌, ◌∙◌, arith}
 use Rattle.cell_registry.specs.declared.limits.Band.{Band}
 use Rattle.cell_registry.specs.declared.limits.Band.TheVariants.{Fibers, Refs, Deferreds}
 use Rattle.cell_registry.specs.Histories.{left}
-use Rattle.cell_registry.specs.Steps.{band_word, next_of}
+use Rattle.cell_registry.specs.Bands.{next_of}
+use Rattle.cell_registry.specs.Steps.{band_word}
 use Rattle.cell_registry.proofs.Claiming.{sees_next, tries, failed, won, rises, all_given, looked_twice, same_twice, looked_then_claimed, still_has, still_may}
 use Rattle.cell_registry.proofs.claims.claim.Goals as goal
 

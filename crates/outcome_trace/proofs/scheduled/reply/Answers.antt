@@ -9,10 +9,10 @@ use Rattle.outcome_trace.proofs.scheduled.reply.Goals as goal
 
 pub answer-requires : goal.answer-requires
 answer-requires c = λ range.
-    let some = c.limits.ensures.kept.limits.some_fiber in
+    let some = c.limits.ensures.lawful.limits.some_fiber in
     let wish : wish_of (ask_of c.args.config.now) ≡ Shared c.in-Shared.call = ap wish_of (sym c.ask.ensures) ∙ sym c.in-Shared.ensures in
     record {
-      born = c.limits.ensures.kept.sound.some_fiber;
+      born = c.limits.ensures.lawful.sound.some_fiber;
       allowed = allowed c.args.registry.now.limits c.args.registry.now.state 0 c.args.config.now c.in-Shared.call some c.requires wish range;
     }
 
@@ -24,9 +24,9 @@ returns-in-Nothing-clause-rests c =
 pub returns-in-Alone-clause-steps : goal.returns-in-Alone-clause-steps
 returns-in-Alone-clause-steps c =
     let wish : wish_of (ask_of c.args.config.now) ≡ Alone = ap wish_of (sym c.ask.ensures) ∙ sym c.in-Alone.ensures in
-    alone_steps c.args.registry.now c.args.config.now c.limits.ensures.kept c.requires wish
+    alone_steps c.args.registry.now c.args.config.now c.limits.ensures.lawful c.requires wish
 
 pub returns-in-Ok-clause-steps : goal.returns-in-Ok-clause-steps
 returns-in-Ok-clause-steps c =
     let wish : wish_of (ask_of c.args.config.now) ≡ Shared c.in-Shared.call = ap wish_of (sym c.ask.ensures) ∙ sym c.in-Shared.ensures in
-    made_steps c.args.registry.now c.answer.new.registry c.args.config.now c.in-Shared.call c.in-Ok.reply c.limits.ensures.kept c.requires wish c.in-Ok.ensures
+    made_steps c.args.registry.now c.answer.new.registry c.args.config.now c.in-Shared.call c.in-Ok.reply c.limits.ensures.lawful c.requires wish c.in-Ok.ensures

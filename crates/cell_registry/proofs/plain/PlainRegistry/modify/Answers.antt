@@ -18,14 +18,14 @@ added xs r x v is within each fits =
     let old : x ≡ get_or xs r (pos 0) = is ∙ get_or_default xs r x (pos 0) within in
     wrapping_add_is w32 x v (subst (FitsSigned w32) (sym old) (each r)) fits ∙ ap (λ z. int_wrap w32 (z +ℤ v)) old
 
-pub returns : goal.returns
+pub returns-clause-made : goal.returns-clause-made
 unfolding after reply_of refusal IsAllowed
-returns c =
+returns-clause-made c =
     let xs = c.self.inside.refs.items in
     let x = c.index-old.result.now in
     let sound = c.self.invariant.sound in
     let is : x ≡ get_or xs c.args.number x = c.index-old.ensures ∙ ap (λ j. get_or xs j x) c.from-place.ensures in
-    let within : c.args.number < length xs = rw sound.refs (subst (λ (k : Rattle.cell_registry.specs.Plain.Kept). c.args.number < k.limits.refs) (sym c.self.view_is) c.requires.allowed.0) in
+    let within : c.args.number < length xs = rw sound.refs (subst (λ (k : Rattle.cell_registry.specs.Plain.PlainView). c.args.number < k.limits.refs) (sym c.self.view_is) c.requires.may.allowed.0) in
     rw (← c.self.view_is) record {
       room = refl;
       reply = ap Value (read xs c.args.number x is within sound.each_ref);

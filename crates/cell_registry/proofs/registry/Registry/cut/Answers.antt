@@ -13,7 +13,7 @@ fetch_add-requires c =
     let p = c.pass.invariant in
     let of = of_registry _ _ _ _ c.self.view_is c.pass.view_is c.requires.own in
     let cell = seat_cell _ _ _ _ _ _ _ p.1 in
-    let below = seen_count_below _ _ _ _ _ _ _ _ _ p.1 of c.self.invariant c.in_ok-room.ensures.room in
+    let below = seen_count_below _ _ _ _ _ _ _ _ _ p.1 of c.self.invariant c.in_ok-refuse_if_spent.ensures.room in
     let running = ap (λ o. o.0) cell ∙ subst (λ (q : PassView). q.stage ≡ Running) (sym c.pass.view_is) c.requires.running in
     let depth = ap (λ o. o.1) cell ∙ subst (λ (q : PassView). q.depth ≡ 0) (sym c.pass.view_is) c.requires.unmasked in
     let saw = subst (λ (q : PassView). q.saw ≡ true) (sym c.pass.view_is) c.requires.requested in
@@ -23,7 +23,7 @@ fetch_add-requires c =
 pub overflow_add-pass : goal.overflow_add-pass
 overflow_add-pass c =
     let of = of_registry _ _ _ _ c.self.view_is c.pass.view_is c.requires.own in
-    let below = count_below _ _ _ c.pass.invariant.1 of c.in_ok-room.ensures.room in
+    let below = count_below _ _ _ c.pass.invariant.1 of c.in_ok-refuse_if_spent.ensures.room in
     let most = c.pass.invariant.1.pass.limits.count in
     search rules
 
@@ -44,10 +44,13 @@ returns-clause-cut c =
     let told = c.fetch_add.ensures.2.1 in
     let P : PassView → Type 0 = λ h. Changes h call.Cut Finalizing 1 (pass_of new.table_id new.me.0 old.number Finalizing 1 (old.count + 1) old.saw) in
     subst P c.pass.view_is record {
-      room = count_below _ _ _ p.1 of c.in_ok-room.ensures.room;
+      room = count_below _ _ _ p.1 of c.in_ok-refuse_if_spent.ensures.room;
       same = pass_of-step _ _ old.seat.me.0 new.me.0 _ Finalizing 1 (old.count + 1) _ c.fetch_add.ensures.0 told.1.limits told.1.fibers;
       call = called_by old.seat.me.0 new.me.0 _ _ _ p.1.number_is told.0;
     }
 
 pub returns-clause-after_cancel : goal.returns-clause-after_cancel
 returns-clause-after_cancel c = legal-cuts _ c.fetch_add.new.seat.me.0.seen c.fetch_add.ensures.2.1.0.legal
+
+pub returns-clause-lawful : goal.returns-clause-lawful
+returns-clause-lawful c = (invariant_of-pass c).1.pass

@@ -14,14 +14,14 @@ fetch_add-requires c =
     let p = c.pass.invariant in
     let of = of_registry _ _ _ _ c.self.view_is c.pass.view_is c.requires.own in
     let cell = seat_cell _ _ _ _ _ _ _ p.1 in
-    let below = seen_count_below _ _ _ _ _ _ _ _ _ p.1 of c.self.invariant c.in_ok-room.ensures.room in
+    let below = seen_count_below _ _ _ _ _ _ _ _ _ p.1 of c.self.invariant c.in_ok-refuse_if_spent.ensures.room in
     let may = subst (λ (x : Stage × ℕ × ℕ). MayFinish x.0 x.1 c.args.outcome) (sym cell) (subst (λ (q : PassView). MayFinish q.stage q.depth c.args.outcome) (sym c.pass.view_is) c.requires.may) in
-    (ap (λ (s : RegistryView). s.table) of, own_place _ _ _ _ _ p.1 of c.self.invariant c.cell_place.ensures, finishes_as _ _ _ c.cell_place.result _ _ c.is_finalizing.result c.args.outcome p.0 (seat_has _ _ refl p.1) (c.cell_place.ensures ∙ ap (λ n. n + 3) p.1.number_is) below may (ap (λ o. phase_at o.0) cell ∙ c.is_finalizing.ensures) c.finish_amount-amount.ensures.law c.finish_amount-amount.ensures.sum)
+    (ap (λ (s : RegistryView). s.table) of, own_place _ _ _ _ _ p.1 of c.self.invariant c.cell_place.ensures, finishes_as _ _ _ c.cell_place.result _ _ c.is_finalizing.result c.args.outcome p.0 (seat_has _ _ refl p.1) (c.cell_place.ensures ∙ ap (λ n. n + 3) p.1.number_is) below may (ap (λ o. phase_at o.0) cell ∙ c.is_finalizing.ensures.phase) c.finish_amount-amount.ensures.law c.finish_amount-amount.ensures.sum)
 
 pub overflow_add-pass : goal.overflow_add-pass
 overflow_add-pass c =
     let of = of_registry _ _ _ _ c.self.view_is c.pass.view_is c.requires.own in
-    let below = count_below _ _ _ c.pass.invariant.1 of c.in_ok-room.ensures.room in
+    let below = count_below _ _ _ c.pass.invariant.1 of c.in_ok-refuse_if_spent.ensures.room in
     let most = c.pass.invariant.1.pass.limits.count in
     search rules
 
@@ -29,7 +29,7 @@ pub invariant_of-pass : goal.invariant_of-pass
 invariant_of-pass c =
     let p = c.pass.invariant in
     let cell = seat_cell _ _ _ _ _ _ _ p.1 in
-    let phase = ap (λ o. phase_at o.0) (seat_cell _ _ _ _ _ _ _ p.1) ∙ c.is_finalizing.ensures in
+    let phase = ap (λ o. phase_at o.0) (seat_cell _ _ _ _ _ _ _ p.1) ∙ c.is_finalizing.ensures.phase in
     let may = subst (λ (q : PassView). MayFinish q.stage q.depth c.args.outcome) (sym c.pass.view_is) c.requires.may in
     let told = c.fetch_add.ensures.2.1 c.is_finalizing.result c.args.outcome phase (finish-fits _ _ _ may) c.finish_amount-amount.ensures.sum in
     (c.fetch_add.ensures.2.0, seated_changed _ _ _ _ _ _ _ _ _ _ _ _ _ (λ j. (Ended c.args.outcome, (cell j).1, (cell j).2 + 1)) told.1 (call-prefix _ _ _ _ _ _ _ told.0) told.0.legal p.1)
@@ -40,12 +40,15 @@ returns-clause-ended c =
     let old = c.pass.inside in
     let new = c.fetch_add.new.seat in
     let of = of_registry _ _ _ _ c.self.view_is c.pass.view_is c.requires.own in
-    let phase = ap (λ o. phase_at o.0) (seat_cell _ _ _ _ _ _ _ p.1) ∙ c.is_finalizing.ensures in
+    let phase = ap (λ o. phase_at o.0) (seat_cell _ _ _ _ _ _ _ p.1) ∙ c.is_finalizing.ensures.phase in
     let may = subst (λ (q : PassView). MayFinish q.stage q.depth c.args.outcome) (sym c.pass.view_is) c.requires.may in
     let told = c.fetch_add.ensures.2.1 c.is_finalizing.result c.args.outcome phase (finish-fits _ _ _ may) c.finish_amount-amount.ensures.sum in
     let P : PassView → Type 0 = λ h. Changes h (call.Finish c.args.outcome) (Ended c.args.outcome) h.depth (pass_of new.table_id new.me.0 old.number (Ended c.args.outcome) old.depth (old.count + 1) old.saw) in
     subst P c.pass.view_is record {
-      room = count_below _ _ _ p.1 of c.in_ok-room.ensures.room;
+      room = count_below _ _ _ p.1 of c.in_ok-refuse_if_spent.ensures.room;
       same = pass_of-step _ _ old.seat.me.0 new.me.0 _ (Ended c.args.outcome) old.depth (old.count + 1) _ c.fetch_add.ensures.0 told.1.limits told.1.fibers;
       call = called_by old.seat.me.0 new.me.0 _ _ _ p.1.number_is told.0;
     }
+
+pub returns-clause-lawful : goal.returns-clause-lawful
+returns-clause-lawful c = (invariant_of-pass c).1.pass

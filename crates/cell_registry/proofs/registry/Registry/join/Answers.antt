@@ -41,3 +41,6 @@ returns-clause-call c =
     let new = c.fetch_or-found.new.seat in
     let P : PassView → Type 0 = λ h. Calls h (call.Join c.args.fiber) (reply.Join c.join_answer.result) (pass_of new.table_id new.me.0 old.number old.stage old.depth old.count old.saw) in
     subst P c.pass.view_is (called_by old.seat.me.0 new.me.0 _ _ _ c.pass.invariant.1.number_is (subst (λ (r : JoinReply). Called old.seat.me.0 (call.Join c.args.fiber) (reply.Join r) new.me.0) (sym answer) t.3.0))
+
+pub returns-clause-lawful : goal.returns-clause-lawful
+returns-clause-lawful c = (invariant_of-pass c).1.pass

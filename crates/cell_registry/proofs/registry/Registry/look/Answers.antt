@@ -6,7 +6,7 @@ use Rattle.cell_registry.specs.Steps.{Called}
 use Rattle.cell_registry.specs.Cancellation.{WasCancelled}
 use Rattle.cell_registry.specs.Passes.{RegistryView, PassView, Calls, pass_of}
 use Rattle.cell_registry.proofs.CellTurns.{sees}
-use Rattle.cell_registry.proofs.Tokens.{of_registry, own_place, seat_has, seat_cell, called_by, pass_of-step, seated_looked}
+use Rattle.cell_registry.proofs.Tokens.{of_registry, own_place, seat_has, seat_cell, called_by, call-prefix, pass_of-step, seated_looked}
 use Rattle.cell_registry.proofs.Requests.{request-cancelled}
 use Rattle.cell_registry.proofs.registry.Registry.look.Goals as goal
 
@@ -25,7 +25,7 @@ invariant_of-pass c =
     let told = c.load-found.ensures.2 in
     let t = told.1 in
     let answer = c.look_answer-requested.ensures t.0 t.1 t.2 in
-    (told.0, seated_looked _ _ _ _ _ _ _ _ c.pass.inside.saw c.look_answer-requested.result t.3.1 t.3.0.legal (λ e. t.3.2 ∙ sym answer ∙ e) c.pass.invariant.1)
+    (told.0, seated_looked _ _ _ _ _ _ _ _ c.pass.inside.saw c.look_answer-requested.result t.3.1 (call-prefix _ _ _ _ _ _ _ t.3.0) t.3.0.legal (λ e. t.3.2 ∙ sym answer ∙ e) c.pass.invariant.1)
 
 pub returns-clause-same : goal.returns-clause-same
 returns-clause-same c =
@@ -52,3 +52,6 @@ returns-clause-asked c saw =
     let asked : WasCancelled new.seen c.pass.inside.seat.me.0.number = request-cancelled new.limits new.seen _ (t.3.2 ∙ sym answer ∙ saw) in
     let number = sym c.pass.invariant.1.number_is ∙ ap (λ (q : PassView). q.number) c.pass.view_is in
     subst (WasCancelled new.seen) number asked
+
+pub returns-clause-lawful : goal.returns-clause-lawful
+returns-clause-lawful c = (invariant_of-pass c).1.pass

@@ -11,7 +11,7 @@ fetch_add-requires c =
     let p = c.pass.invariant in
     let of = of_registry _ _ _ _ c.self.view_is c.pass.view_is c.requires.own in
     let cell = seat_cell _ _ _ _ _ _ _ p.1 in
-    let below = seen_count_below _ _ _ _ _ _ _ _ _ p.1 of c.self.invariant c.in_ok-room.ensures.room in
+    let below = seen_count_below _ _ _ _ _ _ _ _ _ p.1 of c.self.invariant c.in_ok-refuse_if_spent.ensures.room in
     let opened = subst IsOpen (sym (ap (λ o. o.0) cell)) (subst (λ (q : PassView). IsOpen q.stage) (sym c.pass.view_is) c.requires.open) in
     let depth = subst (λ (q : PassView). q.depth < 255) (sym c.pass.view_is) c.requires.depth in
     let d = ap (λ o. o.1) cell in
@@ -20,7 +20,7 @@ fetch_add-requires c =
 pub overflow_add-pass-2 : goal.overflow_add-pass-2
 overflow_add-pass-2 c =
     let of = of_registry _ _ _ _ c.self.view_is c.pass.view_is c.requires.own in
-    let below = count_below _ _ _ c.pass.invariant.1 of c.in_ok-room.ensures.room in
+    let below = count_below _ _ _ c.pass.invariant.1 of c.in_ok-refuse_if_spent.ensures.room in
     let most = c.pass.invariant.1.pass.limits.count in
     search rules
 
@@ -40,7 +40,10 @@ returns-clause-masked c =
     let told = c.fetch_add.ensures.2.1 in
     let P : PassView → Type 0 = λ h. Changes h call.Mask h.stage (h.depth + 1) (pass_of new.table_id new.me.0 old.number old.stage (old.depth + 1) (old.count + 1) old.saw) in
     subst P c.pass.view_is record {
-      room = count_below _ _ _ p.1 of c.in_ok-room.ensures.room;
+      room = count_below _ _ _ p.1 of c.in_ok-refuse_if_spent.ensures.room;
       same = pass_of-step _ _ old.seat.me.0 new.me.0 _ old.stage (old.depth + 1) (old.count + 1) _ c.fetch_add.ensures.0 told.1.limits told.1.fibers;
       call = called_by old.seat.me.0 new.me.0 _ _ _ p.1.number_is told.0;
     }
+
+pub returns-clause-lawful : goal.returns-clause-lawful
+returns-clause-lawful c = (invariant_of-pass c).1.pass

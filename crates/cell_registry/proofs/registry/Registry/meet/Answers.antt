@@ -20,10 +20,14 @@ load-requires c =
     let words = c.self.invariant.words in
     let j = c.join_seat.ensures in
     let has = subst (λ (v : Knowledge). Has v.fibers v.number) (sym (ap (λ (m : Me ℕ Knowledge). m.0) j.2)) (seat_has _ _ refl c.met.invariant.1) in
-    (j.0 ∙ this, omega arith, meets _ _ _ _ (ap (λ (m : Me ℕ Knowledge). m.1) j.2 ∙ c.met.invariant.0) has)
+    let place = c.claim_place.ensures in
+    (j.0 ∙ this, omega arith, rw place (meets _ _ _ _ (ap (λ (m : Me ℕ Knowledge). m.1) j.2 ∙ c.met.invariant.0) has))
 
 pub invariant_of-met : goal.invariant_of-met
 invariant_of-met c =
     let j = c.join_seat.ensures in
     let l = c.load.ensures in
-    (l.2.0, met_seated c.met.inside.seat.me.0 c.b.inside.seat.me.0 _ _ _ _ _ _ _ _ _ (ap (λ (m : Me ℕ Knowledge). m.0) j.2) l.2.1 c.met.invariant.1)
+    (l.2.0, met_seated c.met.inside.seat.me.0 c.b.inside.seat.me.0 _ _ _ _ _ _ _ _ _ (ap (λ (m : Me ℕ Knowledge). m.0) j.2) l.2.1 c.b.invariant.1.pass.born c.met.invariant.1)
+
+pub returns-clause-lawful : goal.returns-clause-lawful
+returns-clause-lawful c = (invariant_of-met c).1.pass

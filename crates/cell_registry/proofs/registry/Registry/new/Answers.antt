@@ -1,8 +1,12 @@
-use Rattle.std.proofs.Common.{◌≡◌, ℕ, ◌+◌, sym, ◌∙◌, ap, subst, set, false}
+use Rattle.std.proofs.Common.{◌≡◌, ℕ, ◌+◌, [], sym, ◌∙◌, ap, subst, set, false}
 use Rattle.std.specs.Prelude.{replicate}
+use Rattle.atomic_table.specs.Seated.{TableId}
 use Rattle.atomic_table.specs.Table.{Me}
+use Rattle.cell_registry.specs.declared.limits.Limits.{Limits}
 use Rattle.cell_registry.specs.declared.cell.Stage.TheVariants.{Running}
 use Rattle.cell_registry.specs.declared.knowledge.Knowledge.{Knowledge}
+use Rattle.cell_registry.specs.Cells.{AreLimits}
+use Rattle.cell_registry.specs.Rule.{first_knowledge}
 use Rattle.cell_registry.specs.Passes.{IsSeated, pass_of}
 use Rattle.cell_registry.proofs.Seats.{begins}
 use Rattle.cell_registry.proofs.Tokens.{first_seated}
@@ -12,10 +16,16 @@ pub of_words-requires : goal.of_words-requires
 of_words-requires c =
     let is = c.in_ok-words.ensures in
     let items : c.as_slice.result.now ≡ set (replicate (c.args.fibers + c.args.refs + c.args.deferreds + 3) 0) 0 1 =
-    c.as_slice.ensures.value ∙ ap (λ l. set l 0 1) (is.items_if_clones_equal (λ y e. e)) ∙ (λ j. set (replicate (c.from.ensures j + c.from-2.ensures j + c.from-3.ensures j + 3) 0) 0 1) in
+    c.as_slice.ensures.value ∙ (λ j. set (is.items_if_clones_equal (λ y e. e) j) (c.claim_place.ensures j) 1) ∙ (λ j. set (replicate (c.from.ensures j + c.from-2.ensures j + c.from-3.ensures j + 3) 0) 0 1) in
     begins ℕ _ c.as_slice.result.now c.requires.limits items
+
+first : (k : Limits) (t : TableId) (me : Me ℕ Knowledge) → AreLimits k → me ≡ (first_knowledge k, []) → IsSeated me.0 (pass_of t me.0 0 Running 0 0 false)
+first k t me limits is = subst (λ (v : Knowledge). IsSeated v (pass_of t v 0 Running 0 0 false)) (sym (ap (λ (m : Me ℕ Knowledge). m.0) is)) (first_seated k t limits)
 
 pub invariant_of-pass : goal.invariant_of-pass
 invariant_of-pass c =
     let me = c.in_ok-table.ensures.4 in
-    (ap (λ (m : Me ℕ Knowledge). m.1) me, subst (λ (v : Knowledge). IsSeated v (pass_of c.in_ok-table.seat.table_id v 0 Running 0 0 false)) (sym (ap (λ (m : Me ℕ Knowledge). m.0) me)) (first_seated _ c.in_ok-table.seat.table_id c.requires.limits))
+    (ap (λ (m : Me ℕ Knowledge). m.1) me, first _ _ _ c.requires.limits me)
+
+pub returns-clause-lawful : goal.returns-clause-lawful
+returns-clause-lawful c = (first _ _ _ c.requires.limits c.in_ok-table.ensures.4).pass

@@ -21,3 +21,6 @@ claim-requires-clause-may c = (seat_has _ _ refl c.pass.invariant.1, tt)
 
 pub invariant_of-pass : goal.invariant_of-pass
 invariant_of-pass c = (c.claim.ensures.seat.1, seated_given Refs (λ m fs. refl) c.claim.result _ _ _ _ _ _ _ _ _ c.claim.ensures.claim c.pass.invariant.1)
+
+pub returns-clause-lawful : goal.returns-clause-lawful
+returns-clause-lawful c = (invariant_of-pass c).1.pass

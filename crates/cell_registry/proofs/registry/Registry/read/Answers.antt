@@ -46,3 +46,6 @@ returns-clause-call c =
     let new = c.load-found.new.seat in
     let P : PassView → Type 0 = λ h. Calls h (call.Read c.args.number) (reply.Read c.read_answer.result) (pass_of new.table_id new.me.0 old.number old.stage old.depth old.count old.saw) in
     subst P c.pass.view_is (called_by old.seat.me.0 new.me.0 _ _ _ c.pass.invariant.1.number_is (subst (λ (x : Option ℤ). Called old.seat.me.0 (call.Read c.args.number) (reply.Read x) new.me.0) (sym answer) t.3))
+
+pub returns-clause-lawful : goal.returns-clause-lawful
+returns-clause-lawful c = (invariant_of-pass c).1.pass

@@ -33,3 +33,6 @@ returns-clause-same c =
     let new = c.store.new.seat in
     let P : PassView → Type 0 = λ h. OnlySees h (pass_of new.table_id new.me.0 old.number old.stage old.depth old.count old.saw) in
     subst P c.pass.view_is (pass_of-step _ _ old.seat.me.0 new.me.0 _ _ _ _ _ c.store.ensures.0 t.1.limits t.1.fibers)
+
+pub returns-clause-lawful : goal.returns-clause-lawful
+returns-clause-lawful c = (invariant_of-pass c).1.pass

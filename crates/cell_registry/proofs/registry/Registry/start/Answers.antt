@@ -1,11 +1,12 @@
-use Rattle.std.proofs.Common.{ℕ, sym, ◌∙◌, ap, arith, refl, subst}
+use Rattle.std.proofs.Common.{ℕ, false, sym, ◌∙◌, ap, arith, refl, subst}
 use Rattle.atomic_table.specs.Table.{Me}
 use Rattle.cell_registry.specs.declared.limits.Limits.{Limits}
 use Rattle.cell_registry.specs.declared.knowledge.Knowledge.{Knowledge}
+use Rattle.cell_registry.specs.declared.cell.Stage.TheVariants.{Running}
 use Rattle.cell_registry.specs.Cells.{IsOpen}
 use Rattle.cell_registry.specs.Passes.{RegistryView, PassView, IsSeated, pass_of}
 use Rattle.cell_registry.proofs.Seats.{splits}
-use Rattle.cell_registry.proofs.Tokens.{of_registry, seat_has, seat_cell, call-prefix, seated_still, parent-same}
+use Rattle.cell_registry.proofs.Tokens.{of_registry, seat_has, seat_cell, call-prefix, seated_still, parent-same, child_seated}
 use Rattle.cell_registry.proofs.registry.Registry.start.Goals as goal
 
 pub claim-requires-clause-table : goal.claim-requires-clause-table
@@ -42,3 +43,18 @@ invariant_of-pass-2 c =
     let old = c.pass.inside in
     let P : Knowledge → Type 0 = λ v. IsSeated v (pass_of c.split_seat-seat.new.seat.table_id v old.number old.stage old.depth old.count old.saw) in
     (ap (λ (m : Me ℕ Knowledge). m.1) e.2 ∙ c.claim.ensures.seat.1, subst P (sym (ap (λ (m : Me ℕ Knowledge). m.0) e.2)) (seated_still _ _ _ _ _ _ _ _ _ (parent-same _ _ _ t) (call-prefix _ _ _ _ _ _ _ t.call) t.call.legal c.pass.invariant.1))
+
+pub invariant_of-result : goal.invariant_of-result
+invariant_of-result c =
+    let me = c.split_seat-seat.ensures.4 in
+    let P : Knowledge → Type 0 = λ v. IsSeated v (pass_of c.split_seat-seat.result.table_id v c.in-Some.number Running 0 0 false) in
+    (ap (λ (m : Me ℕ Knowledge). m.1) me, subst P (sym (ap (λ (m : Me ℕ Knowledge). m.0) me)) (child_seated _ _ _ _ c.pass.invariant.1.pass.limits c.in-Some.ensures.claim))
+
+pub returns-in_default-clause-lawful : goal.returns-in_default-clause-lawful
+returns-in_default-clause-lawful c = (invariant_of-pass c).1.pass
+
+pub returns-clause-lawful : goal.returns-clause-lawful
+returns-clause-lawful c = (invariant_of-pass-2 c).1.pass
+
+pub returns-clause-child : goal.returns-clause-child
+returns-clause-child c = (invariant_of-result c).1.pass

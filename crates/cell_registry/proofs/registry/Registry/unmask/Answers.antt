@@ -12,14 +12,14 @@ fetch_sub-requires c =
     let p = c.pass.invariant in
     let of = of_registry _ _ _ _ c.self.view_is c.pass.view_is c.requires.own in
     let cell = seat_cell _ _ _ _ _ _ _ p.1 in
-    let below = seen_count_below _ _ _ _ _ _ _ _ _ p.1 of c.self.invariant c.in_ok-room.ensures.room in
+    let below = seen_count_below _ _ _ _ _ _ _ _ _ p.1 of c.self.invariant c.in_ok-refuse_if_spent.ensures.room in
     let may = subst (λ (x : Stage × ℕ × ℕ). MayUnmask x.0 x.1) (sym cell) (subst (λ (q : PassView). MayUnmask q.stage q.depth) (sym c.pass.view_is) c.requires.masked) in
     (ap (λ (s : RegistryView). s.table) of, own_place _ _ _ _ _ p.1 of c.self.invariant c.cell_place.ensures, unmasks_as _ _ _ c.cell_place.result _ _ p.0 (seat_has _ _ refl p.1) (c.cell_place.ensures ∙ ap (λ n. n + 3) p.1.number_is) below may c.unmask_amount.ensures.law)
 
 pub overflow_add-pass : goal.overflow_add-pass
 overflow_add-pass c =
     let of = of_registry _ _ _ _ c.self.view_is c.pass.view_is c.requires.own in
-    let below = count_below _ _ _ c.pass.invariant.1 of c.in_ok-room.ensures.room in
+    let below = count_below _ _ _ c.pass.invariant.1 of c.in_ok-refuse_if_spent.ensures.room in
     let most = c.pass.invariant.1.pass.limits.count in
     search rules
 
@@ -39,7 +39,10 @@ returns-clause-unmasked c =
     let told = c.fetch_sub.ensures.2.1 in
     let P : PassView → Type 0 = λ h. Changes h call.Unmask h.stage (h.depth - 1) (pass_of new.table_id new.me.0 old.number old.stage (old.depth - 1) (old.count + 1) old.saw) in
     subst P c.pass.view_is record {
-      room = count_below _ _ _ p.1 of c.in_ok-room.ensures.room;
+      room = count_below _ _ _ p.1 of c.in_ok-refuse_if_spent.ensures.room;
       same = pass_of-step _ _ old.seat.me.0 new.me.0 _ old.stage (old.depth - 1) (old.count + 1) _ c.fetch_sub.ensures.0 told.1.limits told.1.fibers;
       call = called_by old.seat.me.0 new.me.0 _ _ _ p.1.number_is told.0;
     }
+
+pub returns-clause-lawful : goal.returns-clause-lawful
+returns-clause-lawful c = (invariant_of-pass c).1.pass
