@@ -47,16 +47,16 @@ impl Code {
     }
 }
 
-/// Whether all words of the program are among those that run today: `pure`, `let`, `say`,
-/// `canceled`, `uncancelable` and `poll`.
+/// Whether all words of the program are among the six words `pure`, `let`, `say`, `canceled`,
+/// `uncancelable` and `poll`.
 pub fn is_supported(program: &Program) -> bool
     ensures { result ≡ supported (source_of program.now) }
 {
     has_supported_words(program.term())
 }
 
-/// The code of a program, whose words are all among those that run today ([`is_supported`]), or
-/// `AllocError` where memory is refused.
+/// The code of a program, whose words are all among the six words `pure`, `let`, `say`, `canceled`,
+/// `uncancelable` and `poll` ([`is_supported`]), or `AllocError` where memory is refused.
 ///
 /// Core words are expanded part by part, and a binder's slot is the number of binders around it.
 pub fn expand(alloc: Global, program: &Program) -> Result<Code, AllocError>
