@@ -185,7 +185,7 @@ unfolding core after reply_of refusal
 completed_once = refl
 
 -- `(deferred d (await d))`
-never_completed : report_of few (word.Deferred (word.Await 0)) (replicate 99 0) ≡ Ok record { fibers = record { outcome = None; marks = [] } ∷ []; }
+never_completed : report_of few (word.Deferred (word.Await 0)) (replicate 99 0) ≡ Ok record { fibers = record { outcome = None; marks = [] } ∷ [] }
 unfolding core after reply_of refusal
 never_completed = refl
 
