@@ -1,129 +1,146 @@
--- The counts of a program's words and masks, which its expansion isn't written out for, are those of its expansion.
-use Rattle.std.proofs.Common.{◌≡◌, ℕ, zero, suc, ◌+◌, List, [], ◌∷◌, ◌++◌, pos, refl, arith}
+-- The words and masks of a program's expansion, as they are counted on the program.
+use Rattle.std.proofs.Common.{◌≡◌, ℕ, ◌+◌, List, [], ◌∷◌, ◌++◌, refl, ap, ◌∙◌, arith}
 use Rattle.std.specs.Prelude.{max}
 use Rattle.effect_term.specs.declared.term.Term.{Term, Row_of-Term, end_of-Term, more_of-Term}
 use Rattle.effect_term.specs.declared.term.Term.TheVariants as term
 use Rattle.effect_term.specs.ExpansionSize.{expansion_size_of, expansion_sizes_of}
-use Rattle.derived_ops.specs.Tree.{Number, Last, More, Tree, Cancel, Let, Seq, Handled, If0, Join, Make, Start, Loop, Uncancelable, Poll, On_cancel, Masked, Polled, Guarded}
-use Rattle.derived_ops.specs.Source as word
+use Rattle.effect_term.specs.Masks.{masks_of, most_masks_of}
+use Rattle.derived_ops.specs.Tree.{Tree}
 use Rattle.derived_ops.specs.Source.{Source}
 use Rattle.derived_ops.specs.Reading.{source_of, seq_of}
-use Rattle.derived_ops.specs.Expansion.{expansion, code_of}
+use Rattle.derived_ops.specs.Expansion.{bracket_case, expansion, code_of}
+use Rattle.derived_ops.specs.Counts.{words, masks}
 
--- the words and marks of a term
-abbrev words : Tree → ℕ
-words (Let e x k) = 1 + words e + words k
-words (Seq Last e k) = 1 + words e + words k
-words (Seq More e k) = words e + words k
-words (Handled e x h) = 1 + words e + words h
-words (If0 v s e) = 1 + words s + words e
-words (Join f x s y e c) = 1 + words s + words e + words c
-words (Make m x k) = 1 + words k
-words (Start x e k) = 1 + words e + words k
-words (Loop n e) = 1 + words e
-words (Uncancelable x e) = 1 + words e
-words (Poll q e) = 1 + words e
-words (On_cancel e fin) = 1 + words e + words fin
-words (Masked m e) = 1 + words e
-words (Polled q e) = 1 + words e
-words (Guarded e fin) = 1 + words e + words fin
-words _ = 1
+-- ---- words
+mutual
+  -- of a term, and of a `seq` of two parts and these
+  pub words_expansion : (t : Term) (m : List ℕ) (d : ℕ) → words (expansion m d (source_of t)) ≡ expansion_size_of t
+  words_expansion (term.Pure v) m d = refl
+  words_expansion (term.Raise v) m d = refl
+  words_expansion (term.Let' _ e _ k) m d = let ih1 = words_expansion e m d in let ih2 = words_expansion k (m ++ d ∷ []) (d + 1) in omega (arith, ih1, ih2)
+  words_expansion (term.Seq' _ a _ b _ more) m d = let ih = words_seq m d (source_of a) (source_of b) more in let ih1 = words_expansion a m d in let ih2 = words_expansion b m d in omega (arith, ih, ih1, ih2)
+  words_expansion (term.Handle' _ e _ h) m d = let ih1 = words_expansion e m d in let ih2 = words_expansion h (m ++ d ∷ []) (d + 1) in omega (arith, ih1, ih2)
+  words_expansion (term.If0' v _ s _ e) m d = let ih1 = words_expansion s m d in let ih2 = words_expansion e m d in omega (arith, ih1, ih2)
+  words_expansion (term.Add v w) m d = refl
+  words_expansion (term.Say v) m d = refl
+  words_expansion term.Cede m d = refl
+  words_expansion term.Never m d = refl
+  words_expansion term.Canceled m d = refl
+  words_expansion (term.Uncancelable' _ e) m d = let ih1 = words_expansion e (m ++ d ∷ []) (d + 1) in omega (arith, ih1)
+  words_expansion (term.Poll' p _ e) m d = let ih1 = words_expansion e m d in omega (arith, ih1)
+  words_expansion (term.OnCancel' _ e _ fin) m d = let ih1 = words_expansion e m d in let ih2 = words_expansion fin m d in omega (arith, ih1, ih2)
+  words_expansion (term.Start' _ e _ k) m d = let ih1 = words_expansion e m d in let ih2 = words_expansion k (m ++ d ∷ []) (d + 1) in omega (arith, ih1, ih2)
+  words_expansion (term.Join' f _ s _ e _ c) m d = let ih1 = words_expansion s (m ++ d ∷ []) (d + 1) in let ih2 = words_expansion e (m ++ d ∷ []) (d + 1) in let ih3 = words_expansion c m d in omega (arith, ih1, ih2, ih3)
+  words_expansion (term.Cancel f) m d = refl
+  words_expansion (term.Ref' v _ k) m d = let ih1 = words_expansion k (m ++ d ∷ []) (d + 1) in omega (arith, ih1)
+  words_expansion (term.Get r) m d = refl
+  words_expansion (term.Set r v) m d = refl
+  words_expansion (term.Modify r v) m d = refl
+  words_expansion (term.Deferred' _ k) m d = let ih1 = words_expansion k (m ++ d ∷ []) (d + 1) in omega (arith, ih1)
+  words_expansion (term.Complete c v) m d = refl
+  words_expansion (term.Await c) m d = refl
+  words_expansion (term.Repeat' v _ e) m d = let ih1 = words_expansion e m d in omega (arith, ih1)
+  words_expansion (term.Forever' _ e) m d = let ih1 = words_expansion e m d in omega (arith, ih1)
+  words_expansion (term.Guarantee' _ e _ fin) m d = let ih1 = words_expansion e m (d + 1) in let ih2 = words_expansion fin m (d + 1) in let ih3 = words_expansion fin m (d + 2) in omega (arith, ih1, ih2, ih3)
+  words_expansion (term.Bracket' _ acq _ body _ rel) m d = let ih1 = words_expansion acq m (d + 1) in let ih2 = words_expansion body (m ++ (d + 1) ∷ []) (d + 3) in let ih3 = words_expansion rel (m ++ (d + 1) ∷ []) (d + 4) in let ih4 = words_expansion rel (m ++ (d + 1) ∷ []) (d + 3) in omega (arith, ih1, ih2, ih3, ih4)
+  words_expansion (term.BracketCase' _ acq _ body _ rs _ re _ rc) m d = let ih1 = words_expansion acq m (d + 1) in let ih2 = words_expansion body (m ++ (d + 1) ∷ []) (d + 3) in let ih3 = words_expansion rs ((m ++ (d + 1) ∷ []) ++ (d + 3) ∷ []) (d + 4) in let ih4 = words_expansion re ((m ++ (d + 1) ∷ []) ++ (d + 3) ∷ []) (d + 4) in let ih5 = words_expansion rc (m ++ (d + 1) ∷ []) (d + 3) in omega (arith, ih1, ih2, ih3, ih4, ih5)
+  words_expansion (term.Race' _ a _ b) m d = let ih1 = words_expansion a m (d + 3) in let ih2 = words_expansion b m (d + 4) in omega (arith, ih1, ih2)
+  words_expansion (term.Both' _ a _ b _ k) m d = let ih1 = words_expansion a m (d + 4) in let ih2 = words_expansion b m (d + 5) in let ih3 = words_expansion k ((m ++ (d + 1) ∷ []) ++ (d + 2) ∷ []) (d + 3) in omega (arith, ih1, ih2, ih3)
 
--- the most masks below one another
-abbrev masks : Tree → ℕ
-masks (Cancel f) = 1
-masks (Let e x k) = max (masks e) (masks k)
-masks (Seq w e k) = max (masks e) (masks k)
-masks (Handled e x h) = max (masks e) (masks h)
-masks (If0 v s e) = max (masks s) (masks e)
-masks (Join f x s y e c) = max (masks s) (max (masks e) (masks c))
-masks (Make m x k) = masks k
-masks (Start x e k) = max (masks e) (masks k)
-masks (Loop n e) = masks e
-masks (Uncancelable x e) = 1 + masks e
-masks (Poll q e) = masks e
-masks (On_cancel e fin) = max (masks e) (1 + masks fin)
-masks _ = 0
+  pub words_seq : (m : List ℕ) (d : ℕ) (a b : Source) {n : _} (more : Row_of-Term n) → words (expansion m d (seq_of a b more)) ≡ 1 + words (expansion m d a) + words (expansion m d b) + expansion_sizes_of more
+  words_seq m d a b end_of-Term = omega arith
+  words_seq m d a b (more_of-Term c rest) = let ih = words_seq m d b (source_of c) rest in let ih1 = words_expansion c m d in omega (arith, ih, ih1)
+
+-- ---- masks
+max_zero : (n : ℕ) → max n 0 ≡ n
+max_zero n = omega arith
+
+zero_max : (n : ℕ) → max 0 n ≡ n
+zero_max n = omega arith
+
+guarantee_most : (e f : ℕ) → 1 + max (max (max e (1 + f)) (max (max f 0) 0)) (max f 0) ≡ max (1 + e) (2 + f)
+guarantee_most e f = rw (max_zero f, max_zero f) (omega arith)
+
+-- a bracket by its parts, from the outside in
+acquired_most : (a x : ℕ) → 1 + max a (max 0 (1 + x)) ≡ max (1 + a) (2 + x)
+acquired_most a x = omega arith
+
+released_most : (b c e s : ℕ) → 2 + max (max (max b (1 + c)) e) s ≡ max (2 + b) (max (2 + s) (max (2 + e) (3 + c)))
+released_most b c e s = omega arith
+
+canceled_most : (c : ℕ) → max 0 (max (max c (max 0 0)) 0) ≡ c
+canceled_most c = omega arith
+
+failed_most : (e : ℕ) → max 0 (max (max e 0) (max 0 0)) ≡ e
+failed_most e = omega arith
+
+done_most : (s : ℕ) → max 0 (max (max s (max 0 0)) (max 0 0)) ≡ s
+done_most s = omega arith
+
+bracket_case_most : (d : ℕ) (acq body rs re rc : Tree) → masks (bracket_case d acq body rs re rc) ≡ max (1 + masks acq) (max (2 + masks body) (max (2 + masks rs) (max (2 + masks re) (3 + masks rc))))
+bracket_case_most d acq body rs re rc =
+    rw (canceled_most (masks rc), failed_most (masks re), done_most (masks rs))
+    (acquired_most (masks acq) (max (max (max (masks body) (1 + masks rc)) (masks re)) (masks rs)) ∙ ap (max (1 + masks acq)) (released_most (masks body) (masks rc) (masks re) (masks rs)))
+
+one_release : (a b r : ℕ) → max (1 + a) (max (2 + b) (max (2 + r) (max (2 + r) (3 + r)))) ≡ max (1 + a) (max (2 + b) (3 + r))
+one_release a b r = ap (λ n. max (1 + a) (max (2 + b) n)) (omega arith)
+
+-- a side of a race, which completes a deferred
+side_most : (a : ℕ) → 1 + max (max (max a 1) 0) 0 ≡ 1 + max a 1
+side_most a = omega arith
+
+pair_most : (a b : ℕ) → 1 + max (1 + max (max (max a 1) 0) 0) (max (1 + max (max (max b 1) 0) 0) 2) ≡ max 3 (max (2 + a) (2 + b))
+pair_most a b = rw (side_most a, side_most b) (omega arith)
+
+both_most : (a b k : ℕ) → max (1 + max (1 + max (max (max a 1) 0) 0) (max (1 + max (max (max b 1) 0) 0) 2)) (max 0 k) ≡ max 3 (max (2 + a) (max (2 + b) k))
+both_most a b k = rw (pair_most a b, zero_max k) (omega arith)
 
 mutual
   -- of a term, and of a `seq` of two parts and these
-  pub words_of : (t : Term) (m : List ℕ) (d : ℕ) → words (expansion m d (source_of t)) ≡ expansion_size_of t
-  words_of (term.Pure v) m d = refl
-  words_of (term.Raise v) m d = refl
-  words_of (term.Let' _ e _ k) m d = let ih1 = words_of e m d in let ih2 = words_of k (m ++ d ∷ []) (d + 1) in omega (arith, ih1, ih2)
-  words_of (term.Seq' _ a _ b _ more) m d = let ih = words_in m d (source_of a) (source_of b) more in let ih1 = words_of a m d in let ih2 = words_of b m d in omega (arith, ih, ih1, ih2)
-  words_of (term.Handle' _ e _ h) m d = let ih1 = words_of e m d in let ih2 = words_of h (m ++ d ∷ []) (d + 1) in omega (arith, ih1, ih2)
-  words_of (term.If0' v _ s _ e) m d = let ih1 = words_of s m d in let ih2 = words_of e m d in omega (arith, ih1, ih2)
-  words_of (term.Add v w) m d = refl
-  words_of (term.Say v) m d = refl
-  words_of term.Cede m d = refl
-  words_of term.Never m d = refl
-  words_of term.Canceled m d = refl
-  words_of (term.Uncancelable' _ e) m d = let ih1 = words_of e (m ++ d ∷ []) (d + 1) in omega (arith, ih1)
-  words_of (term.Poll' p _ e) m d = let ih1 = words_of e m d in omega (arith, ih1)
-  words_of (term.OnCancel' _ e _ fin) m d = let ih1 = words_of e m d in let ih2 = words_of fin m d in omega (arith, ih1, ih2)
-  words_of (term.Start' _ e _ k) m d = let ih1 = words_of e m d in let ih2 = words_of k (m ++ d ∷ []) (d + 1) in omega (arith, ih1, ih2)
-  words_of (term.Join' f _ s _ e _ c) m d = let ih1 = words_of s (m ++ d ∷ []) (d + 1) in let ih2 = words_of e (m ++ d ∷ []) (d + 1) in let ih3 = words_of c m d in omega (arith, ih1, ih2, ih3)
-  words_of (term.Cancel f) m d = refl
-  words_of (term.Ref' v _ k) m d = let ih1 = words_of k (m ++ d ∷ []) (d + 1) in omega (arith, ih1)
-  words_of (term.Get r) m d = refl
-  words_of (term.Set r v) m d = refl
-  words_of (term.Modify r v) m d = refl
-  words_of (term.Deferred' _ k) m d = let ih1 = words_of k (m ++ d ∷ []) (d + 1) in omega (arith, ih1)
-  words_of (term.Complete c v) m d = refl
-  words_of (term.Await c) m d = refl
-  words_of (term.Repeat' v _ e) m d = let ih1 = words_of e m d in omega (arith, ih1)
-  words_of (term.Forever' _ e) m d = let ih1 = words_of e m d in omega (arith, ih1)
-  words_of (term.Guarantee' _ e _ fin) m d = let ih1 = words_of e m (d + 1) in let ih2 = words_of fin m (d + 1) in let ih3 = words_of fin m (d + 2) in omega (arith, ih1, ih2, ih3)
-  words_of (term.Bracket' _ acq _ body _ rel) m d = let ih1 = words_of acq m (d + 1) in let ih2 = words_of body (m ++ (d + 1) ∷ []) (d + 3) in let ih3 = words_of rel (m ++ (d + 1) ∷ []) (d + 4) in let ih4 = words_of rel (m ++ (d + 1) ∷ []) (d + 3) in omega (arith, ih1, ih2, ih3, ih4)
-  words_of (term.BracketCase' _ acq _ body _ rs _ re _ rc) m d = let ih1 = words_of acq m (d + 1) in let ih2 = words_of body (m ++ (d + 1) ∷ []) (d + 3) in let ih3 = words_of rs ((m ++ (d + 1) ∷ []) ++ (d + 3) ∷ []) (d + 4) in let ih4 = words_of re ((m ++ (d + 1) ∷ []) ++ (d + 3) ∷ []) (d + 4) in let ih5 = words_of rc (m ++ (d + 1) ∷ []) (d + 3) in omega (arith, ih1, ih2, ih3, ih4, ih5)
-  words_of (term.Race' _ a _ b) m d = let ih1 = words_of a m (d + 3) in let ih2 = words_of b m (d + 4) in omega (arith, ih1, ih2)
-  words_of (term.Both' _ a _ b _ k) m d = let ih1 = words_of a m (d + 4) in let ih2 = words_of b m (d + 5) in let ih3 = words_of k ((m ++ (d + 1) ∷ []) ++ (d + 2) ∷ []) (d + 3) in omega (arith, ih1, ih2, ih3)
+  pub masks_expansion : (t : Term) (m : List ℕ) (d : ℕ) → masks (expansion m d (source_of t)) ≡ masks_of t
+  masks_expansion (term.Pure v) m d = refl
+  masks_expansion (term.Raise v) m d = refl
+  masks_expansion (term.Let' _ e _ k) m d = rw (masks_expansion e m d, masks_expansion k (m ++ d ∷ []) (d + 1)) refl
+  masks_expansion (term.Seq' _ a _ b _ more) m d = masks_seq m d (source_of a) (source_of b) more ∙ (rw (masks_expansion a m d, masks_expansion b m d) refl)
+  masks_expansion (term.Handle' _ e _ h) m d = rw (masks_expansion e m d, masks_expansion h (m ++ d ∷ []) (d + 1)) refl
+  masks_expansion (term.If0' v _ s _ e) m d = rw (masks_expansion s m d, masks_expansion e m d) refl
+  masks_expansion (term.Add v w) m d = refl
+  masks_expansion (term.Say v) m d = refl
+  masks_expansion term.Cede m d = refl
+  masks_expansion term.Never m d = refl
+  masks_expansion term.Canceled m d = refl
+  masks_expansion (term.Uncancelable' _ e) m d = rw (masks_expansion e (m ++ d ∷ []) (d + 1)) refl
+  masks_expansion (term.Poll' p _ e) m d = rw (masks_expansion e m d) refl
+  masks_expansion (term.OnCancel' _ e _ fin) m d = rw (masks_expansion e m d, masks_expansion fin m d) refl
+  masks_expansion (term.Start' _ e _ k) m d = rw (masks_expansion e m d, masks_expansion k (m ++ d ∷ []) (d + 1)) refl
+  masks_expansion (term.Join' f _ s _ e _ c) m d = rw (masks_expansion s (m ++ d ∷ []) (d + 1), masks_expansion e (m ++ d ∷ []) (d + 1), masks_expansion c m d) refl
+  masks_expansion (term.Cancel f) m d = refl
+  masks_expansion (term.Ref' v _ k) m d = rw (masks_expansion k (m ++ d ∷ []) (d + 1)) refl
+  masks_expansion (term.Get r) m d = refl
+  masks_expansion (term.Set r v) m d = refl
+  masks_expansion (term.Modify r v) m d = refl
+  masks_expansion (term.Deferred' _ k) m d = rw (masks_expansion k (m ++ d ∷ []) (d + 1)) refl
+  masks_expansion (term.Complete c v) m d = refl
+  masks_expansion (term.Await c) m d = refl
+  masks_expansion (term.Repeat' v _ e) m d = rw (masks_expansion e m d) refl
+  masks_expansion (term.Forever' _ e) m d = rw (masks_expansion e m d) refl
+  masks_expansion (term.Guarantee' _ e _ fin) m d = rw (masks_expansion e m (d + 1), masks_expansion fin m (d + 1), masks_expansion fin m (d + 2)) (guarantee_most (masks_of e) (masks_of fin))
+  masks_expansion (term.Bracket' _ acq _ body _ rel) m d =
+      bracket_case_most d (expansion m (d + 1) (source_of acq)) (expansion (m ++ (d + 1) ∷ []) (d + 3) (source_of body)) (expansion (m ++ (d + 1) ∷ []) (d + 4) (source_of rel)) (expansion (m ++ (d + 1) ∷ []) (d + 4) (source_of rel)) (expansion (m ++ (d + 1) ∷ []) (d + 3) (source_of rel))
+      ∙ (rw (masks_expansion acq m (d + 1), masks_expansion body (m ++ (d + 1) ∷ []) (d + 3), masks_expansion rel (m ++ (d + 1) ∷ []) (d + 4), masks_expansion rel (m ++ (d + 1) ∷ []) (d + 3)) (one_release (masks_of acq) (masks_of body) (masks_of rel)))
+  masks_expansion (term.BracketCase' _ acq _ body _ rs _ re _ rc) m d =
+      bracket_case_most d (expansion m (d + 1) (source_of acq)) (expansion (m ++ (d + 1) ∷ []) (d + 3) (source_of body)) (expansion ((m ++ (d + 1) ∷ []) ++ (d + 3) ∷ []) (d + 4) (source_of rs)) (expansion ((m ++ (d + 1) ∷ []) ++ (d + 3) ∷ []) (d + 4) (source_of re)) (expansion (m ++ (d + 1) ∷ []) (d + 3) (source_of rc))
+      ∙ (rw (masks_expansion acq m (d + 1), masks_expansion body (m ++ (d + 1) ∷ []) (d + 3), masks_expansion rs ((m ++ (d + 1) ∷ []) ++ (d + 3) ∷ []) (d + 4), masks_expansion re ((m ++ (d + 1) ∷ []) ++ (d + 3) ∷ []) (d + 4), masks_expansion rc (m ++ (d + 1) ∷ []) (d + 3)) refl)
+  masks_expansion (term.Race' _ a _ b) m d = rw (masks_expansion a m (d + 3), masks_expansion b m (d + 4)) (pair_most (masks_of a) (masks_of b))
+  masks_expansion (term.Both' _ a _ b _ k) m d = rw (masks_expansion a m (d + 4), masks_expansion b m (d + 5), masks_expansion k ((m ++ (d + 1) ∷ []) ++ (d + 2) ∷ []) (d + 3)) (both_most (masks_of a) (masks_of b) (masks_of k))
 
-  pub words_in : (m : List ℕ) (d : ℕ) (a b : Source) {n : _} (more : Row_of-Term n) → words (expansion m d (seq_of a b more)) ≡ 1 + words (expansion m d a) + words (expansion m d b) + expansion_sizes_of more
-  words_in m d a b end_of-Term = omega arith
-  words_in m d a b (more_of-Term c rest) = let ih = words_in m d b (source_of c) rest in let ih1 = words_of c m d in omega (arith, ih, ih1)
+  pub masks_seq : (m : List ℕ) (d : ℕ) (a b : Source) {n : _} (more : Row_of-Term n) → masks (expansion m d (seq_of a b more)) ≡ max (masks (expansion m d a)) (max (masks (expansion m d b)) (most_masks_of more))
+  masks_seq m d a b end_of-Term = rw (max_zero (masks (expansion m d b))) refl
+  masks_seq m d a b (more_of-Term c rest) = ap (max (masks (expansion m d a))) (masks_seq m d b (source_of c) rest ∙ ap (λ n. max (masks (expansion m d b)) (max n (most_masks_of rest))) (masks_expansion c m d))
 
--- the masks of the derived words, where each part in turn has the most
-abbrev say : ℕ → Source
-say n = word.Say (Number (pos n))
+-- ---- a whole program
+pub words_code : (t : Term) → words (code_of (source_of t)) ≡ expansion_size_of t
+words_code t = words_expansion t [] 0
 
-abbrev nested : ℕ → Source
-nested zero = say 0
-nested (suc n) = word.Uncancelable (nested n)
-
-guarantee_masks : masks (code_of (word.Guarantee (nested 5) (nested 1))) ≡ 1 + 5
-guarantee_masks = refl
-
-guarantee_masks_in_the_finalizer : masks (code_of (word.Guarantee (nested 1) (nested 5))) ≡ 2 + 5
-guarantee_masks_in_the_finalizer = refl
-
-bracket_masks : masks (code_of (word.Bracket (nested 1) (nested 2) (nested 5))) ≡ 3 + 5
-bracket_masks = refl
-
-bracket_case_masks_of_the_acquisition : masks (code_of (word.Bracket_case (nested 7) (nested 1) (nested 2) (nested 3) (nested 1))) ≡ 1 + 7
-bracket_case_masks_of_the_acquisition = refl
-
-bracket_case_masks_of_the_body : masks (code_of (word.Bracket_case (nested 1) (nested 7) (nested 2) (nested 3) (nested 1))) ≡ 2 + 7
-bracket_case_masks_of_the_body = refl
-
-bracket_case_masks_after_a_value : masks (code_of (word.Bracket_case (nested 1) (nested 2) (nested 7) (nested 3) (nested 1))) ≡ 2 + 7
-bracket_case_masks_after_a_value = refl
-
-bracket_case_masks_after_an_error : masks (code_of (word.Bracket_case (nested 1) (nested 2) (nested 3) (nested 7) (nested 1))) ≡ 2 + 7
-bracket_case_masks_after_an_error = refl
-
-bracket_case_masks_after_a_cut : masks (code_of (word.Bracket_case (nested 1) (nested 2) (nested 3) (nested 4) (nested 7))) ≡ 3 + 7
-bracket_case_masks_after_a_cut = refl
-
-race_masks : masks (code_of (word.Race (nested 0) (word.Cancel 0))) ≡ 3
-race_masks = refl
-
-race_masks_of_a_side : masks (code_of (word.Race (nested 1) (nested 5))) ≡ 2 + 5
-race_masks_of_a_side = refl
-
-both_masks : masks (code_of (word.Both (nested 5) (nested 1) (nested 6))) ≡ 2 + 5
-both_masks = refl
-
-both_masks_of_the_rest : masks (code_of (word.Both (nested 1) (nested 1) (nested 6))) ≡ 6
-both_masks_of_the_rest = refl
+pub masks_code : (t : Term) → masks (code_of (source_of t)) ≡ masks_of t
+masks_code t = masks_expansion t [] 0

@@ -1,6 +1,7 @@
 -- The core of some programs of many fibers, with reports worked by hand.
 use Rattle.std.proofs.Common.{◌≡◌, ℕ, pos, negsuc, List, [], ◌∷◌, ◌++◌, replicate, refl, Ok, Err}
 use Rattle.std.specs.Prelude.{Some, None, Result}
+use Rattle.std.specs.Int.{int_wrap}
 use Rattle.effect_term.specs.declared.reply.Outcome.TheVariants.{Succeeded, Errored, Canceled}
 use Rattle.derived_ops.specs.Tree.{Value, Number, Slot, Last, More}
 use Rattle.derived_ops.specs.Source as word
@@ -120,7 +121,12 @@ unfolding core after reply_of refusal
 one_outcome_for_all = refl
 
 -- joins that wait until the end give it too
-one_outcome_after_waits : report_of few joined_thrice (replicate 9 0 ++ replicate 9 2 ++ replicate 9 1 ++ replicate 9 2 ++ replicate 40 0) ≡ report_of few joined_thrice (replicate 4 0 ++ replicate 9 1 ++ replicate 9 2 ++ replicate 40 0)
+one_outcome_after_waits : report_of few joined_thrice (replicate 9 0 ++ replicate 9 2 ++ replicate 9 1 ++ replicate 9 2 ++ replicate 40 0) ≡ Ok record {
+  fibers = record { outcome = Some (Succeeded (pos 5)); marks = Say (pos 5) ∷ Say (pos 5) ∷ [] }
+      ∷ record { outcome = Some (Succeeded (pos 5)); marks = [] }
+      ∷ record { outcome = Some (Succeeded (pos 5)); marks = [] }
+      ∷ [];
+}
 unfolding core after reply_of refusal
 one_outcome_after_waits = refl
 
@@ -174,7 +180,7 @@ one_side_fails = refl
 modified_modulo : report_of few (word.Ref (num 2147483647) (word.Let (word.Modify 0 (num 1)) (word.Let (word.Get 0) (word.Seq More (word.Say (Slot 1)) (word.Seq Last (word.Say (Slot 2)) (word.Pure (num 0))))))) (replicate 99 0) ≡ Ok record {
   fibers = record { outcome = Some (Succeeded (pos 0)); marks = Say (pos 2147483647) ∷ Say (negsuc 2147483647) ∷ [] } ∷ [];
 }
-unfolding core after reply_of refusal
+unfolding core after reply_of refusal int_wrap
 modified_modulo = refl
 
 -- `(deferred d (let a (complete d 5) (let b (complete d 6) (let c (await d) (seq (say a) (say b) (pure c))))))`
