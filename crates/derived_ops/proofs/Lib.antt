@@ -1,4 +1,5 @@
 pub mod Codes
 pub mod Slots
 pub mod Unsupported
+pub mod Counts
 pub mod Samples

@@ -1,7 +1,7 @@
 -- What the words of a program stand for. A derived word takes the slot d of its first new binder; its parts stand above
 -- the slots that are bound around them.
 use Rattle.std.specs.Prelude.{ℕ, zero, suc, ◌+◌, pos, List, [], ◌∷◌, ◌++◌}
-use Rattle.derived_ops.specs.Tree.{Value, Number, Slot, Open_slot, Mask, Named, Add, Say, Cede, Never, Canceled, Get, Set, Modify, Complete, Await, Acquire, Release, Free, New_ref, New_deferred, Times, Always, Last, More, Tree, Pure, Raise, Act, Note, Cancel, Let, Seq, Handled, If0, Join, Make, Start, Loop, Uncancelable, Poll, On_cancel}
+use Rattle.derived_ops.specs.Tree.{Value, Number, Slot, Open_slot, Mask, Named, Add, Say, Cede, Never, Canceled, Get, Set, Modify, Complete, Await, Acquired, Releasing, Released, New_ref, New_deferred, Times, Always, Last, More, Tree, Pure, Raise, Act, Note, Cancel, Let, Seq, Handled, If0, Join, Make, Start, Loop, Uncancelable, Poll, On_cancel}
 use Rattle.derived_ops.specs.Source as word
 use Rattle.derived_ops.specs.Source.{Source}
 
@@ -20,16 +20,16 @@ in_four a b c e = Seq More a (Seq More b (Seq Last c e))
 
 -- the release e of the bracket p failed: p is released, and the error that w binds goes on
 abbrev pub released_then_raised : Mask → Tree → ℕ → Tree
-released_then_raised p e w = Handled e w (in_order (Note Free p) (Raise (Slot w)))
+released_then_raised p e w = Handled e w (in_order (Note Released p) (Raise (Slot w)))
 
 abbrev pub bracket_case : ℕ → Tree → Tree → Tree → Tree → Tree → Tree
 bracket_case d acq body rs re rc =
     let p = Named d in
     let q = Named (d + 2) in
-    let canceled = in_three (Note Release p) (released_then_raised p rc (d + 3)) (Note Free p) in
-    let failed = in_four (Note Release p) (Handled re (d + 4) nil) (Note Free p) (Raise (Slot (d + 3))) in
-    let done = in_four (Note Release p) (released_then_raised p rs (d + 4)) (Note Free p) (Pure (Slot (d + 3))) in
-    Uncancelable d (Let acq (d + 1) (in_order (Note Acquire p) (Uncancelable (d + 2)
+    let canceled = in_three (Note Releasing p) (released_then_raised p rc (d + 3)) (Note Released p) in
+    let failed = in_four (Note Releasing p) (Handled re (d + 4) nil) (Note Released p) (Raise (Slot (d + 3))) in
+    let done = in_four (Note Releasing p) (released_then_raised p rs (d + 4)) (Note Released p) (Pure (Slot (d + 3))) in
+    Uncancelable d (Let acq (d + 1) (in_order (Note Acquired p) (Uncancelable (d + 2)
     (Let (Handled (On_cancel (Poll q (Poll p body)) canceled) (d + 3) failed) (d + 3) done))))
 
 -- the finalizer stands three times, at its depth in each place

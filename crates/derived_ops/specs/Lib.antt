@@ -4,6 +4,7 @@ pub mod Source
 pub mod Reading
 pub mod Expansion
 pub mod Codes
+pub mod Counts
 pub mod Supported
 pub mod Stored
 pub mod Cores

@@ -2,7 +2,7 @@
 use Rattle.std.specs.Prelude.{ℕ, zero, suc, ℤ, ◌⊎◌, refl, List, [], ◌∷◌}
 use Rattle.std.specs.Coded.{Coded, code_by, coded_ℕ, coded_ℤ, coded_list, coded×, coded⊎}
 use Rattle.std.proofs.Common.{◌≡◌, ap, ◌∙◌, inl, inr}
-use Rattle.derived_ops.specs.Tree.{Value, Number, Slot, Handle, Known, Open_slot, Mask, Named, Pair, Add, Say, Cede, Never, Canceled, Request, Ending, Get, Set, Modify, Complete, Await, Acquire, Release, Free, New_ref, New_deferred, Times, Always, Last, More, Tree, Pure, Raise, Act, Note, Cancel, Let, Seq, Handled, If0, Join, Make, Start, Loop, Uncancelable, Poll, On_cancel, Masked, Polled, Guarded}
+use Rattle.derived_ops.specs.Tree.{Value, Number, Slot, Handle, Known, Open_slot, Mask, Named, Pair, Add, Say, Cede, Never, Canceled, Request, Ending, Get, Set, Modify, Complete, Await, Acquired, Releasing, Released, New_ref, New_deferred, Times, Always, Last, More, Tree, Pure, Raise, Act, Note, Cancel, Let, Seq, Handled, If0, Join, Make, Start, Loop, Uncancelable, Poll, On_cancel, Masked, Polled, Guarded}
 
 abbrev value_stored : Value → ℤ ⊎ ℕ
 value_stored (Number z) = inl z
@@ -91,9 +91,9 @@ pieces (Act (Set r v)) rest = with_handle 10 r v ∷ rest
 pieces (Act (Modify r v)) rest = with_handle 11 r v ∷ rest
 pieces (Act (Complete d v)) rest = with_handle 12 d v ∷ rest
 pieces (Act (Await d)) rest = with_handle 13 d (Slot 0) ∷ rest
-pieces (Note Acquire q) rest = with_mask 14 q ∷ rest
-pieces (Note Release q) rest = with_mask 15 q ∷ rest
-pieces (Note Free q) rest = with_mask 16 q ∷ rest
+pieces (Note Acquired q) rest = with_mask 14 q ∷ rest
+pieces (Note Releasing q) rest = with_mask 15 q ∷ rest
+pieces (Note Released q) rest = with_mask 16 q ∷ rest
 pieces (Cancel f) rest = with_handle 17 f (Slot 0) ∷ rest
 pieces (Let e s k) rest = pieces e (pieces k (bare 18 s ∷ rest))
 pieces (Seq Last e k) rest = pieces e (pieces k (bare 19 0 ∷ rest))
@@ -134,7 +134,7 @@ pick n [] ts = ts
 
 abbrev words : Piece → List (List Tree → List Tree)
 words p =
-    (λ ts. Pure p.value ∷ ts) ∷ (λ ts. Raise p.value ∷ ts) ∷ (λ ts. Act (Add p.value p.other) ∷ ts) ∷ (λ ts. Act (Say p.value) ∷ ts) ∷ (λ ts. Act Cede ∷ ts) ∷ (λ ts. Act Never ∷ ts) ∷ (λ ts. Act Canceled ∷ ts) ∷ (λ ts. Act (Request p.handle) ∷ ts) ∷ (λ ts. Act (Ending p.handle) ∷ ts) ∷ (λ ts. Act (Get p.handle) ∷ ts) ∷ (λ ts. Act (Set p.handle p.value) ∷ ts) ∷ (λ ts. Act (Modify p.handle p.value) ∷ ts) ∷ (λ ts. Act (Complete p.handle p.value) ∷ ts) ∷ (λ ts. Act (Await p.handle) ∷ ts) ∷ (λ ts. Note Acquire p.mask ∷ ts) ∷ (λ ts. Note Release p.mask ∷ ts) ∷ (λ ts. Note Free p.mask ∷ ts) ∷ (λ ts. Cancel p.handle ∷ ts) ∷ two (λ a b. Let a p.slot b) ∷ two (Seq Last) ∷ two (Seq More) ∷ two (λ a b. Handled a p.slot b) ∷ two (If0 p.value) ∷ three (λ a b c. Join p.handle p.slot a p.second b c) ∷ one (Make (New_ref p.value) p.slot) ∷ one (Make New_deferred p.slot) ∷ two (Start p.slot) ∷ one (Loop (Times p.value)) ∷ one (Loop Always) ∷ one (Uncancelable p.slot) ∷ one (Poll p.mask) ∷ two On_cancel ∷ one (Masked p.slot) ∷ one (Polled p.mask) ∷ two Guarded ∷ []
+    (λ ts. Pure p.value ∷ ts) ∷ (λ ts. Raise p.value ∷ ts) ∷ (λ ts. Act (Add p.value p.other) ∷ ts) ∷ (λ ts. Act (Say p.value) ∷ ts) ∷ (λ ts. Act Cede ∷ ts) ∷ (λ ts. Act Never ∷ ts) ∷ (λ ts. Act Canceled ∷ ts) ∷ (λ ts. Act (Request p.handle) ∷ ts) ∷ (λ ts. Act (Ending p.handle) ∷ ts) ∷ (λ ts. Act (Get p.handle) ∷ ts) ∷ (λ ts. Act (Set p.handle p.value) ∷ ts) ∷ (λ ts. Act (Modify p.handle p.value) ∷ ts) ∷ (λ ts. Act (Complete p.handle p.value) ∷ ts) ∷ (λ ts. Act (Await p.handle) ∷ ts) ∷ (λ ts. Note Acquired p.mask ∷ ts) ∷ (λ ts. Note Releasing p.mask ∷ ts) ∷ (λ ts. Note Released p.mask ∷ ts) ∷ (λ ts. Cancel p.handle ∷ ts) ∷ two (λ a b. Let a p.slot b) ∷ two (Seq Last) ∷ two (Seq More) ∷ two (λ a b. Handled a p.slot b) ∷ two (If0 p.value) ∷ three (λ a b c. Join p.handle p.slot a p.second b c) ∷ one (Make (New_ref p.value) p.slot) ∷ one (Make New_deferred p.slot) ∷ two (Start p.slot) ∷ one (Loop (Times p.value)) ∷ one (Loop Always) ∷ one (Uncancelable p.slot) ∷ one (Poll p.mask) ∷ two On_cancel ∷ one (Masked p.slot) ∷ one (Polled p.mask) ∷ two Guarded ∷ []
 
 abbrev built : Piece → List Tree → List Tree
 built p = pick p.word (words p)
@@ -158,9 +158,9 @@ built_again (Act (Set r v)) rest ts = refl
 built_again (Act (Modify r v)) rest ts = refl
 built_again (Act (Complete d v)) rest ts = refl
 built_again (Act (Await d)) rest ts = refl
-built_again (Note Acquire q) rest ts = refl
-built_again (Note Release q) rest ts = refl
-built_again (Note Free q) rest ts = refl
+built_again (Note Acquired q) rest ts = refl
+built_again (Note Releasing q) rest ts = refl
+built_again (Note Released q) rest ts = refl
 built_again (Cancel f) rest ts = refl
 built_again (Let e s k) rest ts = built_again e _ ts ∙ built_again k _ (e ∷ ts)
 built_again (Seq Last e k) rest ts = built_again e _ ts ∙ built_again k _ (e ∷ ts)

@@ -1,8 +1,11 @@
 //! The code of a program.
 
 ghost use Rattle.std.specs.Prelude.{◌≡◌, IfOk, IsTrue};
+ghost use Rattle.effect_term.specs.ExpansionSize.{expansion_size_of};
+ghost use Rattle.effect_term.specs.Masks.{masks_of};
 ghost use Rattle.derived_ops.specs.Codes.{IsCode};
 ghost use Rattle.derived_ops.specs.Cores.{tree_of};
+ghost use Rattle.derived_ops.specs.Counts.{words, masks};
 ghost use Rattle.derived_ops.specs.Expansion.{code_of};
 ghost use Rattle.derived_ops.specs.Reading.{source_of};
 ghost use Rattle.derived_ops.specs.Supported.{supported};
@@ -26,6 +29,8 @@ impl Model for Code {
     ghost use Rattle.derived_ops.specs.Tree.{Tree};
     ghost use Rattle.derived_ops.specs.Stored.{tree_code};
     ghost use Rattle.derived_ops.specs.Cores.{tree_of};
+    ghost use Rattle.effect_term.specs.ExpansionSize.{expansion_size_of};
+    ghost use Rattle.effect_term.specs.Masks.{masks_of};
     ghost use Rattle.derived_ops.specs.Codes.{IsCode};
 
     ghost Value = { Tree };
@@ -47,21 +52,25 @@ impl Code {
     }
 }
 
-/// Whether all words of the program are among those that run today: `pure`, `let`, `say`,
-/// `canceled`, `uncancelable` and `poll`.
+/// Whether all words of the program are among the six words `pure`, `let`, `say`, `canceled`,
+/// `uncancelable` and `poll`.
 pub fn is_supported(program: &Program) -> bool
     ensures { result ≡ supported (source_of program.now) }
 {
     has_supported_words(program.term())
 }
 
-/// The code of a program, whose words are all among those that run today ([`is_supported`]), or
-/// `AllocError` where memory is refused.
+/// The code of a program, whose words are all among the six words `pure`, `let`, `say`, `canceled`,
+/// `uncancelable` and `poll` ([`is_supported`]), or `AllocError` where memory is refused.
 ///
-/// Core words are expanded part by part, and a binder's slot is the number of binders around it.
+/// Core words are expanded part by part, and a binder's slot is the number of binders around it. The
+/// code has as many words and masks as were counted on the program.
+#[tactic(auto, using(crate::proofs::Counts::words_code, crate::proofs::Counts::masks_code))]
 pub fn expand(alloc: Global, program: &Program) -> Result<Code, AllocError>
     requires { IsTrue (supported (source_of program.now)) }
-    ensures { IfOk result (λ code. code ≡ code_of (source_of program.now)) }
+    ensures code { IfOk result (λ code. code ≡ code_of (source_of program.now)) }
+    ensures words { IfOk result (λ code. words code ≡ expansion_size_of program.now) }
+    ensures masks { IfOk result (λ code. masks code ≡ masks_of program.now) }
 {
     let mut slots = Vec::new(alloc);
     let core = expanded(alloc, program.term(), &mut slots, 0)?;

@@ -1,9 +1,12 @@
 //! Core terms.
 
-/// A number, or the slot of a value's binder.
+/// An operand: a value or an error code, known or bound.
 #[derive(Clone, Copy, PartialEq, Eq, Debug)]
 pub enum Value {
+    /// The number itself, which has 32 bits with sign.
     Number(i32),
+    /// The value that the binder of this slot binds. A slot is the number of binders around its own
+    /// binder, in the whole term.
     Slot(u32),
 }
 

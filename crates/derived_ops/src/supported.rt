@@ -1,4 +1,5 @@
-//! The words that run today.
+//! Whether a program has no other words than `pure`, `let`, `say`, `canceled`, `uncancelable` and
+//! `poll`.
 
 ghost use Rattle.std.specs.Prelude.{◌≡◌};
 ghost use Rattle.derived_ops.specs.Reading.{source_of};
@@ -6,7 +7,7 @@ ghost use Rattle.derived_ops.specs.Supported.{supported};
 
 use effect_term::Term;
 
-// All words of the term run today.
+// All words of the term are among those six.
 #[tactic(auto, using(crate::proofs::Unsupported::supported_seq))]
 pub(crate) fn has_supported_words(term: &Term) -> bool
     ensures { result ≡ supported (source_of term.now) }

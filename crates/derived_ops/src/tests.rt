@@ -28,19 +28,43 @@ fn masked_says(alloc: Global) -> Result<Term, AllocError> {
     Ok(Term::Uncancelable(boxed(alloc, outer)?))
 }
 
+// (uncancelable p0 (let v1 (canceled) (let v2 (say 1) (poll p0 (say v2)))))
+fn masked_says_expanded(alloc: Global) -> Result<Core, AllocError> {
+    let polled = Core::Poll(0, core(alloc, Core::Say(Value::Slot(2)))?);
+    let one = core(alloc, Core::Say(Value::Number(1)))?;
+    let inner = Core::Let(one, 2, core(alloc, polled)?);
+    let outer = Core::Let(core(alloc, Core::Canceled)?, 1, core(alloc, inner)?);
+    Ok(Core::Uncancelable(0, core(alloc, outer)?))
+}
+
 #[test]
 fn binders_are_numbered_by_depth(rt: HostRuntime) -> Result<(), Fail> {
     let alloc = rt.alloc();
     let program = Program::check(alloc, masked_says(alloc)?)?;
     assert!(rt; is_supported(&program));
     let code = expand(alloc, &program)?;
-    let polled = Core::Poll(0, core(alloc, Core::Say(Value::Slot(2)))?);
-    let one = core(alloc, Core::Say(Value::Number(1)))?;
-    let inner = Core::Let(one, 2, core(alloc, polled)?);
-    let outer = Core::Let(core(alloc, Core::Canceled)?, 1, core(alloc, inner)?);
-    let masked = Core::Uncancelable(0, core(alloc, outer)?);
-    assert!(rt; *code.core() == masked);
+    assert!(rt; *code.core() == masked_says_expanded(alloc)?);
     Ok(())
+}
+
+/// Holds whichever allocation is refused.
+#[test]
+fn expand_answers_its_code_or_no_memory(rt: HostRuntime) {
+    let alloc = rt.alloc();
+    let Ok(wanted) = masked_says_expanded(alloc) else {
+        return;
+    };
+    let Ok(term) = masked_says(alloc) else {
+        return;
+    };
+    let Ok(program) = Program::check(alloc, term) else {
+        return;
+    };
+    assert!(rt; is_supported(&program));
+    match expand(alloc, &program) {
+        Ok(code) => assert!(rt; *code.core() == wanted),
+        Err(AllocError) => {}
+    }
 }
 
 #[test]
@@ -63,7 +87,7 @@ fn siblings_share_slots(rt: HostRuntime) -> Result<(), Fail> {
 }
 
 #[test]
-fn words_that_run_today(rt: HostRuntime) -> Result<(), Fail> {
+fn six_words_are_supported(rt: HostRuntime) -> Result<(), Fail> {
     let alloc = rt.alloc();
     let pair = Term::Seq(
         boxed(alloc, Term::Canceled)?,

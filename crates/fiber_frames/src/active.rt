@@ -36,7 +36,7 @@ impl<'a> Active<'a> {
     {
         match self {
             Active::More(_, rest) if self.is_undone_by(poll) => rest,
-            _ => self,
+            Active::None | Active::More(_, _) => self,
         }
     }
 }

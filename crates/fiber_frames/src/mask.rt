@@ -33,16 +33,16 @@ impl Mask {
             (Mask::Pair(fiber, number), Mask::Pair(other_fiber, other_number)) => {
                 fiber == other_fiber && number == other_number
             }
-            _ => false,
+            (Mask::Named(_), Mask::Pair(_, _)) | (Mask::Pair(_, _), Mask::Named(_)) => false,
         }
     }
 
-    // The mask, with this one in the place of a slot.
-    pub(crate) fn put(self, slot: u32, mask: Mask) -> Mask
-        ensures { mask_of result ≡ mask_at (Put_mask slot (mask_of mask)) (mask_of self) }
+    // The mask, with this one of a fiber in the place of a slot.
+    pub(crate) fn put(self, slot: u32, fiber: u16, number: u64) -> Mask
+        ensures { mask_of result ≡ mask_at (Put_mask slot fiber number) (mask_of self) }
     {
         match self {
-            Mask::Named(own) if own == slot => mask,
+            Mask::Named(own) if own == slot => Mask::Pair(fiber, number),
             Mask::Named(_) | Mask::Pair(_, _) => self,
         }
     }

@@ -1,12 +1,13 @@
 //! The terms of a running fiber, as boxed trees.
 
-ghost use Rattle.std.specs.Prelude.{◌≡◌, ◌++◌, ◌<◌, ◌^◌, IfOk, OnOk, OnErr};
+ghost use Rattle.std.specs.Prelude.{◌≡◌, ◌+◌, ◌++◌, ◌<◌, ◌^◌, if◌then◌else◌, [], ◌∷◌, IfOk, OnOk, OnErr};
 ghost use Rattle.effect_term.specs.declared.reply.Reply.TheVariants.{Done};
+ghost use Rattle.derived_ops.specs.Tree as tree;
 ghost use Rattle.derived_ops.specs.Cores.{tree_of as tree_of_core, value_in_core};
 ghost use Rattle.derived_ops.specs.Put.{Put_value, Put_mask, value_at, put as put_in};
 ghost use Rattle.fiber_frames.specs.Rows.{number_of, Plain};
 ghost use Rattle.fiber_frames.specs.Walk.{masks_below, walk};
-ghost use Rattle.fiber_frames.specs.Nodes.{mask_of, masks_of, is_none, tree_of, result_of};
+ghost use Rattle.fiber_frames.specs.Nodes.{masks_of, is_none, tree_of, result_of};
 
 use crate::active::Active;
 use crate::ask::Ask;
@@ -39,12 +40,12 @@ pub(crate) fn number(value: Value) -> i32
     }
 }
 
-// The value, with another in the place of a slot.
-fn with(value: Value, slot: u32, other: Value) -> Value
-    ensures { value_in_core result ≡ value_at (Put_value slot (value_in_core other)) (value_in_core value) }
+// The value, with a number in the place of a slot.
+fn with(value: Value, slot: u32, number: i32) -> Value
+    ensures { value_in_core result ≡ value_at (Put_value slot number) (value_in_core value) }
 {
     match value {
-        Value::Slot(own) if own == slot => other,
+        Value::Slot(own) if own == slot => Value::Number(number),
         Value::Slot(_) | Value::Number(_) => value,
     }
 }
@@ -74,46 +75,46 @@ impl Node {
         })
     }
 
-    // Puts a value in the place of a slot.
-    fn put_value(&mut self, slot: u32, value: Value)
-        ensures { tree_of self.new ≡ put_in (Put_value slot (value_in_core value)) (tree_of self.old) }
+    // Puts a number in the place of a slot.
+    fn put_value(&mut self, slot: u32, number: i32)
+        ensures { tree_of self.new ≡ put_in (Put_value slot number) (tree_of self.old) }
     {
         match self {
-            Node::Pure(own) => *own = with(*own, slot, value),
-            Node::Say(own) => *own = with(*own, slot, value),
+            Node::Pure(own) => *own = with(*own, slot, number),
+            Node::Say(own) => *own = with(*own, slot, number),
             Node::Canceled => {}
             Node::Let(first, _, then) => {
-                first.put_value(slot, value);
-                then.put_value(slot, value);
+                first.put_value(slot, number);
+                then.put_value(slot, number);
             }
-            Node::Uncancelable(_, body) => body.put_value(slot, value),
-            Node::Poll(_, body) => body.put_value(slot, value),
-            Node::Masked(_, body) => body.put_value(slot, value),
-            Node::Polled(_, body) => body.put_value(slot, value),
+            Node::Uncancelable(_, body) => body.put_value(slot, number),
+            Node::Poll(_, body) => body.put_value(slot, number),
+            Node::Masked(_, body) => body.put_value(slot, number),
+            Node::Polled(_, body) => body.put_value(slot, number),
         }
     }
 
-    // Puts a mask in the place of a slot.
-    fn put_mask(&mut self, slot: u32, mask: Mask)
-        ensures { tree_of self.new ≡ put_in (Put_mask slot (mask_of mask)) (tree_of self.old) }
+    // Puts a mask of a fiber in the place of a slot.
+    fn put_mask(&mut self, slot: u32, fiber: u16, number: u64)
+        ensures { tree_of self.new ≡ put_in (Put_mask slot fiber number) (tree_of self.old) }
     {
         match self {
             Node::Pure(_) => {}
             Node::Say(_) => {}
             Node::Canceled => {}
             Node::Let(first, _, then) => {
-                first.put_mask(slot, mask);
-                then.put_mask(slot, mask);
+                first.put_mask(slot, fiber, number);
+                then.put_mask(slot, fiber, number);
             }
-            Node::Uncancelable(_, body) => body.put_mask(slot, mask),
+            Node::Uncancelable(_, body) => body.put_mask(slot, fiber, number),
             Node::Poll(own, body) => {
-                *own = own.put(slot, mask);
-                body.put_mask(slot, mask);
+                *own = own.put(slot, fiber, number);
+                body.put_mask(slot, fiber, number);
             }
-            Node::Masked(_, body) => body.put_mask(slot, mask),
+            Node::Masked(_, body) => body.put_mask(slot, fiber, number),
             Node::Polled(own, body) => {
-                *own = own.put(slot, mask);
-                body.put_mask(slot, mask);
+                *own = own.put(slot, fiber, number);
+                body.put_mask(slot, fiber, number);
             }
         }
     }
@@ -124,7 +125,8 @@ impl Node {
     {
         match self {
             Node::Pure(value) => Some(*value),
-            _ => None,
+            Node::Say(_) | Node::Canceled | Node::Let(_, _, _) | Node::Uncancelable(_, _) => None,
+            Node::Poll(_, _) | Node::Masked(_, _) | Node::Polled(_, _) => None,
         }
     }
 
@@ -138,7 +140,8 @@ impl Node {
                 body.is_unmasked(own, &Active::More(Mask::Pair(own, *mask), &*active))
             }
             Node::Polled(poll, body) => body.is_unmasked(own, active.undone_by(*poll)),
-            _ => active.is_none(),
+            Node::Pure(_) | Node::Say(_) | Node::Canceled => active.is_none(),
+            Node::Uncancelable(_, _) | Node::Poll(_, _) => active.is_none(),
         }
     }
 
@@ -181,12 +184,13 @@ impl Node {
         active: &Active,
         marks: &mut Vec<Mark>,
     ) -> Result<Node, AllocError>
-        requires { next.old < 2 ^ 63 }
+        requires in_range { (walk own next.old Done (masks_of active.now) (tree_of self)).next ≡ next.old + 1 → next.old < 2 ^ 63 }
         ensures term { IfOk result (λ node. tree_of node ≡ (walk own next.old Done (masks_of active.now) (tree_of self)).becomes) }
         ensures marks { OnOk result (marks.new.items ≡ marks.old.items ++ (walk own next.old Done (masks_of active.now) (tree_of self)).marks) }
         ensures next { OnOk result (next.new ≡ (walk own next.old Done (masks_of active.now) (tree_of self)).next) }
         ensures kind { (walk own next.old Done (masks_of active.now) (tree_of self)).kind ≡ Plain }
         ensures err { OnErr result (marks.new.items ≡ marks.old.items) }
+        ensures kept { OnErr result (next.new ≡ next.old) }
     {
         match self {
             Node::Pure(value) => Ok(Node::Pure(value)),
@@ -195,27 +199,23 @@ impl Node {
                 Ok(Node::Pure(Value::Number(0)))
             }
             Node::Canceled => Ok(Node::Pure(Value::Number(0))),
+            Node::Uncancelable(slot, body) => entered(own, slot, body, next, marks),
+            Node::Poll(poll, body) => {
+                note_if(
+                    active.is_undone_by(poll),
+                    Mark::PollIn(poll.number()),
+                    marks,
+                )?;
+                Ok(Node::Polled(poll, body))
+            }
             Node::Let(mut first, slot, mut then) => {
                 if let Some(value) = first.result() {
-                    then.put_value(slot, value);
+                    then.put_value(slot, number(value));
                     return Ok(Box::into_inner(then));
                 }
                 let inner = mem::replace(&mut *first, Node::Canceled);
                 *first = inner.reduced(own, next, active, marks)?;
                 Ok(Node::Let(first, slot, then))
-            }
-            Node::Uncancelable(slot, mut body) => {
-                let mask = *next;
-                marks.push(Mark::Enter(mask))?;
-                body.put_mask(slot, Mask::Pair(own, mask));
-                *next = mask + 1;
-                Ok(Node::Masked(mask, body))
-            }
-            Node::Poll(poll, body) => {
-                if active.is_undone_by(poll) {
-                    marks.push(Mark::PollIn(poll.number()))?;
-                }
-                Ok(Node::Polled(poll, body))
             }
             Node::Masked(mask, mut body) => {
                 if let Some(value) = body.result() {
@@ -229,9 +229,11 @@ impl Node {
             }
             Node::Polled(poll, mut body) => {
                 if let Some(value) = body.result() {
-                    if active.is_undone_by(poll) {
-                        marks.push(Mark::PollOut(poll.number()))?;
-                    }
+                    note_if(
+                        active.is_undone_by(poll),
+                        Mark::PollOut(poll.number()),
+                        marks,
+                    )?;
                     return Ok(Node::Pure(value));
                 }
                 let inner = mem::replace(&mut *body, Node::Canceled);
@@ -240,4 +242,37 @@ impl Node {
             }
         }
     }
+}
+
+// Notes a mark, where it is to be noted.
+fn note_if(noted: bool, mark: Mark, marks: &mut Vec<Mark>) -> Result<(), AllocError>
+    ensures marks { OnOk result (marks.new.items ≡ marks.old.items ++ (if noted then mark ∷ [] else [])) }
+    ensures err { OnErr result (marks.new.items ≡ marks.old.items) }
+{
+    if noted {
+        marks.push(mark)?;
+    }
+    Ok(())
+}
+
+// The term of an `uncancelable` below the next mask, whose number is taken once its mark is noted.
+fn entered(
+    own: u16,
+    slot: u32,
+    mut body: Box<Node>,
+    next: &mut u64,
+    marks: &mut Vec<Mark>,
+) -> Result<Node, AllocError>
+    requires in_range { next.old < 2 ^ 63 }
+    ensures term { IfOk result (λ node. tree_of node ≡ tree.Masked next.old (put_in (Put_mask slot own next.old) (tree_of body.value))) }
+    ensures marks { OnOk result (marks.new.items ≡ marks.old.items ++ Mark.Enter next.old ∷ []) }
+    ensures next { OnOk result (next.new ≡ next.old + 1) }
+    ensures err { OnErr result (marks.new.items ≡ marks.old.items) }
+    ensures kept { OnErr result (next.new ≡ next.old) }
+{
+    let mask = *next;
+    marks.push(Mark::Enter(mask))?;
+    body.put_mask(slot, own, mask);
+    *next = mask + 1;
+    Ok(Node::Masked(mask, body))
 }

@@ -203,7 +203,7 @@ fn poll_of_an_outer_mask_undoes_nothing(rt: HostRuntime) -> Result<(), Fail> {
 
 /// Holds whichever allocation is refused: the fiber then is broken, and its marks are as they were.
 #[test]
-fn want_of_memory_breaks_a_fiber(rt: HostRuntime) {
+fn a_move_is_made_or_the_fiber_breaks(rt: HostRuntime) {
     let alloc = rt.alloc();
     let Ok(term) = masked(alloc, say(1)) else {
         return;
@@ -211,23 +211,27 @@ fn want_of_memory_breaks_a_fiber(rt: HostRuntime) {
     let Ok(program) = Program::check(alloc, term) else {
         return;
     };
-    if !is_supported(&program) {
-        return;
-    }
+    assert!(rt; is_supported(&program));
     let Ok(code) = expand(alloc, &program) else {
         return;
     };
     let Ok(mut config) = Config::new(alloc, &code) else {
         return;
     };
+    let marks = [Mark::Enter(0), Mark::Say(1), Mark::Leave(0)];
     for _step in 0..9u32 {
-        let Some(reply) = reply(config.number(), config.ask(), false) else {
+        let ask = config.ask();
+        let Some(reply) = reply(config.number(), ask, false) else {
+            assert_eq!(rt; ask, Ask::Over(Outcome::Succeeded(0)));
+            assert_eq!(rt; config.trace(), marks.as_slice());
             break;
         };
-        let marks = config.trace().len();
-        if config.resume(reply).is_err() {
+        let before = config.trace().len();
+        let failed = config.resume(reply).is_err();
+        assert!(rt; marks.as_slice().starts_with(config.trace()));
+        if failed {
             assert_eq!(rt; config.ask(), Ask::Broken);
-            assert_eq!(rt; config.trace().len(), marks);
+            assert_eq!(rt; config.trace().len(), before);
             break;
         }
     }

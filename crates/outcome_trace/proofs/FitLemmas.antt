@@ -13,7 +13,7 @@ use Rattle.fiber_frames.specs.declared.ask.Look.{Look}
 use Rattle.fiber_frames.specs.declared.ask.Look.TheVariants.{Due, Clear, Seen}
 use Rattle.fiber_frames.specs.Path.{Running, Runs, Final, Over, Broken, path, leaf, focus, active_at, pending_at}
 use Rattle.fiber_frames.specs.Rows.{Row, row_at}
-use Rattle.fiber_frames.specs.Fiber.{Fiber, active_of, turn, turn_in, turn_under, row_of, looked, cut, reduced, ask_in, ask_of, move_in, move, outcome_of, outcome_in}
+use Rattle.fiber_frames.specs.Fiber.{Fiber, active_of, move_case, case_in, case_under, row_of, looked, cut, reduced, ask_in, ask_of, move_in, move, outcome_of, outcome_in}
 use Rattle.fiber_frames.specs.Answers.{Answers}
 use Rattle.cell_registry.specs.declared.limits.Limits.{Limits}
 use Rattle.cell_registry.specs.declared.cell.Stage.{Stage}
@@ -59,11 +59,11 @@ pub data Next (i : ℕ) (g : Fiber) (c : Cell) : Type 0 where
   Has_ended : (o : Outcome) → ask_of g ≡ ask.Over o → g.running ≡ Over o → Next i g c
 
 -- ---- what the next move is
-turn-under : (up : List Mask) (l : Look) → ((turn_under up l ≡ turn_under [] Due) × (up ≡ [])) ⊎ (((turn_under up l ≡ turn_under [] Seen) × (up ≡ []) × (l ≡ Seen)) ⊎ (turn_under up l ≡ turn_under [] Clear))
-turn-under [] Due = inl (refl, refl)
-turn-under [] Seen = inr (inl (refl, refl, refl))
-turn-under [] Clear = inr (inr refl)
-turn-under (a ∷ up) l = inr (inr refl)
+case_under-list : (up : List Mask) (l : Look) → ((case_under up l ≡ case_under [] Due) × (up ≡ [])) ⊎ (((case_under up l ≡ case_under [] Seen) × (up ≡ []) × (l ≡ Seen)) ⊎ (case_under up l ≡ case_under [] Clear))
+case_under-list [] Due = inl (refl, refl)
+case_under-list [] Seen = inr (inl (refl, refl, refl))
+case_under-list [] Clear = inr (inr refl)
+case_under-list (a ∷ up) l = inr (inr refl)
 
 keeps_runs : (i next : ℕ) (r : Reply) (t : Tree) → RunningRoom i (Runs t) → RowKeeps i (row_at i next reply.Done (focus (Runs t)) (Runs t)).call (length (active_at i (focus (Runs t)))) next (row_at i next r (focus (Runs t)) (Runs t))
 keeps_runs i next r t h = keeps_row i next r (path t []) (leaf t) h.0 h.1
@@ -120,14 +120,14 @@ next_runs : (i : ℕ) (g : Fiber) (c : Cell) (t : Tree) → g.running ≡ Runs t
 next_runs i g c t is h =
     let running : c.stage ≡ stage.Running = subst (λ (w : Running). StageFits w c.stage) is h.stage in
     let deep : c.depth ≡ length (active_of g) = subst (λ (w : Running). DepthFits w (length (active_of g)) c.depth) is h.depth in
-    let turns : turn g ≡ turn_under (active_of g) g.look = ap (λ (w : Running). turn_in w (active_of g) g.look) is in
+    let here : move_case g ≡ case_under (active_of g) g.look = ap (λ (w : Running). case_in w (active_of g) g.look) is in
     let none : pending_at (focus g.running) ≡ [] =
     subst (λ (w : Running). pending_at (focus w) ≡ []) (sym is) (pending-none g.number (path t []) (subst (RunningRoom g.number) is h.room).0) in
-    elim (turn-under (active_of g) g.look) [
-      | inl q ↦ Looks_now (ap (ask_in g) (turns ∙ q.0)) running (deep ∙ ap length q.1) (λ r. ap (move_in g r) (turns ∙ q.0))
+    elim (case_under-list (active_of g) g.look) [
+      | inl q ↦ Looks_now (ap (ask_in g) (here ∙ q.0)) running (deep ∙ ap length q.1) (λ r. ap (move_in g r) (here ∙ q.0))
       | inr q ↦ elim q [
-        | inl e ↦ Cuts_now (ap (ask_in g) (turns ∙ e.0)) running (deep ∙ ap length e.1) (subst (λ (l : Look). LookFits l c.request) e.2 h.look) (λ r. ap (move_in g r) (turns ∙ e.0)) none
-        | inr e ↦ next_by_ask i g c (row_of g reply.Done).call (ap (ask_in g) (turns ∙ e)) h.number running deep (λ r. ap (move_in g r) (turns ∙ e)) (λ r. keeps_reduced g t r is h.room)
+        | inl e ↦ Cuts_now (ap (ask_in g) (here ∙ e.0)) running (deep ∙ ap length e.1) (subst (λ (l : Look). LookFits l c.request) e.2 h.look) (λ r. ap (move_in g r) (here ∙ e.0)) none
+        | inr e ↦ next_by_ask i g c (row_of g reply.Done).call (ap (ask_in g) (here ∙ e)) h.number running deep (λ r. ap (move_in g r) (here ∙ e)) (λ r. keeps_reduced g t r is h.room)
       ]
     ]
 

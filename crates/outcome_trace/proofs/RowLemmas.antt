@@ -3,7 +3,7 @@ use Rattle.std.proofs.Common.{◌≡◌, ◌≢◌, ℕ, suc, ◌+◌, ◌≤◌
 use Rattle.std.specs.Prelude.{if◌then◌else◌}
 use Rattle.effect_term.specs.declared.reply.Reply.{Reply}
 use Rattle.effect_term.specs.declared.reply.Reply.TheVariants.{Done}
-use Rattle.derived_ops.specs.Tree.{Value, Mask, Pair, Add, Say, Cede, Never, Canceled, Request, Ending, Get, Set, Modify, Complete, Await, Turns, Times, Always, Last, Tree, Pure, Raise, Act, Note, Cancel, Let, Seq, Handled, If0, Join, Make, Start, Loop, Uncancelable, Poll, On_cancel, Masked, Polled, Guarded}
+use Rattle.derived_ops.specs.Tree.{Value, Mask, Add, Say, Cede, Never, Canceled, Request, Ending, Get, Set, Modify, Complete, Await, Turns, Times, Always, Last, Tree, Pure, Raise, Act, Note, Cancel, Let, Seq, Handled, If0, Join, Make, Start, Loop, Uncancelable, Poll, On_cancel, Masked, Polled, Guarded}
 use Rattle.derived_ops.specs.Put.{Put_value, Put_mask, put}
 use Rattle.fiber_frames.specs.declared.ask.Ask.{Ask}
 use Rattle.fiber_frames.specs.declared.ask.Ask.TheVariants as ask
@@ -77,7 +77,7 @@ polled i next p e w q false up eq is becomes same r h = silent i next (length up
 -- a value or an error, below the innermost step
 keeps_value : (i next : ℕ) (p : List Step) (v : Value) → PathRoom i At_term p → length (active i At_term p) ≤ MOST_MASKS → RowKeeps i (value_row i next At_term v p).call (length (active i At_term p)) next (value_row i next At_term v p)
 keeps_value i next [] v pr h = record { on = (refl, λ q. cc); room = tt; depth = refl; next_is = refl }
-keeps_value i next (In_let x k ∷ p) v pr h = silent i next (length (active i At_term p)) p (put (Put_value x v) k) _ refl refl pr.1 (HasRoom-put (Put_value x v) (length (active i At_term p)) k pr.0) refl
+keeps_value i next (In_let x k ∷ p) v pr h = silent i next (length (active i At_term p)) p (put (Put_value x (number_of v)) k) _ refl refl pr.1 (HasRoom-put (Put_value x (number_of v)) (length (active i At_term p)) k pr.0) refl
 keeps_value i next (In_seq w k ∷ p) v pr h = silent i next (length (active i At_term p)) p k _ refl refl pr.1 pr.0 refl
 keeps_value i next (In_handle x k ∷ p) v pr h = silent i next (length (active i At_term p)) p (Pure v) _ refl refl pr.1 h refl
 keeps_value i next (In_guarded fin ∷ p) v pr h = absurd pr.0
@@ -95,7 +95,7 @@ keeps_error : (i next : ℕ) (p : List Step) (c : Value) → PathRoom i At_term 
 keeps_error i next [] c pr h = record { on = (refl, λ q. cc); room = tt; depth = refl; next_is = refl }
 keeps_error i next (In_let x k ∷ p) c pr h = silent i next (length (active i At_term p)) p (Raise c) _ refl refl pr.1 h refl
 keeps_error i next (In_seq w k ∷ p) c pr h = silent i next (length (active i At_term p)) p (Raise c) _ refl refl pr.1 h refl
-keeps_error i next (In_handle x k ∷ p) c pr h = silent i next (length (active i At_term p)) p (put (Put_value x c) k) _ refl refl pr.1 (HasRoom-put (Put_value x c) (length (active i At_term p)) k pr.0) refl
+keeps_error i next (In_handle x k ∷ p) c pr h = silent i next (length (active i At_term p)) p (put (Put_value x (number_of c)) k) _ refl refl pr.1 (HasRoom-put (Put_value x (number_of c)) (length (active i At_term p)) k pr.0) refl
 keeps_error i next (In_guarded fin ∷ p) c pr h = absurd pr.0
 keeps_error i next (In_masked m ∷ p) c pr h =
     let l = landed i p p (Raise c) (Raise c) refl refl pr.1 pr.0 in
@@ -166,10 +166,10 @@ keeps_row i next r p (Start x e k) pr h = absurd h
 keeps_row i next r p (Loop n e) pr h = silent i next (length (active i At_term p)) p (looped n e) _ refl refl pr (keeps_loop (length (active i At_term p)) n e h) refl
 keeps_row i next r p (Uncancelable x e) pr h =
     let d = length (active i At_term p) in
-    let body = put (Put_mask x (Pair i next)) e in
+    let body = put (Put_mask x i next) e in
     let more : d + 1 ≡ suc d = omega arith in
     let most = HasRoom-most (d + 1) e h in
-    let l = landed i p (In_masked next ∷ p) (Masked next body) body refl refl (HasRoom-most d (Uncancelable x e) h, pr) (subst (λ n. HasRoom n body) more (HasRoom-put (Put_mask x (Pair i next)) (d + 1) e h)) in
+    let l = landed i p (In_masked next ∷ p) (Masked next body) body refl refl (HasRoom-most d (Uncancelable x e) h, pr) (subst (λ n. HasRoom n body) more (HasRoom-put (Put_mask x i next) (d + 1) e h)) in
     let deep : length (active_at i (focus (Runs (whole p (Masked next body))))) ≡ d + 1 = ap length l.1 ∙ sym more in
     record {
       on = (whole p (Masked next body), refl);

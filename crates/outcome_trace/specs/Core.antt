@@ -3,12 +3,11 @@ use Rattle.std.specs.Prelude.{ℕ, List, [], ◌∷◌, ◌++◌, Option, Some, 
 use Rattle.std.specs.List.{slice_get}
 use Rattle.effect_term.specs.declared.reply.Outcome.{Outcome}
 use Rattle.effect_term.specs.declared.reply.Reply.{Reply}
-use Rattle.effect_term.specs.declared.reply.Reply.TheVariants.{Done}
 use Rattle.derived_ops.specs.Tree.{Tree}
 use Rattle.fiber_frames.specs.declared.ask.Ask.{Ask}
 use Rattle.fiber_frames.specs.declared.ask.Ask.TheVariants as ask
 use Rattle.fiber_frames.specs.Rows.{number_in}
-use Rattle.fiber_frames.specs.Fiber.{Fiber, begins, ask_of, move, child, outcome_of}
+use Rattle.fiber_frames.specs.Fiber.{Fiber, begins, ask_of, move, silent_move, child, outcome_of}
 use Rattle.cell_registry.specs.declared.limits.Limits.{Limits}
 use Rattle.cell_registry.specs.declared.limits.CellError.{CellError}
 use Rattle.cell_registry.specs.declared.limits.CellError.TheVariants as cell
@@ -78,7 +77,7 @@ answered w f g c (Some e) = Stops (fault_of f e)
 
 abbrev pub wished : Limits → World → ℕ → Fiber → Wish → Course
 wished k w f g (Shared c) = answered w f g c (refusal k w.cells f c)
-wished k w f g Alone = Goes record w { fibers = slice_set w.fibers f (move g Done) }
+wished k w f g Alone = Goes record w { fibers = slice_set w.fibers f (silent_move g) }
 wished k w f g Nothing = Goes w
 
 -- the one move of the fiber of this number; an unborn number changes nothing

@@ -11,13 +11,13 @@ use Rattle.outcome_trace.proofs.scheduled.replay.Goals as goal
 
 pub entries-requires : goal.entries-requires
 entries-requires c =
-    rw (c.in_ok-config.ensures, c.in_ok-code.ensures, c.in_ok-registry.ensures.opening)
+    rw (c.in_ok-config.ensures, c.in_ok-code.ensures.code, c.in_ok-registry.ensures.opening)
     (opening_fits c.args.limits (code_of (source_of c.args.program.now)) c.requires.limits.some_fiber (code_room c.args.program.now c.requires.words c.term.ensures.program.masks))
 
 pub returns-in_err-entries : goal.returns-in_err-entries
 returns-in_err-entries c =
     let p = err_from_is_err_and c.from_residual-in_err-entries.result c.from_residual-in_err-entries.ensures.1 in
-    let start = core_from-opened c.args.limits (code_of (source_of c.args.program.now)) c.in_ok-config.config c.in_ok-registry.registry c.args.schedule.now (c.in_ok-config.ensures ∙ ap (begins 0) c.in_ok-code.ensures) c.in_ok-registry.ensures.opening in
+    let start = core_from-opened c.args.limits (code_of (source_of c.args.program.now)) c.in_ok-config.config c.in_ok-registry.registry c.args.schedule.now (c.in_ok-config.ensures ∙ ap (begins 0) c.in_ok-code.ensures.code) c.in_ok-registry.ensures.opening in
     rw (p.1, p.2) (elim c.in_err-entries.ensures.stops [
       | inl q ↦ inl (ap Err q)
       | inr q ↦ inr (sym (ap reported (sym start ∙ q)))
@@ -25,5 +25,5 @@ returns-in_err-entries c =
 
 pub returns : goal.returns
 returns c =
-    let start = core_from-opened c.args.limits (code_of (source_of c.args.program.now)) c.in_ok-config.config c.in_ok-registry.registry c.args.schedule.now (c.in_ok-config.ensures ∙ ap (begins 0) c.in_ok-code.ensures) c.in_ok-registry.ensures.opening in
+    let start = core_from-opened c.args.limits (code_of (source_of c.args.program.now)) c.in_ok-config.config c.in_ok-registry.registry c.args.schedule.now (c.in_ok-config.ensures ∙ ap (begins 0) c.in_ok-code.ensures.code) c.in_ok-registry.ensures.opening in
     inr (ap Ok c.in_ok-report.ensures ∙ sym (ap reported (sym start ∙ c.in_ok-entries.ensures.goes)))

@@ -2,7 +2,7 @@
 
 /// What the next move is.
 #[derive(Clone, Copy, PartialEq, Eq, Debug)]
-pub(crate) enum Turn {
+pub(crate) enum MoveCase {
     /// No mask is active, and the fiber looks at the request.
     Looks,
     /// No mask is active, and the fiber observes the request that it saw.
