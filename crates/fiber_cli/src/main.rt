@@ -7,11 +7,14 @@
 mod cli;
 mod words;
 
-use outcome_trace::{FromRead, ToWrite, USAGE, tell_no_memory};
+use outcome_trace::{FromRead, ToWrite, tell_no_memory};
 use std::alloc::AllocError;
 use std::env;
 use std::io::ErrorKind;
 use std::process::ExitCode;
+
+/// What is told of words that aren't text, which `clap` isn't given here, in its own terms.
+const NOT_TEXT: &str = "invalid UTF-8 was detected in one or more arguments";
 
 fn main(rt: HostRuntime) -> ExitCode {
     let mut input = FromRead::new(rt.stdin());
@@ -20,7 +23,10 @@ fn main(rt: HostRuntime) -> ExitCode {
     let words: Result<Vec<String>, AllocError> = match env::args(&rt) {
         Ok(words) => words.collect(rt.alloc()),
         Err(error) if error.kind() == ErrorKind::OutOfMemory => Err(AllocError),
-        Err(_) => return ExitCode::from(USAGE),
+        Err(_) => {
+            let status = cli::refuse_words(rt.alloc(), NOT_TEXT, &mut err);
+            return ExitCode::from(status);
+        }
     };
     let status = match words {
         Ok(words) => cli::command(&rt, words.as_slice(), &mut input, &mut out, &mut err),

@@ -1,5 +1,6 @@
 pub mod Answers
 pub mod Device
+pub mod Devices
 pub mod Exchange
 pub mod FaultLines
 pub mod Orders

@@ -1,11 +1,13 @@
 //! Devices that a text is read from and written to, and how any reader or writer is one.
 
-ghost use Rattle.std.specs.Prelude.{◌≡◌, ◌+◌, ◌-◌, ◌<◌, ◌^◌, ℕ, Option, List, Bool, false};
+ghost use Rattle.std.specs.Prelude.{◌≡◌, ◌↔◌, ◌+◌, ◌-◌, ◌<◌, ◌^◌, ℕ, Option, List, Bool, false};
 ghost use Rattle.std.specs.Io.{ReadsAtMost, WritesAtMost};
+ghost use Rattle.std.specs.IoError.{error_kind};
 ghost use Rattle.std.specs.Io.KnownBytes.{ReadConsumes, WriteAppends};
 ghost use Rattle.outcome_trace.specs.Device.{read_failed, write_failed};
 ghost use Rattle.outcome_trace.specs.Wrapped.{reader_of, read_has_failed, reads_of, writer_of, write_has_failed};
 
+use std::io;
 use std::io::{ErrorKind, Read, Write};
 
 /// Why a read gave no count.
@@ -59,6 +61,17 @@ pub trait TextOut {
         ensures failed { has_failed self.new ≡ write_failed result bytes.now };
 }
 
+/// What a reader's error means: it is to be asked again where it was interrupted, and else it has
+/// failed.
+fn read_error(error: &io::Error) -> ReadError
+    ensures { (result ≡ ReadError.Interrupted) ↔ (error_kind error.now ≡ ErrorKind.Interrupted) }
+{
+    match error.kind() {
+        ErrorKind::Interrupted => ReadError::Interrupted,
+        _ => ReadError::Failed,
+    }
+}
+
 /// Any reader, as a device. It keeps whether a read has failed, and counts the reads.
 #[derive(Drop)]
 pub struct FromRead<R> {
@@ -93,11 +106,13 @@ impl<R: Read> TextIn for FromRead<R> {
         self.reads += 1;
         match self.inner.read(buffer) {
             Ok(count) => Ok(count),
-            Err(error) if error.kind() == ErrorKind::Interrupted => Err(ReadError::Interrupted),
-            Err(_) => {
-                self.failed = true;
-                Err(ReadError::Failed)
-            }
+            Err(error) => match read_error(&error) {
+                ReadError::Interrupted => Err(ReadError::Interrupted),
+                ReadError::Failed => {
+                    self.failed = true;
+                    Err(ReadError::Failed)
+                }
+            },
         }
     }
 }
@@ -115,8 +130,10 @@ impl<W> ToWrite<W> {
         ensures writer { writer_of result ≡ inner }
         ensures healthy { write_has_failed result ≡ false }
     {
-        let failed = false;
-        ToWrite { inner, failed }
+        ToWrite {
+            inner,
+            failed: false,
+        }
     }
 }
 

@@ -28,6 +28,7 @@ mod text;
 mod wish;
 
 pub use answers::{FAULT, REFUSED, check_text};
+pub use cell_registry::Limits;
 pub use device::{FromRead, ReadError, TextIn, TextOut, ToWrite, WriteFailed};
 pub use fault::TextFault;
 pub use lines::{Refused, line};

@@ -2,6 +2,7 @@
 
 ghost use Rattle.std.specs.Prelude.{◌≡◌, ◌<◌, ◌^◌, false};
 ghost use Rattle.outcome_trace.specs.FaultLines.{TellsFault};
+ghost use Rattle.outcome_trace.specs.Devices.{devices, reader, writer};
 ghost use Rattle.outcome_trace.specs.Orders.{HasLimits, Obeys, RefusesSchedule, Told, TellsResult, status_of};
 ghost use Rattle.outcome_trace.specs.declared.fault.TextFault.TheVariants.{NoMemory};
 
@@ -23,25 +24,31 @@ pub const USAGE: u8 = 64;
 pub enum Order<'a> {
     /// Tell whether it is a program.
     Check,
-    /// Run it under the schedule that this text is, within these limits.
-    Replay { schedule: &'a str, limits: Limits },
+    /// Run it under a schedule, and report what each fiber came to.
+    Replay {
+        /// The schedule's text: items `f` or `f*k`, separated by one space each.
+        schedule: &'a str,
+        /// How many fibers, refs and deferreds there may be (each 1 to 1000), and how often a fiber
+        /// may change its own state (1 to 262,143).
+        limits: Limits,
+    },
 }
 
-/// Tells that there was no memory. It takes none itself.
+/// Tells that there was no memory, and gives the status 70. It takes none itself.
 pub fn tell_no_memory<E: TextOut>(err: &mut E) -> u8
     requires { E.has_failed err.old ≡ false }
-    ensures told { Told (TellsFault NoMemory) (record { old = E.contents err.old; new = E.contents err.new; failed = E.has_failed err.new }) }
+    ensures told { Told (TellsFault NoMemory) (writer (E.contents err.old) (E.has_failed err.old)) (writer (E.contents err.new) (E.has_failed err.new)) }
     ensures status { result ≡ FAULT }
 {
     let _ = write_text(b"fault 20 NoMemory\n", err);
     FAULT
 }
 
-/// Tells a fault, or that there was no memory to tell it. If this device fails too, nothing more
-/// is said.
+/// Tells a fault, or that there was no memory to tell it, and gives the status 70. If this device
+/// fails too, nothing more is said.
 pub fn tell_fault<E: TextOut>(alloc: Global, fault: TextFault, err: &mut E) -> u8
     requires { E.has_failed err.old ≡ false }
-    ensures told { Told (TellsFault fault) (record { old = E.contents err.old; new = E.contents err.new; failed = E.has_failed err.new }) }
+    ensures told { Told (TellsFault fault) (writer (E.contents err.old) (E.has_failed err.old)) (writer (E.contents err.new) (E.has_failed err.new)) }
     ensures status { result ≡ FAULT }
 {
     let Ok(line) = fault_line(alloc, fault) else {
@@ -54,7 +61,7 @@ pub fn tell_fault<E: TextOut>(alloc: Global, fault: TextFault, err: &mut E) -> u
 /// The status of a result, whose fault is told.
 fn status<E: TextOut>(alloc: Global, outcome: Result<u8, TextFault>, err: &mut E) -> u8
     requires { E.has_failed err.old ≡ false }
-    ensures told { TellsResult outcome (record { old = E.contents err.old; new = E.contents err.new; failed = E.has_failed err.new }) }
+    ensures told { TellsResult outcome (writer (E.contents err.old) (E.has_failed err.old)) (writer (E.contents err.new) (E.has_failed err.new)) }
     ensures status { result ≡ status_of outcome }
 {
     match outcome {
@@ -66,7 +73,7 @@ fn status<E: TextOut>(alloc: Global, outcome: Result<u8, TextFault>, err: &mut E
 /// Tells that a schedule's text is bad, or that there was no memory.
 fn refuse_schedule<E: TextOut>(alloc: Global, error: ScheduleError, err: &mut E) -> u8
     requires { E.has_failed err.old ≡ false }
-    ensures { RefusesSchedule error (record { old = E.contents err.old; new = E.contents err.new; failed = E.has_failed err.new }) result }
+    ensures { RefusesSchedule error (writer (E.contents err.old) (E.has_failed err.old)) (writer (E.contents err.new) (E.has_failed err.new)) result }
 {
     let ScheduleError::BadSchedule(place) = error else {
         return tell_no_memory(err);
@@ -79,10 +86,11 @@ fn refuse_schedule<E: TextOut>(alloc: Global, error: ScheduleError, err: &mut E)
 }
 
 /// Obeys an order: reads the text, and writes its answer. Gives the status of the program: that of
-/// the answer, or 70 where a device failed or memory ran out, which is told on the last device.
+/// the answer, or 70 where a device failed, the input didn't end within `TEXT_BOUND` reads, or
+/// memory ran out, which is told on the last device.
 ///
-/// A schedule's text is looked at first. Where it is bad, that is told on the last device, and the
-/// text isn't read.
+/// A schedule's text is looked at first. Where it is bad, the status is 64, the place of its first
+/// bad item is told on the last device, and the text isn't read.
 pub fn obey<I: TextIn, O: TextOut, E: TextOut>(
     alloc: Global,
     order: Order<'_>,
@@ -95,7 +103,9 @@ pub fn obey<I: TextIn, O: TextOut, E: TextOut>(
     requires out { O.has_failed out.old ≡ false }
     requires err { E.has_failed err.old ≡ false }
     requires limits { HasLimits order }
-    ensures obeyed { Obeys order.entry (I.remaining input.old) (I.remaining input.new) (O.contents out.old) (O.contents out.new) (record { old = E.contents err.old; new = E.contents err.new; failed = E.has_failed err.new }) result }
+    ensures obeyed { let before = devices (reader (I.remaining input.old) (I.has_failed input.old) (I.reads input.old)) (writer (O.contents out.old) (O.has_failed out.old)) (writer (E.contents err.old) (E.has_failed err.old)) in
+        let after = devices (reader (I.remaining input.new) (I.has_failed input.new) (I.reads input.new)) (writer (O.contents out.new) (O.has_failed out.new)) (writer (E.contents err.new) (E.has_failed err.new)) in
+        Obeys order.entry before after result }
 
     // Where the schedule is bad, the text isn't read and nothing is answered.
     ensures unread { result ≡ USAGE → input.new ≡ input.old }

@@ -21,21 +21,16 @@ use derived_ops::is_supported;
 use effect_term::{Outcome, Program};
 use std::alloc::{AllocError, Global};
 
-/// A word of the program isn't run yet.
-struct StageFault;
-
-impl StageFault {
-    fn answer(self, alloc: Global) -> Result<Answer, AllocError>
-        ensures line { IfOk result (λ a. a.text.items ≡ stage_line) }
-        ensures status { IfOk result (λ a. a.status ≡ FAULT) }
-    {
-        let StageFault = self;
-        let line = String::from_str(alloc, "fault stage\n")?;
-        Ok(Answer {
-            text: line.into_bytes(),
-            status: FAULT,
-        })
-    }
+/// The answer where a word of the program isn't run yet.
+fn stage_answer(alloc: Global) -> Result<Answer, AllocError>
+    ensures line { IfOk result (λ a. a.text.items ≡ stage_line) }
+    ensures status { IfOk result (λ a. a.status ≡ FAULT) }
+{
+    let line = String::from_str(alloc, "fault stage\n")?;
+    Ok(Answer {
+        text: line.into_bytes(),
+        status: FAULT,
+    })
 }
 
 /// The status of a program that writes this report.
@@ -53,6 +48,7 @@ fn report_status(report: &Report) -> u8
     }
 }
 
+/// The answer where the run came to a report.
 fn report_answer(alloc: Global, report: &Report) -> Result<Answer, AllocError>
     ensures line { IfOk result (λ a. a.text.items ≡ text_of_fibers report.now.fibers) }
     ensures status { IfOk result (λ a. a.status ≡ report_status report.now.fibers) }
@@ -64,6 +60,7 @@ fn report_answer(alloc: Global, report: &Report) -> Result<Answer, AllocError>
     })
 }
 
+/// The answer where the run ended with a fault. Want of memory is no answer.
 fn fault_answer(alloc: Global, error: RunError) -> Result<Answer, AllocError>
     ensures line { IfOk result (λ a. a.text.items ≡ run_line error) }
     ensures status { IfOk result (λ a. a.status ≡ FAULT) }
@@ -78,6 +75,7 @@ fn fault_answer(alloc: Global, error: RunError) -> Result<Answer, AllocError>
     }
 }
 
+/// What comes of a program under a schedule.
 fn run_answer(
     alloc: Global,
     program: &Program,
@@ -88,7 +86,7 @@ fn run_answer(
     ensures { IfOk result (λ a. IsRunAnswer program.now schedule.now limits a.text.items a.status) }
 {
     if !is_supported(program) {
-        return StageFault.answer(alloc);
+        return stage_answer(alloc);
     }
     match replay(alloc, program, schedule, limits) {
         Ok(report) => report_answer(alloc, &report),
@@ -96,6 +94,7 @@ fn run_answer(
     }
 }
 
+/// What comes of a text under a schedule.
 fn replay_answer(
     alloc: Global,
     text: &[u8],

@@ -71,7 +71,8 @@ fn push_fiber(text: &mut String, number: usize, fiber: &FiberReport) -> Result<(
     text.push_str("\n")
 }
 
-/// The text of a report: a line for each fiber, in the order of their numbers.
+/// The text of a report: a line for each fiber, in the order of their numbers. `AllocError` where
+/// memory ran out.
 pub fn text_of_report(alloc: Global, report: &Report) -> Result<String, AllocError>
     ensures { IfOk result (λ text. string_bytes text ≡ text_of_fibers report.now.fibers) }
 {

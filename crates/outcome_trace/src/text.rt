@@ -14,8 +14,10 @@ pub const TEXT_BOUND: usize = 65_537;
 
 /// What is left of the input, up to `TEXT_BOUND` bytes. An interrupted read is tried again.
 ///
-/// It makes at most `TEXT_BOUND` reads. After so many without the end of the input or the last of
-/// the bytes the answer is `TurnBound`.
+/// It makes at most `TEXT_BOUND` reads, and asks that the reader has counted fewer than 2^63. The
+/// faults are `ReadFault` where a read failed, `TurnBound` where so many reads came neither to the
+/// end of the input nor to the last of the bytes, and `NoMemory` where memory ran out, which is
+/// before the first read.
 pub fn read_text<T: TextIn>(alloc: Global, input: &mut T) -> Result<Vec<u8>, TextFault>
     requires healthy { T.has_failed input.old ≡ false }
     requires countable { T.reads input.old < 2 ^ 63 }
@@ -74,7 +76,8 @@ fn zeros(alloc: Global, count: usize) -> Result<Vec<u8>, AllocError>
     vec![in alloc; 0u8; count]
 }
 
-/// Writes the whole text. It takes no memory: the only fault is the writer's.
+/// Writes the whole text. It takes no memory: the only fault is `WriteFault`, with the number of
+/// bytes that went out before a write failed, was interrupted, or took nothing.
 pub fn write_text<T: TextOut>(text: &[u8], out: &mut T) -> Result<(), TextFault>
     requires { T.has_failed out.old ≡ false }
 

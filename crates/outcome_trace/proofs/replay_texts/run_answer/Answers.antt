@@ -6,7 +6,7 @@ use Rattle.outcome_trace.proofs.replay_texts.run_answer.Goals as goal
 pub returns-then-not-is_supported : goal.returns-then-not-is_supported
 returns-then-not-is_supported c =
     let off : runs c.args.program.now ≡ false = cc in
-    stage_answers c.args.program.now c.args.schedule.now c.args.limits c.answer.result off c.answer.ensures.line c.answer.ensures.status
+    stage_answers c.args.program.now c.args.schedule.now c.args.limits c.stage_answer.result off c.stage_answer.ensures.line c.stage_answer.ensures.status
 
 pub returns-in-Ok : goal.returns-in-Ok
 returns-in-Ok c =

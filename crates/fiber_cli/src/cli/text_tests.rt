@@ -1,0 +1,314 @@
+//! What is answered to texts, rule by rule.
+
+use super::tests::{LONG, expect};
+
+/// The rule that a text shows, the text, and what is answered to it.
+type Case<'a> = (&'a str, &'a str, &'a str);
+
+/// Texts that a command line answers with one status.
+struct Answers<'a> {
+    words: &'a [&'a str],
+    status: u8,
+    cases: &'a [Case<'a>],
+}
+
+const ANSWERS: &[Answers<'static>] = &[
+    Answers {
+        words: &["fiber_cli", "check"],
+        status: 0,
+        cases: &[
+            (
+                "greatest value",
+                "(pure 2147483647)",
+                "ok size 1 nest 1 masks 0\n",
+            ),
+            (
+                "least value",
+                "(pure -2147483648)",
+                "ok size 1 nest 1 masks 0\n",
+            ),
+            (
+                "bytes part numbers",
+                "(add 1-1)",
+                "ok size 1 nest 1 masks 0\n",
+            ),
+            (
+                "four bytes are space",
+                " \t\r\n( pure\n7 ) ",
+                "ok size 1 nest 1 masks 0\n",
+            ),
+            (
+                "a name spelled as a word",
+                "(let pure (pure 1) (say pure))",
+                "ok size 3 nest 2 masks 0\n",
+            ),
+            (
+                "binders of different parts with one spelling",
+                "(start f (pure 5) (join f x (pure x) x (raise x) (pure -1)))",
+                "ok size 6 nest 3 masks 0\n",
+            ),
+        ],
+    },
+    Answers {
+        words: &["fiber_cli", "check"],
+        status: 65,
+        cases: &[
+            ("no text", "", "refused 5 End at 0\n"),
+            (
+                "text cut short",
+                "(seq (pure 1) (pure 2)",
+                "refused 5 End at 22\n",
+            ),
+            (
+                "value above the greatest",
+                "(pure 2147483648)",
+                "refused 8 BadNumber at 6\n",
+            ),
+            ("no such word", "(foo 1)", "refused 6 UnknownWord at 1\n"),
+            ("too few parts", "(seq (pure 1))", "refused 7 Arity at 13\n"),
+            ("too many parts", "(pure 1 2)", "refused 7 Arity at 8\n"),
+            (
+                "a name without a binder",
+                "(pure x)",
+                "refused 9 UnknownName at 6\n",
+            ),
+            (
+                "a name of another kind",
+                "(uncancelable p (pure p))",
+                "refused 10 NameKind at 22\n",
+            ),
+            (
+                "text behind the term",
+                "(pure 1) x",
+                "refused 13 Trailing at 9\n",
+            ),
+            ("zero in front", "(pure 01)", "refused 8 BadNumber at 6\n"),
+            ("a byte of no token", "(pure A)", "refused 4 BadByte at 6\n"),
+            (
+                "bad number before wrong place",
+                "(01)",
+                "refused 8 BadNumber at 1\n",
+            ),
+            (
+                "bad byte before wrong place",
+                "(A)",
+                "refused 4 BadByte at 1\n",
+            ),
+            ("end before wrong place", "(", "refused 5 End at 1\n"),
+            (
+                "a bracket in a word's place",
+                "()",
+                "refused 6 UnknownWord at 1\n",
+            ),
+            (
+                "a number in a word's place",
+                "(1)",
+                "refused 6 UnknownWord at 1\n",
+            ),
+            (
+                "bad number before too many parts",
+                "(pure 1 01)",
+                "refused 8 BadNumber at 8\n",
+            ),
+            (
+                "a bracket behind the term",
+                "(cede)(",
+                "refused 13 Trailing at 6\n",
+            ),
+            (
+                "a bad byte behind the term",
+                "(cede) A",
+                "refused 13 Trailing at 7\n",
+            ),
+            (
+                "a bad number behind the term",
+                "(cede)01",
+                "refused 13 Trailing at 6\n",
+            ),
+            ("a sign alone", "(pure -)", "refused 8 BadNumber at 6\n"),
+            (
+                "zero with a sign",
+                "(pure -0)",
+                "refused 8 BadNumber at 6\n",
+            ),
+            ("two zeros", "(pure 00)", "refused 8 BadNumber at 6\n"),
+            (
+                "a letter in a number",
+                "(pure 1a)",
+                "refused 8 BadNumber at 6\n",
+            ),
+            ("two signs", "(pure --1)", "refused 8 BadNumber at 6\n"),
+            (
+                "a point ends a number",
+                "(pure 1.5)",
+                "refused 4 BadByte at 7\n",
+            ),
+            (
+                "byte 11 is no space",
+                "(pure\u{b}1)",
+                "refused 4 BadByte at 5\n",
+            ),
+            (
+                "byte 12 is no space",
+                "(pure\u{c}1)",
+                "refused 4 BadByte at 5\n",
+            ),
+            (
+                "byte 0 is no space",
+                "(pure\u{0}1)",
+                "refused 4 BadByte at 5\n",
+            ),
+            (
+                "a byte above 127",
+                "(pure \u{e9})",
+                "refused 4 BadByte at 6\n",
+            ),
+            (
+                "the innermost binder counts, whatever its kind",
+                "(let x (pure 1) (uncancelable x (pure x)))",
+                "refused 10 NameKind at 38\n",
+            ),
+            (
+                "a name before a later fault",
+                "(add x 01)",
+                "refused 9 UnknownName at 5\n",
+            ),
+        ],
+    },
+    Answers {
+        words: LONG,
+        status: 65,
+        cases: &[
+            ("replay refuses no text", "", "refused 5 End at 0\n"),
+            (
+                "replay refuses names",
+                "(pure x)",
+                "refused 9 UnknownName at 6\n",
+            ),
+            (
+                "a refusal before a word that isn't run yet",
+                "(race (pure 1) (pure x))",
+                "refused 9 UnknownName at 21\n",
+            ),
+            (
+                "a refusal behind a word that isn't run yet",
+                "(never) x",
+                "refused 13 Trailing at 8\n",
+            ),
+        ],
+    },
+    Answers {
+        words: LONG,
+        status: 70,
+        cases: &[
+            ("a word that isn't run yet", "(never)", "fault stage\n"),
+            (
+                "such a word inside",
+                "(let x (race (pure 1) (pure 2)) (pure x))",
+                "fault stage\n",
+            ),
+        ],
+    },
+    Answers {
+        words: &["fiber_cli", "replay", "--schedule", "0*2"],
+        status: 0,
+        cases: &[("a look, and the end", "(pure 7)", "fiber 0 succeeded 7\n")],
+    },
+    Answers {
+        words: &["fiber_cli", "replay", "--schedule", "0"],
+        status: 3,
+        cases: &[("a look alone", "(pure 7)", "fiber 0 unended\n")],
+    },
+    Answers {
+        words: &["fiber_cli", "replay", "--schedule", ""],
+        status: 3,
+        cases: &[(
+            "a schedule without entries",
+            "(pure 7)",
+            "fiber 0 unended\n",
+        )],
+    },
+    Answers {
+        words: &["fiber_cli", "replay", "--schedule", "5 0*2 1*9"],
+        status: 0,
+        cases: &[(
+            "an entry of a fiber that isn't born changes nothing",
+            "(pure 1)",
+            "fiber 0 succeeded 1\n",
+        )],
+    },
+    Answers {
+        words: &["fiber_cli", "replay", "--schedule", "0*7"],
+        status: 2,
+        cases: &[(
+            "a request under a mask is met behind it",
+            "(uncancelable p (canceled))",
+            "fiber 0 canceled: enter 0, leave 0, cut\n",
+        )],
+    },
+    Answers {
+        words: &["fiber_cli", "replay", "--schedule", "0*6"],
+        status: 3,
+        cases: &[(
+            "cut, and not ended",
+            "(uncancelable p (canceled))",
+            "fiber 0 unended: enter 0, leave 0, cut\n",
+        )],
+    },
+    Answers {
+        words: LONG,
+        status: 2,
+        cases: &[
+            (
+                "a poll observes a request",
+                "(uncancelable p (let a (canceled) (let b (say 1) (poll p (say 2)))))",
+                "fiber 0 canceled: enter 0, say 1, in 0, cut\n",
+            ),
+            (
+                "a poll of an outer mask does nothing",
+                "(uncancelable p (poll p (uncancelable q (poll p (canceled)))))",
+                "fiber 0 canceled: enter 0, in 0, enter 1, leave 1, cut\n",
+            ),
+        ],
+    },
+    Answers {
+        words: LONG,
+        status: 0,
+        cases: &[
+            (
+                "a poll without a request",
+                "(uncancelable p (poll p (say 1)))",
+                "fiber 0 succeeded 0: enter 0, in 0, say 1, out 0, leave 0\n",
+            ),
+            ("say", "(say 1)", "fiber 0 succeeded 0: say 1\n"),
+        ],
+    },
+    // A mask, its end and the end of the fiber are three changes of its owner.
+    Answers {
+        words: &["fiber_cli", "replay", "--schedule", "0*99", "--count", "2"],
+        status: 70,
+        cases: &[(
+            "one change more than the count",
+            "(uncancelable p (pure 1))",
+            "fault 19 Spent 0\n",
+        )],
+    },
+    Answers {
+        words: &["fiber_cli", "replay", "--schedule", "0*99", "--count", "3"],
+        status: 0,
+        cases: &[(
+            "as many changes as the count",
+            "(uncancelable p (pure 1))",
+            "fiber 0 succeeded 1: enter 0, leave 0\n",
+        )],
+    },
+];
+
+#[test]
+fn answers_texts(rt: HostRuntime) {
+    for answers in ANSWERS {
+        for (rule, text, out) in answers.cases {
+            expect(&rt, rule, answers.words, text, answers.status, out, "");
+        }
+    }
+}

@@ -1,0 +1,194 @@
+//! What comes of the words of a command line.
+
+use super::tests::{Narrow, expect};
+use super::{command, refuse_words};
+use outcome_trace::{FromRead, ToWrite};
+use std::test::Fail;
+
+/// Words that are refused with status 64, before the text is read: the rule, the words, and what is
+/// told.
+const WRONG: &[(&str, &[&str], &str)] = &[
+    (
+        "the place of the first bad item",
+        &["fiber_cli", "replay", "--schedule", "0 1x"],
+        "fault 27 BadSchedule 2\n",
+    ),
+    (
+        "an empty item at the end",
+        &["fiber_cli", "replay", "--schedule", "0 "],
+        "fault 27 BadSchedule 2\n",
+    ),
+    (
+        "an empty item in front",
+        &["fiber_cli", "replay", "--schedule", " "],
+        "fault 27 BadSchedule 0\n",
+    ),
+    (
+        "more entries than an item may have",
+        &["fiber_cli", "replay", "--schedule", "0*100001"],
+        "fault 27 BadSchedule 0\n",
+    ),
+    (
+        "a schedule is required",
+        &["fiber_cli", "replay"],
+        "error: the following required arguments were not provided:\n  --schedule <TEXT>\n\nUsage: fiber_cli replay --schedule <TEXT>\n\nFor more information, try '--help'.\n",
+    ),
+    (
+        "a subcommand is required",
+        &["fiber_cli"],
+        "error: 'fiber_cli' requires a subcommand but one was not provided\n  [subcommands: check, replay, help]\n\nUsage: fiber_cli <COMMAND>\n\nFor more information, try '--help'.\n",
+    ),
+    (
+        "no such subcommand",
+        &["fiber_cli", "show"],
+        "error: unrecognized subcommand 'show'\n\nUsage: fiber_cli <COMMAND>\n\nFor more information, try '--help'.\n",
+    ),
+    (
+        "check takes no option",
+        &["fiber_cli", "check", "--schedule", "0"],
+        "error: unexpected argument '--schedule' found\n\nUsage: fiber_cli check\n\nFor more information, try '--help'.\n",
+    ),
+    (
+        "an option twice",
+        &["fiber_cli", "replay", "--schedule", "0", "--schedule", "0"],
+        "error: the argument '--schedule <TEXT>' cannot be used multiple times\n\nUsage: fiber_cli replay [OPTIONS] --schedule <TEXT>\n\nFor more information, try '--help'.\n",
+    ),
+];
+
+/// Help: the words, and the text.
+const HELP: &[(&[&str], &str)] = &[
+    (
+        &["fiber_cli", "--help"],
+        "Runs effect programs on fibers. The program's text is read from standard input\n\nUsage: fiber_cli <COMMAND>\n\nCommands:\n  check   Tells whether the text is a program\n  replay  Runs the program under a schedule, and prints its report\n  help    Print this message or the help of the given subcommand(s)\n\nOptions:\n  -h, --help  Print help\n",
+    ),
+    (
+        &["fiber_cli", "check", "--help"],
+        "Tells whether the text is a program\n\nUsage: fiber_cli check\n\nOptions:\n  -h, --help  Print help\n",
+    ),
+    (
+        &["fiber_cli", "replay", "--help"],
+        "Runs the program under a schedule, and prints its report\n\nUsage: fiber_cli replay [OPTIONS] --schedule <TEXT>\n\nOptions:\n      --schedule <TEXT>  Whose move is next: items F or F*K with one space between\n      --fibers <N>       How many fibers there may be\n      --refs <N>         How many refs there may be\n      --deferreds <N>    How many deferreds there may be\n      --count <N>        How often a fiber may change its own state\n  -h, --help             Print help\n",
+    ),
+];
+
+/// An option that takes a number, the greatest that it takes, the least above that, and one that a
+/// narrow number would take for 1.
+const NUMBERS: [(&str, &str, &str, &str); 4] = [
+    ("fibers", "1000", "1001", "65537"),
+    ("refs", "1000", "1001", "65537"),
+    ("deferreds", "1000", "1001", "65537"),
+    ("count", "262143", "262144", "4294967297"),
+];
+
+#[test]
+fn tells_wrong_words(rt: HostRuntime) {
+    for (rule, words, err) in WRONG {
+        expect(&rt, rule, words, "(pure 7)", 64, "", err);
+    }
+}
+
+#[test]
+fn takes_numbers_in_their_range(rt: HostRuntime) -> Result<(), Fail> {
+    for (name, most, _, _) in NUMBERS {
+        let option = format!(in rt.alloc(); "--{name}")?;
+        for number in ["1", "01", "+1", most] {
+            let words = [
+                "fiber_cli",
+                "replay",
+                "--schedule",
+                "0*2",
+                option.as_str(),
+                number,
+            ];
+            let rule = format!(in rt.alloc(); "{name} {number}")?;
+            let out = "fiber 0 succeeded 7\n";
+            expect(&rt, rule.as_str(), &words, "(pure 7)", 0, out, "");
+        }
+    }
+    Ok(())
+}
+
+#[test]
+fn refuses_numbers_out_of_their_range(rt: HostRuntime) -> Result<(), Fail> {
+    let huge = "18446744073709551616";
+    for (name, most, above, wide) in NUMBERS {
+        let range = format!(in rt.alloc(); " is not in 1..={most}")?;
+        for (number, shown, why) in [
+            ("0", "0", range.as_str()),
+            (above, above, range.as_str()),
+            (wide, wide, range.as_str()),
+            (huge, "", "number too large to fit in target type"),
+            ("", "", "cannot parse integer from empty string"),
+            ("x", "", "invalid digit found in string"),
+            ("-1", "", "invalid digit found in string"),
+            ("1.5", "", "invalid digit found in string"),
+        ] {
+            let option = format!(in rt.alloc(); "--{name}={number}")?;
+            let words = ["fiber_cli", "replay", "--schedule", "0*2", option.as_str()];
+            let rule = format!(in rt.alloc(); "{name} {number}")?;
+            let err = format!(in rt.alloc();
+                "error: invalid value '{number}' for '--{name} <N>': {shown}{why}\n\nFor more information, try '--help'.\n"
+            )?;
+            expect(&rt, rule.as_str(), &words, "(pure 7)", 64, "", err.as_str());
+        }
+    }
+    Ok(())
+}
+
+#[test]
+fn helps(rt: HostRuntime) {
+    for (words, text) in HELP {
+        expect(&rt, "help", words, "(pure 7)", 0, text, "");
+    }
+}
+
+#[test]
+fn tells_help_that_cannot_be_written(rt: HostRuntime) -> Result<(), Fail> {
+    for room in [0, 10] {
+        for fails in [true, false] {
+            let mut told = Vec::new(rt.alloc());
+            let status = command(
+                &rt,
+                &["fiber_cli", "check", "--help"],
+                &mut FromRead::new(b"(pure 7)".as_slice()),
+                &mut ToWrite::new(Narrow { room, fails }),
+                &mut ToWrite::new(&mut told),
+            );
+            let line = format!(in rt.alloc(); "fault 24 WriteFault {room}\n")?;
+            assert_eq!(rt; told.as_slice(), line.as_bytes());
+            assert_eq!(rt; status, 70);
+        }
+    }
+    Ok(())
+}
+
+#[test]
+fn keeps_the_status_where_a_usage_fault_cannot_be_told(rt: HostRuntime) {
+    let mut out = Vec::new(rt.alloc());
+    let status = command(
+        &rt,
+        &["fiber_cli", "show"],
+        &mut FromRead::new(b"(pure 7)".as_slice()),
+        &mut ToWrite::new(&mut out),
+        &mut ToWrite::new(Narrow {
+            room: 3,
+            fails: true,
+        }),
+    );
+    assert_eq!(rt; out.len(), 0);
+    assert_eq!(rt; status, 64);
+}
+
+#[test]
+fn refuses_words_that_are_no_text(rt: HostRuntime) {
+    let mut told = Vec::new(rt.alloc());
+    let status = refuse_words(
+        rt.alloc(),
+        "invalid UTF-8 was detected in one or more arguments",
+        &mut ToWrite::new(&mut told),
+    );
+    let text =
+        "error: invalid UTF-8 was detected in one or more arguments\n\nUsage: fiber_cli <COMMAND>\n\nFor more information, try '--help'.\n";
+    assert_eq!(rt; told.as_slice(), text.as_bytes());
+    assert_eq!(rt; status, 64);
+}
