@@ -1,9 +1,11 @@
 -- Answers to texts.
-use Rattle.std.proofs.Common.{◌≡◌, ◌≢◌, ℕ, Bool, true, false, IsTrue, List, [], Result, Ok, Err, IfOk, OnOk, subst, inl, inr, rules, refl}
+use Rattle.std.proofs.Common.{◌≡◌, ◌≢◌, ◌-◌, ◌^◌, ℕ, min, nat_lt, Bool, true, false, IsTrue, List, Some, None, Result, Ok, Err, IfOk, OnOk, ap, subst, inl, inr, refl, if◌then◌else◌}
 use Rattle.effect_term.specs.declared.term.Term.{Term}
 use Rattle.effect_term.specs.declared.refusal.TermError.{TermError}
 use Rattle.effect_term.specs.declared.refusal.TermError.TheVariants as term
-use Rattle.effect_term.specs.Programs.{IsProgram, IsRefusal, refusal_of}
+use Rattle.effect_term.specs.Programs.{IsProgram}
+use Rattle.effect_term.specs.Masks.{masks_of}
+use Rattle.effect_term.specs.ExpansionSize.{expansion_size_of}
 use Rattle.term_parse.specs.declared.error.ParseError.{ParseError}
 use Rattle.term_parse.specs.declared.error.ParseError.TheVariants as parse
 use Rattle.term_parse.specs.Atoms.{atoms_of}
@@ -12,7 +14,35 @@ use Rattle.outcome_trace.specs.declared.answers.Answer.{Answer}
 use Rattle.outcome_trace.specs.declared.lines.Refused.{Refused}
 use Rattle.outcome_trace.specs.declared.lines.Refused.TheVariants as refusals
 use Rattle.outcome_trace.specs.Lines.{has_line, line_of}
-use Rattle.outcome_trace.specs.Answers.{IsRefusalAnswer, no_term, no_program, IsCheckAnswer, refused, counted, IsRefused, ok_line}
+use Rattle.outcome_trace.specs.Answers.{IsRefusalAnswer, no_term, no_program, IsCheckAnswer, refused, counted, IsRefused, IsOfText, ok_line}
+
+-- a limit has a line
+limit_told : (deep large : Bool) (m : ℕ) (e : TermError) → (if deep then Some (term.DeepMasks m) else (if large then Some term.Large else None)) ≡ Some e → has_line (refusals.Term e) ≡ true
+limit_told true large m e h = let is : term.DeepMasks m ≡ e = cc in subst (λ (x : TermError). has_line (refusals.Term x) ≡ true) is refl
+limit_told false true m e h = let is : term.Large ≡ e = cc in subst (λ (x : TermError). has_line (refusals.Term x) ≡ true) is refl
+limit_told false false m e h = cc
+
+parse_told : (e : ParseError) → e ≢ parse.NoMemory → has_line (refusals.Parse e) ≡ true
+parse_told parse.NoMemory h = absurd (h refl)
+parse_told (parse.BadByte p) h = refl
+parse_told (parse.End p) h = refl
+parse_told (parse.UnknownWord p) h = refl
+parse_told (parse.Arity p) h = refl
+parse_told (parse.BadNumber p) h = refl
+parse_told (parse.UnknownName p) h = refl
+parse_told (parse.NameKind p) h = refl
+parse_told (parse.TooDeep p) h = refl
+parse_told (parse.TooLong p) h = refl
+parse_told (parse.Trailing p) h = refl
+
+-- a refusal of a text has a line, but want of memory
+pub text_told : (r : Refused) → IsOfText r → (r ≡ refusals.Parse parse.NoMemory → ⊥) → (r ≡ refusals.Term term.NoMemory → ⊥) → has_line r ≡ true
+text_told (refusals.Parse e) h p t = parse_told e (λ same. p (ap refusals.Parse same))
+text_told (refusals.Term e) h p t = elim h.is.2 [
+  | inl memory ↦ absurd (t (ap refusals.Term memory))
+  | inr why ↦ limit_told (nat_lt 250 (masks_of h.is.0)) (nat_lt 1000000 (expansion_size_of h.is.0)) (min (masks_of h.is.0) (2 ^ 64 - 1)) e why
+]
+text_told (refusals.Run e) h p t = absurd h.is
 
 -- what has a line isn't want of memory
 parse_memory : (e : ParseError) → has_line (refusals.Parse e) ≡ true → e ≢ parse.NoMemory

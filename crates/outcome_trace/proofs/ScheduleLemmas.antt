@@ -267,9 +267,8 @@ refuses text (Ok v) found place p b = no_first_bad found.items text p found.good
 refuses text (Err NoMemory) found place p b = tt
 refuses text (Err (BadSchedule q)) found place p b = same_place text q p (place q refl) b
 
-pub same_entries : (text one other : List ℕ) → SpellsEntries text one → SpellsEntries text other → one ≡ other
-same_entries text one other s t =
-    s.entries_are ∙ ap entries_of (same_items s.items t.items s.good t.good (sym s.text_is ∙ t.text_is)) ∙ sym t.entries_are
-
-pub never_both : (text entries : List ℕ) (place : ℕ) → SpellsEntries text entries → IsFirstBad text place → ⊥
-never_both text entries place s b = no_first_bad s.items text place s.good s.text_is (rw (← s.entries_are) s.few) b
+-- a text has no other entries than those that are given
+pub one_list_from : {A : Type 0} (text : List ℕ) (r : Result (Vec ℕ A) ScheduleError) → IfOk r (λ v. SpellsEntries text v.items) → IfOk r (λ v. (entries : List ℕ) → SpellsEntries text entries → entries ≡ v.items)
+one_list_from text (Ok v) s = λ entries t.
+    t.entries_are ∙ ap entries_of (same_items t.items s.items t.good s.good (sym t.text_is ∙ s.text_is)) ∙ sym s.entries_are
+one_list_from text (Err e) s = tt

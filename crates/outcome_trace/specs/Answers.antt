@@ -4,7 +4,7 @@ use Rattle.std.specs.Fmt.{decimal}
 use Rattle.effect_term.specs.declared.term.Term.{Term}
 use Rattle.effect_term.specs.declared.refusal.TermError.{TermError}
 use Rattle.effect_term.specs.Masks.{masks_of}
-use Rattle.effect_term.specs.Programs.{IsProgram, IsRefusal, refusal_of}
+use Rattle.effect_term.specs.Programs.{IsPastLimit, IsProgram, limit_passed}
 use Rattle.effect_term.specs.Sizes.{size_of, nest_of}
 use Rattle.term_parse.specs.declared.error.ParseError.{ParseError}
 use Rattle.term_parse.specs.declared.error.ParseError.TheVariants as parse
@@ -24,19 +24,24 @@ abbrev pub ok_line : Term → List ℕ
 ok_line t =
     codes "ok size " ++ (count_text (size_of t) ++ (codes " nest " ++ (count_text (nest_of t) ++ (codes " masks " ++ (count_text (masks_of t) ++ 10 ∷ [])))))
 
--- What is answered where there is no program, with its status: the text's first fault, or the refusal of the term that
--- it spells.
+-- What is answered where there is no program, with its status: the text's first fault, or the limit that the term which
+-- it spells goes past.
 pub data IsRefusalAnswer : List ℕ → List ℕ → ℕ → Type 0 where
   no_term : (text : List ℕ) (e : ParseError) → reading text ≡ Err e → IsRefusalAnswer text (parse_line e) 65
-  no_program : (text : List ℕ) (t : Term) (e : TermError) → reading text ≡ Ok (atoms_of t) → refusal_of t ≡ Some e → IsRefusalAnswer text (term_line e) 65
+  no_program : (text : List ℕ) (t : Term) (e : TermError) → reading text ≡ Ok (atoms_of t) → limit_passed t ≡ Some e → IsRefusalAnswer text (term_line e) 65
 
 -- what `check` answers, with its status: a refusal, or the counts of the program that the text spells
 pub data IsCheckAnswer : List ℕ → List ℕ → ℕ → Type 0 where
   refused : (text answer : List ℕ) (status : ℕ) → IsRefusalAnswer text answer status → IsCheckAnswer text answer status
   counted : (text : List ℕ) (t : Term) → reading text ≡ Ok (atoms_of t) → IsProgram t → IsCheckAnswer text (ok_line t) 0
 
--- why a text is refused, unless memory was wanting
+-- why a text is refused, unless memory was wanting: its first fault, or a limit that its term goes past
 abbrev pub IsRefused : List ℕ → Refused → Type 0
 IsRefused text (Parse e) = e ≢ parse.NoMemory → reading text ≡ Err e
-IsRefused text (refusals.Term e) = (t : Term) × (reading text ≡ Ok (atoms_of t)) × IsRefusal t e
+IsRefused text (refusals.Term e) = (t : Term) × (reading text ≡ Ok (atoms_of t)) × IsPastLimit t e
 IsRefused text (Run e) = ⊥
+
+-- there is a text that is refused so
+pub record IsOfText (refused : Refused) : Type 0 where
+  pub text : List ℕ
+  pub is : IsRefused text refused

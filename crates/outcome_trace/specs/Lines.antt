@@ -30,11 +30,11 @@ parse_line (parse.TooDeep p) = told (codes "refused 11 TooDeep at ") p
 parse_line (parse.TooLong p) = told (codes "refused 12 TooLong at ") p
 parse_line (parse.Trailing p) = told (codes "refused 13 Trailing at ") p
 
--- of a term that is no program: a name that is at fault, too many masks, or too large an expansion
+-- of a text's term that is no program: too many masks, or too large an expansion
 abbrev pub term_line : TermError → List ℕ
 term_line term.NoMemory = []
-term_line (term.Unbound slot) = told (codes "refused 1 Unbound ") slot
-term_line (term.WrongKind slot) = told (codes "refused 2 WrongKind ") slot
+term_line (term.Unbound slot) = []
+term_line (term.WrongKind slot) = []
 term_line (term.DeepMasks n) = told (codes "refused 3 DeepMasks ") n
 term_line term.Large = codes "refused 26 Large" ++ 10 ∷ []
 
@@ -56,10 +56,12 @@ line_of (Parse e) = parse_line e
 line_of (Term e) = term_line e
 line_of (Run e) = run_line e
 
--- whether a line tells it: want of memory is told as a run's alone
+-- Whether a line tells it. Want of memory is told as a run's alone, and the names of a text's term are never at fault.
 abbrev pub has_line : Refused → Bool
 has_line (Parse parse.NoMemory) = false
 has_line (Term term.NoMemory) = false
+has_line (Term (term.Unbound slot)) = false
+has_line (Term (term.WrongKind slot)) = false
 has_line (Parse e) = true
 has_line (Term e) = true
 has_line (Run e) = true

@@ -4,7 +4,7 @@ ghost use Rattle.std.specs.Prelude.{◌≡◌, ◌+◌, ◌<◌, ◌^◌, false,
 ghost use Rattle.effect_term.specs.Programs.{IsProgram};
 ghost use Rattle.term_parse.specs.Atoms.{atoms_of};
 ghost use Rattle.term_parse.specs.Reading.{reading};
-ghost use Rattle.outcome_trace.specs.Answers.{IsCheckAnswer, IsRefused, ok_line};
+ghost use Rattle.outcome_trace.specs.Answers.{IsCheckAnswer, IsOfText, IsRefused, ok_line};
 ghost use Rattle.outcome_trace.specs.Exchange.{Exchanges};
 ghost use Rattle.outcome_trace.specs.Lines.{has_line, line_of};
 ghost use Rattle.outcome_trace.specs.Text.{is_read_fault, is_write_fault};
@@ -47,7 +47,9 @@ pub(crate) fn read_program(alloc: Global, text: &[u8]) -> Result<Program, Refuse
 }
 
 /// The answer to a text that is refused.
+#[tactic(auto, using(crate::proofs::AnswerLemmas::text_told))]
 pub(crate) fn refusal(alloc: Global, refused: Refused) -> Result<Answer, AllocError>
+    requires { IsOfText refused }
     ensures line { IfOk result (λ a. a.text.items ≡ line_of refused) }
     ensures status { IfOk result (λ a. a.status ≡ REFUSED) }
     ensures told { OnOk result (IsTrue (has_line refused)) }
@@ -88,7 +90,7 @@ fn check_answer(alloc: Global, text: &[u8]) -> Result<Answer, AllocError>
 }
 
 /// Reads a text, and writes whether it spells a program: the line of its counts, with status 0, or
-/// of its refusal, with status 65.
+/// of its refusal, with status 65, which is its first fault or a limit that its term goes past.
 ///
 /// Where memory runs out, or the reader fails, nothing is written.
 pub fn check_text<I: TextIn, O: TextOut>(

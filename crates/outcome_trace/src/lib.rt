@@ -36,7 +36,7 @@ pub use orders::{Order, USAGE, obey, tell_fault, tell_no_memory};
 pub use replay_texts::replay_text;
 pub use report::{FiberReport, FiberReports, Marks, Report};
 pub use report_text::{print_report, text_of_report};
-pub use schedule::{MOST_ENTRIES, ScheduleError, read_schedule, schedule_text_means_one_thing};
+pub use schedule::{MOST_ENTRIES, ScheduleError, read_schedule};
 pub use scheduled::replay;
 pub use text::{TEXT_BOUND, read_text, write_text};
 pub use wish::Wish;

@@ -43,9 +43,7 @@ fn term_refusal(alloc: Global, error: TermError) -> Result<String, AllocError>
     ensures { IfOk result (λ line. string_bytes line ≡ term_line error) }
 {
     match error {
-        TermError::NoMemory => unreachable!(),
-        TermError::Unbound(slot) => format!(in alloc; "refused 1 Unbound {slot}\n"),
-        TermError::WrongKind(slot) => format!(in alloc; "refused 2 WrongKind {slot}\n"),
+        TermError::NoMemory | TermError::Unbound(_) | TermError::WrongKind(_) => unreachable!(),
         TermError::DeepMasks(masks) => format!(in alloc; "refused 3 DeepMasks {masks}\n"),
         TermError::Large => String::from_str(alloc, "refused 26 Large\n"),
     }
@@ -69,8 +67,9 @@ fn run_fault(alloc: Global, error: RunError) -> Result<String, AllocError>
     }
 }
 
-/// The line that tells why there is no report. Want of memory has one as a fault of a run alone.
-/// The refusals of names can't come from a text.
+/// The line that tells why there is no report. Want of memory has one as a fault of a run alone, and
+/// a refusal of a name has none, since no text brings it about: a text that is read is closed and
+/// well kinded.
 pub fn line(alloc: Global, refused: &Refused) -> Result<Vec<u8>, AllocError>
     requires { IsTrue (has_line refused.now) }
     ensures { IfOk result (λ line. line.items ≡ line_of refused.now) }

@@ -128,16 +128,19 @@ fn read_items(alloc: Global, text: &str) -> Result<Vec<u16>, ScheduleError>
     }
 }
 
-/// The entries of a schedule's text.
+/// The entries of a schedule's text. A text means one thing: one list of entries, or one place of
+/// its first bad item, and never both.
 pub fn read_schedule(alloc: Global, text: &str) -> Result<Vec<u16>, ScheduleError>
     // What is accepted is a text of items, and gives their entries.
     ensures found { IfOk result (λ schedule. SpellsEntries text.now schedule.items) }
+    ensures one_list { IfOk result (λ schedule. (entries : List ℕ) → SpellsEntries text.now entries → entries ≡ schedule.items) }
 
     // Each text of items is accepted, unless memory runs out.
     ensures only { (entries : List ℕ) → SpellsEntries text.now entries → GivesEntries entries result }
 
     // The place is that of the first item that is bad, or goes past `MOST_ENTRIES`.
     ensures place { (place : ℕ) → IsErrOf result (ScheduleError.BadSchedule place) → IsFirstBad text.now place }
+    ensures one_place { (place : ℕ) → IsErrOf result (ScheduleError.BadSchedule place) → (other : ℕ) → IsFirstBad text.now other → other ≡ place }
 
     // A text with such an item is refused there, unless memory runs out.
     ensures refused { (place : ℕ) → IsFirstBad text.now place → RefusesAt place result }
@@ -147,11 +150,3 @@ pub fn read_schedule(alloc: Global, text: &str) -> Result<Vec<u16>, ScheduleErro
     }
     read_items(alloc, text)
 }
-
-/// What a schedule's text means is one thing: its entries or the place of its first bad item, and
-/// never both. This law does nothing.
-pub fn schedule_text_means_one_thing()
-    ensures entries { (text one other : List ℕ) → SpellsEntries text one → SpellsEntries text other → one ≡ other }
-    ensures place { (text : List ℕ) (one other : ℕ) → IsFirstBad text one → IsFirstBad text other → one ≡ other }
-    ensures either { (text entries : List ℕ) (place : ℕ) → SpellsEntries text entries → IsFirstBad text place → ⊥ }
-{}

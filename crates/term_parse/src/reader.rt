@@ -172,11 +172,12 @@ fn read(alloc: Global, text: &[u8]) -> Result<Term, ParseError>
 /// Reads the text of a term: one term with space around its tokens, by the grammar of the table.
 ///
 /// A text has at most 65,536 bytes, and at most 100 brackets are open in it. Names stand for the
-/// innermost binder of their spelling. The answer is the term that the grammar spells so; a text
-/// spells at most one, but for where it lies in memory, and that term is closed and well kinded. Of a text that spells none it is the first
-/// fault from left to right, with its place; [`ParseError::TooLong`] comes before all others. No
-/// other fault, and none at another place, is the first. The answer is [`ParseError::NoMemory`]
-/// only where a request for memory was refused.
+/// innermost binder of their spelling. The answer is the term that the grammar spells so. A text
+/// spells at most one, but for where it lies in memory, and that term is closed and well kinded.
+///
+/// The answer to a text that spells none is its first fault from left to right, with its place;
+/// [`ParseError::TooLong`] comes before all others. No other fault, and none at another place, is
+/// the first. The answer is [`ParseError::NoMemory`] only where a request for memory was refused.
 pub fn parse(alloc: Global, text: &[u8]) -> Result<Term, ParseError>
     ensures found { IfOk result (λ t. reading text.now ≡ Ok (atoms_of t)) }
     ensures only { (atoms : List Atom) → reading text.now ≡ Ok atoms → IfErr result (λ e. e ≡ ParseError.NoMemory) }

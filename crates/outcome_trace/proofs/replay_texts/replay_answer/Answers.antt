@@ -10,3 +10,6 @@ pub returns-in-Err : goal.returns-in-Err
 returns-in-Err c =
     refusal_replays c.args.text.now c.args.schedule.now c.args.limits c.refusal.result
     (refusal_answers c.args.text.now c.in-Err.refused c.refusal.result c.in-Err.ensures.refused c.refusal.ensures.line c.refusal.ensures.status c.refusal.ensures.told)
+
+pub refusal-requires : goal.refusal-requires
+refusal-requires c = record { text = c.args.text.now; is = c.in-Err.ensures.refused }
