@@ -17,39 +17,39 @@ mutual
   pub words_expansion : (t : Term) (m : List ℕ) (d : ℕ) → words (expansion m d (source_of t)) ≡ expansion_size_of t
   words_expansion (term.Pure v) m d = refl
   words_expansion (term.Raise v) m d = refl
-  words_expansion (term.Let' _ e _ k) m d = let ih1 = words_expansion e m d in let ih2 = words_expansion k (m ++ d ∷ []) (d + 1) in omega (arith, ih1, ih2)
-  words_expansion (term.Seq' _ a _ b _ more) m d = let ih = words_seq m d (source_of a) (source_of b) more in let ih1 = words_expansion a m d in let ih2 = words_expansion b m d in omega (arith, ih, ih1, ih2)
-  words_expansion (term.Handle' _ e _ h) m d = let ih1 = words_expansion e m d in let ih2 = words_expansion h (m ++ d ∷ []) (d + 1) in omega (arith, ih1, ih2)
-  words_expansion (term.If0' v _ s _ e) m d = let ih1 = words_expansion s m d in let ih2 = words_expansion e m d in omega (arith, ih1, ih2)
+  words_expansion (term.Let' _ e _ k) m d = omega (arith, words_expansion e m d, words_expansion k (m ++ d ∷ []) (d + 1))
+  words_expansion (term.Seq' _ a _ b _ more) m d = omega (arith, words_seq m d (source_of a) (source_of b) more, words_expansion a m d, words_expansion b m d)
+  words_expansion (term.Handle' _ e _ h) m d = omega (arith, words_expansion e m d, words_expansion h (m ++ d ∷ []) (d + 1))
+  words_expansion (term.If0' v _ s _ e) m d = omega (arith, words_expansion s m d, words_expansion e m d)
   words_expansion (term.Add v w) m d = refl
   words_expansion (term.Say v) m d = refl
   words_expansion term.Cede m d = refl
   words_expansion term.Never m d = refl
   words_expansion term.Canceled m d = refl
-  words_expansion (term.Uncancelable' _ e) m d = let ih1 = words_expansion e (m ++ d ∷ []) (d + 1) in omega (arith, ih1)
-  words_expansion (term.Poll' p _ e) m d = let ih1 = words_expansion e m d in omega (arith, ih1)
-  words_expansion (term.OnCancel' _ e _ fin) m d = let ih1 = words_expansion e m d in let ih2 = words_expansion fin m d in omega (arith, ih1, ih2)
-  words_expansion (term.Start' _ e _ k) m d = let ih1 = words_expansion e m d in let ih2 = words_expansion k (m ++ d ∷ []) (d + 1) in omega (arith, ih1, ih2)
-  words_expansion (term.Join' f _ s _ e _ c) m d = let ih1 = words_expansion s (m ++ d ∷ []) (d + 1) in let ih2 = words_expansion e (m ++ d ∷ []) (d + 1) in let ih3 = words_expansion c m d in omega (arith, ih1, ih2, ih3)
+  words_expansion (term.Uncancelable' _ e) m d = omega (arith, words_expansion e (m ++ d ∷ []) (d + 1))
+  words_expansion (term.Poll' p _ e) m d = omega (arith, words_expansion e m d)
+  words_expansion (term.OnCancel' _ e _ fin) m d = omega (arith, words_expansion e m d, words_expansion fin m d)
+  words_expansion (term.Start' _ e _ k) m d = omega (arith, words_expansion e m d, words_expansion k (m ++ d ∷ []) (d + 1))
+  words_expansion (term.Join' f _ s _ e _ c) m d = omega (arith, words_expansion s (m ++ d ∷ []) (d + 1), words_expansion e (m ++ d ∷ []) (d + 1), words_expansion c m d)
   words_expansion (term.Cancel f) m d = refl
-  words_expansion (term.Ref' v _ k) m d = let ih1 = words_expansion k (m ++ d ∷ []) (d + 1) in omega (arith, ih1)
+  words_expansion (term.Ref' v _ k) m d = omega (arith, words_expansion k (m ++ d ∷ []) (d + 1))
   words_expansion (term.Get r) m d = refl
   words_expansion (term.Set r v) m d = refl
   words_expansion (term.Modify r v) m d = refl
-  words_expansion (term.Deferred' _ k) m d = let ih1 = words_expansion k (m ++ d ∷ []) (d + 1) in omega (arith, ih1)
+  words_expansion (term.Deferred' _ k) m d = omega (arith, words_expansion k (m ++ d ∷ []) (d + 1))
   words_expansion (term.Complete c v) m d = refl
   words_expansion (term.Await c) m d = refl
-  words_expansion (term.Repeat' v _ e) m d = let ih1 = words_expansion e m d in omega (arith, ih1)
-  words_expansion (term.Forever' _ e) m d = let ih1 = words_expansion e m d in omega (arith, ih1)
-  words_expansion (term.Guarantee' _ e _ fin) m d = let ih1 = words_expansion e m (d + 1) in let ih2 = words_expansion fin m (d + 1) in let ih3 = words_expansion fin m (d + 2) in omega (arith, ih1, ih2, ih3)
-  words_expansion (term.Bracket' _ acq _ body _ rel) m d = let ih1 = words_expansion acq m (d + 1) in let ih2 = words_expansion body (m ++ (d + 1) ∷ []) (d + 3) in let ih3 = words_expansion rel (m ++ (d + 1) ∷ []) (d + 4) in let ih4 = words_expansion rel (m ++ (d + 1) ∷ []) (d + 3) in omega (arith, ih1, ih2, ih3, ih4)
-  words_expansion (term.BracketCase' _ acq _ body _ rs _ re _ rc) m d = let ih1 = words_expansion acq m (d + 1) in let ih2 = words_expansion body (m ++ (d + 1) ∷ []) (d + 3) in let ih3 = words_expansion rs ((m ++ (d + 1) ∷ []) ++ (d + 3) ∷ []) (d + 4) in let ih4 = words_expansion re ((m ++ (d + 1) ∷ []) ++ (d + 3) ∷ []) (d + 4) in let ih5 = words_expansion rc (m ++ (d + 1) ∷ []) (d + 3) in omega (arith, ih1, ih2, ih3, ih4, ih5)
-  words_expansion (term.Race' _ a _ b) m d = let ih1 = words_expansion a m (d + 3) in let ih2 = words_expansion b m (d + 4) in omega (arith, ih1, ih2)
-  words_expansion (term.Both' _ a _ b _ k) m d = let ih1 = words_expansion a m (d + 4) in let ih2 = words_expansion b m (d + 5) in let ih3 = words_expansion k ((m ++ (d + 1) ∷ []) ++ (d + 2) ∷ []) (d + 3) in omega (arith, ih1, ih2, ih3)
+  words_expansion (term.Repeat' v _ e) m d = omega (arith, words_expansion e m d)
+  words_expansion (term.Forever' _ e) m d = omega (arith, words_expansion e m d)
+  words_expansion (term.Guarantee' _ e _ fin) m d = omega (arith, words_expansion e m (d + 1), words_expansion fin m (d + 1), words_expansion fin m (d + 2))
+  words_expansion (term.Bracket' _ acq _ body _ rel) m d = omega (arith, words_expansion acq m (d + 1), words_expansion body (m ++ (d + 1) ∷ []) (d + 3), words_expansion rel (m ++ (d + 1) ∷ []) (d + 4), words_expansion rel (m ++ (d + 1) ∷ []) (d + 3))
+  words_expansion (term.BracketCase' _ acq _ body _ rs _ re _ rc) m d = omega (arith, words_expansion acq m (d + 1), words_expansion body (m ++ (d + 1) ∷ []) (d + 3), words_expansion rs ((m ++ (d + 1) ∷ []) ++ (d + 3) ∷ []) (d + 4), words_expansion re ((m ++ (d + 1) ∷ []) ++ (d + 3) ∷ []) (d + 4), words_expansion rc (m ++ (d + 1) ∷ []) (d + 3))
+  words_expansion (term.Race' _ a _ b) m d = omega (arith, words_expansion a m (d + 3), words_expansion b m (d + 4))
+  words_expansion (term.Both' _ a _ b _ k) m d = omega (arith, words_expansion a m (d + 4), words_expansion b m (d + 5), words_expansion k ((m ++ (d + 1) ∷ []) ++ (d + 2) ∷ []) (d + 3))
 
   pub words_seq : (m : List ℕ) (d : ℕ) (a b : Source) {n : _} (more : Row_of-Term n) → words (expansion m d (seq_of a b more)) ≡ 1 + words (expansion m d a) + words (expansion m d b) + expansion_sizes_of more
   words_seq m d a b end_of-Term = omega arith
-  words_seq m d a b (more_of-Term c rest) = let ih = words_seq m d b (source_of c) rest in let ih1 = words_expansion c m d in omega (arith, ih, ih1)
+  words_seq m d a b (more_of-Term c rest) = omega (arith, words_seq m d b (source_of c) rest, words_expansion c m d)
 
 -- ---- masks
 max_zero : (n : ℕ) → max n 0 ≡ n
