@@ -10,6 +10,7 @@ use Rattle.effect_term.specs.declared.reply.Outcome.{Outcome}
 use Rattle.effect_term.specs.declared.reply.Outcome.TheVariants.{Succeeded, Errored, Canceled}
 use Rattle.cell_registry.specs.declared.limits.Limits.{Limits}
 use Rattle.cell_registry.specs.declared.limits.Band.{Band}
+use Rattle.cell_registry.specs.declared.limits.Band.TheVariants.{Fibers, Refs, Deferreds}
 use Rattle.cell_registry.specs.declared.limits.CellError.{CellError}
 use Rattle.cell_registry.specs.declared.limits.CellError.TheVariants.{Full, Spent}
 use Rattle.cell_registry.specs.declared.cell.Stage.{Stage}
@@ -18,6 +19,7 @@ use Rattle.cell_registry.specs.declared.cell.Cell.{Cell}
 use Rattle.cell_registry.specs.declared.call.Call.{Call}
 use Rattle.cell_registry.specs.declared.call.Call.TheVariants.{Start, Cancel, Join, Look, Mask, Unmask, Cut, Finish, NewRef, NewDeferred, Get, Set, Modify, Complete, Read}
 use Rattle.cell_registry.specs.Cells.{AreLimits, fresh, requested, awaited, owned, MayFinish, Cells, opening, cell_of, ref_of, deferred_of, with_cell, with_ref, with_deferred, filled, after, IsAllowed, full, spent, refusal, IsAccepted, OutcomeFits, ValueFits, IsCell, IsSound}
+use Rattle.cell_registry.specs.Bands.{next_of, claim_of}
 use Rattle.cell_registry.proofs.Lists.{All-set, get_or-set_kept, get_or-replicate_default}
 
 -- ---- what isn't refused
@@ -44,78 +46,56 @@ pub spent-room : (count limit : ℕ) → spent count limit ≡ None → count �
 spent-room count limit h e = refused-none (eqb count limit) (Spent count) h (eq-eqb count limit e)
 
 -- ---- the next numbers only rise
-pub next_fiber-after : (s : Cells) (by : ℕ) (c : Call) → s.next_fiber ≤ (after s by c).next_fiber
-unfolding after
-next_fiber-after s by Start = omega arith
-next_fiber-after s by (Cancel f) = omega arith
-next_fiber-after s by (Join f) = omega arith
-next_fiber-after s by Look = omega arith
-next_fiber-after s by Mask = omega arith
-next_fiber-after s by Unmask = omega arith
-next_fiber-after s by Cut = omega arith
-next_fiber-after s by (Finish o) = omega arith
-next_fiber-after s by NewRef = omega arith
-next_fiber-after s by NewDeferred = omega arith
-next_fiber-after s by (Get r) = omega arith
-next_fiber-after s by (Set r v) = omega arith
-next_fiber-after s by (Modify r v) = omega arith
-next_fiber-after s by (Complete d v) = omega arith
-next_fiber-after s by (Read d) = omega arith
+next_of-kept : (b : Band) (s t : Cells) → t.next_fiber ≡ s.next_fiber → t.next_ref ≡ s.next_ref → t.next_deferred ≡ s.next_deferred → next_of b t ≡ next_of b s
+next_of-kept Fibers s t fiber ref deferred = fiber
+next_of-kept Refs s t fiber ref deferred = ref
+next_of-kept Deferreds s t fiber ref deferred = deferred
 
--- a fiber that is born after a call was born before it, or the call was the start that made it
-pub next_fiber-new : (s : Cells) (by : ℕ) (c : Call) (f : ℕ) → f < (after s by c).next_fiber → (f < s.next_fiber) ⊎ ((c ≡ Start) × (f ≡ s.next_fiber))
+-- after the call that takes a number of the band a
+next_of-claim : (b a : Band) (s : Cells) (by : ℕ) → (next_of b (after s by (claim_of a)) ≡ next_of b s) ⊎ ((claim_of a ≡ claim_of b) × (next_of b (after s by (claim_of a)) ≡ next_of b s + 1))
 unfolding after
-next_fiber-new s by Start f h = dite (ℕ_discrete f s.next_fiber) (λ q. inr (refl, q)) (λ q. inl (omega arith))
-next_fiber-new s by (Cancel g) f h = inl h
-next_fiber-new s by (Join g) f h = inl h
-next_fiber-new s by Look f h = inl h
-next_fiber-new s by Mask f h = inl h
-next_fiber-new s by Unmask f h = inl h
-next_fiber-new s by Cut f h = inl h
-next_fiber-new s by (Finish o) f h = inl h
-next_fiber-new s by NewRef f h = inl h
-next_fiber-new s by NewDeferred f h = inl h
-next_fiber-new s by (Get r) f h = inl h
-next_fiber-new s by (Set r v) f h = inl h
-next_fiber-new s by (Modify r v) f h = inl h
-next_fiber-new s by (Complete d v) f h = inl h
-next_fiber-new s by (Read d) f h = inl h
+next_of-claim Fibers Fibers s by = inr (refl, refl)
+next_of-claim Fibers Refs s by = inl refl
+next_of-claim Fibers Deferreds s by = inl refl
+next_of-claim Refs Fibers s by = inl refl
+next_of-claim Refs Refs s by = inr (refl, refl)
+next_of-claim Refs Deferreds s by = inl refl
+next_of-claim Deferreds Fibers s by = inl refl
+next_of-claim Deferreds Refs s by = inl refl
+next_of-claim Deferreds Deferreds s by = inr (refl, refl)
 
-pub next_ref-after : (s : Cells) (by : ℕ) (c : Call) → s.next_ref ≤ (after s by c).next_ref
+-- the next number of a band stays, or the call took it
+next_of-after : (b : Band) (s : Cells) (by : ℕ) (c : Call) → (next_of b (after s by c) ≡ next_of b s) ⊎ ((c ≡ claim_of b) × (next_of b (after s by c) ≡ next_of b s + 1))
 unfolding after
-next_ref-after s by Start = omega arith
-next_ref-after s by (Cancel f) = omega arith
-next_ref-after s by (Join f) = omega arith
-next_ref-after s by Look = omega arith
-next_ref-after s by Mask = omega arith
-next_ref-after s by Unmask = omega arith
-next_ref-after s by Cut = omega arith
-next_ref-after s by (Finish o) = omega arith
-next_ref-after s by NewRef = omega arith
-next_ref-after s by NewDeferred = omega arith
-next_ref-after s by (Get r) = omega arith
-next_ref-after s by (Set r v) = omega arith
-next_ref-after s by (Modify r v) = omega arith
-next_ref-after s by (Complete d v) = omega arith
-next_ref-after s by (Read d) = omega arith
+next_of-after b s by Start = next_of-claim b Fibers s by
+next_of-after b s by (Cancel f) = inl (next_of-kept b s (after s by (Cancel f)) refl refl refl)
+next_of-after b s by (Join f) = inl (next_of-kept b s (after s by (Join f)) refl refl refl)
+next_of-after b s by Look = inl (next_of-kept b s (after s by Look) refl refl refl)
+next_of-after b s by Mask = inl (next_of-kept b s (after s by Mask) refl refl refl)
+next_of-after b s by Unmask = inl (next_of-kept b s (after s by Unmask) refl refl refl)
+next_of-after b s by Cut = inl (next_of-kept b s (after s by Cut) refl refl refl)
+next_of-after b s by (Finish o) = inl (next_of-kept b s (after s by (Finish o)) refl refl refl)
+next_of-after b s by NewRef = next_of-claim b Refs s by
+next_of-after b s by NewDeferred = next_of-claim b Deferreds s by
+next_of-after b s by (Get r) = inl (next_of-kept b s (after s by (Get r)) refl refl refl)
+next_of-after b s by (Set r v) = inl (next_of-kept b s (after s by (Set r v)) refl refl refl)
+next_of-after b s by (Modify r v) = inl (next_of-kept b s (after s by (Modify r v)) refl refl refl)
+next_of-after b s by (Complete d v) = inl (next_of-kept b s (after s by (Complete d v)) refl refl refl)
+next_of-after b s by (Read d) = inl (next_of-kept b s (after s by (Read d)) refl refl refl)
 
-pub next_deferred-after : (s : Cells) (by : ℕ) (c : Call) → s.next_deferred ≤ (after s by c).next_deferred
-unfolding after
-next_deferred-after s by Start = omega arith
-next_deferred-after s by (Cancel f) = omega arith
-next_deferred-after s by (Join f) = omega arith
-next_deferred-after s by Look = omega arith
-next_deferred-after s by Mask = omega arith
-next_deferred-after s by Unmask = omega arith
-next_deferred-after s by Cut = omega arith
-next_deferred-after s by (Finish o) = omega arith
-next_deferred-after s by NewRef = omega arith
-next_deferred-after s by NewDeferred = omega arith
-next_deferred-after s by (Get r) = omega arith
-next_deferred-after s by (Set r v) = omega arith
-next_deferred-after s by (Modify r v) = omega arith
-next_deferred-after s by (Complete d v) = omega arith
-next_deferred-after s by (Read d) = omega arith
+pub next_of-rises : (b : Band) (s : Cells) (by : ℕ) (c : Call) → next_of b s ≤ next_of b (after s by c)
+next_of-rises b s by c = elim (next_of-after b s by c) [ inl same ↦ omega arith | inr took ↦ let up = took.1 in omega arith ]
+
+pub next_fiber-rises : (s : Cells) (by : ℕ) (c : Call) → s.next_fiber ≤ (after s by c).next_fiber
+next_fiber-rises = next_of-rises Fibers
+
+-- a number that is given after a call was given before it, or by it
+pub next_of-new : (b : Band) (s : Cells) (by : ℕ) (c : Call) (n : ℕ) → n < next_of b (after s by c) → (n < next_of b s) ⊎ ((c ≡ claim_of b) × (n ≡ next_of b s))
+next_of-new b s by c n below =
+    elim (next_of-after b s by c) [
+      | inl same ↦ inl (omega arith)
+      | inr took ↦ let up = took.1 in dite (ℕ_discrete n (next_of b s)) (λ q. inr (took.0, q)) (λ q. inl (omega arith))
+    ]
 
 -- another's call leaves what the owner alone changes
 pub owned-after : (s : Cells) (by : ℕ) (c : Call) (f : ℕ) → by ≢ f → owned (cell_of (after s by c) f) ≡ owned (cell_of s f)

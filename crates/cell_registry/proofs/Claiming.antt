@@ -1,7 +1,6 @@
 -- The steps on the claim word of a band.
 use Rattle.std.proofs.Common.{◌≡◌, ◌≢◌, ℕ, ◌+◌, ◌<◌, ◌≤◌, List, [], ◌∷◌, ◌++◌, get_or, ◌⊎◌, inl, inr, ⊎_elim, refl, sym, ap, ◌∙◌, subst, arith, eqb, append_assoc}
 use prog.Atomic.{either}
-use mathlib.Core.List.{IsPrefix}
 use Rattle.atomic_table.specs.Table.{Me, Allows}
 use Rattle.atomic_table.proofs.Lists.{exchanged}
 use Rattle.effect_term.specs.declared.reply.Reply.TheVariants as reply
@@ -18,7 +17,7 @@ use Rattle.cell_registry.specs.Rule.{Has, seen_cell, Fits, WordsAreAHistory}
 use Rattle.cell_registry.specs.Bands.{next_of, limit_of, claim_of}
 use Rattle.cell_registry.specs.Steps.{entry, Called, Looked, IsSame, band_word, MayClaim, fibers_with, IsNew, Claimed, SawNext, Tried, AtBand, FoundNone}
 use Rattle.cell_registry.proofs.Calls.{full-none}
-use Rattle.cell_registry.proofs.Legal.{left-push, next_fiber-prefix, next_ref-prefix, next_deferred-prefix, unborn, unborn_cell, calls_by-other}
+use Rattle.cell_registry.proofs.Legal.{left-push, next_of-prefix, unborn, unborn_cell, calls_by-other}
 use Rattle.cell_registry.proofs.Giving.{reply-claim, given, next_of-most}
 use Rattle.cell_registry.proofs.TableWords.{next_at, put_next, same_words}
 use Rattle.cell_registry.proofs.Turns.{Turn, Look, Goes, Tells, turn_at, looks, look_at}
@@ -37,11 +36,6 @@ unfolding IsAllowed refusal
 accepts-claim Fibers k s by may room = record { allowed = may; room = full-none _ _ _ room }
 accepts-claim Refs k s by may room = record { allowed = tt; room = full-none _ _ _ room }
 accepts-claim Deferreds k s by may room = record { allowed = tt; room = full-none _ _ _ room }
-
-next_of-prefix : (b : Band) (k : Limits) (g h : List Entry) → IsPrefix g h → next_of b (left k g) ≤ next_of b (left k h)
-next_of-prefix Fibers = next_fiber-prefix
-next_of-prefix Refs = next_ref-prefix
-next_of-prefix Deferreds = next_deferred-prefix
 
 band_word-one : (b c : Band) → band_word b ≡ band_word c → b ≡ c
 band_word-one Fibers Fibers e = refl

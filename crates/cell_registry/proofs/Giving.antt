@@ -8,55 +8,12 @@ use Rattle.cell_registry.specs.declared.limits.Limits.{Limits}
 use Rattle.cell_registry.specs.declared.limits.Band.{Band}
 use Rattle.cell_registry.specs.declared.limits.Band.TheVariants.{Fibers, Refs, Deferreds}
 use Rattle.cell_registry.specs.declared.call.Call.{Call}
-use Rattle.cell_registry.specs.declared.call.Call.TheVariants.{Start, Cancel, Join, Look, Mask, Unmask, Cut, Finish, NewRef, NewDeferred, Get, Set, Modify, Complete, Read}
 use Rattle.cell_registry.specs.declared.call.Entry.{Entry}
 use Rattle.cell_registry.specs.Cells.{AreLimits, Cells, opening, after, reply_of}
 use Rattle.cell_registry.specs.Histories.{left_from, IsLegalFrom, left, IsLegal}
 use Rattle.cell_registry.specs.Bands.{next_of, limit_of, claim_of, first_of, WasGiven, WasBorn}
-use Rattle.cell_registry.proofs.Calls.{next_fiber-new}
-use Rattle.cell_registry.proofs.Legal.{next_fiber-left_from, next_ref-left_from, next_deferred-left_from, sound}
-
--- a number that is given after a call was given before it, or by it
-next_ref-new : (s : Cells) (by : ℕ) (c : Call) (n : ℕ) → n < (after s by c).next_ref → (n < s.next_ref) ⊎ ((c ≡ NewRef) × (n ≡ s.next_ref))
-unfolding after
-next_ref-new s by Start n h = inl h
-next_ref-new s by (Cancel g) n h = inl h
-next_ref-new s by (Join g) n h = inl h
-next_ref-new s by Look n h = inl h
-next_ref-new s by Mask n h = inl h
-next_ref-new s by Unmask n h = inl h
-next_ref-new s by Cut n h = inl h
-next_ref-new s by (Finish o) n h = inl h
-next_ref-new s by NewRef n h = dite (ℕ_discrete n s.next_ref) (λ q. inr (refl, q)) (λ q. inl (omega arith))
-next_ref-new s by NewDeferred n h = inl h
-next_ref-new s by (Get r) n h = inl h
-next_ref-new s by (Set r v) n h = inl h
-next_ref-new s by (Modify r v) n h = inl h
-next_ref-new s by (Complete d v) n h = inl h
-next_ref-new s by (Read d) n h = inl h
-
-next_deferred-new : (s : Cells) (by : ℕ) (c : Call) (n : ℕ) → n < (after s by c).next_deferred → (n < s.next_deferred) ⊎ ((c ≡ NewDeferred) × (n ≡ s.next_deferred))
-unfolding after
-next_deferred-new s by Start n h = inl h
-next_deferred-new s by (Cancel g) n h = inl h
-next_deferred-new s by (Join g) n h = inl h
-next_deferred-new s by Look n h = inl h
-next_deferred-new s by Mask n h = inl h
-next_deferred-new s by Unmask n h = inl h
-next_deferred-new s by Cut n h = inl h
-next_deferred-new s by (Finish o) n h = inl h
-next_deferred-new s by NewRef n h = inl h
-next_deferred-new s by NewDeferred n h = dite (ℕ_discrete n s.next_deferred) (λ q. inr (refl, q)) (λ q. inl (omega arith))
-next_deferred-new s by (Get r) n h = inl h
-next_deferred-new s by (Set r v) n h = inl h
-next_deferred-new s by (Modify r v) n h = inl h
-next_deferred-new s by (Complete d v) n h = inl h
-next_deferred-new s by (Read d) n h = inl h
-
-next_of-new : (b : Band) (s : Cells) (by : ℕ) (c : Call) (n : ℕ) → n < next_of b (after s by c) → (n < next_of b s) ⊎ ((c ≡ claim_of b) × (n ≡ next_of b s))
-next_of-new Fibers = next_fiber-new
-next_of-new Refs = next_ref-new
-next_of-new Deferreds = next_deferred-new
+use Rattle.cell_registry.proofs.Calls.{next_of-new}
+use Rattle.cell_registry.proofs.Legal.{next_of-left_from, next_fiber-left_from, sound}
 
 pub reply-claim : (b : Band) (s : Cells) (by : ℕ) → reply_of s by (claim_of b) ≡ Number (next_of b s)
 unfolding reply_of
@@ -89,11 +46,6 @@ unfolding after
 next-claim Fibers s by = refl
 next-claim Refs s by = refl
 next-claim Deferreds s by = refl
-
-next_of-left_from : (b : Band) (s : Cells) (h : List Entry) → next_of b s ≤ next_of b (left_from s h)
-next_of-left_from Fibers = next_fiber-left_from
-next_of-left_from Refs = next_ref-left_from
-next_of-left_from Deferreds = next_deferred-left_from
 
 WasGiven-next_from : (b : Band) (k : Limits) (s : Cells) (h : List Entry) (n : ℕ) → IsLegalFrom k s h → WasGiven b h n → n < next_of b (left_from s h)
 WasGiven-next_from b k s [] n l w = absurd w

@@ -4,11 +4,14 @@ use Rattle.std.specs.Prelude.{cond}
 use Rattle.std.proofs.lemmas.List.Elements.{filter-append}
 use mathlib.Core.List.{IsPrefix}
 use Rattle.cell_registry.specs.declared.limits.Limits.{Limits}
+use Rattle.cell_registry.specs.declared.limits.Band.{Band}
+use Rattle.cell_registry.specs.declared.limits.Band.TheVariants.{Fibers}
 use Rattle.cell_registry.specs.declared.call.Entry.{Entry}
 use Rattle.cell_registry.specs.Cells.{AreLimits, fresh, owned, Cells, opening, cell_of, after, IsSound}
 use Rattle.cell_registry.specs.Histories.{MayFollow, left_from, IsLegalFrom, left, IsLegal, calls_by}
+use Rattle.cell_registry.specs.Bands.{next_of}
 use Rattle.cell_registry.proofs.Lists.{get_or-replicate_default}
-use Rattle.cell_registry.proofs.Calls.{next_fiber-after, next_ref-after, next_deferred-after, owned-after, opening-sound, after-sound}
+use Rattle.cell_registry.proofs.Calls.{next_of-rises, next_fiber-rises, owned-after, opening-sound, after-sound}
 
 -- ---- one entry more
 pub left_from-append : (s : Cells) (g h : List Entry) → left_from s (g ++ h) ≡ left_from (left_from s g) h
@@ -46,33 +49,18 @@ pub IsLegal-at : (k : Limits) (h before rest : List Entry) (e : Entry) → h ≡
 IsLegal-at k h before rest e is legal = IsLegal-last k before e (IsLegal-prefix k (before ++ e ∷ []) h (rest, append_assoc before (e ∷ []) rest ∙ sym is) legal)
 
 -- ---- the next numbers only rise
+pub next_of-left_from : (b : Band) (s : Cells) (h : List Entry) → next_of b s ≤ next_of b (left_from s h)
+next_of-left_from b s [] = omega arith
+next_of-left_from b s (e ∷ h) = le_trans (next_of-rises b s e.by e.call) (next_of-left_from b (after s e.by e.call) h)
+
 pub next_fiber-left_from : (s : Cells) (h : List Entry) → s.next_fiber ≤ (left_from s h).next_fiber
-next_fiber-left_from s [] = omega arith
-next_fiber-left_from s (e ∷ h) = le_trans (next_fiber-after s e.by e.call) (next_fiber-left_from (after s e.by e.call) h)
+next_fiber-left_from = next_of-left_from Fibers
 
-pub next_ref-left_from : (s : Cells) (h : List Entry) → s.next_ref ≤ (left_from s h).next_ref
-next_ref-left_from s [] = omega arith
-next_ref-left_from s (e ∷ h) = le_trans (next_ref-after s e.by e.call) (next_ref-left_from (after s e.by e.call) h)
-
-pub next_deferred-left_from : (s : Cells) (h : List Entry) → s.next_deferred ≤ (left_from s h).next_deferred
-next_deferred-left_from s [] = omega arith
-next_deferred-left_from s (e ∷ h) = le_trans (next_deferred-after s e.by e.call) (next_deferred-left_from (after s e.by e.call) h)
-
--- what only rises over entries is higher at the end of a longer history
-left-prefix : (k : Limits) (n : Cells → ℕ) → ((s : Cells) (h : List Entry) → n s ≤ n (left_from s h)) → (g h : List Entry) → IsPrefix g h → n (left k g) ≤ n (left k h)
+pub next_of-prefix : (b : Band) (k : Limits) (g h : List Entry) → IsPrefix g h → next_of b (left k g) ≤ next_of b (left k h)
 unfolding left
-left-prefix k n rises g h p =
-    subst (λ (x : List Entry). n (left_from (opening k) g) ≤ n (left_from (opening k) x)) p.1
-    (subst (λ (x : Cells). n (left_from (opening k) g) ≤ n x) (sym (left_from-append (opening k) g p.0)) (rises (left_from (opening k) g) p.0))
-
-pub next_fiber-prefix : (k : Limits) (g h : List Entry) → IsPrefix g h → (left k g).next_fiber ≤ (left k h).next_fiber
-next_fiber-prefix k g h p = left-prefix k (λ s. s.next_fiber) next_fiber-left_from g h p
-
-pub next_ref-prefix : (k : Limits) (g h : List Entry) → IsPrefix g h → (left k g).next_ref ≤ (left k h).next_ref
-next_ref-prefix k g h p = left-prefix k (λ s. s.next_ref) next_ref-left_from g h p
-
-pub next_deferred-prefix : (k : Limits) (g h : List Entry) → IsPrefix g h → (left k g).next_deferred ≤ (left k h).next_deferred
-next_deferred-prefix k g h p = left-prefix k (λ s. s.next_deferred) next_deferred-left_from g h p
+next_of-prefix b k g h p =
+    subst (λ (x : List Entry). next_of b (left_from (opening k) g) ≤ next_of b (left_from (opening k) x)) p.1
+    (subst (λ (x : Cells). next_of b (left_from (opening k) g) ≤ next_of b x) (sym (left_from-append (opening k) g p.0)) (next_of-left_from b (left_from (opening k) g) p.0))
 
 -- ---- the calls of one fiber
 pub calls_by-push : (f : ℕ) (h : List Entry) (e : Entry) → e.by ≡ f → calls_by f (h ++ e ∷ []) ≡ calls_by f h ++ e ∷ []
@@ -86,7 +74,7 @@ unborn_from : (k : Limits) (s : Cells) (h : List Entry) (f : ℕ) → IsLegalFro
 unborn_from k s [] f l h = refl
 unborn_from k s (e ∷ es) f l h =
     let m = l.0.born in
-    let up = next_fiber-after s e.by e.call in
+    let up = next_fiber-rises s e.by e.call in
     let more = next_fiber-left_from (after s e.by e.call) es in
     let apart : e.by ≢ f = λ (q : e.by ≡ f). omega arith in
     rw (ne_eqb e.by f apart) (unborn_from k (after s e.by e.call) es f l.1 h)
@@ -100,7 +88,7 @@ unborn_cell_from : (k : Limits) (s : Cells) (h : List Entry) (f : ℕ) → IsLeg
 unborn_cell_from k s [] f l h = refl
 unborn_cell_from k s (e ∷ es) f l h =
     let m = l.0.born in
-    let up = next_fiber-after s e.by e.call in
+    let up = next_fiber-rises s e.by e.call in
     let more = next_fiber-left_from (after s e.by e.call) es in
     let apart : e.by ≢ f = λ (q : e.by ≡ f). omega arith in
     unborn_cell_from k (after s e.by e.call) es f l.1 h ∙ owned-after s e.by e.call f apart

@@ -14,7 +14,7 @@ use Rattle.cell_registry.specs.Histories.{left, IsLegal, calls_by}
 use Rattle.cell_registry.specs.Words.{Leaves}
 use Rattle.cell_registry.specs.Rule.{Has, IsQuietSince, Fits, Owns, Apart, IsHistory, WordsAreAHistory}
 use Rattle.cell_registry.specs.Steps.{entry, Called}
-use Rattle.cell_registry.proofs.Calls.{next_fiber-after, owned-after}
+use Rattle.cell_registry.proofs.Calls.{next_fiber-rises, owned-after}
 use Rattle.cell_registry.proofs.Legal.{left-push, IsLegal-push, calls_by-push, calls_by-other}
 
 longer : (v h : List Entry) (e : Entry) → IsPrefix v h → IsPrefix v (h ++ e ∷ [])
@@ -28,7 +28,7 @@ quiet_still : (k : Limits) (h g : List Entry) (e : Entry) (f : ℕ) → e.by ≢
 quiet_still k h g e f apart o = record {
   calls = calls_by-other f h e apart ∙ o.calls;
   cell = ap (λ (s : Cells). owned (cell_of s f)) (left-push k h e) ∙ owned-after (left k h) e.by e.call f apart ∙ o.cell;
-  born = rw (left-push k h e) (let p = o.born in let q = next_fiber-after (left k h) e.by e.call in omega arith);
+  born = rw (left-push k h e) (let p = o.born in let q = next_fiber-rises (left k h) e.by e.call in omega arith);
 }
 
 -- another pass, after an entry that is not of its fibers
@@ -116,7 +116,7 @@ module _ {S : Type 0} where
       let e : Entry = entry v.number t.call (reply_of (left k h) v.number t.call) in
       let w : Knowledge = t.view in
       let push = left-push k h e in
-      let up = next_fiber-after (left k h) v.number t.call in
+      let up = next_fiber-rises (left k h) v.number t.call in
       let legal = IsLegal-push k h e r.legal record { born = (mine.own v.number has).born; accepted = t.accepted; replied = refl } in
       let kept' : IsHistory k (set s.words i x) (set s.views id w) (h ++ e ∷ []) = record {
         limits = r.limits;
