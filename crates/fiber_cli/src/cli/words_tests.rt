@@ -3,6 +3,8 @@
 use super::tests::{Narrow, expect};
 use super::{command, refuse_words};
 use outcome_trace::{FromRead, ToWrite};
+use std::alloc::AllocError;
+use std::process::Abort;
 use std::test::Fail;
 
 /// Words that are refused with status 64, before the text is read: the rule, the words, and what is
@@ -87,22 +89,58 @@ fn tells_wrong_words(rt: HostRuntime) {
     }
 }
 
+/// Replays with an option that takes a number, and compares what comes of it.
+fn expect_number<R: Abort + AllocGlobal>(
+    rt: &R,
+    option: (&str, &str),
+    status: u8,
+    out: &str,
+    err: &str,
+) -> Result<(), AllocError> {
+    let (name, number) = option;
+    let word = format!(in rt.alloc(); "--{name}={number}")?;
+    let words = ["fiber_cli", "replay", "--schedule", "0*2", word.as_str()];
+    expect(
+        rt,
+        "an option's number",
+        &words,
+        "(pure 7)",
+        status,
+        out,
+        err,
+    );
+    Ok(())
+}
+
+/// The same of a number that is refused, for this reason.
+fn refuses<R: Abort + AllocGlobal>(
+    rt: &R,
+    option: (&str, &str),
+    why: &str,
+) -> Result<(), AllocError> {
+    let (name, number) = option;
+    let err = format!(in rt.alloc();
+        "error: invalid value '{number}' for '--{name} <N>': {why}\n\nFor more information, try '--help'.\n"
+    )?;
+    expect_number(rt, option, 64, "", err.as_str())
+}
+
+/// The same of one that is above `most`, or 0.
+fn refuses_beyond<R: Abort + AllocGlobal>(
+    rt: &R,
+    option: (&str, &str),
+    most: &str,
+) -> Result<(), AllocError> {
+    let number = option.1;
+    let why = format!(in rt.alloc(); "{number} is not in 1..={most}")?;
+    refuses(rt, option, why.as_str())
+}
+
 #[test]
 fn takes_numbers_in_their_range(rt: HostRuntime) -> Result<(), Fail> {
     for (name, most, _, _) in NUMBERS {
-        let option = format!(in rt.alloc(); "--{name}")?;
         for number in ["1", "01", "+1", most] {
-            let words = [
-                "fiber_cli",
-                "replay",
-                "--schedule",
-                "0*2",
-                option.as_str(),
-                number,
-            ];
-            let rule = format!(in rt.alloc(); "{name} {number}")?;
-            let out = "fiber 0 succeeded 7\n";
-            expect(&rt, rule.as_str(), &words, "(pure 7)", 0, out, "");
+            expect_number(&rt, (name, number), 0, "fiber 0 succeeded 7\n", "")?;
         }
     }
     Ok(())
@@ -110,26 +148,28 @@ fn takes_numbers_in_their_range(rt: HostRuntime) -> Result<(), Fail> {
 
 #[test]
 fn refuses_numbers_out_of_their_range(rt: HostRuntime) -> Result<(), Fail> {
-    let huge = "18446744073709551616";
     for (name, most, above, wide) in NUMBERS {
-        let range = format!(in rt.alloc(); " is not in 1..={most}")?;
-        for (number, shown, why) in [
-            ("0", "0", range.as_str()),
-            (above, above, range.as_str()),
-            (wide, wide, range.as_str()),
-            (huge, "", "number too large to fit in target type"),
-            ("", "", "cannot parse integer from empty string"),
-            ("x", "", "invalid digit found in string"),
-            ("-1", "", "invalid digit found in string"),
-            ("1.5", "", "invalid digit found in string"),
+        for number in ["0", above, wide] {
+            refuses_beyond(&rt, (name, number), most)?;
+        }
+    }
+    Ok(())
+}
+
+#[test]
+fn refuses_what_is_no_number(rt: HostRuntime) -> Result<(), Fail> {
+    for (name, _, _, _) in NUMBERS {
+        for (number, why) in [
+            ("", "cannot parse integer from empty string"),
+            ("x", "invalid digit found in string"),
+            ("-1", "invalid digit found in string"),
+            ("1.5", "invalid digit found in string"),
+            (
+                "18446744073709551616",
+                "number too large to fit in target type",
+            ),
         ] {
-            let option = format!(in rt.alloc(); "--{name}={number}")?;
-            let words = ["fiber_cli", "replay", "--schedule", "0*2", option.as_str()];
-            let rule = format!(in rt.alloc(); "{name} {number}")?;
-            let err = format!(in rt.alloc();
-                "error: invalid value '{number}' for '--{name} <N>': {shown}{why}\n\nFor more information, try '--help'.\n"
-            )?;
-            expect(&rt, rule.as_str(), &words, "(pure 7)", 64, "", err.as_str());
+            refuses(&rt, (name, number), why)?;
         }
     }
     Ok(())
