@@ -36,9 +36,6 @@ finish-open Running depth o m = tt
 finish-open Finalizing depth o m = tt
 finish-open (Ended p) depth o m = m
 
-pub finish-fits : (g : Stage) (depth : ℕ) (o : Outcome) → MayFinish g depth o → word.OutcomeFits o
-finish-fits g depth o m = value-fits o (outcome-fits g depth o m)
-
 -- ---- what the owner knows of its cell at the moment
 record Own (k : Limits) (v : Knowledge) (h : List Entry) : Type 0 where
   same : owned (cell_of (left k h) v.number) ≡ owned (seen_cell v v.number)
@@ -154,5 +151,5 @@ module _ {S : Type 0} where
       (λ h mine own range. law (control (cell_of (left k h) v.number)) range (no_outcome _ (finish-open _ _ o (subst (λ (x : Stage × ℕ × ℕ). MayFinish x.0 x.1 o) (sym own.same) may))) own.small (ap phase_at (own_stage k h v has mine) ∙ phase))
       (λ w told b' p ph fits e.
       let bs : b' ≡ b = bit_one b' b (sym ph ∙ phase) in
-      let same : o ≡ p = finish_one b o p (finish-fits _ _ o may) fits (sym sum ∙ e ∙ ap (λ x. word.finish_sum x p) bs) in
+      let same : o ≡ p = finish_one b o p (value-fits o (outcome-fits _ _ o may)) (value-fits p fits) (sym sum ∙ e ∙ ap (λ x. word.finish_sum x p) bs) in
       subst (λ (x : Outcome). Changed v (Finish x) (finished x) w) same told)

@@ -6,7 +6,7 @@ use mathlib.Core.List.{IsPrefix}
 use Rattle.effect_term.specs.declared.reply.Outcome.{Outcome}
 use Rattle.effect_term.specs.declared.reply.Reply.{Reply}
 use Rattle.effect_term.specs.declared.reply.Reply.TheVariants as reply
-use Rattle.control_word.specs.Word.{InRange, bit, finish_sum, OutcomeFits as FitsOutcome}
+use Rattle.control_word.specs.Word.{InRange, bit, finish_sum}
 use Rattle.cell_registry.specs.declared.limits.Limits.{Limits}
 use Rattle.cell_registry.specs.declared.limits.Band.{Band}
 use Rattle.cell_registry.specs.declared.limits.Band.TheVariants.{Fibers, Refs, Deferreds}
@@ -17,7 +17,7 @@ use Rattle.cell_registry.specs.declared.call.Call.{Call}
 use Rattle.cell_registry.specs.declared.call.Call.TheVariants.{Cancel, Join, Look, Mask, Unmask, Cut, Finish, Get, Set, Modify, Complete, Read}
 use Rattle.cell_registry.specs.declared.call.Entry.{Entry}
 use Rattle.cell_registry.specs.declared.knowledge.Knowledge.{Knowledge}
-use Rattle.cell_registry.specs.Cells.{masked, unmasked, cut, finished, owned, IsOpen, cancel_reply, join_reply, ValueFits}
+use Rattle.cell_registry.specs.Cells.{masked, unmasked, cut, finished, owned, IsOpen, cancel_reply, join_reply, OutcomeFits, ValueFits}
 use Rattle.cell_registry.specs.Histories.{left, IsLegal, calls_by}
 use Rattle.cell_registry.specs.Bands.{next_of, limit_of, claim_of, AreAllGiven}
 use Rattle.cell_registry.specs.Words.{phase_at, control, cell_word, deferred_word, ref_value}
@@ -96,7 +96,7 @@ WasCut v w = Changed v Cut cut w
 
 -- the owner added k, which tells the outcome
 abbrev pub Finished : ℕ → Knowledge → Knowledge → Type 0
-Finished k v w = (b : Bool) (o : Outcome) → phase_at (seen_cell v v.number).stage ≡ bit b → FitsOutcome o → k ≡ finish_sum b o → Changed v (Finish o) (finished o) w
+Finished k v w = (b : Bool) (o : Outcome) → phase_at (seen_cell v v.number).stage ≡ bit b → OutcomeFits o → k ≡ finish_sum b o → Changed v (Finish o) (finished o) w
 
 -- ---- steps on the word of a ref or a deferred
 -- the word i is that of the ref r

@@ -5,7 +5,8 @@ use Rattle.cell_registry.specs.declared.call.Call.TheVariants as call
 use Rattle.cell_registry.specs.Cells.{MayFinish}
 use Rattle.cell_registry.specs.Words.{phase_at}
 use Rattle.cell_registry.specs.Passes.{RegistryView, PassView, Changes, pass_of}
-use Rattle.cell_registry.proofs.OwnTurns.{finishes_as, finish-fits}
+use Rattle.cell_registry.proofs.Calls.{outcome-fits}
+use Rattle.cell_registry.proofs.OwnTurns.{finishes_as}
 use Rattle.cell_registry.proofs.Tokens.{of_registry, own_place, seat_has, seat_cell, called_by, call-prefix, pass_of-step, seated_changed, count_below, seen_count_below}
 use Rattle.cell_registry.proofs.registry.Registry.finish.Goals as goal
 
@@ -31,7 +32,7 @@ invariant_of-pass c =
     let cell = seat_cell _ _ _ _ _ _ _ p.1 in
     let phase = ap (λ o. phase_at o.0) (seat_cell _ _ _ _ _ _ _ p.1) ∙ c.is_finalizing.ensures.phase in
     let may = subst (λ (q : PassView). MayFinish q.stage q.depth c.args.outcome) (sym c.pass.view_is) c.requires.may in
-    let told = c.fetch_add.ensures.2.1 c.is_finalizing.result c.args.outcome phase (finish-fits _ _ _ may) c.finish_amount-amount.ensures.sum in
+    let told = c.fetch_add.ensures.2.1 c.is_finalizing.result c.args.outcome phase (outcome-fits _ _ _ may) c.finish_amount-amount.ensures.sum in
     (c.fetch_add.ensures.2.0, seated_changed _ _ _ _ _ _ _ _ _ _ _ _ _ (λ j. (Ended c.args.outcome, (cell j).1, (cell j).2 + 1)) told.1 (call-prefix _ _ _ _ _ _ _ told.0) told.0.legal p.1)
 
 pub returns-clause-ended : goal.returns-clause-ended
@@ -42,7 +43,7 @@ returns-clause-ended c =
     let of = of_registry _ _ _ _ c.self.view_is c.pass.view_is c.requires.own in
     let phase = ap (λ o. phase_at o.0) (seat_cell _ _ _ _ _ _ _ p.1) ∙ c.is_finalizing.ensures.phase in
     let may = subst (λ (q : PassView). MayFinish q.stage q.depth c.args.outcome) (sym c.pass.view_is) c.requires.may in
-    let told = c.fetch_add.ensures.2.1 c.is_finalizing.result c.args.outcome phase (finish-fits _ _ _ may) c.finish_amount-amount.ensures.sum in
+    let told = c.fetch_add.ensures.2.1 c.is_finalizing.result c.args.outcome phase (outcome-fits _ _ _ may) c.finish_amount-amount.ensures.sum in
     let P : PassView → Type 0 = λ h. Changes h (call.Finish c.args.outcome) (Ended c.args.outcome) h.depth (pass_of new.table_id new.me.0 old.number (Ended c.args.outcome) old.depth (old.count + 1) old.saw) in
     subst P c.pass.view_is record {
       room = count_below _ _ _ p.1 of c.in_ok-refuse_if_spent.ensures.room;
