@@ -9,7 +9,7 @@ use std::marker::Model;
 /// The marks of a fiber, in the order in which it made them.
 #[derive(Drop)]
 pub struct Marks {
-    items: Vec<Mark>,
+    marks: Vec<Mark>,
 }
 
 impl Model for Marks {
@@ -18,29 +18,30 @@ impl Model for Marks {
 
     ghost Value = { List Mark };
 
-    ghost view = { λ m. m.items.items };
+    ghost view = { λ m. m.marks.items };
 }
 
 impl Marks {
     /// These marks.
-    pub fn new(items: Vec<Mark>) -> Marks
-        ensures { result ≡ items.items }
+    pub fn new(marks: Vec<Mark>) -> Marks
+        ensures { result ≡ marks.items }
     {
-        Marks { items }
+        Marks { marks }
     }
 
     /// The marks, from the first one on.
     pub fn as_slice(&self) -> &[Mark]
         ensures { result.now ≡ self.now }
     {
-        self.items.as_slice()
+        self.marks.as_slice()
     }
 
     /// The marks, given back.
     pub fn into_vec(self) -> Vec<Mark>
         ensures { result.items ≡ self }
     {
-        self.items
+        let Marks { marks } = self;
+        marks
     }
 }
 
@@ -56,7 +57,7 @@ pub struct FiberReport {
 /// What each of some fibers has come to, in the order of their numbers.
 #[derive(Drop)]
 pub struct FiberReports {
-    items: Vec<FiberReport>,
+    reports: Vec<FiberReport>,
 }
 
 impl Model for FiberReports {
@@ -65,29 +66,30 @@ impl Model for FiberReports {
 
     ghost Value = { List FiberReport };
 
-    ghost view = { λ r. r.items.items };
+    ghost view = { λ r. r.reports.items };
 }
 
 impl FiberReports {
     /// These reports.
-    pub fn new(items: Vec<FiberReport>) -> FiberReports
-        ensures { result ≡ items.items }
+    pub fn new(reports: Vec<FiberReport>) -> FiberReports
+        ensures { result ≡ reports.items }
     {
-        FiberReports { items }
+        FiberReports { reports }
     }
 
     /// The reports, from that of fiber 0 on.
     pub fn as_slice(&self) -> &[FiberReport]
         ensures { result.now ≡ self.now }
     {
-        self.items.as_slice()
+        self.reports.as_slice()
     }
 
     /// The reports, given back.
     pub fn into_vec(self) -> Vec<FiberReport>
         ensures { result.items ≡ self }
     {
-        self.items
+        let FiberReports { reports } = self;
+        reports
     }
 }
 
