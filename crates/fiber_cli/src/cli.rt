@@ -58,7 +58,11 @@ pub fn refuse_words<E: TextOut>(alloc: Global, message: &str, err: &mut E) -> u8
     USAGE
 }
 
-/// Runs one command line, and gives the status.
+/// Runs one command line over these devices, and gives the status of the program: that of the order
+/// that the words give ([`obey`](outcome_trace::obey)), 0 where help was asked for, 64 where the words
+/// or the schedule are wrong, and 70 where memory ran out or a device failed.
+///
+/// Help goes to the output, what is wrong with the words to the last device, both in `clap`'s words.
 pub fn command<'a, R, S, I, O, E>(
     rt: &R,
     words: &'a [S],
