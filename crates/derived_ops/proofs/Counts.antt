@@ -1,14 +1,16 @@
 -- The words and masks of a program's expansion, as they are counted on the program.
-use Rattle.std.proofs.Common.{◌≡◌, ℕ, ◌+◌, List, [], ◌∷◌, ◌++◌, refl, ap, ◌∙◌, arith}
+use Rattle.std.proofs.Common.{◌≡◌, ℕ, ◌+◌, ◌≤◌, List, [], ◌∷◌, ◌++◌, refl, ap, ◌∙◌, arith}
 use Rattle.std.specs.Prelude.{max}
 use Rattle.effect_term.specs.declared.term.Term.{Term, Row_of-Term, end_of-Term, more_of-Term}
 use Rattle.effect_term.specs.declared.term.Term.TheVariants as term
 use Rattle.effect_term.specs.ExpansionSize.{expansion_size_of, expansion_sizes_of}
 use Rattle.effect_term.specs.Masks.{masks_of, most_masks_of}
+use Rattle.effect_term.specs.Programs.{IsProgram}
 use Rattle.derived_ops.specs.Tree.{Tree}
 use Rattle.derived_ops.specs.Source.{Source}
 use Rattle.derived_ops.specs.Reading.{source_of, seq_of}
 use Rattle.derived_ops.specs.Expansion.{bracket_case, expansion, code_of}
+use Rattle.derived_ops.specs.Codes.{IsCode}
 use Rattle.derived_ops.specs.Counts.{words, masks}
 
 -- ---- words
@@ -144,3 +146,8 @@ words_code t = words_expansion t [] 0
 
 pub masks_code : (t : Term) → masks (code_of (source_of t)) ≡ masks_of t
 masks_code t = masks_expansion t [] 0
+
+-- ---- codes
+pub small_code : (t : Tree) → IsCode t → words t ≤ 1000000
+unfolding IsCode
+small_code t (p, k, e) = omega (arith, ap words e, words_code p, k.expansion)

@@ -3,3 +3,7 @@ pub mod Slots
 pub mod Unsupported
 pub mod Counts
 pub mod Samples
+pub mod Rows
+pub mod Levels
+pub mod Weights
+pub mod Texts

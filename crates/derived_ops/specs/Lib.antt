@@ -5,6 +5,9 @@ pub mod Reading
 pub mod Expansion
 pub mod Codes
 pub mod Counts
+pub mod Levels
 pub mod Supported
 pub mod Stored
 pub mod Cores
+pub mod CoreText
+pub mod Heads

@@ -1,17 +1,18 @@
 //! The code of a program.
 
-ghost use Rattle.std.specs.Prelude.{◌≡◌, IfOk, IsTrue};
+ghost use Rattle.std.specs.Prelude.{◌≡◌, ◌≤◌, IfOk};
 ghost use Rattle.effect_term.specs.ExpansionSize.{expansion_size_of};
 ghost use Rattle.effect_term.specs.Masks.{masks_of};
 ghost use Rattle.derived_ops.specs.Codes.{IsCode};
 ghost use Rattle.derived_ops.specs.Cores.{tree_of};
 ghost use Rattle.derived_ops.specs.Counts.{words, masks};
 ghost use Rattle.derived_ops.specs.Expansion.{code_of};
+ghost use Rattle.derived_ops.specs.Levels.{Levelled};
 ghost use Rattle.derived_ops.specs.Reading.{source_of};
 ghost use Rattle.derived_ops.specs.Supported.{supported};
 
 use crate::core_term::Core;
-use crate::expansion::expanded;
+use crate::expansion::Scope;
 use crate::supported::has_supported_words;
 use effect_term::Program;
 use std::alloc::{AllocError, Global};
@@ -43,10 +44,14 @@ impl Model for Code {
 }
 
 impl Code {
-    /// The term of this code.
+    /// The term of this code. The slot of each binder in it is the number of binders around that
+    /// one, and it has at most 1,000,000 words and marks.
+    #[tactic(auto, using(crate::proofs::Levels::levelled_code, crate::proofs::Counts::small_code))]
     pub fn core(&self) -> &Core
         ensures term { tree_of result.now ≡ self.now }
         ensures code { IsCode self.now }
+        ensures levelled { Levelled 0 self.now }
+        ensures small { words self.now ≤ 1000000 }
     {
         &self.core
     }
@@ -60,19 +65,17 @@ pub fn is_supported(program: &Program) -> bool
     has_supported_words(program.term())
 }
 
-/// The code of a program, whose words are all among the six words `pure`, `let`, `say`, `canceled`,
-/// `uncancelable` and `poll` ([`is_supported`]), or `AllocError` where memory is refused.
+/// The code of a program, or `AllocError` where memory is refused.
 ///
-/// Core words are expanded part by part, and a binder's slot is the number of binders around it. The
-/// code has as many words and masks as were counted on the program.
+/// Core words are expanded part by part, and a word that isn't one of them is expanded to what it
+/// stands for. A binder's slot is the number of binders around it. The code has as many words and
+/// masks as were counted on the program.
 #[tactic(auto, using(crate::proofs::Counts::words_code, crate::proofs::Counts::masks_code))]
 pub fn expand(alloc: Global, program: &Program) -> Result<Code, AllocError>
-    requires { IsTrue (supported (source_of program.now)) }
     ensures code { IfOk result (λ code. code ≡ code_of (source_of program.now)) }
     ensures words { IfOk result (λ code. words code ≡ expansion_size_of program.now) }
     ensures masks { IfOk result (λ code. masks code ≡ masks_of program.now) }
 {
-    let mut slots = Vec::new(alloc);
-    let core = expanded(alloc, program.term(), &mut slots, 0)?;
+    let core = Scope::new(alloc).part(program.term(), 0)?;
     Ok(Code { core })
 }

@@ -1,18 +1,25 @@
 //! The core words that the words of a program stand for.
 //!
 //! A program is run as its expansion: [`expand`] makes a program's [`Code`], a term of [`Core`]
-//! words. The crate stands on `effect_term`. Its definitions are the terms that a running fiber has,
-//! substitution in them, and what each word of a program stands for; it promises that a `Code` is
-//! the expansion of a program, with the words and masks that were counted on it.
+//! words, and [`print_core`] gives its text. The crate stands on `effect_term`. Its definitions are
+//! the terms that a running fiber has, substitution in them, what each word of a program stands for,
+//! and the text of a code; it promises that a `Code` is the expansion of a program, with the words
+//! and masks that were counted on it, and that the slot of each binder in it is the number of
+//! binders around that one.
 #![tactic(auto)]
 
+mod brackets;
 mod code;
 mod core_term;
+mod core_text;
 mod expansion;
+mod forms;
+mod races;
 mod supported;
 
 pub use code::{Code, expand, is_supported};
-pub use core_term::{Core, Value};
+pub use core_term::{Action, BracketMark, Core, Maker, Rest, Turns, Value};
+pub use core_text::print_core;
 
 #[cfg(test)]
 mod tests;

@@ -5,7 +5,7 @@ use Rattle.clap.specs.Words.{Row, Text, first_of}
 use Rattle.cell_registry.specs.declared.limits.Limits.{Limits}
 use Rattle.outcome_trace.specs.declared.fault.TextFault.TheVariants.{NoMemory}
 use Rattle.outcome_trace.specs.declared.orders.Order.{Order}
-use Rattle.outcome_trace.specs.declared.orders.Order.TheVariants.{Check, Replay}
+use Rattle.outcome_trace.specs.declared.orders.Order.TheVariants.{Check, Show, Replay}
 use Rattle.outcome_trace.specs.Devices.{Devices}
 use Rattle.outcome_trace.specs.FaultLines.{TellsFault}
 use Rattle.outcome_trace.specs.Orders.{Obeys, Told}
@@ -30,6 +30,7 @@ pub record SaysLimits (options : List Row) (limits : Limits) : Type 0 where
 -- the order that a subcommand with its options says
 abbrev pub Says : Text × List Row → Order → Type 0
 Says said Check = said.0 ≡ codes "check"
+Says said Show = said.0 ≡ codes "show"
 Says said (Replay schedule limits) =
     (said.0 ≡ codes "replay") × (first_of (codes "schedule") said.1 ≡ Some schedule.now) × SaysLimits said.1 limits
 

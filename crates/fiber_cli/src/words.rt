@@ -82,11 +82,13 @@ pub fn all_words<'a>(alloc: Global) -> Result<Command<'a>, AllocError>
     ensures { IfOk result (λ c. app_of c ≡ program) }
 {
     let check = Command::new(alloc, "check").about("Tells whether the text is a program");
+    let show = Command::new(alloc, "show").about("Prints the expansion of the program");
     let replay = replay_command(alloc)?;
     Command::new(alloc, "fiber_cli")
         .about("Runs effect programs on fibers. The program's text is read from standard input")
         .subcommand_required(true)
         .subcommand(check)?
+        .subcommand(show)?
         .subcommand(replay)
 }
 
@@ -148,6 +150,7 @@ pub fn order_of<'a>(matches: &ArgMatches<'a>) -> Option<Order<'a>>
     let (name, options) = matches.subcommand()?;
     match name {
         "check" => Some(Order::Check),
+        "show" => Some(Order::Show),
         "replay" => replay_order(options),
         _ => None,
     }

@@ -3,5 +3,13 @@ pub mod Rows
 pub mod Fiber
 pub mod Answers
 pub mod Moves
-pub mod Walk
-pub mod Nodes
+pub mod Marks
+pub mod Reached
+pub mod Table
+pub mod Written
+pub mod Env
+pub mod Frames
+pub mod Machine
+pub mod Machines
+pub mod Cases
+pub mod Told

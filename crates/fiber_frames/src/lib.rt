@@ -4,19 +4,27 @@
 //! makes the move under the reply ([`Config::resume`]), so whoever holds the shared state decides
 //! what is answered, and when. The crate stands on `derived_ops`. Its definitions are the focus path of
 //! a running term, the active masks and pending finalizers along it, the table of rows, and the move.
-//! It promises that asks and moves are those of the model, for a code of `derived_ops`, whose words so
-//! far are six: masks, polls and cancellation as in Cats Effect 3's `MonadCancel`. The model has all
-//! words, and finalizers too.
+//! Inside, a fiber has a place in a table of its code's words, a stack of frames and an environment,
+//! and never substitutes. The crate promises that asks and moves are those of the model, and that the
+//! marks of every fiber are lawful, whatever it is answered: no masked region is cut outside its own
+//! poll, and a fiber that has ended released each acquired bracket exactly once, innermost first.
 #![tactic(auto)]
 
-mod active;
 mod ask;
+mod asks;
 mod config;
+mod env;
+mod frame;
+mod machine;
 mod mark;
-mod mask;
 mod move_case;
-mod node;
-mod state;
+mod operand;
+mod reply_parts;
+mod results;
+mod row;
+mod rows;
+mod table;
+mod word;
 
 pub use ask::{Ask, Look};
 pub use config::{Config, Moved};

@@ -14,7 +14,7 @@ use Rattle.outcome_trace.specs.declared.answers.Answer.{Answer}
 use Rattle.outcome_trace.specs.declared.lines.Refused.{Refused}
 use Rattle.outcome_trace.specs.declared.lines.Refused.TheVariants as refusals
 use Rattle.outcome_trace.specs.Lines.{has_line, line_of}
-use Rattle.outcome_trace.specs.Answers.{IsRefusalAnswer, no_term, no_program, IsCheckAnswer, refused, counted, IsRefused, IsOfText, ok_line}
+use Rattle.outcome_trace.specs.Answers.{IsRefusalAnswer, no_term, no_program, IsCheckAnswer, refused, counted, IsShowAnswer, unshown, shown, IsRefused, IsOfText, code_line, ok_line}
 
 -- a limit has a line
 limit_told : (deep large : Bool) (m : ℕ) (e : TermError) → (if deep then Some (term.DeepMasks m) else (if large then Some term.Large else None)) ≡ Some e → has_line (refusals.Term e) ≡ true
@@ -70,3 +70,11 @@ refusal_checks text (Err e) h = tt
 pub counts_check : {E : Type 0} (text : List ℕ) (t : Term) (a : Result Answer E) → reading text ≡ Ok (atoms_of t) → IsProgram t → IfOk a (λ a. a.text.items ≡ ok_line t) → IfOk a (λ a. a.status ≡ 0) → IfOk a (λ a. IsCheckAnswer text a.text.items a.status)
 counts_check text t (Ok a) e p line status = rw (line, status) (counted text t e p)
 counts_check text t (Err x) e p line status = tt
+
+pub refusal_shows : {E : Type 0} (text : List ℕ) (a : Result Answer E) → IfOk a (λ a. IsRefusalAnswer text a.text.items a.status) → IfOk a (λ a. IsShowAnswer text a.text.items a.status)
+refusal_shows text (Ok a) h = unshown text a.text.items a.status h
+refusal_shows text (Err e) h = tt
+
+pub code_shows : {E : Type 0} (text : List ℕ) (t : Term) (a : Result Answer E) → reading text ≡ Ok (atoms_of t) → IsProgram t → IfOk a (λ a. a.text.items ≡ code_line t) → IfOk a (λ a. a.status ≡ 0) → IfOk a (λ a. IsShowAnswer text a.text.items a.status)
+code_shows text t (Ok a) e p line status = rw (line, status) (shown text t e p)
+code_shows text t (Err x) e p line status = tt

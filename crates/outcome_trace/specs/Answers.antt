@@ -1,6 +1,9 @@
 -- What is answered to a text.
 use Rattle.std.specs.Prelude.{◌≡◌, ◌≢◌, ◌-◌, ◌^◌, ℕ, min, List, [], ◌∷◌, ◌++◌, codes, Ok, Err, Some}
 use Rattle.std.specs.Fmt.{decimal}
+use Rattle.derived_ops.specs.CoreText.{core_text}
+use Rattle.derived_ops.specs.Expansion.{code_of}
+use Rattle.derived_ops.specs.Reading.{source_of}
 use Rattle.effect_term.specs.declared.term.Term.{Term}
 use Rattle.effect_term.specs.declared.refusal.TermError.{TermError}
 use Rattle.effect_term.specs.Masks.{masks_of}
@@ -24,6 +27,10 @@ abbrev pub ok_line : Term → List ℕ
 ok_line t =
     codes "ok size " ++ (count_text (size_of t) ++ (codes " nest " ++ (count_text (nest_of t) ++ (codes " masks " ++ (count_text (masks_of t) ++ 10 ∷ [])))))
 
+-- the text of a program's code, and a line feed
+abbrev pub code_line : Term → List ℕ
+code_line t = core_text (code_of (source_of t)) ++ 10 ∷ []
+
 -- What is answered where there is no program, with its status: the text's first fault, or the limit that the term which
 -- it spells goes past.
 pub data IsRefusalAnswer : List ℕ → List ℕ → ℕ → Type 0 where
@@ -34,6 +41,11 @@ pub data IsRefusalAnswer : List ℕ → List ℕ → ℕ → Type 0 where
 pub data IsCheckAnswer : List ℕ → List ℕ → ℕ → Type 0 where
   refused : (text answer : List ℕ) (status : ℕ) → IsRefusalAnswer text answer status → IsCheckAnswer text answer status
   counted : (text : List ℕ) (t : Term) → reading text ≡ Ok (atoms_of t) → IsProgram t → IsCheckAnswer text (ok_line t) 0
+
+-- what `show` answers, with its status: a refusal, or the code of the program that the text spells
+pub data IsShowAnswer : List ℕ → List ℕ → ℕ → Type 0 where
+  unshown : (text answer : List ℕ) (status : ℕ) → IsRefusalAnswer text answer status → IsShowAnswer text answer status
+  shown : (text : List ℕ) (t : Term) → reading text ≡ Ok (atoms_of t) → IsProgram t → IsShowAnswer text (code_line t) 0
 
 -- why a text is refused, unless memory was wanting: its first fault, or a limit that its term goes past
 abbrev pub IsRefused : List ℕ → Refused → Type 0

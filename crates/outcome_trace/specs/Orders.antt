@@ -3,12 +3,12 @@ use Rattle.std.specs.Prelude.{◌≡◌, ◌+◌, ◌⊎◌, ℕ, List, Result, 
 use Rattle.outcome_trace.specs.declared.fault.TextFault.{TextFault}
 use Rattle.outcome_trace.specs.declared.fault.TextFault.TheVariants.{NoMemory, TurnBound}
 use Rattle.outcome_trace.specs.declared.orders.Order.{Order}
-use Rattle.outcome_trace.specs.declared.orders.Order.TheVariants.{Check, Replay}
+use Rattle.outcome_trace.specs.declared.orders.Order.TheVariants.{Check, Show, Replay}
 use Rattle.outcome_trace.specs.declared.schedule.ScheduleError.{ScheduleError}
 use Rattle.outcome_trace.specs.declared.schedule.ScheduleError.TheVariants as schedules
 use Rattle.cell_registry.specs.declared.limits.Limits.{Limits}
 use Rattle.cell_registry.specs.Cells.{AreLimits}
-use Rattle.outcome_trace.specs.Answers.{IsCheckAnswer}
+use Rattle.outcome_trace.specs.Answers.{IsCheckAnswer, IsShowAnswer}
 use Rattle.outcome_trace.specs.Devices.{Devices, Writer}
 use Rattle.outcome_trace.specs.Exchange.{Exchanges}
 use Rattle.outcome_trace.specs.FaultLines.{schedule_line, TellsFault}
@@ -70,10 +70,12 @@ pub record Scheduled (schedule : List ℕ) (limits : Limits) (before after : Dev
 -- what an order comes to
 abbrev pub Obeys : Order → Devices → Devices → ℕ → Type 0
 Obeys Check before after status = Answered IsCheckAnswer before after status
+Obeys Show before after status = Answered IsShowAnswer before after status
 Obeys (Replay schedule limits) before after status =
     Scheduled schedule.now limits before after status ⊎ Unscheduled schedule.now before after status
 
 -- the limits of an order are within their ranges
 abbrev pub HasLimits : Order → Type 0
 HasLimits Check = Unit {0}
+HasLimits Show = Unit {0}
 HasLimits (Replay schedule limits) = AreLimits limits

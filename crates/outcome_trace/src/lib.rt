@@ -27,7 +27,7 @@ mod tests;
 mod text;
 mod wish;
 
-pub use answers::{FAULT, REFUSED, check_text};
+pub use answers::{FAULT, REFUSED, check_text, show_text};
 pub use cell_registry::Limits;
 pub use device::{FromRead, ReadError, TextIn, TextOut, ToWrite, WriteFailed};
 pub use fault::TextFault;

@@ -6,7 +6,7 @@ ghost use Rattle.outcome_trace.specs.Devices.{devices, reader, writer};
 ghost use Rattle.outcome_trace.specs.Orders.{HasLimits, Obeys, RefusesSchedule, Told, TellsResult, status_of};
 ghost use Rattle.outcome_trace.specs.declared.fault.TextFault.TheVariants.{NoMemory};
 
-use crate::answers::{FAULT, check_text};
+use crate::answers::{FAULT, check_text, show_text};
 use crate::device::{TextIn, TextOut};
 use crate::fault::TextFault;
 use crate::fault_lines::{fault_line, schedule_line};
@@ -24,6 +24,8 @@ pub const USAGE: u8 = 64;
 pub enum Order<'a> {
     /// Tell whether it is a program.
     Check,
+    /// Print the code that it is expanded to.
+    Show,
     /// Run it under a schedule, and report what each fiber came to.
     Replay {
         /// The schedule's text: items `f` or `f*k`, separated by one space each.
@@ -114,6 +116,10 @@ pub fn obey<I: TextIn, O: TextOut, E: TextOut>(
     match order {
         Order::Check => {
             let outcome = check_text(alloc, input, out);
+            status(alloc, outcome, err)
+        }
+        Order::Show => {
+            let outcome = show_text(alloc, input, out);
             status(alloc, outcome, err)
         }
         Order::Replay { schedule, limits } => match read_schedule(alloc, schedule) {

@@ -10,6 +10,8 @@ use std::test::Fail;
 
 const CHECK: [&str; 2] = ["fiber_cli", "check"];
 
+const SHOW: [&str; 2] = ["fiber_cli", "show"];
+
 pub(super) const LONG: &[&str] = &["fiber_cli", "replay", "--schedule", "0*99"];
 
 /// Runs a command line, and compares all that it writes and its status. Where that isn't what is
@@ -316,7 +318,7 @@ fn refuses_each_front_of_a_program(rt: HostRuntime) -> Result<(), Fail> {
 
 #[test]
 fn tells_failed_readers(rt: HostRuntime) {
-    for words in [&CHECK as &[&str], LONG] {
+    for words in [&CHECK as &[&str], &SHOW, LONG] {
         let mut out = Vec::new(rt.alloc());
         let mut err = Vec::new(rt.alloc());
         let status = command(
@@ -351,6 +353,7 @@ fn tells_failed_readers(rt: HostRuntime) {
 fn tells_failed_writers(rt: HostRuntime) -> Result<(), Fail> {
     for (words, out) in [
         (&CHECK as &[&str], "ok size 1 nest 1 masks 0\n"),
+        (&SHOW, "(pure 7)\n"),
         (LONG, "fiber 0 succeeded 7\n"),
     ] {
         for fails in [true, false] {

@@ -176,6 +176,34 @@ const ANSWERS: &[Answers<'static>] = &[
         ],
     },
     Answers {
+        words: &["fiber_cli", "show"],
+        status: 0,
+        cases: &[
+            (
+                "the expansion of a guarantee",
+                "(guarantee (say 1) (say 2))",
+                "(uncancelable p0 (let v1 (handle (oncancel (poll p0 (say 1)) (say 2)) v1 (seq (handle (say 2) v2 (pure 0)) (raise v1))) (seq (say 2) (pure v1))))\n",
+            ),
+            (
+                "core words are expanded part by part",
+                "( let  x (pure 1)(pure x))",
+                "(let v0 (pure 1) (pure v0))\n",
+            ),
+        ],
+    },
+    Answers {
+        words: &["fiber_cli", "show"],
+        status: 65,
+        cases: &[
+            ("show refuses no text", "", "refused 5 End at 0\n"),
+            (
+                "show refuses names",
+                "(guarantee (say 1) (say x))",
+                "refused 9 UnknownName at 24\n",
+            ),
+        ],
+    },
+    Answers {
         words: LONG,
         status: 65,
         cases: &[

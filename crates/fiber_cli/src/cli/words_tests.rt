@@ -38,12 +38,12 @@ const WRONG: &[(&str, &[&str], &str)] = &[
     (
         "a subcommand is required",
         &["fiber_cli"],
-        "error: 'fiber_cli' requires a subcommand but one was not provided\n  [subcommands: check, replay, help]\n\nUsage: fiber_cli <COMMAND>\n\nFor more information, try '--help'.\n",
+        "error: 'fiber_cli' requires a subcommand but one was not provided\n  [subcommands: check, show, replay, help]\n\nUsage: fiber_cli <COMMAND>\n\nFor more information, try '--help'.\n",
     ),
     (
         "no such subcommand",
-        &["fiber_cli", "show"],
-        "error: unrecognized subcommand 'show'\n\nUsage: fiber_cli <COMMAND>\n\nFor more information, try '--help'.\n",
+        &["fiber_cli", "walk"],
+        "error: unrecognized subcommand 'walk'\n\nUsage: fiber_cli <COMMAND>\n\nFor more information, try '--help'.\n",
     ),
     (
         "check takes no option",
@@ -61,11 +61,15 @@ const WRONG: &[(&str, &[&str], &str)] = &[
 const HELP: &[(&[&str], &str)] = &[
     (
         &["fiber_cli", "--help"],
-        "Runs effect programs on fibers. The program's text is read from standard input\n\nUsage: fiber_cli <COMMAND>\n\nCommands:\n  check   Tells whether the text is a program\n  replay  Runs the program under a schedule, and prints its report\n  help    Print this message or the help of the given subcommand(s)\n\nOptions:\n  -h, --help  Print help\n",
+        "Runs effect programs on fibers. The program's text is read from standard input\n\nUsage: fiber_cli <COMMAND>\n\nCommands:\n  check   Tells whether the text is a program\n  show    Prints the expansion of the program\n  replay  Runs the program under a schedule, and prints its report\n  help    Print this message or the help of the given subcommand(s)\n\nOptions:\n  -h, --help  Print help\n",
     ),
     (
         &["fiber_cli", "check", "--help"],
         "Tells whether the text is a program\n\nUsage: fiber_cli check\n\nOptions:\n  -h, --help  Print help\n",
+    ),
+    (
+        &["fiber_cli", "show", "--help"],
+        "Prints the expansion of the program\n\nUsage: fiber_cli show\n\nOptions:\n  -h, --help  Print help\n",
     ),
     (
         &["fiber_cli", "replay", "--help"],
@@ -207,7 +211,7 @@ fn keeps_the_status_where_a_usage_fault_cannot_be_told(rt: HostRuntime) {
     let mut out = Vec::new(rt.alloc());
     let status = command(
         &rt,
-        &["fiber_cli", "show"],
+        &["fiber_cli", "walk"],
         &mut FromRead::new(b"(pure 7)".as_slice()),
         &mut ToWrite::new(&mut out),
         &mut ToWrite::new(Narrow {

@@ -4,7 +4,7 @@ use Rattle.derived_ops.specs.Expansion.{code_of}
 use Rattle.derived_ops.specs.Reading.{source_of}
 use Rattle.fiber_frames.specs.Fiber.{begins}
 use Rattle.outcome_trace.specs.Core.{reported}
-use Rattle.outcome_trace.proofs.FitLemmas.{opening_fits}
+use Rattle.outcome_trace.proofs.FitLemmas.{asked_outcome, opening_fits}
 use Rattle.outcome_trace.proofs.CoreLemmas.{core_from-opened}
 use Rattle.outcome_trace.proofs.ProgramRoom.{code_room}
 use Rattle.outcome_trace.proofs.scheduled.replay.Goals as goal
@@ -22,6 +22,9 @@ returns-in_err-entries c =
       | inl q ↦ inl (ap Err q)
       | inr q ↦ inr (sym (ap reported (sym start ∙ q)))
     ])
+
+pub report-requires : goal.report-requires
+report-requires c = asked_outcome 0 c.entries.new.config _ c.in_ok-entries.ensures.fits
 
 pub returns : goal.returns
 returns c =

@@ -1,0 +1,134 @@
+//! Core terms from their parts, which are put in boxes.
+
+ghost use Rattle.std.specs.Prelude.{◌≡◌, IfOk};
+ghost use Rattle.derived_ops.specs.Cores.{tree_of, value_in_core, maker_in_core, turns_in_core, rest_of};
+ghost use Rattle.derived_ops.specs.Expansion.{nil, in_order, in_three, in_four};
+ghost use Rattle.derived_ops.specs.Tree as tree;
+
+use crate::core_term::{Core, Maker, Rest, Turns, Value};
+use std::alloc::{AllocError, Global};
+
+/// Gives 0.
+pub(crate) fn nil() -> Core
+    ensures { tree_of result ≡ nil }
+{
+    Core::Pure(Value::Number(0))
+}
+
+pub(crate) fn bound(alloc: Global, first: Core, slot: u32, next: Core) -> Result<Core, AllocError>
+    ensures { IfOk result (λ core. tree_of core ≡ tree.Let (tree_of first) slot (tree_of next)) }
+{
+    Ok(Core::Let(Box::new(alloc, first)?, slot, Box::new(alloc, next)?))
+}
+
+pub(crate) fn sequence(
+    alloc: Global,
+    rest: Rest,
+    first: Core,
+    next: Core,
+) -> Result<Core, AllocError>
+    ensures { IfOk result (λ core. tree_of core ≡ tree.Seq (rest_of rest) (tree_of first) (tree_of next)) }
+{
+    Ok(Core::Seq(rest, Box::new(alloc, first)?, Box::new(alloc, next)?))
+}
+
+/// A sequence of two parts.
+pub(crate) fn in_order(alloc: Global, first: Core, next: Core) -> Result<Core, AllocError>
+    ensures { IfOk result (λ core. tree_of core ≡ in_order (tree_of first) (tree_of next)) }
+{
+    sequence(alloc, Rest::Last, first, next)
+}
+
+/// A sequence of three parts.
+pub(crate) fn in_three(alloc: Global, a: Core, b: Core, c: Core) -> Result<Core, AllocError>
+    ensures { IfOk result (λ core. tree_of core ≡ in_three (tree_of a) (tree_of b) (tree_of c)) }
+{
+    sequence(alloc, Rest::More, a, in_order(alloc, b, c)?)
+}
+
+/// A sequence of four parts.
+pub(crate) fn in_four(alloc: Global, a: Core, b: Core, c: Core, d: Core) -> Result<Core, AllocError>
+    ensures { IfOk result (λ core.
+        tree_of core ≡ in_four (tree_of a) (tree_of b) (tree_of c) (tree_of d)) }
+{
+    sequence(alloc, Rest::More, a, in_three(alloc, b, c, d)?)
+}
+
+pub(crate) fn handled(
+    alloc: Global,
+    body: Core,
+    slot: u32,
+    handler: Core,
+) -> Result<Core, AllocError>
+    ensures { IfOk result (λ core.
+        tree_of core ≡ tree.Handled (tree_of body) slot (tree_of handler)) }
+{
+    Ok(Core::Handle(Box::new(alloc, body)?, slot, Box::new(alloc, handler)?))
+}
+
+pub(crate) fn chosen(
+    alloc: Global,
+    value: Value,
+    zero: Core,
+    other: Core,
+) -> Result<Core, AllocError>
+    ensures { IfOk result (λ core.
+        tree_of core ≡ tree.If0 (value_in_core value) (tree_of zero) (tree_of other)) }
+{
+    Ok(Core::If0(value, Box::new(alloc, zero)?, Box::new(alloc, other)?))
+}
+
+/// Waits for the fiber. The same slot binds its value and its code.
+pub(crate) fn joined(
+    alloc: Global,
+    fiber: u32,
+    slot: u32,
+    succeeded: Core,
+    errored: Core,
+    canceled: Core,
+) -> Result<Core, AllocError>
+    ensures { IfOk result (λ core.
+        tree_of core ≡ tree.Join (tree.Open_slot fiber) slot (tree_of succeeded) slot (tree_of errored) (tree_of canceled)) }
+{
+    let succeeded = Box::new(alloc, succeeded)?;
+    let errored = Box::new(alloc, errored)?;
+    let canceled = Box::new(alloc, canceled)?;
+    Ok(Core::Join(fiber, slot, succeeded, slot, errored, canceled))
+}
+
+pub(crate) fn made(alloc: Global, maker: Maker, slot: u32, next: Core) -> Result<Core, AllocError>
+    ensures { IfOk result (λ core. tree_of core ≡ tree.Make (maker_in_core maker) slot (tree_of next)) }
+{
+    Ok(Core::Make(maker, slot, Box::new(alloc, next)?))
+}
+
+pub(crate) fn started(alloc: Global, slot: u32, child: Core, next: Core) -> Result<Core, AllocError>
+    ensures { IfOk result (λ core. tree_of core ≡ tree.Start slot (tree_of child) (tree_of next)) }
+{
+    Ok(Core::Start(slot, Box::new(alloc, child)?, Box::new(alloc, next)?))
+}
+
+pub(crate) fn repeated(alloc: Global, turns: Turns, body: Core) -> Result<Core, AllocError>
+    ensures { IfOk result (λ core. tree_of core ≡ tree.Loop (turns_in_core turns) (tree_of body)) }
+{
+    Ok(Core::Loop(turns, Box::new(alloc, body)?))
+}
+
+pub(crate) fn masked(alloc: Global, slot: u32, body: Core) -> Result<Core, AllocError>
+    ensures { IfOk result (λ core. tree_of core ≡ tree.Uncancelable slot (tree_of body)) }
+{
+    Ok(Core::Uncancelable(slot, Box::new(alloc, body)?))
+}
+
+pub(crate) fn polled(alloc: Global, poll: u32, body: Core) -> Result<Core, AllocError>
+    ensures { IfOk result (λ core. tree_of core ≡ tree.Poll (tree.Named poll) (tree_of body)) }
+{
+    Ok(Core::Poll(poll, Box::new(alloc, body)?))
+}
+
+/// The term, with a finalizer that runs if cancellation is observed in it.
+pub(crate) fn finalized(alloc: Global, body: Core, finalizer: Core) -> Result<Core, AllocError>
+    ensures { IfOk result (λ core. tree_of core ≡ tree.On_cancel (tree_of body) (tree_of finalizer)) }
+{
+    Ok(Core::OnCancel(Box::new(alloc, body)?, Box::new(alloc, finalizer)?))
+}

@@ -1,0 +1,76 @@
+-- What a row of a word without parts makes: a value, an error or such a word, no child, and no mark but that of `say`.
+use Rattle.std.proofs.Common.{ℕ, true, false, if◌then◌else◌, List, [], ◌∷◌, Option, Some, None}
+use Rattle.std.specs.Prelude.{ℤ, pos, ◌+ℤ◌}
+use Rattle.derived_ops.specs.Tree.{Act, Action, Add, Await, Canceled, Cede, Complete, Ending, Get, Handle, Modify, Never, Number, Pure, Raise, Request, Say, Set, Tree, Value}
+use Rattle.effect_term.specs.declared.reply.Outcome.{Outcome}
+use Rattle.effect_term.specs.declared.reply.Reply.{Reply}
+use Rattle.fiber_frames.specs.Rows.{Born, Ceded, Ended, Kind, Plain, Row, Waited, action_row, after_end, after_read, fits, is_ended, number_of, outcome_in, read_in, sum_or_raise, unit, wait}
+use Rattle.fiber_frames.specs.declared.ask.Ask.{Ask}
+use Rattle.fiber_frames.specs.declared.mark.Mark.{Mark}
+use Rattle.fiber_frames.specs.declared.mark.Mark.TheVariants as mark
+
+-- a value, an error, or a word without parts
+pub data Simple : Tree → Type 0 where
+  a_value : (v : Value) → Simple (Pure v)
+  an_error : (v : Value) → Simple (Raise v)
+  an_action : (c : Action) → Simple (Act c)
+
+-- no mark, or that of `say`
+pub data Says : List Mark → Type 0 where
+  silent : Says []
+  said : (z : ℤ) → Says (mark.Say z ∷ [])
+
+-- a property of what a kind of move starts
+abbrev pub If_born : Kind → (Tree → Type 0) → Type 0
+If_born (Born e) p = p e
+If_born _ p = Unit {0}
+
+abbrev pub NoBirth : Kind → Type 0
+NoBirth (Born e) = ⊥
+NoBirth _ = Unit {0}
+
+pub none_born : (k : Kind) (p : Tree → Type 0) → NoBirth k → If_born k p
+none_born (Born e) p h = absurd h
+none_born Plain p h = tt
+none_born Waited p h = tt
+none_born Ceded p h = tt
+none_born (Ended o) p h = tt
+
+pub wait_none : {T : Type 0} (o : Option T) → NoBirth (wait o)
+wait_none None = tt
+wait_none (Some x) = tt
+
+pub simple_case : (P : Tree → Type 0) → ((v : Value) → P (Pure v)) → ((v : Value) → P (Raise v)) → ((c : Action) → P (Act c)) → (t : Tree) → Simple t → P t
+simple_case P f h g _ (a_value v) = f v
+simple_case P f h g _ (an_error v) = h v
+simple_case P f h g _ (an_action c) = g c
+
+module _ (i next : ℕ) (r : Reply) where
+  sum_simple : (z : ℤ) → Simple (sum_or_raise z)
+  sum_simple z = elim (fits z) as (λ b. Simple (if b then Pure (Number z) else Raise (Number (pos 1001)))) [ true ↦ a_value _ | false ↦ an_error _ ]
+
+  end_simple : (o : Option Outcome) (f : Handle) → Simple (after_end o f)
+  end_simple None f = an_action _
+  end_simple (Some o) f = a_value _
+
+  read_simple : (o : Option ℤ) (d : Handle) → Simple (after_read o d)
+  read_simple None d = an_action _
+  read_simple (Some z) d = a_value _
+
+  abbrev pub ActionRow : (Row Tree → Type 0) → Type 0
+  ActionRow P = (a : Ask) (t : Tree) (ms : List Mark) (k : Kind) → Simple t → Says ms → NoBirth k → P (record { call = a; becomes = t; marks = ms; next = next; kind = k })
+
+  pub action_case : (P : Row Tree → Type 0) → ActionRow P → (c : Action) → P (action_row i next r c)
+  action_case P f (Add v w) = f _ _ _ _ (sum_simple (number_of v +ℤ number_of w)) silent tt
+  action_case P f (Say v) = f _ _ _ _ (a_value _) (said _) tt
+  action_case P f Cede = f _ _ _ _ (a_value _) silent tt
+  action_case P f Never = f _ _ _ _ (an_action _) silent tt
+  action_case P f Canceled = f _ _ _ _ (a_value _) silent tt
+  action_case P f (Request y) =
+      f _ _ _ _ (elim (is_ended r) as (λ b. Simple (if b then unit else Act (Ending y))) [ true ↦ a_value _ | false ↦ an_action _ ]) silent tt
+  action_case P f (Ending y) = f _ _ _ _ (end_simple (outcome_in r) y) silent (wait_none (outcome_in r))
+  action_case P f (Get x) = f _ _ _ _ (a_value _) silent tt
+  action_case P f (Set x v) = f _ _ _ _ (a_value _) silent tt
+  action_case P f (Modify x v) = f _ _ _ _ (a_value _) silent tt
+  action_case P f (Complete d v) = f _ _ _ _ (a_value _) silent tt
+  action_case P f (Await d) = f _ _ _ _ (read_simple (read_in r) d) silent (wait_none (read_in r))

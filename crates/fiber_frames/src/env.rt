@@ -1,0 +1,41 @@
+//! The environment of a fiber: what each level holds.
+
+ghost use Rattle.std.specs.Prelude.{◌≡◌, ◌≤◌, take, length, vec_len, IfOk, OnOk, OnErr};
+ghost use Rattle.fiber_frames.specs.Env.{env_of, bound};
+
+use crate::word::Entry;
+use std::alloc::{AllocError, Global};
+
+/// Binds at a level, over what stands there, or `AllocError` where memory is refused.
+#[tactic(auto, using(crate::proofs::Closing::set_bound, crate::proofs::Closing::push_bound))]
+pub(crate) fn bind(env: &mut Vec<Entry>, level: usize, entry: Entry) -> Result<(), AllocError>
+    requires { level ≤ vec_len env.old }
+    ensures entries { OnOk result (env.new.items ≡ bound env.old.items level entry) }
+    ensures err { OnErr result (env.new.items ≡ env.old.items) }
+{
+    if level < env.len() {
+        env[level] = entry;
+    } else {
+        env.push(entry)?;
+    }
+    Ok(())
+}
+
+// What a slot below the level holds.
+pub(crate) fn entry(env: &[Entry], level: usize, slot: u32) -> Option<Entry>
+    ensures { result ≡ env_of env.now level slot }
+{
+    if (slot as usize) < level {
+        env.get(slot as usize).copied()
+    } else {
+        None
+    }
+}
+
+/// A copy of the entries below a level, or `AllocError` where memory is refused.
+pub(crate) fn front(alloc: Global, env: &[Entry], level: usize) -> Result<Vec<Entry>, AllocError>
+    requires { level ≤ length env.now }
+    ensures { IfOk result (λ copy. copy.items ≡ take level env.now) }
+{
+    Vec::from_slice(alloc, &env[..level])
+}

@@ -1,0 +1,79 @@
+//! What a fiber is at: frames, the leaf, the finalizers that wait.
+
+use crate::operand::{Handle, Mask};
+use derived_ops::{Rest, Value};
+use effect_term::Outcome;
+
+/// What is left to do with the result of what stands inside. A place in the table comes with its level,
+/// the number of binders around it; of `let` and `handle` it is the level of the form.
+#[derive(Clone, Copy)]
+pub(crate) enum Frame {
+    /// The word that a value goes on to, which binds it.
+    Let(usize, usize),
+    /// The next part of a sequence.
+    Seq(Rest, usize, usize),
+    /// The body of a loop that has so many turns left.
+    Again(i32, usize, usize),
+    /// The word that an error goes on to, which binds its code.
+    Handle(usize, usize),
+    /// The finalizer of what stands inside.
+    Guarded(usize, usize),
+    /// The mask of this number.
+    Masked(u64),
+    /// A poll that undid the own mask of this number.
+    Polled(u64),
+    /// A poll that undid nothing.
+    Idle(Mask),
+}
+
+/// A finalizer that waits: its word and its level.
+#[derive(Clone, Copy)]
+pub(crate) struct Pending {
+    pub index: usize,
+    pub level: usize,
+}
+
+/// Where the next move happens.
+#[derive(Clone, Copy)]
+pub(crate) enum Leaf {
+    /// A word of the table, and its level.
+    At(usize, usize),
+    /// A value.
+    Value(Value),
+    /// An error of this code.
+    Error(Value),
+    /// The request of a `cancel`.
+    Request(Handle),
+    /// The wait of a `cancel`.
+    Ending(Handle),
+    /// A ref's first value.
+    Store(u16, Value),
+    /// A loop that has so many turns left, with its body.
+    Turns(i32, usize, usize),
+}
+
+/// How far a fiber is.
+#[derive(Clone, Copy)]
+pub(crate) enum Stage {
+    /// At the program's term.
+    Runs,
+    /// After a cut, in a finalizer, below the mask of this number.
+    Final(u64),
+    /// After a cut, below the mask of this number, with no finalizer left.
+    Drained(u64),
+    /// Ended so.
+    Over(Outcome),
+    /// Broken: the memory for a move was refused.
+    Broken,
+}
+
+/// What a row was to the runner of the fiber.
+#[derive(Clone, Copy)]
+pub(crate) enum Turn {
+    Plain,
+    Waited,
+    Ceded,
+    /// A child that begins at this word, and its level.
+    Born(usize, usize),
+    Ended(Outcome),
+}

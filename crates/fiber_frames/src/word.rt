@@ -1,0 +1,38 @@
+//! The words of a code, in a table.
+
+use derived_ops::{Action, BracketMark, Maker, Rest, Turns, Value};
+
+/// A word of a table. The words of a term stand in the order in which they are written, so a word's
+/// first part is the next word. A further part stands so many words after the first one.
+///
+/// A binder's slot isn't stored: it is the number of binders around it.
+#[derive(Clone, Copy)]
+pub(crate) enum Word {
+    Pure(Value),
+    Raise(Value),
+    Act(Action),
+    Note(BracketMark, u32),
+    Cancel(u32),
+    Let(u32),
+    Seq(Rest, u32),
+    Handle(u32),
+    If0(Value, u32),
+    Join(u32, u32, u32),
+    Make(Maker),
+    Start(u32),
+    Loop(Turns),
+    Uncancelable,
+    Poll(u32),
+    OnCancel(u32),
+}
+
+/// What a level of the environment holds.
+#[derive(Clone, Copy)]
+pub(crate) enum Entry {
+    /// A value or a code.
+    Value(i32),
+    /// The number of a fiber, a ref or a deferred.
+    Handle(u16),
+    /// The number of a fiber, and of a mask in it.
+    Mask(u16, u64),
+}
