@@ -10,7 +10,7 @@ use Rattle.cell_registry.specs.declared.limits.Band.TheVariants.{Fibers, Refs, D
 use Rattle.cell_registry.specs.declared.cell.Cell.{Cell}
 use Rattle.cell_registry.specs.declared.call.Entry.{Entry}
 use Rattle.cell_registry.specs.declared.knowledge.Knowledge.{Knowledge}
-use Rattle.cell_registry.specs.Cells.{AreLimits, fresh, owned, Cells, cell_of, after, IsAllowed, refusal, IsAccepted}
+use Rattle.cell_registry.specs.Cells.{AreLimits, fresh, owned, Cells, cell_of, after, reply_of, IsAllowed, refusal, IsAccepted}
 use Rattle.cell_registry.specs.Histories.{left, IsLegal, calls_by}
 use Rattle.cell_registry.specs.Words.{Leaves}
 use Rattle.cell_registry.specs.Rule.{Has, seen_cell, Fits, WordsAreAHistory}
@@ -190,6 +190,7 @@ looked_then_claimed b u v w n has a s c =
       call = record {
         between = a.seen.0 ++ m.between;
         seen = m.seen ∙ (λ j. (sym a.seen.1 j ++ m.between) ++ e (by j) ∷ []) ∙ ap (λ (l : List Entry). l ++ e u.number ∷ []) (append_assoc u.seen a.seen.0 m.between);
+        replied = m.replied ∙ (λ j. reply_of (left (s.limits j) (sym a.seen.1 j ++ m.between)) (by j) (claim_of b)) ∙ ap (λ (l : List Entry). reply_of (left u.limits l) u.number (claim_of b)) (append_assoc u.seen a.seen.0 m.between);
         legal = rw (sym s.limits) m.legal;
         own = (λ j. calls_by (sym by j) w.seen) ∙ m.own ∙ (λ j. calls_by (by j) v.seen ++ e (by j) ∷ []) ∙ ap (λ (l : List Entry). l ++ e u.number ∷ []) (a.own u.number has);
         others = λ f h ne. m.others f (subst (λ (fs : List ℕ). Has fs f) (sym s.fibers) h) (λ q. ne (q ∙ by)) ∙ a.own f h;

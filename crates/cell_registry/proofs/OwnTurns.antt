@@ -22,7 +22,7 @@ use Rattle.cell_registry.specs.Rule.{Has, seen_cell, Fits, WordsAreAHistory}
 use Rattle.cell_registry.specs.Steps.{entry, Called, Changed, Masked, Unmasked, WasCut, Finished}
 use Rattle.cell_registry.proofs.Calls.{spent-none, outcome-fits}
 use Rattle.cell_registry.proofs.Requests.{request-prefix}
-use Rattle.cell_registry.proofs.TableWords.{no_outcome, value-fits}
+use Rattle.cell_registry.proofs.TableWords.{no_outcome}
 use Rattle.cell_registry.proofs.CellTurns.{cell_turns, own_same, own_stage, own_depth, own_count, advanced}
 
 -- ---- what a stage allows
@@ -151,5 +151,5 @@ module _ {S : Type 0} where
       (λ h mine own range. law (control (cell_of (left k h) v.number)) range (no_outcome _ (finish-open _ _ o (subst (λ (x : Stage × ℕ × ℕ). MayFinish x.0 x.1 o) (sym own.same) may))) own.small (ap phase_at (own_stage k h v has mine) ∙ phase))
       (λ w told b' p ph fits e.
       let bs : b' ≡ b = bit_one b' b (sym ph ∙ phase) in
-      let same : o ≡ p = finish_one b o p (value-fits o (outcome-fits _ _ o may)) (value-fits p fits) (sym sum ∙ e ∙ ap (λ x. word.finish_sum x p) bs) in
+      let same : o ≡ p = finish_one b o p (outcome-fits _ _ o may) fits (sym sum ∙ e ∙ ap (λ x. word.finish_sum x p) bs) in
       subst (λ (x : Outcome). Changed v (Finish x) (finished x) w) same told)

@@ -181,7 +181,7 @@ get_elem?-get_or (x ∷ xs) zero a e = some-injective x a e
 get_elem?-get_or (x ∷ xs) (suc i) a e = get_elem?-get_or xs i a e
 
 -- the word of a fiber is what one legal history leaves, which begins with what the last seat had seen
-pub last_word : (S : Type 0) (k : Limits) (words : List ℕ) (slots : List S) (id f i n : ℕ) (v : Knowledge) → Final (Seen (WordsAreAHistory {S = S} k) id v) words slots → i ≡ f + 3 → f < k.fibers → get_elem? words i ≡ some n → IsLeftWord k v.seen f n
+pub last_word : (S : Type 0) (k : Limits) (words : List ℕ) (slots : List S) (id f i n : ℕ) (v : Knowledge) → Final (Seen (WordsAreAHistory {S = S} k) id v) words slots → i ≡ f + 3 → f < k.fibers → get_elem? words i ≡ some n → IsLeftWord k v.fibers v.seen f n
 last_word S k words slots id f i n v final is within e =
     let s = final.0 in
     let h = final.1.0.0 in
@@ -191,5 +191,6 @@ last_word S k words slots id f i n v final is within e =
       history = h;
       begins = (r.fits id v final.1.1).seen;
       legal = r.legal;
+      own = λ g has. ((r.fits id v final.1.1).own g has).calls;
       word = sym (get_elem?-get_or words i n e) ∙ ap (λ (ws : List ℕ). get_or ws i 0) (sym final.2) ∙ word_at s.words (left k h) f i r.words_are is (rw long within);
     }

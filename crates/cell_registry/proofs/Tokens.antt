@@ -1,5 +1,5 @@
 -- A pass, and the seat in it.
-use Rattle.std.proofs.Common.{◌≡◌, ◌≢◌, ℕ, ◌+◌, ◌<◌, Bool, true, false, List, [], ◌∷◌, ◌++◌, inl, inr, ⊎_elim, refl, sym, ap, ◌∙◌, subst, arith, append_assoc}
+use Rattle.std.proofs.Common.{◌≡◌, ◌≢◌, ℕ, ◌+◌, ◌<◌, ◌≤◌, Bool, true, false, List, [], ◌∷◌, ◌++◌, inl, inr, ⊎_elim, refl, sym, ap, ◌∙◌, subst, arith, append_assoc}
 use Rattle.std.specs.Prelude.{Option, Some, None, MatchOption}
 use mathlib.Core.List.{IsPrefix}
 use Rattle.atomic_table.specs.Seated.{TableId}
@@ -36,6 +36,13 @@ seat_has v p e i = subst (λ (x : List ℕ × ℕ). Has x.0 x.1) (λ j. (e j, i.
 pub seat_cell : (v : Knowledge) (t : TableId) (n : ℕ) (g : Stage) (d c : ℕ) (b : Bool) → IsSeated v (pass_of t v n g d c b) → owned (seen_cell v v.number) ≡ (g, d, c)
 seat_cell v t n g d c b i = ap (λ (f : ℕ). owned (seen_cell v f)) (sym i.number_is) ∙ i.pass.cell
 
+-- the count of an owner's changes is within its limit
+owned-count : (k : Limits) (h : List Entry) (f : ℕ) (g : Stage) (d c : ℕ) → AreLimits k → IsLegal k h → owned (cell_of (left k h) f) ≡ (g, d, c) → c ≤ k.count
+owned-count k h f g d c limits legal e =
+    let most = ((sound k h limits legal).each_cell f).count in
+    let is = ap (λ o. o.2) e in
+    omega arith
+
 -- the call of a seat is one by the pass's fiber
 pub called_by : (v w : Knowledge) (n : ℕ) (c : Call) (r : Reply) → n ≡ v.number → Called v c r w → IsCall v.limits v.fibers v.seen n c r w.seen
 called_by v w n c r e m = subst (λ (x : ℕ). IsCall v.limits v.fibers v.seen x c r w.seen) (sym e) m
@@ -58,6 +65,7 @@ seated_looked v w t u n g d c b b' s more legal request i = record {
     own = rw s.fibers i.pass.own;
     within = rw s.limits i.pass.within;
     cell = ap (λ (f : ℕ). owned (seen_cell w f)) i.number_is ∙ s.cell ∙ seat_cell v t n g d c b i;
+    count = rw s.limits i.pass.count;
     request = λ e. ap (λ (f : ℕ). (seen_cell w f).request) i.number_is ∙ request e;
     born = λ f owns. WasBorn-prefix v.seen w.seen f more (i.pass.born f (subst (λ (fs : List ℕ). Has fs f) s.fibers owns));
     told = rw s.limits (legal-told v.limits w.seen i.pass.limits legal);
@@ -81,6 +89,7 @@ seated_changed v w t u n g g' d d' c c' b own is s more legal i = record {
     own = rw s.fibers i.pass.own;
     within = rw s.limits i.pass.within;
     cell = ap (λ (f : ℕ). owned (seen_cell w f)) i.number_is ∙ s.cell ∙ is;
+    count = owned-count w.limits w.seen n g' d' c' (rw s.limits i.pass.limits) (rw s.limits legal) (ap (λ (f : ℕ). owned (seen_cell w f)) i.number_is ∙ s.cell ∙ is);
     request = λ e.
         let before : (seen_cell v n).request ≡ true = i.pass.request e in
         let now : (cell_of (left v.limits w.seen) n).request ≡ true = request-prefix v.limits v.seen w.seen n more before in
@@ -93,8 +102,7 @@ seated_changed v w t u n g g' d d' c c' b own is s more legal i = record {
 -- where the count of a pass isn't the limit, it is below it
 pub count_below : (v : Knowledge) (p : PassView) (r : RegistryView) → IsSeated v p → p.registry ≡ r → p.count ≢ r.limits.count → p.count < p.registry.limits.count
 count_below v p r i of ne =
-    let most = ((sound p.registry.limits p.seen i.pass.limits i.pass.legal).each_cell p.number).count in
-    let is = ap (λ o. o.2) i.pass.cell in
+    let most = i.pass.count in
     let limit = ap (λ (x : RegistryView). x.limits.count) of in
     let apart : p.count ≢ p.registry.limits.count = λ (e : p.count ≡ p.registry.limits.count). ne (e ∙ limit) in
     omega arith
@@ -146,6 +154,7 @@ child_seated v w u n limits c = record {
     own = inl (ap newest c.fibers);
     within = rw c.limits c.within;
     cell = c.new.cell;
+    count = omega arith;
     request = λ e. cc;
     born = λ f owns.
         let is : n ≡ f = ⊎_elim (λ (e : newest w.fibers ≡ f). sym (ap newest c.fibers) ∙ e) (λ none. absurd none) owns in
@@ -171,6 +180,7 @@ met_seated u a v w t t' n g d c b is = subst (λ (x : Knowledge). Met x w → ((
     own = rw m.fibers (in_append u.fibers a.fibers n i.pass.own);
     within = rw m.limits i.pass.within;
     cell = ap (λ (f : ℕ). owned (seen_cell w f)) i.number_is ∙ m.cell ∙ seat_cell u t n g d c b i;
+    count = rw m.limits i.pass.count;
     request = λ e.
         let before : (seen_cell u n).request ≡ true = i.pass.request e in
         let now : (cell_of (left u.limits w.seen) n).request ≡ true = request-prefix u.limits u.seen w.seen n m.seen before in
@@ -194,6 +204,7 @@ first_seated k t l = record {
     own = inl refl;
     within = l.some_fiber;
     cell = ap owned (get_or-replicate_default fresh k.fibers 0);
+    count = omega arith;
     request = λ e. cc;
     born = λ f owns. ⊎_elim (λ (e : 0 ≡ f). inl (sym e)) (λ none. absurd none) owns;
     told = legal-told k [] l tt;

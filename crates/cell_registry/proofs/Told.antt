@@ -87,4 +87,6 @@ legal-told k h limits legal = record {
       omega arith;
   born = λ f below. next-WasBorn k h f legal below;
   next = λ f w. WasBorn-next k h f legal w;
+  below = λ b n w. WasGiven-next b k h n legal w;
+  most = λ b. next_of-most b k h limits legal;
 }

@@ -135,6 +135,7 @@ module _ {S : Type 0} where
       let made : Called v t.call (reply_of (left k h) v.number t.call) w = record {
         between = mine.seen.0;
         seen = t.seen ∙ ap (λ (l : List Entry). l ++ e ∷ []) (sym mine.seen.1);
+        replied = λ j. reply_of (left (sym limits j) (sym mine.seen.1 j)) v.number t.call;
         legal = subst (λ (x : Limits × List Entry). IsLegal x.0 x.1) (λ i. (sym limits i, sym t.seen i)) legal;
         own = ap (calls_by v.number) t.seen ∙ calls_by-push v.number h e refl ∙ ap (λ (l : List Entry). l ++ e ∷ []) (mine.own v.number has).calls;
         others = λ g hasv ne. ap (calls_by g) t.seen ∙ calls_by-other g h e (λ q. ne (sym q)) ∙ (mine.own g hasv).calls;

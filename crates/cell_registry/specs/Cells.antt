@@ -10,6 +10,7 @@ use Rattle.effect_term.specs.declared.reply.JoinReply.{JoinReply}
 use Rattle.effect_term.specs.declared.reply.JoinReply.TheVariants as joined
 use Rattle.effect_term.specs.declared.reply.Reply.{Reply}
 use Rattle.effect_term.specs.declared.reply.Reply.TheVariants as reply
+pub use Rattle.control_word.specs.Word.{OutcomeFits}
 use Rattle.cell_registry.specs.declared.limits.Limits.{Limits}
 use Rattle.cell_registry.specs.declared.limits.Band.{Band}
 use Rattle.cell_registry.specs.declared.limits.Band.TheVariants.{Fibers, Refs, Deferreds}
@@ -227,12 +228,6 @@ pub record IsAccepted (k : Limits) (s : Cells) (by : ℕ) (c : Call) : Type 0 wh
   pub room : refusal k s by c ≡ None
 
 -- ---- what holds of the registry after each legal history
--- the value of an outcome is one of 32 bits
-abbrev pub OutcomeFits : Outcome → Type 0
-OutcomeFits (Succeeded v) = FitsSigned w32 v
-OutcomeFits (Errored c) = FitsSigned w32 c
-OutcomeFits Canceled = Unit {0}
-
 -- the outcome of a fiber that has ended is in range
 abbrev pub StageInRange : Stage → Type 0
 StageInRange Running = Unit {0}

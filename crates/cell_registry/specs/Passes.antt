@@ -1,5 +1,5 @@
 -- What contracts see of a registry and of its passes, and what the calls promise.
-use Rattle.std.specs.Prelude.{◌≡◌, ℕ, ◌+◌, ◌<◌, List, [], ◌∷◌, ◌++◌, Bool, true, false}
+use Rattle.std.specs.Prelude.{◌≡◌, ℕ, ◌+◌, ◌<◌, ◌≤◌, List, [], ◌∷◌, ◌++◌, Bool, true, false}
 use mathlib.Core.List.{IsPrefix}
 use Rattle.atomic_table.specs.Seated.{TableId}
 use Rattle.effect_term.specs.declared.reply.Reply.{Reply}
@@ -52,13 +52,14 @@ pub record PassView : Type 0 where
 abbrev pub own_cell : PassView → Cell
 own_cell p = cell_of (left p.registry.limits p.seen) p.number
 
--- what holds of every pass: what it has seen is legal, and leaves the fiber's cell as the pass tells. The fiber is one of the pass's, and all of these were born in what it has seen
+-- what holds of every pass: what it has seen is legal, and leaves the fiber's cell as the pass tells, whose count is within its limit. The fiber is one of the pass's, and all of these were born in what it has seen
 pub record IsPass (p : PassView) : Type 0 where
   pub limits : AreLimits p.registry.limits
   pub legal : IsLegal p.registry.limits p.seen
   pub own : Has p.fibers p.number
   pub within : p.number < p.registry.limits.fibers
   pub cell : owned (own_cell p) ≡ (p.stage, p.depth, p.count)
+  pub count : p.count ≤ p.registry.limits.count
   pub request : p.saw ≡ true → (own_cell p).request ≡ true
   pub born : (f : ℕ) → Has p.fibers f → WasBorn p.seen f
   pub told : IsTold p.registry.limits p.seen
@@ -122,6 +123,11 @@ pub record SeesAllGiven (b : Band) (p q : PassView) : Type 0 where
   pub look : IsLook p.registry.limits p.fibers p.seen q.seen
   pub given : AreAllGiven b p.registry.limits q.seen
 
+-- The pass made no call, and has seen a history in which n fibers were born
+pub record Counts (p : PassView) (n : ℕ) (q : PassView) : Type 0 where
+  pub look : IsLook p.registry.limits p.fibers p.seen q.seen
+  pub next : (left p.registry.limits q.seen).next_fiber ≡ n
+
 -- The pass a has met b, and is q since: what it has seen is one legal history, which begins with what a had seen and with what b had seen. The calls in it of the fibers of a are those that a had seen, and of the fibers of b those that b had. No fiber is of both
 pub record Meets (a b q : PassView) : Type 0 where
   pub same : q ≡ record a { fibers = a.fibers ++ b.fibers; seen = q.seen }
@@ -132,9 +138,10 @@ pub record Meets (a b q : PassView) : Type 0 where
   pub other : (f : ℕ) → Has b.fibers f → calls_by f q.seen ≡ calls_by f b.seen
   pub apart : (f : ℕ) → Has a.fibers f → Has b.fibers f → ⊥
 
--- At the end, the word of the fiber f is n: some legal history, which begins with all that was seen, leaves it so
-pub record IsLeftWord (k : Limits) (seen : List Entry) (f n : ℕ) : Type 0 where
+-- At the end, the word of the fiber f is n: some legal history, which begins with all that was seen and has no further call of the fibers fs, leaves it so
+pub record IsLeftWord (k : Limits) (fs : List ℕ) (seen : List Entry) (f n : ℕ) : Type 0 where
   pub history : List Entry
   pub begins : IsPrefix seen history
   pub legal : IsLegal k history
+  pub own : (g : ℕ) → Has fs g → calls_by g history ≡ calls_by g seen
   pub word : n ≡ cell_word (cell_of (left k history) f)

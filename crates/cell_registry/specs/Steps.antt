@@ -17,7 +17,7 @@ use Rattle.cell_registry.specs.declared.call.Call.{Call}
 use Rattle.cell_registry.specs.declared.call.Call.TheVariants.{Cancel, Join, Look, Mask, Unmask, Cut, Finish, Get, Set, Modify, Complete, Read}
 use Rattle.cell_registry.specs.declared.call.Entry.{Entry}
 use Rattle.cell_registry.specs.declared.knowledge.Knowledge.{Knowledge}
-use Rattle.cell_registry.specs.Cells.{masked, unmasked, cut, finished, owned, IsOpen, cancel_reply, join_reply, OutcomeFits, ValueFits}
+use Rattle.cell_registry.specs.Cells.{masked, unmasked, cut, finished, owned, reply_of, IsOpen, cancel_reply, join_reply, OutcomeFits, ValueFits}
 use Rattle.cell_registry.specs.Histories.{left, IsLegal, calls_by}
 use Rattle.cell_registry.specs.Bands.{next_of, limit_of, claim_of, AreAllGiven}
 use Rattle.cell_registry.specs.Words.{phase_at, control, cell_word, deferred_word, ref_value}
@@ -27,10 +27,11 @@ use Rattle.cell_registry.specs.Rule.{Has, seen_cell}
 abbrev pub entry : ℕ → Call → Reply → Entry
 entry by c r = record { by = by; call = c; reply = r }
 
--- Each call in a history. A pass that makes the calls of the fibers fs had seen `before`, and its fiber `by` made a call: what it has seen now is one legal history, which begins with all that it had seen and ends with this call and its reply. The caller's calls in it are those before, and then this one. The pass's other fibers have made none since
+-- Each call in a history. A pass that makes the calls of the fibers fs had seen `before`, and its fiber `by` made a call: what it has seen now is one legal history, which begins with all that it had seen and ends with this call and its reply. The caller's calls in it are those before, and then this one. The reply is the registry's after the entries that stand before the call. The pass's other fibers have made none since
 pub record IsCall (k : Limits) (fs : List ℕ) (before : List Entry) (by : ℕ) (c : Call) (r : Reply) (now : List Entry) : Type 0 where
   pub between : List Entry
   pub seen : now ≡ (before ++ between) ++ entry by c r ∷ []
+  pub replied : r ≡ reply_of (left k (before ++ between)) by c
   pub legal : IsLegal k now
   pub own : calls_by by now ≡ calls_by by before ++ entry by c r ∷ []
   pub others : (f : ℕ) → Has fs f → f ≢ by → calls_by f now ≡ calls_by f before

@@ -1,5 +1,5 @@
 -- What every legal history tells.
-use Rattle.std.specs.Prelude.{◌≡◌, ℕ, ◌<◌, List, [], ◌∷◌, ◌++◌, ◌⊎◌}
+use Rattle.std.specs.Prelude.{◌≡◌, ℕ, ◌<◌, ◌≤◌, List, [], ◌∷◌, ◌++◌, ◌⊎◌}
 use Rattle.effect_term.specs.declared.reply.Outcome.{Outcome}
 use Rattle.effect_term.specs.declared.reply.JoinReply.TheVariants as joined
 use Rattle.effect_term.specs.declared.reply.Reply.TheVariants as reply
@@ -8,7 +8,7 @@ use Rattle.cell_registry.specs.declared.limits.Band.{Band}
 use Rattle.cell_registry.specs.declared.call.Call.TheVariants.{Join}
 use Rattle.cell_registry.specs.declared.call.Entry.{Entry}
 use Rattle.cell_registry.specs.Histories.{left}
-use Rattle.cell_registry.specs.Bands.{limit_of, claim_of, WasGiven, WasBorn}
+use Rattle.cell_registry.specs.Bands.{next_of, limit_of, claim_of, WasGiven, WasBorn}
 use Rattle.cell_registry.specs.Cancellation.{CutsAfterCancel}
 
 -- each caller is the first fiber, or the reply of an earlier start
@@ -37,3 +37,5 @@ pub record IsTold (k : Limits) (h : List Entry) : Type 0 where
   pub once : GivesOnce h
   pub born : (f : ℕ) → f < (left k h).next_fiber → WasBorn h f
   pub next : (f : ℕ) → WasBorn h f → f < (left k h).next_fiber
+  pub below : (b : Band) (n : ℕ) → WasGiven b h n → n < next_of b (left k h)
+  pub most : (b : Band) → next_of b (left k h) ≤ limit_of b k

@@ -18,8 +18,6 @@ mod limits;
 mod own_calls;
 mod pass;
 mod plain;
-#[cfg(test)]
-mod plain_tests;
 mod registry;
 mod rule;
 mod shared_values;

@@ -6,7 +6,7 @@ ghost use Rattle.cell_registry.specs.declared.limits.CellError.TheVariants.{Full
 ghost use Rattle.cell_registry.specs.declared.call.Call.TheVariants as call;
 ghost use Rattle.cell_registry.specs.Cells.{AreLimits, IsOpen};
 ghost use Rattle.cell_registry.specs.Cancellation.{WasCancelled};
-ghost use Rattle.cell_registry.specs.Passes.{Calls, Gives, IsLeftWord, IsOf, IsPass, Meets, OnlySees, SeesAllGiven, Starts, first_pass};
+ghost use Rattle.cell_registry.specs.Passes.{Calls, Counts, Gives, IsLeftWord, IsOf, IsPass, Meets, OnlySees, SeesAllGiven, Starts, first_pass};
 
 use crate::cell::Stage;
 use crate::claims::claim;
@@ -228,12 +228,30 @@ impl Registry {
         met
     }
 
+    /// How many fibers were born, the first one too: from 1 to the limit of fibers. Below that limit
+    /// it is the number that the next start gives. It is a load of the fibers' claim word, by which
+    /// the pass takes the whole history of that moment into what it has seen, and no call of the
+    /// fiber's.
+    pub fn born(&self, pass: &mut Pass) -> u16
+        requires own { IsOf self.now pass.old }
+        ensures same { OnlySees pass.old pass.new }
+        ensures lawful { IsPass pass.new }
+        ensures counted { Counts pass.old result pass.new }
+    {
+        let found = self
+            .table
+            .shared
+            .load::<rule::Nexts>(&mut pass.seat, claim_place(Band::Fibers));
+        found as u16
+    }
+
     /// The word of a fiber when no thread shares the registry any more: it is what one legal history
-    /// leaves that begins with all that the pass had seen. The number is below the limit of fibers.
+    /// leaves that begins with all that the pass had seen and has no further call of the pass's
+    /// fibers. The number is below the limit of fibers.
     pub fn last_word(self, pass: Pass, fiber: u16) -> u64
         requires own { IsOf self pass }
         requires within { fiber < self.limits.fibers }
-        ensures left { IsLeftWord self.limits pass.seen fiber result }
+        ensures left { IsLeftWord self.limits pass.fibers pass.seen fiber result }
     {
         let Registry { table, limits: _ } = self;
         let Pass {
@@ -250,6 +268,3 @@ impl Registry {
         word
     }
 }
-
-#[cfg(test)]
-mod tests;

@@ -89,6 +89,8 @@ Finishes b o k = (c : Control) → InRange c → HasNoOutcome c → c.count < gr
 abbrev pub finish_sum : Bool → Outcome → ℕ
 finish_sum b o = 1 + 2 ^ 26 * (ended - bit b) + 2 ^ 28 * kind_of o + 2 ^ 32 * cast_unsigned w32 (value_of o)
 
--- the value or code has 32 bits
+-- the value or code of an outcome is one of 32 bits
 abbrev pub OutcomeFits : Outcome → Type 0
-OutcomeFits o = FitsSigned w32 (value_of o)
+OutcomeFits (Succeeded v) = FitsSigned w32 v
+OutcomeFits (Errored c) = FitsSigned w32 c
+OutcomeFits Canceled = Unit {0}

@@ -1,9 +1,9 @@
 pub mod Codes
 pub mod Slots
-pub mod Unsupported
 pub mod Counts
 pub mod Samples
 pub mod Rows
 pub mod Levels
+pub mod Coded
 pub mod Weights
 pub mod Texts

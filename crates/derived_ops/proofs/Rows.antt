@@ -1,29 +1,35 @@
 -- The further parts of a `seq`, read at the items of their `Vec`.
-use Rattle.std.proofs.Common.{◌≡◌, ◌+◌, ◌-◌, ◌≤◌, List, [], ◌∷◌, length, get_or, take, drop, ap, refl, arith}
-use Rattle.std.proofs.Math.Seq.{take_all}
+use Rattle.std.proofs.Common.{◌≡◌, ℕ, ◌+◌, ◌≤◌, ◌<◌, zero, suc, List, [], ◌∷◌, map, length, get_or, ap, refl, arith}
 use Rattle.effect_term.specs.declared.term.Term.{Term, Row_of-Term, end_of-Term, more_of-Term, items-the_row-Term}
-use Rattle.effect_term.specs.declared.term.Term.TheVariants.{Pure}
 use Rattle.effect_term.specs.ExpansionSize.{expansion_size_of, expansion_sizes_of, total_expansion_size}
+use Rattle.derived_ops.specs.declared.core_term.Core.{Core, Row_of-Core, end_of-Core, more_of-Core, items-the_row-Core}
+use Rattle.derived_ops.specs.Cores.{tree_of, sequence_of}
+use Rattle.derived_ops.specs.Expansion.{expansion}
+use Rattle.derived_ops.specs.Private.Sequences.{sources_in_order, trees_in_order}
+use Rattle.derived_ops.specs.Reading.{source_of, seq_of}
 use Rattle.derived_ops.specs.Source as word
 use Rattle.derived_ops.specs.Source.{Source}
-use Rattle.derived_ops.specs.Tree.{More}
-use Rattle.derived_ops.specs.Reading.{source_of, seq_of, sources_in_order}
+use Rattle.derived_ops.specs.Tree.{Tree, Seq, More}
 
 pub seq_of-row : (m : _) (a b : Source) (row : Row_of-Term m) → seq_of a b row ≡ sources_in_order a b (items-the_row-Term m row)
 seq_of-row _ a b end_of-Term = refl
 seq_of-row _ a b (more_of-Term t rest) = ap (λ s. word.Seq More a s) (seq_of-row _ b (source_of t) rest)
 
+-- the expansion of a sequence is that of its parts
+pub expansion_in_order : (m : List ℕ) (d : ℕ) (a b : Source) (ts : List Term) → expansion m d (sources_in_order a b ts) ≡ trees_in_order (expansion m d a) (expansion m d b) (map (λ t. expansion m d (source_of t)) ts)
+expansion_in_order m d a b [] = refl
+expansion_in_order m d a b (t ∷ ts) = ap (λ s. Seq More (expansion m d a) s) (expansion_in_order m d b (source_of t) ts)
+
+pub sequence_of-row : (m : _) (a b : Tree) (row : Row_of-Core m) → sequence_of a b row ≡ trees_in_order a b (map tree_of (items-the_row-Core m row))
+sequence_of-row _ a b end_of-Core = refl
+sequence_of-row _ a b (more_of-Core t rest) = ap (λ s. Seq More a s) (sequence_of-row _ b (tree_of t) rest)
+
 pub expansion_sizes_of-row : (m : _) (row : Row_of-Term m) → expansion_sizes_of row ≡ total_expansion_size (items-the_row-Term m row)
 expansion_sizes_of-row _ end_of-Term = refl
 expansion_sizes_of-row _ (more_of-Term t rest) = ap (λ n. expansion_size_of t + n) (expansion_sizes_of-row _ rest)
 
-pub one_word : (t : Term) → 1 ≤ expansion_size_of t
-one_word (Pure v) = omega arith
-one_word _ = omega arith
-
--- what the first of them leaves
-pub sizes_of-rest : (ts : List Term) (t : Term) → 1 ≤ length ts → t ≡ get_or ts 0 t → total_expansion_size ts ≡ expansion_size_of t + total_expansion_size (take (length ts - 1) (drop 1 ts))
-sizes_of-rest [] t l e = absurd (omega arith)
-sizes_of-rest (u ∷ ts) t l e =
-    let rest : take (length (u ∷ ts) - 1) (drop 1 (u ∷ ts)) ≡ ts = take_all (length (u ∷ ts) - 1) ts (omega arith) in
-    omega (arith, ap expansion_size_of e, ap total_expansion_size rest)
+-- one of some terms has no more words than they have together
+pub total-at : (ts : List Term) (i : ℕ) (t : Term) → i < length ts → t ≡ get_or ts i t → expansion_size_of t ≤ total_expansion_size ts
+total-at [] i t l e = absurd (omega (arith, l))
+total-at (u ∷ ts) zero t l e = omega (arith, ap expansion_size_of e)
+total-at (u ∷ ts) (suc i) t l e = omega (arith, total-at ts i t (omega (arith, l)) e)

@@ -18,26 +18,48 @@ in_three a b c = Seq More a (Seq Last b c)
 abbrev pub in_four : Tree → Tree → Tree → Tree → Tree
 in_four a b c e = Seq More a (Seq More b (Seq Last c e))
 
--- the release e of the bracket p failed: p is released, and the error that w binds goes on
+-- the term, whose error is dropped
+abbrev pub attempted : Tree → ℕ → Tree
+attempted e w = Handled e w nil
+
+-- the body e in the mask d, and then the case of its outcome, whose value or code has the slot w
+abbrev pub concluded : ℕ → ℕ → (e on_cancel on_error on_value : Tree) → Tree
+concluded d w e on_cancel on_error on_value =
+    Uncancelable d (Let (Handled (On_cancel e on_cancel) w on_error) w on_value)
+
+-- the finalizer stands three times, at its depth in each place
+abbrev pub guarantee : ℕ → (e on_cancel on_error on_value : Tree) → Tree
+guarantee d e on_cancel on_error on_value =
+    let failed = in_order (attempted on_error (d + 2)) (Raise (Slot (d + 1))) in
+    let done = in_order on_value (Pure (Slot (d + 1))) in
+    concluded d (d + 1) (Poll (Named d) e) on_cancel failed done
+
+-- the release e of the bracket p; where it fails, p is released, and the error that w binds goes on
 abbrev pub released_then_raised : Mask → Tree → ℕ → Tree
 released_then_raised p e w = Handled e w (in_order (Note Released p) (Raise (Slot w)))
 
-abbrev pub bracket_case : ℕ → Tree → Tree → Tree → Tree → Tree → Tree
+-- the release e of the bracket p between its marks, and then what goes on
+abbrev pub released_then : Mask → (e next : Tree) → Tree
+released_then p e next = in_four (Note Releasing p) e (Note Released p) next
+
+-- the release of the bracket p after its body was canceled, and after an error and a value of it, which has the slot w
+abbrev pub released_on_cancel : Mask → Tree → ℕ → Tree
+released_on_cancel p rc w = in_three (Note Releasing p) (released_then_raised p rc w) (Note Released p)
+
+abbrev pub released_on_error : Mask → Tree → (w v : ℕ) → Tree
+released_on_error p re w v = released_then p (attempted re v) (Raise (Slot w))
+
+abbrev pub released_on_value : Mask → Tree → (w v : ℕ) → Tree
+released_on_value p rs w v = released_then p (released_then_raised p rs v) (Pure (Slot w))
+
+abbrev pub bracket_case : ℕ → (acq body rs re rc : Tree) → Tree
 bracket_case d acq body rs re rc =
     let p = Named d in
-    let q = Named (d + 2) in
-    let canceled = in_three (Note Releasing p) (released_then_raised p rc (d + 3)) (Note Released p) in
-    let failed = in_four (Note Releasing p) (Handled re (d + 4) nil) (Note Released p) (Raise (Slot (d + 3))) in
-    let done = in_four (Note Releasing p) (released_then_raised p rs (d + 4)) (Note Released p) (Pure (Slot (d + 3))) in
-    Uncancelable d (Let acq (d + 1) (in_order (Note Acquired p) (Uncancelable (d + 2)
-    (Let (Handled (On_cancel (Poll q (Poll p body)) canceled) (d + 3) failed) (d + 3) done))))
-
--- the finalizer stands three times, at its depth in each place
-abbrev pub guarantee : ℕ → Tree → Tree → Tree → Tree → Tree
-guarantee d e on_cancel on_error on_value =
-    let failed = in_order (Handled on_error (d + 2) nil) (Raise (Slot (d + 1))) in
-    let done = in_order on_value (Pure (Slot (d + 1))) in
-    Uncancelable d (Let (Handled (On_cancel (Poll (Named d) e) on_cancel) (d + 1) failed) (d + 1) done)
+    let canceled = released_on_cancel p rc (d + 3) in
+    let failed = released_on_error p re (d + 3) (d + 4) in
+    let done = released_on_value p rs (d + 3) (d + 4) in
+    let used = concluded (d + 2) (d + 3) (Poll (Named (d + 2)) (Poll p body)) canceled failed done in
+    Uncancelable d (Let acq (d + 1) (in_order (Note Acquired p) used))
 
 -- waits for the end of f, whatever it is
 abbrev pub ended : ℕ → ℕ → Tree
@@ -59,12 +81,18 @@ cancels_both p =
     Start (p + 4) (Cancel (Open_slot (p + 2))) (Start (p + 5) (Cancel (Open_slot (p + 3)))
     (in_order (ended (p + 6) (p + 4)) (ended (p + 6) (p + 5))))
 
+-- waits below the poll for the side that ends first, and cancels both where the wait is cut
+abbrev pub race_winner : ℕ → Tree
+race_winner p = On_cancel (Poll (Named p) (Act (Await (Open_slot (p + 1))))) (cancels_both p)
+
+-- starts side z of the race with the deferred d in the fiber c, and goes on
+abbrev pub starts_side : (c d z : ℕ) → (e k : Tree) → Tree
+starts_side c d z e k = Start c (runs_side c d z e) k
+
 -- the pair race of the poll p: the deferred p + 1, the fibers p + 2 and p + 3, and in s the winner p + 4
-abbrev pub pair_race : ℕ → Tree → Tree → Tree → Tree
+abbrev pub pair_race : ℕ → (a b s : Tree) → Tree
 pair_race p a b s =
-    let winner = On_cancel (Poll (Named p) (Act (Await (Open_slot (p + 1))))) (cancels_both p) in
-    Make New_deferred (p + 1) (Start (p + 2) (runs_side (p + 2) (p + 1) 0 a)
-    (Start (p + 3) (runs_side (p + 3) (p + 1) 1 b) (Let winner (p + 4) s)))
+    Make New_deferred (p + 1) (starts_side (p + 2) (p + 1) 0 a (starts_side (p + 3) (p + 1) 1 b (Let (race_winner p) (p + 4) s)))
 
 -- waits for g below the poll, and cancels it where the wait is cut
 abbrev pub awaits : ℕ → ℕ → ℕ → Tree
@@ -78,30 +106,38 @@ race_side p c f g =
     Join (Open_slot f) c (in_order (Cancel loser) (Pure (Slot c))) c (in_order (Cancel loser) (Raise (Slot c)))
     (in_order (awaits p c g) other)
 
+-- what a race gives, by the winner d + 4
+abbrev pub race_outcome : ℕ → Tree
+race_outcome d = If0 (Slot (d + 4)) (race_side d (d + 5) (d + 2) (d + 3)) (race_side d (d + 5) (d + 3) (d + 2))
+
+abbrev pub race : ℕ → (a b : Tree) → Tree
+race d a b = Uncancelable d (pair_race d a b (race_outcome d))
+
+-- the other fiber of `both` has to give its value too, which has the slot c; first and second are the slots of the values
+abbrev pub both_values : (p r c g second first : ℕ) → Tree
+both_values p r c g second first =
+    let values = in_order (Act (Set (Open_slot r) (Slot second))) (Pure (Slot first)) in
+    in_order (awaits p c g) (Join (Open_slot g) c values c (Raise (Slot c)) (gives_up p))
+
 -- f has ended first, g is the other one; first and second are the slots of the values of the two sides
-abbrev pub both_side : ℕ → ℕ → ℕ → ℕ → ℕ → ℕ → ℕ → Tree
+abbrev pub both_side : (p r c f g second first : ℕ) → Tree
 both_side p r c f g second first =
     let other = Open_slot g in
-    let values = in_order (Act (Set (Open_slot r) (Slot second))) (Pure (Slot first)) in
-    Join (Open_slot f) c
-    (in_order (awaits p (c + 1) g) (Join other (c + 1) values (c + 1) (Raise (Slot (c + 1))) (gives_up p)))
+    Join (Open_slot f) c (both_values p r (c + 1) g second first)
     c (in_order (Cancel other) (Raise (Slot c)))
     (in_order (Cancel other) (gives_up p))
 
-abbrev pub race : ℕ → Tree → Tree → Tree
-race d a b =
-    let first = race_side d (d + 5) (d + 2) (d + 3) in
-    let second = race_side d (d + 5) (d + 3) (d + 2) in
-    Uncancelable d (pair_race d a b (If0 (Slot (d + 4)) first second))
+-- the value of the first side by the winner p + 4, with the second side's value in the ref r
+abbrev pub both_outcome : (p r : ℕ) → Tree
+both_outcome p r =
+    If0 (Slot (p + 4)) (both_side p r (p + 5) (p + 2) (p + 3) (p + 6) (p + 5)) (both_side p r (p + 5) (p + 3) (p + 2) (p + 5) (p + 6))
 
 -- the ref d holds the second value, below the poll d + 1
-abbrev pub both : ℕ → Tree → Tree → Tree → Tree
+abbrev pub both : ℕ → (a b k : Tree) → Tree
 both d a b k =
     let p = d + 1 in
-    let first = both_side p d (p + 5) (p + 2) (p + 3) (p + 6) (p + 5) in
-    let second = both_side p d (p + 5) (p + 3) (p + 2) (p + 5) (p + 6) in
     Make (New_ref (Number (pos 0))) d (Let
-    (Uncancelable p (pair_race p a b (If0 (Slot (p + 4)) first second)))
+    (Uncancelable p (pair_race p a b (both_outcome p d)))
     (d + 1)
     (Let (Act (Get (Open_slot d))) (d + 2) k))
 

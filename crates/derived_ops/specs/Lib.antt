@@ -6,8 +6,8 @@ pub mod Expansion
 pub mod Codes
 pub mod Counts
 pub mod Levels
-pub mod Supported
+pub mod Naming
 pub mod Stored
 pub mod Cores
 pub mod CoreText
-pub mod Heads
+pub mod Private

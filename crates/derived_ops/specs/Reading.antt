@@ -1,5 +1,4 @@
 -- The term of a program, read without its pointers.
-use Rattle.std.specs.Prelude.{List, [], ◌∷◌}
 use Rattle.effect_term.specs.declared.term.Operand.{Operand}
 use Rattle.effect_term.specs.declared.term.Operand.TheVariants as operand
 use Rattle.effect_term.specs.declared.term.Term.{Term, Row_of-Term, end_of-Term, more_of-Term}
@@ -51,8 +50,3 @@ abbrev mutual
   pub seq_of : {m : _} → Source → Source → Row_of-Term m → Source
   seq_of a b end_of-Term = word.Seq Last a b
   seq_of a b (more_of-Term c rest) = word.Seq More a (seq_of b (source_of c) rest)
-
--- the same, with the further parts in a list
-abbrev pub sources_in_order : Source → Source → List Term → Source
-sources_in_order a b [] = word.Seq Last a b
-sources_in_order a b (c ∷ rest) = word.Seq More a (sources_in_order b (source_of c) rest)

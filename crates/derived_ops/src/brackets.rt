@@ -2,7 +2,8 @@
 
 ghost use Rattle.std.specs.Prelude.{◌≡◌, ◌+◌, ◌<◌, ◌^◌, IfOk};
 ghost use Rattle.derived_ops.specs.Cores.{tree_of};
-ghost use Rattle.derived_ops.specs.Expansion.{guarantee, bracket_case, released_then_raised};
+ghost use Rattle.derived_ops.specs.Expansion.{attempted, bracket_case, concluded, guarantee, in_order, released_on_cancel, released_on_error, released_on_value, released_then, released_then_raised};
+ghost use Rattle.derived_ops.specs.Tree as tree;
 ghost use Rattle.derived_ops.specs.Tree.{Named};
 
 use crate::core_term::BracketMark::{Acquired, Released, Releasing};
@@ -10,25 +11,82 @@ use crate::core_term::{Core, Value};
 use crate::forms::{bound, finalized, handled, in_four, in_order, in_three, masked, nil, polled};
 use std::alloc::{AllocError, Global};
 
+/// What is done after each outcome of a body.
+#[derive(Drop)]
+pub(crate) struct Cases {
+    pub(crate) on_cancel: Core,
+    pub(crate) on_error: Core,
+    pub(crate) on_value: Core,
+}
+
+// The body in the mask of this slot, and then the case of its outcome, whose code or value has the
+// slot `outcome`.
+fn concluded(
+    alloc: Global,
+    slot: u32,
+    outcome: u32,
+    body: Core,
+    cases: Cases,
+) -> Result<Core, AllocError>
+    ensures { IfOk result (λ core. tree_of core
+        ≡ concluded slot outcome (tree_of body) (tree_of cases.on_cancel) (tree_of cases.on_error) (tree_of cases.on_value)) }
+{
+    let Cases {
+        on_cancel,
+        on_error,
+        on_value,
+    } = cases;
+    let guarded = finalized(alloc, body, on_cancel)?;
+    let handled = handled(alloc, guarded, outcome, on_error)?;
+    let whole = bound(alloc, handled, outcome, on_value)?;
+    masked(alloc, slot, whole)
+}
+
+// The term, whose error is dropped.
+fn attempted(alloc: Global, term: Core, slot: u32) -> Result<Core, AllocError>
+    ensures { IfOk result (λ core. tree_of core ≡ attempted (tree_of term) slot) }
+{
+    handled(alloc, term, slot, nil())
+}
+
+// What a guarantee does after each outcome of its body, by the finalizer for each.
+fn guarantee_cases(alloc: Global, slot: u32, finalizers: Cases) -> Result<Cases, AllocError>
+    requires { slot + 2 < 2 ^ 32 }
+    ensures on_cancel { IfOk result (λ cases. tree_of cases.on_cancel ≡ tree_of finalizers.on_cancel) }
+    ensures on_error { IfOk result (λ cases. tree_of cases.on_error
+        ≡ in_order (attempted (tree_of finalizers.on_error) (slot + 2)) (tree.Raise (tree.Slot (slot + 1)))) }
+    ensures on_value { IfOk result (λ cases. tree_of cases.on_value
+        ≡ in_order (tree_of finalizers.on_value) (tree.Pure (tree.Slot (slot + 1)))) }
+{
+    let Cases {
+        on_cancel,
+        on_error,
+        on_value,
+    } = finalizers;
+    let attempted = attempted(alloc, on_error, slot + 2)?;
+    let on_error = in_order(alloc, attempted, Core::Raise(Value::Slot(slot + 1)))?;
+    let on_value = in_order(alloc, on_value, Core::Pure(Value::Slot(slot + 1)))?;
+    Ok(Cases {
+        on_cancel,
+        on_error,
+        on_value,
+    })
+}
+
 /// The body, and after each of its outcomes the finalizer, which stands there at its own depth.
 pub(crate) fn guarantee(
     alloc: Global,
     slot: u32,
     body: Core,
-    on_cancel: Core,
-    on_error: Core,
-    on_value: Core,
+    finalizers: Cases,
 ) -> Result<Core, AllocError>
     requires { slot + 2 < 2 ^ 32 }
-    ensures { IfOk result (λ core.
-        tree_of core ≡ guarantee slot (tree_of body) (tree_of on_cancel) (tree_of on_error) (tree_of on_value)) }
+    ensures { IfOk result (λ core. tree_of core
+        ≡ guarantee slot (tree_of body) (tree_of finalizers.on_cancel) (tree_of finalizers.on_error) (tree_of finalizers.on_value)) }
 {
-    let attempted = handled(alloc, on_error, slot + 2, nil())?;
-    let failed = in_order(alloc, attempted, Core::Raise(Value::Slot(slot + 1)))?;
-    let done = in_order(alloc, on_value, Core::Pure(Value::Slot(slot + 1)))?;
-    let guarded = finalized(alloc, polled(alloc, slot, body)?, on_cancel)?;
-    let outcome = handled(alloc, guarded, slot + 1, failed)?;
-    masked(alloc, slot, bound(alloc, outcome, slot + 1, done)?)
+    let cases = guarantee_cases(alloc, slot, finalizers)?;
+    let polled = polled(alloc, slot, body)?;
+    concluded(alloc, slot, slot + 1, polled, cases)
 }
 
 // The release of a bracket. Where it fails, it is noted as ended, and its error goes on.
@@ -46,49 +104,123 @@ fn released_then_raised(
     handled(alloc, release, slot, raised)
 }
 
+// The release of a bracket between its marks, and then what goes on.
+fn released_then(alloc: Global, poll: u32, release: Core, next: Core) -> Result<Core, AllocError>
+    ensures { IfOk result (λ core.
+        tree_of core ≡ released_then (Named poll) (tree_of release) (tree_of next)) }
+{
+    let begun = Core::Note(Releasing, poll);
+    let ended = Core::Note(Released, poll);
+    in_four(alloc, begun, release, ended, next)
+}
+
+// The release of a bracket whose body was canceled.
+fn released_on_cancel(
+    alloc: Global,
+    poll: u32,
+    release: Core,
+    slot: u32,
+) -> Result<Core, AllocError>
+    ensures { IfOk result (λ core.
+        tree_of core ≡ released_on_cancel (Named poll) (tree_of release) slot) }
+{
+    let release = released_then_raised(alloc, poll, release, slot)?;
+    let begun = Core::Note(Releasing, poll);
+    in_three(alloc, begun, release, Core::Note(Released, poll))
+}
+
+// The release of a bracket after its body's error, which goes on whatever the release gives.
+fn released_on_error(
+    alloc: Global,
+    poll: u32,
+    release: Core,
+    error: u32,
+    slot: u32,
+) -> Result<Core, AllocError>
+    ensures { IfOk result (λ core.
+        tree_of core ≡ released_on_error (Named poll) (tree_of release) error slot) }
+{
+    let release = attempted(alloc, release, slot)?;
+    released_then(alloc, poll, release, Core::Raise(Value::Slot(error)))
+}
+
+// The release of a bracket after its body's value, which goes on unless the release fails.
+fn released_on_value(
+    alloc: Global,
+    poll: u32,
+    release: Core,
+    value: u32,
+    slot: u32,
+) -> Result<Core, AllocError>
+    ensures { IfOk result (λ core.
+        tree_of core ≡ released_on_value (Named poll) (tree_of release) value slot) }
+{
+    let release = released_then_raised(alloc, poll, release, slot)?;
+    released_then(alloc, poll, release, Core::Pure(Value::Slot(value)))
+}
+
+// What a bracket does after each outcome of its body, by the release for each.
+fn bracket_cases(alloc: Global, poll: u32, releases: Cases) -> Result<Cases, AllocError>
+    requires { poll + 4 < 2 ^ 32 }
+    ensures on_cancel { IfOk result (λ cases. tree_of cases.on_cancel
+        ≡ released_on_cancel (Named poll) (tree_of releases.on_cancel) (poll + 3)) }
+    ensures on_error { IfOk result (λ cases. tree_of cases.on_error
+        ≡ released_on_error (Named poll) (tree_of releases.on_error) (poll + 3) (poll + 4)) }
+    ensures on_value { IfOk result (λ cases. tree_of cases.on_value
+        ≡ released_on_value (Named poll) (tree_of releases.on_value) (poll + 3) (poll + 4)) }
+{
+    let Cases {
+        on_cancel,
+        on_error,
+        on_value,
+    } = releases;
+    let on_cancel = released_on_cancel(alloc, poll, on_cancel, poll + 3)?;
+    let on_error = released_on_error(alloc, poll, on_error, poll + 3, poll + 4)?;
+    let on_value = released_on_value(alloc, poll, on_value, poll + 3, poll + 4)?;
+    Ok(Cases {
+        on_cancel,
+        on_error,
+        on_value,
+    })
+}
+
+// The body of a bracket, for which both of its masks are undone.
+fn opened(alloc: Global, outer: u32, inner: u32, body: Core) -> Result<Core, AllocError>
+    ensures { IfOk result (λ core.
+        tree_of core ≡ tree.Poll (Named inner) (tree.Poll (Named outer) (tree_of body))) }
+{
+    let opened = polled(alloc, outer, body)?;
+    polled(alloc, inner, opened)
+}
+
+// The use of what was acquired, and its release.
+fn used(alloc: Global, slot: u32, body: Core, releases: Cases) -> Result<Core, AllocError>
+    requires { slot + 4 < 2 ^ 32 }
+    ensures { IfOk result (λ core. tree_of core
+        ≡ concluded (slot + 2) (slot + 3) (tree.Poll (Named (slot + 2)) (tree.Poll (Named slot) (tree_of body)))
+        (released_on_cancel (Named slot) (tree_of releases.on_cancel) (slot + 3))
+        (released_on_error (Named slot) (tree_of releases.on_error) (slot + 3) (slot + 4))
+        (released_on_value (Named slot) (tree_of releases.on_value) (slot + 3) (slot + 4))) }
+{
+    let cases = bracket_cases(alloc, slot, releases)?;
+    let opened = opened(alloc, slot, slot + 2, body)?;
+    concluded(alloc, slot + 2, slot + 3, opened, cases)
+}
+
 /// What was acquired is used by the body, and released by the outcome's case.
 pub(crate) fn bracket_case(
     alloc: Global,
     slot: u32,
     acquired: Core,
     body: Core,
-    on_value: Core,
-    on_error: Core,
-    on_cancel: Core,
+    releases: Cases,
 ) -> Result<Core, AllocError>
     requires { slot + 4 < 2 ^ 32 }
-    ensures { IfOk result (λ core.
-        tree_of core ≡ bracket_case slot (tree_of acquired) (tree_of body) (tree_of on_value) (tree_of on_error) (tree_of on_cancel)) }
+    ensures { IfOk result (λ core. tree_of core
+        ≡ bracket_case slot (tree_of acquired) (tree_of body) (tree_of releases.on_value) (tree_of releases.on_error) (tree_of releases.on_cancel)) }
 {
-    let on_cancel = released_then_raised(alloc, slot, on_cancel, slot + 3)?;
-    let canceled = in_three(
-        alloc,
-        Core::Note(Releasing, slot),
-        on_cancel,
-        Core::Note(Released, slot),
-    )?;
-    let on_error = handled(alloc, on_error, slot + 4, nil())?;
-    let raised = Core::Raise(Value::Slot(slot + 3));
-    let failed = in_four(
-        alloc,
-        Core::Note(Releasing, slot),
-        on_error,
-        Core::Note(Released, slot),
-        raised,
-    )?;
-    let on_value = released_then_raised(alloc, slot, on_value, slot + 4)?;
-    let given = Core::Pure(Value::Slot(slot + 3));
-    let done = in_four(
-        alloc,
-        Core::Note(Releasing, slot),
-        on_value,
-        Core::Note(Released, slot),
-        given,
-    )?;
-    let polled_body = polled(alloc, slot + 2, polled(alloc, slot, body)?)?;
-    let guarded = finalized(alloc, polled_body, canceled)?;
-    let outcome = handled(alloc, guarded, slot + 3, failed)?;
-    let used = masked(alloc, slot + 2, bound(alloc, outcome, slot + 3, done)?)?;
+    let used = used(alloc, slot, body, releases)?;
     let noted = in_order(alloc, Core::Note(Acquired, slot), used)?;
-    masked(alloc, slot, bound(alloc, acquired, slot + 1, noted)?)
+    let whole = bound(alloc, acquired, slot + 1, noted)?;
+    masked(alloc, slot, whole)
 }

@@ -1,6 +1,6 @@
 //! The code of a program.
 
-ghost use Rattle.std.specs.Prelude.{◌≡◌, ◌≤◌, IfOk};
+ghost use Rattle.std.specs.Prelude.{◌≡◌, ◌≤◌, [], IfOk};
 ghost use Rattle.effect_term.specs.ExpansionSize.{expansion_size_of};
 ghost use Rattle.effect_term.specs.Masks.{masks_of};
 ghost use Rattle.derived_ops.specs.Codes.{IsCode};
@@ -8,12 +8,11 @@ ghost use Rattle.derived_ops.specs.Cores.{tree_of};
 ghost use Rattle.derived_ops.specs.Counts.{words, masks};
 ghost use Rattle.derived_ops.specs.Expansion.{code_of};
 ghost use Rattle.derived_ops.specs.Levels.{Levelled};
+ghost use Rattle.derived_ops.specs.Naming.{Given, Named};
 ghost use Rattle.derived_ops.specs.Reading.{source_of};
-ghost use Rattle.derived_ops.specs.Supported.{supported};
 
 use crate::core_term::Core;
 use crate::expansion::Scope;
-use crate::supported::has_supported_words;
 use effect_term::Program;
 use std::alloc::{AllocError, Global};
 use std::marker::Model;
@@ -45,24 +44,18 @@ impl Model for Code {
 
 impl Code {
     /// The term of this code. The slot of each binder in it is the number of binders around that
-    /// one, and it has at most 1,000,000 words and marks.
-    #[tactic(auto, using(crate::proofs::Levels::levelled_code, crate::proofs::Counts::small_code))]
+    /// one, and it has at most 1,000,000 words and marks. It names a fiber, a ref or a deferred by the
+    /// slot of a binder of that kind alone, whatever numbers are given.
+    #[tactic(auto, using(crate::proofs::Levels::levelled_code, crate::proofs::Coded::named_code, crate::proofs::Counts::small_code))]
     pub fn core(&self) -> &Core
         ensures term { tree_of result.now ≡ self.now }
         ensures code { IsCode self.now }
         ensures levelled { Levelled 0 self.now }
+        ensures named { (given : Given) → Named given [] self.now }
         ensures small { words self.now ≤ 1000000 }
     {
         &self.core
     }
-}
-
-/// Whether all words of the program are among the six words `pure`, `let`, `say`, `canceled`,
-/// `uncancelable` and `poll`.
-pub fn is_supported(program: &Program) -> bool
-    ensures { result ≡ supported (source_of program.now) }
-{
-    has_supported_words(program.term())
 }
 
 /// The code of a program, or `AllocError` where memory is refused.

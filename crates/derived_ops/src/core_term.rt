@@ -64,20 +64,11 @@ pub enum Turns {
     Always,
 }
 
-/// What stands after the first part of a sequence.
-#[derive(Clone, Copy, PartialEq, Eq, Debug)]
-pub enum Rest {
-    /// The last part.
-    Last,
-    /// Two or more parts, which are again a sequence.
-    More,
-}
-
 /// A term of core words and the marks of brackets.
 ///
 /// The slot that a form binds stands before the part that it is bound in. A slot is the number of
 /// binders around its own binder, in the whole term.
-#[derive(PartialEq, Drop)]
+#[derive(Drop)]
 pub enum Core {
     /// Gives the value.
     Pure(Value),
@@ -91,8 +82,8 @@ pub enum Core {
     Cancel(u32),
     /// The first term, and then the second, which binds the first one's value.
     Let(Box<Core>, u32, Box<Core>),
-    /// The first term, and then what stands after it.
-    Seq(Rest, Box<Core>, Box<Core>),
+    /// Two or more terms in order. Gives the last one's value.
+    Seq(Box<Core>, Box<Core>, Vec<Core>),
     /// The term, and where it raises the handler, which binds the code.
     Handle(Box<Core>, u32, Box<Core>),
     /// The first term where the value is 0, else the second.

@@ -1,13 +1,14 @@
 //! The text of a code.
 
-ghost use Rattle.std.specs.Prelude.{◌≡◌, ◌++◌, [], ◌∷◌, IfOk, OnOk, codes, string_bytes};
-ghost use Rattle.derived_ops.specs.Cores.{action_in_core, bracket_mark_of, rest_of, tree_of, value_in_core};
-ghost use Rattle.derived_ops.specs.CoreText.{action_text, core_text, form, mark_text, poll_text, sequence_text, spaced, text_in, value_text};
-ghost use Rattle.derived_ops.specs.Heads.{head_text};
+ghost use Rattle.std.specs.Prelude.{◌≡◌, ◌++◌, [], ◌∷◌, map, IfOk, OnOk, codes, string_bytes};
+ghost use Rattle.derived_ops.specs.Cores.{action_in_core, bracket_mark_of, maker_in_core, tree_of, turns_in_core, value_in_core};
+ghost use Rattle.derived_ops.specs.CoreText.{action_text, core_text, form, mark_text, poll_text, value_text};
+ghost use Rattle.derived_ops.specs.Private.Heads.{head_text, maker_text, turns_text};
+ghost use Rattle.derived_ops.specs.Private.Sequences.{trees_in_order};
 ghost use Rattle.derived_ops.specs.Tree as tree;
 
 use crate::code::Code;
-use crate::core_term::{Action, BracketMark, Core, Maker, Rest, Turns, Value};
+use crate::core_term::{Action, BracketMark, Core, Maker, Turns, Value};
 use std::alloc::{AllocError, Global};
 
 /// What stands in a form before its parts: text that ends in a slot or a value, or in neither.
@@ -90,10 +91,33 @@ fn push_mark(text: &mut String, mark: BracketMark, poll: u32) -> Result<(), Allo
     }
 }
 
-// Writes a term, and behind `More` what is left of the sequence in which it stands.
+// Writes what stands before the part of a term that makes a cell.
+fn push_maker(text: &mut String, maker: Maker, slot: u32) -> Result<(), AllocError>
+    ensures { OnOk result (string_bytes text.new ≡ string_bytes text.old ++ maker_text (maker_in_core maker) slot) }
+{
+    match maker {
+        Maker::Ref(value) => {
+            push_head(text, Head::Named("(ref r", slot))?;
+            push_head(text, Head::Valued(" ", value))
+        }
+        Maker::Deferred => push_head(text, Head::Named("(deferred d", slot)),
+    }
+}
+
+// Writes what stands before the part of a loop.
+fn push_turns(text: &mut String, turns: Turns) -> Result<(), AllocError>
+    ensures { OnOk result (string_bytes text.new ≡ string_bytes text.old ++ turns_text (turns_in_core turns)) }
+{
+    match turns {
+        Turns::Times(value) => push_head(text, Head::Valued("(repeat ", value)),
+        Turns::Always => push_head(text, Head::Plain("(forever")),
+    }
+}
+
 #[cycle(printing)]
-fn push_core(text: &mut String, core: &Core, place: Rest) -> Result<(), AllocError>
-    ensures { OnOk result (string_bytes text.new ≡ string_bytes text.old ++ text_in (rest_of place) (tree_of core.now)) }
+#[tactic(auto, using(crate::proofs::Texts::looped_written))]
+fn push_core(text: &mut String, core: &Core) -> Result<(), AllocError>
+    ensures { OnOk result (string_bytes text.new ≡ string_bytes text.old ++ core_text (tree_of core.now)) }
 {
     match core {
         Core::Pure(v) => push_word(text, Head::Valued("(pure ", *v)),
@@ -102,7 +126,7 @@ fn push_core(text: &mut String, core: &Core, place: Rest) -> Result<(), AllocErr
         Core::Note(mark, p) => push_mark(text, *mark, *p),
         Core::Cancel(f) => push_word(text, Head::Named("(cancel f", *f)),
         Core::Let(e, x, k) => push_two(text, Head::Named("(let v", *x), e, k),
-        Core::Seq(rest, e, k) => push_sequence(text, place, *rest, e, k),
+        Core::Seq(a, b, more) => push_sequence(text, a, b, more),
         Core::Handle(e, x, h) => {
             push_part(text, Head::Plain("(handle"), e)?;
             push_one(text, Head::Named(" v", *x), h)
@@ -113,39 +137,36 @@ fn push_core(text: &mut String, core: &Core, place: Rest) -> Result<(), AllocErr
             push_part(text, Head::Named(" v", *x), s)?;
             push_two(text, Head::Named(" v", *y), e, c)
         }
-        Core::Make(Maker::Ref(v), r, k) => {
-            push_head(text, Head::Named("(ref r", *r))?;
-            push_one(text, Head::Valued(" ", *v), k)
+        Core::Make(maker, slot, k) => {
+            push_maker(text, *maker, *slot)?;
+            push_one(text, Head::Plain(""), k)
         }
-        Core::Make(Maker::Deferred, d, k) => push_one(text, Head::Named("(deferred d", *d), k),
         Core::Start(f, e, k) => push_two(text, Head::Named("(start f", *f), e, k),
-        Core::Loop(Turns::Times(v), e) => push_one(text, Head::Valued("(repeat ", *v), e),
-        Core::Loop(Turns::Always, e) => push_one(text, Head::Plain("(forever"), e),
+        Core::Loop(turns, e) => {
+            push_turns(text, *turns)?;
+            push_one(text, Head::Plain(""), e)
+        }
         Core::Uncancelable(p, e) => push_one(text, Head::Named("(uncancelable p", *p), e),
         Core::Poll(p, e) => push_one(text, Head::Named("(poll p", *p), e),
         Core::OnCancel(e, fin) => push_two(text, Head::Plain("(oncancel"), e, fin),
     }
 }
 
-// Writes a sequence, whose brackets are those of the sequence in which it stands, if there is one.
+// Writes a sequence of two parts and these.
 #[cycle(printing)]
 fn push_sequence(
     text: &mut String,
-    place: Rest,
-    rest: Rest,
     first: &Core,
-    next: &Core,
+    second: &Core,
+    more: &[Core],
 ) -> Result<(), AllocError>
-    ensures { OnOk result (string_bytes text.new ≡ string_bytes text.old ++ sequence_text (rest_of place) (spaced (text_in tree.Last (tree_of first.now) ∷ text_in (rest_of rest) (tree_of next.now) ∷ []))) }
+    ensures { OnOk result (string_bytes text.new ≡ string_bytes text.old ++ core_text (trees_in_order (tree_of first.now) (tree_of second.now) (map tree_of more.now))) }
 {
-    if place == Rest::More {
-        push_core(text, first, Rest::Last)?;
-        text.push_str(" ")?;
-        return push_core(text, next, rest);
-    }
     push_part(text, Head::Plain("(seq"), first)?;
-    text.push_str(" ")?;
-    push_core(text, next, rest)?;
+    push_part(text, Head::Plain(""), second)?;
+    for part in more {
+        push_part(text, Head::Plain(""), part)?;
+    }
     text.push_str(")")
 }
 
@@ -156,7 +177,7 @@ fn push_part(text: &mut String, head: Head, part: &Core) -> Result<(), AllocErro
 {
     push_head(text, head)?;
     text.push_str(" ")?;
-    push_core(text, part, Rest::Last)
+    push_core(text, part)
 }
 
 // Writes a head and the last part of a form.
@@ -186,6 +207,6 @@ pub fn print_core(alloc: Global, code: &Code) -> Result<Vec<u8>, AllocError>
     ensures { IfOk result (λ text. text.items ≡ core_text code.now) }
 {
     let mut text = String::new(alloc);
-    push_core(&mut text, code.core(), Rest::Last)?;
+    push_core(&mut text, code.core())?;
     Ok(text.into_bytes())
 }

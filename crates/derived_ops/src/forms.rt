@@ -1,11 +1,12 @@
 //! Core terms from their parts, which are put in boxes.
 
-ghost use Rattle.std.specs.Prelude.{◌≡◌, IfOk};
-ghost use Rattle.derived_ops.specs.Cores.{tree_of, value_in_core, maker_in_core, turns_in_core, rest_of};
+ghost use Rattle.std.specs.Prelude.{◌≡◌, map, IfOk};
+ghost use Rattle.derived_ops.specs.Cores.{tree_of, value_in_core, maker_in_core, turns_in_core};
 ghost use Rattle.derived_ops.specs.Expansion.{nil, in_order, in_three, in_four};
+ghost use Rattle.derived_ops.specs.Private.Sequences.{trees_in_order};
 ghost use Rattle.derived_ops.specs.Tree as tree;
 
-use crate::core_term::{Core, Maker, Rest, Turns, Value};
+use crate::core_term::{Core, Maker, Turns, Value};
 use std::alloc::{AllocError, Global};
 
 /// Gives 0.
@@ -21,29 +22,31 @@ pub(crate) fn bound(alloc: Global, first: Core, slot: u32, next: Core) -> Result
     Ok(Core::Let(Box::new(alloc, first)?, slot, Box::new(alloc, next)?))
 }
 
+/// A sequence of two parts and more.
 pub(crate) fn sequence(
     alloc: Global,
-    rest: Rest,
     first: Core,
-    next: Core,
+    second: Core,
+    more: Vec<Core>,
 ) -> Result<Core, AllocError>
-    ensures { IfOk result (λ core. tree_of core ≡ tree.Seq (rest_of rest) (tree_of first) (tree_of next)) }
+    ensures { IfOk result (λ core. tree_of core ≡ trees_in_order (tree_of first) (tree_of second) (map tree_of more.items)) }
 {
-    Ok(Core::Seq(rest, Box::new(alloc, first)?, Box::new(alloc, next)?))
+    Ok(Core::Seq(Box::new(alloc, first)?, Box::new(alloc, second)?, more))
 }
 
 /// A sequence of two parts.
 pub(crate) fn in_order(alloc: Global, first: Core, next: Core) -> Result<Core, AllocError>
     ensures { IfOk result (λ core. tree_of core ≡ in_order (tree_of first) (tree_of next)) }
 {
-    sequence(alloc, Rest::Last, first, next)
+    sequence(alloc, first, next, Vec::new(alloc))
 }
 
 /// A sequence of three parts.
 pub(crate) fn in_three(alloc: Global, a: Core, b: Core, c: Core) -> Result<Core, AllocError>
     ensures { IfOk result (λ core. tree_of core ≡ in_three (tree_of a) (tree_of b) (tree_of c)) }
 {
-    sequence(alloc, Rest::More, a, in_order(alloc, b, c)?)
+    let more = vec![in alloc; c]?;
+    sequence(alloc, a, b, more)
 }
 
 /// A sequence of four parts.
@@ -51,7 +54,8 @@ pub(crate) fn in_four(alloc: Global, a: Core, b: Core, c: Core, d: Core) -> Resu
     ensures { IfOk result (λ core.
         tree_of core ≡ in_four (tree_of a) (tree_of b) (tree_of c) (tree_of d)) }
 {
-    sequence(alloc, Rest::More, a, in_three(alloc, b, c, d)?)
+    let more = vec![in alloc; c, d]?;
+    sequence(alloc, a, b, more)
 }
 
 pub(crate) fn handled(

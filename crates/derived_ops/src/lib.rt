@@ -4,8 +4,8 @@
 //! words, and [`print_core`] gives its text. The crate stands on `effect_term`. Its definitions are
 //! the terms that a running fiber has, substitution in them, what each word of a program stands for,
 //! and the text of a code; it promises that a `Code` is the expansion of a program, with the words
-//! and masks that were counted on it, and that the slot of each binder in it is the number of
-//! binders around that one.
+//! and masks that were counted on it, that the slot of each binder in it is the number of binders
+//! around that one, and that a term is refused by the counts of its expansion ([`program_of`]).
 #![tactic(auto)]
 
 mod brackets;
@@ -14,12 +14,10 @@ mod core_term;
 mod core_text;
 mod expansion;
 mod forms;
+mod program;
 mod races;
-mod supported;
 
-pub use code::{Code, expand, is_supported};
-pub use core_term::{Action, BracketMark, Core, Maker, Rest, Turns, Value};
+pub use code::{Code, expand};
+pub use core_term::{Action, BracketMark, Core, Maker, Turns, Value};
 pub use core_text::print_core;
-
-#[cfg(test)]
-mod tests;
+pub use program::program_of;

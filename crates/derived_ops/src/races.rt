@@ -2,9 +2,10 @@
 
 ghost use Rattle.std.specs.Prelude.{◌≡◌, ◌+◌, ◌<◌, ◌^◌, IfOk};
 ghost use Rattle.derived_ops.specs.Cores.{tree_of};
-ghost use Rattle.derived_ops.specs.Expansion.{ended, gives_up, runs_side, cancels_both, pair_race, awaits, race_side, both_side, race, both};
+ghost use Rattle.derived_ops.specs.Expansion.{awaits, both, both_outcome, both_side, both_values, cancels_both, ended, gives_up, in_order, pair_race, race, race_outcome, race_side, race_winner, runs_side, starts_side};
+ghost use Rattle.derived_ops.specs.Tree as tree;
 
-use crate::brackets::guarantee;
+use crate::brackets::{Cases, guarantee};
 use crate::core_term::{Action, Core, Maker, Value};
 use crate::forms::{
     bound, chosen, finalized, in_order, joined, made, masked, nil, polled, started,
@@ -38,14 +39,21 @@ fn runs_side(
     ensures { IfOk result (λ core. tree_of core ≡ runs_side slot deferred side (tree_of body)) }
 {
     let done = Action::Complete(deferred, Value::Number(i32::from(side)));
-    guarantee(
-        alloc,
-        slot,
-        body,
-        Core::Act(done),
-        Core::Act(done),
-        Core::Act(done),
-    )
+    let finalizers = Cases {
+        on_cancel: Core::Act(done),
+        on_error: Core::Act(done),
+        on_value: Core::Act(done),
+    };
+    guarantee(alloc, slot, body, finalizers)
+}
+
+// Waits for the ends of both fibers.
+fn both_ended(alloc: Global, slot: u32, first: u32, second: u32) -> Result<Core, AllocError>
+    ensures { IfOk result (λ core. tree_of core ≡ in_order (ended slot first) (ended slot second)) }
+{
+    let first = ended(alloc, slot, first)?;
+    let second = ended(alloc, slot, second)?;
+    in_order(alloc, first, second)
 }
 
 // Cancels both sides at once, and waits for them.
@@ -53,11 +61,46 @@ fn cancels_both(alloc: Global, poll: u32) -> Result<Core, AllocError>
     requires { poll + 6 < 2 ^ 32 }
     ensures { IfOk result (λ core. tree_of core ≡ cancels_both poll) }
 {
-    let first = ended(alloc, poll + 6, poll + 4)?;
-    let second = ended(alloc, poll + 6, poll + 5)?;
-    let waits = in_order(alloc, first, second)?;
+    let waits = both_ended(alloc, poll + 6, poll + 4, poll + 5)?;
     let other = started(alloc, poll + 5, Core::Cancel(poll + 3), waits)?;
     started(alloc, poll + 4, Core::Cancel(poll + 2), other)
+}
+
+// Waits below the poll for the side that ends first, and cancels both where the wait is cut.
+fn race_winner(alloc: Global, poll: u32) -> Result<Core, AllocError>
+    requires { poll + 6 < 2 ^ 32 }
+    ensures { IfOk result (λ core. tree_of core ≡ race_winner poll) }
+{
+    let awaited = polled(alloc, poll, Core::Act(Action::Await(poll + 1)))?;
+    let canceled = cancels_both(alloc, poll)?;
+    finalized(alloc, awaited, canceled)
+}
+
+// Binds the winner in `next`.
+fn decided(alloc: Global, poll: u32, next: Core) -> Result<Core, AllocError>
+    requires { poll + 6 < 2 ^ 32 }
+    ensures { IfOk result (λ core.
+        tree_of core ≡ tree.Let (race_winner poll) (poll + 4) (tree_of next)) }
+{
+    let winner = race_winner(alloc, poll)?;
+    bound(alloc, winner, poll + 4, next)
+}
+
+// Starts a side of the race in a fiber of its own, and goes on.
+fn starts_side(
+    alloc: Global,
+    slot: u32,
+    deferred: u32,
+    side: u8,
+    body: Core,
+    next: Core,
+) -> Result<Core, AllocError>
+    requires { slot + 2 < 2 ^ 32 }
+    ensures { IfOk result (λ core.
+        tree_of core ≡ starts_side slot deferred side (tree_of body) (tree_of next)) }
+{
+    let runs = runs_side(alloc, slot, deferred, side, body)?;
+    started(alloc, slot, runs, next)
 }
 
 // The pair race of the poll: the slots after the poll's are those of the deferred, the two fibers,
@@ -67,26 +110,37 @@ fn pair_race(alloc: Global, poll: u32, a: Core, b: Core, next: Core) -> Result<C
     ensures { IfOk result (λ core.
         tree_of core ≡ pair_race poll (tree_of a) (tree_of b) (tree_of next)) }
 {
-    let first = runs_side(alloc, poll + 2, poll + 1, 0, a)?;
-    let second = runs_side(alloc, poll + 3, poll + 1, 1, b)?;
-    let awaited = polled(alloc, poll, Core::Act(Action::Await(poll + 1)))?;
-    let winner = finalized(alloc, awaited, cancels_both(alloc, poll)?)?;
-    let decided = bound(alloc, winner, poll + 4, next)?;
-    let both_run = started(alloc, poll + 3, second, decided)?;
-    made(
-        alloc,
-        Maker::Deferred,
-        poll + 1,
-        started(alloc, poll + 2, first, both_run)?,
-    )
+    let decided = decided(alloc, poll, next)?;
+    let second = starts_side(alloc, poll + 3, poll + 1, 1, b, decided)?;
+    let first = starts_side(alloc, poll + 2, poll + 1, 0, a, second)?;
+    made(alloc, Maker::Deferred, poll + 1, first)
 }
 
 // Waits for the fiber below the poll, and cancels it where the wait is cut.
 fn awaits(alloc: Global, poll: u32, slot: u32, fiber: u32) -> Result<Core, AllocError>
     ensures { IfOk result (λ core. tree_of core ≡ awaits poll slot fiber) }
 {
-    let waited = polled(alloc, poll, ended(alloc, slot, fiber)?)?;
+    let ended = ended(alloc, slot, fiber)?;
+    let waited = polled(alloc, poll, ended)?;
     finalized(alloc, waited, Core::Cancel(fiber))
+}
+
+// Waits for the fiber, and goes on with these on its value and on its error.
+fn awaited(
+    alloc: Global,
+    poll: u32,
+    slot: u32,
+    fiber: u32,
+    on_value: Core,
+    on_error: Core,
+) -> Result<Core, AllocError>
+    ensures { IfOk result (λ core. tree_of core ≡ in_order (awaits poll slot fiber)
+        (tree.Join (tree.Open_slot fiber) slot (tree_of on_value) slot (tree_of on_error) (gives_up poll))) }
+{
+    let canceled = gives_up(alloc, poll)?;
+    let ended = joined(alloc, fiber, slot, on_value, on_error, canceled)?;
+    let awaited = awaits(alloc, poll, slot, fiber)?;
+    in_order(alloc, awaited, ended)
 }
 
 // What a race gives where `winner` has ended first.
@@ -99,20 +153,54 @@ fn race_side(
 ) -> Result<Core, AllocError>
     ensures { IfOk result (λ core. tree_of core ≡ race_side poll slot winner loser) }
 {
-    let outcome = Value::Slot(slot);
-    let no_winner = gives_up(alloc, poll)?;
-    let other = joined(
-        alloc,
-        loser,
-        slot,
-        Core::Pure(outcome),
-        Core::Raise(outcome),
-        no_winner,
-    )?;
-    let canceled = in_order(alloc, awaits(alloc, poll, slot, loser)?, other)?;
-    let succeeded = in_order(alloc, Core::Cancel(loser), Core::Pure(outcome))?;
-    let errored = in_order(alloc, Core::Cancel(loser), Core::Raise(outcome))?;
+    let value = Core::Pure(Value::Slot(slot));
+    let error = Core::Raise(Value::Slot(slot));
+    let canceled = awaited(alloc, poll, slot, loser, value, error)?;
+    let value = Core::Pure(Value::Slot(slot));
+    let succeeded = in_order(alloc, Core::Cancel(loser), value)?;
+    let error = Core::Raise(Value::Slot(slot));
+    let errored = in_order(alloc, Core::Cancel(loser), error)?;
     joined(alloc, winner, slot, succeeded, errored, canceled)
+}
+
+// What a race gives, by its winner.
+fn race_outcome(alloc: Global, poll: u32) -> Result<Core, AllocError>
+    requires { poll + 6 < 2 ^ 32 }
+    ensures { IfOk result (λ core. tree_of core ≡ race_outcome poll) }
+{
+    let first = race_side(alloc, poll, poll + 5, poll + 2, poll + 3)?;
+    let second = race_side(alloc, poll, poll + 5, poll + 3, poll + 2)?;
+    chosen(alloc, Value::Slot(poll + 4), first, second)
+}
+
+/// The outcome of the side that ends first, and of the other one where that was canceled.
+pub(crate) fn race(alloc: Global, slot: u32, a: Core, b: Core) -> Result<Core, AllocError>
+    requires { slot + 6 < 2 ^ 32 }
+    ensures { IfOk result (λ core. tree_of core ≡ race slot (tree_of a) (tree_of b)) }
+{
+    let outcome = race_outcome(alloc, slot)?;
+    let raced = pair_race(alloc, slot, a, b, outcome)?;
+    masked(alloc, slot, raced)
+}
+
+// Waits for the other fiber's value, and gives the value in the slot `first`, once the value in the
+// slot `second` is in the ref.
+fn both_values(
+    alloc: Global,
+    poll: u32,
+    kept: u32,
+    slot: u32,
+    other: u32,
+    second: u32,
+    first: u32,
+) -> Result<Core, AllocError>
+    ensures { IfOk result (λ core.
+        tree_of core ≡ both_values poll kept slot other second first) }
+{
+    let set = Core::Act(Action::Set(kept, Value::Slot(second)));
+    let values = in_order(alloc, set, Core::Pure(Value::Slot(first)))?;
+    let error = Core::Raise(Value::Slot(slot));
+    awaited(alloc, poll, slot, other, values, error)
 }
 
 // What `both` gives where `early` has ended first: the value in the slot `first`, once the value in
@@ -131,32 +219,35 @@ fn both_side(
     ensures { IfOk result (λ core.
         tree_of core ≡ both_side poll kept slot early late second first) }
 {
-    let set = Core::Act(Action::Set(kept, Value::Slot(second)));
-    let values = in_order(alloc, set, Core::Pure(Value::Slot(first)))?;
-    let failed = Core::Raise(Value::Slot(slot + 1));
-    let both_end = joined(
-        alloc,
-        late,
-        slot + 1,
-        values,
-        failed,
-        gives_up(alloc, poll)?,
-    )?;
-    let succeeded = in_order(alloc, awaits(alloc, poll, slot + 1, late)?, both_end)?;
-    let errored = in_order(alloc, Core::Cancel(late), Core::Raise(Value::Slot(slot)))?;
-    let canceled = in_order(alloc, Core::Cancel(late), gives_up(alloc, poll)?)?;
+    let succeeded = both_values(alloc, poll, kept, slot + 1, late, second, first)?;
+    let error = Core::Raise(Value::Slot(slot));
+    let errored = in_order(alloc, Core::Cancel(late), error)?;
+    let given_up = gives_up(alloc, poll)?;
+    let canceled = in_order(alloc, Core::Cancel(late), given_up)?;
     joined(alloc, early, slot, succeeded, errored, canceled)
 }
 
-/// The outcome of the side that ends first, and of the other one where that was canceled.
-pub(crate) fn race(alloc: Global, slot: u32, a: Core, b: Core) -> Result<Core, AllocError>
-    requires { slot + 6 < 2 ^ 32 }
-    ensures { IfOk result (λ core. tree_of core ≡ race slot (tree_of a) (tree_of b)) }
+// What `both` gives, by its winner.
+fn both_outcome(alloc: Global, poll: u32, kept: u32) -> Result<Core, AllocError>
+    requires { poll + 6 < 2 ^ 32 }
+    ensures { IfOk result (λ core. tree_of core ≡ both_outcome poll kept) }
 {
-    let first = race_side(alloc, slot, slot + 5, slot + 2, slot + 3)?;
-    let second = race_side(alloc, slot, slot + 5, slot + 3, slot + 2)?;
-    let outcome = chosen(alloc, Value::Slot(slot + 4), first, second)?;
-    masked(alloc, slot, pair_race(alloc, slot, a, b, outcome)?)
+    let (a, b) = (poll + 2, poll + 3);
+    let (own, other) = (poll + 5, poll + 6);
+    let first = both_side(alloc, poll, kept, own, a, b, other, own)?;
+    let second = both_side(alloc, poll, kept, own, b, a, own, other)?;
+    chosen(alloc, Value::Slot(poll + 4), first, second)
+}
+
+// Runs both sides. The ref, whose slot is the first, then holds the second value.
+fn both_raced(alloc: Global, slot: u32, a: Core, b: Core) -> Result<Core, AllocError>
+    requires { slot + 7 < 2 ^ 32 }
+    ensures { IfOk result (λ core. tree_of core
+        ≡ tree.Uncancelable (slot + 1) (pair_race (slot + 1) (tree_of a) (tree_of b) (both_outcome (slot + 1) slot))) }
+{
+    let outcome = both_outcome(alloc, slot + 1, slot)?;
+    let raced = pair_race(alloc, slot + 1, a, b, outcome)?;
+    masked(alloc, slot + 1, raced)
 }
 
 /// The values of both sides, bound in `next`. The ref, whose slot is the first, holds the second
@@ -172,30 +263,8 @@ pub(crate) fn both(
     ensures { IfOk result (λ core.
         tree_of core ≡ both slot (tree_of a) (tree_of b) (tree_of next)) }
 {
-    let poll = slot + 1;
-    let first = both_side(
-        alloc,
-        poll,
-        slot,
-        poll + 5,
-        poll + 2,
-        poll + 3,
-        poll + 6,
-        poll + 5,
-    )?;
-    let second = both_side(
-        alloc,
-        poll,
-        slot,
-        poll + 5,
-        poll + 3,
-        poll + 2,
-        poll + 5,
-        poll + 6,
-    )?;
-    let outcome = chosen(alloc, Value::Slot(poll + 4), first, second)?;
-    let raced = masked(alloc, poll, pair_race(alloc, poll, a, b, outcome)?)?;
     let got = bound(alloc, Core::Act(Action::Get(slot)), slot + 2, next)?;
+    let raced = both_raced(alloc, slot, a, b)?;
     let values = bound(alloc, raced, slot + 1, got)?;
     made(alloc, Maker::Ref(Value::Number(0)), slot, values)
 }

@@ -17,6 +17,3 @@ pub use program::Program;
 pub use refusal::TermError;
 pub use reply::{CancelReply, JoinReply, Outcome, Reply};
 pub use term::{Kind, Name, Operand, Term};
-
-#[cfg(test)]
-mod tests;

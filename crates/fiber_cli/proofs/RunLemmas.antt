@@ -1,31 +1,119 @@
 -- What comes of words, from what `clap` and the orders say of them.
-use Rattle.std.proofs.Common.{◌≡◌, ◌∙◌, ◌⊎◌, ap, subst, ℕ, List, true, Option, Some, None, inl, inr}
-use Rattle.clap.specs.Words.{App, Row, Text, HasMatchesOf, is_simple, subcommand_of, subcommand_rows_of, takes}
+use Rattle.std.proofs.Common.{◌≡◌, ◌≢◌, ◌∙◌, ◌⊎◌, ap, subst, ℕ, List, [], true, Option, Some, None, Result, Ok, Err, inl, inr, sym, refl}
+use Rattle.clap.specs.Words.{App, IsAmong, Row, Text, HasMatchesOf, fault_of, is_simple, is_simple_and_free, subcommand_of, subcommand_rows_of, takes}
+use Rattle.clap.specs.declared.error.kind.ErrorKind.{ErrorKind}
+use Rattle.clap.specs.declared.error.kind.ErrorKind.TheVariants as kind
 use Rattle.clap.specs.declared.parser.matches.ArgMatches.{ArgMatches}
-use Rattle.outcome_trace.specs.declared.fault.TextFault.TheVariants.{NoMemory}
+use Rattle.outcome_trace.specs.declared.fault.TextFault.{TextFault}
+use Rattle.outcome_trace.specs.declared.fault.TextFault.TheVariants as faults
 use Rattle.outcome_trace.specs.declared.orders.Order.{Order}
-use Rattle.outcome_trace.specs.Devices.{Devices}
-use Rattle.outcome_trace.specs.FaultLines.{TellsFault}
+use Rattle.outcome_trace.specs.declared.status.Status.{Status}
+use Rattle.outcome_trace.specs.declared.status.Status.TheVariants.{Succeeded, Fault}
+use Rattle.outcome_trace.specs.Devices.{Devices, Writer}
+use Rattle.outcome_trace.specs.FaultLines.{fault_line}
 use Rattle.outcome_trace.specs.Orders.{Obeys, Told}
-use Rattle.fiber_cli.specs.Orders.{GivesOrder, Runs, obeyed, no_order, no_memory}
+use Rattle.outcome_trace.specs.Text.{GoesOut, OnlyWriteFaults, is_write_fault}
+use Rattle.fiber_cli.specs.Orders.{GivesOrder, HasNoOrder, IsOutOfMemory, IsRefused, IsRequest, LacksMemory, Runs, RunsOrder, ShowsText, TellsKind, TellsWrong, no_memory, no_order, no_words, order, refused, shown, wrong}
 use Rattle.fiber_cli.specs.Words.{program}
+
+-- the command is one of those of which `clap` says how a parse fails
+pub free_built : (a : App) → a ≡ program → is_simple_and_free a ≡ true
+free_built a same = ap is_simple_and_free same
 
 -- the subcommand that was found is the one that stands in the words
 said_so : (a : App) (words : List Text) (m : ArgMatches) → a ≡ program → HasMatchesOf a words m → subcommand_rows_of m ≡ subcommand_of program words
 said_so a words m same h = (h (ap is_simple same)).1 ∙ ap (λ (x : App). subcommand_of x words) same
 
-pub runs_obeyed : (a : App) (words : List Text) (m : ArgMatches) (order : Order) (before after : Devices) (status : ℕ) → a ≡ program → HasMatchesOf a words m → GivesOrder (subcommand_rows_of m) (Some order) → Obeys order before after status → Runs (subcommand_of program words) before after status
-runs_obeyed a words m order before after status same h gives obeys =
-    obeyed order status (subst (λ (s : Option (Text × List Row)). GivesOrder s (Some order)) (said_so a words m same h) gives) obeys
+pub runs_order : (a : App) (words : List Text) (m : ArgMatches) (o : Order) (before after : Devices) (status : Status) → a ≡ program → HasMatchesOf a words m → fault_of a words ≡ [] → GivesOrder (subcommand_rows_of m) (Some o) → Obeys o before after status → Runs words before after status
+runs_order a words m o before after status same h right gives obeys = order record {
+  order = o;
+  right = sym (ap (λ (x : App). fault_of x words) same) ∙ right;
+  gives = subst (λ (s : Option (Text × List Row)). GivesOrder s (Some o)) (said_so a words m same h) gives;
+  obeys = obeys;
+}
 
-pub runs_no_memory : (said : Option (Text × List Row)) (before after : Devices) (status : ℕ) → status ≡ 70 → Told (TellsFault NoMemory) before.err after.err → Runs said before after status
-runs_no_memory said before after status is told = rw is (no_memory told)
+pub runs_no_order : (a : App) (words : List Text) (m : ArgMatches) (before after : Devices) (status : Status) → a ≡ program → HasMatchesOf a words m → GivesOrder (subcommand_rows_of m) None → after.input ≡ before.input → after.out ≡ before.out → TellsWrong before.err after.err status ⊎ LacksMemory before.err after.err status → Runs words before after status
+runs_no_order a words m before after status same h gives unread unanswered told = no_order record {
+  gives = subst (λ (s : Option (Text × List Row)). GivesOrder s None) (said_so a words m same h) gives;
+  unread = unread;
+  unanswered = unanswered;
+  told = told;
+}
 
-pub runs_no_order : (a : App) (words : List Text) (m : ArgMatches) (before after : Devices) (status : ℕ) → a ≡ program → HasMatchesOf a words m → GivesOrder (subcommand_rows_of m) None → (status ≡ 64) ⊎ ((status ≡ 70) × Told (TellsFault NoMemory) before.err after.err) → Runs (subcommand_of program words) before after status
-runs_no_order a words m before after status same h gives (inl is) =
-    rw is (no_order (subst (λ (s : Option (Text × List Row)). GivesOrder s None) (said_so a words m same h) gives))
-runs_no_order a words m before after status same h gives (inr told) = runs_no_memory _ before after status told.0 told.1
+-- a request isn't want of memory
+request_known : (k : ErrorKind) → IsRequest k → k ≢ kind.OutOfMemory
+request_known k (inl help) = λ e. cc
+request_known k (inr version) = λ e. cc
 
--- words that `clap` takes, as the command was built
-pub takes_built : (a : App) (words : List Text) → a ≡ program → takes program words ≡ true → takes a words ≡ true
-takes_built a words same taken = ap (λ (x : App). takes x words) same ∙ taken
+pub runs_error : (a : App) (words : List Text) (k : ErrorKind) (before after : Devices) (status : Status) → a ≡ program → (k ≡ kind.OutOfMemory) ⊎ IsAmong k (fault_of a words) → (takes a words ≡ true → k ≡ kind.OutOfMemory) → after.input ≡ before.input → TellsKind k before.out after.out before.err after.err status → Runs words before after status
+runs_error a words k before after status same among passes unread (no_memory unanswered lacks) = no_words record { unread = unread; unanswered = unanswered; lacks = lacks }
+runs_error a words k before after status same (inl memory) passes unread (shown request shows) = absurd (request_known k request memory)
+runs_error a words k before after status same (inl memory) passes unread (wrong other known unanswered tells) = absurd (known memory)
+runs_error a words k before after status same (inr among) passes unread (shown request shows) = refused record {
+  kind = k;
+  among = subst (λ (x : App). IsAmong k (fault_of x words)) same among;
+  untaken = λ taken. request_known k request (passes (ap (λ (x : App). takes x words) same ∙ taken));
+  unread = unread;
+  told = shown request shows;
+}
+runs_error a words k before after status same (inr among) passes unread (wrong other known unanswered tells) = refused record {
+  kind = k;
+  among = subst (λ (x : App). IsAmong k (fault_of x words)) same among;
+  untaken = λ taken. known (passes (ap (λ (x : App). takes x words) same ∙ taken));
+  unread = unread;
+  told = wrong other known unanswered tells;
+}
+
+pub runs_no_words : (words : List Text) (before after : Devices) (status : Status) → after.input ≡ before.input → after.out ≡ before.out → LacksMemory before.err after.err status → Runs words before after status
+runs_no_words words before after status unread unanswered lacks = no_words record { unread = unread; unanswered = unanswered; lacks = lacks }
+
+-- the kinds whose text goes to the output
+pub request_of : (k : ErrorKind) → ((k ≢ kind.DisplayHelp) × (k ≢ kind.DisplayVersion) → ⊥) → IsRequest k
+request_of kind.DisplayHelp h = inl refl
+request_of kind.DisplayVersion h = inr refl
+request_of k h = absurd (h ((λ e. cc), (λ e. cc)))
+
+-- the text that was asked for went out
+pub text_shown : (out out' err : Writer) (text : List ℕ) (result : Result (Unit {0}) TextFault) (done : Unit {0}) → result ≡ Ok done → GoesOut out.contents out'.contents text result → OnlyWriteFaults result → out'.failed ≡ is_write_fault result → ShowsText out out' err err Succeeded
+text_shown out out' err text result done is goes only failed = record {
+  text = text;
+  result = Ok Succeeded;
+  succeeded = refl;
+  goes = subst (λ (r : Result (Unit {0}) TextFault). GoesOut out.contents out'.contents text r) is goes;
+  only = tt;
+  failed = failed ∙ ap is_write_fault is;
+  told = refl;
+  status_is = refl;
+}
+
+-- a fault says the same of each kind of answer
+out_same : (old new : Option (List ℕ)) (text : List ℕ) (f : TextFault) → GoesOut {A = Unit {0}} old new text (Err f) → GoesOut {A = Status} old new text (Err f)
+out_same old new text faults.NoMemory g = g
+out_same old new text faults.ReadFault g = g
+out_same old new text (faults.WriteFault n) g = g
+out_same old new text faults.TurnBound g = g
+
+only_same : (f : TextFault) → OnlyWriteFaults {A = Unit {0}} (Err f) → OnlyWriteFaults {A = Status} (Err f)
+only_same faults.NoMemory o = o
+only_same faults.ReadFault o = o
+only_same (faults.WriteFault n) o = o
+only_same faults.TurnBound o = o
+
+write_same : (f : TextFault) → is_write_fault {A = Unit {0}} (Err f) ≡ is_write_fault {A = Status} (Err f)
+write_same faults.NoMemory = refl
+write_same faults.ReadFault = refl
+write_same (faults.WriteFault n) = refl
+write_same faults.TurnBound = refl
+
+-- or its device failed, which is told
+pub text_kept_back : (out out' err err' : Writer) (text : List ℕ) (f : TextFault) (result : Result (Unit {0}) TextFault) (status : Status) → result ≡ Err f → GoesOut out.contents out'.contents text result → OnlyWriteFaults result → out'.failed ≡ is_write_fault result → Told (fault_line f) err err' → status ≡ Fault → ShowsText out out' err err' status
+text_kept_back out out' err err' text f result status is goes only failed told status_is = record {
+  text = text;
+  result = Err f;
+  succeeded = tt;
+  goes = out_same out.contents out'.contents text f (subst (λ (r : Result (Unit {0}) TextFault). GoesOut out.contents out'.contents text r) is goes);
+  only = only_same f (subst (λ (r : Result (Unit {0}) TextFault). OnlyWriteFaults r) is only);
+  failed = failed ∙ ap is_write_fault is ∙ write_same f;
+  told = told;
+  status_is = status_is;
+}

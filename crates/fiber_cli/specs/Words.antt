@@ -21,10 +21,10 @@ replay_command =
     (number_option (codes "deferreds") 1000))
     (number_option (codes "count") 262143)
 
--- the command, which wants one of three subcommands
+-- the command, which wants one of three subcommands, and tells its version
 abbrev pub program : App
 program =
-    with_subcommand (with_subcommand (with_subcommand (on_top (λ s. record s { subcommand_required = true }) (new_app (codes "fiber_cli")))
+    with_subcommand (with_subcommand (with_subcommand (on_top (λ s. record s { subcommand_required = true; has_version = true }) (new_app (codes "fiber_cli")))
     (new_app (codes "check")).top)
     (new_app (codes "show")).top)
     replay_command.top

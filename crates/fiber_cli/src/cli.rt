@@ -1,75 +1,74 @@
 //! One command line, over devices.
 
-ghost use Rattle.std.specs.Prelude.{◌≡◌, ◌⊎◌, ◌<◌, ◌^◌, true, false, map};
-ghost use Rattle.clap.specs.Words.{kind_of, subcommand_of, takes};
-ghost use Rattle.fiber_cli.specs.Orders.{Runs};
-ghost use Rattle.fiber_cli.specs.Words.{program};
+ghost use Rattle.std.specs.Prelude.{◌≡◌, ◌⊎◌, ◌<◌, ◌^◌, false, map};
+ghost use Rattle.clap.specs.Words.{kind_of};
+ghost use Rattle.fiber_cli.specs.Orders.{LacksMemory, Runs, TellsKind, TellsWrong};
 ghost use Rattle.outcome_trace.specs.Devices.{devices, reader, writer};
-ghost use Rattle.outcome_trace.specs.FaultLines.{TellsFault};
-ghost use Rattle.outcome_trace.specs.Orders.{Told};
-ghost use Rattle.outcome_trace.specs.declared.fault.TextFault.TheVariants.{NoMemory};
 
 use crate::words::{all_words, order_of};
 use clap::Error;
 use clap::error::ErrorKind;
-use outcome_trace::{FAULT, TextIn, TextOut, USAGE, obey, tell_fault, tell_no_memory, write_text};
+use outcome_trace::{Status, TextFault, TextIn, TextOut, obey, tell_fault, write_text};
 use std::alloc::Global;
 use std::convert::AsStr;
 
-/// Tells help that was asked for, or what is wrong with the words. Where help can't be written, that
-/// is told as any other fault.
-fn usage<O: TextOut, E: TextOut>(alloc: Global, error: &Error, out: &mut O, err: &mut E) -> u8
+/// Tells help or the version that was asked for, or what is wrong with the words, in `clap`'s words.
+/// Where help can't be written, that is told as any other fault.
+fn usage<O: TextOut, E: TextOut>(alloc: Global, error: &Error, out: &mut O, err: &mut E) -> Status
     requires out { O.has_failed out.old ≡ false }
     requires err { E.has_failed err.old ≡ false }
-    ensures memory { kind_of error.now ≡ ErrorKind.OutOfMemory → Told (TellsFault NoMemory) (writer (E.contents err.old) (E.has_failed err.old)) (writer (E.contents err.new) (E.has_failed err.new)) }
-    ensures status { kind_of error.now ≡ ErrorKind.OutOfMemory → result ≡ FAULT }
+    ensures { TellsKind (kind_of error.now) (writer (O.contents out.old) (O.has_failed out.old)) (writer (O.contents out.new) (O.has_failed out.new)) (writer (E.contents err.old) (E.has_failed err.old)) (writer (E.contents err.new) (E.has_failed err.new)) result }
 {
     if error.kind() == ErrorKind::OutOfMemory {
-        return tell_no_memory(err);
+        return tell_fault(TextFault::NoMemory, err);
     }
     let Ok(text) = error.to_string(alloc) else {
-        return tell_no_memory(err);
+        return tell_fault(TextFault::NoMemory, err);
     };
     if error.use_stderr() {
         let _ = write_text(text.as_bytes(), err);
-        return USAGE;
+        return Status::Usage;
     }
     match write_text(text.as_bytes(), out) {
-        Ok(()) => 0,
-        Err(fault) => tell_fault(alloc, fault, err),
+        Ok(()) => Status::Succeeded,
+        Err(fault) => tell_fault(fault, err),
     }
 }
 
 /// Tells what is wrong with words that `clap` doesn't see, or that it takes and that give no order.
-pub fn refuse_words<E: TextOut>(alloc: Global, message: &str, err: &mut E) -> u8
+pub fn refuse_words<E: TextOut>(alloc: Global, message: &str, err: &mut E) -> Status
     requires { E.has_failed err.old ≡ false }
-    ensures { (result ≡ USAGE) ⊎ ((result ≡ FAULT) × Told (TellsFault NoMemory) (writer (E.contents err.old) (E.has_failed err.old)) (writer (E.contents err.new) (E.has_failed err.new))) }
+    ensures { let before = writer (E.contents err.old) (E.has_failed err.old) in
+        let after = writer (E.contents err.new) (E.has_failed err.new) in
+        TellsWrong before after result ⊎ LacksMemory before after result }
 {
     let Ok(mut all) = all_words(alloc) else {
-        return tell_no_memory(err);
+        return tell_fault(TextFault::NoMemory, err);
     };
     let Ok(error) = all.error(ErrorKind::ValueValidation, message) else {
-        return tell_no_memory(err);
+        return tell_fault(TextFault::NoMemory, err);
     };
     let Ok(text) = error.to_string(alloc) else {
-        return tell_no_memory(err);
+        return tell_fault(TextFault::NoMemory, err);
     };
     let _ = write_text(text.as_bytes(), err);
-    USAGE
+    Status::Usage
 }
 
 /// Runs one command line over these devices, and gives the status of the program: that of the order
-/// that the words give ([`obey`](outcome_trace::obey)), 0 where help was asked for, 64 where the words
-/// or the schedule are wrong, and 70 where memory ran out or a device failed.
+/// that the words give ([`obey`]), `Status::Succeeded` where help or the version was asked for,
+/// `Status::Usage` where the words or the schedule are wrong, and `Status::Fault` where memory ran
+/// out or a device failed.
 ///
-/// Help goes to the output, what is wrong with the words to the last device, both in `clap`'s words.
+/// What was asked for goes to the output, what is wrong with the words to the last device, both in
+/// `clap`'s words.
 pub fn command<'a, R, S, I, O, E>(
     rt: &R,
     words: &'a [S],
     input: &mut I,
     out: &mut O,
     err: &mut E,
-) -> u8
+) -> Status
 where
     R: AllocGlobal,
     S: AsStr,
@@ -80,19 +79,16 @@ where
     requires countable { I.reads input.old < 2 ^ 63 }
     requires out { O.has_failed out.old ≡ false }
     requires err { E.has_failed err.old ≡ false }
-
-    // Words that `clap` takes run as the order that they give.
-    ensures runs { let before = devices (reader (I.remaining input.old) (I.has_failed input.old) (I.reads input.old)) (writer (O.contents out.old) (O.has_failed out.old)) (writer (E.contents err.old) (E.has_failed err.old)) in
-        let after = devices (reader (I.remaining input.new) (I.has_failed input.new) (I.reads input.new)) (writer (O.contents out.new) (O.has_failed out.new)) (writer (E.contents err.new) (E.has_failed err.new)) in
-        let said = subcommand_of program (map S.text words.entry.now) in
-        takes program (map S.text words.entry.now) ≡ true → Runs said before after result }
+    ensures runs { let before = devices (reader (I.remaining input.old) (I.has_failed input.old) (I.has_ended input.old) (I.reads input.old)) (writer (O.contents out.old) (O.has_failed out.old)) (writer (E.contents err.old) (E.has_failed err.old)) in
+        let after = devices (reader (I.remaining input.new) (I.has_failed input.new) (I.has_ended input.new) (I.reads input.new)) (writer (O.contents out.new) (O.has_failed out.new)) (writer (E.contents err.new) (E.has_failed err.new)) in
+        Runs (map S.text words.entry.now) before after result }
 
     // Wrong words and a bad schedule are told before the text is read.
-    ensures unread { result ≡ USAGE → input.new ≡ input.old }
+    ensures unread { result ≡ Status.Usage → input.new ≡ input.old }
 {
     let alloc = rt.alloc();
     let Ok(all) = all_words(alloc) else {
-        return tell_no_memory(err);
+        return tell_fault(TextFault::NoMemory, err);
     };
     match all.try_get_matches_from(words) {
         Ok(matches) => match order_of(&matches) {
@@ -103,6 +99,8 @@ where
     }
 }
 
+#[cfg(test)]
+mod replay_rows;
 #[cfg(test)]
 mod tests;
 #[cfg(test)]

@@ -7,7 +7,7 @@
 mod cli;
 mod words;
 
-use outcome_trace::{FromRead, ToWrite, tell_no_memory};
+use outcome_trace::{FromRead, TextFault, ToWrite, tell_fault};
 use std::alloc::AllocError;
 use std::env;
 use std::io::ErrorKind;
@@ -25,12 +25,12 @@ fn main(rt: HostRuntime) -> ExitCode {
         Err(error) if error.kind() == ErrorKind::OutOfMemory => Err(AllocError),
         Err(_) => {
             let status = cli::refuse_words(rt.alloc(), NOT_TEXT, &mut err);
-            return ExitCode::from(status);
+            return ExitCode::from(status.code());
         }
     };
     let status = match words {
         Ok(words) => cli::command(&rt, words.as_slice(), &mut input, &mut out, &mut err),
-        Err(_) => tell_no_memory(&mut err),
+        Err(_) => tell_fault(TextFault::NoMemory, &mut err),
     };
-    ExitCode::from(status)
+    ExitCode::from(status.code())
 }

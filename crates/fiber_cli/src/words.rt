@@ -19,6 +19,19 @@ const MOST_NUMBERS: u32 = 1000;
 /// How often a fiber may change its own state, and may if nothing else is said.
 const MOST_COUNT: u32 = 262_143;
 
+/// What `--version` tells behind the name.
+const VERSION: &str = "0.1.0";
+
+/// What each help ends with.
+const STATUSES: &str = "Exit status:
+   0  fiber 0 succeeded, the text was checked or shown, or help was asked for
+   1  fiber 0 errored
+   2  fiber 0 was canceled
+   3  fiber 0 has not ended
+  64  the words or the schedule are wrong
+  65  the text is refused
+  70  a run or a device failed, or memory ran out";
+
 /// An option that takes a whole number from 1 to `most`.
 fn number_option<'a>(alloc: Global, name: &'a str, help: &'a str, most: u32) -> Arg<'a>
     ensures rule { rule_of result ≡ number_option name.entry.now most }
@@ -40,7 +53,9 @@ fn schedule_option<'a>(alloc: Global) -> Arg<'a>
     Arg::new(alloc, "schedule")
         .long("schedule")
         .value_name("TEXT")
-        .help("Whose move is next: items F or F*K with one space between")
+        .help(
+            "Whose move is next: items F or F*K (K moves of fiber F) with one space between, as in \"0*2 1*9\". F is 0 to 999, K is 1 to 100000",
+        )
         .required(true)
         .action(ArgAction::Set)
 }
@@ -52,24 +67,30 @@ fn replay_command<'a>(alloc: Global) -> Result<Command<'a>, AllocError>
     let fibers = number_option(
         alloc,
         "fibers",
-        "How many fibers there may be",
+        "How many fibers there may be: 1 to 1000, 1000 if not given",
         MOST_NUMBERS,
     );
-    let refs = number_option(alloc, "refs", "How many refs there may be", MOST_NUMBERS);
+    let refs = number_option(
+        alloc,
+        "refs",
+        "How many refs there may be: 1 to 1000, 1000 if not given",
+        MOST_NUMBERS,
+    );
     let deferreds = number_option(
         alloc,
         "deferreds",
-        "How many deferreds there may be",
+        "How many deferreds there may be: 1 to 1000, 1000 if not given",
         MOST_NUMBERS,
     );
     let count = number_option(
         alloc,
         "count",
-        "How often a fiber may change its own state",
+        "How often a fiber may change its own state: 1 to 262143, 262143 if not given",
         MOST_COUNT,
     );
     Command::new(alloc, "replay")
         .about("Runs the program under a schedule, and prints its report")
+        .after_help(STATUSES)
         .arg(schedule_option(alloc))?
         .arg(fibers)?
         .arg(refs)?
@@ -81,11 +102,17 @@ fn replay_command<'a>(alloc: Global) -> Result<Command<'a>, AllocError>
 pub fn all_words<'a>(alloc: Global) -> Result<Command<'a>, AllocError>
     ensures { IfOk result (λ c. app_of c ≡ program) }
 {
-    let check = Command::new(alloc, "check").about("Tells whether the text is a program");
-    let show = Command::new(alloc, "show").about("Prints the expansion of the program");
+    let check = Command::new(alloc, "check")
+        .about("Tells whether the text is a program")
+        .after_help(STATUSES);
+    let show = Command::new(alloc, "show")
+        .about("Prints the expansion of the program")
+        .after_help(STATUSES);
     let replay = replay_command(alloc)?;
     Command::new(alloc, "fiber_cli")
         .about("Runs effect programs on fibers. The program's text is read from standard input")
+        .after_help(STATUSES)
+        .version(VERSION)
         .subcommand_required(true)
         .subcommand(check)?
         .subcommand(show)?

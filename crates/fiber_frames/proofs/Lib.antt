@@ -23,3 +23,7 @@ pub mod Beginning
 pub mod Children
 pub mod Reaching
 pub mod Samples
+pub mod Rowing
+pub mod Leads
+pub mod Names
+pub mod NamedMoves

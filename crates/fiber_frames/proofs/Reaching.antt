@@ -22,7 +22,7 @@ use Rattle.fiber_frames.proofs.Moving.{row_of_call}
 use Rattle.fiber_frames.proofs.Children.{born_same, born_asks}
 use Rattle.fiber_frames.proofs.Marks.Kept.{Kept, kept_root, kept_moved, kept_born, kept_lost, kept_marks, kept_active}
 
-reached_kept : (f : Fiber) → Reached f → Kept f
+pub reached_kept : (f : Fiber) → Reached f → Kept f
 reached_kept _ (root {t} c) = kept_root t c
 reached_kept _ (moved {f} r h) = kept_moved f r (reached_kept f h)
 reached_kept _ (born {f} n l h) = kept_born f n (reached_kept f h) l

@@ -13,3 +13,5 @@ pub mod Machine
 pub mod Machines
 pub mod Cases
 pub mod Told
+pub mod Leading
+pub mod Naming

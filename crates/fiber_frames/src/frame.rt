@@ -1,7 +1,8 @@
 //! What a fiber is at: frames, the leaf, the finalizers that wait.
 
 use crate::operand::{Handle, Mask};
-use derived_ops::{Rest, Value};
+use crate::word::Rest;
+use derived_ops::Value;
 use effect_term::Outcome;
 
 /// What is left to do with the result of what stands inside. A place in the table comes with its level,

@@ -30,6 +30,3 @@ pub use ask::{Ask, Look};
 pub use config::{Config, Moved};
 pub use effect_term::Reply;
 pub use mark::Mark;
-
-#[cfg(test)]
-mod tests;

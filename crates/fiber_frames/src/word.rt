@@ -1,6 +1,15 @@
 //! The words of a code, in a table.
 
-use derived_ops::{Action, BracketMark, Maker, Rest, Turns, Value};
+use derived_ops::{Action, BracketMark, Maker, Turns, Value};
+
+/// What stands after the first part of a sequence.
+#[derive(Clone, Copy)]
+pub(crate) enum Rest {
+    /// The last part.
+    Last,
+    /// Two or more parts, which are again a sequence.
+    More,
+}
 
 /// A word of a table. The words of a term stand in the order in which they are written, so a word's
 /// first part is the next word. A further part stands so many words after the first one.

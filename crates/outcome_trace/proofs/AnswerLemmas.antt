@@ -10,7 +10,8 @@ use Rattle.term_parse.specs.declared.error.ParseError.{ParseError}
 use Rattle.term_parse.specs.declared.error.ParseError.TheVariants as parse
 use Rattle.term_parse.specs.Atoms.{atoms_of}
 use Rattle.term_parse.specs.Reading.{reading}
-use Rattle.outcome_trace.specs.declared.answers.Answer.{Answer}
+use Rattle.outcome_trace.specs.declared.text_order.Answer.{Answer}
+use Rattle.outcome_trace.specs.declared.status.Status.TheVariants as ends
 use Rattle.outcome_trace.specs.declared.lines.Refused.{Refused}
 use Rattle.outcome_trace.specs.declared.lines.Refused.TheVariants as refusals
 use Rattle.outcome_trace.specs.Lines.{has_line, line_of}
@@ -51,7 +52,7 @@ parse_memory e h = λ same. let bad : false ≡ true = subst (λ (x : ParseError
 term_memory : (e : TermError) → has_line (refusals.Term e) ≡ true → e ≢ term.NoMemory
 term_memory e h = λ same. let bad : false ≡ true = subst (λ (x : TermError). has_line (refusals.Term x) ≡ true) same h in cc
 
-refused_so : (text : List ℕ) (r : Refused) → IsRefused text r → has_line r ≡ true → IsRefusalAnswer text (line_of r) 65
+refused_so : (text : List ℕ) (r : Refused) → IsRefused text r → has_line r ≡ true → IsRefusalAnswer text (line_of r) ends.Refused
 refused_so text (refusals.Parse e) h told = no_term text e (h (parse_memory e told))
 refused_so text (refusals.Term e) h told = elim h.2 [
   | inl memory ↦ absurd (term_memory e told memory)
@@ -59,7 +60,7 @@ refused_so text (refusals.Term e) h told = elim h.2 [
 ]
 refused_so text (refusals.Run e) h told = absurd h
 
-pub refusal_answers : {E : Type 0} (text : List ℕ) (r : Refused) (a : Result Answer E) → IsRefused text r → IfOk a (λ a. a.text.items ≡ line_of r) → IfOk a (λ a. a.status ≡ 65) → OnOk a (IsTrue (has_line r)) → IfOk a (λ a. IsRefusalAnswer text a.text.items a.status)
+pub refusal_answers : {E : Type 0} (text : List ℕ) (r : Refused) (a : Result Answer E) → IsRefused text r → IfOk a (λ a. a.text.items ≡ line_of r) → IfOk a (λ a. a.status ≡ ends.Refused) → OnOk a (IsTrue (has_line r)) → IfOk a (λ a. IsRefusalAnswer text a.text.items a.status)
 refusal_answers text r (Ok a) h line status told = rw (line, status) (refused_so text r h told)
 refusal_answers text r (Err e) h line status told = tt
 
@@ -67,7 +68,7 @@ pub refusal_checks : {E : Type 0} (text : List ℕ) (a : Result Answer E) → If
 refusal_checks text (Ok a) h = refused text a.text.items a.status h
 refusal_checks text (Err e) h = tt
 
-pub counts_check : {E : Type 0} (text : List ℕ) (t : Term) (a : Result Answer E) → reading text ≡ Ok (atoms_of t) → IsProgram t → IfOk a (λ a. a.text.items ≡ ok_line t) → IfOk a (λ a. a.status ≡ 0) → IfOk a (λ a. IsCheckAnswer text a.text.items a.status)
+pub counts_check : {E : Type 0} (text : List ℕ) (t : Term) (a : Result Answer E) → reading text ≡ Ok (atoms_of t) → IsProgram t → IfOk a (λ a. a.text.items ≡ ok_line t) → IfOk a (λ a. a.status ≡ ends.Succeeded) → IfOk a (λ a. IsCheckAnswer text a.text.items a.status)
 counts_check text t (Ok a) e p line status = rw (line, status) (counted text t e p)
 counts_check text t (Err x) e p line status = tt
 
@@ -75,6 +76,6 @@ pub refusal_shows : {E : Type 0} (text : List ℕ) (a : Result Answer E) → IfO
 refusal_shows text (Ok a) h = unshown text a.text.items a.status h
 refusal_shows text (Err e) h = tt
 
-pub code_shows : {E : Type 0} (text : List ℕ) (t : Term) (a : Result Answer E) → reading text ≡ Ok (atoms_of t) → IsProgram t → IfOk a (λ a. a.text.items ≡ code_line t) → IfOk a (λ a. a.status ≡ 0) → IfOk a (λ a. IsShowAnswer text a.text.items a.status)
+pub code_shows : {E : Type 0} (text : List ℕ) (t : Term) (a : Result Answer E) → reading text ≡ Ok (atoms_of t) → IsProgram t → IfOk a (λ a. a.text.items ≡ code_line t) → IfOk a (λ a. a.status ≡ ends.Succeeded) → IfOk a (λ a. IsShowAnswer text a.text.items a.status)
 code_shows text t (Ok a) e p line status = rw (line, status) (shown text t e p)
 code_shows text t (Err x) e p line status = tt

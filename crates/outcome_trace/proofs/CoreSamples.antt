@@ -52,6 +52,15 @@ canceled_in_the_poll : report_of few canceled_child (replicate 2 0 ++ replicate 
 unfolding core after reply_of refusal
 canceled_in_the_poll = refl
 
+-- a request that comes after the poll has closed is observed at the end of the mask
+canceled_after_the_poll : report_of few canceled_child (replicate 2 0 ++ replicate 9 1 ++ replicate 3 0 ++ replicate 30 1 ++ replicate 9 0) ≡ Ok record {
+  fibers = record { outcome = Some (Succeeded (pos 0)); marks = Enter 0 ∷ Leave 0 ∷ [] }
+      ∷ record { outcome = Some Canceled; marks = Enter 0 ∷ Say (pos 1) ∷ PollIn 0 ∷ Say (pos 2) ∷ PollOut 0 ∷ Say (pos 3) ∷ Leave 0 ∷ Cut ∷ [] }
+      ∷ [];
+}
+unfolding core after reply_of refusal
+canceled_after_the_poll = refl
+
 canceled_too_late : report_of few canceled_child (replicate 2 0 ++ replicate 13 1 ++ replicate 3 0 ++ replicate 30 1 ++ replicate 9 0) ≡ Ok record {
   fibers = record { outcome = Some (Succeeded (pos 0)); marks = Enter 0 ∷ Leave 0 ∷ [] }
       ∷ record { outcome = Some (Succeeded (pos 0)); marks = Enter 0 ∷ Say (pos 1) ∷ PollIn 0 ∷ Say (pos 2) ∷ PollOut 0 ∷ Say (pos 3) ∷ Leave 0 ∷ [] }
@@ -59,6 +68,23 @@ canceled_too_late : report_of few canceled_child (replicate 2 0 ++ replicate 13 
 }
 unfolding core after reply_of refusal
 canceled_too_late = refl
+
+-- `(uncancelable p (start f (uncancelable q (seq (canceled) (poll p (say 1)))) (join f x (pure 1) e (pure 2) (pure 3))))`
+abbrev polls_its_parents_mask : Source
+polls_its_parents_mask =
+    word.Uncancelable
+    (word.Start
+    (word.Uncancelable (word.Seq Last word.Canceled (word.Poll 0 (word.Say (Number (pos 1))))))
+    (word.Join 1 (word.Pure (Number (pos 1))) (word.Pure (Number (pos 2))) (word.Pure (Number (pos 3)))))
+
+-- a poll of another fiber's mask, which has the same number, undoes nothing
+poll_of_another_fiber : report_of few polls_its_parents_mask (replicate 10 0 ++ replicate 20 1 ++ replicate 10 0) ≡ Ok record {
+  fibers = record { outcome = Some (Succeeded (pos 3)); marks = Enter 0 ∷ Leave 0 ∷ [] }
+      ∷ record { outcome = Some Canceled; marks = Enter 0 ∷ Say (pos 1) ∷ Leave 0 ∷ Cut ∷ [] }
+      ∷ [];
+}
+unfolding core after reply_of refusal
+poll_of_another_fiber = refl
 
 -- `(ref r 0 (let x (race (pure 4) (oncancel (never) (set r 9))) (let y (get r) (add x y))))`
 abbrev raced : Source

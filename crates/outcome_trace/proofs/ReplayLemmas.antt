@@ -1,5 +1,5 @@
 -- Answers to texts under a schedule.
-use Rattle.std.proofs.Common.{◌≡◌, ◌≢◌, ◌⊎◌, ℕ, true, false, List, Result, Ok, Err, IfOk, OnOk, inl, inr}
+use Rattle.std.proofs.Common.{◌≡◌, ◌≢◌, ◌⊎◌, ℕ, List, Result, Ok, Err, IfOk, OnOk, inl, inr}
 use Rattle.cell_registry.specs.declared.limits.Limits.{Limits}
 use Rattle.cell_registry.specs.declared.limits.RunError.{RunError}
 use Rattle.cell_registry.specs.declared.limits.RunError.TheVariants as run
@@ -7,12 +7,13 @@ use Rattle.effect_term.specs.declared.term.Term.{Term}
 use Rattle.effect_term.specs.Programs.{IsProgram}
 use Rattle.term_parse.specs.Atoms.{atoms_of}
 use Rattle.term_parse.specs.Reading.{reading}
-use Rattle.outcome_trace.specs.declared.answers.Answer.{Answer}
+use Rattle.outcome_trace.specs.declared.text_order.Answer.{Answer}
+use Rattle.outcome_trace.specs.declared.status.Status.TheVariants as ends
 use Rattle.outcome_trace.specs.declared.report.Report.{Report}
 use Rattle.outcome_trace.specs.Answers.{IsRefusalAnswer}
 use Rattle.outcome_trace.specs.Lines.{run_line}
 use Rattle.outcome_trace.specs.ReportText.{text_of_fibers}
-use Rattle.outcome_trace.specs.ReplayAnswers.{replayed, runs, report_status, stage_line, IsRunAnswer, staged, reports, faults, IsReplayAnswer, unreplayed, replays}
+use Rattle.outcome_trace.specs.ReplayAnswers.{replayed, report_status, IsRunAnswer, reports, faults, IsReplayAnswer, unreplayed, replays}
 
 -- a report is the core's, and so is a fault other than want of memory
 pub report_is_core : (t : Term) (limits : Limits) (schedule : List ℕ) (result : Result Report RunError) (r : Report) → result ≡ Ok r → (result ≡ Err run.NoMemory) ⊎ (result ≡ replayed t limits schedule) → replayed t limits schedule ≡ Ok r
@@ -31,14 +32,10 @@ pub run_replays : {E : Type 0} (text schedule : List ℕ) (limits : Limits) (t :
 run_replays text schedule limits t (Ok a) e p h = replays text a.text.items a.status t e p h
 run_replays text schedule limits t (Err x) e p h = tt
 
-pub stage_answers : {E : Type 0} (t : Term) (schedule : List ℕ) (limits : Limits) (a : Result Answer E) → runs t ≡ false → IfOk a (λ a. a.text.items ≡ stage_line) → IfOk a (λ a. a.status ≡ 70) → IfOk a (λ a. IsRunAnswer t schedule limits a.text.items a.status)
-stage_answers t schedule limits (Ok a) s line status = rw (line, status) (staged s)
-stage_answers t schedule limits (Err x) s line status = tt
+pub report_answers : {E : Type 0} (t : Term) (schedule : List ℕ) (limits : Limits) (r : Report) (a : Result Answer E) → replayed t limits schedule ≡ Ok r → IfOk a (λ a. a.text.items ≡ text_of_fibers r.fibers) → IfOk a (λ a. a.status ≡ report_status r.fibers) → IfOk a (λ a. IsRunAnswer t schedule limits a.text.items a.status)
+report_answers t schedule limits r (Ok a) e line status = rw (line, status) (reports r e)
+report_answers t schedule limits r (Err x) e line status = tt
 
-pub report_answers : {E : Type 0} (t : Term) (schedule : List ℕ) (limits : Limits) (r : Report) (a : Result Answer E) → runs t ≡ true → replayed t limits schedule ≡ Ok r → IfOk a (λ a. a.text.items ≡ text_of_fibers r.fibers) → IfOk a (λ a. a.status ≡ report_status r.fibers) → IfOk a (λ a. IsRunAnswer t schedule limits a.text.items a.status)
-report_answers t schedule limits r (Ok a) s e line status = rw (line, status) (reports r s e)
-report_answers t schedule limits r (Err x) s e line status = tt
-
-pub fault_answers : {E : Type 0} (t : Term) (schedule : List ℕ) (limits : Limits) (f : RunError) (a : Result Answer E) → runs t ≡ true → (f ≢ run.NoMemory → replayed t limits schedule ≡ Err f) → IfOk a (λ a. a.text.items ≡ run_line f) → IfOk a (λ a. a.status ≡ 70) → OnOk a (f ≢ run.NoMemory) → IfOk a (λ a. IsRunAnswer t schedule limits a.text.items a.status)
-fault_answers t schedule limits f (Ok a) s e line status memory = rw (line, status) (faults f s (e memory))
-fault_answers t schedule limits f (Err x) s e line status memory = tt
+pub fault_answers : {E : Type 0} (t : Term) (schedule : List ℕ) (limits : Limits) (f : RunError) (a : Result Answer E) → (f ≢ run.NoMemory → replayed t limits schedule ≡ Err f) → IfOk a (λ a. a.text.items ≡ run_line f) → IfOk a (λ a. a.status ≡ ends.Fault) → OnOk a (f ≢ run.NoMemory) → IfOk a (λ a. IsRunAnswer t schedule limits a.text.items a.status)
+fault_answers t schedule limits f (Ok a) e line status memory = rw (line, status) (faults f (e memory))
+fault_answers t schedule limits f (Err x) e line status memory = tt

@@ -16,6 +16,8 @@ use Rattle.term_parse.specs.Reading.{reading}
 use Rattle.outcome_trace.specs.declared.lines.Refused.{Refused}
 use Rattle.outcome_trace.specs.declared.lines.Refused.TheVariants.{Parse, Run}
 use Rattle.outcome_trace.specs.declared.lines.Refused.TheVariants as refusals
+use Rattle.outcome_trace.specs.declared.status.Status.{Status}
+use Rattle.outcome_trace.specs.declared.status.Status.TheVariants as ends
 use Rattle.outcome_trace.specs.Lines.{parse_line, term_line}
 
 -- a count as it is told, which is the greatest of 64 bits where it is above that
@@ -33,19 +35,19 @@ code_line t = core_text (code_of (source_of t)) ++ 10 ∷ []
 
 -- What is answered where there is no program, with its status: the text's first fault, or the limit that the term which
 -- it spells goes past.
-pub data IsRefusalAnswer : List ℕ → List ℕ → ℕ → Type 0 where
-  no_term : (text : List ℕ) (e : ParseError) → reading text ≡ Err e → IsRefusalAnswer text (parse_line e) 65
-  no_program : (text : List ℕ) (t : Term) (e : TermError) → reading text ≡ Ok (atoms_of t) → limit_passed t ≡ Some e → IsRefusalAnswer text (term_line e) 65
+pub data IsRefusalAnswer : List ℕ → List ℕ → Status → Type 0 where
+  no_term : (text : List ℕ) (e : ParseError) → reading text ≡ Err e → IsRefusalAnswer text (parse_line e) ends.Refused
+  no_program : (text : List ℕ) (t : Term) (e : TermError) → reading text ≡ Ok (atoms_of t) → limit_passed t ≡ Some e → IsRefusalAnswer text (term_line e) ends.Refused
 
 -- what `check` answers, with its status: a refusal, or the counts of the program that the text spells
-pub data IsCheckAnswer : List ℕ → List ℕ → ℕ → Type 0 where
-  refused : (text answer : List ℕ) (status : ℕ) → IsRefusalAnswer text answer status → IsCheckAnswer text answer status
-  counted : (text : List ℕ) (t : Term) → reading text ≡ Ok (atoms_of t) → IsProgram t → IsCheckAnswer text (ok_line t) 0
+pub data IsCheckAnswer : List ℕ → List ℕ → Status → Type 0 where
+  refused : (text answer : List ℕ) (status : Status) → IsRefusalAnswer text answer status → IsCheckAnswer text answer status
+  counted : (text : List ℕ) (t : Term) → reading text ≡ Ok (atoms_of t) → IsProgram t → IsCheckAnswer text (ok_line t) ends.Succeeded
 
 -- what `show` answers, with its status: a refusal, or the code of the program that the text spells
-pub data IsShowAnswer : List ℕ → List ℕ → ℕ → Type 0 where
-  unshown : (text answer : List ℕ) (status : ℕ) → IsRefusalAnswer text answer status → IsShowAnswer text answer status
-  shown : (text : List ℕ) (t : Term) → reading text ≡ Ok (atoms_of t) → IsProgram t → IsShowAnswer text (code_line t) 0
+pub data IsShowAnswer : List ℕ → List ℕ → Status → Type 0 where
+  unshown : (text answer : List ℕ) (status : Status) → IsRefusalAnswer text answer status → IsShowAnswer text answer status
+  shown : (text : List ℕ) (t : Term) → reading text ≡ Ok (atoms_of t) → IsProgram t → IsShowAnswer text (code_line t) ends.Succeeded
 
 -- why a text is refused, unless memory was wanting: its first fault, or a limit that its term goes past
 abbrev pub IsRefused : List ℕ → Refused → Type 0

@@ -1,7 +1,6 @@
 -- The core: the states of the born fibers beside one registry, and what a schedule makes of them.
 use Rattle.std.specs.Prelude.{ℕ, List, [], ◌∷◌, ◌++◌, Option, Some, None, Result, Ok, Err, map, slice_set}
-use Rattle.std.specs.List.{slice_get}
-use Rattle.effect_term.specs.declared.reply.Outcome.{Outcome}
+use Rattle.std.specs.List.{fold, slice_get}
 use Rattle.effect_term.specs.declared.reply.Reply.{Reply}
 use Rattle.derived_ops.specs.Tree.{Tree}
 use Rattle.fiber_frames.specs.declared.ask.Ask.{Ask}
@@ -51,11 +50,6 @@ pub record World : Type 0 where
 abbrev pub first_world : Tree → Limits → World
 first_world code k = record { fibers = begins 0 code ∷ []; cells = opening k }
 
--- how a schedule goes: on, or it is ended by a fault
-pub data Course : Type 0 where
-  Goes : World → Course
-  Stops : RunError → Course
-
 -- the fault of a refused call
 abbrev pub fault_of : ℕ → CellError → RunError
 fault_of f (cell.Full band n) = run.Full band n
@@ -71,47 +65,34 @@ abbrev pub called : World → ℕ → Fiber → Call → Reply → World
 called w f g c r = record { fibers = slice_set w.fibers f (move g r) ++ born g c r; cells = after w.cells f c }
 
 -- a call that is refused ends the schedule by its fault
-abbrev pub answered : World → ℕ → Fiber → Call → Option CellError → Course
-answered w f g c None = Goes (called w f g c (reply_of w.cells f c))
-answered w f g c (Some e) = Stops (fault_of f e)
+abbrev pub answered : World → ℕ → Fiber → Call → Option CellError → Result World RunError
+answered w f g c None = Ok (called w f g c (reply_of w.cells f c))
+answered w f g c (Some e) = Err (fault_of f e)
 
-abbrev pub wished : Limits → World → ℕ → Fiber → Wish → Course
+abbrev pub wished : Limits → World → ℕ → Fiber → Wish → Result World RunError
 wished k w f g (Shared c) = answered w f g c (refusal k w.cells f c)
-wished k w f g Alone = Goes record w { fibers = slice_set w.fibers f (silent_move g) }
-wished k w f g Nothing = Goes w
+wished k w f g Alone = Ok record w { fibers = slice_set w.fibers f (silent_move g) }
+wished k w f g Nothing = Ok w
 
 -- the one move of the fiber of this number; an unborn number changes nothing
-abbrev pub turned : Limits → World → ℕ → Option Fiber → Course
-turned k w f None = Goes w
+abbrev pub turned : Limits → World → ℕ → Option Fiber → Result World RunError
+turned k w f None = Ok w
 turned k w f (Some g) = wished k w f g (wish_of (ask_of g))
 
--- an entry of a schedule
-abbrev pub entered : Limits → Course → ℕ → Course
-entered k (Stops e) f = Stops e
-entered k (Goes w) f = turned k w f (slice_get w.fibers f)
+-- an entry of a schedule, where the entries before it have led to a world, or to a fault
+abbrev pub entered : Limits → Result World RunError → ℕ → Result World RunError
+entered k (Err e) f = Err e
+entered k (Ok w) f = turned k w f (slice_get w.fibers f)
 
-abbrev pub core_from : Limits → Course → List ℕ → Course
-core_from k x [] = x
-core_from k x (f ∷ fs) = core_from k (entered k x f) fs
-
--- the core of a code under a schedule
-unfoldable pub core : Tree → Limits → List ℕ → Course
-core code k schedule = core_from k (Goes (first_world code k)) schedule
-
--- a world with one fiber
-abbrev pub one_fiber : Fiber → Cells → World
-one_fiber g s = record { fibers = g ∷ []; cells = s }
+-- the core of a code under a schedule: the entries in turn
+unfoldable pub core : Tree → Limits → List ℕ → Result World RunError
+core code k schedule = fold (entered k) (Ok (first_world code k)) schedule
 
 -- ---- the report of a world
 abbrev pub fiber_report : Fiber → FiberReport
 fiber_report g = record { outcome = outcome_of g; marks = g.marks }
 
--- the outcome that an ask tells
-abbrev pub over_in : Ask → Option Outcome
-over_in (ask.Over o) = Some o
-over_in _ = None
-
 -- the report of the core, or its fault
-abbrev pub reported : Course → Result Report RunError
-reported (Goes w) = Ok record { fibers = map fiber_report w.fibers }
-reported (Stops e) = Err e
+abbrev pub reported : Result World RunError → Result Report RunError
+reported (Ok w) = Ok record { fibers = map fiber_report w.fibers }
+reported (Err e) = Err e

@@ -1,4 +1,4 @@
--- When a read or a write of a device has failed.
+-- When a read or a write of a device has failed, and when a read has found the end.
 use Rattle.std.specs.Prelude.{◌==◌, ◌&&◌, ℕ, Bool, true, false, List, length, nat_lt, Result, Ok, Err}
 use Rattle.outcome_trace.specs.declared.device.ReadError.{ReadError}
 use Rattle.outcome_trace.specs.declared.device.ReadError.TheVariants.{Interrupted, Failed}
@@ -8,6 +8,11 @@ abbrev pub read_failed : Result ℕ ReadError → Bool
 read_failed (Ok n) = false
 read_failed (Err Interrupted) = false
 read_failed (Err Failed) = true
+
+-- the read gave nothing, where there was room for bytes
+abbrev pub found_end : Result ℕ ReadError → List ℕ → Bool
+found_end (Ok n) buffer = (n == 0) && nat_lt 0 (length buffer)
+found_end (Err e) buffer = false
 
 -- the write gave no count, or took nothing of some bytes
 abbrev pub write_failed : {E : Type 0} → Result ℕ E → List ℕ → Bool

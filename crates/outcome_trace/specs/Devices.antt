@@ -1,10 +1,11 @@
 -- What a program's devices are seen to be: where its text comes from, where its answer goes, and where faults are told.
 use Rattle.std.specs.Prelude.{ℕ, Bool, List, Option}
 
--- the bytes that reads will give, where they are known, whether a read has failed, and how many reads were made
+-- the bytes that reads will give, where they are known, whether a read has failed, whether one has found the end of the input, and how many reads were made
 pub record Reader : Type 0 where
   pub remaining : Option (List ℕ)
   pub failed : Bool
+  pub ended : Bool
   pub reads : ℕ
 
 -- the bytes that went out, where they are known, and whether a write has failed
@@ -17,8 +18,8 @@ pub record Devices : Type 0 where
   pub out : Writer
   pub err : Writer
 
-abbrev pub reader : Option (List ℕ) → Bool → ℕ → Reader
-reader remaining failed reads = record { remaining = remaining; failed = failed; reads = reads }
+abbrev pub reader : Option (List ℕ) → Bool → Bool → ℕ → Reader
+reader remaining failed ended reads = record { remaining = remaining; failed = failed; ended = ended; reads = reads }
 
 abbrev pub writer : Option (List ℕ) → Bool → Writer
 writer contents failed = record { contents = contents; failed = failed }

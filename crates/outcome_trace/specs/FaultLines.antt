@@ -1,5 +1,5 @@
 -- The lines that tell a fault of a device or of a schedule's text.
-use Rattle.std.specs.Prelude.{◌≡◌, ◌⊎◌, ℕ, List, [], ◌∷◌, ◌++◌, codes}
+use Rattle.std.specs.Prelude.{ℕ, List, [], ◌∷◌, ◌++◌, codes}
 use Rattle.outcome_trace.specs.declared.fault.TextFault.{TextFault}
 use Rattle.outcome_trace.specs.declared.fault.TextFault.TheVariants.{NoMemory, ReadFault, WriteFault, TurnBound}
 use Rattle.outcome_trace.specs.Lines.{told}
@@ -13,7 +13,3 @@ fault_line TurnBound = codes "fault 25 TurnBound" ++ 10 ∷ []
 -- of a schedule's text whose first bad item has this place
 abbrev pub schedule_line : ℕ → List ℕ
 schedule_line place = told (codes "fault 27 BadSchedule ") place
-
--- the line tells the fault, or that there was no memory to tell it
-abbrev pub TellsFault : TextFault → List ℕ → Type 0
-TellsFault fault line = (line ≡ fault_line fault) ⊎ (line ≡ fault_line NoMemory)

@@ -7,12 +7,14 @@ pub mod Orders
 pub mod Lines
 pub mod ReplayAnswers
 pub mod ReportText
+pub mod Status
 pub mod Wrapped
 pub mod Text
 pub mod Schedule
 pub mod Reading
 pub mod Digits
 pub mod Core
-pub mod Room
-pub mod Fit
-pub mod Steps
+pub mod Fitting
+pub mod Permits
+pub mod Private
+pub mod Stands

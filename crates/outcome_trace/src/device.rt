@@ -1,11 +1,10 @@
 //! Devices that a text is read from and written to, and how any reader or writer is one.
 
-ghost use Rattle.std.specs.Prelude.{◌≡◌, ◌↔◌, ◌+◌, ◌-◌, ◌<◌, ◌^◌, ℕ, Option, List, Bool, false};
+ghost use Rattle.std.specs.Prelude.{◌≡◌, ◌||◌, ◌+◌, ◌-◌, ◌<◌, ◌^◌, ℕ, Option, List, Bool, false};
 ghost use Rattle.std.specs.Io.{ReadsAtMost, WritesAtMost};
-ghost use Rattle.std.specs.IoError.{error_kind};
 ghost use Rattle.std.specs.Io.KnownBytes.{ReadConsumes, WriteAppends};
-ghost use Rattle.outcome_trace.specs.Device.{read_failed, write_failed};
-ghost use Rattle.outcome_trace.specs.Wrapped.{reader_of, read_has_failed, reads_of, writer_of, write_has_failed};
+ghost use Rattle.outcome_trace.specs.Device.{found_end, read_failed, write_failed};
+ghost use Rattle.outcome_trace.specs.Wrapped.{reader_of, read_has_failed, has_found_end, reads_of, writer_of, write_has_failed};
 
 use std::io;
 use std::io::{ErrorKind, Read, Write};
@@ -31,6 +30,9 @@ pub trait TextIn {
     // Whether a read has failed.
     ghost has_failed: { Self → Bool };
 
+    // Whether a read has found the end of the input.
+    ghost has_ended: { Self → Bool };
+
     // How many reads were made.
     ghost reads: { Self → ℕ };
 
@@ -42,6 +44,7 @@ pub trait TextIn {
         ensures bound { ReadsAtMost result buffer.new }
         ensures bytes { ReadConsumes (remaining self.old) (remaining self.new) result buffer.new }
         ensures failed { has_failed self.new ≡ read_failed result }
+        ensures ended { has_ended self.new ≡ (has_ended self.old || found_end result buffer.new) }
         ensures counted { reads self.new ≡ reads self.old + 1 };
 }
 
@@ -59,99 +62,4 @@ pub trait TextOut {
         ensures bound { WritesAtMost result bytes.now }
         ensures bytes { WriteAppends (contents self.old) (contents self.new) result bytes.now }
         ensures failed { has_failed self.new ≡ write_failed result bytes.now };
-}
-
-/// What a reader's error means: it is to be asked again where it was interrupted, and else it has
-/// failed.
-fn read_error(error: &io::Error) -> ReadError
-    ensures { (result ≡ ReadError.Interrupted) ↔ (error_kind error.now ≡ ErrorKind.Interrupted) }
-{
-    match error.kind() {
-        ErrorKind::Interrupted => ReadError::Interrupted,
-        _ => ReadError::Failed,
-    }
-}
-
-/// Any reader, as a device. It keeps whether a read has failed, and counts the reads.
-#[derive(Drop)]
-pub struct FromRead<R> {
-    inner: R,
-    failed: bool,
-    reads: u64,
-}
-
-impl<R> FromRead<R> {
-    /// The reader, of which nothing has been read through this device.
-    pub fn new(inner: R) -> FromRead<R>
-        ensures reader { reader_of result ≡ inner }
-        ensures healthy { read_has_failed result ≡ false }
-        ensures unread { reads_of result ≡ 0 }
-    {
-        FromRead {
-            inner,
-            failed: false,
-            reads: 0,
-        }
-    }
-}
-
-impl<R: Read> TextIn for FromRead<R> {
-    ghost remaining = { λ d. R.remaining (reader_of d) };
-
-    ghost has_failed = { λ d. read_has_failed d };
-
-    ghost reads = { λ d. reads_of d };
-
-    fn read_some(&mut self, buffer: &mut [u8]) -> Result<usize, ReadError> {
-        self.reads += 1;
-        match self.inner.read(buffer) {
-            Ok(count) => Ok(count),
-            Err(error) => match read_error(&error) {
-                ReadError::Interrupted => Err(ReadError::Interrupted),
-                ReadError::Failed => {
-                    self.failed = true;
-                    Err(ReadError::Failed)
-                }
-            },
-        }
-    }
-}
-
-/// Any writer, as a device. It keeps whether a write has failed.
-#[derive(Drop)]
-pub struct ToWrite<W> {
-    inner: W,
-    failed: bool,
-}
-
-impl<W> ToWrite<W> {
-    /// The writer, to which nothing has been written through this device.
-    pub fn new(inner: W) -> ToWrite<W>
-        ensures writer { writer_of result ≡ inner }
-        ensures healthy { write_has_failed result ≡ false }
-    {
-        ToWrite {
-            inner,
-            failed: false,
-        }
-    }
-}
-
-impl<W: Write> TextOut for ToWrite<W> {
-    ghost contents = { λ d. W.contents (writer_of d) };
-
-    ghost has_failed = { λ d. write_has_failed d };
-
-    fn write_some(&mut self, bytes: &[u8]) -> Result<usize, WriteFailed> {
-        match self.inner.write(bytes) {
-            Ok(count) => {
-                self.failed = count == 0 && !bytes.is_empty();
-                Ok(count)
-            }
-            Err(_) => {
-                self.failed = true;
-                Err(WriteFailed)
-            }
-        }
-    }
 }

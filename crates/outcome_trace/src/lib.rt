@@ -18,25 +18,28 @@ mod orders;
 mod replay_texts;
 mod report;
 mod report_text;
+mod reports;
 mod schedule;
 mod scheduled;
-#[cfg(test)]
-mod scheduled_tests;
-#[cfg(test)]
-mod tests;
+mod status;
 mod text;
+mod text_order;
 mod wish;
+mod wrapped;
 
-pub use answers::{FAULT, REFUSED, check_text, show_text};
+pub use answers::{CheckOrder, ShowOrder};
 pub use cell_registry::Limits;
-pub use device::{FromRead, ReadError, TextIn, TextOut, ToWrite, WriteFailed};
+pub use device::{ReadError, TextIn, TextOut, WriteFailed};
 pub use fault::TextFault;
 pub use lines::{Refused, line};
-pub use orders::{Order, USAGE, obey, tell_fault, tell_no_memory};
-pub use replay_texts::replay_text;
+pub use orders::{Order, obey, obey_text, tell_fault};
+pub use replay_texts::{ReplayOrder, replay_text};
 pub use report::{FiberReport, FiberReports, Marks, Report};
 pub use report_text::{print_report, text_of_report};
 pub use schedule::{MOST_ENTRIES, ScheduleError, read_schedule};
 pub use scheduled::replay;
+pub use status::Status;
 pub use text::{TEXT_BOUND, read_text, write_text};
+pub use text_order::{Answer, TextOrder, answer_text};
 pub use wish::Wish;
+pub use wrapped::{FromRead, Sink, Source, ToWrite};

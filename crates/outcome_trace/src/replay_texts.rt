@@ -1,50 +1,38 @@
 //! What comes of a text under a schedule: its report, or why there is none.
 
-ghost use Rattle.std.specs.Prelude.{◌≡◌, ◌≢◌, ◌+◌, ◌<◌, ◌^◌, false, IfOk, OnOk, IsErrOf};
+ghost use Rattle.std.specs.Prelude.{◌≡◌, ◌≢◌, ◌<◌, ◌^◌, false, IfOk, OnOk};
 ghost use Rattle.cell_registry.specs.Cells.{AreLimits};
-ghost use Rattle.outcome_trace.specs.Exchange.{Exchanges};
+ghost use Rattle.outcome_trace.specs.Devices.{reader, writer};
+ghost use Rattle.outcome_trace.specs.Exchange.{IsAnswered};
 ghost use Rattle.outcome_trace.specs.Lines.{run_line};
-ghost use Rattle.outcome_trace.specs.ReplayAnswers.{IsReplayAnswer, IsRunAnswer, report_status, stage_line};
+ghost use Rattle.outcome_trace.specs.ReplayAnswers.{IsReplayAnswer, IsRunAnswer, report_status};
 ghost use Rattle.outcome_trace.specs.ReportText.{text_of_fibers};
-ghost use Rattle.outcome_trace.specs.Text.{is_read_fault, is_write_fault};
 
-use crate::answers::{Answer, FAULT, read_program, refusal};
+use crate::answers::{read_program, refusal};
 use crate::device::{TextIn, TextOut};
 use crate::fault::TextFault;
 use crate::lines::{Refused, line};
 use crate::report::Report;
 use crate::report_text::text_of_report;
 use crate::scheduled::replay;
-use crate::text::{TEXT_BOUND, read_text, write_text};
+use crate::status::Status;
+use crate::text_order::{Answer, TextOrder, answer_text};
 use cell_registry::{Limits, RunError};
-use derived_ops::is_supported;
 use effect_term::{Outcome, Program};
 use std::alloc::{AllocError, Global};
 
-/// The answer where a word of the program isn't run yet.
-fn stage_answer(alloc: Global) -> Result<Answer, AllocError>
-    ensures line { IfOk result (λ a. a.text.items ≡ stage_line) }
-    ensures status { IfOk result (λ a. a.status ≡ FAULT) }
-{
-    let line = String::from_str(alloc, "fault stage\n")?;
-    Ok(Answer {
-        text: line.into_bytes(),
-        status: FAULT,
-    })
-}
-
 /// The status of a program that writes this report.
-fn report_status(report: &Report) -> u8
+fn report_status(report: &Report) -> Status
     ensures { result ≡ report_status report.now.fibers }
 {
     let Some(first) = report.fibers.as_slice().first() else {
-        return 3;
+        return Status::Unended;
     };
     match first.outcome {
-        Some(Outcome::Succeeded(_)) => 0,
-        Some(Outcome::Errored(_)) => 1,
-        Some(Outcome::Canceled) => 2,
-        None => 3,
+        Some(Outcome::Succeeded(_)) => Status::Succeeded,
+        Some(Outcome::Errored(_)) => Status::Errored,
+        Some(Outcome::Canceled) => Status::Canceled,
+        None => Status::Unended,
     }
 }
 
@@ -63,14 +51,14 @@ fn report_answer(alloc: Global, report: &Report) -> Result<Answer, AllocError>
 /// The answer where the run ended with a fault. Want of memory is no answer.
 fn fault_answer(alloc: Global, error: RunError) -> Result<Answer, AllocError>
     ensures line { IfOk result (λ a. a.text.items ≡ run_line error) }
-    ensures status { IfOk result (λ a. a.status ≡ FAULT) }
+    ensures status { IfOk result (λ a. a.status ≡ Status.Fault) }
     ensures memory { OnOk result (error ≢ RunError.NoMemory) }
 {
     match error {
         RunError::NoMemory => Err(AllocError),
         error => Ok(Answer {
             text: line(alloc, &Refused::Run(error))?,
-            status: FAULT,
+            status: Status::Fault,
         }),
     }
 }
@@ -85,58 +73,54 @@ fn run_answer(
     requires { AreLimits limits }
     ensures { IfOk result (λ a. IsRunAnswer program.now schedule.now limits a.text.items a.status) }
 {
-    if !is_supported(program) {
-        return stage_answer(alloc);
-    }
     match replay(alloc, program, schedule, limits) {
         Ok(report) => report_answer(alloc, &report),
         Err(error) => fault_answer(alloc, error),
     }
 }
 
-/// What comes of a text under a schedule.
-fn replay_answer(
-    alloc: Global,
-    text: &[u8],
-    schedule: &[u16],
-    limits: Limits,
-) -> Result<Answer, AllocError>
-    requires { AreLimits limits }
-    ensures { IfOk result (λ a. IsReplayAnswer schedule.now limits text.now a.text.items a.status) }
-{
-    match read_program(alloc, text) {
-        Ok(program) => run_answer(alloc, &program, schedule, limits),
-        Err(refused) => refusal(alloc, refused),
+/// Tells what the program that the text spells comes to under a schedule: its report, with the status
+/// of fiber 0's end, or the line of the text's refusal, with `Status::Refused`, or of the run's fault,
+/// with `Status::Fault`.
+#[derive(Clone, Copy, Debug)]
+pub struct ReplayOrder<'a> {
+    /// Whose move is next, from the first entry on.
+    pub schedule: &'a [u16],
+    /// How many fibers, refs and deferreds there may be (each 1 to 1000), and how often a fiber may
+    /// change its own state (1 to 262,143).
+    pub limits: Limits,
+    pub ghost ranges: { AreLimits limits },
+}
+
+impl TextOrder for ReplayOrder<'_> {
+    ghost answers = { λ order. IsReplayAnswer order.schedule.now order.limits };
+
+    fn answer(&self, alloc: Global, text: &[u8]) -> Result<Answer, AllocError> {
+        match read_program(alloc, text) {
+            Ok(program) => run_answer(alloc, &program, self.schedule, self.limits),
+            Err(refused) => refusal(alloc, refused),
+        }
     }
 }
 
-/// Reads a text, and writes what its program comes to under the schedule: its report, with the
-/// status of fiber 0's end (0 succeeded, 1 errored, 2 canceled, 3 not ended), the line of the
-/// text's refusal, with status 65, or the line of the run's fault, with status 70.
-///
-/// Where memory runs out, or the reader fails, nothing is written.
+/// Reads a text, and writes what its program comes to under the schedule ([`ReplayOrder`]), as
+/// [`answer_text`] does.
 pub fn replay_text<I: TextIn, O: TextOut>(
     alloc: Global,
     input: &mut I,
     schedule: &[u16],
     limits: Limits,
     out: &mut O,
-) -> Result<u8, TextFault>
+) -> Result<Status, TextFault>
     requires input { I.has_failed input.old ≡ false }
     requires countable { I.reads input.old < 2 ^ 63 }
     requires out { O.has_failed out.old ≡ false }
     requires limits { AreLimits limits }
-
-    // The answer to the text that was read goes out, or as much of its front as the fault tells.
-    ensures answered { Exchanges (IsReplayAnswer schedule.now limits) (I.remaining input.old) (I.remaining input.new) (O.contents out.old) (O.contents out.new) result }
-
-    // The faults of the devices are told exactly where they failed.
-    ensures reader { I.has_failed input.new ≡ is_read_fault result }
-    ensures writer { O.has_failed out.new ≡ is_write_fault result }
-    ensures turns { IsErrOf result TextFault.TurnBound → I.reads input.new ≡ I.reads input.old + TEXT_BOUND }
+    ensures { let before = reader (I.remaining input.old) (I.has_failed input.old) (I.has_ended input.old) (I.reads input.old) in
+        let after = reader (I.remaining input.new) (I.has_failed input.new) (I.has_ended input.new) (I.reads input.new) in
+        let old = writer (O.contents out.old) (O.has_failed out.old) in
+        let new = writer (O.contents out.new) (O.has_failed out.new) in
+        IsAnswered (IsReplayAnswer schedule.now limits) before after old new result }
 {
-    let text = read_text(alloc, input)?;
-    let answer = replay_answer(alloc, text.as_slice(), schedule, limits)?;
-    write_text(answer.text.as_slice(), out)?;
-    Ok(answer.status)
+    answer_text(alloc, &ReplayOrder { schedule, limits }, input, out)
 }

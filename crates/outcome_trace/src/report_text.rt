@@ -10,22 +10,32 @@ use crate::report::{FiberReport, Report};
 use crate::text::write_text;
 use effect_term::Outcome;
 use fiber_frames::Mark;
+use itoa::{Buffer, Integer};
 use std::alloc::{AllocError, Global};
+
+/// A word and a number.
+fn push_number<I: Integer>(text: &mut String, word: &str, number: I) -> Result<(), AllocError>
+    ensures { OnOk result (string_bytes text.new ≡ string_bytes text.old ++ (word.now ++ I.text number)) }
+{
+    let mut digits = Buffer::new();
+    text.push_str(word)?;
+    text.push_str(digits.format(number))
+}
 
 fn push_mark(text: &mut String, mark: Mark) -> Result<(), AllocError>
     ensures { OnOk result (string_bytes text.new ≡ string_bytes text.old ++ mark_text mark) }
 {
     match mark {
-        Mark::Say(value) => write!(text, "say {value}"),
-        Mark::Enter(mask) => write!(text, "enter {mask}"),
-        Mark::Leave(mask) => write!(text, "leave {mask}"),
-        Mark::PollIn(mask) => write!(text, "in {mask}"),
-        Mark::PollOut(mask) => write!(text, "out {mask}"),
-        Mark::Cut => write!(text, "cut"),
-        Mark::Acquired(mask) => write!(text, "acquired {mask}"),
-        Mark::Releasing(mask) => write!(text, "releasing {mask}"),
-        Mark::Released(mask) => write!(text, "released {mask}"),
-        Mark::Dropped(code) => write!(text, "dropped {code}"),
+        Mark::Say(value) => push_number(text, "say ", value),
+        Mark::Enter(mask) => push_number(text, "enter ", mask),
+        Mark::Leave(mask) => push_number(text, "leave ", mask),
+        Mark::PollIn(mask) => push_number(text, "in ", mask),
+        Mark::PollOut(mask) => push_number(text, "out ", mask),
+        Mark::Cut => text.push_str("cut"),
+        Mark::Acquired(mask) => push_number(text, "acquired ", mask),
+        Mark::Releasing(mask) => push_number(text, "releasing ", mask),
+        Mark::Released(mask) => push_number(text, "released ", mask),
+        Mark::Dropped(code) => push_number(text, "dropped ", code),
     }
 }
 
@@ -55,17 +65,18 @@ fn push_outcome(text: &mut String, outcome: Option<Outcome>) -> Result<(), Alloc
     ensures { OnOk result (string_bytes text.new ≡ string_bytes text.old ++ outcome_text outcome) }
 {
     match outcome {
-        Some(Outcome::Succeeded(value)) => write!(text, "succeeded {value}"),
-        Some(Outcome::Errored(code)) => write!(text, "errored {code}"),
-        Some(Outcome::Canceled) => write!(text, "canceled"),
-        None => write!(text, "unended"),
+        Some(Outcome::Succeeded(value)) => push_number(text, "succeeded ", value),
+        Some(Outcome::Errored(code)) => push_number(text, "errored ", code),
+        Some(Outcome::Canceled) => text.push_str("canceled"),
+        None => text.push_str("unended"),
     }
 }
 
 fn push_fiber(text: &mut String, number: usize, fiber: &FiberReport) -> Result<(), AllocError>
     ensures { OnOk result (string_bytes text.new ≡ string_bytes text.old ++ fiber_line number fiber.now) }
 {
-    write!(text, "fiber {number} ")?;
+    push_number(text, "fiber ", number)?;
+    text.push_str(" ")?;
     push_outcome(text, fiber.outcome)?;
     push_marks(text, fiber.marks.as_slice())?;
     text.push_str("\n")

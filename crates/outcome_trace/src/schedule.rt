@@ -103,13 +103,26 @@ fn push_times(entries: &mut Vec<u16>, fiber: u16, times: u32) -> Result<(), Allo
     entries.resize(len, fiber)
 }
 
+/// How many entries the items of a text have, up to `MOST_ENTRIES`, so that their vector is made once.
+/// An item that is bad counts as none.
+fn count_entries(text: &str) -> usize
+    ensures { result ≤ MOST_ENTRIES }
+{
+    let mut count = 0usize;
+    for part in text.split(' ') {
+        let (_, times) = item(part).unwrap_or((0, 0));
+        count = MOST_ENTRIES.min(count + times as usize);
+    }
+    count
+}
+
 /// The entries of a text that isn't empty.
 fn read_items(alloc: Global, text: &str) -> Result<Vec<u16>, ScheduleError>
     requires { 0 < length text.now }
     ensures found { IfOk result (λ schedule. SpellsEntries text.now schedule.items) }
     ensures place { (place : ℕ) → IsErrOf result (ScheduleError.BadSchedule place) → IsFirstBad text.now place }
 {
-    let mut entries = Vec::new(alloc);
+    let mut entries = Vec::with_capacity(alloc, count_entries(text))?;
     let mut rest = text;
     'items: loop {
         let (first, behind) = first_item(rest);

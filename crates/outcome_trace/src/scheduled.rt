@@ -1,44 +1,48 @@
 //! A program under a schedule, one move for each entry.
-ghost use Rattle.std.specs.Prelude.{◌≡◌, ◌⊎◌, IsTrue, IfOk, IfErr, IfSome, IfNone, OnOk, MatchResult, Ok as GoesWell, Err as Fails, [], ◌∷◌};
+ghost use Rattle.std.specs.Prelude.{◌≡◌, ◌⊎◌, ◌++◌, IfOk, IfErr, IfSome, IfNone, OnOk, MatchResult, Ok as GoesWell, Err as Fails, [], ◌∷◌};
+ghost use Rattle.std.specs.List.{All, fold};
+ghost use Rattle.std.specs.Option.{option_to_list};
 ghost use Rattle.derived_ops.specs.Expansion.{code_of};
+ghost use Rattle.derived_ops.specs.Naming.{Given};
 ghost use Rattle.derived_ops.specs.Reading.{source_of};
-ghost use Rattle.derived_ops.specs.Supported.{supported};
-ghost use Rattle.fiber_frames.specs.Fiber.{ask_of, outcome_of};
-ghost use Rattle.cell_registry.specs.Cells.{AreLimits, OutcomeFits, cell_of};
-ghost use Rattle.cell_registry.specs.Plain.{MayCall, IsMade, IsRefused};
-ghost use Rattle.outcome_trace.specs.Core.{Goes, Stops, one_fiber, entered, core_from, core, fault_of, over_in, fiber_report, reported};
-ghost use Rattle.outcome_trace.specs.Fit.{Fits, IsInRange};
-ghost use Rattle.outcome_trace.specs.Steps.{Steps};
+ghost use Rattle.fiber_frames.specs.Fiber.{ask_of, begins};
+ghost use Rattle.fiber_frames.specs.Marks.{AreLawful};
+ghost use Rattle.fiber_frames.specs.Naming.{NamedBeginning};
+ghost use Rattle.cell_registry.specs.Cells.{AreLimits, OutcomeFits};
+ghost use Rattle.cell_registry.specs.Plain.{MayCall, IsMade, IsPlain, IsRefused};
+ghost use Rattle.outcome_trace.specs.Core.{entered, core, fault_of, reported, wish_of};
+ghost use Rattle.outcome_trace.specs.Fitting.{Fits, cell_registered};
+ghost use Rattle.outcome_trace.specs.Permits.{IsInRange};
+ghost use Rattle.outcome_trace.specs.Private.Asking.{Asking};
+ghost use Rattle.outcome_trace.specs.Private.Moving.{AllFit, Moves, Refuses, Replied, world_of};
 
-use crate::report::{FiberReport, FiberReports, Marks, Report};
+use crate::report::Report;
+use crate::reports::report;
 use crate::wish::Wish;
 use cell_registry::{Call, CellError, Limits, PlainRegistry, RunError};
 use derived_ops::expand;
 use effect_term::{Outcome, Program, Reply};
-use fiber_frames::{Ask, Config};
+use fiber_frames::{Config, Moved};
 use std::alloc::{AllocError, Global};
 
 /// The report of a program under a schedule, in which each entry makes one move of the fiber of
 /// that number. An entry of a fiber that isn't born or has ended changes nothing.
 ///
-/// The words of the program are among those that run today
-/// ([`is_supported`](derived_ops::is_supported)), and the limits are in their ranges ([`Limits`]).
-/// The first call that the registry refuses ends the run, with [`RunError::Full`] or
-/// [`RunError::Spent`]; where memory runs out, the answer is [`RunError::NoMemory`].
+/// The report is that of the core, and the marks of each fiber in it are lawful. The limits are in
+/// their ranges ([`Limits`]). The first call that the registry refuses ends the run, with
+/// [`RunError::Full`] or [`RunError::Spent`]; where memory runs out, the answer is
+/// [`RunError::NoMemory`]. An entry costs the same however many fibers there are.
 pub fn replay(
     alloc: Global,
     program: &Program,
     schedule: &[u16],
     limits: Limits,
 ) -> Result<Report, RunError>
-    requires words { IsTrue (supported (source_of program.now)) }
     requires limits { AreLimits limits }
-    ensures { (result ≡ Fails RunError.NoMemory) ⊎ (result ≡ reported (core (code_of (source_of program.now)) limits schedule.now)) }
+    ensures core { (result ≡ Fails RunError.NoMemory) ⊎ (result ≡ reported (core (code_of (source_of program.now)) limits schedule.now)) }
+    ensures lawful { IfOk result (λ report. All (λ f. AreLawful f.marks f.outcome) report.fibers) }
 {
-    // A program has at most 250 masks below one another.
-    let _ = program.term();
-    let code = expand(alloc, program)?;
-    let mut config = Config::new(alloc, &code)?;
+    let mut fibers = first_fibers(alloc, program)?;
     let mut registry = PlainRegistry::new(
         alloc,
         limits.fibers,
@@ -46,51 +50,101 @@ pub fn replay(
         limits.deferreds,
         limits.count,
     )?;
-    entries(&mut config, &mut registry, schedule)?;
-    let report = report(alloc, &config)?;
+    entries(&mut fibers, &mut registry, schedule)?;
+    let report = report(alloc, fibers.as_slice())?;
     Ok(report)
+}
+
+// The fibers of a program before the first move: fiber 0 alone.
+fn first_fibers(alloc: Global, program: &Program) -> Result<Vec<Config>, AllocError>
+    ensures first { IfOk result (λ fibers. fibers.items ≡ begins 0 (code_of (source_of program.now)) ∷ []) }
+    ensures named { IfOk result (λ _. (given : Given) → NamedBeginning given (begins 0 (code_of (source_of program.now)))) }
+{
+    let code = expand(alloc, program)?;
+    let first = Config::new(alloc, &code)?;
+    let mut fibers = Vec::new(alloc);
+    fibers.push(first)?;
+    Ok(fibers)
 }
 
 // All entries of a schedule.
 fn entries(
-    config: &mut Config,
+    fibers: &mut Vec<Config>,
     registry: &mut PlainRegistry,
     schedule: &[u16],
 ) -> Result<(), RunError>
-    requires { Fits 0 config.old (cell_of registry.old.state 0) }
-    ensures fits { OnOk result (Fits 0 config.new (cell_of registry.new.state 0)) }
-    ensures goes { OnOk result (core_from registry.old.limits (Goes (one_fiber config.old registry.old.state)) schedule.now ≡ Goes (one_fiber config.new registry.new.state)) }
-    ensures stops { IfErr result (λ e. (e ≡ RunError.NoMemory) ⊎ (core_from registry.old.limits (Goes (one_fiber config.old registry.old.state)) schedule.now ≡ Stops e)) }
+    requires { AllFit (world_of fibers.old.items registry.old.state) }
+    ensures goes { OnOk result (fold (entered registry.old.limits) (GoesWell (world_of fibers.old.items registry.old.state)) schedule.now ≡ GoesWell (world_of fibers.new.items registry.new.state)) }
+    ensures stops { IfErr result (λ e. (e ≡ RunError.NoMemory) ⊎ (fold (entered registry.old.limits) (GoesWell (world_of fibers.old.items registry.old.state)) schedule.now ≡ Fails e)) }
 {
     for number in schedule {
-        if *number == 0 {
-            entry(config, registry)?;
+        entry(fibers, registry, *number)?;
+    }
+    Ok(())
+}
+
+// An entry: the move of the fiber of this number, if it is born and has a move.
+fn entry(
+    fibers: &mut Vec<Config>,
+    registry: &mut PlainRegistry,
+    number: u16,
+) -> Result<(), RunError>
+    requires { AllFit (world_of fibers.old.items registry.old.state) }
+    ensures limits { OnOk result (registry.new.limits ≡ registry.old.limits) }
+    ensures fits { OnOk result (AllFit (world_of fibers.new.items registry.new.state)) }
+    ensures goes { OnOk result (entered registry.old.limits (GoesWell (world_of fibers.old.items registry.old.state)) number ≡ GoesWell (world_of fibers.new.items registry.new.state)) }
+    ensures stops { IfErr result (λ e. (e ≡ RunError.NoMemory) ⊎ (entered registry.old.limits (GoesWell (world_of fibers.old.items registry.old.state)) number ≡ Fails e)) }
+{
+    let place = usize::from(number);
+    if place < fibers.len() {
+        match make_move(&mut fibers[place], registry, number)? {
+            Some(child) => add(fibers, child)?,
+            None => {}
         }
     }
     Ok(())
 }
 
-// An entry of fiber 0, the only fiber that is born.
-fn entry(config: &mut Config, registry: &mut PlainRegistry) -> Result<(), RunError>
-    requires { Fits 0 config.old (cell_of registry.old.state 0) }
-    ensures limits { OnOk result (registry.new.limits ≡ registry.old.limits) }
-    ensures fits { OnOk result (Fits 0 config.new (cell_of registry.new.state 0)) }
-    ensures goes { OnOk result (entered registry.old.limits (Goes (one_fiber config.old registry.old.state)) 0 ≡ Goes (one_fiber config.new registry.new.state)) }
-    ensures stops { IfErr result (λ e. (e ≡ RunError.NoMemory) ⊎ (entered registry.old.limits (Goes (one_fiber config.old registry.old.state)) 0 ≡ Stops e)) }
+// One more fiber, with the next number.
+fn add(fibers: &mut Vec<Config>, child: Config) -> Result<(), AllocError>
+    ensures { OnOk result (fibers.new.items ≡ fibers.old.items ++ child ∷ []) }
 {
-    if let Some(reply) = reply(config, registry)? {
-        config.resume(reply)?;
-    }
+    fibers.push(child)?;
     Ok(())
 }
 
-// The reply under which fiber 0 makes its next move, or none where it has ended.
-fn reply(config: &Config, registry: &mut PlainRegistry) -> Result<Option<Reply>, RunError>
-    requires { Fits 0 config.now (cell_of registry.old.state 0) }
-    ensures limits { registry.new.limits ≡ registry.old.limits }
-    ensures steps { IfOk result (λ it. IfSome it (λ reply. Steps registry.old.limits config.now registry.old.state reply registry.new.state)) }
-    ensures rests { IfOk result (λ it. IfNone it ((registry.new ≡ registry.old) × (entered registry.old.limits (Goes (one_fiber config.now registry.old.state)) 0 ≡ Goes (one_fiber config.now registry.old.state)))) }
-    ensures stops { IfErr result (λ e. entered registry.old.limits (Goes (one_fiber config.now registry.old.state)) 0 ≡ Stops e) }
+// The next move of a fiber, if it has one; the child that it starts, if it does.
+fn make_move(
+    config: &mut Config,
+    registry: &mut PlainRegistry,
+    number: u16,
+) -> Result<Option<Config>, RunError>
+    requires { Fits (cell_registered registry.old.state number) config.old }
+    ensures lawful { IsPlain registry.old }
+    ensures moves { IfOk result (λ child. Moves registry.old number config.old registry.new config.new (option_to_list child)) }
+    ensures stops { IfErr result (λ e. (e ≡ RunError.NoMemory) ⊎ Refuses registry.old number config.old e) }
+{
+    let Some(reply) = reply(config, registry, number)? else {
+        return Ok(None);
+    };
+    match config.resume(reply)? {
+        Moved::Born(child) => Ok(Some(child)),
+        Moved::Plain | Moved::Waited | Moved::Ceded | Moved::Ended(_) => Ok(None),
+    }
+}
+
+// The reply under which a fiber makes its next move, or none where it has none.
+fn reply(
+    config: &Config,
+    registry: &mut PlainRegistry,
+    number: u16,
+) -> Result<Option<Reply>, RunError>
+    requires { Fits (cell_registered registry.old.state number) config.now }
+    ensures asking { Asking config.now }
+    ensures lawful { IsPlain registry.old }
+    ensures replied { IfOk result (λ it. IfSome it (λ reply. Replied registry.old number config.now reply registry.new)) }
+    ensures rests { IfOk result (λ it. IfNone it ((wish_of (ask_of config.now) ≡ Wish.Nothing) × (registry.new ≡ registry.old))) }
+    ensures stops { IfErr result (λ e. Refuses registry.old number config.now e) }
 {
     // The registry is within its limits.
     let _ = registry.limits();
@@ -99,9 +153,9 @@ fn reply(config: &Config, registry: &mut PlainRegistry) -> Result<Option<Reply>,
         Wish::Alone => return Ok(Some(Reply::Done)),
         Wish::Shared(call) => call,
     };
-    match answer(registry, 0, call) {
+    match answer(registry, number, call) {
         Ok(reply) => Ok(Some(reply)),
-        Err(error) => Err(fault(0, error)),
+        Err(error) => Err(fault(number, error)),
     }
 }
 
@@ -162,24 +216,4 @@ fn fault(fiber: u16, error: CellError) -> RunError
         CellError::Full(band, limit) => RunError::Full(band, limit),
         CellError::Spent(_) => RunError::Spent(fiber),
     }
-}
-
-// The report of fiber 0 alone.
-fn report(alloc: Global, config: &Config) -> Result<Report, AllocError>
-    requires { outcome_of config.now ≡ over_in (ask_of config.now) }
-    ensures { IfOk result (λ it. it ≡ record { fibers = fiber_report config.now ∷ [] }) }
-{
-    let outcome = match config.ask() {
-        Ask::Over(outcome) => Some(outcome),
-        _ => None,
-    };
-    let marks = Vec::from_slice(alloc, config.trace())?;
-    let mut fibers = Vec::new(alloc);
-    fibers.push(FiberReport {
-        outcome,
-        marks: Marks::new(marks),
-    })?;
-    Ok(Report {
-        fibers: FiberReports::new(fibers),
-    })
 }

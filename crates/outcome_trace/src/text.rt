@@ -1,8 +1,10 @@
 //! Whole texts, read from a device and written to one.
 
-ghost use Rattle.std.specs.Prelude.{◌≡◌, ◌≢◌, ◌+◌, ◌-◌, ◌<◌, ◌≤◌, ◌^◌, ℕ, false, IfOk, IsErrOf, length, take, drop, vec_len};
-ghost use Rattle.std.specs.Io.KnownBytes.{Consumes, IsAtEnd, ReadConsumes};
-ghost use Rattle.outcome_trace.specs.Device.{read_failed};
+ghost use Rattle.std.specs.Prelude.{◌≡◌, ◌≢◌, ◌||◌, ◌+◌, ◌-◌, ◌<◌, ◌≤◌, ◌^◌, ℕ, false, IfOk, IsErrOf, length, take, drop, vec_len};
+ghost use Rattle.std.specs.Io.KnownBytes.{ReadConsumes};
+ghost use Rattle.outcome_trace.specs.Device.{found_end, read_failed};
+ghost use Rattle.outcome_trace.specs.Devices.{reader};
+ghost use Rattle.outcome_trace.specs.Exchange.{IsOutOfReads, IsRead};
 ghost use Rattle.outcome_trace.specs.Text.{GoesOut, OnlyWriteFaults, is_read_fault, is_write_fault};
 
 use crate::device::{ReadError, TextIn, TextOut};
@@ -15,21 +17,23 @@ pub const TEXT_BOUND: usize = 65_537;
 /// What is left of the input, up to `TEXT_BOUND` bytes. An interrupted read is tried again.
 ///
 /// It makes at most `TEXT_BOUND` reads, and asks that the reader has counted fewer than 2^63. The
-/// faults are `ReadFault` where a read failed, `TurnBound` where so many reads came neither to the
-/// end of the input nor to the last of the bytes, and `NoMemory` where memory ran out, which is
-/// before the first read.
+/// faults are `ReadFault` where a read failed, `TurnBound` where so many reads neither found the end
+/// of the input nor gave as many bytes, and `NoMemory` where memory ran out, which is before the
+/// first read.
 pub fn read_text<T: TextIn>(alloc: Global, input: &mut T) -> Result<Vec<u8>, TextFault>
     requires healthy { T.has_failed input.old ≡ false }
     requires countable { T.reads input.old < 2 ^ 63 }
 
     // It gives what it took from the input, which is all of it, or `TEXT_BOUND` bytes.
-    ensures taken { IfOk result (λ text. Consumes (T.remaining input.old) (T.remaining input.new) text.items) }
-    ensures bound { IfOk result (λ text. vec_len text ≤ TEXT_BOUND) }
-    ensures ended { IfOk result (λ text. vec_len text < TEXT_BOUND → IsAtEnd (T.remaining input.new)) }
+    ensures read { let before = reader (T.remaining input.old) (T.has_failed input.old) (T.has_ended input.old) (T.reads input.old) in
+        let after = reader (T.remaining input.new) (T.has_failed input.new) (T.has_ended input.new) (T.reads input.new) in
+        IfOk result (λ text. IsRead before after text.items) }
 
     // The fault is told exactly where the reader failed.
     ensures failed { T.has_failed input.new ≡ is_read_fault result }
-    ensures turns { IsErrOf result TextFault.TurnBound → T.reads input.new ≡ T.reads input.old + TEXT_BOUND }
+    ensures turns { let before = reader (T.remaining input.old) (T.has_failed input.old) (T.has_ended input.old) (T.reads input.old) in
+        let after = reader (T.remaining input.new) (T.has_failed input.new) (T.has_ended input.new) (T.reads input.new) in
+        IsErrOf result TextFault.TurnBound → IsOutOfReads before after }
     ensures memory { IsErrOf result TextFault.NoMemory → input.new ≡ input.old }
     ensures nothing_written { (written : ℕ) → result ≢ Err (TextFault.WriteFault written) }
 {
@@ -64,6 +68,7 @@ fn read_after<T: TextIn>(buffer: &mut [u8], len: usize, input: &mut T) -> Result
     ensures kept { take len buffer.new ≡ take len buffer.old }
     ensures bytes { ReadConsumes (T.remaining input.old) (T.remaining input.new) result (drop len buffer.new) }
     ensures failed { T.has_failed input.new ≡ read_failed result }
+    ensures ended { T.has_ended input.new ≡ (T.has_ended input.old || found_end result (drop len buffer.new)) }
     ensures counted { T.reads input.new ≡ T.reads input.old + 1 }
 {
     input.read_some(&mut buffer[len..])

@@ -4,29 +4,31 @@ use Rattle.std.proofs.lemmas.Bool.{ltb-true}
 use Rattle.effect_term.specs.declared.term.Kind.TheVariants as kinds
 use Rattle.effect_term.specs.declared.term.Name.{Name}
 use Rattle.effect_term.specs.declared.term.Operand.TheVariants.{Number, Named}
-use Rattle.term_parse.specs.declared.table.Row.{Row}
+use Rattle.term_parse.specs.declared.table.Word.{Word}
 use Rattle.term_parse.specs.declared.table.Part.{Part}
 use Rattle.term_parse.specs.declared.table.Part.TheVariants.{Bind, Use, Value, Term, Under, UnderBoth, More, Close}
 use Rattle.term_parse.specs.declared.error.ParseError.{ParseError}
 use Rattle.term_parse.specs.declared.error.ParseError.TheVariants as errors
 use Rattle.term_parse.specs.Atoms.{Atom, word, value, name, ended}
+use Rattle.term_parse.specs.Language.{word_spelling, parts_of, word_of}
 use Rattle.term_parse.specs.Lexemes.{Lexeme, opens, closes, called, number, bad_number, bad_byte, Placed}
-use Rattle.term_parse.specs.Reading.{Bound, Want, term, a_word, parts, Step, want_step, part_step, begun, row_of, used, opening, entered, meaning, open_of, with_front, reads}
+use Rattle.term_parse.specs.Reading.{Bound, Want, term, a_word, parts, Step, want_step, part_step, begun, used, opening, entered, meaning, open_of, with_front, reads}
 use Rattle.term_parse.specs.Grammar.{Phrase, done, spelled, counted, form, tokens_of, depth_of, Means}
 use Rattle.term_parse.proofs.Fronts.{with_front-ok}
+use Rattle.term_parse.proofs.Words.{spelling-found}
 use Rattle.term_parse.proofs.ScopeLaws.{innermost-from_meaning}
 
 -- the tokens are those of these wants in turn, and mean these atoms
 abbrev pub Covered : List Want → List Placed → List Atom → Type 0
 Covered [] ts xs = (ts ≡ []) × (xs ≡ [])
 Covered (term s ∷ ws) ts xs =
-    (a : ℕ) × (c : ℕ) × (w : List ℕ) × (r : Row) × (p : Phrase) × (first : List Atom) × (more : List Placed) × (rest : List Atom)
-    × (ts ≡ record { lexeme = opens; place = a } ∷ record { lexeme = called w; place = c } ∷ (tokens_of p ++ more)) × (row_of w ≡ Some r)
-    × (xs ≡ word r.word ∷ (first ++ rest)) × Means s [] r.parts p first × (suc (open_of ws) + depth_of p ≤ 100) × Covered ws more rest
+    (a : ℕ) × (c : ℕ) × (w : Word) × (p : Phrase) × (first : List Atom) × (more : List Placed) × (rest : List Atom)
+    × (ts ≡ record { lexeme = opens; place = a } ∷ record { lexeme = called (word_spelling w); place = c } ∷ (tokens_of p ++ more))
+    × (xs ≡ word w ∷ (first ++ rest)) × Means s [] (parts_of w) p first × (suc (open_of ws) + depth_of p ≤ 100) × Covered ws more rest
 Covered (a_word s ∷ ws) ts xs =
-    (c : ℕ) × (w : List ℕ) × (r : Row) × (p : Phrase) × (first : List Atom) × (more : List Placed) × (rest : List Atom)
-    × (ts ≡ record { lexeme = called w; place = c } ∷ (tokens_of p ++ more)) × (row_of w ≡ Some r)
-    × (xs ≡ word r.word ∷ (first ++ rest)) × Means s [] r.parts p first × (suc (open_of ws) + depth_of p ≤ 100) × Covered ws more rest
+    (c : ℕ) × (w : Word) × (p : Phrase) × (first : List Atom) × (more : List Placed) × (rest : List Atom)
+    × (ts ≡ record { lexeme = called (word_spelling w); place = c } ∷ (tokens_of p ++ more))
+    × (xs ≡ word w ∷ (first ++ rest)) × Means s [] (parts_of w) p first × (suc (open_of ws) + depth_of p ≤ 100) × Covered ws more rest
 Covered (parts s b ps ∷ ws) ts xs =
     (p : Phrase) × (first : List Atom) × (more : List Placed) × (rest : List Atom)
     × (ts ≡ tokens_of p ++ more) × (xs ≡ first ++ rest) × Means s b ps p first × (suc (open_of ws) + depth_of p ≤ 100) × Covered ws more rest
@@ -55,27 +57,27 @@ used_was : (P : Step → Type 0) (m : Result Name ParseError) (atom : Name → A
 used_was P (Ok n) atom after s k h = subst P (same_step (record { atoms = atom n ∷ []; wants = after ∷ [] }) s h) (k n refl)
 used_was P (Err e) atom after s k h = cc
 
-begun_was : (P : Step → Type 0) (o : Option Row) (scope : List Bound) (at : ℕ) (s : Step) → ((r : Row) → o ≡ Some r → P (record { atoms = word r.word ∷ []; wants = parts scope [] r.parts ∷ [] })) → begun o scope at ≡ Ok s → P s
-begun_was P (Some r) scope at s k h = subst P (same_step (record { atoms = word r.word ∷ []; wants = parts scope [] r.parts ∷ [] }) s h) (k r refl)
+begun_was : (P : Step → Type 0) (o : Option Word) (scope : List Bound) (at : ℕ) (s : Step) → ((r : Word) → o ≡ Some r → P (record { atoms = word r ∷ []; wants = parts scope [] (parts_of r) ∷ [] })) → begun o scope at ≡ Ok s → P s
+begun_was P (Some r) scope at s k h = subst P (same_step (record { atoms = word r ∷ []; wants = parts scope [] (parts_of r) ∷ [] }) s h) (k r refl)
 begun_was P None scope at s k h = cc
 
 -- a form in the place of a part
 abbrev pub Formed : List Bound → List Bound → List Bound → List Part → List Part → Type 0
 Formed s' s b ps ps' =
-    (at c : ℕ) (w : List ℕ) (q p : Phrase) (r : Row) (first rest : List Atom) → row_of w ≡ Some r → Means s' [] r.parts q first → Means s b ps' p rest →
-    Means s b ps (form at c w q p) (word r.word ∷ (first ++ rest))
+    (at c : ℕ) (w : Word) (q p : Phrase) (first rest : List Atom) → Means s' [] (parts_of w) q first → Means s b ps' p rest →
+    Means s b ps (form at c w q p) (word w ∷ (first ++ rest))
 
 formed : (s' s b : List Bound) (ps ps' : List Part) (at : ℕ) (ws : List Want) (ts : List Placed) (ys : List Atom) → Formed s' s b ps ps' → open_of (parts s b ps ∷ ws) < 100 → Onward (parts s b ps) opens at ws ts ys (record { atoms = []; wants = a_word s' ∷ parts s b ps' ∷ [] })
 formed s' s b ps ps' at ws ts ys k low cover =
-    let (c, w, r, q, first, more, rest, e, row, ye, m, deep, inside) = cover (omega arith) in
+    let (c, w, q, first, more, rest, e, ye, m, deep, inside) = cover (omega arith) in
     let (p, first', more', rest', e', ye', m', deep', outside) = inside in (
       form at c w q p,
-      word r.word ∷ (first ++ first'),
+      word w ∷ (first ++ first'),
       more',
       rest',
-      ap (λ x. record { lexeme = opens; place = at } ∷ x) (e ∙ ap (λ x. record { lexeme = called w; place = c } ∷ (tokens_of q ++ x)) e' ∙ ap (λ x. record { lexeme = called w; place = c } ∷ x) (sym (append_assoc (tokens_of q) (tokens_of p) more'))),
-      ye ∙ ap (λ x. word r.word ∷ (first ++ x)) ye' ∙ ap (λ x. word r.word ∷ x) (sym (append_assoc first first' rest')),
-      k at c w q p r first first' row m m',
+      ap (λ x. record { lexeme = opens; place = at } ∷ x) (e ∙ ap (λ x. record { lexeme = called (word_spelling w); place = c } ∷ (tokens_of q ++ x)) e' ∙ ap (λ x. record { lexeme = called (word_spelling w); place = c } ∷ x) (sym (append_assoc (tokens_of q) (tokens_of p) more'))),
+      ye ∙ ap (λ x. word w ∷ (first ++ x)) ye' ∙ ap (λ x. word w ∷ x) (sym (append_assoc first first' rest')),
+      k at c w q p first first' m m',
       omega arith,
       outside,
     )
@@ -100,16 +102,16 @@ part_onward s b Value ps (number n) at ws ts ys st low h =
     (counted at n p, value (Number n) ∷ first, more, rest, ap (λ z. record { lexeme = number n; place = at } ∷ z) e, ap (λ z. value (Number n) ∷ z) ye, (first, refl, m), deep, outside))
 part_onward s b Term ps opens at ws ts ys st low h =
     opening_was (Onward (parts s b (Term ∷ ps)) opens at ws ts ys) (suc (open_of ws)) at (a_word (entered s b Term) ∷ parts s b ps ∷ []) st
-    (formed (entered s b Term) s b (Term ∷ ps) ps at ws ts ys (λ at' c w q p r first rest row m m'. (r, first, rest, row, refl, m, m'))) (nat_lt (suc (open_of ws)) 100) refl h
+    (formed (entered s b Term) s b (Term ∷ ps) ps at ws ts ys (λ at' c w q p first rest m m'. (first, rest, refl, m, m'))) (nat_lt (suc (open_of ws)) 100) refl h
 part_onward s b (Under i) ps opens at ws ts ys st low h =
     opening_was (Onward (parts s b (Under i ∷ ps)) opens at ws ts ys) (suc (open_of ws)) at (a_word (entered s b (Under i)) ∷ parts s b ps ∷ []) st
-    (formed (entered s b (Under i)) s b (Under i ∷ ps) ps at ws ts ys (λ at' c w q p r first rest row m m'. (r, first, rest, row, refl, m, m'))) (nat_lt (suc (open_of ws)) 100) refl h
+    (formed (entered s b (Under i)) s b (Under i ∷ ps) ps at ws ts ys (λ at' c w q p first rest m m'. (first, rest, refl, m, m'))) (nat_lt (suc (open_of ws)) 100) refl h
 part_onward s b (UnderBoth i j) ps opens at ws ts ys st low h =
     opening_was (Onward (parts s b (UnderBoth i j ∷ ps)) opens at ws ts ys) (suc (open_of ws)) at (a_word (entered s b (UnderBoth i j)) ∷ parts s b ps ∷ []) st
-    (formed (entered s b (UnderBoth i j)) s b (UnderBoth i j ∷ ps) ps at ws ts ys (λ at' c w q p r first rest row m m'. (r, first, rest, row, refl, m, m'))) (nat_lt (suc (open_of ws)) 100) refl h
+    (formed (entered s b (UnderBoth i j)) s b (UnderBoth i j ∷ ps) ps at ws ts ys (λ at' c w q p first rest m m'. (first, rest, refl, m, m'))) (nat_lt (suc (open_of ws)) 100) refl h
 part_onward s b More ps opens at ws ts ys st low h =
     opening_was (Onward (parts s b (More ∷ ps)) opens at ws ts ys) (suc (open_of ws)) at (a_word (entered s b More) ∷ parts s b (More ∷ ps) ∷ []) st
-    (formed (entered s b More) s b (More ∷ ps) (More ∷ ps) at ws ts ys (λ at' c w q p r first rest row m m'. (r, first, rest, row, refl, m, m'))) (nat_lt (suc (open_of ws)) 100) refl h
+    (formed (entered s b More) s b (More ∷ ps) (More ∷ ps) at ws ts ys (λ at' c w q p first rest m m'. (first, rest, refl, m, m'))) (nat_lt (suc (open_of ws)) 100) refl h
 part_onward s b More ps closes at ws ts ys st low h =
     subst (Onward (parts s b (More ∷ ps)) closes at ws ts ys) (same_step _ st h) (λ cover. (done at, ended ∷ [], ts, ys, refl, refl, refl, omega arith, cover (omega arith)))
 part_onward s b Close ps closes at ws ts ys st low h =
@@ -122,13 +124,13 @@ onward w bad_byte at ws ts ys st low h = cc
 onward w bad_number at ws ts ys st low h = cc
 onward (term s) opens at ws ts ys st low h =
     opening_was (Onward (term s) opens at ws ts ys) (open_of ws) at (a_word s ∷ []) st (λ l cover.
-    let (c, w, r, p, first, more, rest, e, row, ye, m, deep, outside) = cover (omega arith) in
-    (at, c, w, r, p, first, more, rest, ap (λ z. record { lexeme = opens; place = at } ∷ z) e, row, ye, m, deep, outside)) (nat_lt (open_of ws) 100) refl h
+    let (c, w, p, first, more, rest, e, ye, m, deep, outside) = cover (omega arith) in
+    (at, c, w, p, first, more, rest, ap (λ z. record { lexeme = opens; place = at } ∷ z) e, ye, m, deep, outside)) (nat_lt (open_of ws) 100) refl h
 onward (term s) l at ws ts ys st low h = cc
 onward (a_word s) (called x) at ws ts ys st low h =
-    begun_was (Onward (a_word s) (called x) at ws ts ys) (row_of x) s at st (λ r row cover.
+    begun_was (Onward (a_word s) (called x) at ws ts ys) (word_of x) s at st (λ w found cover.
     let (p, first, more, rest, e, ye, m, deep, outside) = cover low in
-    (at, x, r, p, first, more, rest, ap (λ z. record { lexeme = called x; place = at } ∷ z) e, row, ap (λ z. word r.word ∷ z) ye, m, deep, outside)) h
+    (at, w, p, first, more, rest, ap (λ z. record { lexeme = called x; place = at } ∷ z) e ∙ ap (λ z. record { lexeme = called z; place = at } ∷ (tokens_of p ++ more)) (spelling-found x w found), ap (λ z. word w ∷ z) ye, m, deep, outside)) h
 onward (a_word s) l at ws ts ys st low h = cc
 onward (parts s b []) l at ws ts ys st low h = cc
 onward (parts s b (p ∷ ps)) l at ws ts ys st low h = part_onward s b p ps l at ws ts ys st low h

@@ -11,19 +11,17 @@ use Rattle.effect_term.specs.declared.term.Term.{Term, Row_of-Term, end_of-Term,
 use Rattle.effect_term.specs.declared.term.Term.TheVariants.{Pure, Raise, Let', Seq', Handle', If0', Add, Say, Cede, Never, Canceled, Uncancelable', Poll', OnCancel', Start', Join', Cancel, Ref', Get, Set, Modify, Deferred', Complete, Await, Repeat', Forever', Guarantee', Bracket', BracketCase', Race', Both'}
 use Rattle.effect_term.specs.Kinds.{Fits, ValueFits, WellKinded, AllWellKinded}
 use Rattle.term_parse.specs.declared.error.ParseError.{ParseError}
-use Rattle.term_parse.specs.declared.table.Row.{Row}
 use Rattle.term_parse.specs.declared.table.Part.{Part}
 use Rattle.term_parse.specs.declared.table.Part.TheVariants as parts
 use Rattle.term_parse.specs.declared.table.Word.{Word}
 use Rattle.term_parse.specs.Atoms.{Atom, word, value, name, ended, atoms_of}
 use Rattle.term_parse.specs.Grammar.{Phrase, done, spelled, counted, form, Means, Spells}
+use Rattle.term_parse.specs.Language.{parts_of}
 use Rattle.term_parse.specs.Innermost.{IsInnermost}
-use Rattle.term_parse.specs.Reading.{Bound, picked, entered, reading, row_of}
+use Rattle.term_parse.specs.Reading.{Bound, picked, entered, reading}
 use Rattle.term_parse.specs.Shapes.{Shape, closed, value_then, name_then, form_then, term_then, row_then, shape_of}
-use Rattle.term_parse.specs.Spelling.{parts_of}
 use Rattle.term_parse.proofs.ShapeLaws.{flat, apart, flat_term}
 use Rattle.term_parse.proofs.SpelledLaws.{spelled-from_reading}
-use Rattle.term_parse.proofs.Tables.{parts-row_of}
 
 abbrev kind_of : Bound → Kind
 kind_of b = b.kind
@@ -93,11 +91,8 @@ abbrev AsParts : List Kind → List Kind → List Part → List Atom → Type 0
 AsParts ks bs ps xs = (s : Shape) × (xs ≡ flat s) × KindedParts ks bs ps s
 
 -- a form and what stands behind it
-form_is : (w : List ℕ) (r : Row) (ks bs js : List Kind) (first rest xs : List Atom) (ps : List Part) (i : Shape) → row_of w ≡ Some r → xs ≡ word r.word ∷ (first ++ rest) → first ≡ flat i → KindedParts js [] r.parts i → (s : Shape) → rest ≡ flat s → KindedParts js [] (parts_of r.word) i × (xs ≡ flat (form_then r.word i s))
-form_is w r ks bs js first rest xs ps i row e f m s g = (
-  subst (λ z. KindedParts js [] z i) (parts-row_of w r row) m,
-  e ∙ ap (λ z. word r.word ∷ (z ++ rest)) f ∙ ap (λ z. word r.word ∷ (flat i ++ z)) g,
-)
+form_is : (w : Word) (first rest xs : List Atom) (i s : Shape) → xs ≡ word w ∷ (first ++ rest) → first ≡ flat i → rest ≡ flat s → xs ≡ flat (form_then w i s)
+form_is w first rest xs i s e f g = e ∙ ap (λ z. word w ∷ (z ++ rest)) f ∙ ap (λ z. word w ∷ (flat i ++ z)) g
 
 kinded_phrase : (p : Phrase) (s b : List Bound) (ps : List Part) (xs : List Atom) → Means s b ps p xs → AsParts (kinds_of s) (kinds_of b) ps xs
 unfolding entered
@@ -116,28 +111,24 @@ kinded_phrase (spelled a x p) s b (parts.Value ∷ ps) xs (n, rest, i, same, e, 
 kinded_phrase (counted a n p) s b (parts.Value ∷ ps) xs (rest, e, m) =
     let h = kinded_phrase p s b ps rest m in
     (value_then (Number n) h.0, e ∙ ap (λ z. value (Number n) ∷ z) h.1, (tt, h.2))
-kinded_phrase (form a c w q p) s b (parts.Term ∷ ps) xs (r, first, rest, row, e, m, later) =
-    let i = kinded_phrase q s [] r.parts first m in
+kinded_phrase (form a c w q p) s b (parts.Term ∷ ps) xs (first, rest, e, m, later) =
+    let i = kinded_phrase q s [] (parts_of w) first m in
     let l = kinded_phrase p s b ps rest later in
-    let f = form_is w r (kinds_of s) (kinds_of b) (kinds_of s) first rest xs ps i.0 row e i.1 i.2 l.0 l.1 in
-    (form_then r.word i.0 l.0, f.1, (f.0, l.2))
-kinded_phrase (form a c w q p) s b (parts.More ∷ ps) xs (r, first, rest, row, e, m, later) =
-    let i = kinded_phrase q s [] r.parts first m in
+    (form_then w i.0 l.0, form_is w first rest xs i.0 l.0 e i.1 l.1, (i.2, l.2))
+kinded_phrase (form a c w q p) s b (parts.More ∷ ps) xs (first, rest, e, m, later) =
+    let i = kinded_phrase q s [] (parts_of w) first m in
     let l = kinded_phrase p s b (parts.More ∷ ps) rest later in
-    let f = form_is w r (kinds_of s) (kinds_of b) (kinds_of s) first rest xs ps i.0 row e i.1 i.2 l.0 l.1 in
-    (form_then r.word i.0 l.0, f.1, (f.0, l.2))
-kinded_phrase (form a c w q p) s b (parts.Under j ∷ ps) xs (r, first, rest, row, e, m, later) =
-    let i = kinded_phrase q (entered s b (parts.Under j)) [] r.parts first m in
+    (form_then w i.0 l.0, form_is w first rest xs i.0 l.0 e i.1 l.1, (i.2, l.2))
+kinded_phrase (form a c w q p) s b (parts.Under j ∷ ps) xs (first, rest, e, m, later) =
+    let i = kinded_phrase q (entered s b (parts.Under j)) [] (parts_of w) first m in
     let l = kinded_phrase p s b ps rest later in
-    let under = subst (λ z. KindedParts z [] r.parts i.0) (kinds_of-under s b j) i.2 in
-    let f = form_is w r (kinds_of s) (kinds_of b) (kinds_of s ++ binder_at (kinds_of b) j) first rest xs ps i.0 row e i.1 under l.0 l.1 in
-    (form_then r.word i.0 l.0, f.1, (f.0, l.2))
-kinded_phrase (form a c w q p) s b (parts.UnderBoth j k ∷ ps) xs (r, first, rest, row, e, m, later) =
-    let i = kinded_phrase q (entered s b (parts.UnderBoth j k)) [] r.parts first m in
+    let under = subst (λ z. KindedParts z [] (parts_of w) i.0) (kinds_of-under s b j) i.2 in
+    (form_then w i.0 l.0, form_is w first rest xs i.0 l.0 e i.1 l.1, (under, l.2))
+kinded_phrase (form a c w q p) s b (parts.UnderBoth j k ∷ ps) xs (first, rest, e, m, later) =
+    let i = kinded_phrase q (entered s b (parts.UnderBoth j k)) [] (parts_of w) first m in
     let l = kinded_phrase p s b ps rest later in
-    let under = subst (λ z. KindedParts z [] r.parts i.0) (kinds_of-both s b j k) i.2 in
-    let f = form_is w r (kinds_of s) (kinds_of b) (kinds_of s ++ (binder_at (kinds_of b) j ++ binder_at (kinds_of b) k)) first rest xs ps i.0 row e i.1 under l.0 l.1 in
-    (form_then r.word i.0 l.0, f.1, (f.0, l.2))
+    let under = subst (λ z. KindedParts z [] (parts_of w) i.0) (kinds_of-both s b j k) i.2 in
+    (form_then w i.0 l.0, form_is w first rest xs i.0 l.0 e i.1 l.1, (under, l.2))
 kinded_phrase p s b ps xs m = absurd m
 
 -- each term is a form
@@ -298,12 +289,11 @@ mutual
 -- what a text spells is closed and well kinded
 pub kinded-from_spelled : (text : List ℕ) (t : Term) → Spells text (atoms_of t) → WellKinded [] t
 kinded-from_spelled text t s =
-    let h = kinded_phrase s.rest [] [] s.row.parts s.inner s.means in
-    let own : KindedParts [] [] (parts_of s.row.word) h.0 = subst (λ z. KindedParts [] [] z h.0) (parts-row_of s.spelling s.row s.row_is) h.2 in
-    let same : flat (form_then s.row.word h.0 closed) ≡ flat (shape_of t) =
-    ap (λ z. word s.row.word ∷ (z ++ ended ∷ [])) (sym h.1) ∙ ap (λ z. z ++ ended ∷ []) (sym s.atoms_are) ∙ sym (flat_term t closed) in
-    let is = (apart (form_then s.row.word h.0 closed) (shape_of t) [] [] (ap (λ z. z ++ []) same)).0 in
-    kinded_term t [] closed (subst (KindedForm []) is own)
+    let h = kinded_phrase s.rest [] [] (parts_of s.first) s.inner s.means in
+    let same : flat (form_then s.first h.0 closed) ≡ flat (shape_of t) =
+    ap (λ z. word s.first ∷ (z ++ ended ∷ [])) (sym h.1) ∙ ap (λ z. z ++ ended ∷ []) (sym s.atoms_are) ∙ sym (flat_term t closed) in
+    let is = (apart (form_then s.first h.0 closed) (shape_of t) [] [] (ap (λ z. z ++ []) same)).0 in
+    kinded_term t [] closed (subst (KindedForm []) is h.2)
 
 pub closed_from : (text : List ℕ) (r : Result Term ParseError) → IfOk r (λ t. reading text ≡ Ok (atoms_of t)) → IfOk r (WellKinded [])
 closed_from text (Ok t) f = kinded-from_spelled text t (spelled-from_reading text (atoms_of t) f)

@@ -8,13 +8,15 @@ pub mod TermRows
 pub mod Weights
 pub mod Parts
 pub mod PrintedNumbers
+pub mod MoreTerms
 pub mod Tokens
 pub mod CanonicalScopes
 pub mod ReadBack
 pub mod RoundTrip
 pub mod Lexing
 pub mod Steps
-pub mod Tables
+pub mod Words
+pub mod PickedBinders
 pub mod Stacks
 pub mod Builds
 pub mod ShapeLaws

@@ -8,7 +8,8 @@ use Rattle.term_parse.specs.declared.table.Part.{Part}
 use Rattle.term_parse.specs.declared.table.Part.TheVariants.{Bind, Use, Value, Term, Under, UnderBoth, More, Close}
 use Rattle.term_parse.specs.declared.table.Word.{Word}
 use Rattle.term_parse.specs.Spelling as spelled
-use Rattle.term_parse.specs.Spelling.{name_spelling, word_spelling, parts_of, parts_spelling, piece_spelling, more_spelling, outer_binders, form}
+use Rattle.term_parse.specs.Language.{word_spelling, parts_of}
+use Rattle.term_parse.specs.Spelling.{name_spelling, parts_spelling, piece_spelling, more_spelling, outer_binders, form}
 use Rattle.term_parse.specs.Pieces.{piece_of, pieces_of}
 
 -- a byte, a text and a further text, one after another

@@ -6,7 +6,7 @@ use Rattle.effect_term.specs.declared.term.Term.{Term}
 use Rattle.term_parse.specs.declared.printer.Piece.{Piece}
 use Rattle.term_parse.specs.declared.table.Part.{Part}
 use Rattle.term_parse.specs.declared.table.Part.TheVariants.{More, Close}
-use Rattle.term_parse.specs.Atoms.{Atom, word, value, name, ended, atoms_of}
+use Rattle.term_parse.specs.Atoms.{Atom, word, value, name, ended}
 use Rattle.term_parse.specs.Numbers.{NumbersFit}
 use Rattle.term_parse.specs.Pieces.{piece_atoms, pieces_atoms, terms_atoms, Spent, Suffice}
 
@@ -46,8 +46,3 @@ pub piece_numbers : (pieces : List (Option Piece)) (e : Option Piece) (piece : P
 piece_numbers [] e piece end l q h k = absurd (omega arith)
 piece_numbers (x ∷ xs) e piece end l q h k =
     subst (λ (y : Option Piece). NumbersFit (pieces_atoms (y ∷ xs) end)) (sym q) (join_numbers (piece_atoms piece) (pieces_atoms xs end) h (subst (λ (ys : List (Option Piece)). NumbersFit (pieces_atoms ys end)) (rest_is x xs) k))
-
-pub term_numbers : (ts : List Term) (t : Term) (end : List Atom) → 1 ≤ length ts → t ≡ get_or ts 0 t → NumbersFit (atoms_of t) → NumbersFit (terms_atoms (take (length ts - 1) (drop 1 ts)) end) → NumbersFit (terms_atoms ts end)
-term_numbers [] t end l q h k = absurd (omega arith)
-term_numbers (x ∷ xs) t end l q h k =
-    join_numbers (atoms_of x) (terms_atoms xs end) (subst (λ (y : Term). NumbersFit (atoms_of y)) q h) (subst (λ (ys : List Term). NumbersFit (terms_atoms ys end)) (rest_is x xs) k)

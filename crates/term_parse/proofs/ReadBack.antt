@@ -11,14 +11,15 @@ use Rattle.term_parse.specs.declared.table.Part.{Part}
 use Rattle.term_parse.specs.declared.table.Part.TheVariants.{Bind, Use, Value, Term, Under, UnderBoth, More, Close}
 use Rattle.term_parse.specs.declared.table.Word.{Word}
 use Rattle.term_parse.specs.Atoms.{Atom, word, value, name, ended}
+use Rattle.term_parse.specs.Language.{word_spelling, parts_of}
 use Rattle.term_parse.specs.Lexemes.{Lexeme, opens, called, number, Placed, lexeme_of, lexemes}
 use Rattle.term_parse.specs.Reading.{Bound, Want, a_word, parts, Step, want_step, part_step, used, opening, entered, open_of, with_front, reads}
 use Rattle.term_parse.specs.Numbers.{NumbersFit}
 use Rattle.term_parse.specs.Spelling as spelled
-use Rattle.term_parse.specs.Spelling.{name_spelling, word_spelling, parts_of, binders_of, outer_binders, more_spelling, parts_spelling, form}
+use Rattle.term_parse.specs.Spelling.{name_spelling, binders_of, outer_binders, more_spelling, parts_spelling, form}
 use Rattle.term_parse.proofs.Fronts.{with_both}
 use Rattle.term_parse.proofs.GrammarLaws.{opened}
-use Rattle.term_parse.proofs.Tokens.{Ends, name_token, number_token, word_token, word_row}
+use Rattle.term_parse.proofs.Tokens.{Ends, name_token, number_token, word_token}
 use Rattle.term_parse.proofs.CanonicalScopes.{scope_of, Own, own_names, own_names-append, meant, slot_below, entered_under, entered_both, outer_few}
 
 -- a term by its spelling, its atoms and a bound of its depth
@@ -207,7 +208,6 @@ parts_onto n ks ps bs q more h nums small bound e end todo rest low at = absurd 
 pub form_read : (w : Word) (q : List Read) (more : List Reader) (ks : List Kind) (n : ℕ) (t : ℕ → List ℕ) (xs : List Atom) → t ≡ form w (pieces q) (texts more) → xs ≡ word w ∷ form_atoms q more → AreParts n ks [] (parts_of w) q more → 1 ≤ n → Readable (record { text = t; atoms = xs; nest = n }) ks
 unfolding form lexemes lexeme_of
 form_read w q more ks n t xs text_is atoms_are h some nums small end at v after todo rest step same low =
-    let r = word_row w in
     let behind : List ℕ = parts_spelling (length ks) 0 (parts_of w) (pieces q) (texts more) in
     let token = word_token w (suc at) (behind ++ rest) (parts_ends n ks [] (parts_of w) q more h (length ks) 0 rest) in
     let onto = parts_onto n ks (parts_of w) [] q more h (subst NumbersFit atoms_are nums) small 0 refl end (after ++ todo) rest (omega arith) token.0 in (
@@ -215,9 +215,7 @@ form_read w q more ks n t xs text_is atoms_are h some nums small end at v after 
       ap (λ f. reads end (v ∷ todo) (lexemes false at (f (length ks) ++ rest))) text_is
           ∙ ap (λ bs. reads end (v ∷ todo) (record { lexeme = opens; place = at } ∷ lexemes false (suc at) bs)) (append_assoc (word_spelling w) behind rest)
           ∙ ap (λ ts. reads end (v ∷ todo) (record { lexeme = opens; place = at } ∷ ts)) token.1
-          ∙ opened end at (suc at) (word_spelling w) r.0 v (scope_of ks) after todo (lexemes false token.0 (behind ++ rest)) (step at) (omega arith) r.1
-          ∙ ap (λ x. with_front (word x ∷ []) (reads end (parts (scope_of ks) [] r.0.parts ∷ (after ++ todo)) (lexemes false token.0 (behind ++ rest)))) r.2
-          ∙ ap (λ x. with_front (word w ∷ []) (reads end (parts (scope_of ks) [] x ∷ (after ++ todo)) (lexemes false token.0 (behind ++ rest)))) r.3
+          ∙ opened end at (suc at) w v (scope_of ks) after todo (lexemes false token.0 (behind ++ rest)) (step at) (omega arith)
           ∙ ap (with_front (word w ∷ [])) onto.1
           ∙ with_both (word w ∷ []) (form_atoms q more) (reads end (after ++ todo) (lexemes false onto.0 rest))
           ∙ ap (λ x. with_front x (reads end (after ++ todo) (lexemes false onto.0 rest))) (sym atoms_are),

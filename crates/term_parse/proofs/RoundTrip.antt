@@ -9,10 +9,11 @@ use Rattle.effect_term.specs.Kinds.{WellKinded, AllWellKinded}
 use Rattle.effect_term.specs.Sizes.{nest_of, nests_of}
 use Rattle.term_parse.specs.declared.table.Word.TheVariants as words
 use Rattle.term_parse.specs.Atoms.{word, ended, atoms_of, row_atoms}
+use Rattle.term_parse.specs.Language.{parts_of}
 use Rattle.term_parse.specs.Lexemes.{lexemes, lexemes_at}
 use Rattle.term_parse.specs.Reading.{term, want_step, reads, reads_at, reading}
 use Rattle.term_parse.specs.Numbers.{NumbersFit}
-use Rattle.term_parse.specs.Spelling.{inner, parts_of, form, spelling, row_spellings, canonical}
+use Rattle.term_parse.specs.Spelling.{inner, form, spelling, row_spellings, canonical}
 use Rattle.term_parse.proofs.ReadBack.{Reader, value_read, name_read, inner_read, texts, more_atoms, Readable, AllReadable, form_read}
 
 abbrev reader : Term → Reader

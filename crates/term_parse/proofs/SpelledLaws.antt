@@ -4,6 +4,7 @@ use Rattle.std.proofs.lemmas.Bool.{ltb-false, le-ltb}
 use Rattle.std.proofs.lemmas.List.{append-nil}
 use Rattle.term_parse.specs.declared.error.ParseError.TheVariants as errors
 use Rattle.term_parse.specs.Atoms.{Atom, word}
+use Rattle.term_parse.specs.Language.{word_spelling, parts_of}
 use Rattle.term_parse.specs.Lexemes.{opens, called, lexemes_at}
 use Rattle.term_parse.specs.Reading.{term, parts, want_step, with_front, reads, reads_at, reading}
 use Rattle.term_parse.specs.Grammar.{tokens_of, Spells}
@@ -13,8 +14,8 @@ use Rattle.term_parse.proofs.Coverage.{Covered, covered}
 reads_spelled : (text : List ℕ) (atoms : List Atom) → Spells text atoms → reads (length text) (term [] ∷ []) (lexemes_at 0 text) ≡ Ok atoms
 unfolding reads want_step
 reads_spelled text atoms s =
-    rw s.tokens (opened (length text) s.opening_place s.word_place s.spelling s.row (term []) [] [] [] (tokens_of s.rest) refl (omega arith) s.row_is
-    ∙ ap (with_front (word s.row.word ∷ [])) (ap (reads (length text) (parts [] [] s.row.parts ∷ [])) (sym (append-nil (tokens_of s.rest))) ∙ reads_phrase (length text) s.rest [] [] s.row.parts s.inner [] [] s.means (omega (arith, s.shallow)) ∙ ap (λ x. Ok x) (append-nil s.inner))
+    rw s.tokens (opened (length text) s.opening_place s.word_place s.first (term []) [] [] [] (tokens_of s.rest) refl (omega arith)
+    ∙ ap (with_front (word s.first ∷ [])) (ap (reads (length text) (parts [] [] (parts_of s.first) ∷ [])) (sym (append-nil (tokens_of s.rest))) ∙ reads_phrase (length text) s.rest [] [] (parts_of s.first) s.inner [] [] s.means (omega (arith, s.shallow)) ∙ ap (λ x. Ok x) (append-nil s.inner))
     ∙ ap (λ x. Ok x) (sym s.atoms_are))
 
 pub reading-from_spelled : (text : List ℕ) (atoms : List Atom) → Spells text atoms → reading text ≡ Ok atoms
@@ -25,20 +26,18 @@ reading-from_spelled text atoms s =
 
 spelled-from_covered : (text : List ℕ) (atoms : List Atom) → length text ≤ 65536 → Covered (term [] ∷ []) (lexemes_at 0 text) atoms → Spells text atoms
 spelled-from_covered text atoms short cover =
-    let (a, c, w, r, p, first, more, rest, e, row, xe, m, deep, last) = cover in
+    let (a, c, w, p, first, more, rest, e, xe, m, deep, last) = cover in
     record {
       opening_place = a;
       word_place = c;
-      spelling = w;
-      row = r;
+      first = w;
       rest = p;
       inner = first;
       short = short;
       shallow = omega (arith, deep);
-      tokens = e ∙ ap (λ x. record { lexeme = opens; place = a } ∷ record { lexeme = called w; place = c } ∷ (tokens_of p ++ x)) last.0 ∙ ap (λ x. record { lexeme = opens; place = a } ∷ record { lexeme = called w; place = c } ∷ x) (append-nil (tokens_of p));
-      row_is = row;
+      tokens = e ∙ ap (λ x. record { lexeme = opens; place = a } ∷ record { lexeme = called (word_spelling w); place = c } ∷ (tokens_of p ++ x)) last.0 ∙ ap (λ x. record { lexeme = opens; place = a } ∷ record { lexeme = called (word_spelling w); place = c } ∷ x) (append-nil (tokens_of p));
       means = m;
-      atoms_are = xe ∙ ap (λ x. word r.word ∷ (first ++ x)) last.1 ∙ ap (λ x. word r.word ∷ x) (append-nil first);
+      atoms_are = xe ∙ ap (λ x. word w ∷ (first ++ x)) last.1 ∙ ap (λ x. word w ∷ x) (append-nil first);
     }
 
 spelled_where : (text : List ℕ) (atoms : List Atom) (b : Bool) → nat_lt 65536 (length text) ≡ b → reading text ≡ Ok atoms → Spells text atoms

@@ -1,8 +1,8 @@
 -- What one token does to the forms that are open.
-use Rattle.std.proofs.Common.{◌≡◌, ◌≤◌, ◌<◌, ◌+◌, ℕ, suc, Bool, true, false, nat_lt, List, [], ◌∷◌, ◌++◌, length, drop, Result, Ok, Err, IfOk, IfErr, refl, ap, sym, subst, ◌∙◌, arith, append_assoc}
+use Rattle.std.proofs.Common.{◌≡◌, ◌≤◌, ◌<◌, ◌+◌, ℕ, suc, true, false, nat_lt, List, [], ◌∷◌, ◌++◌, length, drop, Result, Ok, Err, IfOk, IfErr, refl, ap, sym, subst, ◌∙◌, arith, append_assoc}
 use Rattle.std.proofs.lemmas.Bool.{lt-ltb, le-ltb}
 use Rattle.effect_term.specs.declared.term.Term as terms
-use Rattle.term_parse.specs.declared.table.Row.{Row}
+use Rattle.term_parse.specs.declared.table.Word.{Word}
 use Rattle.term_parse.specs.declared.error.ParseError.{ParseError}
 use Rattle.term_parse.specs.declared.error.ParseError.TheVariants as errors
 use Rattle.term_parse.specs.declared.token.Token.{Token}
@@ -13,11 +13,13 @@ use Rattle.term_parse.specs.declared.form.Form.{Form}
 use Rattle.term_parse.specs.declared.form.Step.{Step}
 use Rattle.term_parse.specs.declared.form.Step.TheVariants as steps
 use Rattle.term_parse.specs.Atoms.{Atom, word, ended, atoms_of}
-use Rattle.term_parse.specs.Lexemes.{opens, lexemes_at}
-use Rattle.term_parse.specs.Reading.{Bound, Want, term, a_word, parts, want_step, opening, open_of, with_front, reads, reads_at, reading, Fails}
-use Rattle.term_parse.specs.Seen.{seen, seen_kind, IsNext, IsGood}
+use Rattle.term_parse.specs.Language.{parts_of}
+use Rattle.term_parse.specs.Lexemes.{lexemes_at}
+use Rattle.term_parse.specs.Reading.{Bound, Want, term, a_word, parts, want_step, open_of, with_front, reads, reads_at, reading, Fails}
+use Rattle.term_parse.specs.Seen.{seen_kind, IsNext, IsGood}
 use Rattle.std.specs.List.{slice_range}
-use Rattle.term_parse.specs.Forms.{Buildable, Stepped, Sort, sorts, pieces_atoms, ends, Completes, Shaped, Tabled, Sound, Awaits, want_of, front_of, Adds, FailsAt, Reads, Opens, Closes, todo_onto, fronts, AllAwait, ScopesWithin, IsStack, IsWhole}
+use Rattle.term_parse.specs.Forms.{Buildable, Stepped, sorts, ends, Completes, Shaped, Sound, Awaits, want_of, front_of, Adds, FailsAt, Reads, Opens, Closes, todo_onto, fronts, AllAwait, ScopesWithin, IsStack, IsWhole}
+use Rattle.term_parse.proofs.Words.{completed}
 use Rattle.term_parse.proofs.Steps.{read_step, read_fault, with_none, with_both, pieces_atoms-add, sorts-add}
 
 todo-add : (text : List ℕ) (around : List Want) (fs : List Form) (f : Form) → todo_onto text around (fs ++ f ∷ []) ≡ want_of text f ∷ todo_onto text around fs
@@ -106,7 +108,7 @@ stack_opens text at next depth f outer inner fs new s o d n l w =
 pub stack_fails : (text : List ℕ) (at depth : ℕ) (f : Form) (fs : List Form) (e : ParseError) → IsStack text at f fs → depth ≡ length fs + 1 → FailsAt text at depth f e → Fails e (reads_at text 0 (term [] ∷ []))
 stack_fails text at depth f fs e s d h ne = sym s.left ∙ ap (with_front (fronts fs ++ front_of f)) (h (todo_onto text [] fs) (depth_is text fs depth d) ne)
 
-pub stack_ends : (text : List ℕ) (at next : ℕ) (f : Form) (fs : List Form) (t : terms.Term) → IsStack text at f fs → fs ≡ [] → Closes text at f next → atoms_of t ≡ word f.row.word ∷ ends f.pieces.items → next ≤ length text → IsWhole text t next
+pub stack_ends : (text : List ℕ) (at next : ℕ) (f : Form) (fs : List Form) (t : terms.Term) → IsStack text at f fs → fs ≡ [] → Closes text at f next → atoms_of t ≡ word f.word ∷ ends f.pieces.items → next ≤ length text → IsWhole text t next
 stack_ends text at next f fs t s n c a w =
     let s' : IsStack text at f [] = subst (IsStack text at f) n s in
     record {
@@ -114,19 +116,19 @@ stack_ends text at next f fs t s n c a w =
       left = sym s'.left ∙ ap (with_front (front_of f)) (c.goes_on []) ∙ with_both (front_of f) (ended ∷ []) (reads_at text next []) ∙ ap (λ x. with_front x (reads_at text next [])) (sym a);
     }
 
-pub stack_closes : (text : List ℕ) (at next : ℕ) (f outer g : Form) (fs rest : List Form) (t : terms.Term) → IsStack text at f fs → fs ≡ rest ++ outer ∷ [] → Closes text at f next → atoms_of t ≡ word f.row.word ∷ ends f.pieces.items → Adds outer (pieces.Term t) outer.next g → at < next → next ≤ length text → IsStack text next g rest
+pub stack_closes : (text : List ℕ) (at next : ℕ) (f outer g : Form) (fs rest : List Form) (t : terms.Term) → IsStack text at f fs → fs ≡ rest ++ outer ∷ [] → Closes text at f next → atoms_of t ≡ word f.word ∷ ends f.pieces.items → Adds outer (pieces.Term t) outer.next g → at < next → next ≤ length text → IsStack text next g rest
 stack_closes text at next f outer g fs rest t s n c a d l w =
     let s' : IsStack text at f (rest ++ outer ∷ []) = subst (IsStack text at f) n s in
     let todo = todo_onto text [] rest in
     let all = fronts (rest ++ outer ∷ []) in
-    let row : g.row ≡ outer.row = d.same_row in
+    let row : g.word ≡ outer.word = d.same_word in
     let part : g.next ≡ outer.next = d.next_is in
     let scope : g.scope ≡ outer.scope = d.same_scope in
     let bound : g.bound ≡ outer.bound = d.same_bound in
     let given : g.pieces.items ≡ outer.pieces.items ++ pieces.Term t ∷ [] = d.pieces_are in
     let want : want_of text g ≡ want_of text outer = rw (row, part, scope, bound) refl in
-    let front : front_of g ≡ front_of outer ++ atoms_of t = rw (row, given) (ap (λ y. word outer.row.word ∷ y) (pieces_atoms-add outer.pieces.items (pieces.Term t))) in
-    let completes : drop g.next g.row.parts ≡ drop outer.next outer.row.parts = rw (row, part) refl in
+    let front : front_of g ≡ front_of outer ++ atoms_of t = rw (row, given) (ap (λ y. word outer.word ∷ y) (pieces_atoms-add outer.pieces.items (pieces.Term t))) in
+    let completes : drop g.next (parts_of g.word) ≡ drop outer.next (parts_of outer.word) = rw (row, part) refl in
     let aw : Awaits text outer = await-last text rest outer s'.awaits in
     let r1 : reads_at text at (want_of text f ∷ todo_onto text [] (rest ++ outer ∷ [])) ≡ with_front (ended ∷ []) (reads_at text next (want_of text outer ∷ todo)) = c.goes_on (todo_onto text [] (rest ++ outer ∷ [])) ∙ ap (λ x. with_front (ended ∷ []) (reads_at text next x)) (todo-add text [] rest outer) in
     let fronts_are : (all ++ front_of f) ++ ended ∷ [] ≡ fronts rest ++ front_of g = append_assoc all (front_of f) (ended ∷ []) ∙ ap (λ x. all ++ x) (sym a) ∙ ap (λ x. x ++ atoms_of t) (fronts-add rest outer) ∙ append_assoc (fronts rest) (front_of outer) (atoms_of t) ∙ ap (λ x. fronts rest ++ x) (sym front) in
@@ -134,8 +136,7 @@ stack_closes text at next f outer g fs rest t s n c a d l w =
       within = w;
       left = ap (λ x. with_front (fronts rest ++ front_of g) (reads_at text next (x ∷ todo))) want ∙ ap (λ x. with_front x (reads_at text next (want_of text outer ∷ todo))) (sym fronts_are) ∙ sym (with_both (all ++ front_of f) (ended ∷ []) (reads_at text next (want_of text outer ∷ todo))) ∙ ap (with_front (all ++ front_of f)) (sym r1) ∙ s'.left;
       sound = record {
-        full = rw row aw.full;
-        shape = λ more h. rw (row, given) (subst (Shaped outer.row.word) (sym (sorts-add outer.pieces.items (pieces.Term t) more)) (aw.shape more (subst (λ y. Completes y more) completes h)));
+        shape = λ more h. rw (row, given) (subst (Shaped outer.word) (sym (sorts-add outer.pieces.items (pieces.Term t) more)) (aw.shape more (subst (λ y. Completes y more) completes h)));
         scope = rw scope aw.scope;
         bound = rw bound aw.bound;
       };
@@ -162,17 +163,16 @@ pub first_opening : (text : List ℕ) (at : ℕ) (t : Token) → IsNext text at 
 unfolding want_step
 first_opening text at t n k = read_step text at t (term []) [] (record { atoms = []; wants = a_word [] ∷ [] }) n (ap (λ y. want_step 0 (term []) (seen_kind (slice_range text t.start t.end) y) t.start) k) ∙ with_none _
 
-pub first_stack : (text : List ℕ) (at next : ℕ) (t : Token) (f : Form) (r : Row) → IsNext text at t → at ≡ 0 → t.kind ≡ tokens.Open → f.row ≡ r → f.next ≡ 0 → f.scope.items ≡ [] → f.bound.items ≡ [] → f.pieces.items ≡ [] → Tabled r → ((s : List Bound) (todo : List Want) → reads_at text t.end (a_word s ∷ todo) ≡ with_front (word r.word ∷ []) (reads_at text next (parts s [] r.parts ∷ todo))) → next ≤ length text → IsStack text next f []
-first_stack text at next t f r n z k row part scope bound pieces tabled found w =
-    let want : want_of text f ≡ parts [] [] r.parts = rw (row, part, scope, bound) refl in
-    let front : front_of f ≡ word r.word ∷ [] = rw (row, pieces) refl in
-    let completes : drop f.next f.row.parts ≡ r.parts = rw (row, part) refl in
+pub first_stack : (text : List ℕ) (at next : ℕ) (t : Token) (f : Form) (r : Word) → IsNext text at t → at ≡ 0 → t.kind ≡ tokens.Open → f.word ≡ r → f.next ≡ 0 → f.scope.items ≡ [] → f.bound.items ≡ [] → f.pieces.items ≡ [] → ((s : List Bound) (todo : List Want) → reads_at text t.end (a_word s ∷ todo) ≡ with_front (word r ∷ []) (reads_at text next (parts s [] (parts_of r) ∷ todo))) → next ≤ length text → IsStack text next f []
+first_stack text at next t f r n z k row part scope bound pieces found w =
+    let want : want_of text f ≡ parts [] [] (parts_of r) = rw (row, part, scope, bound) refl in
+    let front : front_of f ≡ word r ∷ [] = rw (row, pieces) refl in
+    let completes : drop f.next (parts_of f.word) ≡ (parts_of r) = rw (row, part) refl in
     record {
       within = w;
-      left = ap (λ x. with_front (front_of f) (reads_at text next (x ∷ []))) want ∙ ap (λ x. with_front x (reads_at text next (parts [] [] r.parts ∷ []))) front ∙ sym (found [] []) ∙ sym (first_opening text at t n k) ∙ ap (λ x. reads_at text x (term [] ∷ [])) z;
+      left = ap (λ x. with_front (front_of f) (reads_at text next (x ∷ []))) want ∙ ap (λ x. with_front x (reads_at text next (parts [] [] (parts_of r) ∷ []))) front ∙ sym (found [] []) ∙ sym (first_opening text at t n k) ∙ ap (λ x. reads_at text x (term [] ∷ [])) z;
       sound = record {
-        full = rw row tabled.full;
-        shape = λ more c. rw (row, pieces) (tabled.shape more (subst (λ y. Completes y more) completes c));
+        shape = λ more c. rw (row, pieces) (completed r more (subst (λ y. Completes y more) completes c));
         scope = rw scope tt;
         bound = rw bound tt;
       };
@@ -206,7 +206,7 @@ reading_trails text t end k l w n =
 pub buildable : (text : List ℕ) (at depth : ℕ) (f : Form) (step : Step) → Sound text f → Stepped text at depth f step → Buildable step
 buildable text at depth f (steps.Read g next) s h = tt
 buildable text at depth f (steps.Opened outer inner next) s h = tt
-buildable text at depth f (steps.Closed g next) s h = subst (λ x. Shaped x.row.word (sorts x.pieces.items)) (sym h.1) (h.0.shaped s)
+buildable text at depth f (steps.Closed g next) s h = subst (λ x. Shaped x.word (sorts x.pieces.items)) (sym h.1) (h.0.shaped s)
 
 pub none_left : (fs : List Form) → length fs ≡ 0 → fs ≡ []
 none_left [] h = refl

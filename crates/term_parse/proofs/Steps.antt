@@ -1,5 +1,5 @@
 -- What one token does where a part of a form is wanted.
-use Rattle.std.proofs.Common.{◌≡◌, ◌≤◌, ◌<◌, ◌+◌, ℕ, suc, ℤ, Bool, true, false, nat_lt, List, [], ◌∷◌, ◌++◌, length, drop, Result, Ok, Err, Option, Some, None, refl, ap, sym, subst, ◌∙◌, arith, rules, append_assoc}
+use Rattle.std.proofs.Common.{◌≡◌, ◌≤◌, ◌<◌, ◌+◌, ℕ, suc, ℤ, true, false, nat_lt, List, [], ◌∷◌, ◌++◌, length, drop, Result, Ok, Err, Some, None, refl, ap, sym, subst, ◌∙◌, arith, append_assoc}
 use Rattle.std.specs.List.{slice_range}
 use Rattle.std.proofs.lemmas.Grind.{common_steps}
 use Rattle.std.proofs.lemmas.Bool.{lt-ltb, le-ltb}
@@ -8,7 +8,7 @@ use Rattle.effect_term.specs.declared.term.Kind.TheVariants as kinds
 use Rattle.effect_term.specs.declared.term.Name.{Name}
 use Rattle.effect_term.specs.declared.term.Operand.{Operand}
 use Rattle.effect_term.specs.declared.term.Operand.TheVariants.{Number, Named}
-use Rattle.term_parse.specs.declared.table.Row.{Row}
+use Rattle.term_parse.specs.declared.table.Word.{Word}
 use Rattle.term_parse.specs.declared.table.Part.{Part}
 use Rattle.term_parse.specs.declared.table.Part.TheVariants.{Bind, Use, Value, Term, Under, UnderBoth, More, Close}
 use Rattle.term_parse.specs.declared.error.ParseError.{ParseError}
@@ -20,13 +20,14 @@ use Rattle.term_parse.specs.declared.scope.Binding.{Binding}
 use Rattle.term_parse.specs.declared.form.Piece.{Piece}
 use Rattle.term_parse.specs.declared.form.Piece.TheVariants as pieces
 use Rattle.term_parse.specs.declared.form.Form.{Form}
-use Rattle.term_parse.specs.declared.form.Step.TheVariants as steps
-use Rattle.term_parse.specs.Atoms.{Atom, word, value, name, ended, atoms_of}
-use Rattle.term_parse.specs.Lexemes.{Lexeme, opens, closes, called, number, bad_number, bad_byte, lexemes_at}
-use Rattle.term_parse.specs.Reading.{Bound, Want, term, a_word, parts, Step, want_step, part_step, begun, used, opening, entered, meaning, row_of, open_of, with_front, reads, reads_at}
+use Rattle.term_parse.specs.Atoms.{Atom, word, value, name, ended}
+use Rattle.term_parse.specs.Language.{parts_of, word_of}
+use Rattle.term_parse.specs.Lexemes.{opens, closes, called, bad_number, bad_byte, lexemes_at}
+use Rattle.term_parse.specs.Reading.{Bound, Want, a_word, parts, Step, want_step, part_step, begun, used, opening, entered, meaning, open_of, with_front, reads, reads_at}
 use Rattle.term_parse.specs.Seen.{seen, seen_kind, IsNext, IsGood}
 use Rattle.term_parse.specs.Bindings.{bounds, bound_of, InText}
-use Rattle.term_parse.specs.Forms.{Sort, a_name, a_value, a_term, sorts, sort_of, pieces_atoms, piece_atoms, Completes, Shaped, Tabled, Sound, Awaits, want_of, front_of, NextIs, Adds, IsTermPart, IsOneTerm, after, FailsAt, Reads, Opens, Closes}
+use Rattle.term_parse.proofs.Words.{completed}
+use Rattle.term_parse.specs.Forms.{Sort, a_term, sorts, sort_of, pieces_atoms, piece_atoms, Completes, Shaped, want_of, front_of, NextIs, Adds, IsTermPart, IsOneTerm, after, FailsAt, Reads, Opens, Closes}
 
 pub read_step : (text : List ℕ) (at : ℕ) (t : Token) (w : Want) (todo : List Want) (s : Step) → IsNext text at t → want_step (open_of (w ∷ todo)) w (seen text t) t.start ≡ Ok s → reads_at text at (w ∷ todo) ≡ with_front s.atoms (reads_at text t.end (s.wants ++ todo))
 unfolding reads_at reads
@@ -64,11 +65,11 @@ with_both a b (Ok x) = ap (λ y. Ok y) (sym (append_assoc a b x))
 with_both a b (Err e) = refl
 
 -- the word of a form
-pub read_word : (text : List ℕ) (at : ℕ) (t : Token) (r : Row) → IsNext text at t → t.kind ≡ tokens.Called → row_of (slice_range text t.start t.end) ≡ Some r → (s : List Bound) (todo : List Want) → reads_at text at (a_word s ∷ todo) ≡ with_front (word r.word ∷ []) (reads_at text t.end (parts s [] r.parts ∷ todo))
+pub read_word : (text : List ℕ) (at : ℕ) (t : Token) (r : Word) → IsNext text at t → t.kind ≡ tokens.Called → word_of (slice_range text t.start t.end) ≡ Some r → (s : List Bound) (todo : List Want) → reads_at text at (a_word s ∷ todo) ≡ with_front (word r ∷ []) (reads_at text t.end (parts s [] (parts_of r) ∷ todo))
 unfolding want_step
-read_word text at t r n k f s todo = read_step text at t (a_word s) todo (record { atoms = word r.word ∷ []; wants = parts s [] r.parts ∷ [] }) n (ap (λ x. want_step (suc (open_of todo)) (a_word s) (seen_kind (slice_range text t.start t.end) x) t.start) k ∙ ap (λ x. begun x s t.start) f)
+read_word text at t r n k f s todo = read_step text at t (a_word s) todo (record { atoms = word r ∷ []; wants = parts s [] (parts_of r) ∷ [] }) n (ap (λ x. want_step (suc (open_of todo)) (a_word s) (seen_kind (slice_range text t.start t.end) x) t.start) k ∙ ap (λ x. begun x s t.start) f)
 
-pub read_no_word : (text : List ℕ) (at : ℕ) (t : Token) → IsNext text at t → t.kind ≡ tokens.Called → row_of (slice_range text t.start t.end) ≡ None → (s : List Bound) (todo : List Want) → reads_at text at (a_word s ∷ todo) ≡ Err (errors.UnknownWord t.start)
+pub read_no_word : (text : List ℕ) (at : ℕ) (t : Token) → IsNext text at t → t.kind ≡ tokens.Called → word_of (slice_range text t.start t.end) ≡ None → (s : List Bound) (todo : List Want) → reads_at text at (a_word s ∷ todo) ≡ Err (errors.UnknownWord t.start)
 unfolding want_step
 read_no_word text at t n k f s todo = read_fault text at t (a_word s) todo (errors.UnknownWord t.start) n (ap (λ x. want_step (suc (open_of todo)) (a_word s) (seen_kind (slice_range text t.start t.end) x) t.start) k ∙ ap (λ x. begun x s t.start) f)
 
@@ -85,15 +86,15 @@ pub read_not_a_word : (text : List ℕ) (at : ℕ) (t : Token) → IsNext text a
 read_not_a_word text at t n g h s todo = read_fault text at t (a_word s) todo (errors.UnknownWord t.start) n (word_misfit (suc (open_of todo)) s (slice_range text t.start t.end) t.kind t.start g h)
 
 -- what is wanted of a form whose next part is this
-at_part : (text : List ℕ) (at : ℕ) (f : Form) (p : Part) → NextIs f p → (todo : List Want) → reads_at text at (want_of text f ∷ todo) ≡ reads_at text at (parts (bounds text f.scope.items) (bounds text f.bound.items) (p ∷ drop (f.next + 1) f.row.parts) ∷ todo)
+at_part : (text : List ℕ) (at : ℕ) (f : Form) (p : Part) → NextIs f p → (todo : List Want) → reads_at text at (want_of text f ∷ todo) ≡ reads_at text at (parts (bounds text f.scope.items) (bounds text f.bound.items) (p ∷ drop (f.next + 1) (parts_of f.word)) ∷ todo)
 at_part text at f p i todo = ap (λ ps. reads_at text at (parts (bounds text f.scope.items) (bounds text f.bound.items) ps ∷ todo)) i.part_is
 
-complete_at : (f : Form) (p : Part) (more : List Sort) → NextIs f p → Completes (p ∷ drop (f.next + 1) f.row.parts) more → Completes (drop f.next f.row.parts) more
+complete_at : (f : Form) (p : Part) (more : List Sort) → NextIs f p → Completes (p ∷ drop (f.next + 1) (parts_of f.word)) more → Completes (drop f.next (parts_of f.word)) more
 complete_at f p more i c = subst (λ ps. Completes ps more) (sym i.part_is) c
 
 -- the token doesn't fit the part
 pub fails_part : (text : List ℕ) (at : ℕ) (f : Form) (p : Part) (t : Token) (e : ParseError) → IsNext text at t → NextIs f p → ((d : ℕ) (b : List Bound) (ps : List Part) → want_step d (parts (bounds text f.scope.items) b (p ∷ ps)) (seen text t) t.start ≡ Err e) → (depth : ℕ) → FailsAt text at depth f e
-fails_part text at f p t e n i h depth todo o ne = at_part text at f p i todo ∙ read_fault text at t (parts (bounds text f.scope.items) (bounds text f.bound.items) (p ∷ drop (f.next + 1) f.row.parts)) todo e n (h (suc (open_of todo)) (bounds text f.bound.items) (drop (f.next + 1) f.row.parts))
+fails_part text at f p t e n i h depth todo o ne = at_part text at f p i todo ∙ read_fault text at t (parts (bounds text f.scope.items) (bounds text f.bound.items) (p ∷ drop (f.next + 1) (parts_of f.word))) todo e n (h (suc (open_of todo)) (bounds text f.bound.items) (drop (f.next + 1) (parts_of f.word)))
 
 bind_misfit : (d : ℕ) (s b : List Bound) (q : Kind) (ps : List Part) (run : List ℕ) (k : TokenKind) (at : ℕ) → IsGood k → (k ≡ tokens.Called → ⊥) → want_step d (parts s b (Bind q ∷ ps)) (seen_kind run k) at ≡ Err (errors.Arity at)
 unfolding want_step part_step
@@ -204,7 +205,7 @@ over_misfit d s b run (tokens.Number n) at g = refl
 over_misfit d s b run tokens.BadNumber at g = absurd g
 over_misfit d s b run tokens.BadByte at g = absurd g
 
-pub fails_over : (text : List ℕ) (at : ℕ) (f : Form) (t : Token) → IsNext text at t → IsGood t.kind → drop f.next f.row.parts ≡ [] → (depth : ℕ) → FailsAt text at depth f (errors.Arity t.start)
+pub fails_over : (text : List ℕ) (at : ℕ) (f : Form) (t : Token) → IsNext text at t → IsGood t.kind → drop f.next (parts_of f.word) ≡ [] → (depth : ℕ) → FailsAt text at depth f (errors.Arity t.start)
 fails_over text at f t n g h depth todo o ne = ap (λ ps. reads_at text at (parts (bounds text f.scope.items) (bounds text f.bound.items) ps ∷ todo)) h ∙ read_fault text at t (parts (bounds text f.scope.items) (bounds text f.bound.items) []) todo (errors.Arity t.start) n (over_misfit (suc (open_of todo)) (bounds text f.scope.items) (bounds text f.bound.items) (slice_range text t.start t.end) t.kind t.start g)
 
 -- a use whose name has no such meaning
@@ -244,24 +245,23 @@ sorts-add [] p more = refl
 sorts-add (q ∷ ps) p more = ap (λ r. sort_of q ∷ r) (sorts-add ps p more)
 
 -- a binder is read
-pub reads_bind : (text : List ℕ) (at : ℕ) (f g : Form) (t : Token) (q : Kind) → IsNext text at t → t.kind ≡ tokens.Called → NextIs f (Bind q) → g.row ≡ f.row → g.next ≡ f.next + 1 → g.scope ≡ f.scope → g.bound.items ≡ f.bound.items ++ record { start = t.start; end = t.end; kind = q } ∷ [] → g.pieces ≡ f.pieces → Reads text at f g t.end
+pub reads_bind : (text : List ℕ) (at : ℕ) (f g : Form) (t : Token) (q : Kind) → IsNext text at t → t.kind ≡ tokens.Called → NextIs f (Bind q) → g.word ≡ f.word → g.next ≡ f.next + 1 → g.scope ≡ f.scope → g.bound.items ≡ f.bound.items ++ record { start = t.start; end = t.end; kind = q } ∷ [] → g.pieces ≡ f.pieces → Reads text at f g t.end
 unfolding want_step part_step
 reads_bind text at f g t q n k i row next scope bound pieces =
     let ss = bounds text f.scope.items in
     let bs = bounds text f.bound.items in
-    let ps = drop (f.next + 1) f.row.parts in
+    let ps = drop (f.next + 1) (parts_of f.word) in
     let x = slice_range text t.start t.end in
     let added : List Binding = record { start = t.start; end = t.end; kind = q } ∷ [] in
     let s : Step = record { atoms = []; wants = parts ss (bs ++ record { spelling = x; kind = q } ∷ []) ps ∷ [] } in
     let want : want_of text g ≡ parts ss (bs ++ record { spelling = x; kind = q } ∷ []) ps = rw (row, next, scope, bound, bounds-append text f.bound.items added) refl in
     let front : front_of g ≡ front_of f = rw (row, pieces) refl in
-    let left : drop g.next g.row.parts ≡ ps = rw (row, next) refl in
+    let left : drop g.next (parts_of g.word) ≡ ps = rw (row, next) refl in
     record {
       goes_on = λ todo.
           let step : reads_at text at (want_of text f ∷ todo) ≡ with_front [] (reads_at text t.end (parts ss (bs ++ record { spelling = x; kind = q } ∷ []) ps ∷ todo)) = at_part text at f (Bind q) i todo ∙ read_step text at t (parts ss bs (Bind q ∷ ps)) todo s n (ap (λ y. want_step (suc (open_of todo)) (parts ss bs (Bind q ∷ ps)) (seen_kind x y) t.start) k) in
           ap (with_front (front_of f)) (step ∙ with_none _ ∙ ap (λ w. reads_at text t.end (w ∷ todo)) (sym want)) ∙ ap (λ a. with_front a (reads_at text t.end (want_of text g ∷ todo))) (sym front);
       sound = λ h. record {
-        full = rw row h.full;
         shape = λ more c. rw (row, pieces) (h.shape more (complete_at f (Bind q) more i (subst (λ y. Completes y more) left c)));
         scope = rw scope h.scope;
         bound = rw bound (in_text-append text f.bound.items added h.bound (omega (arith, n.later, n.some), n.within, tt));
@@ -274,23 +274,22 @@ pub reads_piece : (text : List ℕ) (at : ℕ) (f g : Form) (t : Token) (p : Par
 reads_piece text at f g t p piece n i a fits completes =
     let ss = bounds text f.scope.items in
     let bs = bounds text f.bound.items in
-    let ps = drop (f.next + 1) f.row.parts in
+    let ps = drop (f.next + 1) (parts_of f.word) in
     let s : Step = record { atoms = piece_atoms piece; wants = parts ss bs ps ∷ [] } in
-    let row : g.row ≡ f.row = a.same_row in
+    let row : g.word ≡ f.word = a.same_word in
     let next : g.next ≡ f.next + 1 = a.next_is in
     let scope : g.scope ≡ f.scope = a.same_scope in
     let bound : g.bound ≡ f.bound = a.same_bound in
     let pieces : g.pieces.items ≡ f.pieces.items ++ piece ∷ [] = a.pieces_are in
     let want : want_of text g ≡ parts ss bs ps = rw (row, next, scope, bound) refl in
-    let front : front_of g ≡ front_of f ++ piece_atoms piece = rw (row, pieces) (ap (λ y. word f.row.word ∷ y) (pieces_atoms-add f.pieces.items piece)) in
-    let left : drop g.next g.row.parts ≡ ps = rw (row, next) refl in
+    let front : front_of g ≡ front_of f ++ piece_atoms piece = rw (row, pieces) (ap (λ y. word f.word ∷ y) (pieces_atoms-add f.pieces.items piece)) in
+    let left : drop g.next (parts_of g.word) ≡ ps = rw (row, next) refl in
     record {
       goes_on = λ todo.
           let step : reads_at text at (want_of text f ∷ todo) ≡ with_front (piece_atoms piece) (reads_at text t.end (parts ss bs ps ∷ todo)) = at_part text at f p i todo ∙ read_step text at t (parts ss bs (p ∷ ps)) todo s n (fits (suc (open_of todo)) bs ps) in
           ap (with_front (front_of f)) step ∙ with_both (front_of f) (piece_atoms piece) (reads_at text t.end (parts ss bs ps ∷ todo)) ∙ ap (λ w. with_front (front_of f ++ piece_atoms piece) (reads_at text t.end (w ∷ todo))) (sym want) ∙ ap (λ y. with_front y (reads_at text t.end (want_of text g ∷ todo))) (sym front);
       sound = λ h. record {
-        full = rw row h.full;
-        shape = λ more c. rw (row, pieces) (subst (Shaped f.row.word) (sym (sorts-add f.pieces.items piece more)) (h.shape (sort_of piece ∷ more) (complete_at f p (sort_of piece ∷ more) i (completes ps more (subst (λ y. Completes y more) left c)))));
+        shape = λ more c. rw (row, pieces) (subst (Shaped f.word) (sym (sorts-add f.pieces.items piece more)) (h.shape (sort_of piece ∷ more) (complete_at f p (sort_of piece ∷ more) i (completes ps more (subst (λ y. Completes y more) left c)))));
         scope = rw scope h.scope;
         bound = rw bound h.bound;
       };
@@ -318,10 +317,10 @@ closes_form : (text : List ℕ) (at : ℕ) (f : Form) (t : Token) (p : Part) →
 closes_form text at f t p n k i fits completes =
     let ss = bounds text f.scope.items in
     let bs = bounds text f.bound.items in
-    let ps = drop (f.next + 1) f.row.parts in
+    let ps = drop (f.next + 1) (parts_of f.word) in
     record {
       goes_on = λ todo. at_part text at f p i todo ∙ read_step text at t (parts ss bs (p ∷ ps)) todo (record { atoms = ended ∷ []; wants = [] }) n (ap (λ y. want_step (suc (open_of todo)) (parts ss bs (p ∷ ps)) (seen_kind (slice_range text t.start t.end) y) t.start) k ∙ fits (suc (open_of todo)) ss bs ps);
-      shaped = λ h. subst (Shaped f.row.word) (sorts_none (sorts f.pieces.items)) (h.shape [] (complete_at f p [] i (completes ps)));
+      shaped = λ h. subst (Shaped f.word) (sorts_none (sorts f.pieces.items)) (h.shape [] (complete_at f p [] i (completes ps)));
     }
 
 pub closes_last : (text : List ℕ) (at : ℕ) (f : Form) (t : Token) → IsNext text at t → t.kind ≡ tokens.Close → NextIs f Close → Closes text at f t.end
@@ -360,18 +359,18 @@ opening_low d at ws l = let t : nat_lt d 100 ≡ true = lt-ltb d 100 l in rw t r
 opening_high : (d at : ℕ) (ws : List Want) → 100 ≤ d → opening d at ws ≡ Err (errors.TooDeep at)
 opening_high d at ws l = let t : nat_lt d 100 ≡ false = le-ltb d 100 l in rw t refl
 
-opened : (text : List ℕ) (at : ℕ) (f : Form) (t : Token) (p : Part) → t.kind ≡ tokens.Open → IsTermPart p → (d : ℕ) → want_step d (parts (bounds text f.scope.items) (bounds text f.bound.items) (p ∷ drop (f.next + 1) f.row.parts)) (seen text t) t.start ≡ opening d t.start (a_word (entered (bounds text f.scope.items) (bounds text f.bound.items) p) ∷ parts (bounds text f.scope.items) (bounds text f.bound.items) (after p (drop (f.next + 1) f.row.parts)) ∷ [])
-opened text at f t p k h d = ap (λ y. want_step d (parts (bounds text f.scope.items) (bounds text f.bound.items) (p ∷ drop (f.next + 1) f.row.parts)) (seen_kind (slice_range text t.start t.end) y) t.start) k ∙ term_opens d (bounds text f.scope.items) (bounds text f.bound.items) p (drop (f.next + 1) f.row.parts) t.start h
+opened : (text : List ℕ) (at : ℕ) (f : Form) (t : Token) (p : Part) → t.kind ≡ tokens.Open → IsTermPart p → (d : ℕ) → want_step d (parts (bounds text f.scope.items) (bounds text f.bound.items) (p ∷ drop (f.next + 1) (parts_of f.word))) (seen text t) t.start ≡ opening d t.start (a_word (entered (bounds text f.scope.items) (bounds text f.bound.items) p) ∷ parts (bounds text f.scope.items) (bounds text f.bound.items) (after p (drop (f.next + 1) (parts_of f.word))) ∷ [])
+opened text at f t p k h d = ap (λ y. want_step d (parts (bounds text f.scope.items) (bounds text f.bound.items) (p ∷ drop (f.next + 1) (parts_of f.word))) (seen_kind (slice_range text t.start t.end) y) t.start) k ∙ term_opens d (bounds text f.scope.items) (bounds text f.bound.items) p (drop (f.next + 1) (parts_of f.word)) t.start h
 
 pub fails_deep : (text : List ℕ) (at depth : ℕ) (f : Form) (t : Token) (p : Part) → IsNext text at t → t.kind ≡ tokens.Open → NextIs f p → IsTermPart p → 100 ≤ depth → FailsAt text at depth f (errors.TooDeep t.start)
-fails_deep text at depth f t p n k i h l todo o ne = at_part text at f p i todo ∙ read_fault text at t (parts (bounds text f.scope.items) (bounds text f.bound.items) (p ∷ drop (f.next + 1) f.row.parts)) todo (errors.TooDeep t.start) n (opened text at f t p k h (suc (open_of todo)) ∙ opening_high (suc (open_of todo)) t.start _ (omega arith))
+fails_deep text at depth f t p n k i h l todo o ne = at_part text at f p i todo ∙ read_fault text at t (parts (bounds text f.scope.items) (bounds text f.bound.items) (p ∷ drop (f.next + 1) (parts_of f.word))) todo (errors.TooDeep t.start) n (opened text at f t p k h (suc (open_of todo)) ∙ opening_high (suc (open_of todo)) t.start _ (omega arith))
 
 -- a form's opening bracket is read
-pub reads_opening : (text : List ℕ) (at depth : ℕ) (f : Form) (t : Token) (p : Part) → IsNext text at t → t.kind ≡ tokens.Open → NextIs f p → IsTermPart p → depth < 100 → (todo : List Want) → suc (open_of todo) ≡ depth → reads_at text at (want_of text f ∷ todo) ≡ reads_at text t.end (a_word (entered (bounds text f.scope.items) (bounds text f.bound.items) p) ∷ parts (bounds text f.scope.items) (bounds text f.bound.items) (after p (drop (f.next + 1) f.row.parts)) ∷ todo)
+pub reads_opening : (text : List ℕ) (at depth : ℕ) (f : Form) (t : Token) (p : Part) → IsNext text at t → t.kind ≡ tokens.Open → NextIs f p → IsTermPart p → depth < 100 → (todo : List Want) → suc (open_of todo) ≡ depth → reads_at text at (want_of text f ∷ todo) ≡ reads_at text t.end (a_word (entered (bounds text f.scope.items) (bounds text f.bound.items) p) ∷ parts (bounds text f.scope.items) (bounds text f.bound.items) (after p (drop (f.next + 1) (parts_of f.word))) ∷ todo)
 reads_opening text at depth f t p n k i h l todo o =
     let ss = bounds text f.scope.items in
     let bs = bounds text f.bound.items in
-    let ps = drop (f.next + 1) f.row.parts in
+    let ps = drop (f.next + 1) (parts_of f.word) in
     let ws : List Want = a_word (entered ss bs p) ∷ parts ss bs (after p ps) ∷ [] in
     at_part text at f p i todo ∙ read_step text at t (parts ss bs (p ∷ ps)) todo (record { atoms = []; wants = ws }) n (opened text at f t p k h (suc (open_of todo)) ∙ opening_low (suc (open_of todo)) t.start ws (omega arith)) ∙ with_none _
 
@@ -379,32 +378,30 @@ pub fails_word : (text : List ℕ) (at depth : ℕ) (f : Form) (t : Token) (p : 
 fails_word text at depth f t p e n k i h l fault todo o ne = reads_opening text at depth f t p n k i h l todo o ∙ fault _ _
 
 -- a form is opened, of this row
-pub opens_form : (text : List ℕ) (at depth : ℕ) (f outer inner : Form) (t : Token) (p : Part) (r : Row) (rest next : ℕ) → IsNext text at t → t.kind ≡ tokens.Open → NextIs f p → IsTermPart p → depth < 100 → drop rest f.row.parts ≡ after p (drop (f.next + 1) f.row.parts) → outer.row ≡ f.row → outer.next ≡ rest → outer.scope ≡ f.scope → outer.bound ≡ f.bound → outer.pieces ≡ f.pieces → inner.row ≡ r → inner.next ≡ 0 → inner.bound.items ≡ [] → inner.pieces.items ≡ [] → bounds text inner.scope.items ≡ entered (bounds text f.scope.items) (bounds text f.bound.items) p → (InText text f.scope.items → InText text f.bound.items → InText text inner.scope.items) → length inner.scope.items ≤ length f.scope.items + 2 → Tabled r → ((s : List Bound) (todo : List Want) → reads_at text t.end (a_word s ∷ todo) ≡ with_front (word r.word ∷ []) (reads_at text next (parts s [] r.parts ∷ todo))) → Opens text at depth f outer inner next
-opens_form text at depth f outer inner t p r rest next n k i h l left row part scope bound pieces irow inext ibound ipieces iscope within few tabled found =
+pub opens_form : (text : List ℕ) (at depth : ℕ) (f outer inner : Form) (t : Token) (p : Part) (r : Word) (rest next : ℕ) → IsNext text at t → t.kind ≡ tokens.Open → NextIs f p → IsTermPart p → depth < 100 → drop rest (parts_of f.word) ≡ after p (drop (f.next + 1) (parts_of f.word)) → outer.word ≡ f.word → outer.next ≡ rest → outer.scope ≡ f.scope → outer.bound ≡ f.bound → outer.pieces ≡ f.pieces → inner.word ≡ r → inner.next ≡ 0 → inner.bound.items ≡ [] → inner.pieces.items ≡ [] → bounds text inner.scope.items ≡ entered (bounds text f.scope.items) (bounds text f.bound.items) p → (InText text f.scope.items → InText text f.bound.items → InText text inner.scope.items) → length inner.scope.items ≤ length f.scope.items + 2 → ((s : List Bound) (todo : List Want) → reads_at text t.end (a_word s ∷ todo) ≡ with_front (word r ∷ []) (reads_at text next (parts s [] (parts_of r) ∷ todo))) → Opens text at depth f outer inner next
+opens_form text at depth f outer inner t p r rest next n k i h l left row part scope bound pieces irow inext ibound ipieces iscope within few found =
     let ss = bounds text f.scope.items in
     let bs = bounds text f.bound.items in
-    let ps = drop (f.next + 1) f.row.parts in
-    let outer_left : drop outer.next outer.row.parts ≡ after p ps = rw (row, part) left in
+    let ps = drop (f.next + 1) (parts_of f.word) in
+    let outer_left : drop outer.next (parts_of outer.word) ≡ after p ps = rw (row, part) left in
     let outer_want : want_of text outer ≡ parts ss bs (after p ps) = rw (scope, bound, outer_left) refl in
-    let inner_want : want_of text inner ≡ parts (entered ss bs p) [] r.parts = rw (irow, inext, ibound, iscope) refl in
-    let inner_left : drop inner.next inner.row.parts ≡ r.parts = rw (irow, inext) refl in
+    let inner_want : want_of text inner ≡ parts (entered ss bs p) [] (parts_of r) = rw (irow, inext, ibound, iscope) refl in
+    let inner_left : drop inner.next (parts_of inner.word) ≡ (parts_of r) = rw (irow, inext) refl in
     let outer_front : front_of outer ≡ front_of f = rw (row, pieces) refl in
-    let inner_front : front_of inner ≡ word r.word ∷ [] = rw (irow, ipieces) refl in
+    let inner_front : front_of inner ≡ word r ∷ [] = rw (irow, ipieces) refl in
     record {
       goes_on = λ todo o.
-          let r1 : reads_at text at (want_of text f ∷ todo) ≡ with_front (word r.word ∷ []) (reads_at text next (parts (entered ss bs p) [] r.parts ∷ parts ss bs (after p ps) ∷ todo)) = reads_opening text at depth f t p n k i h l todo o ∙ found (entered ss bs p) (parts ss bs (after p ps) ∷ todo) in
-          let fronts : front_of outer ++ front_of inner ≡ front_of f ++ (word r.word ∷ []) = ap (λ a. a ++ front_of inner) outer_front ∙ ap (λ a. front_of f ++ a) inner_front in
-          let wants : reads_at text next (want_of text inner ∷ want_of text outer ∷ todo) ≡ reads_at text next (parts (entered ss bs p) [] r.parts ∷ parts ss bs (after p ps) ∷ todo) = ap (λ w. reads_at text next (w ∷ want_of text outer ∷ todo)) inner_want ∙ ap (λ w. reads_at text next (parts (entered ss bs p) [] r.parts ∷ w ∷ todo)) outer_want in
-          ap (with_front (front_of f)) r1 ∙ with_both (front_of f) (word r.word ∷ []) _ ∙ ap (with_front (front_of f ++ (word r.word ∷ []))) (sym wants) ∙ ap (λ a. with_front a (reads_at text next (want_of text inner ∷ want_of text outer ∷ todo))) (sym fronts);
+          let r1 : reads_at text at (want_of text f ∷ todo) ≡ with_front (word r ∷ []) (reads_at text next (parts (entered ss bs p) [] (parts_of r) ∷ parts ss bs (after p ps) ∷ todo)) = reads_opening text at depth f t p n k i h l todo o ∙ found (entered ss bs p) (parts ss bs (after p ps) ∷ todo) in
+          let fronts : front_of outer ++ front_of inner ≡ front_of f ++ (word r ∷ []) = ap (λ a. a ++ front_of inner) outer_front ∙ ap (λ a. front_of f ++ a) inner_front in
+          let wants : reads_at text next (want_of text inner ∷ want_of text outer ∷ todo) ≡ reads_at text next (parts (entered ss bs p) [] (parts_of r) ∷ parts ss bs (after p ps) ∷ todo) = ap (λ w. reads_at text next (w ∷ want_of text outer ∷ todo)) inner_want ∙ ap (λ w. reads_at text next (parts (entered ss bs p) [] (parts_of r) ∷ w ∷ todo)) outer_want in
+          ap (with_front (front_of f)) r1 ∙ with_both (front_of f) (word r ∷ []) _ ∙ ap (with_front (front_of f ++ (word r ∷ []))) (sym wants) ∙ ap (λ a. with_front a (reads_at text next (want_of text inner ∷ want_of text outer ∷ todo))) (sym fronts);
       awaits = λ s. record {
-        full = rw row s.full;
         shape = λ more c. rw (row, pieces) (s.shape (a_term ∷ more) (complete_at f p (a_term ∷ more) i (term_completes p ps more h (subst (λ y. Completes y more) outer_left c))));
         scope = rw scope s.scope;
         bound = rw bound s.bound;
       };
       sound = λ s. record {
-        full = rw irow tabled.full;
-        shape = λ more c. rw (irow, ipieces) (tabled.shape more (subst (λ y. Completes y more) inner_left c));
+        shape = λ more c. rw (irow, ipieces) (completed r more (subst (λ y. Completes y more) inner_left c));
         scope = within s.scope s.bound;
         bound = rw ibound tt;
       };

@@ -10,9 +10,8 @@ use Rattle.effect_term.specs.declared.term.Kind.TheVariants as kinds
 use Rattle.term_parse.specs.declared.table.Word.{Word}
 use Rattle.term_parse.specs.declared.table.Word.TheVariants as words
 use Rattle.term_parse.specs.Lexemes.{called, number, is_letter, is_digit, is_run, run_of, all_digits, is_plain, number_of, numbered, lexeme_of, lexemes}
-use Rattle.term_parse.specs.declared.table.Row.{Row}
-use Rattle.term_parse.specs.Reading.{row_of}
-use Rattle.term_parse.specs.Spelling.{letter_of, name_spelling, word_spelling, parts_of}
+use Rattle.term_parse.specs.Language.{word_spelling}
+use Rattle.term_parse.specs.Spelling.{letter_of, name_spelling}
 
 abbrev pub all_run : List ℕ → Bool
 all_run [] = true
@@ -207,38 +206,3 @@ word_token words.Bracket at rest e = identifier at 98 (114 ∷ 97 ∷ 99 ∷ 107
 word_token words.BracketCase at rest e = identifier at 98 (114 ∷ 97 ∷ 99 ∷ 107 ∷ 101 ∷ 116 ∷ 99 ∷ 97 ∷ 115 ∷ 101 ∷ []) rest (λ bs. refl) refl e
 word_token words.Race at rest e = identifier at 114 (97 ∷ 99 ∷ 101 ∷ []) rest (λ bs. refl) refl e
 word_token words.Both at rest e = identifier at 98 (111 ∷ 116 ∷ 104 ∷ []) rest (λ bs. refl) refl e
-
--- the word's row is the one that its spelling names
-pub word_row : (w : Word) → (r : Row) × (row_of (word_spelling w) ≡ Some r) × (r.word ≡ w) × (r.parts ≡ parts_of w)
-unfolding row_of word_spelling parts_of
-word_row words.Pure = (_, refl, refl, refl)
-word_row words.Raise = (_, refl, refl, refl)
-word_row words.Let = (_, refl, refl, refl)
-word_row words.Seq = (_, refl, refl, refl)
-word_row words.Handle = (_, refl, refl, refl)
-word_row words.If0 = (_, refl, refl, refl)
-word_row words.Add = (_, refl, refl, refl)
-word_row words.Say = (_, refl, refl, refl)
-word_row words.Cede = (_, refl, refl, refl)
-word_row words.Never = (_, refl, refl, refl)
-word_row words.Canceled = (_, refl, refl, refl)
-word_row words.Uncancelable = (_, refl, refl, refl)
-word_row words.Poll = (_, refl, refl, refl)
-word_row words.OnCancel = (_, refl, refl, refl)
-word_row words.Start = (_, refl, refl, refl)
-word_row words.Join = (_, refl, refl, refl)
-word_row words.Cancel = (_, refl, refl, refl)
-word_row words.Ref = (_, refl, refl, refl)
-word_row words.Get = (_, refl, refl, refl)
-word_row words.Set = (_, refl, refl, refl)
-word_row words.Modify = (_, refl, refl, refl)
-word_row words.Deferred = (_, refl, refl, refl)
-word_row words.Complete = (_, refl, refl, refl)
-word_row words.Await = (_, refl, refl, refl)
-word_row words.Repeat = (_, refl, refl, refl)
-word_row words.Forever = (_, refl, refl, refl)
-word_row words.Guarantee = (_, refl, refl, refl)
-word_row words.Bracket = (_, refl, refl, refl)
-word_row words.BracketCase = (_, refl, refl, refl)
-word_row words.Race = (_, refl, refl, refl)
-word_row words.Both = (_, refl, refl, refl)

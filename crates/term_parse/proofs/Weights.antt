@@ -1,8 +1,6 @@
 -- How much of a term the printer has left to write: the number of its atoms.
-use Rattle.std.proofs.Common.{◌≡◌, ◌+◌, ◌-◌, ◌≤◌, ℕ, List, [], ◌∷◌, length, Option, Some, None, ap, arith, length-append, take, drop}
-use Rattle.std.proofs.Math.Seq.{take_all}
+use Rattle.std.proofs.Common.{◌≡◌, ◌+◌, ℕ, List, [], ◌∷◌, length, Option, Some, None, ap, arith, length-append}
 use Rattle.effect_term.specs.declared.term.Term.{Term}
-use Rattle.effect_term.specs.declared.term.Term.TheVariants.{Pure, Raise, Let', Seq', Handle', If0', Add, Say, Cede, Never, Canceled, Uncancelable', Poll', OnCancel', Start', Join', Cancel, Ref', Get, Set, Modify, Deferred', Complete, Await, Repeat', Forever', Guarantee', Bracket', BracketCase', Race', Both'}
 use Rattle.term_parse.specs.declared.printer.Piece.{Piece}
 use Rattle.term_parse.specs.declared.printer.Piece.TheVariants as held
 use Rattle.term_parse.specs.declared.table.Word.{Word}
@@ -40,42 +38,3 @@ length-pieces_atoms (None ∷ ps) end = omega arith
 -- a form weighs more than its pieces together
 pub weight_form : (t : Term) (w : Word) (ps : List (Option Piece)) (ts : List Term) → atoms_of t ≡ word w ∷ pieces_atoms ps (terms_atoms ts (ended ∷ [])) → weight t ≡ 2 + (pieces_weight ps + terms_weight ts)
 weight_form t w ps ts e = omega (arith, ap length e, length-pieces_atoms ps (terms_atoms ts (ended ∷ [])), length-terms_atoms ts (ended ∷ []))
-
-pub weight_pos : (t : Term) → 1 ≤ weight t
-weight_pos (Pure v) = omega arith
-weight_pos (Raise v) = omega arith
-weight_pos (Let' p a q b) = omega arith
-weight_pos (Seq' p a q b shape more) = omega arith
-weight_pos (Handle' p a q b) = omega arith
-weight_pos (If0' v p a q b) = omega arith
-weight_pos (Add v w) = omega arith
-weight_pos (Say v) = omega arith
-weight_pos Cede = omega arith
-weight_pos Never = omega arith
-weight_pos Canceled = omega arith
-weight_pos (Uncancelable' p a) = omega arith
-weight_pos (Poll' n p a) = omega arith
-weight_pos (OnCancel' p a q b) = omega arith
-weight_pos (Start' p a q b) = omega arith
-weight_pos (Join' n p a q b r c) = omega arith
-weight_pos (Cancel n) = omega arith
-weight_pos (Ref' v p a) = omega arith
-weight_pos (Get n) = omega arith
-weight_pos (Set n v) = omega arith
-weight_pos (Modify n v) = omega arith
-weight_pos (Deferred' p a) = omega arith
-weight_pos (Complete n v) = omega arith
-weight_pos (Await n) = omega arith
-weight_pos (Repeat' v p a) = omega arith
-weight_pos (Forever' p a) = omega arith
-weight_pos (Guarantee' p a q b) = omega arith
-weight_pos (Bracket' p a q b r c) = omega arith
-weight_pos (BracketCase' p a q b r c s d t e) = omega arith
-weight_pos (Race' p a q b) = omega arith
-weight_pos (Both' p a q b r c) = omega arith
-
-pub rest_weight : (ts : List Term) → 1 ≤ length ts → 1 + terms_weight (take (length ts - 1) (drop 1 ts)) ≤ terms_weight ts
-rest_weight [] l = absurd (omega arith)
-rest_weight (t ∷ ts) l =
-    let rest : take (length (t ∷ ts) - 1) (drop 1 (t ∷ ts)) ≡ ts = take_all (length (t ∷ ts) - 1) ts (omega arith) in
-    omega (arith, weight_pos t, ap terms_weight rest)

@@ -1,14 +1,11 @@
 -- What an open form stands for, and which pieces its word wants.
-use Rattle.std.specs.Prelude.{◌≡◌, ◌≤◌, ◌<◌, ◌+◌, ℕ, suc, List, [], ◌∷◌, ◌++◌, length, drop, slice_range, Result, Ok, Err}
-use Rattle.effect_term.specs.declared.term.Kind.{Kind}
+use Rattle.std.specs.Prelude.{◌≡◌, ◌≤◌, ◌<◌, ◌+◌, ℕ, suc, List, [], ◌∷◌, ◌++◌, length, drop}
 use Rattle.effect_term.specs.declared.term.Term as terms
 use Rattle.term_parse.specs.declared.table.Word.{Word}
 use Rattle.term_parse.specs.declared.table.Word.TheVariants as words
-use Rattle.term_parse.specs.declared.table.Row.{Row}
 use Rattle.term_parse.specs.declared.table.Part.{Part}
 use Rattle.term_parse.specs.declared.table.Part.TheVariants.{Bind, Use, Value, Term, Under, UnderBoth, More, Close}
 use Rattle.term_parse.specs.declared.error.ParseError.{ParseError}
-use Rattle.term_parse.specs.declared.scope.Binding.{Binding}
 use Rattle.term_parse.specs.declared.form.Piece.{Piece}
 use Rattle.term_parse.specs.declared.form.Piece.TheVariants as pieces
 use Rattle.term_parse.specs.declared.form.Form.{Form}
@@ -17,7 +14,8 @@ use Rattle.term_parse.specs.declared.form.Step.TheVariants as steps
 use Rattle.term_parse.specs.declared.reader.Turn.{Turn}
 use Rattle.term_parse.specs.declared.reader.Turn.TheVariants as turns
 use Rattle.term_parse.specs.Atoms.{Atom, word, value, name, ended, atoms_of}
-use Rattle.term_parse.specs.Reading.{Bound, Want, term, a_word, parts, open_of, with_front, reads_at, Fails}
+use Rattle.term_parse.specs.Reading.{Want, term, parts, open_of, with_front, reads_at, Fails}
+use Rattle.term_parse.specs.Language.{parts_of}
 use Rattle.term_parse.specs.Bindings.{bounds, InText}
 
 -- what kind of piece a part gives
@@ -115,37 +113,30 @@ NotOne w = (w ≡ words.Uncancelable → ⊥) × (w ≡ words.Poll → ⊥) × (
 abbrev pub NotTwo : Word → Type 0
 NotTwo w = (w ≡ words.Let → ⊥) × (w ≡ words.Handle → ⊥) × (w ≡ words.If0 → ⊥) × (w ≡ words.OnCancel → ⊥) × (w ≡ words.Start → ⊥) × (w ≡ words.Guarantee → ⊥) × (w ≡ words.Race → ⊥)
 
--- what the parts of this row give is what its word wants
-pub record Tabled (r : Row) : Type 0 where
-  pub full : length r.parts ≡ 9
-  pub shape : (more : List Sort) → Completes r.parts more → Shaped r.word more
-
 -- what the parts that are left give completes the form, and its binders stand within the text
 pub record Sound (text : List ℕ) (f : Form) : Type 0 where
-  pub full : length f.row.parts ≡ 9
-  pub shape : (more : List Sort) → Completes (drop f.next f.row.parts) more → Shaped f.row.word (sorts f.pieces.items ++ more)
+  pub shape : (more : List Sort) → Completes (drop f.next (parts_of f.word)) more → Shaped f.word (sorts f.pieces.items ++ more)
   pub scope : InText text f.scope.items
   pub bound : InText text f.bound.items
 
 -- the same, once a term has been added
 pub record Awaits (text : List ℕ) (f : Form) : Type 0 where
-  pub full : length f.row.parts ≡ 9
-  pub shape : (more : List Sort) → Completes (drop f.next f.row.parts) more → Shaped f.row.word (sorts f.pieces.items ++ (a_term ∷ more))
+  pub shape : (more : List Sort) → Completes (drop f.next (parts_of f.word)) more → Shaped f.word (sorts f.pieces.items ++ (a_term ∷ more))
   pub scope : InText text f.scope.items
   pub bound : InText text f.bound.items
 
 -- what is wanted of a form
 abbrev pub want_of : List ℕ → Form → Want
-want_of text f = parts (bounds text f.scope.items) (bounds text f.bound.items) (drop f.next f.row.parts)
+want_of text f = parts (bounds text f.scope.items) (bounds text f.bound.items) (drop f.next (parts_of f.word))
 
 -- what has been read of a form
 abbrev pub front_of : Form → List Atom
-front_of f = word f.row.word ∷ pieces_atoms f.pieces.items
+front_of f = word f.word ∷ pieces_atoms f.pieces.items
 
 -- the part that is wanted next
 pub record NextIs (f : Form) (p : Part) : Type 0 where
   pub below : f.next < 9
-  pub part_is : drop f.next f.row.parts ≡ p ∷ drop (f.next + 1) f.row.parts
+  pub part_is : drop f.next (parts_of f.word) ≡ p ∷ drop (f.next + 1) (parts_of f.word)
 
 abbrev pub IsTermPart : Part → Type 0
 IsTermPart (Bind k) = ⊥
@@ -165,7 +156,7 @@ after p ps = ps
 
 -- g is f with this piece added, and this part wanted next
 pub record Adds (f : Form) (p : Piece) (next : ℕ) (g : Form) : Type 0 where
-  pub same_row : g.row ≡ f.row
+  pub same_word : g.word ≡ f.word
   pub next_is : g.next ≡ next
   pub same_scope : g.scope ≡ f.scope
   pub same_bound : g.bound ≡ f.bound
@@ -192,7 +183,7 @@ pub record Opens (text : List ℕ) (at depth : ℕ) (f outer inner : Form) (next
 -- the form was closed
 pub record Closes (text : List ℕ) (at : ℕ) (f : Form) (next : ℕ) : Type 0 where
   pub goes_on : (todo : List Want) → reads_at text at (want_of text f ∷ todo) ≡ with_front (ended ∷ []) (reads_at text next todo)
-  pub shaped : Sound text f → Shaped f.row.word (sorts f.pieces.items)
+  pub shaped : Sound text f → Shaped f.word (sorts f.pieces.items)
 
 -- what a token did to this form, under which so many brackets are open
 abbrev pub Stepped : List ℕ → ℕ → ℕ → Form → Step → Type 0
@@ -242,4 +233,4 @@ Turned text at (turns.Done t end) = IsWhole text t end
 abbrev pub Buildable : Step → Type 0
 Buildable (steps.Read f next) = Unit {0}
 Buildable (steps.Opened outer inner next) = Unit {0}
-Buildable (steps.Closed f next) = Shaped f.row.word (sorts f.pieces.items)
+Buildable (steps.Closed f next) = Shaped f.word (sorts f.pieces.items)

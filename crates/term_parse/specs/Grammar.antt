@@ -1,28 +1,29 @@
 -- The grammar: what stands in a form, and what it means, as a relation apart from any reading.
-use Rattle.std.specs.Prelude.{◌≡◌, ◌≤◌, ℕ, suc, max, ℤ, List, [], ◌∷◌, ◌++◌, length, Some}
+use Rattle.std.specs.Prelude.{◌≡◌, ◌≤◌, ℕ, suc, max, ℤ, List, [], ◌∷◌, ◌++◌, length}
 use Rattle.term_parse.specs.Atoms.{Atom, word, value, name, ended}
 use Rattle.effect_term.specs.declared.term.Kind.TheVariants as kinds
 use Rattle.effect_term.specs.declared.term.Name.{Name}
 use Rattle.effect_term.specs.declared.term.Operand.TheVariants.{Number, Named}
-use Rattle.term_parse.specs.declared.table.Row.{Row}
+use Rattle.term_parse.specs.declared.table.Word.{Word}
 use Rattle.term_parse.specs.declared.table.Part.{Part}
 use Rattle.term_parse.specs.declared.table.Part.TheVariants.{Bind, Use, Value, Term, Under, UnderBoth, More, Close}
 use Rattle.term_parse.specs.Lexemes.{opens, closes, called, number, Placed, lexemes_at}
 use Rattle.term_parse.specs.Innermost.{IsInnermost}
-use Rattle.term_parse.specs.Reading.{Bound, row_of, entered}
+use Rattle.term_parse.specs.Language.{word_spelling, parts_of}
+use Rattle.term_parse.specs.Reading.{Bound, entered}
 
 -- what stands in a form behind its word, up to its closing bracket; each token with its place
 pub data Phrase : Type 0 where
   done : ℕ → Phrase
   spelled : ℕ → List ℕ → Phrase → Phrase
   counted : ℕ → ℤ → Phrase → Phrase
-  form : ℕ → ℕ → List ℕ → Phrase → Phrase → Phrase
+  form : ℕ → ℕ → Word → Phrase → Phrase → Phrase
 
 abbrev pub tokens_of : Phrase → List Placed
 tokens_of (done a) = record { lexeme = closes; place = a } ∷ []
 tokens_of (spelled a x p) = record { lexeme = called x; place = a } ∷ tokens_of p
 tokens_of (counted a n p) = record { lexeme = number n; place = a } ∷ tokens_of p
-tokens_of (form a c w q p) = record { lexeme = opens; place = a } ∷ record { lexeme = called w; place = c } ∷ (tokens_of q ++ tokens_of p)
+tokens_of (form a c w q p) = record { lexeme = opens; place = a } ∷ record { lexeme = called (word_spelling w); place = c } ∷ (tokens_of q ++ tokens_of p)
 
 -- how many brackets are open inside at most, beside those around
 abbrev pub depth_of : Phrase → ℕ
@@ -40,23 +41,21 @@ Means s b (Bind k ∷ ps) (spelled a x p) xs = Means s (b ++ record { spelling =
 Means s b (Use k ∷ ps) (spelled a x p) xs = (n : Name) × (rest : List Atom) × IsInnermost s x n × (n.kind ≡ k) × (xs ≡ name n ∷ rest) × Means s b ps p rest
 Means s b (Value ∷ ps) (spelled a x p) xs = (n : Name) × (rest : List Atom) × IsInnermost s x n × (n.kind ≡ kinds.Value) × (xs ≡ value (Named n) ∷ rest) × Means s b ps p rest
 Means s b (Value ∷ ps) (counted a n p) xs = (rest : List Atom) × (xs ≡ value (Number n) ∷ rest) × Means s b ps p rest
-Means s b (Term ∷ ps) (form a c w q p) xs = (r : Row) × (first : List Atom) × (rest : List Atom) × (row_of w ≡ Some r) × (xs ≡ word r.word ∷ (first ++ rest)) × Means (entered s b Term) [] r.parts q first × Means s b ps p rest
-Means s b (Under i ∷ ps) (form a c w q p) xs = (r : Row) × (first : List Atom) × (rest : List Atom) × (row_of w ≡ Some r) × (xs ≡ word r.word ∷ (first ++ rest)) × Means (entered s b (Under i)) [] r.parts q first × Means s b ps p rest
-Means s b (UnderBoth i j ∷ ps) (form a c w q p) xs = (r : Row) × (first : List Atom) × (rest : List Atom) × (row_of w ≡ Some r) × (xs ≡ word r.word ∷ (first ++ rest)) × Means (entered s b (UnderBoth i j)) [] r.parts q first × Means s b ps p rest
-Means s b (More ∷ ps) (form a c w q p) xs = (r : Row) × (first : List Atom) × (rest : List Atom) × (row_of w ≡ Some r) × (xs ≡ word r.word ∷ (first ++ rest)) × Means (entered s b More) [] r.parts q first × Means s b (More ∷ ps) p rest
+Means s b (Term ∷ ps) (form a c w q p) xs = (first : List Atom) × (rest : List Atom) × (xs ≡ word w ∷ (first ++ rest)) × Means (entered s b Term) [] (parts_of w) q first × Means s b ps p rest
+Means s b (Under i ∷ ps) (form a c w q p) xs = (first : List Atom) × (rest : List Atom) × (xs ≡ word w ∷ (first ++ rest)) × Means (entered s b (Under i)) [] (parts_of w) q first × Means s b ps p rest
+Means s b (UnderBoth i j ∷ ps) (form a c w q p) xs = (first : List Atom) × (rest : List Atom) × (xs ≡ word w ∷ (first ++ rest)) × Means (entered s b (UnderBoth i j)) [] (parts_of w) q first × Means s b ps p rest
+Means s b (More ∷ ps) (form a c w q p) xs = (first : List Atom) × (rest : List Atom) × (xs ≡ word w ∷ (first ++ rest)) × Means (entered s b More) [] (parts_of w) q first × Means s b (More ∷ ps) p rest
 Means s b ps p xs = ⊥
 
 -- the text is one closed term with space around its tokens, within the limits, and means these atoms
 pub record Spells (text : List ℕ) (atoms : List Atom) : Type 0 where
   pub opening_place : ℕ
   pub word_place : ℕ
-  pub spelling : List ℕ
-  pub row : Row
+  pub first : Word
   pub rest : Phrase
   pub inner : List Atom
   pub short : length text ≤ 65536
   pub shallow : suc (depth_of rest) ≤ 100
-  pub tokens : lexemes_at 0 text ≡ record { lexeme = opens; place = opening_place } ∷ record { lexeme = called spelling; place = word_place } ∷ tokens_of rest
-  pub row_is : row_of spelling ≡ Some row
-  pub means : Means [] [] row.parts rest inner
-  pub atoms_are : atoms ≡ word row.word ∷ inner
+  pub tokens : lexemes_at 0 text ≡ record { lexeme = opens; place = opening_place } ∷ record { lexeme = called (word_spelling first); place = word_place } ∷ tokens_of rest
+  pub means : Means [] [] (parts_of first) rest inner
+  pub atoms_are : atoms ≡ word first ∷ inner

@@ -1,4 +1,5 @@
 pub mod Atoms
+pub mod Language
 pub mod Lexemes
 pub mod Reading
 pub mod Seen

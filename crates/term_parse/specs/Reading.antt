@@ -1,17 +1,17 @@
 -- What the forms want, token by token, and the first fault of a text.
-use Rattle.std.specs.Prelude.{◌≡◌, ℕ, suc, Bool, true, false, nat_lt, List, [], ◌∷◌, ◌++◌, length, Option, Some, None, Result, Ok, Err, if◌then◌else◌, slice_get, map}
+use Rattle.std.specs.Prelude.{◌≡◌, ℕ, suc, Bool, true, false, nat_lt, List, [], ◌∷◌, ◌++◌, length, Option, Some, None, Result, Ok, Err, if◌then◌else◌, slice_get}
 use Rattle.std.specs.Str.{bytes_eq}
 use Rattle.effect_term.specs.declared.term.Kind.{Kind}
 use Rattle.effect_term.specs.declared.term.Kind.TheVariants as kinds
 use Rattle.effect_term.specs.declared.term.Name.{Name}
 use Rattle.effect_term.specs.declared.term.Operand.TheVariants.{Number, Named}
-use Rattle.term_parse.specs.declared.table.Row.{Row}
+use Rattle.term_parse.specs.declared.table.Word.{Word}
 use Rattle.term_parse.specs.declared.table.Part.{Part}
 use Rattle.term_parse.specs.declared.table.Part.TheVariants.{Bind, Use, Value, Term, Under, UnderBoth, More, Close}
-use Rattle.term_parse.specs.declared.table.TheConstants.{TABLE, SPELLINGS}
 use Rattle.term_parse.specs.declared.error.ParseError.{ParseError}
 use Rattle.term_parse.specs.declared.error.ParseError.TheVariants as errors
 use Rattle.term_parse.specs.Atoms.{Atom, word, value, name, ended}
+use Rattle.term_parse.specs.Language.{parts_of, word_of}
 use Rattle.term_parse.specs.Lexemes.{Lexeme, opens, closes, called, number, bad_number, bad_byte, Placed, lexemes_at}
 
 -- a binder by its spelling
@@ -42,15 +42,6 @@ meaning scope kind x at = elim (find_from 0 scope x) [
   | Some found ↦ if same_kind found.kind kind then Ok found else Err (errors.NameKind at)
 ]
 
--- a row of the table, by its spelling
-abbrev pub row_among : List (List ℕ) → List Row → List ℕ → Option Row
-row_among [] rows x = None
-row_among (s ∷ ss) [] x = None
-row_among (s ∷ ss) (r ∷ rows) x = if bytes_eq s x then Some r else row_among ss rows x
-
-unfoldable pub row_of : List ℕ → Option Row
-row_of x = row_among (map (λ s. s.now) SPELLINGS) TABLE x
-
 unfoldable pub picked : List Bound → ℕ → List Bound
 picked bound i = elim (slice_get bound i) [ Some b ↦ b ∷ [] | None ↦ [] ]
 
@@ -79,8 +70,8 @@ abbrev pub used : Result Name ParseError → (Name → Atom) → Want → Result
 used (Ok n) atom after = Ok (record { atoms = atom n ∷ []; wants = after ∷ [] })
 used (Err e) atom after = Err e
 
-abbrev pub begun : Option Row → List Bound → ℕ → Result Step ParseError
-begun (Some r) scope at = Ok (record { atoms = word r.word ∷ []; wants = parts scope [] r.parts ∷ [] })
+abbrev pub begun : Option Word → List Bound → ℕ → Result Step ParseError
+begun (Some w) scope at = Ok (record { atoms = word w ∷ []; wants = parts scope [] (parts_of w) ∷ [] })
 begun None scope at = Err (errors.UnknownWord at)
 
 -- a good token where a part of a form is wanted; a token of another kind is a fault of the form
@@ -104,7 +95,7 @@ want_step depth w bad_byte at = Err (errors.BadByte at)
 want_step depth w bad_number at = Err (errors.BadNumber at)
 want_step depth (term s) opens at = opening depth at (a_word s ∷ [])
 want_step depth (term s) t at = Err (errors.Arity at)
-want_step depth (a_word s) (called x) at = begun (row_of x) s at
+want_step depth (a_word s) (called x) at = begun (word_of x) s at
 want_step depth (a_word s) t at = Err (errors.UnknownWord at)
 want_step depth (parts s b []) t at = Err (errors.Arity at)
 want_step depth (parts s b (p ∷ ps)) t at = part_step depth s b p ps t at

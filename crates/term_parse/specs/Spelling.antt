@@ -1,6 +1,6 @@
 -- The canonical spelling of a term: one space between parts, none inside the brackets, and each name as a letter of its
 -- kind and its slot.
-use Rattle.std.specs.Prelude.{ℕ, ◌+◌, ◌==◌, List, [], ◌∷◌, ◌++◌, Some, None, if◌then◌else◌, slice_get, decimal}
+use Rattle.std.specs.Prelude.{ℕ, ◌+◌, ◌==◌, List, [], ◌∷◌, ◌++◌, if◌then◌else◌, decimal}
 use Rattle.std.specs.Fmt.{signed_decimal}
 use Rattle.effect_term.specs.declared.term.Kind.{Kind}
 use Rattle.effect_term.specs.declared.term.Kind.TheVariants as kinds
@@ -13,7 +13,7 @@ use Rattle.term_parse.specs.declared.table.Part.{Part}
 use Rattle.term_parse.specs.declared.table.Part.TheVariants as parts
 use Rattle.term_parse.specs.declared.table.Word.{Word}
 use Rattle.term_parse.specs.declared.table.Word.TheVariants as words
-use Rattle.term_parse.specs.declared.table.TheConstants.{TABLE, SPELLINGS}
+use Rattle.term_parse.specs.Language.{word_spelling, parts_of}
 
 -- `v`, `p`, `f`, `r`, `d`
 abbrev pub letter_of : Kind → ℕ
@@ -29,47 +29,6 @@ name_spelling kind slot = letter_of kind ∷ decimal slot
 abbrev pub operand_spelling : Operand → List ℕ
 operand_spelling (Number n) = signed_decimal n
 operand_spelling (Named n) = name_spelling n.kind n.slot
-
--- where a word stands in the table
-abbrev pub place_of : Word → ℕ
-place_of words.Pure = 0
-place_of words.Raise = 1
-place_of words.Let = 2
-place_of words.Seq = 3
-place_of words.Handle = 4
-place_of words.If0 = 5
-place_of words.Add = 6
-place_of words.Say = 7
-place_of words.Cede = 8
-place_of words.Never = 9
-place_of words.Canceled = 10
-place_of words.Uncancelable = 11
-place_of words.Poll = 12
-place_of words.OnCancel = 13
-place_of words.Start = 14
-place_of words.Join = 15
-place_of words.Cancel = 16
-place_of words.Ref = 17
-place_of words.Get = 18
-place_of words.Set = 19
-place_of words.Modify = 20
-place_of words.Deferred = 21
-place_of words.Complete = 22
-place_of words.Await = 23
-place_of words.Repeat = 24
-place_of words.Forever = 25
-place_of words.Guarantee = 26
-place_of words.Bracket = 27
-place_of words.BracketCase = 28
-place_of words.Race = 29
-place_of words.Both = 30
-
--- the table's spelling of a word, and the parts of its form
-unfoldable pub word_spelling : Word → List ℕ
-word_spelling w = elim (slice_get SPELLINGS (place_of w)) [ Some s ↦ s.now | None ↦ [] ]
-
-unfoldable pub parts_of : Word → List Part
-parts_of w = elim (slice_get TABLE (place_of w)) [ Some r ↦ r.parts | None ↦ [] ]
 
 -- what stands in a form beside its binders: a value, a name, or a term, which is spelled by how many binders enclose it
 pub data Piece : Type 0 where

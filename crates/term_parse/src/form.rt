@@ -2,13 +2,14 @@
 
 ghost use Rattle.std.specs.Prelude.{◌≡◌, ◌≤◌, ◌+◌, ◌<◌, ◌^◌, ℕ, suc, List, [], ◌∷◌, ◌++◌, Err, IfOk, IfErr, length, drop};
 ghost use Rattle.term_parse.specs.Atoms.{word};
+ghost use Rattle.term_parse.specs.Language.{parts_of};
 ghost use Rattle.term_parse.specs.Reading.{Bound, Want, a_word, parts, open_of, with_front, reads_at};
 ghost use Rattle.term_parse.specs.Seen.{IsNext, IsGood};
-ghost use Rattle.term_parse.specs.Forms.{Tabled, Sound, NextIs, Adds, IsTermPart, IsOneTerm, after, FailsAt, Stepped};
+ghost use Rattle.term_parse.specs.Forms.{Sound, NextIs, Adds, IsTermPart, IsOneTerm, after, FailsAt, Stepped};
 
 use crate::error::ParseError;
-use crate::scope::{Binding, entered, meaning, row_of};
-use crate::table::{Part, Row};
+use crate::scope::{Binding, entered, meaning};
+use crate::table::{Part, Word, parts_of, word_of};
 use crate::token::{Token, TokenKind, token_at};
 use effect_term::{Kind, Operand, Term};
 use std::alloc::{AllocError, Global};
@@ -25,8 +26,8 @@ pub(crate) enum Piece {
 /// A form whose closing bracket hasn't come.
 #[derive(Drop)]
 pub(crate) struct Form {
-    /// Its word and parts.
-    pub row: Row,
+    /// Its word.
+    pub word: Word,
     /// How many of its parts have been read.
     pub next: usize,
     /// The binders around it, the innermost last.
@@ -66,20 +67,19 @@ pub(crate) fn wanted(text: &[u8], at: usize) -> Result<Token, ParseError>
     }
 }
 
-/// The row of the word that is wanted here, and where the text goes on.
-pub(crate) fn word(text: &[u8], at: usize) -> Result<(Row, usize), ParseError>
+/// The word that is wanted here, and where the text goes on.
+pub(crate) fn word(text: &[u8], at: usize) -> Result<(Word, usize), ParseError>
     requires { at ≤ length text.now }
     ensures within { IfOk result (λ r. (at < r.1) × (r.1 ≤ length text.now)) }
-    ensures tabled { IfOk result (λ r. Tabled r.0) }
-    ensures found { IfOk result (λ r. (s : List Bound) (todo : List Want) → reads_at text.now at (a_word s ∷ todo) ≡ with_front (word r.0.word ∷ []) (reads_at text.now r.1 (parts s [] r.0.parts ∷ todo))) }
+    ensures found { IfOk result (λ r. (s : List Bound) (todo : List Want) → reads_at text.now at (a_word s ∷ todo) ≡ with_front (word r.0 ∷ []) (reads_at text.now r.1 (parts s [] (parts_of r.0) ∷ todo))) }
     ensures fault { IfErr result (λ e. (s : List Bound) (todo : List Want) → reads_at text.now at (a_word s ∷ todo) ≡ Err e) }
 {
     let token = wanted(text, at)?;
     let TokenKind::Called = token.kind else {
         return Err(ParseError::UnknownWord(token.start));
     };
-    match row_of(&text[token.start..token.end]) {
-        Some(row) => Ok((row, token.end)),
+    match word_of(&text[token.start..token.end]) {
+        Some(word) => Ok((word, token.end)),
         None => Err(ParseError::UnknownWord(token.start)),
     }
 }
@@ -198,7 +198,7 @@ fn open(
     requires opens { token.kind ≡ TokenKind.Open }
     requires part { NextIs form part }
     requires term { IsTermPart part }
-    requires rest { drop rest form.row.parts ≡ after part (drop (form.next + 1) form.row.parts) }
+    requires rest { drop rest (parts_of form.word) ≡ after part (drop (form.next + 1) (parts_of form.word)) }
     ensures found { (at : ℕ) → IsNext text.now at token → IfOk result (Stepped text.now at depth form) }
     ensures fault { (at : ℕ) → IsNext text.now at token → IfErr result (FailsAt text.now at depth form) }
 {
@@ -207,10 +207,10 @@ fn open(
     }
     let scope = entered(alloc, &form.scope, &form.bound, part)?;
     match word(text, token.end) {
-        Ok((row, next)) => {
+        Ok((word, next)) => {
             form.next = rest;
             let inner = Form {
-                row,
+                word,
                 next: 0,
                 scope,
                 bound: Vec::new(alloc),
@@ -297,11 +297,10 @@ pub(crate) fn advance(
     ensures fault { IfErr result (FailsAt text.now at depth form) }
 {
     let token = wanted(text, at)?;
-    let parts = form.row.parts;
-    if form.next >= parts.len() {
+    let Some(part) = parts_of(form.word).get(form.next) else {
         return Err(ParseError::Arity(token.start));
-    }
-    match parts[form.next] {
+    };
+    match *part {
         Part::Bind(kind) => bind(form, token, kind),
         Part::Use(kind) => use_name(text, form, token, kind),
         Part::Value => value(text, form, token),

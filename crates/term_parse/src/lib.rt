@@ -1,8 +1,8 @@
 //! The text of terms, both ways: what a text means or where it is at fault, and how a term is
 //! spelled.
 //!
-//! It stands on `effect_term`, whose terms it reads and writes. One table of signatures says what
-//! stands in each form; the grammar, the faults and the parser all read it. It promises that
+//! It stands on `effect_term`, whose terms it reads and writes. One list of the language says how each
+//! word is spelled and what stands in its form; the grammar and the faults read it. It promises that
 //! [`parse`] gives a term exactly where the grammar spells it, and else the first fault with its
 //! place, and that [`print`] writes the canonical spelling, which spells the same term again. What
 //! is parsed is closed and well kinded.
@@ -11,17 +11,13 @@
 mod build;
 mod error;
 mod form;
-#[cfg(test)]
-mod printed_terms;
 mod printer;
 mod reader;
 mod scope;
 mod table;
-#[cfg(test)]
-mod tests;
 mod token;
 
 pub use error::ParseError;
 pub use printer::print;
 pub use reader::parse;
-pub use table::{Part, Row, SPELLINGS, TABLE, Word};
+pub use table::{Part, Word};

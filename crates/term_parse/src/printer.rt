@@ -6,13 +6,14 @@ ghost use Rattle.effect_term.specs.Kinds.{WellKinded};
 ghost use Rattle.effect_term.specs.Sizes.{nest_of};
 ghost use Rattle.term_parse.specs.Atoms.{atoms_of, ended, word as a_word, value as a_value};
 ghost use Rattle.term_parse.specs.Grammar.{Spells};
+ghost use Rattle.term_parse.specs.Language.{parts_of};
 ghost use Rattle.term_parse.specs.Numbers.{NumbersFit};
 ghost use Rattle.term_parse.specs.Reading.{reading};
 ghost use Rattle.term_parse.specs.Shapes.{shape_of};
-ghost use Rattle.term_parse.specs.Spelling.{name_spelling, operand_spelling, letter_of, parts_of, word_spelling, piece_spelling, parts_spelling, more_spelling, binders_of, outer_binders, form, spelling, canonical};
+ghost use Rattle.term_parse.specs.Spelling.{name_spelling, operand_spelling, letter_of, piece_spelling, parts_spelling, more_spelling, binders_of, outer_binders, form, spelling, canonical};
 ghost use Rattle.term_parse.specs.Pieces.{piece_of, pieces_of, terms_spelled, terms_atoms, piece_atoms, pieces_atoms, Suffice};
 
-use crate::table::{Part, SPELLINGS, TABLE, Word};
+use crate::table::{Part, Word, parts_of, spelling_of};
 use effect_term::{Kind, Name, Operand, Term};
 use itoa::Buffer;
 use std::alloc::{AllocError, Global};
@@ -56,7 +57,7 @@ macro_rules! form_with {
 }
 
 // The form of a term.
-#[tactic(auto, unfolding(crate::specs::Spelling::parts_of))]
+#[tactic(auto, unfolding(crate::specs::Language::parts_of))]
 fn form_of(term: &Term) -> Form<'_>
     ensures spelled { spelling term.now ≡ form result.word (pieces_of result.pieces) (terms_spelled result.more.now) }
     ensures atoms { atoms_of term.now ≡ a_word result.word ∷ pieces_atoms result.pieces (terms_atoms result.more.now (ended ∷ [])) }
@@ -117,24 +118,6 @@ fn form_of(term: &Term) -> Form<'_>
         Term::Race(a, b) => form_with!(Race, Piece::Term(a), Piece::Term(b)),
         Term::Both(a, b, k) => form_with!(Both, Piece::Term(a), Piece::Term(b), Piece::Term(k)),
     }
-}
-
-// The row of a word.
-#[tactic(auto, unfolding(crate::specs::Spelling::parts_of))]
-fn parts_of(word: Word) -> [Part; 9]
-    ensures value { result ≡ parts_of word }
-    ensures nine { length result ≡ 9 }
-{
-    TABLE[word as usize].parts
-}
-
-// The spelling of a word.
-#[tactic(auto, unfolding(crate::specs::Spelling::word_spelling))]
-fn spelling_of(word: Word) -> &'static [u8]
-    ensures value { result.now ≡ word_spelling word }
-    ensures long { 3 ≤ length result.now }
-{
-    SPELLINGS[word as usize]
 }
 
 fn letter_of(kind: Kind) -> u8
@@ -222,14 +205,7 @@ fn write_term(out: &mut Vec<u8>, term: &Term, around: usize) -> Result<(), Alloc
     let form = form_of(term);
     out.push(b'(')?;
     out.extend_from_slice(spelling_of(form.word))?;
-    write_parts(
-        out,
-        &parts_of(form.word),
-        &form.pieces,
-        form.more,
-        around,
-        0,
-    )
+    write_parts(out, parts_of(form.word), &form.pieces, form.more, around, 0)
 }
 
 // Writes the rest of a form, before which so many of its own binders stand.
@@ -312,13 +288,12 @@ fn write_more(out: &mut Vec<u8>, terms: &[Term], around: usize) -> Result<(), Al
     ensures numbers { OnOk result (NumbersFit (terms_atoms terms.now (ended ∷ []))) }
     ensures longer { OnOk result (vec_len out.old ≤ vec_len out.new) }
 {
-    let [term, rest @ ..] = terms else {
-        out.push(b')')?;
-        return Ok(());
-    };
-    out.push(b' ')?;
-    write_term(out, term, around)?;
-    write_more(out, rest, around)
+    for term in terms {
+        out.push(b' ')?;
+        write_term(out, term, around)?;
+    }
+    out.push(b')')?;
+    Ok(())
 }
 
 /// Writes a term in its canonical spelling: one space between parts and none inside the brackets,

@@ -41,11 +41,11 @@ fn first_form(alloc: Global, text: &[u8]) -> Result<(Form, usize), ParseError>
         return Err(ParseError::Arity(token.start));
     };
     match word(text, token.end) {
-        Ok((row, next)) => {
+        Ok((word, next)) => {
             let scope = Vec::new(alloc);
             let bound = Vec::new(alloc);
             let form = Form {
-                row,
+                word,
                 next: 0,
                 scope,
                 bound,
@@ -59,22 +59,22 @@ fn first_form(alloc: Global, text: &[u8]) -> Result<(Form, usize), ParseError>
 
 /// The term of a form that has closed.
 fn term_of(alloc: Global, form: Form) -> Result<Term, AllocError>
-    requires { Shaped form.row.word (sorts form.pieces.items) }
-    ensures { IfOk result (λ t. atoms_of t ≡ word form.row.word ∷ ends form.pieces.items) }
+    requires { Shaped form.word (sorts form.pieces.items) }
+    ensures { IfOk result (λ t. atoms_of t ≡ word form.word ∷ ends form.pieces.items) }
 {
     let Form {
-        row,
+        word,
         next: _,
         scope: _,
         bound: _,
         pieces,
     } = form;
-    build(alloc, row.word, pieces)
+    build(alloc, word, pieces)
 }
 
 /// Goes on in the form around one that has closed, if there is one.
 fn resume(alloc: Global, form: Form, mut around: Vec<Form>, next: usize) -> Result<Turn, AllocError>
-    requires { Shaped form.row.word (sorts form.pieces.items) }
+    requires { Shaped form.word (sorts form.pieces.items) }
     ensures { (text : List ℕ) (at : ℕ) → IsStack text at form around.items → Closes text at form next → at < next → next ≤ length text → IfOk result (Turned text at) }
 {
     let term = term_of(alloc, form)?;

@@ -1,13 +1,13 @@
-//! The binders in scope, and the words of the table.
+//! The binders in scope.
 
-ghost use Rattle.std.specs.Prelude.{◌≡◌, ◌≢◌, ◌↔◌, ◌≤◌, ◌+◌, ◌<◌, ◌^◌, ℕ, List, Ok, Err, IfOk, IfSome, IfNone, ◌++◌, length, map};
+ghost use Rattle.std.specs.Prelude.{◌≡◌, ◌≢◌, ◌↔◌, ◌≤◌, ◌+◌, ◌<◌, ◌^◌, ℕ, List, Ok, Err, IfOk, IfSome, IfNone, ◌++◌, length};
 ghost use Rattle.effect_term.specs.declared.term.Name as names;
 ghost use Rattle.term_parse.specs.Innermost.{Unspelled, IsInnermost};
-ghost use Rattle.term_parse.specs.Reading.{find_from, same_kind, meaning, entered, picked, row_among, row_of};
+ghost use Rattle.term_parse.specs.Reading.{find_from, same_kind, meaning, entered, picked};
 ghost use Rattle.term_parse.specs.Bindings.{bounds, InText};
 
 use crate::error::ParseError;
-use crate::table::{Part, Row, SPELLINGS, TABLE};
+use crate::table::Part;
 use effect_term::{Kind, Name};
 use std::alloc::{AllocError, Global};
 
@@ -17,31 +17,6 @@ pub(crate) struct Binding {
     pub start: usize,
     pub end: usize,
     pub kind: Kind,
-}
-
-/// The row of a spelling, where these are the rows of these spellings.
-fn row_among(spellings: &[&[u8]], rows: &[Row], spelling: &[u8]) -> Option<Row>
-    ensures { result ≡ row_among (map (λ s. s.now) spellings.now) rows.now spelling.now }
-{
-    let [known, others @ ..] = spellings else {
-        return None;
-    };
-    let [row, rest @ ..] = rows else {
-        return None;
-    };
-    if *known == spelling {
-        Some(*row)
-    } else {
-        row_among(others, rest, spelling)
-    }
-}
-
-/// The row of a word.
-#[tactic(auto, unfolding(crate::specs::Reading::row_of))]
-pub(crate) fn row_of(spelling: &[u8]) -> Option<Row>
-    ensures { result ≡ row_of spelling.now }
-{
-    row_among(&SPELLINGS, &TABLE, spelling)
 }
 
 /// The innermost binder of a spelling, where the first has this slot.

@@ -1,8 +1,11 @@
-//! The table of signatures: for each word its spelling and the parts of its form.
+//! The words of the language: how each is spelled, and what stands in its form.
 //!
-//! The grammar, the faults, the parser and the printer all read this one table. A further word is one
-//! more variant, row and spelling here, and says in `build`, `printer` and the atoms of a term which
-//! of the parts are its own.
+//! The parser and the printer look a word's parts up here, one after another. A further word is one
+//! more variant, spelling and row of parts here, and says in `build`, `printer` and the atoms of a
+//! term which of the parts are its own.
+
+ghost use Rattle.std.specs.Prelude.{◌≡◌, ◌<◌, ◌≤◌, ℕ, suc, length};
+ghost use Rattle.term_parse.specs.Language.{every_word, word_spelling, parts_of, word_of};
 
 use effect_term::Kind;
 
@@ -63,231 +66,116 @@ pub enum Part {
     Close,
 }
 
-/// A word and the parts of its form in the order in which they are written. What stands behind
-/// the part that closes the form is never read.
-#[derive(Clone, Copy)]
-pub struct Row {
-    /// The word behind the opening bracket.
-    pub word: Word,
-    /// The parts behind the word, up to the first that closes the form.
-    pub parts: [Part; 9],
+/// The words, in the order in which they are looked up.
+const WORDS: [Word; 31] = [
+    Word::Pure,
+    Word::Raise,
+    Word::Let,
+    Word::Seq,
+    Word::Handle,
+    Word::If0,
+    Word::Add,
+    Word::Say,
+    Word::Cede,
+    Word::Never,
+    Word::Canceled,
+    Word::Uncancelable,
+    Word::Poll,
+    Word::OnCancel,
+    Word::Start,
+    Word::Join,
+    Word::Cancel,
+    Word::Ref,
+    Word::Get,
+    Word::Set,
+    Word::Modify,
+    Word::Deferred,
+    Word::Complete,
+    Word::Await,
+    Word::Repeat,
+    Word::Forever,
+    Word::Guarantee,
+    Word::Bracket,
+    Word::BracketCase,
+    Word::Race,
+    Word::Both,
+];
+
+/// How a word is spelled.
+#[tactic(auto, unfolding(crate::specs::Language::word_spelling))]
+pub(crate) fn spelling_of(word: Word) -> &'static [u8]
+    ensures value { result.now ≡ word_spelling word }
+    ensures long { 3 ≤ length result.now }
+{
+    match word {
+        Word::Pure => b"pure",
+        Word::Raise => b"raise",
+        Word::Let => b"let",
+        Word::Seq => b"seq",
+        Word::Handle => b"handle",
+        Word::If0 => b"if0",
+        Word::Add => b"add",
+        Word::Say => b"say",
+        Word::Cede => b"cede",
+        Word::Never => b"never",
+        Word::Canceled => b"canceled",
+        Word::Uncancelable => b"uncancelable",
+        Word::Poll => b"poll",
+        Word::OnCancel => b"oncancel",
+        Word::Start => b"start",
+        Word::Join => b"join",
+        Word::Cancel => b"cancel",
+        Word::Ref => b"ref",
+        Word::Get => b"get",
+        Word::Set => b"set",
+        Word::Modify => b"modify",
+        Word::Deferred => b"deferred",
+        Word::Complete => b"complete",
+        Word::Await => b"await",
+        Word::Repeat => b"repeat",
+        Word::Forever => b"forever",
+        Word::Guarantee => b"guarantee",
+        Word::Bracket => b"bracket",
+        Word::BracketCase => b"bracketcase",
+        Word::Race => b"race",
+        Word::Both => b"both",
+    }
 }
 
-/// The forms of all words.
-pub const TABLE: [Row; 31] = [
-    Row {
-        word: Word::Pure,
-        parts: [
-            Part::Value,
-            Part::Close,
-            Part::Close,
-            Part::Close,
-            Part::Close,
-            Part::Close,
-            Part::Close,
-            Part::Close,
-            Part::Close,
-        ],
-    },
-    Row {
-        word: Word::Raise,
-        parts: [
-            Part::Value,
-            Part::Close,
-            Part::Close,
-            Part::Close,
-            Part::Close,
-            Part::Close,
-            Part::Close,
-            Part::Close,
-            Part::Close,
-        ],
-    },
-    Row {
-        word: Word::Let,
-        parts: [
+/// What stands in the form of a word, behind the word.
+#[tactic(auto, unfolding(crate::specs::Language::parts_of))]
+pub(crate) fn parts_of(word: Word) -> &'static [Part]
+    ensures value { result.now ≡ parts_of word }
+    ensures few { length result.now ≤ 9 }
+{
+    match word {
+        Word::Pure | Word::Raise | Word::Say => &[Part::Value, Part::Close],
+        Word::Let => &[
             Part::Bind(Kind::Value),
             Part::Term,
             Part::Under(0),
             Part::Close,
-            Part::Close,
-            Part::Close,
-            Part::Close,
-            Part::Close,
-            Part::Close,
         ],
-    },
-    Row {
-        word: Word::Seq,
-        parts: [
-            Part::Term,
-            Part::Term,
-            Part::More,
-            Part::Close,
-            Part::Close,
-            Part::Close,
-            Part::Close,
-            Part::Close,
-            Part::Close,
-        ],
-    },
-    Row {
-        word: Word::Handle,
-        parts: [
+        Word::Seq => &[Part::Term, Part::Term, Part::More],
+        Word::Handle => &[
             Part::Term,
             Part::Bind(Kind::Value),
             Part::Under(0),
             Part::Close,
-            Part::Close,
-            Part::Close,
-            Part::Close,
-            Part::Close,
-            Part::Close,
         ],
-    },
-    Row {
-        word: Word::If0,
-        parts: [
-            Part::Value,
-            Part::Term,
-            Part::Term,
-            Part::Close,
-            Part::Close,
-            Part::Close,
-            Part::Close,
-            Part::Close,
-            Part::Close,
-        ],
-    },
-    Row {
-        word: Word::Add,
-        parts: [
-            Part::Value,
-            Part::Value,
-            Part::Close,
-            Part::Close,
-            Part::Close,
-            Part::Close,
-            Part::Close,
-            Part::Close,
-            Part::Close,
-        ],
-    },
-    Row {
-        word: Word::Say,
-        parts: [
-            Part::Value,
-            Part::Close,
-            Part::Close,
-            Part::Close,
-            Part::Close,
-            Part::Close,
-            Part::Close,
-            Part::Close,
-            Part::Close,
-        ],
-    },
-    Row {
-        word: Word::Cede,
-        parts: [
-            Part::Close,
-            Part::Close,
-            Part::Close,
-            Part::Close,
-            Part::Close,
-            Part::Close,
-            Part::Close,
-            Part::Close,
-            Part::Close,
-        ],
-    },
-    Row {
-        word: Word::Never,
-        parts: [
-            Part::Close,
-            Part::Close,
-            Part::Close,
-            Part::Close,
-            Part::Close,
-            Part::Close,
-            Part::Close,
-            Part::Close,
-            Part::Close,
-        ],
-    },
-    Row {
-        word: Word::Canceled,
-        parts: [
-            Part::Close,
-            Part::Close,
-            Part::Close,
-            Part::Close,
-            Part::Close,
-            Part::Close,
-            Part::Close,
-            Part::Close,
-            Part::Close,
-        ],
-    },
-    Row {
-        word: Word::Uncancelable,
-        parts: [
-            Part::Bind(Kind::Poll),
-            Part::Under(0),
-            Part::Close,
-            Part::Close,
-            Part::Close,
-            Part::Close,
-            Part::Close,
-            Part::Close,
-            Part::Close,
-        ],
-    },
-    Row {
-        word: Word::Poll,
-        parts: [
-            Part::Use(Kind::Poll),
-            Part::Term,
-            Part::Close,
-            Part::Close,
-            Part::Close,
-            Part::Close,
-            Part::Close,
-            Part::Close,
-            Part::Close,
-        ],
-    },
-    Row {
-        word: Word::OnCancel,
-        parts: [
-            Part::Term,
-            Part::Term,
-            Part::Close,
-            Part::Close,
-            Part::Close,
-            Part::Close,
-            Part::Close,
-            Part::Close,
-            Part::Close,
-        ],
-    },
-    Row {
-        word: Word::Start,
-        parts: [
+        Word::If0 => &[Part::Value, Part::Term, Part::Term, Part::Close],
+        Word::Add => &[Part::Value, Part::Value, Part::Close],
+        Word::Cede | Word::Never | Word::Canceled => &[Part::Close],
+        Word::Uncancelable => &[Part::Bind(Kind::Poll), Part::Under(0), Part::Close],
+        Word::Poll => &[Part::Use(Kind::Poll), Part::Term, Part::Close],
+        Word::OnCancel | Word::Guarantee | Word::Race => &[Part::Term, Part::Term, Part::Close],
+        Word::Start => &[
             Part::Bind(Kind::Fiber),
             Part::Term,
             Part::Under(0),
             Part::Close,
-            Part::Close,
-            Part::Close,
-            Part::Close,
-            Part::Close,
-            Part::Close,
         ],
-    },
-    Row {
-        word: Word::Join,
-        parts: [
+        Word::Join => &[
             Part::Use(Kind::Fiber),
             Part::Bind(Kind::Value),
             Part::Under(0),
@@ -295,181 +183,29 @@ pub const TABLE: [Row; 31] = [
             Part::Under(1),
             Part::Term,
             Part::Close,
-            Part::Close,
-            Part::Close,
         ],
-    },
-    Row {
-        word: Word::Cancel,
-        parts: [
-            Part::Use(Kind::Fiber),
-            Part::Close,
-            Part::Close,
-            Part::Close,
-            Part::Close,
-            Part::Close,
-            Part::Close,
-            Part::Close,
-            Part::Close,
-        ],
-    },
-    Row {
-        word: Word::Ref,
-        parts: [
+        Word::Cancel => &[Part::Use(Kind::Fiber), Part::Close],
+        Word::Ref => &[
             Part::Bind(Kind::Ref),
             Part::Value,
             Part::Under(0),
             Part::Close,
-            Part::Close,
-            Part::Close,
-            Part::Close,
-            Part::Close,
-            Part::Close,
         ],
-    },
-    Row {
-        word: Word::Get,
-        parts: [
-            Part::Use(Kind::Ref),
-            Part::Close,
-            Part::Close,
-            Part::Close,
-            Part::Close,
-            Part::Close,
-            Part::Close,
-            Part::Close,
-            Part::Close,
-        ],
-    },
-    Row {
-        word: Word::Set,
-        parts: [
-            Part::Use(Kind::Ref),
-            Part::Value,
-            Part::Close,
-            Part::Close,
-            Part::Close,
-            Part::Close,
-            Part::Close,
-            Part::Close,
-            Part::Close,
-        ],
-    },
-    Row {
-        word: Word::Modify,
-        parts: [
-            Part::Use(Kind::Ref),
-            Part::Value,
-            Part::Close,
-            Part::Close,
-            Part::Close,
-            Part::Close,
-            Part::Close,
-            Part::Close,
-            Part::Close,
-        ],
-    },
-    Row {
-        word: Word::Deferred,
-        parts: [
-            Part::Bind(Kind::Deferred),
-            Part::Under(0),
-            Part::Close,
-            Part::Close,
-            Part::Close,
-            Part::Close,
-            Part::Close,
-            Part::Close,
-            Part::Close,
-        ],
-    },
-    Row {
-        word: Word::Complete,
-        parts: [
-            Part::Use(Kind::Deferred),
-            Part::Value,
-            Part::Close,
-            Part::Close,
-            Part::Close,
-            Part::Close,
-            Part::Close,
-            Part::Close,
-            Part::Close,
-        ],
-    },
-    Row {
-        word: Word::Await,
-        parts: [
-            Part::Use(Kind::Deferred),
-            Part::Close,
-            Part::Close,
-            Part::Close,
-            Part::Close,
-            Part::Close,
-            Part::Close,
-            Part::Close,
-            Part::Close,
-        ],
-    },
-    Row {
-        word: Word::Repeat,
-        parts: [
-            Part::Value,
-            Part::Term,
-            Part::Close,
-            Part::Close,
-            Part::Close,
-            Part::Close,
-            Part::Close,
-            Part::Close,
-            Part::Close,
-        ],
-    },
-    Row {
-        word: Word::Forever,
-        parts: [
-            Part::Term,
-            Part::Close,
-            Part::Close,
-            Part::Close,
-            Part::Close,
-            Part::Close,
-            Part::Close,
-            Part::Close,
-            Part::Close,
-        ],
-    },
-    Row {
-        word: Word::Guarantee,
-        parts: [
-            Part::Term,
-            Part::Term,
-            Part::Close,
-            Part::Close,
-            Part::Close,
-            Part::Close,
-            Part::Close,
-            Part::Close,
-            Part::Close,
-        ],
-    },
-    Row {
-        word: Word::Bracket,
-        parts: [
+        Word::Get => &[Part::Use(Kind::Ref), Part::Close],
+        Word::Set | Word::Modify => &[Part::Use(Kind::Ref), Part::Value, Part::Close],
+        Word::Deferred => &[Part::Bind(Kind::Deferred), Part::Under(0), Part::Close],
+        Word::Complete => &[Part::Use(Kind::Deferred), Part::Value, Part::Close],
+        Word::Await => &[Part::Use(Kind::Deferred), Part::Close],
+        Word::Repeat => &[Part::Value, Part::Term, Part::Close],
+        Word::Forever => &[Part::Term, Part::Close],
+        Word::Bracket => &[
             Part::Bind(Kind::Value),
             Part::Term,
             Part::Under(0),
             Part::Under(0),
             Part::Close,
-            Part::Close,
-            Part::Close,
-            Part::Close,
-            Part::Close,
         ],
-    },
-    Row {
-        word: Word::BracketCase,
-        parts: [
+        Word::BracketCase => &[
             Part::Bind(Kind::Value),
             Part::Term,
             Part::Under(0),
@@ -480,68 +216,24 @@ pub const TABLE: [Row; 31] = [
             Part::Under(0),
             Part::Close,
         ],
-    },
-    Row {
-        word: Word::Race,
-        parts: [
-            Part::Term,
-            Part::Term,
-            Part::Close,
-            Part::Close,
-            Part::Close,
-            Part::Close,
-            Part::Close,
-            Part::Close,
-            Part::Close,
-        ],
-    },
-    Row {
-        word: Word::Both,
-        parts: [
+        Word::Both => &[
             Part::Term,
             Part::Term,
             Part::Bind(Kind::Value),
             Part::Bind(Kind::Value),
             Part::UnderBoth(0, 1),
             Part::Close,
-            Part::Close,
-            Part::Close,
-            Part::Close,
         ],
-    },
-];
+    }
+}
 
-/// The spellings of the words, in the order of [`TABLE`].
-pub const SPELLINGS: [&[u8]; 31] = [
-    b"pure",
-    b"raise",
-    b"let",
-    b"seq",
-    b"handle",
-    b"if0",
-    b"add",
-    b"say",
-    b"cede",
-    b"never",
-    b"canceled",
-    b"uncancelable",
-    b"poll",
-    b"oncancel",
-    b"start",
-    b"join",
-    b"cancel",
-    b"ref",
-    b"get",
-    b"set",
-    b"modify",
-    b"deferred",
-    b"complete",
-    b"await",
-    b"repeat",
-    b"forever",
-    b"guarantee",
-    b"bracket",
-    b"bracketcase",
-    b"race",
-    b"both",
-];
+/// The word that is spelled so, if there is one.
+#[tactic(auto, unfolding(crate::specs::Language::word_of))]
+pub(crate) fn word_of(spelling: &[u8]) -> Option<Word>
+    ensures { result ≡ word_of spelling.now }
+{
+    WORDS
+        .iter()
+        .copied()
+        .find(|word| spelling_of(*word) == spelling)
+}

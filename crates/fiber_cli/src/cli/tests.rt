@@ -44,11 +44,11 @@ pub(super) fn expect<R: Abort + AllocGlobal>(
         err.as_bytes(),
         "{rule}: {words:?} on {input}"
     );
-    assert_eq!(rt; answered, status, "{rule}: {words:?} on {input}");
+    assert_eq!(rt; answered.code(), status, "{rule}: {words:?} on {input}");
 }
 
 /// A text that goes so deep.
-fn nested(
+pub(super) fn nested(
     alloc: Global,
     front: &str,
     depth: usize,
@@ -311,7 +311,7 @@ fn refuses_each_front_of_a_program(rt: HostRuntime) -> Result<(), Fail> {
         );
         assert_eq!(rt; out.as_slice(), want.as_bytes());
         assert_eq!(rt; err.len(), 0);
-        assert_eq!(rt; status, 65);
+        assert_eq!(rt; status.code(), 65);
     }
     Ok(())
 }
@@ -333,7 +333,7 @@ fn tells_failed_readers(rt: HostRuntime) {
         );
         assert_eq!(rt; out.len(), 0);
         assert_eq!(rt; err.as_slice(), b"fault 23 ReadFault\n".as_slice());
-        assert_eq!(rt; status, 70);
+        assert_eq!(rt; status.code(), 70);
     }
     let mut out = Vec::new(rt.alloc());
     let mut err = Vec::new(rt.alloc());
@@ -346,7 +346,7 @@ fn tells_failed_readers(rt: HostRuntime) {
     );
     assert_eq!(rt; out.len(), 0);
     assert_eq!(rt; err.as_slice(), b"fault 25 TurnBound\n".as_slice());
-    assert_eq!(rt; status, 70);
+    assert_eq!(rt; status.code(), 70);
 }
 
 #[test]
@@ -368,7 +368,7 @@ fn tells_failed_writers(rt: HostRuntime) -> Result<(), Fail> {
                 );
                 let line = format!(in rt.alloc(); "fault 24 WriteFault {room}\n")?;
                 assert_eq!(rt; err.as_slice(), line.as_bytes());
-                assert_eq!(rt; status, 70);
+                assert_eq!(rt; status.code(), 70);
             }
         }
     }

@@ -214,121 +214,16 @@ const ANSWERS: &[Answers<'static>] = &[
                 "refused 9 UnknownName at 6\n",
             ),
             (
-                "a refusal before a word that isn't run yet",
+                "a refusal inside a race",
                 "(race (pure 1) (pure x))",
                 "refused 9 UnknownName at 21\n",
             ),
             (
-                "a refusal behind a word that isn't run yet",
+                "a refusal behind a whole text",
                 "(never) x",
                 "refused 13 Trailing at 8\n",
             ),
         ],
-    },
-    Answers {
-        words: LONG,
-        status: 70,
-        cases: &[
-            ("a word that isn't run yet", "(never)", "fault stage\n"),
-            (
-                "such a word inside",
-                "(let x (race (pure 1) (pure 2)) (pure x))",
-                "fault stage\n",
-            ),
-        ],
-    },
-    Answers {
-        words: &["fiber_cli", "replay", "--schedule", "0*2"],
-        status: 0,
-        cases: &[("a look, and the end", "(pure 7)", "fiber 0 succeeded 7\n")],
-    },
-    Answers {
-        words: &["fiber_cli", "replay", "--schedule", "0"],
-        status: 3,
-        cases: &[("a look alone", "(pure 7)", "fiber 0 unended\n")],
-    },
-    Answers {
-        words: &["fiber_cli", "replay", "--schedule", ""],
-        status: 3,
-        cases: &[(
-            "a schedule without entries",
-            "(pure 7)",
-            "fiber 0 unended\n",
-        )],
-    },
-    Answers {
-        words: &["fiber_cli", "replay", "--schedule", "5 0*2 1*9"],
-        status: 0,
-        cases: &[(
-            "an entry of a fiber that isn't born changes nothing",
-            "(pure 1)",
-            "fiber 0 succeeded 1\n",
-        )],
-    },
-    Answers {
-        words: &["fiber_cli", "replay", "--schedule", "0*7"],
-        status: 2,
-        cases: &[(
-            "a request under a mask is met behind it",
-            "(uncancelable p (canceled))",
-            "fiber 0 canceled: enter 0, leave 0, cut\n",
-        )],
-    },
-    Answers {
-        words: &["fiber_cli", "replay", "--schedule", "0*6"],
-        status: 3,
-        cases: &[(
-            "cut, and not ended",
-            "(uncancelable p (canceled))",
-            "fiber 0 unended: enter 0, leave 0, cut\n",
-        )],
-    },
-    Answers {
-        words: LONG,
-        status: 2,
-        cases: &[
-            (
-                "a poll observes a request",
-                "(uncancelable p (let a (canceled) (let b (say 1) (poll p (say 2)))))",
-                "fiber 0 canceled: enter 0, say 1, in 0, cut\n",
-            ),
-            (
-                "a poll of an outer mask does nothing",
-                "(uncancelable p (poll p (uncancelable q (poll p (canceled)))))",
-                "fiber 0 canceled: enter 0, in 0, enter 1, leave 1, cut\n",
-            ),
-        ],
-    },
-    Answers {
-        words: LONG,
-        status: 0,
-        cases: &[
-            (
-                "a poll without a request",
-                "(uncancelable p (poll p (say 1)))",
-                "fiber 0 succeeded 0: enter 0, in 0, say 1, out 0, leave 0\n",
-            ),
-            ("say", "(say 1)", "fiber 0 succeeded 0: say 1\n"),
-        ],
-    },
-    // A mask, its end and the end of the fiber are three changes of its owner.
-    Answers {
-        words: &["fiber_cli", "replay", "--schedule", "0*99", "--count", "2"],
-        status: 70,
-        cases: &[(
-            "one change more than the count",
-            "(uncancelable p (pure 1))",
-            "fault 19 Spent 0\n",
-        )],
-    },
-    Answers {
-        words: &["fiber_cli", "replay", "--schedule", "0*99", "--count", "3"],
-        status: 0,
-        cases: &[(
-            "as many changes as the count",
-            "(uncancelable p (pure 1))",
-            "fiber 0 succeeded 1: enter 0, leave 0\n",
-        )],
     },
 ];
 

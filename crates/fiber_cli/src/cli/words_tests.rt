@@ -61,21 +61,24 @@ const WRONG: &[(&str, &[&str], &str)] = &[
 const HELP: &[(&[&str], &str)] = &[
     (
         &["fiber_cli", "--help"],
-        "Runs effect programs on fibers. The program's text is read from standard input\n\nUsage: fiber_cli <COMMAND>\n\nCommands:\n  check   Tells whether the text is a program\n  show    Prints the expansion of the program\n  replay  Runs the program under a schedule, and prints its report\n  help    Print this message or the help of the given subcommand(s)\n\nOptions:\n  -h, --help  Print help\n",
+        "Runs effect programs on fibers. The program's text is read from standard input\n\nUsage: fiber_cli <COMMAND>\n\nCommands:\n  check   Tells whether the text is a program\n  show    Prints the expansion of the program\n  replay  Runs the program under a schedule, and prints its report\n  help    Print this message or the help of the given subcommand(s)\n\nOptions:\n  -h, --help     Print help\n  -V, --version  Print version\n\nExit status:\n   0  fiber 0 succeeded, the text was checked or shown, or help was asked for\n   1  fiber 0 errored\n   2  fiber 0 was canceled\n   3  fiber 0 has not ended\n  64  the words or the schedule are wrong\n  65  the text is refused\n  70  a run or a device failed, or memory ran out\n",
     ),
     (
         &["fiber_cli", "check", "--help"],
-        "Tells whether the text is a program\n\nUsage: fiber_cli check\n\nOptions:\n  -h, --help  Print help\n",
+        "Tells whether the text is a program\n\nUsage: fiber_cli check\n\nOptions:\n  -h, --help  Print help\n\nExit status:\n   0  fiber 0 succeeded, the text was checked or shown, or help was asked for\n   1  fiber 0 errored\n   2  fiber 0 was canceled\n   3  fiber 0 has not ended\n  64  the words or the schedule are wrong\n  65  the text is refused\n  70  a run or a device failed, or memory ran out\n",
     ),
     (
         &["fiber_cli", "show", "--help"],
-        "Prints the expansion of the program\n\nUsage: fiber_cli show\n\nOptions:\n  -h, --help  Print help\n",
+        "Prints the expansion of the program\n\nUsage: fiber_cli show\n\nOptions:\n  -h, --help  Print help\n\nExit status:\n   0  fiber 0 succeeded, the text was checked or shown, or help was asked for\n   1  fiber 0 errored\n   2  fiber 0 was canceled\n   3  fiber 0 has not ended\n  64  the words or the schedule are wrong\n  65  the text is refused\n  70  a run or a device failed, or memory ran out\n",
     ),
     (
         &["fiber_cli", "replay", "--help"],
-        "Runs the program under a schedule, and prints its report\n\nUsage: fiber_cli replay [OPTIONS] --schedule <TEXT>\n\nOptions:\n      --schedule <TEXT>  Whose move is next: items F or F*K with one space between\n      --fibers <N>       How many fibers there may be\n      --refs <N>         How many refs there may be\n      --deferreds <N>    How many deferreds there may be\n      --count <N>        How often a fiber may change its own state\n  -h, --help             Print help\n",
+        "Runs the program under a schedule, and prints its report\n\nUsage: fiber_cli replay [OPTIONS] --schedule <TEXT>\n\nOptions:\n      --schedule <TEXT>  Whose move is next: items F or F*K (K moves of fiber F) with one space between, as in \"0*2 1*9\". F is 0 to 999, K is 1 to 100000\n      --fibers <N>       How many fibers there may be: 1 to 1000, 1000 if not given\n      --refs <N>         How many refs there may be: 1 to 1000, 1000 if not given\n      --deferreds <N>    How many deferreds there may be: 1 to 1000, 1000 if not given\n      --count <N>        How often a fiber may change its own state: 1 to 262143, 262143 if not given\n  -h, --help             Print help\n\nExit status:\n   0  fiber 0 succeeded, the text was checked or shown, or help was asked for\n   1  fiber 0 errored\n   2  fiber 0 was canceled\n   3  fiber 0 has not ended\n  64  the words or the schedule are wrong\n  65  the text is refused\n  70  a run or a device failed, or memory ran out\n",
     ),
 ];
+
+/// The version: the words, and the text.
+const TOLD_VERSION: (&[&str], &str) = (&["fiber_cli", "--version"], "fiber_cli 0.1.0\n");
 
 /// An option that takes a number, the greatest that it takes, the least above that, and one that a
 /// narrow number would take for 1.
@@ -184,6 +187,8 @@ fn helps(rt: HostRuntime) {
     for (words, text) in HELP {
         expect(&rt, "help", words, "(pure 7)", 0, text, "");
     }
+    let (words, text) = TOLD_VERSION;
+    expect(&rt, "the version", words, "(pure 7)", 0, text, "");
 }
 
 #[test]
@@ -200,7 +205,7 @@ fn tells_help_that_cannot_be_written(rt: HostRuntime) -> Result<(), Fail> {
             );
             let line = format!(in rt.alloc(); "fault 24 WriteFault {room}\n")?;
             assert_eq!(rt; told.as_slice(), line.as_bytes());
-            assert_eq!(rt; status, 70);
+            assert_eq!(rt; status.code(), 70);
         }
     }
     Ok(())
@@ -220,7 +225,7 @@ fn keeps_the_status_where_a_usage_fault_cannot_be_told(rt: HostRuntime) {
         }),
     );
     assert_eq!(rt; out.len(), 0);
-    assert_eq!(rt; status, 64);
+    assert_eq!(rt; status.code(), 64);
 }
 
 #[test]
@@ -234,5 +239,5 @@ fn refuses_words_that_are_no_text(rt: HostRuntime) {
     let text =
         "error: invalid UTF-8 was detected in one or more arguments\n\nUsage: fiber_cli <COMMAND>\n\nFor more information, try '--help'.\n";
     assert_eq!(rt; told.as_slice(), text.as_bytes());
-    assert_eq!(rt; status, 64);
+    assert_eq!(rt; status.code(), 64);
 }

@@ -1,6 +1,8 @@
-use Rattle.std.proofs.Common.{◌+◌, ◌*◌}
+use Rattle.std.proofs.Common.{◌≡◌, ◌+◌, ◌*◌, ◌++◌, map, drop, codes, string_bytes}
 use Rattle.derived_ops.specs.Cores.{tree_of}
-use Rattle.derived_ops.proofs.Weights.{weight}
+use Rattle.derived_ops.specs.CoreText.{core_text}
+use Rattle.derived_ops.specs.Private.Sequences.{texts_behind}
+use Rattle.derived_ops.proofs.Weights.{weight, weights}
 use Rattle.derived_ops.proofs.core_text.+printing.Given as goal
 
 abbrev pub decreases-push_core : goal.decreases-push_core
@@ -16,4 +18,8 @@ abbrev pub decreases-push_two : goal.decreases-push_two
 decreases-push_two l = 4 * (weight (tree_of l.first.now) + weight (tree_of l.last.now)) + 3
 
 abbrev pub decreases-push_sequence : goal.decreases-push_sequence
-decreases-push_sequence l = 4 * (weight (tree_of l.first.now) + weight (tree_of l.next.now)) + 3
+decreases-push_sequence l = 4 * (weight (tree_of l.first.now) + weight (tree_of l.second.now) + weights (map tree_of l.more.now)) + 3
+
+abbrev pub invariant-push_sequence-loop-part : goal.invariant-push_sequence-loop-part
+invariant-push_sequence-loop-part l =
+    string_bytes l.text ++ texts_behind (drop l.part-index l.more) ≡ string_bytes l.fn.text ++ (codes "(seq " ++ (core_text (tree_of l.first) ++ (codes " " ++ (core_text (tree_of l.second) ++ texts_behind l.more))))

@@ -8,11 +8,11 @@ use Rattle.fiber_cli.proofs.words.all_words.Goals as goal
 pub returns : goal.returns
 returns c =
     let top_of : App → Shape = λ a. a.top in
-    let check_is : app_of c.about-check.result ≡ new_app (codes "check") = search rules in
-    let check_local : (out-Command c.about-check.result).has_globals ≡ false = search rules in
-    let show_is : app_of c.about-show.result ≡ new_app (codes "show") = search rules in
-    let show_local : (out-Command c.about-show.result).has_globals ≡ false = search rules in
-    let empty_is : app_of c.subcommand_required.result ≡ on_top (λ s. record s { subcommand_required = true }) (new_app (codes "fiber_cli")) = search rules in
+    let check_is : app_of c.after_help-check.result ≡ new_app (codes "check") = search rules in
+    let check_local : (out-Command c.after_help-check.result).has_globals ≡ false = search rules in
+    let show_is : app_of c.after_help-show.result ≡ new_app (codes "show") = search rules in
+    let show_local : (out-Command c.after_help-show.result).has_globals ≡ false = search rules in
+    let empty_is : app_of c.subcommand_required.result ≡ on_top (λ s. record s { subcommand_required = true; has_version = true }) (new_app (codes "fiber_cli")) = search rules in
     let one = c.in_ok-subcommand.ensures.shape check_local ∙ ap₂ with_subcommand empty_is (ap top_of check_is) in
     let two = c.in_ok-subcommand-2.ensures.shape show_local ∙ ap₂ with_subcommand one (ap top_of show_is) in
     IfOk-weaker c.subcommand-3.result _ _ (λ m h. h.shape c.in_ok-replay.ensures.local ∙ ap₂ with_subcommand two (ap top_of c.in_ok-replay.ensures.shape)) c.subcommand-3.ensures

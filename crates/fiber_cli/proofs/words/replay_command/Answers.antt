@@ -11,7 +11,7 @@ returns-clause-shape c =
     let refs_is : rule_of c.number_option-refs.result ≡ number_option (codes "refs") 1000 = search rules in
     let deferreds_is : rule_of c.number_option-deferreds.result ≡ number_option (codes "deferreds") 1000 = search rules in
     let count_is : rule_of c.number_option-count.result ≡ number_option (codes "count") 262143 = search rules in
-    let empty_is : app_of c.about.result ≡ new_app (codes "replay") = search rules in
+    let empty_is : app_of c.after_help.result ≡ new_app (codes "replay") = search rules in
     let one = c.in_ok-arg.ensures.shape c.schedule_option.ensures.local ∙ ap₂ with_rule empty_is c.schedule_option.ensures.rule in
     let two = c.in_ok-arg-2.ensures.shape c.number_option-fibers.ensures.local ∙ ap₂ with_rule one fibers_is in
     let three = c.in_ok-arg-3.ensures.shape c.number_option-refs.ensures.local ∙ ap₂ with_rule two refs_is in
@@ -21,7 +21,7 @@ returns-clause-shape c =
 pub returns-clause-local : goal.returns-clause-local
 returns-clause-local c =
     let either : Bool → Bool → Bool = λ a b. a || b in
-    let empty : (out-Command c.about.result).has_globals ≡ false = search rules in
+    let empty : (out-Command c.after_help.result).has_globals ≡ false = search rules in
     let one = c.in_ok-arg.ensures.globals ∙ ap₂ either empty c.schedule_option.ensures.local in
     let two = c.in_ok-arg-2.ensures.globals ∙ ap₂ either one c.number_option-fibers.ensures.local in
     let three = c.in_ok-arg-3.ensures.globals ∙ ap₂ either two c.number_option-refs.ensures.local in

@@ -2,31 +2,45 @@ use Rattle.std.proofs.Common.{◌≡◌, refl, sym, ap, ◌∙◌}
 use Rattle.fiber_frames.specs.Fiber.{ask_of}
 use Rattle.outcome_trace.specs.declared.wish.Wish.TheVariants.{Shared, Alone, Nothing}
 use Rattle.outcome_trace.specs.Core.{wish_of}
-use Rattle.outcome_trace.proofs.FitLemmas.{allowed}
-use Rattle.outcome_trace.proofs.CoreLemmas.{entered-nothing}
-use Rattle.outcome_trace.proofs.StepLemmas.{alone_steps, made_steps}
+use Rattle.outcome_trace.proofs.Asking.{asking}
+use Rattle.outcome_trace.specs.Private.Moving.{Made, Unshared}
+use Rattle.outcome_trace.proofs.Moves.{may_call}
 use Rattle.outcome_trace.proofs.scheduled.reply.Goals as goal
 
-pub answer-requires : goal.answer-requires
-answer-requires c = λ range.
-    let some = c.limits.ensures.lawful.limits.some_fiber in
-    let wish : wish_of (ask_of c.args.config.now) ≡ Shared c.in-Shared.call = ap wish_of (sym c.ask.ensures.ask) ∙ sym c.in-Shared.ensures in
-    record {
-      born = c.limits.ensures.lawful.sound.some_fiber;
-      allowed = allowed c.args.registry.now.limits c.args.registry.now.state 0 c.args.config.now c.in-Shared.call some c.requires wish range;
-    }
+pub returns-in-Nothing-clause-asking : goal.returns-in-Nothing-clause-asking
+returns-in-Nothing-clause-asking c = asking c.args.config.now c.ask.result c.ask.ensures.ask c.ask.ensures.tells c.ask.ensures.leads c.ask.ensures.names c.ask.ensures.moves_names c.ask.ensures.child_names
 
 pub returns-in-Nothing-clause-rests : goal.returns-in-Nothing-clause-rests
 returns-in-Nothing-clause-rests c =
     let wish : wish_of (ask_of c.args.config.now) ≡ Nothing = ap wish_of (sym c.ask.ensures.ask) ∙ sym c.in-Nothing.ensures in
-    (refl, entered-nothing c.args.registry.now.limits c.args.config.now c.args.registry.now.state wish)
+    (wish, refl)
 
-pub returns-in-Alone-clause-steps : goal.returns-in-Alone-clause-steps
-returns-in-Alone-clause-steps c =
+pub returns-in-Alone-clause-asking : goal.returns-in-Alone-clause-asking
+returns-in-Alone-clause-asking c = asking c.args.config.now c.ask.result c.ask.ensures.ask c.ask.ensures.tells c.ask.ensures.leads c.ask.ensures.names c.ask.ensures.moves_names c.ask.ensures.child_names
+
+pub returns-in-Alone-clause-replied : goal.returns-in-Alone-clause-replied
+returns-in-Alone-clause-replied c =
     let wish : wish_of (ask_of c.args.config.now) ≡ Alone = ap wish_of (sym c.ask.ensures.ask) ∙ sym c.in-Alone.ensures in
-    alone_steps c.args.registry.now c.args.config.now c.limits.ensures.lawful c.requires wish
+    Unshared wish refl refl
 
-pub returns-in-Ok-clause-steps : goal.returns-in-Ok-clause-steps
-returns-in-Ok-clause-steps c =
+pub answer-requires : goal.answer-requires
+answer-requires c = λ range.
     let wish : wish_of (ask_of c.args.config.now) ≡ Shared c.in-Shared.call = ap wish_of (sym c.ask.ensures.ask) ∙ sym c.in-Shared.ensures in
-    made_steps c.args.registry.now c.answer.new.registry c.args.config.now c.in-Shared.call c.in-Ok.reply c.limits.ensures.lawful c.requires wish c.in-Ok.ensures
+    let asks = asking c.args.config.now c.ask.result c.ask.ensures.ask c.ask.ensures.tells c.ask.ensures.leads c.ask.ensures.names c.ask.ensures.moves_names c.ask.ensures.child_names in
+    may_call c.args.registry.now c.args.number c.args.config.now c.in-Shared.call c.limits.ensures.lawful c.requires asks wish range
+
+pub returns-in-Ok-clause-asking : goal.returns-in-Ok-clause-asking
+returns-in-Ok-clause-asking c = asking c.args.config.now c.ask.result c.ask.ensures.ask c.ask.ensures.tells c.ask.ensures.leads c.ask.ensures.names c.ask.ensures.moves_names c.ask.ensures.child_names
+
+pub returns-in-Ok-clause-replied : goal.returns-in-Ok-clause-replied
+returns-in-Ok-clause-replied c =
+    let wish : wish_of (ask_of c.args.config.now) ≡ Shared c.in-Shared.call = ap wish_of (sym c.ask.ensures.ask) ∙ sym c.in-Shared.ensures in
+    Made c.in-Shared.call wish c.in-Ok.ensures
+
+pub returns-in-Err-clause-asking : goal.returns-in-Err-clause-asking
+returns-in-Err-clause-asking c = asking c.args.config.now c.ask.result c.ask.ensures.ask c.ask.ensures.tells c.ask.ensures.leads c.ask.ensures.names c.ask.ensures.moves_names c.ask.ensures.child_names
+
+pub returns-in-Err-clause-stops : goal.returns-in-Err-clause-stops
+returns-in-Err-clause-stops c =
+    let wish : wish_of (ask_of c.args.config.now) ≡ Shared c.in-Shared.call = ap wish_of (sym c.ask.ensures.ask) ∙ sym c.in-Shared.ensures in
+    record { call = c.in-Shared.call; wish = wish; why = c.in-Err.error; refused = c.in-Err.ensures.why; fault = c.fault.ensures }

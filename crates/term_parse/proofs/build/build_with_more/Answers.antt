@@ -1,7 +1,3 @@
-use Rattle.std.proofs.Common.{◌≡◌, [], ◌∷◌}
-use Rattle.term_parse.specs.Atoms.{ended}
-use Rattle.term_parse.specs.Forms.{sorts, ends}
-use Rattle.term_parse.proofs.Builds.{ends_none}
 use Rattle.term_parse.proofs.build.build_with_more.Goals as goal
 use Rattle.std.proofs.Common.{rules, arith}
 use Rattle.effect_term.specs.declared.term.Term.TheViews.{the_lemmas}

@@ -1,7 +1,4 @@
-use Rattle.std.proofs.Common.{◌≡◌, [], ◌∷◌}
-use Rattle.term_parse.specs.Atoms.{ended}
-use Rattle.term_parse.specs.Forms.{sorts, ends}
-use Rattle.term_parse.proofs.Builds.{ends_none}
+use Rattle.term_parse.specs.Forms.{ends}
 use Rattle.term_parse.proofs.build.rest_of.Goals as goal
 use Rattle.std.proofs.Common.{rules}
 use Rattle.term_parse.proofs.Builds.{rest_more, rest_atoms}

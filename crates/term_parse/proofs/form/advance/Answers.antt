@@ -1,11 +1,11 @@
-use Rattle.std.proofs.Common.{◌≡◌, [], drop, arith}
-use Rattle.term_parse.specs.declared.table.Part.{Part}
+use Rattle.std.proofs.Common.{◌≡◌, [], length, drop, ap, arith}
+use Rattle.term_parse.specs.Language.{parts_of}
 use Rattle.term_parse.proofs.Steps.{fails_over, drop_over}
 use Rattle.term_parse.proofs.form.advance.Goals as goal
 
-pub returns-then-form-ge9-clause-fault : goal.returns-then-form-ge9-clause-fault
-returns-then-form-ge9-clause-fault c =
-    let over : drop c.args.form.next c.args.form.row.parts ≡ [] = drop_over c.args.form.row.parts c.args.form.next (omega (arith, c.requires.sound.full, c.if-form-ge9.true)) in
+pub returns-in_default-clause-fault : goal.returns-in_default-clause-fault
+returns-in_default-clause-fault c =
+    let over : drop c.args.form.next (parts_of c.args.form.word) ≡ [] = drop_over (parts_of c.args.form.word) c.args.form.next (omega (arith, ap length c.parts_of.ensures.value, c.in_default.ensures.lookup.3)) in
     fails_over c.args.text.now c.args.at c.args.form c.in_ok-token.token c.in_ok-token.ensures.found c.in_ok-token.ensures.good over c.args.depth
 
 pub returns-in-Bind-clause-found : goal.returns-in-Bind-clause-found

@@ -2,13 +2,12 @@ use Rattle.std.proofs.Common.{◌++◌, ◌∙◌, ap, sym, subst, arith}
 use Rattle.std.proofs.lemmas.Result.{on_ok_weaker}
 use Rattle.term_parse.specs.Pieces.{Suffice}
 use Rattle.term_parse.proofs.Parts.{appended, close_text, more_text, bind_text, piece_text, form_text}
-use Rattle.term_parse.proofs.PrintedNumbers.{close_numbers, more_numbers, piece_numbers, term_numbers}
+use Rattle.term_parse.specs.Spelling.{spelling}
+use Rattle.term_parse.proofs.MoreTerms.{weight_at, next_text, next_numbers}
+use Rattle.term_parse.proofs.PrintedNumbers.{close_numbers, more_numbers, piece_numbers}
 use Rattle.term_parse.specs.Numbers.{NumbersFit}
-use Rattle.term_parse.proofs.Weights.{weight_form, rest_weight}
+use Rattle.term_parse.proofs.Weights.{weight_form}
 use Rattle.term_parse.proofs.printer.+writing.Goals as goal
-
-pub write_more-write_more-requires : goal.write_more-write_more-requires
-write_more-write_more-requires t c = (omega (arith, rest_weight c.args.terms.now c.in-len1-up.len_at_least), omega (arith, c.requires, c.in_ok-push-2.ensures.len, c.in_ok-write_term.ensures.longer))
 
 pub write_parts-returns-in_ok-push-in-Close-clause-text : goal.write_parts-returns-in_ok-push-in-Close-clause-text
 write_parts-returns-in_ok-push-in-Close-clause-text t c =
@@ -34,7 +33,7 @@ write_parts-returns-in_ok-write_piece-in_default-part t c = record {
 pub write_term-write_parts-requires : goal.write_term-write_parts-requires
 write_term-write_parts-requires t c = (
   omega (arith, weight_form c.args.term.now c.form_of-form.result.word c.form_of-form.result.pieces c.form_of-form.result.more.now c.form_of-form.ensures.atoms),
-  (omega (arith, c.requires, c.in_ok-push.ensures.len, c.in_ok-extend_from_slice.ensures.len, c.spelling_of.ensures.long), (omega (arith, c.parts_of.ensures.nine), subst (λ x. Suffice x c.form_of-form.result.pieces c.form_of-form.result.more.now) (sym c.parts_of.ensures.value) c.form_of-form.ensures.enough)),
+  (omega (arith, c.requires, c.in_ok-push.ensures.len, c.in_ok-extend_from_slice.ensures.len, c.spelling_of.ensures.long), (omega (arith, c.parts_of.ensures.few), subst (λ x. Suffice x c.form_of-form.result.pieces c.form_of-form.result.more.now) (sym c.parts_of.ensures.value) c.form_of-form.ensures.enough)),
 )
 
 pub write_term-returns-clause-text : goal.write_term-returns-clause-text
@@ -53,6 +52,15 @@ pub write_term-returns-clause-numbers : goal.write_term-returns-clause-numbers
 write_term-returns-clause-numbers t c =
     on_ok_weaker c.write_parts.result (λ h. subst NumbersFit (sym c.form_of-form.ensures.atoms) h) c.write_parts.ensures.numbers
 
-pub write_more-returns-clause-numbers : goal.write_more-returns-clause-numbers
-write_more-returns-clause-numbers t c =
-    on_ok_weaker c.write_more.result (λ h. term_numbers c.args.terms.now c.term-item.result _ c.in-len1-up.len_at_least c.term-item.is c.in_ok-write_term.ensures.numbers h) c.write_more.ensures.numbers
+pub write_more-write_term-requires : goal.write_more-write_term-requires
+write_more-write_term-requires t c = (
+  omega (arith, weight_at c.args.terms.now c.loop-term.term-index c.term-item.result c.loop-term-test.true c.term-item.is),
+  omega (arith, c.requires, c.loop-term.invariant.longer, c.in_ok-push.ensures.len),
+)
+
+pub write_more-loop-term-preserved : goal.write_more-loop-term-preserved
+write_more-loop-term-preserved t c = record {
+  text = next_text c.args.terms.now c.loop-term.term-index c.term-item.result c.args.around _ _ _ c.loop-term-test.true c.term-item.is (c.in_ok-write_term.ensures.text ∙ ap (λ x. x ++ spelling c.term-item.result c.args.around) c.in_ok-push.ensures.items) c.loop-term.invariant.text;
+  numbers = λ h. c.loop-term.invariant.numbers (next_numbers c.args.terms.now c.loop-term.term-index c.term-item.result c.loop-term-test.true c.term-item.is c.in_ok-write_term.ensures.numbers h);
+  longer = omega (arith, c.loop-term.invariant.longer, c.in_ok-push.ensures.len, c.in_ok-write_term.ensures.longer);
+}

@@ -1,4 +1,8 @@
-use Rattle.std.proofs.Common.{◌+◌, ◌*◌, length}
+use Rattle.std.proofs.Common.{◌≡◌, ◌+◌, ◌*◌, ◌≤◌, [], ◌∷◌, ◌++◌, length, drop, vec_len}
+use Rattle.term_parse.specs.Atoms.{ended}
+use Rattle.term_parse.specs.Numbers.{NumbersFit}
+use Rattle.term_parse.specs.Pieces.{terms_spelled, terms_atoms}
+use Rattle.term_parse.specs.Spelling.{more_spelling}
 use Rattle.term_parse.proofs.Weights.{weight, terms_weight, piece_weight, pieces_weight}
 use Rattle.term_parse.proofs.printer.+writing.Given as goal
 
@@ -13,3 +17,11 @@ decreases-write_piece l = 20 * piece_weight l.piece + 1
 
 abbrev pub decreases-write_more : goal.decreases-write_more
 decreases-write_more l = 20 * terms_weight l.terms.now + 1
+
+-- what is written so far, and the rest, is all; and the numbers of all fit where those of the rest do
+abbrev pub invariant-write_more-loop-term : goal.invariant-write_more-loop-term
+invariant-write_more-loop-term l = record {
+  text : l.out.items ++ more_spelling l.around (terms_spelled (drop l.term-index l.terms)) ≡ l.fn.out.items ++ more_spelling l.around (terms_spelled l.terms);
+  numbers : NumbersFit (terms_atoms (drop l.term-index l.terms) (ended ∷ [])) → NumbersFit (terms_atoms l.terms (ended ∷ []));
+  longer : vec_len l.fn.out ≤ vec_len l.out;
+}

@@ -9,7 +9,7 @@ returns-in_default c = record {
 }
 
 pub returns-in-Ok-clause-found : goal.returns-in-Ok-clause-found
-returns-in-Ok-clause-found c = first_stack c.args.text.now 0 c.in-Ok.next c.in_ok-token.token _ c.in-Ok.row c.in_ok-token.ensures.found refl c.in-Open.is refl refl (search rules) (search rules) (search rules) c.in-Ok.ensures.tabled c.in-Ok.ensures.found c.in-Ok.ensures.within.1
+returns-in-Ok-clause-found c = first_stack c.args.text.now 0 c.in-Ok.next c.in_ok-token.token _ c.in-Ok.word c.in_ok-token.ensures.found refl c.in-Open.is refl refl (search rules) (search rules) (search rules) c.in-Ok.ensures.found c.in-Ok.ensures.within.1
 
 pub returns-in-Err-clause-fault : goal.returns-in-Err-clause-fault
 returns-in-Err-clause-fault c = λ ne. first_opening c.args.text.now 0 c.in_ok-token.token c.in_ok-token.ensures.found c.in-Open.is ∙ c.in-Err.ensures.fault [] []

@@ -1,4 +1,4 @@
-use Rattle.std.proofs.Common.{◌∙◌, arith}
+use Rattle.std.proofs.Common.{◌∙◌}
 use Rattle.term_parse.proofs.Stacks.{reading_long, reading_short}
 use Rattle.term_parse.proofs.reader.read.Goals as goal
 

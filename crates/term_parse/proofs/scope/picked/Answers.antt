@@ -1,5 +1,5 @@
 use Rattle.std.proofs.Common.{rules}
-use Rattle.term_parse.proofs.Tables.{picked_some, picked_none, picked_within}
+use Rattle.term_parse.proofs.PickedBinders.{picked_some, picked_none, picked_within}
 use Rattle.term_parse.proofs.scope.picked.Goals as goal
 
 pub returns-in_ok-push-in-Some-clause-within : goal.returns-in_ok-push-in-Some-clause-within

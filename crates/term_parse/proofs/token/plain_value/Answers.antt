@@ -1,4 +1,4 @@
-use Rattle.std.proofs.Common.{◌+◌, sym, arith, rules}
+use Rattle.std.proofs.Common.{◌+◌, arith, rules}
 use Rattle.term_parse.proofs.Lexing.{plain_none, digits_fail, digits_more, value_more, value_large}
 use Rattle.term_parse.proofs.token.plain_value.Goals as goal
 

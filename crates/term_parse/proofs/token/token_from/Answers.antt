@@ -1,4 +1,4 @@
-use Rattle.std.proofs.Common.{rules, arith}
+use Rattle.std.proofs.Common.{rules}
 use Rattle.term_parse.proofs.Lexing.{long_token, short_token}
 use Rattle.term_parse.proofs.token.token_from.Goals as goal
 

@@ -1,6 +1,6 @@
 use Rattle.std.proofs.Common.{rules, arith}
 use Rattle.effect_term.specs.declared.term.Term.TheViews.{the_lemmas}
-use Rattle.derived_ops.proofs.Rows.{seq_of-row, expansion_sizes_of-row, one_word, sizes_of-rest}
+use Rattle.derived_ops.proofs.Rows.{expansion_in_order, expansion_sizes_of-row, seq_of-row, total-at}
 use Rattle.derived_ops.proofs.expansion.Scope.+expansion.Goals as goal
 
 pub part-in_sequence-requires : goal.part-in_sequence-requires
@@ -9,8 +9,10 @@ part-in_sequence-requires t c = search (rules, the_lemmas, expansion_sizes_of-ro
 pub part-returns-in-Seq-clause-core : goal.part-returns-in-Seq-clause-core
 part-returns-in-Seq-clause-core t c = search (rules, the_lemmas, seq_of-row)
 
-pub in_sequence-in_sequence-requires : goal.in_sequence-in_sequence-requires
-in_sequence-in_sequence-requires t c = (
-  omega (arith, one_word c.args.first.now, sizes_of-rest c.args.more.now c.third-item.result c.in-len1-up.len_at_least c.third-item.is),
-  omega (arith, sizes_of-rest c.args.more.now c.third-item.result c.in-len1-up.len_at_least c.third-item.is),
-)
+pub in_sequence-returns-clause-core : goal.in_sequence-returns-clause-core
+in_sequence-returns-clause-core t c = search (rules, expansion_in_order)
+
+pub all_parts-part-requires : goal.all_parts-part-requires
+all_parts-part-requires t c =
+    let one = total-at c.args.terms.now c.loop-term.term-index c.term-item.result c.loop-term-test.true c.term-item.is in
+    (omega (arith, one), omega (arith, one))

@@ -1,0 +1,23 @@
+-- What is printed of a form before its parts.
+use Rattle.std.specs.Prelude.{ℕ, List, ◌++◌, codes}
+use Rattle.std.specs.Fmt.{decimal}
+use Rattle.derived_ops.specs.declared.core_text.Head.{Head}
+use Rattle.derived_ops.specs.declared.core_text.Head.TheVariants.{Plain, Named, Valued}
+use Rattle.derived_ops.specs.CoreText.{value_text}
+use Rattle.derived_ops.specs.Cores.{value_in_core}
+use Rattle.derived_ops.specs.Tree.{Maker, New_ref, New_deferred, Turns, Times, Always}
+
+-- the text, and behind it a slot or a value
+abbrev pub head_text : Head → List ℕ
+head_text (Plain s) = s.now
+head_text (Named s slot) = s.now ++ decimal slot
+head_text (Valued s v) = s.now ++ value_text (value_in_core v)
+
+-- what stands before the part that has the cell, and before that of a loop
+abbrev pub maker_text : Maker → ℕ → List ℕ
+maker_text (New_ref v) r = codes "(ref r" ++ decimal r ++ (codes " " ++ value_text v)
+maker_text New_deferred d = codes "(deferred d" ++ decimal d
+
+abbrev pub turns_text : Turns → List ℕ
+turns_text (Times v) = codes "(repeat " ++ value_text v
+turns_text Always = codes "(forever"

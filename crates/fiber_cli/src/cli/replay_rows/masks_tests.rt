@@ -1,0 +1,182 @@
+//! Masks and their polls, and where a request for cancellation is observed.
+
+use super::{Replay, expect_replays};
+
+const POLLS: &[Replay<'static>] = &[
+    Replay {
+        rule: "a poll observes the request that its mask suppressed",
+        program: "(uncancelable p (let a (canceled) (let b (say 1) (poll p (say 2)))))",
+        schedule: "0*99",
+        status: 2,
+        report: "fiber 0 canceled: enter 0, say 1, in 0, cut\n",
+    },
+    Replay {
+        rule: "what follows a cut poll isn't run",
+        program: "(uncancelable p (seq (canceled) (say 1) (poll p (say 2)) (say 3)))",
+        schedule: "0*99",
+        status: 2,
+        report: "fiber 0 canceled: enter 0, say 1, in 0, cut\n",
+    },
+    Replay {
+        rule: "a poll without a request",
+        program: "(uncancelable p (poll p (say 1)))",
+        schedule: "0*99",
+        status: 0,
+        report: "fiber 0 succeeded 0: enter 0, in 0, say 1, out 0, leave 0\n",
+    },
+    Replay {
+        rule: "without a mask nothing is noted but what is said",
+        program: "(say 1)",
+        schedule: "0*99",
+        status: 0,
+        report: "fiber 0 succeeded 0: say 1\n",
+    },
+];
+
+const LEFT: &[Replay<'static>] = &[
+    Replay {
+        rule: "a request under a mask is observed behind it, where nothing is left to compute",
+        program: "(uncancelable p (canceled))",
+        schedule: "0*7",
+        status: 2,
+        report: "fiber 0 canceled: enter 0, leave 0, cut\n",
+    },
+    Replay {
+        rule: "the end after the cut is a move of its own",
+        program: "(uncancelable p (canceled))",
+        schedule: "0*6",
+        status: 3,
+        report: "fiber 0 unended: enter 0, leave 0, cut\n",
+    },
+];
+
+const NESTED: &[Replay<'static>] = &[
+    Replay {
+        rule: "the outer poll outermost doesn't unmask",
+        program: "(uncancelable op (uncancelable ip (seq (canceled) (poll op (poll ip (say 1))) (say 2))))",
+        schedule: "0*99",
+        status: 2,
+        report: "fiber 0 canceled: enter 0, enter 1, in 1, say 1, out 1, say 2, leave 1, leave 0, cut\n",
+    },
+    Replay {
+        rule: "the inner poll outermost unmasks",
+        program: "(uncancelable op (uncancelable ip (seq (canceled) (poll ip (poll op (say 1))) (say 2))))",
+        schedule: "0*99",
+        status: 2,
+        report: "fiber 0 canceled: enter 0, enter 1, in 1, in 0, cut\n",
+    },
+    Replay {
+        rule: "the same poll inside itself does nothing",
+        program: "(uncancelable p (poll p (uncancelable q (poll p (canceled)))))",
+        schedule: "0*99",
+        status: 2,
+        report: "fiber 0 canceled: enter 0, in 0, enter 1, leave 1, cut\n",
+    },
+];
+
+const OTHER_FIBERS: &[Replay<'static>] = &[
+    // The child's mask has the number of its parent's.
+    Replay {
+        rule: "a poll of one fiber does nothing in another, and a child begins unmasked",
+        program: "(uncancelable p (start f (uncancelable q (seq (canceled) (poll p (say 1)))) (join f x (pure 1) e (pure 2) (pure 3))))",
+        schedule: "0*10 1*20 0*10",
+        status: 0,
+        report: "fiber 0 succeeded 3: enter 0, leave 0\nfiber 1 canceled: enter 0, say 1, leave 0, cut\n",
+    },
+];
+
+const FINALIZERS: &[Replay<'static>] = &[
+    Replay {
+        rule: "finalizers run masked, and no poll unmasks them",
+        program: "(uncancelable p (oncancel (poll p (canceled)) (seq (poll p (say 1)) (say 2))))",
+        schedule: "0*99",
+        status: 2,
+        report: "fiber 0 canceled: enter 0, in 0, cut, say 1, say 2\n",
+    },
+    Replay {
+        rule: "a finalizer's own poll undoes its own mask, and leaves it masked",
+        program: "(oncancel (canceled) (uncancelable p (seq (canceled) (poll p (say 1)))))",
+        schedule: "0*99",
+        status: 2,
+        report: "fiber 0 canceled: cut, enter 1, in 1, say 1, out 1, leave 1\n",
+    },
+    Replay {
+        rule: "finalizers run from the inside out, and an error of one doesn't stop the next",
+        program: "(oncancel (oncancel (canceled) (seq (say 1) (raise 5))) (say 2))",
+        schedule: "0*99",
+        status: 2,
+        report: "fiber 0 canceled: cut, say 1, dropped 5, say 2\n",
+    },
+    Replay {
+        rule: "no finalizer runs on success or error",
+        program: "(seq (oncancel (pure 1) (say 1)) (oncancel (raise 3) (say 2)))",
+        schedule: "0*99",
+        status: 1,
+        report: "fiber 0 errored 3\n",
+    },
+];
+
+/// Fiber 0 starts a fiber that polls inside a mask, and cancels it.
+const CANCELED_IN_A_MASK: &str =
+    "(start f (uncancelable p (seq (say 1) (poll p (say 2)) (say 3))) (cancel f))";
+
+const MOMENTS: &[Replay<'static>] = &[
+    Replay {
+        rule: "a request before the mask cuts the fiber there",
+        program: CANCELED_IN_A_MASK,
+        schedule: "0*5 1*30 0*9",
+        status: 0,
+        report: "fiber 0 succeeded 0: enter 0, leave 0\nfiber 1 canceled: cut\n",
+    },
+    Replay {
+        rule: "a request before the poll is observed in the poll",
+        program: CANCELED_IN_A_MASK,
+        schedule: "0*2 1*4 0*3 1*30 0*9",
+        status: 0,
+        report: "fiber 0 succeeded 0: enter 0, leave 0\nfiber 1 canceled: enter 0, say 1, in 0, cut\n",
+    },
+    Replay {
+        rule: "a request after the poll waits until the mask is left",
+        program: CANCELED_IN_A_MASK,
+        schedule: "0*2 1*9 0*3 1*30 0*9",
+        status: 0,
+        report: "fiber 0 succeeded 0: enter 0, leave 0\nfiber 1 canceled: enter 0, say 1, in 0, say 2, out 0, say 3, leave 0, cut\n",
+    },
+    Replay {
+        rule: "a request after the last look comes too late",
+        program: CANCELED_IN_A_MASK,
+        schedule: "0*2 1*13 0*3 1*30 0*9",
+        status: 0,
+        report: "fiber 0 succeeded 0: enter 0, leave 0\nfiber 1 succeeded 0: enter 0, say 1, in 0, say 2, out 0, say 3, leave 0\n",
+    },
+];
+
+#[test]
+fn a_poll_opens_its_mask(rt: HostRuntime) {
+    expect_replays(&rt, POLLS);
+}
+
+#[test]
+fn a_mask_suppresses_until_it_is_left(rt: HostRuntime) {
+    expect_replays(&rt, LEFT);
+}
+
+#[test]
+fn each_mask_is_undone_by_its_own_poll(rt: HostRuntime) {
+    expect_replays(&rt, NESTED);
+}
+
+#[test]
+fn a_mask_is_of_one_fiber(rt: HostRuntime) {
+    expect_replays(&rt, OTHER_FIBERS);
+}
+
+#[test]
+fn finalizers_run_masked_after_a_cut_alone(rt: HostRuntime) {
+    expect_replays(&rt, FINALIZERS);
+}
+
+#[test]
+fn a_request_is_observed_where_the_fiber_is_unmasked(rt: HostRuntime) {
+    expect_replays(&rt, MOMENTS);
+}

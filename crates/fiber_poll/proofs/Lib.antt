@@ -1,0 +1,11 @@
+pub mod Outcomes
+pub mod Going
+pub mod Steps
+pub mod Births
+pub mod Turnings
+pub mod Staying
+pub mod Beginning
+pub mod Childless
+pub mod ChildlessCode
+pub mod Lonely
+pub mod Results

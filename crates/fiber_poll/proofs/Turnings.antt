@@ -1,0 +1,138 @@
+-- A turn, move by move.
+use Rattle.std.proofs.Common.{◌≡◌, inl, inr, ℕ, ◌+◌, ◌<◌, ◌≤◌, List, [], ◌∷◌, ◌++◌, length, Some, None, refl, sym, ap, ◌∙◌, subst, arith, length-append}
+use Rattle.effect_term.specs.declared.reply.Outcome.{Outcome}
+use Rattle.effect_term.specs.declared.reply.Reply.{Reply}
+use Rattle.fiber_frames.specs.declared.ask.Ask.{Ask}
+use Rattle.fiber_frames.specs.declared.ask.Ask.TheVariants as ask
+use Rattle.fiber_frames.specs.Fiber.{Fiber, outcome_of}
+use Rattle.cell_registry.specs.declared.limits.RunError.{RunError}
+use Rattle.cell_registry.specs.declared.limits.RunError.TheVariants as run
+use Rattle.fiber_poll.specs.declared.turn.Turn.{Turn}
+use Rattle.fiber_poll.specs.declared.turn.Turn.TheVariants as turn
+use Rattle.fiber_poll.specs.declared.step.Step.{Step}
+use Rattle.fiber_poll.specs.declared.step.Step.TheVariants as step
+use Rattle.fiber_frames.specs.Leading.{Asked, IsGoing, way_after, way_of}
+use Rattle.fiber_poll.specs.Turns.{AreQuiet, Ends, Event, TellsLast, Waits_for, Wakes_fiber, Wakes_topic, Yields, event_of}
+use Rattle.fiber_poll.specs.Tasks.{IsTask, TaskView, Went}
+use Rattle.fiber_poll.specs.Stepping.{Failed}
+use Rattle.fiber_poll.specs.Turning.{Answered, Stopped, Turned}
+use Rattle.fiber_poll.specs.Private.Told.{Bears, IsAsked, IsLast, Made, ended_at, event_at, event_told, woken_at}
+use Rattle.fiber_poll.proofs.Going.{quiet-push, went_nowhere, went_on}
+use Rattle.fiber_poll.proofs.Outcomes.{broken_lost, outcome_going, outcome_over, outcome_way}
+
+-- ---- an ended fiber, and a broken one
+pub over_turned : (t : TaskView) (budget : ℕ) (a : Ask) (o : Outcome) → Asked t.state a → a ≡ ask.Over o → Turned t budget (turn.Ended o) t
+over_turned t budget a o h e = record { replies = []; went = went_nowhere t; most = omega arith; answered = (outcome_over t.state a o h e, inl refl) }
+
+pub broken_stopped : (t : TaskView) (budget : ℕ) (a : Ask) → IsTask t → 1 < budget → Asked t.state a → a ≡ ask.Broken → Stopped t budget run.NoMemory t
+broken_stopped t budget a i some h e =
+    let same = broken_lost t.state a h e in
+    record { replies = []; before = t; went = went_nowhere t; quiet = tt; most = omega arith; left = inr (subst (Asked t.state) e h); lawful = i; failed = (λ j. record { home = t.home; pass = t.pass; state = same j; moves = t.moves }, inl refl) }
+
+module _ (t now : TaskView) (view : t ≡ now) (budget : ℕ) (a : Ask) where
+  pub over_here : (o : Outcome) → Asked t.state a → a ≡ ask.Over o → Turned now budget (turn.Ended o) now
+  over_here o h e = subst (λ (x : TaskView). Turned x budget (turn.Ended o) x) view (over_turned t budget a o h e)
+
+  pub broken_here : IsTask t → 1 < budget → Asked t.state a → a ≡ ask.Broken → Stopped now budget run.NoMemory now
+  broken_here i some h e = subst (λ (x : TaskView). Stopped x budget run.NoMemory x) view (broken_stopped t budget a i some h e)
+
+-- ---- the loop
+-- so many moves were made, without an event, and the fiber goes on
+pub record Loops (old : TaskView) (made : ℕ) (now : TaskView) : Type 0 where
+  pub replies : List Reply
+  pub went : Went old replies now
+  pub quiet : AreQuiet old.state replies
+  pub many : length replies ≡ made
+  pub going : IsGoing (way_of now.state.running)
+
+pub loop_begins : (t : TaskView) → IsGoing (way_of t.state.running) → Loops t 0 t
+loop_begins t g = record { replies = []; went = went_nowhere t; quiet = tt; many = refl; going = g }
+
+pub loop_goes : (old mid new : TaskView) (n : ℕ) (a : Ask) → Loops old n mid → Made mid a step.Plain new → Loops old (n + 1) new
+loop_goes old mid new n a l m = record {
+  replies = l.replies ++ m.reply ∷ [];
+  went = went_on old mid new l.replies (m.reply ∷ []) l.went m.went;
+  quiet = quiet-push old.state l.replies m.reply l.quiet (subst (λ (s : Fiber). event_of s m.reply ≡ None) l.went.state (sym m.event));
+  many = length-append l.replies (m.reply ∷ []) ∙ ap (λ k. k + 1) l.many;
+  going = m.goes (sym m.event);
+}
+
+-- what its ask tells of the fiber that the task has
+pub loop_asked : (t now : TaskView) (a : Ask) → t ≡ now → IsAsked t.state a → IsAsked now.state a
+loop_asked t now a view k = subst (λ (x : TaskView). IsAsked x.state a) view k
+
+pub loop_out : (old now : TaskView) (n budget : ℕ) → Loops old n now → n ≤ budget → now.moves ≡ 0 → Turned old budget turn.OutOfMoves now
+loop_out old now n budget l less none = record { replies = l.replies; went = l.went; most = (let m = l.many in omega arith); answered = (l.quiet, none, outcome_going now.state l.going) }
+
+pub loop_ends : (old now : TaskView) (budget : ℕ) → Loops old budget now → Turned old budget turn.Cedes now
+loop_ends old now budget l = record { replies = l.replies; went = l.went; most = (let m = l.many in omega arith); answered = inl (l.quiet, l.many) }
+
+pub loop_fails : (old mid new : TaskView) (n budget : ℕ) (e : RunError) → Loops old n mid → n < budget → 0 < mid.moves → IsTask mid → Failed mid e new → Stopped old budget e new
+loop_fails old mid new n budget e l less some i f = record { replies = l.replies; before = mid; went = l.went; quiet = l.quiet; most = (let m = l.many in omega arith); left = inl some; lawful = i; failed = f }
+
+-- ---- the last move of a turn
+-- a fiber ends by asking so
+ends_at : (a : Ask) (s : Step) (o : Outcome) → event_at a s ≡ Some (Ends o) → a ≡ ask.Finish o
+ends_at a step.Plain o e = absurd (cc)
+ends_at a step.Woke o e = absurd (woke a e)
+  where
+    woke : (a : Ask) → woken_at a ≡ Some (Ends o) → ⊥
+    woke (ask.Cancel f) e = cc
+    woke (ask.Complete d v) e = cc
+    woke _ e = cc
+ends_at a step.Waited o e = absurd (cc)
+ends_at a step.Ceded o e = absurd (cc)
+ends_at a step.Ended o e = ended a e
+  where
+    ended : (a : Ask) → ended_at a ≡ Some (Ends o) → a ≡ ask.Finish o
+    ended (ask.Finish p) e = let same : p ≡ o = cc in ap ask.Finish same
+    ended _ e = cc
+
+module _ (old mid new : TaskView) (n budget : ℕ) (l : Loops old n mid) (less : n < budget) where
+  -- one move more is within the budget
+  within : (r : Reply) → length (l.replies ++ r ∷ []) ≤ budget
+  within r = let k = l.many in let j = length-append l.replies (r ∷ []) in omega arith
+
+  module _ (r : Reply) (t : Turn) (event : event_of mid.state r ≡ event_told t) where
+    tells_last : (e : Event) → event_told t ≡ Some e → TellsLast old.state (l.replies ++ r ∷ []) e
+    tells_last e is = record {
+      before = l.replies;
+      last = r;
+      are = refl;
+      quiet = l.quiet;
+      event = subst (λ (s : Fiber). event_of s r ≡ Some e) l.went.state (event ∙ is);
+    }
+
+  answers : (r : Reply) (t : Turn) → event_of mid.state r ≡ event_told t → IsLast t → ((o : Outcome) → event_told t ≡ Some (Ends o) → outcome_of new.state ≡ Some o) → Answered old (l.replies ++ r ∷ []) budget new t
+  answers r (turn.Ended o) e last ends = (ends o refl, inr (tells_last r (turn.Ended o) e (Ends o) refl))
+  answers r (turn.Waits w) e last ends = tells_last r (turn.Waits w) e (Waits_for w) refl
+  answers r turn.Cedes e last ends = inr (tells_last r turn.Cedes e Yields refl)
+  answers r (turn.Started c) e last ends = absurd last
+  answers r (turn.WakeFiber f) e last ends = tells_last r (turn.WakeFiber f) e (Wakes_fiber f) refl
+  answers r (turn.WakeTopic w) e last ends = tells_last r (turn.WakeTopic w) e (Wakes_topic w) refl
+  answers r turn.OutOfMoves e last ends = absurd last
+
+  pub loop_tells : (a : Ask) (s : Step) (t : Turn) → Made mid a s new → event_told t ≡ event_at a s → IsLast t → Turned old budget t new
+  loop_tells a s t m told last = record {
+    replies = l.replies ++ m.reply ∷ [];
+    went = went_on old mid new l.replies (m.reply ∷ []) l.went m.went;
+    most = within m.reply;
+    answered = answers m.reply t (sym m.event ∙ sym told) last (λ o is. outcome_way new.state o (m.way ∙ ap (λ x. way_after x (way_of mid.state.running)) (ends_at a s o (sym told ∙ is))));
+  }
+
+  pub loop_bears : (c : TaskView) → Bears mid new c → Turned old budget (turn.Started c) new
+  loop_bears c b = record {
+    replies = l.replies ++ b.reply ∷ [];
+    went = went_on old mid new l.replies (b.reply ∷ []) l.went b.went;
+    most = within b.reply;
+    answered = record {
+      before = l.replies;
+      last = b.reply;
+      are = refl;
+      quiet = l.quiet;
+      parent = mid;
+      went = l.went;
+      event = b.event;
+      child = b.child;
+    };
+  }

@@ -1,0 +1,115 @@
+-- What one move of a turn promises.
+use Rattle.std.specs.Prelude.{◌≡◌, ℕ, [], ◌∷◌, Option, Some, None}
+use Rattle.effect_term.specs.declared.reply.Reply.{Reply}
+use Rattle.fiber_frames.specs.declared.ask.Ask.{Ask}
+use Rattle.fiber_frames.specs.declared.ask.Ask.TheVariants as ask
+use Rattle.fiber_frames.specs.declared.config.Moved.{Moved}
+use Rattle.fiber_frames.specs.declared.config.Moved.TheVariants as moved
+use Rattle.fiber_frames.specs.Fiber.{Fiber, child, move}
+use Rattle.fiber_frames.specs.Answers.{Answers}
+use Rattle.fiber_poll.specs.declared.step.Step.{Step}
+use Rattle.fiber_poll.specs.declared.step.Step.TheVariants as step
+use Rattle.fiber_poll.specs.declared.topic.Topic.TheVariants as topic
+use Rattle.fiber_poll.specs.declared.turn.Turn.{Turn}
+use Rattle.fiber_poll.specs.declared.turn.Turn.TheVariants as turn
+use Rattle.fiber_frames.specs.Leading.{Asked, IsGoing, Leads, way_after, way_of}
+use Rattle.derived_ops.specs.Naming.{Given}
+use Rattle.fiber_frames.specs.Naming.{AskNamed, NamedBeginning, NamedRun, NumberGiven}
+use Rattle.fiber_poll.specs.Turns.{Ends, Event, Starts_child, Waits_for, Wakes_fiber, Wakes_topic, Yields, awaited, event_of, woken}
+use Rattle.fiber_poll.specs.Tasks.{TaskView, Went}
+use Rattle.fiber_poll.specs.Stepping.{IsChild}
+
+-- what the ask of a fiber tells of it, and of what comes of its move
+pub record IsAsked (g : Fiber) (a : Ask) : Type 0 where
+  pub tells : Asked g a
+  pub leads : (r : Reply) → Answers g.number a r → Leads g a r (move g r)
+  pub names : (b : Given) → NamedRun b g.running → AskNamed b g.number a
+  pub moves_names : (b : Given) (r : Reply) → NamedRun b g.running → NumberGiven b a r → NamedRun b (move g r).running
+  pub child_names : (b : Given) (n : ℕ) → NamedRun b g.running → NamedBeginning b (child g n)
+
+-- a move that asks so starts nobody
+abbrev pub IsStep : Ask → Type 0
+IsStep ask.Start = ⊥
+IsStep (ask.Over o) = ⊥
+IsStep ask.Broken = ⊥
+IsStep _ = Unit {0}
+
+-- whom a move that asks so woke, if it did
+abbrev pub woken_at : Ask → Option Event
+woken_at (ask.Cancel f) = Some (Wakes_fiber f)
+woken_at (ask.Complete d v) = Some (Wakes_topic (topic.Deferred d))
+woken_at _ = None
+
+abbrev pub ended_at : Ask → Option Event
+ended_at (ask.Finish o) = Some (Ends o)
+ended_at _ = None
+
+-- the event of a move that asked so
+abbrev pub event_at : Ask → Step → Option Event
+event_at a step.Plain = None
+event_at a step.Woke = woken_at a
+event_at a step.Waited = Some (Waits_for (awaited a))
+event_at a step.Ceded = Some Yields
+event_at a step.Ended = ended_at a
+
+-- a move that asks so can wake somebody
+abbrev pub CanWake : Ask → Type 0
+CanWake (ask.Cancel f) = Unit {0}
+CanWake (ask.Complete d v) = Unit {0}
+CanWake _ = ⊥
+
+abbrev pub CanEnd : Ask → Type 0
+CanEnd (ask.Finish o) = Unit {0}
+CanEnd _ = ⊥
+
+-- a move that asks so can be this
+abbrev pub Tells : Ask → Step → Type 0
+Tells a step.Woke = CanWake a
+Tells a step.Ended = CanEnd a
+Tells a _ = Unit {0}
+
+-- a move that asks so can be this to the fiber's runner, and starts nobody
+abbrev pub Follows : Ask → Moved → Type 0
+Follows a (moved.Born c) = ⊥
+Follows a (moved.Ended o) = a ≡ ask.Finish o
+Follows a _ = Unit {0}
+
+-- the event of a move of fiber i of which its runner was told this
+abbrev pub event_in : ℕ → Ask → Reply → Moved → Option Event
+event_in i a r moved.Plain = woken i a r
+event_in i a r moved.Waited = Some (Waits_for (awaited a))
+event_in i a r moved.Ceded = Some Yields
+event_in i a r (moved.Born c) = Some Starts_child
+event_in i a r (moved.Ended o) = Some (Ends o)
+
+-- the event that an answer tells
+abbrev pub event_told : Turn → Option Event
+event_told (turn.Ended o) = Some (Ends o)
+event_told (turn.Waits t) = Some (Waits_for t)
+event_told turn.Cedes = Some Yields
+event_told (turn.Started t) = Some Starts_child
+event_told (turn.WakeFiber f) = Some (Wakes_fiber f)
+event_told (turn.WakeTopic t) = Some (Wakes_topic t)
+event_told turn.OutOfMoves = None
+
+-- an answer that a move which starts nobody can have
+abbrev pub IsLast : Turn → Type 0
+IsLast (turn.Started t) = ⊥
+IsLast turn.OutOfMoves = ⊥
+IsLast _ = Unit {0}
+
+-- one move, under some reply, which was this: how far the fiber has come by it, and that it goes on unless there is something to tell
+pub record Made (old : TaskView) (a : Ask) (s : Step) (new : TaskView) : Type 0 where
+  pub reply : Reply
+  pub went : Went old (reply ∷ []) new
+  pub event : event_at a s ≡ event_of old.state reply
+  pub tells : Tells a s
+  pub way : way_of new.state.running ≡ way_after a (way_of old.state.running)
+  pub goes : event_of old.state reply ≡ None → IsGoing (way_of new.state.running)
+
+-- one move, by which the fiber of the task c was started
+pub record Bears (old new c : TaskView) : Type 0 where
+  pub reply : Reply
+  pub went : Went old (reply ∷ []) new
+  pub event : event_of old.state reply ≡ Some Starts_child
+  pub child : IsChild old reply new c

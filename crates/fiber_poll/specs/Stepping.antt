@@ -1,0 +1,43 @@
+-- A move that starts a fiber, and one that isn't made.
+use Rattle.std.specs.Prelude.{◌≡◌, ◌⊎◌, List, [], ◌∷◌, ◌++◌}
+use mathlib.Core.List.{IsPrefix}
+use Rattle.effect_term.specs.declared.reply.Reply.{Reply}
+use Rattle.effect_term.specs.declared.reply.Reply.TheVariants as reply
+use Rattle.fiber_frames.specs.Fiber.{ask_of, child, lost}
+use Rattle.cell_registry.specs.declared.call.Call.{Call}
+use Rattle.cell_registry.specs.declared.call.Call.TheVariants as call
+use Rattle.cell_registry.specs.declared.call.Entry.{Entry}
+use Rattle.cell_registry.specs.declared.limits.RunError.{RunError}
+use Rattle.cell_registry.specs.declared.limits.RunError.TheVariants as run
+use Rattle.cell_registry.specs.Bands.{claim_of, limit_of}
+use Rattle.cell_registry.specs.Histories.{calls_by}
+use Rattle.cell_registry.specs.Steps.{entry}
+use Rattle.cell_registry.specs.Passes.{Calls, OnlySees, SeesAllGiven, newborn}
+use Rattle.outcome_trace.specs.declared.wish.Wish.TheVariants.{Shared}
+use Rattle.outcome_trace.specs.Core.{wish_of}
+use Rattle.outcome_trace.specs.Permits.{IsChange}
+use Rattle.fiber_poll.specs.Tasks.{TaskView}
+
+-- The task c is that of the fiber that was started by the next move of the task old, which was answered r, and which is new since. It is the child that the move gives, with the pass of that call, and may make the moves that are then left. The call is the last that was seen, and the fiber's first since the task was old
+pub record IsChild (old : TaskView) (r : Reply) (new c : TaskView) : Type 0 where
+  pub number : r ≡ reply.Number c.pass.number
+  pub wants : wish_of (ask_of old.state) ≡ Shared call.Start
+  pub state : c.state ≡ child old.state c.pass.number
+  pub pass : c.pass ≡ newborn new.pass c.pass.number
+  pub home : c.home ≡ new.home
+  pub left : c.moves ≡ new.moves
+  pub before : List Entry
+  pub last : new.pass.seen ≡ before ++ entry old.pass.number call.Start r ∷ []
+  pub later : IsPrefix old.pass.seen before
+  pub still : calls_by old.pass.number before ≡ calls_by old.pass.number old.pass.seen
+
+-- Why the next move of the task old wasn't made. All numbers of the band that it wanted one of are given, and the pass may have seen more. The count of the fiber's changes is used up. Or memory was refused: the fiber has lost its term, and the registry may have answered the call that it asked
+abbrev pub Failed : TaskView → RunError → TaskView → Type 0
+Failed old (run.Full b n) new =
+    (wish_of (ask_of old.state) ≡ Shared (claim_of b)) × (n ≡ limit_of b old.home.limits) × (new ≡ record old { pass = new.pass }) × OnlySees old.pass new.pass × SeesAllGiven b old.pass new.pass
+Failed old (run.Spent f) new =
+    ((c : Call) × (wish_of (ask_of old.state) ≡ Shared c) × IsChange c) × (f ≡ old.state.number) × (old.pass.count ≡ old.home.limits.count) × (new ≡ old)
+Failed old run.NoMemory new =
+    (new ≡ record old { pass = new.pass; state = lost old.state }) × ((new.pass ≡ old.pass) ⊎ ((c : Call) × (r : Reply) × (wish_of (ask_of old.state) ≡ Shared c) × Calls old.pass c r new.pass))
+Failed old (run.Lost f) new = ⊥
+Failed old run.NoWorker new = ⊥

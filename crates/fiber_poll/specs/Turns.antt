@@ -1,0 +1,89 @@
+-- Moves of a fiber under replies: the calls that they made, and what they are to whoever runs the fiber.
+use Rattle.std.specs.Prelude.{◌≡◌, ℕ, ◌==◌, List, [], ◌∷◌, ◌++◌, true, Option, Some, None, cond}
+use Rattle.effect_term.specs.declared.reply.Outcome.{Outcome}
+use Rattle.effect_term.specs.declared.reply.Reply.{Reply}
+use Rattle.effect_term.specs.declared.reply.Reply.TheVariants as reply
+use Rattle.effect_term.specs.declared.reply.CancelReply.TheVariants as canceled
+use Rattle.fiber_frames.specs.declared.ask.Ask.{Ask}
+use Rattle.fiber_frames.specs.declared.ask.Ask.TheVariants as ask
+use Rattle.fiber_frames.specs.Rows.{Kind, Plain, Waited, Ceded, Born, Ended}
+use Rattle.fiber_frames.specs.Fiber.{Fiber, ask_of, move, kind_of}
+use Rattle.fiber_frames.specs.Answers.{Answers}
+use Rattle.cell_registry.specs.declared.call.Entry.{Entry}
+use Rattle.cell_registry.specs.Steps.{entry}
+use Rattle.outcome_trace.specs.declared.wish.Wish.{Wish}
+use Rattle.outcome_trace.specs.declared.wish.Wish.TheVariants.{Shared, Alone, Nothing}
+use Rattle.outcome_trace.specs.Core.{wish_of}
+use Rattle.fiber_poll.specs.declared.topic.Topic.{Topic}
+use Rattle.fiber_poll.specs.declared.topic.Topic.TheVariants as topic
+
+-- the state after moves that were answered so
+abbrev pub moves : Fiber → List Reply → Fiber
+moves g [] = g
+moves g (r ∷ rs) = moves (move g r) rs
+
+-- each move could be answered so
+abbrev pub AreAnswers : Fiber → List Reply → Type 0
+AreAnswers g [] = Unit {0}
+AreAnswers g (r ∷ rs) = Answers g.number (ask_of g) r × AreAnswers (move g r) rs
+
+-- ---- the calls
+-- the entry of a move that was answered so, if it wanted a shared call
+abbrev pub wished : ℕ → Wish → Reply → List Entry
+wished i (Shared c) r = entry i c r ∷ []
+wished i Alone r = []
+wished i Nothing r = []
+
+abbrev pub call_of : Fiber → Reply → List Entry
+call_of g r = wished g.number (wish_of (ask_of g)) r
+
+-- the shared calls of the moves, with their replies, in order
+abbrev pub calls_of : Fiber → List Reply → List Entry
+calls_of g [] = []
+calls_of g (r ∷ rs) = call_of g r ++ calls_of (move g r) rs
+
+-- ---- the events
+-- what a move is to whoever runs the fiber, beside that it was made
+pub data Event : Type 0 where
+  Ends : Outcome → Event
+  Waits_for : Topic → Event
+  Yields : Event
+  Starts_child : Event
+  Wakes_fiber : ℕ → Event
+  Wakes_topic : Topic → Event
+
+-- what a move that asks so waits for, if it waits
+abbrev pub awaited : Ask → Topic
+awaited (ask.Join f) = topic.Fiber f
+awaited (ask.Read d) = topic.Deferred d
+awaited _ = topic.Never
+
+-- whom a plain move of fiber i may wake: another fiber whose cancellation it was the first to request, or those that wait for the deferred that it completed
+abbrev pub woken : ℕ → Ask → Reply → Option Event
+woken i (ask.Cancel f) (reply.Cancel canceled.Asked) = cond (f == i) None (Some (Wakes_fiber f))
+woken i (ask.Complete d v) (reply.Completed true) = Some (Wakes_topic (topic.Deferred d))
+woken i _ r = None
+
+-- the event of a move of fiber i, by its ask, its reply and its kind
+abbrev pub told_by : ℕ → Ask → Reply → Kind → Option Event
+told_by i a r Plain = woken i a r
+told_by i a r Waited = Some (Waits_for (awaited a))
+told_by i a r Ceded = Some Yields
+told_by i a r (Born t) = Some Starts_child
+told_by i a r (Ended o) = Some (Ends o)
+
+abbrev pub event_of : Fiber → Reply → Option Event
+event_of g r = told_by g.number (ask_of g) r (kind_of g r)
+
+-- moves without an event
+abbrev pub AreQuiet : Fiber → List Reply → Type 0
+AreQuiet g [] = Unit {0}
+AreQuiet g (r ∷ rs) = (event_of g r ≡ None) × AreQuiet (move g r) rs
+
+-- moves without an event, and then a last one with this event
+pub record TellsLast (g : Fiber) (rs : List Reply) (e : Event) : Type 0 where
+  pub before : List Reply
+  pub last : Reply
+  pub are : rs ≡ before ++ last ∷ []
+  pub quiet : AreQuiet g before
+  pub event : event_of (moves g before) last ≡ Some e

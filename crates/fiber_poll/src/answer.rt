@@ -1,0 +1,85 @@
+//! The registry's answer to what a fiber asks.
+ghost use Rattle.std.specs.Prelude.{◌≡◌, IfOk, IfErr};
+ghost use Rattle.cell_registry.specs.Passes.{IsOf, IsPass};
+ghost use Rattle.cell_registry.specs.Cells.{OutcomeFits};
+ghost use Rattle.outcome_trace.specs.Core.{wish_of, fault_of};
+ghost use Rattle.outcome_trace.specs.Permits.{Makes, MayMake, RefusedBy};
+ghost use Rattle.fiber_poll.specs.Private.Making.{MayAnswer, Refuses, Replies};
+ghost use Rattle.fiber_poll.specs.Private.Told.{IsStep};
+
+use cell_registry::{Call, CellError, Outcome, Pass, Registry, Reply, RunError};
+use fiber_frames::Ask;
+
+// The reply under which a fiber makes the move that asks so, and that starts nobody: the registry's,
+// or `Done` where the move needs no shared call. Or the registry's refusal.
+#[inline(always)]
+pub(crate) fn answer(registry: &Registry, pass: &mut Pass, ask: Ask) -> Result<Reply, CellError>
+    requires own { IsOf registry.now pass.old }
+    requires may { MayAnswer pass.old (wish_of ask) }
+    requires step { IsStep ask }
+    ensures lawful { IsPass pass.new }
+    ensures made { IfOk result (λ reply. Replies pass.old (wish_of ask) reply pass.new) }
+    ensures refused { IfErr result (λ error. Refuses pass.old (wish_of ask) error pass.new) }
+{
+    match ask {
+        Ask::Silent => {
+            let _ = pass.number();
+            Ok(Reply::Done)
+        }
+        Ask::Look => Ok(Reply::Seen(registry.look(pass))),
+        Ask::Mask => {
+            registry.mask(pass)?;
+            Ok(Reply::Done)
+        }
+        Ask::Unmask => {
+            registry.unmask(pass)?;
+            Ok(Reply::Done)
+        }
+        Ask::Cut => {
+            registry.cut(pass)?;
+            Ok(Reply::Done)
+        }
+        Ask::Finish(outcome) => finish(registry, pass, outcome),
+        Ask::Cancel(fiber) => Ok(Reply::Cancel(registry.cancel(pass, fiber))),
+        Ask::Join(fiber) => Ok(Reply::Join(registry.join(pass, fiber))),
+        Ask::NewRef => Ok(Reply::Number(registry.new_ref(pass)?)),
+        Ask::Get(number) => Ok(Reply::Value(registry.get(pass, number))),
+        Ask::Set(number, value) => {
+            registry.set(pass, number, value);
+            Ok(Reply::Done)
+        }
+        Ask::Modify(number, value) => Ok(Reply::Value(registry.modify(pass, number, value))),
+        Ask::NewDeferred => Ok(Reply::Number(registry.new_deferred(pass)?)),
+        Ask::Complete(number, value) => {
+            Ok(Reply::Completed(registry.complete(pass, number, value)))
+        }
+        Ask::Read(number) => Ok(Reply::Read(registry.read(pass, number))),
+        Ask::Start | Ask::Over(_) | Ask::Broken => unreachable!(),
+    }
+}
+
+// The end of the fiber, whose value is one of 32 bits.
+fn finish(registry: &Registry, pass: &mut Pass, outcome: Outcome) -> Result<Reply, CellError>
+    requires own { IsOf registry.now pass.old }
+    requires may { OutcomeFits outcome → MayMake pass.old (Call.Finish outcome) }
+    ensures lawful { IsPass pass.new }
+    ensures made { IfOk result (λ reply. Makes pass.old (Call.Finish outcome) reply pass.new) }
+    ensures refused { IfErr result (λ error. RefusedBy pass.old (Call.Finish outcome) error pass.new) }
+{
+    match outcome {
+        Outcome::Succeeded(value) => registry.finish(pass, Outcome::Succeeded(value))?,
+        Outcome::Errored(code) => registry.finish(pass, Outcome::Errored(code))?,
+        Outcome::Canceled => registry.finish(pass, Outcome::Canceled)?,
+    }
+    Ok(Reply::Done)
+}
+
+// The fault of a run in which a call of this fiber was refused.
+pub(crate) fn fault(fiber: u16, error: CellError) -> RunError
+    ensures { result ≡ fault_of fiber error }
+{
+    match error {
+        CellError::Full(band, limit) => RunError::Full(band, limit),
+        CellError::Spent(_) => RunError::Spent(fiber),
+    }
+}

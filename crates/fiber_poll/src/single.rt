@@ -1,0 +1,54 @@
+//! A program that starts nobody, run by itself.
+ghost use Rattle.std.specs.Prelude.{◌≡◌, ◌⊎◌, false, replicate, Err as Fails};
+ghost use Rattle.derived_ops.specs.Expansion.{code_of};
+ghost use Rattle.derived_ops.specs.Reading.{source_of};
+ghost use Rattle.effect_term.specs.Starts.{starts_fiber};
+ghost use Rattle.outcome_trace.specs.Core.{core};
+ghost use Rattle.fiber_poll.specs.Futures.{default_limits, first_result};
+
+use crate::future::FiberFuture;
+use crate::opening::first;
+use cell_registry::{Outcome, Registry, RunError};
+use derived_ops::expand;
+use effect_term::Program;
+use futures::executor::block_on;
+use std::alloc::AllocGlobal;
+use std::random::RandomSource;
+use std::sync::Wait;
+
+/// The most fibers, refs and deferreds that a registry is for.
+const NUMBERS: u16 = 1000;
+
+/// The most changes of its cell that a fiber may make.
+const COUNT: u32 = 262_143;
+
+/// The moves that a poll makes at most.
+const BUDGET: u32 = 64;
+
+/// Runs a program in which no word starts a fiber ([`Program::starts`]) for at most so many moves, at
+/// a registry of the greatest limits.
+///
+/// The answer is how the core's fiber 0 has ended after as many entries of 0, or none where it hasn't,
+/// or the fault of the core. Beside these it is [`RunError::NoMemory`] where memory is refused, and
+/// [`RunError::NoWorker`] where the thread can't wait for the fiber's future.
+pub fn alone<R: Wait + RandomSource + AllocGlobal>(
+    rt: &R,
+    program: Program,
+    moves: u32,
+) -> Result<Option<Outcome>, RunError>
+    requires { starts_fiber program ≡ false }
+    ensures { (result ≡ Fails RunError.NoMemory) ⊎ (result ≡ Fails RunError.NoWorker) ⊎ (result ≡ first_result (core (code_of (source_of program)) default_limits (replicate moves 0))) }
+{
+    let alloc = rt.alloc();
+    let code = expand(alloc, &program)?;
+    let (registry, pass) = Registry::new(alloc, NUMBERS, NUMBERS, NUMBERS, COUNT)?;
+    let task = first(alloc, &registry, pass, &code, moves)?;
+    let future = FiberFuture {
+        task,
+        budget: BUDGET,
+    };
+    match block_on(rt, future) {
+        Ok(result) => result,
+        Err(_) => Err(RunError::NoWorker),
+    }
+}

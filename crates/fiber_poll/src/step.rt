@@ -1,0 +1,118 @@
+//! One move of a turn, as its loop sees it.
+ghost use Rattle.std.specs.Prelude.{◌≡◌, ◌≢◌, if◌then◌else◌};
+ghost use Rattle.fiber_poll.specs.Turns.{awaited, woken};
+ghost use Rattle.fiber_poll.specs.Private.Told.{Follows, IsLast, Tells, event_at, event_in, event_told};
+
+use crate::topic::Topic;
+use crate::turn::Turn;
+use effect_term::{CancelReply, Reply};
+use fiber_frames::{Ask, Moved};
+
+// What a move that starts nobody was. With the ask that it answered it says what is to be told; it has
+// no fields, so that a move answers it in a register.
+#[derive(Clone, Copy, PartialEq, Eq, Debug)]
+pub(crate) enum Step {
+    // Nothing is to be told.
+    Plain,
+    // Somebody may have been woken.
+    Woke,
+    // The move waited, and comes again.
+    Waited,
+    // The fiber yielded.
+    Ceded,
+    // The fiber has ended.
+    Ended,
+}
+
+// What a move of the fiber of this number was, which asked so and was answered so.
+#[inline(always)]
+pub(crate) fn step_of(number: u16, ask: Ask, reply: Reply, moved: &Moved) -> Step
+    requires { Follows ask moved.now }
+    ensures event { event_at ask result ≡ event_in number ask reply moved.now }
+    ensures tells { Tells ask result }
+{
+    match moved {
+        Moved::Plain => {
+            if wakes(number, ask, reply) {
+                Step::Woke
+            } else {
+                Step::Plain
+            }
+        }
+        Moved::Waited => Step::Waited,
+        Moved::Ceded => Step::Ceded,
+        Moved::Ended(_) => Step::Ended,
+        Moved::Born(_) => unreachable!(),
+    }
+}
+
+// Whether a plain move of the fiber of this number may have woken somebody.
+#[inline(always)]
+fn wakes(number: u16, ask: Ask, reply: Reply) -> bool
+    ensures event { event_at ask (if result then Step.Woke else Step.Plain) ≡ woken number ask reply }
+    ensures tells { Tells ask (if result then Step.Woke else Step.Plain) }
+{
+    match ask {
+        Ask::Cancel(fiber) => match reply {
+            Reply::Cancel(CancelReply::Asked) => fiber != number,
+            _ => false,
+        },
+        Ask::Complete(_, _) => match reply {
+            Reply::Completed(true) => true,
+            _ => false,
+        },
+        _ => false,
+    }
+}
+
+// What a turn answers after a move that is to be told.
+pub(crate) fn told<'a>(ask: Ask, step: Step) -> Turn<'a>
+    requires tells { Tells ask step }
+    requires told { step ≢ Step.Plain }
+    ensures event { event_told result ≡ event_at ask step }
+    ensures last { IsLast result }
+{
+    match step {
+        Step::Plain => unreachable!(),
+        Step::Woke => wakened(ask),
+        Step::Waited => Turn::Waits(topic_of(ask)),
+        Step::Ceded => Turn::Cedes,
+        Step::Ended => ended(ask),
+    }
+}
+
+// Whom a move may have woken.
+fn wakened<'a>(ask: Ask) -> Turn<'a>
+    requires { Tells ask Step.Woke }
+    ensures event { event_told result ≡ event_at ask Step.Woke }
+    ensures last { IsLast result }
+{
+    match ask {
+        Ask::Cancel(fiber) => Turn::WakeFiber(fiber),
+        Ask::Complete(deferred, _) => Turn::WakeTopic(Topic::Deferred(deferred)),
+        _ => unreachable!(),
+    }
+}
+
+// How a fiber has ended by its last move.
+fn ended<'a>(ask: Ask) -> Turn<'a>
+    requires { Tells ask Step.Ended }
+    ensures event { event_told result ≡ event_at ask Step.Ended }
+    ensures last { IsLast result }
+{
+    match ask {
+        Ask::Finish(outcome) => Turn::Ended(outcome),
+        _ => unreachable!(),
+    }
+}
+
+// What a move waits for.
+fn topic_of(ask: Ask) -> Topic
+    ensures { result ≡ awaited ask }
+{
+    match ask {
+        Ask::Join(fiber) => Topic::Fiber(fiber),
+        Ask::Read(deferred) => Topic::Deferred(deferred),
+        _ => Topic::Never,
+    }
+}

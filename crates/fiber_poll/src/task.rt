@@ -1,0 +1,215 @@
+//! A fiber that anybody can move.
+ghost use Rattle.std.specs.Prelude.{◌≡◌, ◌≢◌, ◌<◌, IfOk, IfErr, Ok as GoesWell, Err as Fails};
+ghost use Rattle.cell_registry.specs.Passes.{IsOf, RegistryView};
+ghost use Rattle.derived_ops.specs.Tree.{Tree};
+ghost use Rattle.fiber_frames.specs.Fiber.{ask_of, outcome_of};
+ghost use Rattle.fiber_frames.specs.Leading.{IsGoing, way_of};
+ghost use Rattle.fiber_frames.specs.Marks.{AreLawful};
+ghost use Rattle.outcome_trace.specs.Fitting.{Fits, pass_registered};
+ghost use Rattle.fiber_poll.specs.Turning.{StaysOf, Stopped, Turned};
+ghost use Rattle.fiber_poll.specs.Stepping.{Failed};
+ghost use Rattle.fiber_poll.specs.Private.Told.{Bears, IsAsked, Made};
+
+use crate::answer::{answer, fault};
+use crate::step::{Step, step_of, told};
+use crate::turn::Turn;
+use cell_registry::{Outcome, Pass, Registry, RunError};
+use effect_term::Reply;
+use fiber_frames::{Ask, Config, Mark, Moved};
+use std::marker::Model;
+
+/// A fiber that anybody can move: its pass at a registry, its own state, and the moves that it may
+/// still make.
+///
+/// Whoever holds the task alone makes its moves, on any thread, and many tasks of one registry can be
+/// moved at once. Unless memory was refused in a move, what the pass knows of the fiber and the
+/// fiber's state fit together.
+#[derive(Drop)]
+pub struct FiberTask<'a> {
+    registry: &'a Registry,
+    pass: Pass,
+    config: Config,
+    moves: u32,
+}
+
+impl<'a> Model for FiberTask<'a> {
+    ghost use Rattle.std.specs.Coded.{codes};
+    ghost use Rattle.derived_ops.specs.Stored.{tree_code};
+    ghost use Rattle.fiber_frames.specs.contracts.ask.Look as the_look;
+    ghost use Rattle.fiber_frames.specs.contracts.mark.Mark as the_mark;
+    ghost use Rattle.fiber_poll.specs.Tasks.{IsTask, TaskView};
+
+    ghost Value = { TaskView };
+
+    ghost coded = { Prim.hlevel (codes, tree_code, the_look.the_row.coded, the_mark.the_row.coded) };
+
+    ghost view = { λ t. record { home = t.registry.now; pass = t.pass; state = t.config; moves = t.moves } };
+
+    ghost invariant = { λ t. IsTask record { home = t.registry.now; pass = t.pass; state = t.config; moves = t.moves } };
+}
+
+impl<'a> FiberTask<'a> {
+    ghost use Rattle.fiber_poll.specs.Tasks.{IsTask, IsTaskOf};
+
+    /// A task of this fiber, which may make so many moves. Its pass is one of the registry, and fits
+    /// its state.
+    pub fn new(registry: &'a Registry, pass: Pass, config: Config, moves: u32) -> FiberTask<'a>
+        requires own { IsOf registry.now pass }
+        requires fits { Fits (pass_registered pass) config }
+        ensures { result ≡ record { home = registry.now; pass = pass; state = config; moves = moves } }
+    {
+        let _ = pass.number();
+        FiberTask {
+            registry,
+            pass,
+            config,
+            moves,
+        }
+    }
+
+    /// The fiber's number.
+    pub fn number(&self) -> u16
+        ensures number { result ≡ self.now.state.number }
+        ensures lawful { IsTask self.now }
+    {
+        self.config.number()
+    }
+
+    /// The marks so far.
+    ///
+    /// At most one of them is a cut, and no masked region is cut outside its own poll. Each bracket
+    /// that has acquired releases at most once, the innermost first, and exactly once where the fiber
+    /// has ended; it has ended canceled exactly where it was cut.
+    pub fn trace(&self) -> &[Mark]
+        ensures marks { result.now ≡ self.now.state.marks }
+        ensures lawful { AreLawful self.now.state.marks (outcome_of self.now.state) }
+    {
+        self.config.trace()
+    }
+
+    /// How the fiber has ended, or none where it hasn't.
+    #[tactic(auto, using(crate::proofs::Outcomes::outcome_over, crate::proofs::Outcomes::outcome_none))]
+    pub fn outcome(&self) -> Option<Outcome>
+        ensures { result ≡ outcome_of self.now.state }
+    {
+        match self.config.ask() {
+            Ask::Over(outcome) => Some(outcome),
+            _ => None,
+        }
+    }
+
+    /// The task's pass and its fiber's state.
+    pub fn into_parts(self) -> (Pass, Config)
+        ensures pass { result.0 ≡ self.entry.pass }
+        ensures state { result.1 ≡ self.entry.state }
+        ensures lawful { IsTask self.entry }
+    {
+        (self.pass, self.config)
+    }
+
+    /// Makes moves, one after another, at most `budget` of them, until there is something to tell.
+    ///
+    /// It stops before a move where the task has no moves left ([`Turn::OutOfMoves`]), and after a move
+    /// that ended the fiber, waited, yielded, started a fiber, was the first to request the
+    /// cancellation of another one, or completed a deferred. It also yields once `budget` moves are
+    /// made. Each move takes one from those that the task may make, and a started fiber begins with
+    /// those that are left then. A fiber that has ended answers its outcome again, without a move. The
+    /// budget is at least 2.
+    ///
+    /// Where the registry refuses the next move's call, the answer is [`RunError::Full`] or
+    /// [`RunError::Spent`], and the task is as it was before that move, but that its pass may have seen
+    /// more. Where memory is refused, the answer is [`RunError::NoMemory`], now and in each later turn:
+    /// the fiber has lost its term, and has the marks of the moves that were made; the registry may
+    /// have taken the call of the move that wasn't.
+    ///
+    /// Unless memory was refused, a task of one registry and one code stays one, and so is the task of
+    /// a fiber that it starts.
+    pub fn turn(&mut self, budget: u32) -> Result<Turn<'a>, RunError>
+        requires budget { 1 < budget }
+        ensures turned { IfOk result (λ answer. Turned self.old budget answer self.new) }
+        ensures stopped { IfErr result (λ error. Stopped self.old budget error self.new) }
+        ensures ended { (o : Outcome) → outcome_of self.old.state ≡ Some o → (result ≡ GoesWell (Turn.Ended o)) × (self.new ≡ self.old) }
+        ensures stays { (home : RegistryView) (code : Tree) → IsTaskOf home code self.old → StaysOf home code result self.new }
+        ensures broken { ask_of self.old.state ≡ Ask.Broken → (result ≡ Fails RunError.NoMemory) × (self.new ≡ self.old) }
+    {
+        match self.config.ask() {
+            Ask::Over(outcome) => Ok(Turn::Ended(outcome)),
+            Ask::Broken => Err(RunError::NoMemory),
+            _ => self.go(budget),
+        }
+    }
+
+    // The moves of a fiber that goes on.
+    #[inline(always)]
+    fn go(&mut self, budget: u32) -> Result<Turn<'a>, RunError>
+        requires going { IsGoing (way_of self.old.state.running) }
+        ensures turned { IfOk result (λ answer. Turned self.old budget answer self.new) }
+        ensures stopped { IfErr result (λ error. Stopped self.old budget error self.new) }
+    {
+        for made in 0..budget {
+            if self.moves == 0 {
+                return Ok(Turn::OutOfMoves);
+            }
+            match self.config.ask() {
+                Ask::Start => return Ok(Turn::Started(self.start()?)),
+                ask => match self.step(ask)? {
+                    Step::Plain => {}
+                    step => return Ok(told(ask, step)),
+                },
+            }
+        }
+        Ok(Turn::Cedes)
+    }
+
+    // A move that asks so, and that starts nobody.
+    #[inline(always)]
+    fn step(&mut self, ask: Ask) -> Result<Step, RunError>
+        requires ask { ask ≡ ask_of self.old.state }
+        requires asked { IsAsked self.old.state ask }
+        requires going { IsGoing (way_of self.old.state.running) }
+        requires other { ask ≢ Ask.Start }
+        requires left { 0 < self.old.moves }
+        ensures lawful { IsTask self.old }
+        ensures made { IfOk result (λ step. Made self.old ask step self.new) }
+        ensures failed { IfErr result (λ error. Failed self.old error self.new) }
+    {
+        let number = self.config.number();
+        let reply = match answer(self.registry, &mut self.pass, ask) {
+            Ok(reply) => reply,
+            Err(error) => return Err(fault(number, error)),
+        };
+        // The result is large, since a child stands in it: it is looked at where it is.
+        let resumed = self.config.resume(reply);
+        match &resumed {
+            Ok(moved) => {
+                self.moves -= 1;
+                Ok(step_of(number, ask, reply, moved))
+            }
+            Err(_) => Err(RunError::NoMemory),
+        }
+    }
+
+    // A move that starts a fiber, whose task it gives.
+    fn start(&mut self) -> Result<FiberTask<'a>, RunError>
+        requires wish { ask_of self.old.state ≡ Ask.Start }
+        requires left { 0 < self.old.moves }
+        ensures lawful { IsTask self.old }
+        ensures born { IfOk result (λ child. Bears self.old self.new child) }
+        ensures failed { IfErr result (λ error. Failed self.old error self.new) }
+    {
+        let number = self.config.number();
+        let _ = self.config.ask();
+        let child = match self.registry.start(&mut self.pass) {
+            Ok(child) => child,
+            Err(error) => return Err(fault(number, error)),
+        };
+        match self.config.resume(Reply::Number(child.number())) {
+            Ok(Moved::Born(config)) => {
+                self.moves -= 1;
+                Ok(FiberTask::new(self.registry, child, config, self.moves))
+            }
+            Ok(_) => unreachable!(),
+            Err(_) => Err(RunError::NoMemory),
+        }
+    }
+}

@@ -1,0 +1,6 @@
+pub mod Led
+pub mod Lists
+pub mod Histories
+pub mod Places
+pub mod Moving
+pub mod Schedules

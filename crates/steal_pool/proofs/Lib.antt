@@ -1,0 +1,6 @@
+pub mod Ledgers
+pub mod Lining
+pub mod Meeting
+pub mod Named
+pub mod Results
+pub mod Taking

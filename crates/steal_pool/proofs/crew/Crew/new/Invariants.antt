@@ -1,0 +1,6 @@
+use Rattle.std.proofs.Common.{◌≡◌}
+use Rattle.wait_bay.specs.Bays.{IsSeatOf}
+use Rattle.steal_pool.proofs.crew.Crew.new.Given as goal
+
+abbrev pub invariant-loop-own : goal.invariant-loop-own
+invariant-loop-own l = IsSeatOf l.bay l.seat

@@ -1,0 +1,35 @@
+use Rattle.std.proofs.Common.{List, All, inl, inr, sym, subst}
+use Rattle.std.proofs.lemmas.Result.{err_from_is_err_and}
+use Rattle.fiber_frames.specs.Fiber.{Fiber}
+use Rattle.outcome_trace.specs.declared.report.FiberReport.{FiberReport}
+use Rattle.outcome_trace.specs.Stands.{IsOfSomeSchedule}
+use Rattle.steal_pool.specs.Private.Gathered.{AreLines, IsLeast}
+use Rattle.steal_pool.specs.Gathering.{IsLawful}
+use Rattle.steal_pool.proofs.Meeting.{each_home, gathered_report}
+use Rattle.steal_pool.proofs.Taking.{missing}
+use Rattle.steal_pool.proofs.gathering.gather.Goals as goal
+
+pub meet-requires : goal.meet-requires
+meet-requires c = each_home c.args.registry.now c.args.code.now c.args.tasks.items c.requires
+
+pub returns-in_err-fibers-clause-lost : goal.returns-in_err-fibers-clause-lost
+returns-in_err-fibers-clause-lost c =
+    let p = err_from_is_err_and c.from_residual-in_err-fibers.result c.from_residual-in_err-fibers.ensures.1 in
+    rw (p.1, p.2) (elim c.in_err-fibers.ensures.lost [
+      | inl e ↦ inl e
+      | inr l ↦ inr (
+        l.0,
+        l.1,
+        missing c.args.registry.now c.args.tasks.items c.in_ok-met.met c.born-born.new.pass c.in_ok-met.configs.items c.born-born.result l.0 c.in_ok-met.ensures.home c.in_ok-met.ensures.taken c.born-born.ensures.counted
+            (subst (λ (s : List Fiber). IsLeast s c.born-born.result l.0) c.as_slice.ensures.value l.2),
+      )
+    ])
+
+pub returns-clause-schedule : goal.returns-clause-schedule
+returns-clause-schedule c =
+    subst (λ (l : List FiberReport). IsOfSomeSchedule c.args.code.now c.args.registry.now.limits record { fibers = l }) (sym c.new.ensures)
+    (gathered_report c.args.registry.now c.args.code.now c.in_ok-met.met c.in_ok-met.configs.items c.born-born.result c.born-born.new.pass c.in_ok-fibers.fibers.items (c.in_ok-met.ensures.gathered c.args.code.now c.requires) c.born-born.ensures.counted
+    (subst (λ (s : List Fiber). AreLines s c.born-born.result c.in_ok-fibers.fibers.items) c.as_slice.ensures.value c.in_ok-fibers.ensures.lines))
+
+pub returns-clause-lawful : goal.returns-clause-lawful
+returns-clause-lawful c = subst (λ (l : List FiberReport). All IsLawful l) (sym c.new.ensures) c.in_ok-fibers.ensures.lawful

@@ -1,0 +1,51 @@
+-- What is gathered from tasks on the way to a report.
+use Rattle.std.specs.Prelude.{◌≡◌, ◌≢◌, ◌⊎◌, ℕ, ◌<◌, List, length, map, Some}
+use Rattle.std.specs.List.{slice_get}
+use mathlib.Core.List.{IsPrefix}
+use Rattle.derived_ops.specs.Tree.{Tree}
+use Rattle.fiber_frames.specs.Fiber.{Fiber}
+use Rattle.cell_registry.specs.Passes.{IsOf, IsPass, PassView, RegistryView}
+use Rattle.cell_registry.specs.Rule.{Has}
+use Rattle.outcome_trace.specs.declared.report.FiberReport.{FiberReport}
+use Rattle.outcome_trace.specs.Core.{fiber_report}
+use Rattle.outcome_trace.specs.Stands.{Stands}
+use Rattle.fiber_poll.specs.Tasks.{TaskView}
+
+-- the task is at home at this registry
+abbrev pub IsAtHome : RegistryView → TaskView → Type 0
+IsAtHome r t = t.home ≡ r
+
+-- the pass has met the passes of these states' tasks
+pub record Gathered (r : RegistryView) (code : Tree) (met : PassView) (configs : List Fiber) : Type 0 where
+  pub home : IsOf r met
+  pub pass : IsPass met
+  pub at : (i : ℕ) (s : Fiber) → slice_get configs i ≡ Some s → Has met.fibers s.number × Stands code met.seen s.number s
+
+-- of all these tasks the rest is still there, and the states of the others are these
+pub record Taken (all rest : List TaskView) (met : PassView) (configs : List Fiber) : Type 0 where
+  pub still : (i : ℕ) (t : TaskView) → slice_get rest i ≡ Some t → slice_get all i ≡ Some t
+  pub out : (i : ℕ) (t : TaskView) → slice_get all i ≡ Some t → (slice_get rest i ≡ Some t) ⊎ ((j : ℕ) × (slice_get configs j ≡ Some t.state) × IsPrefix t.pass.seen met.seen)
+  pub from : (j : ℕ) (s : Fiber) → slice_get configs j ≡ Some s → (i : ℕ) × (t : TaskView) × (slice_get all i ≡ Some t) × (t.state ≡ s)
+
+-- the state is one of these, and the fiber's
+pub record IsIn (s : Fiber) (configs : List Fiber) (f : ℕ) : Type 0 where
+  pub number : s.number ≡ f
+  pub place : ℕ
+  pub here : slice_get configs place ≡ Some s
+
+-- none of these states is the fiber's
+abbrev pub IsNowhere : List Fiber → ℕ → Type 0
+IsNowhere configs f = (place : ℕ) (s : Fiber) → slice_get configs place ≡ Some s → s.number ≢ f
+
+-- these are what the fibers below a number have come to
+pub record AreLines (configs : List Fiber) (born : ℕ) (lines : List FiberReport) : Type 0 where
+  pub finals : List Fiber
+  pub lines_are : lines ≡ map fiber_report finals
+  pub many : length finals ≡ born
+  pub each : (f : ℕ) (s : Fiber) → slice_get finals f ≡ Some s → IsIn s configs f
+
+-- the fiber f is the least one below a number that none of these states is of
+pub record IsLeast (configs : List Fiber) (born f : ℕ) : Type 0 where
+  pub below : f < born
+  pub none : IsNowhere configs f
+  pub before : (g : ℕ) → g < f → (s : Fiber) × IsIn s configs g

@@ -1,0 +1,114 @@
+//! A worker's place at the bay.
+ghost use Rattle.std.specs.Prelude.{◌≡◌, ◌<◌, IfOk, IfSome};
+ghost use Rattle.wait_bay.specs.Bays.{IsSeatOf};
+ghost use Rattle.wait_bay.specs.Names.{IsNamed};
+ghost use Rattle.steal_pool.specs.Runs.{ChildIsNamed};
+
+use cell_registry::RunError;
+use fiber_poll::{FiberTask, Topic, Turn};
+use std::marker::Model;
+use std::sync::Wait;
+use wait_bay::{Bay, BaySeat};
+
+/// A bay and one worker's seat at it, through which the worker takes tasks, moves them and puts them
+/// back. A number or a topic beyond the bay is `Lost`.
+#[derive(Drop)]
+pub struct Berth<'b, 'a> {
+    bay: &'b Bay<'a>,
+    seat: BaySeat<'a>,
+}
+
+impl<'b, 'a> Model for Berth<'b, 'a> {
+    ghost use Rattle.std.specs.Coded.{codes};
+    ghost use Rattle.derived_ops.specs.Stored.{tree_code};
+    ghost use Rattle.atomic_table.specs.Seated.{table_id_coded};
+    ghost use Rattle.wait_bay.specs.Bays.{BayView, IsSeatOf};
+
+    ghost Value = { BayView };
+
+    ghost coded = { Prim.hlevel (codes, tree_code, table_id_coded) };
+
+    ghost view = { λ b. b.bay.now };
+
+    ghost invariant = { λ b. IsSeatOf b.bay.now b.seat };
+}
+
+impl<'b, 'a> Berth<'b, 'a> {
+    /// A place at this bay.
+    pub fn new(bay: &'b Bay<'a>, seat: BaySeat<'a>) -> Berth<'b, 'a>
+        requires here { IsSeatOf bay.now seat }
+        ensures { result ≡ bay.now }
+    {
+        Berth { bay, seat }
+    }
+
+    /// Takes the task of a fiber.
+    pub fn take(&mut self, rt: &impl Wait, number: u16) -> Result<FiberTask<'a>, RunError>
+        ensures same { self.new ≡ self.old }
+        ensures own { IfOk result (λ t. t.state.number ≡ number) }
+        ensures named { IfOk result (IsNamed self.old.named) }
+    {
+        if number >= self.bay.fibers() {
+            return Err(RunError::Lost(number));
+        }
+        match self.bay.take(rt, &mut self.seat, number) {
+            Some(task) => Ok(task),
+            None => Err(RunError::Lost(number)),
+        }
+    }
+
+    /// Puts a task back. Answers whether its number is to be queued.
+    pub fn put(
+        &mut self,
+        rt: &impl Wait,
+        task: FiberTask<'a>,
+        ready: bool,
+    ) -> Result<bool, RunError>
+        requires named { IsNamed self.old.named task }
+        ensures same { self.new ≡ self.old }
+    {
+        let number = task.number();
+        if number >= self.bay.fibers() {
+            return Err(RunError::Lost(number));
+        }
+        match self.bay.put(rt, &mut self.seat, number, task, ready) {
+            Ok(queued) => Ok(queued),
+            Err(_) => Err(RunError::Lost(number)),
+        }
+    }
+
+    /// Makes a turn of a task of this bay.
+    pub fn turn(&self, task: &mut FiberTask<'a>, budget: u32) -> Result<Turn<'a>, RunError>
+        requires named { IsNamed self.now.named task.old }
+        requires budget { 1 < budget }
+        ensures named { IfOk result (λ _. IsNamed self.now.named task.new) }
+        ensures child { IfOk result (ChildIsNamed self.now.named) }
+    {
+        task.turn(budget)
+    }
+
+    /// Wakes a fiber. Answers whether its number is to be queued.
+    pub fn wake(&self, rt: &impl Wait, number: u16) -> Result<bool, RunError> {
+        if number >= self.bay.fibers() {
+            return Err(RunError::Lost(number));
+        }
+        Ok(self.bay.wake(rt, number))
+    }
+
+    /// Notes that a fiber waits for a topic.
+    pub fn register(&self, rt: &impl Wait, topic: Topic, number: u16) -> Result<(), RunError> {
+        if !self.bay.has(topic) {
+            return Err(RunError::Lost(number));
+        }
+        self.bay.register(rt, topic, number)?;
+        Ok(())
+    }
+
+    /// The fibers that wait for a topic of this fiber's turn. Nobody waits for it from then on.
+    pub fn drain(&self, rt: &impl Wait, topic: Topic, number: u16) -> Result<Vec<u16>, RunError> {
+        if !self.bay.has(topic) {
+            return Err(RunError::Lost(number));
+        }
+        Ok(self.bay.drain_topic(rt, topic))
+    }
+}

@@ -1,0 +1,91 @@
+//! The workers before they start.
+ghost use Rattle.std.specs.Prelude.{◌<◌};
+ghost use Rattle.wait_bay.specs.Bays.{IsSeatOf};
+
+use crate::berth::Berth;
+use crate::deque::{ReadyDeque, Victim};
+use crate::idle::{Bunk, Idle};
+use crate::inlet::{Inlet, InletEnd};
+use crate::queues::Queues;
+use crate::worker::Worker;
+use std::alloc::{AllocError, Global};
+use wait_bay::{Bay, BaySeat};
+
+// For how many numbers a worker's queue has room at first.
+const ROOM: usize = 64;
+
+/// The workers before they start, and where they will sleep.
+#[derive(Drop)]
+pub struct Crew<'q, 'b, 'a> {
+    pub workers: Vec<Worker<'q, 'b, 'a>>,
+    pub idle: Idle,
+}
+
+impl<'q, 'b, 'a> Crew<'q, 'b, 'a> {
+    /// So many workers of this bay, with a queue each, and this inlet.
+    pub fn new(
+        alloc: Global,
+        bay: &'b Bay<'a>,
+        seat: BaySeat<'a>,
+        inlet: &'q Inlet,
+        workers: u8,
+    ) -> Result<Crew<'q, 'b, 'a>, AllocError>
+        requires here { IsSeatOf bay.now seat }
+        requires some { 0 < bay.now.fibers }
+    {
+        let mut seat = seat;
+        let deques = deques(alloc, workers)?;
+        let ends = ends(alloc, deques.as_slice())?;
+        let mut hired = Vec::new(alloc);
+        let mut bunks = Vec::new(alloc);
+        let mut number = 0u8;
+        for (own, victims) in deques.into_iter().zip(ends) {
+            let queues = Queues {
+                own,
+                victims,
+                inlet: InletEnd::of(inlet),
+            };
+            let berth = Berth::new(bay, bay.split(&mut seat));
+            let (worker, bunk) = Worker::new(alloc, number, queues, berth)?;
+            hired.push(worker)?;
+            bunks.push(bunk)?;
+            number = number.wrapping_add(1);
+        }
+        Ok(Crew {
+            workers: hired,
+            idle: Idle::new(bunks),
+        })
+    }
+}
+
+// So many empty queues.
+fn deques(alloc: Global, workers: u8) -> Result<Vec<ReadyDeque>, AllocError> {
+    let mut deques = Vec::new(alloc);
+    for _ in 0..workers {
+        deques.push(ReadyDeque::new(alloc, ROOM)?)?;
+    }
+    Ok(deques)
+}
+
+// For each queue the ends of all others.
+fn ends(alloc: Global, deques: &[ReadyDeque]) -> Result<Vec<Vec<Victim>>, AllocError> {
+    let mut ends = Vec::new(alloc);
+    for own in 0..deques.len() {
+        let (before, behind) = deques.split_at(own);
+        ends.push(victims(alloc, before, behind)?)?;
+    }
+    Ok(ends)
+}
+
+// Ends of all queues but the first one of `behind`, from that one on.
+fn victims(
+    alloc: Global,
+    before: &[ReadyDeque],
+    behind: &[ReadyDeque],
+) -> Result<Vec<Victim>, AllocError> {
+    let mut victims = Vec::new(alloc);
+    for deque in behind.iter().skip(1).chain(before.iter()) {
+        victims.push(deque.victim()?)?;
+    }
+    Ok(victims)
+}

@@ -1,0 +1,78 @@
+//! How what workers know of the first fault comes back to who answers.
+ghost use Rattle.std.specs.Prelude.{◌≡◌, ℕ};
+ghost use Rattle.once_cell.specs.Once.{cell_name};
+
+use crate::laws;
+use cell_registry::RunError;
+use once_cell::race::{Note, OnceBox};
+use std::marker::{Brand, PhantomData};
+use std::thread::{JoinHandle, Threads};
+
+/// Names the cell of a run's first fault, so that a type can say that a note is of it.
+pub trait FaultCell {
+    ghost name: { ℕ };
+}
+
+impl FaultCell for Brand {
+    ghost name = { 0 };
+}
+
+/// The cell of a run's first fault.
+#[derive(Drop)]
+pub struct FirstFault<'r, C: FaultCell> {
+    pub cell: &'r OnceBox<RunError>,
+    of: PhantomData<C>,
+    ghost named: { cell_name cell.now ≡ C.name },
+}
+
+impl<'r, C: FaultCell> FirstFault<'r, C> {
+    /// The first fault that stands in this cell.
+    pub fn of(cell: &'r OnceBox<RunError>) -> FirstFault<'r, C>
+        requires { cell_name cell.now ≡ C.name }
+        ensures { result.cell ≡ cell.entry }
+    {
+        FirstFault {
+            cell,
+            of: PhantomData,
+        }
+    }
+
+    /// Whether a worker met a fault.
+    pub fn is_known(&self) -> bool {
+        self.cell.get().is_some()
+    }
+
+    /// What a worker knows that has met this fault, or `None` where it met none.
+    pub fn learned(&self, met: Option<Box<RunError>>) -> Learned<C> {
+        let mut note = self.cell.note();
+        if let Some(fault) = met {
+            let _ = self.cell.set_as(fault, &mut note);
+        }
+        let _ = self.cell.get_as(&mut note);
+        Learned {
+            note,
+            of: PhantomData,
+        }
+    }
+
+    /// Waits for the workers to end, and answers the first fault that one of them met.
+    pub fn join_all<R: Threads>(
+        &self,
+        rt: &R,
+        threads: Vec<JoinHandle<Learned<C>>>,
+    ) -> Option<RunError> {
+        let mut mine = self.cell.note();
+        for thread in threads {
+            laws::learn(self.cell, &mut mine, thread.join(rt).note);
+        }
+        laws::first_fault(self.cell, &mut mine)
+    }
+}
+
+/// What a worker that has ended knows of the first fault.
+#[derive(Drop)]
+pub struct Learned<C: FaultCell> {
+    pub note: Note<RunError>,
+    of: PhantomData<C>,
+    ghost of_cell: { note.cell ≡ C.name },
+}

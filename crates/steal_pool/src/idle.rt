@@ -1,0 +1,108 @@
+//! Workers that have nothing to do.
+//!
+//! A worker whose queue is empty searches the others' queues for a while and then sleeps. A push
+//! wakes one sleeper, and none while somebody searches: a search that found something wakes the next
+//! sleeper where it was the last one. So a burst of pushes costs few wakes, and yet nobody sleeps
+//! beside a queue for long.
+//!
+//! No wake is lost. Every step is sequentially consistent. A worker lies down, gives up its search,
+//! and only then looks at all queues once more. So a push that comes before that look is seen by it,
+//! and one that comes after it finds the worker lying. And what a worker pushed on its own queue it
+//! serves itself at the latest.
+use crossbeam_utils::sync::Unparker;
+use std::sync::atomic::{AtomicBool, AtomicU64, Ordering};
+
+/// Where one worker sleeps.
+#[derive(Drop)]
+pub struct Bunk {
+    /// Whether the worker lies here, and nobody has called it up yet.
+    taken: AtomicBool,
+    unparker: Unparker,
+}
+
+impl Bunk {
+    /// An empty bunk of the worker that this wakes.
+    pub fn new(unparker: Unparker) -> Bunk {
+        Bunk {
+            taken: AtomicBool::new(false),
+            unparker,
+        }
+    }
+}
+
+/// Who searches and who sleeps.
+#[derive(Drop)]
+pub struct Idle {
+    searching: AtomicU64,
+    sleeping: AtomicU64,
+    bunks: Vec<Bunk>,
+}
+
+impl Idle {
+    /// Nobody searches or sleeps. The bunks are in the order of the workers.
+    pub fn new(bunks: Vec<Bunk>) -> Idle {
+        Idle {
+            searching: AtomicU64::new(0),
+            sleeping: AtomicU64::new(0),
+            bunks,
+        }
+    }
+
+    /// A number was queued. Wakes a worker, where one sleeps and none searches.
+    pub fn wake_one(&self) {
+        if self.sleeping.load(Ordering::SeqCst) == 0 || self.searching.load(Ordering::SeqCst) != 0 {
+            return;
+        }
+        for bunk in self.bunks.iter() {
+            if self.call_up(bunk) {
+                bunk.unparker.unpark();
+                return;
+            }
+        }
+    }
+
+    /// The run is over. Wakes all workers.
+    pub fn wake_all(&self) {
+        for bunk in self.bunks.iter() {
+            bunk.unparker.unpark();
+        }
+    }
+
+    /// A worker searches from now on.
+    pub fn begin_search(&self) {
+        self.searching.fetch_add(1, Ordering::SeqCst);
+    }
+
+    /// A worker found something. The last one to search leaves it to another to search on.
+    pub fn end_search(&self) {
+        if self.searching.fetch_sub(1, Ordering::SeqCst) == 1 {
+            self.wake_one();
+        }
+    }
+
+    /// A worker that searched lies down. It is to look at all queues once more before it sleeps.
+    pub fn lie_down(&self, worker: u8) {
+        self.sleeping.fetch_add(1, Ordering::SeqCst);
+        if let Some(bunk) = self.bunks.get(worker as usize) {
+            bunk.taken.store(true, Ordering::SeqCst);
+        }
+        self.searching.fetch_sub(1, Ordering::SeqCst);
+    }
+
+    /// A worker that lay searches again, whether somebody called it up or it woke by itself.
+    pub fn get_up(&self, worker: u8) {
+        if let Some(bunk) = self.bunks.get(worker as usize) {
+            self.call_up(bunk);
+        }
+    }
+
+    // Counts the worker of a bunk among those that search, if it lies there.
+    fn call_up(&self, bunk: &Bunk) -> bool {
+        if !bunk.taken.load(Ordering::SeqCst) || !bunk.taken.swap(false, Ordering::SeqCst) {
+            return false;
+        }
+        self.searching.fetch_add(1, Ordering::SeqCst);
+        self.sleeping.fetch_sub(1, Ordering::SeqCst);
+        true
+    }
+}

@@ -1,0 +1,33 @@
+//! Workers that run the fibers of a program on work-stealing queues, and what those have come to.
+//!
+//! The crate stands on tasks (`fiber_poll`), on the bay where they lie (`wait_bay`), on the core and
+//! its reports (`outcome_trace`), and on the kit's `crossbeam_deque` for the queues, `crossbeam_utils`
+//! for parking and `once_cell` for the first fault. [`run`] starts the workers. Each takes numbers of
+//! fibers from its queue, takes their tasks from the bay, makes turns of them and puts them back, until
+//! no fiber can go on. [`gather`] takes the tasks of one registry and one code, whoever moved them and
+//! in whatever order, and reads a report off them.
+//!
+//! It promises that every report is one that the core gives under some schedule. That wakes arrive and
+//! that workers run at once is tested only.
+#![tactic(auto)]
+
+mod berth;
+mod crew;
+mod deque;
+mod fault;
+mod gate;
+mod gathering;
+mod idle;
+mod inlet;
+pub mod laws;
+mod options;
+mod queues;
+mod running;
+mod serving;
+mod traffic;
+mod worker;
+
+pub use gate::{Gate, OpenGate};
+pub use gathering::gather;
+pub use options::Options;
+pub use running::run;

@@ -1,0 +1,40 @@
+//! How a run goes.
+ghost use Rattle.std.specs.Prelude.{◌≡◌};
+
+/// How a run goes. [`Options::new`] has the values by default.
+#[derive(Clone, Copy, Debug, PartialEq, Eq)]
+pub struct Options {
+    /// How many workers there are, each on a thread of its own: from 1 to 16, by default 4.
+    pub workers: u8,
+    /// How many fibers there may be, with fiber 0: from 1 to 1000, the default.
+    pub fibers: u16,
+    /// How many refs there may be: from 1 to 1000, the default.
+    pub refs: u16,
+    /// How many deferreds there may be: from 1 to 1000, the default.
+    pub deferreds: u16,
+    /// How often a fiber may change its own cell (mask, unmask, cut and end): from 1 to 262,143,
+    /// the default.
+    pub count: u32,
+    /// How many moves a turn has at most: from 2 to 10,000, by default 64.
+    pub budget: u32,
+    /// How many moves fiber 0 may make, and each other fiber with its parent's before it: from 1 to
+    /// 1,000,000, by default 100,000.
+    pub moves: u32,
+}
+
+impl Options {
+    /// The options by default.
+    pub fn new() -> Options
+        ensures { result ≡ record { workers = 4; fibers = 1000; refs = 1000; deferreds = 1000; count = 262143; budget = 64; moves = 100000 } }
+    {
+        Options {
+            workers: 4,
+            fibers: 1000,
+            refs: 1000,
+            deferreds: 1000,
+            count: 262_143,
+            budget: 64,
+            moves: 100_000,
+        }
+    }
+}

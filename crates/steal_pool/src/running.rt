@@ -1,0 +1,165 @@
+//! A run: the registry, the bay and the workers come and go, and what is left is gathered.
+ghost use Rattle.std.specs.Prelude.{◌≡◌, ◌<◌, All, IfErr, IfOk};
+ghost use Rattle.once_cell.specs.Once.{cell_name};
+ghost use Rattle.cell_registry.specs.Cells.{AreLimits};
+ghost use Rattle.derived_ops.specs.Expansion.{code_of};
+ghost use Rattle.derived_ops.specs.Reading.{source_of};
+ghost use Rattle.outcome_trace.specs.Stands.{IsOfSomeSchedule};
+ghost use Rattle.steal_pool.specs.Gathering.{IsLawful};
+ghost use Rattle.wait_bay.specs.Bays.{IsSeatOf};
+ghost use Rattle.steal_pool.specs.Runs.{IsFaultWithin, limits_of};
+
+use crate::crew::Crew;
+use crate::fault::{FaultCell, FirstFault, Learned};
+use crate::gate::Gate;
+use crate::gathering::gather;
+use crate::inlet::{InletEnd, empty_inlet};
+use crate::laws;
+use crate::options::Options;
+use crate::worker::{Shared, Worker};
+use cell_registry::{Registry, RunError};
+use derived_ops::expand;
+use effect_term::Program;
+use fiber_poll::first;
+use once_cell::race::OnceBox;
+use outcome_trace::Report;
+use std::alloc::Global;
+use std::marker::Brand;
+use std::sync::Wait;
+use std::sync::atomic::AtomicU64;
+use std::thread;
+use std::thread::{JoinHandle, Threads};
+use wait_bay::{Bay, BaySeat};
+
+/// Runs a program on worker threads, until no fiber can go on, and tells what each fiber has come
+/// to. A fiber that waits, or has used its moves, is unended. The report is one that the core gives
+/// under some schedule.
+///
+/// The first fault of a worker ends the run: `Full` and `Spent` as a turn answers them, `NoMemory`
+/// where there was none, for a push on a queue too, and `Lost` where a fiber's task wasn't where it
+/// should be. `NoWorker` is answered where no thread could be started; else the run goes on with those
+/// that were. No thread is left when it answers.
+pub fn run<R: Threads + Wait + Sync, G: Gate>(
+    rt: &R,
+    alloc: Global,
+    program: Program,
+    options: Options,
+    gate: &G,
+) -> Result<Report, RunError>
+    requires limits { AreLimits (limits_of options) }
+    requires budget { 1 < options.budget }
+    ensures schedule { IfOk result (λ report. IsOfSomeSchedule (code_of (source_of program)) (limits_of options) report) }
+    ensures lawful { IfOk result (λ report. All IsLawful report.fibers) }
+    ensures full { IfErr result (IsFaultWithin (limits_of options)) }
+{
+    match attempt(rt, alloc, &program, options, gate) {
+        Ok(report) => Ok(report),
+        Err(fault) => Err(laws::within(options, fault)),
+    }
+}
+
+// The registry and the bay of a run, and what the workers leave of it.
+fn attempt<R: Threads + Wait + Sync, G: Gate>(
+    rt: &R,
+    alloc: Global,
+    program: &Program,
+    options: Options,
+    gate: &G,
+) -> Result<Report, RunError>
+    requires limits { AreLimits (limits_of options) }
+    requires budget { 1 < options.budget }
+    ensures schedule { IfOk result (λ report. IsOfSomeSchedule (code_of (source_of program.now)) (limits_of options) report) }
+    ensures lawful { IfOk result (λ report. All IsLawful report.fibers) }
+{
+    let Options {
+        fibers,
+        refs,
+        deferreds,
+        count,
+        ..
+    } = options;
+    let code = expand(alloc, program)?;
+    let (registry, pass) = Registry::new(alloc, fibers, refs, deferreds, count)?;
+    let task = first(alloc, &registry, pass, &code, options.moves)?;
+    let named = Some((&registry, &code));
+    let (bay, mut seat) = Bay::new(alloc, fibers, deferreds, named)?;
+    if bay.put(rt, &mut seat, 0, task, true).is_err() {
+        return Err(RunError::Lost(0));
+    }
+    match drive(rt, alloc, &bay, seat, options, gate)? {
+        Some(fault) => Err(fault),
+        None => {
+            let tasks = bay.empty()?;
+            gather(alloc, &registry, &code, tasks)
+        }
+    }
+}
+
+// Has workers run the tasks of a bay from fiber 0 on, and answers the first fault, if there was one.
+fn drive<'b, 'a, R: Threads + Wait + Sync, G: Gate>(
+    rt: &R,
+    alloc: Global,
+    bay: &'b Bay<'a>,
+    seat: BaySeat<'a>,
+    options: Options,
+    gate: &G,
+) -> Result<Option<RunError>, RunError>
+    requires here { IsSeatOf bay.now seat }
+    requires some { 0 < bay.now.fibers }
+    requires budget { 1 < options.budget }
+{
+    let inlet = empty_inlet(alloc)?;
+    if InletEnd::of(&inlet).push(rt, 0).is_err() {
+        return Err(RunError::NoMemory);
+    }
+    let crew = Crew::new(alloc, bay, seat, &inlet, options.workers)?;
+    let cell = OnceBox::new(alloc);
+    hire::<Brand, R, G>(rt, alloc, crew, &cell, options.budget, gate)
+}
+
+// Has the workers of a crew run, with this cell for their first fault, and answers that fault, if
+// there was one.
+fn hire<'q, 'b, 'a, C: FaultCell + Send + Sync, R: Threads + Wait + Sync, G: Gate>(
+    rt: &R,
+    alloc: Global,
+    crew: Crew<'q, 'b, 'a>,
+    cell: &OnceBox<RunError>,
+    budget: u32,
+    gate: &G,
+) -> Result<Option<RunError>, RunError>
+    requires cell { cell_name cell.now ≡ C.name }
+    requires budget { 1 < budget }
+{
+    let Crew { workers, idle } = crew;
+    let threads = Vec::with_capacity(alloc, workers.len())?;
+    let shared = Shared::<G, C> {
+        gate,
+        budget,
+        active: AtomicU64::new(1),
+        idle,
+        first_fault: FirstFault::of(cell),
+    };
+    start_all(rt, &shared, workers, threads)
+}
+
+// Starts a thread for each worker, and answers the first fault, if there was one, once all have
+// ended. There is room for all threads.
+fn start_all<'q, 'b, 'a, C: FaultCell + Send + Sync, R: Threads + Wait + Sync, G: Gate>(
+    rt: &R,
+    shared: &Shared<'_, '_, G, C>,
+    workers: Vec<Worker<'q, 'b, 'a>>,
+    threads: Vec<JoinHandle<Learned<C>>>,
+) -> Result<Option<RunError>, RunError> {
+    thread::scope(thread::scope_env(), rt, move |scope| {
+        let mut threads = threads;
+        for worker in workers {
+            if let Ok(thread) = scope.spawn(move || shared.work(rt, worker)) {
+                let _ = threads.push(thread);
+            }
+        }
+        if threads.is_empty() {
+            return Err(RunError::NoWorker);
+        }
+        Ok(shared.first_fault.join_all(rt, threads))
+    })
+}

@@ -1,0 +1,152 @@
+//! What a worker does with a number: it takes the task, makes turns of it, and puts it back.
+ghost use Rattle.std.specs.Prelude.{◌≡◌, ◌<◌};
+ghost use Rattle.wait_bay.specs.Names.{IsNamed};
+
+use crate::berth::Berth;
+use crate::fault::FaultCell;
+use crate::gate::Gate;
+use crate::queues::Queues;
+use crate::worker::Shared;
+use cell_registry::RunError;
+use fiber_poll::{FiberTask, Topic, Turn};
+use std::sync::Wait;
+
+impl<'g, 'f, G: Gate, C: FaultCell> Shared<'g, 'f, G, C> {
+    /// Makes turns of a fiber's task until it is put back. Answers the number that the worker took
+    /// from its own queue meanwhile, and is to serve next.
+    ///
+    /// A fiber that could go on at once is put back only where another number is in the worker's
+    /// queue: that one is taken, and this one is put last. Else the worker goes on with it.
+    pub fn serve<'b, 'a, R: Wait>(
+        &self,
+        rt: &R,
+        worker: u8,
+        queues: &mut Queues<'_>,
+        berth: &mut Berth<'b, 'a>,
+        number: u16,
+    ) -> Result<Option<u16>, RunError>
+        ensures same { berth.new ≡ berth.old }
+    {
+        let mut task = berth.take(rt, number)?;
+        let mut waited = None;
+        for _ in rt.forever() {
+            if self.first_fault.is_known() {
+                return Ok(None);
+            }
+            self.gate.enter(worker, number);
+            let before = waited;
+            waited = None;
+            match berth.turn(&mut task, self.budget)? {
+                Turn::Ended(_) => return self.end(rt, queues, berth, task, number),
+                Turn::Waits(topic) => {
+                    if before == Some(topic) {
+                        return self.rest(rt, queues, berth, task, number);
+                    }
+                    berth.register(rt, topic, number)?;
+                    waited = Some(topic);
+                    continue;
+                }
+                Turn::OutOfMoves => return self.rest(rt, queues, berth, task, number),
+                Turn::Cedes => {}
+                Turn::Started(child) => self.start(rt, queues, berth, child)?,
+                Turn::WakeFiber(other) => self.wake(rt, queues, berth, other)?,
+                Turn::WakeTopic(topic) => self.wake_all_of(rt, queues, berth, topic, number)?,
+            }
+            if let Some(next) = queues.own.take() {
+                berth.put(rt, task, true)?;
+                self.pass_on(queues, number)?;
+                return Ok(Some(next));
+            }
+        }
+        unreachable!()
+    }
+
+    // Puts back the task of a fiber that can't go on. It is queued again where it was woken
+    // meanwhile.
+    fn rest<'b, 'a, R: Wait>(
+        &self,
+        rt: &R,
+        queues: &mut Queues<'_>,
+        berth: &mut Berth<'b, 'a>,
+        task: FiberTask<'a>,
+        number: u16,
+    ) -> Result<Option<u16>, RunError>
+        requires named { IsNamed berth.old.named task }
+        ensures same { berth.new ≡ berth.old }
+    {
+        if berth.put(rt, task, false)? {
+            self.pass_on(queues, number)?;
+        } else {
+            self.release();
+        }
+        Ok(None)
+    }
+
+    // Puts back the task of a fiber that has ended, and wakes all that wait for its end. The number is
+    // held until they are queued.
+    fn end<'b, 'a, R: Wait>(
+        &self,
+        rt: &R,
+        queues: &mut Queues<'_>,
+        berth: &mut Berth<'b, 'a>,
+        task: FiberTask<'a>,
+        number: u16,
+    ) -> Result<Option<u16>, RunError>
+        requires named { IsNamed berth.old.named task }
+        ensures same { berth.new ≡ berth.old }
+    {
+        let woken = berth.put(rt, task, false)?;
+        self.wake_all_of(rt, queues, berth, Topic::Fiber(number), number)?;
+        if woken {
+            self.pass_on(queues, number)?;
+        } else {
+            self.release();
+        }
+        Ok(None)
+    }
+
+    // Puts a new fiber's task into its slot, and queues it.
+    fn start<'b, 'a, R: Wait>(
+        &self,
+        rt: &R,
+        queues: &mut Queues<'_>,
+        berth: &mut Berth<'b, 'a>,
+        child: FiberTask<'a>,
+    ) -> Result<(), RunError>
+        requires named { IsNamed berth.old.named child }
+        ensures same { berth.new ≡ berth.old }
+    {
+        let number = child.number();
+        berth.put(rt, child, true)?;
+        self.queue(queues, number)
+    }
+
+    // Wakes a fiber.
+    fn wake<'b, 'a, R: Wait>(
+        &self,
+        rt: &R,
+        queues: &mut Queues<'_>,
+        berth: &Berth<'b, 'a>,
+        other: u16,
+    ) -> Result<(), RunError> {
+        if berth.wake(rt, other)? {
+            self.queue(queues, other)?;
+        }
+        Ok(())
+    }
+
+    // Wakes all that wait for a topic of this fiber's turn.
+    fn wake_all_of<'b, 'a, R: Wait>(
+        &self,
+        rt: &R,
+        queues: &mut Queues<'_>,
+        berth: &Berth<'b, 'a>,
+        topic: Topic,
+        number: u16,
+    ) -> Result<(), RunError> {
+        for waiter in berth.drain(rt, topic, number)? {
+            self.wake(rt, queues, berth, waiter)?;
+        }
+        Ok(())
+    }
+}

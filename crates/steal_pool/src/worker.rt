@@ -1,0 +1,212 @@
+//! One worker: where its numbers come from, and its life.
+ghost use Rattle.std.specs.Prelude.{◌<◌};
+
+use crate::berth::Berth;
+use crate::fault::{FaultCell, FirstFault, Learned};
+use crate::gate::Gate;
+use crate::idle::{Bunk, Idle};
+use crate::laws;
+use crate::queues::Queues;
+use cell_registry::RunError;
+use crossbeam_utils::Backoff;
+use crossbeam_utils::sync::Parker;
+use std::alloc::{AllocError, Global};
+use std::mem::drop;
+use std::sync::Wait;
+use std::sync::atomic::{AtomicU64, Ordering};
+
+// How often an idle worker looks at all queues before it sleeps, which takes some microseconds.
+const LOOKS: u32 = 10;
+
+/// One worker: its queues, its place at the bay, where it sleeps, and room for the fault that it may
+/// meet.
+#[derive(Drop)]
+pub struct Worker<'q, 'b, 'a> {
+    number: u8,
+    queues: Queues<'q>,
+    berth: Berth<'b, 'a>,
+    parker: Parker,
+    room: Box<RunError>,
+}
+
+impl<'q, 'b, 'a> Worker<'q, 'b, 'a> {
+    /// A worker, and its bunk. Answers `AllocError` where there is no memory for them.
+    pub fn new(
+        alloc: Global,
+        number: u8,
+        queues: Queues<'q>,
+        berth: Berth<'b, 'a>,
+    ) -> Result<(Worker<'q, 'b, 'a>, Bunk), AllocError> {
+        let parker = Parker::new(alloc)?;
+        let bunk = Bunk::new(parker.unparker().clone()?);
+        let room = Box::new(alloc, RunError::NoWorker).map_err(AllocError::from)?;
+        let worker = Worker {
+            number,
+            queues,
+            berth,
+            parker,
+            room,
+        };
+        Ok((worker, bunk))
+    }
+}
+
+/// What the workers share, beside the bay and the queues.
+pub struct Shared<'g, 'f, G: Gate, C: FaultCell> {
+    pub gate: &'g G,
+    pub budget: u32,
+    /// How many numbers are queued or held.
+    pub active: AtomicU64,
+    pub idle: Idle,
+    pub first_fault: FirstFault<'f, C>,
+    ghost some: { 1 < budget },
+}
+
+impl<'g, 'f, G: Gate, C: FaultCell> Drop for Shared<'g, 'f, G, C> {
+    fn drop(self) {
+        let Self {
+            gate: _,
+            budget: _,
+            active: _,
+            idle,
+            first_fault: _,
+        } = self;
+        drop(idle);
+    }
+}
+
+// What a look around tells a worker.
+#[derive(Clone, Copy)]
+enum Look {
+    Found(u16),
+    Nothing,
+    Over,
+}
+
+impl<'g, 'f, G: Gate, C: FaultCell> Shared<'g, 'f, G, C> {
+    /// Works until the run is over, and answers what is known of the first fault then.
+    pub fn work<'q, 'b, 'a, R: Wait>(&self, rt: &R, worker: Worker<'q, 'b, 'a>) -> Learned<C> {
+        let Worker {
+            number: worker,
+            mut queues,
+            mut berth,
+            parker,
+            mut room,
+        } = worker;
+        let mut next = None;
+        for _ in rt.forever() {
+            let Some(number) = self.next(rt, worker, next, &mut queues, &parker) else {
+                break;
+            };
+            match self.serve(rt, worker, &mut queues, &mut berth, number) {
+                Ok(following) => next = following,
+                Err(fault) => {
+                    *room = fault;
+                    let learned = self.first_fault.learned(Some(room));
+                    self.idle.wake_all();
+                    return learned;
+                }
+            }
+        }
+        self.first_fault.learned(None)
+    }
+
+    // The number to serve next: the one that is in the hand, the first of the worker's own queue, or
+    // one that it searches for. `None` once the run is over.
+    fn next<R: Wait>(
+        &self,
+        rt: &R,
+        worker: u8,
+        hand: Option<u16>,
+        queues: &mut Queues<'_>,
+        parker: &Parker,
+    ) -> Option<u16> {
+        if hand.is_some() {
+            return hand;
+        }
+        match queues.own.take() {
+            Some(number) => Some(number),
+            None => self.search(rt, worker, queues, parker),
+        }
+    }
+
+    // Searches for a number, and sleeps where there is none for a while. `None` once the run is over.
+    fn search<R: Wait>(
+        &self,
+        rt: &R,
+        worker: u8,
+        queues: &mut Queues<'_>,
+        parker: &Parker,
+    ) -> Option<u16> {
+        self.idle.begin_search();
+        for _ in rt.forever() {
+            match self.look_on(rt, queues) {
+                Look::Found(number) => {
+                    self.idle.end_search();
+                    return Some(number);
+                }
+                Look::Over => return None,
+                Look::Nothing => {}
+            }
+            self.idle.lie_down(worker);
+            let last = self.look(rt, queues);
+            if let Look::Nothing = last {
+                parker.park(rt);
+            }
+            self.idle.get_up(worker);
+            if let Look::Found(number) = last {
+                self.idle.end_search();
+                return Some(number);
+            }
+        }
+        unreachable!()
+    }
+
+    // Looks around for a while.
+    fn look_on<R: Wait>(&self, rt: &R, queues: &mut Queues<'_>) -> Look {
+        let backoff = Backoff::new();
+        for _ in 0..LOOKS {
+            let look = self.look(rt, queues);
+            let Look::Nothing = look else {
+                return look;
+            };
+            backoff.snooze();
+        }
+        Look::Nothing
+    }
+
+    // Looks at all queues once.
+    fn look<R: Wait>(&self, rt: &R, queues: &mut Queues<'_>) -> Look {
+        if self.active.load(Ordering::SeqCst) == 0 || self.first_fault.is_known() {
+            return Look::Over;
+        }
+        match queues.steal(rt) {
+            Some(number) => Look::Found(number),
+            None => Look::Nothing,
+        }
+    }
+
+    /// Queues a number that was neither queued nor held.
+    pub fn queue(&self, queues: &mut Queues<'_>, number: u16) -> Result<(), RunError> {
+        self.active.fetch_add(1, Ordering::SeqCst);
+        self.pass_on(queues, number)
+    }
+
+    /// Queues a number that was held.
+    pub fn pass_on(&self, queues: &mut Queues<'_>, number: u16) -> Result<(), RunError> {
+        match queues.own.push(number) {
+            Ok(()) => {
+                self.idle.wake_one();
+                Ok(())
+            }
+            Err(_) => Err(RunError::NoMemory),
+        }
+    }
+
+    /// Gives up a number that was held. The run is over once none is queued or held.
+    pub fn release(&self) {
+        if laws::was_last(self.active.fetch_sub(1, Ordering::SeqCst)) {
+            self.idle.wake_all();
+        }
+    }
+}

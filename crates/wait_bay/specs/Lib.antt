@@ -1,0 +1,3 @@
+pub mod Names
+pub mod Rule
+pub mod Bays

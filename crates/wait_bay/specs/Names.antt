@@ -1,0 +1,26 @@
+-- What a bay names, and what may lie in its slots.
+use Rattle.std.specs.Prelude.{◌≡◌, ℕ, Option, Some, None}
+use Rattle.derived_ops.specs.Tree.{Tree}
+use Rattle.cell_registry.specs.Passes.{RegistryView}
+use Rattle.fiber_poll.specs.Tasks.{IsTaskOf, TaskView}
+use denote.Bor.{Bor}
+
+-- a registry, and the code of a program
+pub record Named : Type 0 where
+  pub home : RegistryView
+  pub code : Tree
+
+-- what is named by references to a registry and a code, if there are any
+abbrev pub named_of : Option (Bor RegistryView × Bor Tree) → Option Named
+named_of None = None
+named_of (Some r) = Some record { home = r.0.now; code = r.1.now }
+
+-- the task is one of the registry and the code that are named, if any are
+abbrev pub IsNamed : Option Named → TaskView → Type 0
+IsNamed None t = Unit {0}
+IsNamed (Some n) t = IsTaskOf n.home n.code t
+
+-- what may lie in the slot of the fiber f: nothing, or that fiber's task, which is of what is named
+abbrev pub MayLie : Option Named → ℕ → Option TaskView → Type 0
+MayLie named f None = Unit {0}
+MayLie named f (Some t) = (t.state.number ≡ f) × IsNamed named t

@@ -1,0 +1,146 @@
+//! The bay: its slots and lists, and what is done with the lists.
+ghost use Rattle.std.specs.Prelude.{◌≡◌, ◌<◌, ◌↔◌, IfOk, IsTrue, vec_len};
+ghost use Rattle.wait_bay.specs.Names.{named_of};
+ghost use Rattle.wait_bay.specs.Bays.{IsSeatOf, IsWithin};
+
+use crate::laws::{Slot, Waiters};
+use crate::rule::{BayRule, Knowledge, Names, Same};
+use crate::seat::BaySeat;
+use atomic_table::Table;
+use cell_registry::Registry;
+use derived_ops::Code;
+use fiber_poll::{FiberTask, Topic};
+use std::alloc::{AllocError, Global};
+use std::marker::Model;
+use std::sync::{Mutex, Wait};
+
+/// The tasks of fibers that no worker has, and the lists of those that wait, which workers on any
+/// threads share.
+///
+/// A fiber is in one of three states: its task is in its slot and its number is on no queue, its
+/// task is in its slot and its number is queued once, or a worker has the task. The calls that put
+/// and wake answer whether the caller is to queue the number, so that it is never queued twice.
+#[derive(Drop)]
+pub struct Bay<'a> {
+    pub(crate) alloc: Global,
+    pub(crate) count: u16,
+    pub(crate) slots: Vec<Mutex<Slot>>,
+    fibers: Vec<Mutex<Waiters>>,
+    deferreds: Vec<Mutex<Waiters>>,
+    pub(crate) table: Table<Option<FiberTask<'a>>, Knowledge, Names<'a>, BayRule, Global>,
+}
+
+impl<'a> Model for Bay<'a> {
+    ghost use Rattle.std.specs.Prelude.{vec_len, ◌≡◌};
+    ghost use Rattle.std.specs.Coded.{codes};
+    ghost use Rattle.derived_ops.specs.Stored.{tree_code};
+    ghost use Rattle.atomic_table.specs.Seated.{table_id_coded};
+    ghost use Rattle.wait_bay.specs.Bays.{BayView};
+
+    ghost Value = { BayView };
+
+    ghost coded = { Prim.hlevel (codes, tree_code, table_id_coded) };
+
+    ghost view = { λ b. record { table = b.table.shared.table_id; named = b.table.shared.key; fibers = b.count; deferreds = vec_len b.deferreds } };
+
+    ghost invariant = { λ b. (vec_len b.fibers ≡ b.count) × (vec_len b.slots ≡ b.count) × (b.table.shared.table_id.words ≡ b.count) × (b.table.shared.table_id.slots ≡ b.count) };
+}
+
+impl<'a> Bay<'a> {
+    /// A bay with a slot for each number of a fiber below `fibers` and a list for each fiber and
+    /// each deferred below `deferreds`, all empty, and its first seat. It names this registry and
+    /// this code, or nothing. Answers `AllocError` where there is no memory for it.
+    pub fn new(
+        alloc: Global,
+        fibers: u16,
+        deferreds: u16,
+        named: Option<(&'a Registry, &'a Code)>,
+    ) -> Result<(Bay<'a>, BaySeat<'a>), AllocError>
+        ensures fibers { IfOk result (λ b. b.0.fibers ≡ fibers) }
+        ensures deferreds { IfOk result (λ b. b.0.deferreds ≡ deferreds) }
+        ensures named { IfOk result (λ b. b.0.named ≡ named_of named.entry) }
+        ensures seat { IfOk result (λ b. IsSeatOf b.0 b.1) }
+    {
+        let mut slots = Vec::new(alloc);
+        for _ in 0..fibers {
+            slots.push(Mutex::new(Slot::new()))?;
+        }
+        let words = Vec::from_elem(alloc, 0u64, usize::from(fibers))?;
+        let names = Names { named };
+        let (table, seat) = Table::vacant(alloc, words.as_slice(), usize::from(fibers), &names)?;
+        let bay = Bay {
+            alloc,
+            count: fibers,
+            slots,
+            fibers: lists(alloc, fibers)?,
+            deferreds: lists(alloc, deferreds)?,
+            table,
+        };
+        Ok((bay, BaySeat { seat }))
+    }
+
+    /// How many fibers the bay has slots for.
+    pub fn fibers(&self) -> u16
+        ensures { result ≡ self.now.fibers }
+    {
+        self.count
+    }
+
+    /// Whether the bay has a list for the topic. `Never` needs none.
+    pub fn has(&self, topic: Topic) -> bool
+        ensures { IsTrue result ↔ IsWithin self.now topic }
+    {
+        match topic {
+            Topic::Fiber(f) => f < self.count,
+            Topic::Deferred(d) => usize::from(d) < self.deferreds.len(),
+            Topic::Never => true,
+        }
+    }
+
+    /// Another seat of this bay, for another worker. It costs one load of a word, so the bay has a
+    /// slot.
+    pub fn split(&self, seat: &mut BaySeat<'a>) -> BaySeat<'a>
+        requires here { IsSeatOf self.now seat.old }
+        requires some { 0 < self.now.fibers }
+        ensures same { seat.new ≡ seat.old }
+        ensures seat { result ≡ seat.old }
+    {
+        let seat = self.table.shared.split_seat::<Same>(&mut seat.seat);
+        BaySeat { seat }
+    }
+
+    /// Notes that a fiber waits for a topic. Who waits for `Never` is noted nowhere, since nobody
+    /// wakes it. Answers `AllocError` where there is no memory for it, and changes nothing then.
+    pub fn register(&self, rt: &impl Wait, topic: Topic, f: u16) -> Result<(), AllocError>
+        requires within { IsWithin self.now topic }
+    {
+        match topic {
+            Topic::Fiber(g) => self.fibers[g as usize].lock(rt).register(f),
+            Topic::Deferred(d) => self.deferreds[d as usize].lock(rt).register(f),
+            Topic::Never => Ok(()),
+        }
+    }
+
+    /// The fibers that wait for a topic, in the order in which they came. Nobody waits for it from
+    /// then on. Takes no memory.
+    pub fn drain_topic(&self, rt: &impl Wait, topic: Topic) -> Vec<u16>
+        requires within { IsWithin self.now topic }
+    {
+        match topic {
+            Topic::Fiber(g) => self.fibers[g as usize].lock(rt).drain(),
+            Topic::Deferred(d) => self.deferreds[d as usize].lock(rt).drain(),
+            Topic::Never => Vec::new(self.alloc),
+        }
+    }
+}
+
+// So many lists of nobody.
+fn lists(alloc: Global, count: u16) -> Result<Vec<Mutex<Waiters>>, AllocError>
+    ensures { IfOk result (λ v. vec_len v ≡ count) }
+{
+    let mut all = Vec::new(alloc);
+    for _ in 0..count {
+        all.push(Mutex::new(Waiters::new(alloc)))?;
+    }
+    Ok(all)
+}

@@ -1,0 +1,120 @@
+//! What is done under each lock of a bay, on what the lock keeps.
+ghost use Rattle.std.specs.Prelude.{◌≡◌, ◌≢◌, ◌++◌, ◌∷◌, [], ◌⊎◌, ◌↔◌, IfOk, IsErr, IsTrue, OnErr, OnOk, false, true};
+
+use std::alloc::{AllocError, Global};
+use std::marker::Model;
+use std::mem;
+
+/// What lies under the lock of a fiber.
+#[derive(Clone, Copy, Debug, PartialEq, Eq, Drop)]
+pub struct Slot {
+    /// Whether the fiber's task is here.
+    pub full: bool,
+    /// Whether the fiber's number was queued, or is to be once its task is put here.
+    pub woken: bool,
+}
+
+/// A task is in the slot already.
+#[derive(Clone, Copy, Debug, PartialEq, Eq, Drop)]
+pub struct IsFull;
+
+impl Slot {
+    /// The slot of a fiber that nobody has put or woken.
+    pub fn new() -> Slot
+        ensures { result ≡ record { full = false; woken = false } }
+    {
+        Slot {
+            full: false,
+            woken: false,
+        }
+    }
+
+    /// Takes in a task, and answers whether its number is to be queued: where it is `ready`, or a
+    /// wake came since it was taken. Refuses where a task is here already.
+    pub fn put(&mut self, ready: bool) -> Result<bool, IsFull>
+        ensures refused { IsErr result ↔ IsTrue self.old.full }
+        ensures unchanged { OnErr result (self.new ≡ self.old) }
+        ensures slot { IfOk result (λ queued. self.new ≡ record { full = true; woken = queued }) }
+        ensures queued { IfOk result (λ queued. IsTrue queued ↔ (IsTrue ready ⊎ IsTrue self.old.woken)) }
+    {
+        if self.full {
+            return Err(IsFull);
+        }
+        self.full = true;
+        self.woken = self.woken || ready;
+        Ok(self.woken)
+    }
+
+    /// Lets the task go, and with it the wakes so far. Answers whether one was here, and changes
+    /// nothing where none was.
+    pub fn take(&mut self) -> bool
+        ensures value { result ≡ self.old.full }
+        ensures taken { IsTrue result → self.new ≡ record { full = false; woken = false } }
+        ensures unchanged { self.old.full ≡ false → self.new ≡ self.old }
+    {
+        if !self.full {
+            return false;
+        }
+        self.full = false;
+        self.woken = false;
+        true
+    }
+
+    /// Notes a wake, and answers whether the number is to be queued: where the task is here and no
+    /// wake came before. A wake of a task that a worker has is told by the next `put`.
+    pub fn wake(&mut self) -> bool
+        ensures slot { self.new ≡ record self.old { woken = true } }
+        ensures value { IsTrue result ↔ ((self.old.woken ≡ false) × IsTrue self.old.full) }
+    {
+        if self.woken {
+            return false;
+        }
+        self.woken = true;
+        self.full
+    }
+}
+
+/// What lies under the lock of a topic: the fibers that wait for it, in the order in which they
+/// came.
+#[derive(Drop)]
+pub struct Waiters {
+    alloc: Global,
+    fibers: Vec<u16>,
+}
+
+impl Model for Waiters {
+    ghost use Rattle.std.specs.Prelude.{List, ℕ};
+
+    ghost Value = { List ℕ };
+
+    ghost view = { λ w. w.fibers.items };
+}
+
+impl Waiters {
+    /// A list of nobody. Takes no memory.
+    pub fn new(alloc: Global) -> Waiters
+        ensures { result ≡ [] }
+    {
+        Waiters {
+            alloc,
+            fibers: Vec::new(alloc),
+        }
+    }
+
+    /// Puts a fiber last. Answers `AllocError` where there is no memory for it, and changes nothing
+    /// then.
+    pub fn register(&mut self, fiber: u16) -> Result<(), AllocError>
+        ensures ok { OnOk result (self.new ≡ self.old ++ fiber ∷ []) }
+        ensures err { OnErr result (self.new ≡ self.old) }
+    {
+        self.fibers.push(fiber).map_err(|_| AllocError)
+    }
+
+    /// The list, of which nobody is left. Takes no memory.
+    pub fn drain(&mut self) -> Vec<u16>
+        ensures value { result.items ≡ self.old }
+        ensures none { self.new ≡ [] }
+    {
+        mem::replace(&mut self.fibers, Vec::new(self.alloc))
+    }
+}
