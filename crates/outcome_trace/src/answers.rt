@@ -15,8 +15,9 @@ use effect_term::{Program, TermError};
 use std::alloc::{AllocError, Global};
 use term_parse::{ParseError, parse};
 
-/// The program that a text spells, or why there is none.
-pub(crate) fn read_program(alloc: Global, text: &[u8]) -> Result<Program, Refused>
+/// The program that a text spells, or why there is none: the first fault of the text, or the first limit
+/// that its term goes past.
+pub fn read_program(alloc: Global, text: &[u8]) -> Result<Program, Refused>
     ensures program { IfOk result (λ t. reading text.now ≡ Ok (atoms_of t)) }
     ensures limits { IfOk result IsProgram }
     ensures refused { IfErr result (IsRefused text.now) }
@@ -31,9 +32,10 @@ pub(crate) fn read_program(alloc: Global, text: &[u8]) -> Result<Program, Refuse
     }
 }
 
-/// The answer to a text that is refused.
+/// The answer to a text that is refused: its line, with `Status::Refused`. `AllocError` where memory ran
+/// out, also where that is why there is no program.
 #[tactic(auto, using(crate::proofs::AnswerLemmas::text_told))]
-pub(crate) fn refusal(alloc: Global, refused: Refused) -> Result<Answer, AllocError>
+pub fn refusal(alloc: Global, refused: Refused) -> Result<Answer, AllocError>
     requires { IsOfText refused }
     ensures line { IfOk result (λ a. a.text.items ≡ line_of refused) }
     ensures status { IfOk result (λ a. a.status ≡ Status.Refused) }

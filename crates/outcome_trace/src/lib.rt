@@ -27,13 +27,13 @@ mod text_order;
 mod wish;
 mod wrapped;
 
-pub use answers::{CheckOrder, ShowOrder};
+pub use answers::{CheckOrder, ShowOrder, read_program, refusal};
 pub use cell_registry::Limits;
 pub use device::{ReadError, TextIn, TextOut, WriteFailed};
 pub use fault::TextFault;
 pub use lines::{Refused, line};
 pub use orders::{Order, obey, obey_text, tell_fault};
-pub use replay_texts::{ReplayOrder, replay_text};
+pub use replay_texts::{ReplayOrder, replay_text, report_answer};
 pub use report::{FiberReport, FiberReports, Marks, Report};
 pub use report_text::{print_report, text_of_report};
 pub use schedule::{MOST_ENTRIES, ScheduleError, read_schedule};

@@ -36,8 +36,9 @@ fn report_status(report: &Report) -> Status
     }
 }
 
-/// The answer where the run came to a report.
-fn report_answer(alloc: Global, report: &Report) -> Result<Answer, AllocError>
+/// The answer where a run came to a report: its text, with the status of fiber 0's end. `AllocError`
+/// where memory ran out.
+pub fn report_answer(alloc: Global, report: &Report) -> Result<Answer, AllocError>
     ensures line { IfOk result (λ a. a.text.items ≡ text_of_fibers report.now.fibers) }
     ensures status { IfOk result (λ a. a.status ≡ report_status report.now.fibers) }
 {
