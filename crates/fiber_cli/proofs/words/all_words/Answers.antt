@@ -15,4 +15,5 @@ returns c =
     let empty_is : app_of c.subcommand_required.result ≡ on_top (λ s. record s { subcommand_required = true; has_version = true }) (new_app (codes "fiber_cli")) = search rules in
     let one = c.in_ok-subcommand.ensures.shape check_local ∙ ap₂ with_subcommand empty_is (ap top_of check_is) in
     let two = c.in_ok-subcommand-2.ensures.shape show_local ∙ ap₂ with_subcommand one (ap top_of show_is) in
-    IfOk-weaker c.subcommand-3.result _ _ (λ m h. h.shape c.in_ok-replay.ensures.local ∙ ap₂ with_subcommand two (ap top_of c.in_ok-replay.ensures.shape)) c.subcommand-3.ensures
+    let three = c.in_ok-subcommand-3.ensures.shape c.in_ok-replay.ensures.local ∙ ap₂ with_subcommand two (ap top_of c.in_ok-replay.ensures.shape) in
+    IfOk-weaker c.subcommand-4.result _ _ (λ m h. h.shape c.in_ok-run.ensures.local ∙ ap₂ with_subcommand three (ap top_of c.in_ok-run.ensures.shape)) c.subcommand-4.ensures
