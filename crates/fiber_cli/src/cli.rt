@@ -137,8 +137,6 @@ where
 #[cfg(test)]
 mod replay_rows;
 #[cfg(test)]
-mod run_tests;
-#[cfg(test)]
 mod tests;
 #[cfg(test)]
 mod text_tests;
