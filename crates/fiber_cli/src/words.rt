@@ -106,7 +106,7 @@ fn run_command<'a>(alloc: Global) -> Result<Command<'a>, AllocError>
     let budget = number_option(
         alloc,
         "budget",
-        "How many moves a turn has at most, after which the worker goes on with another fiber: 2 to 10000, 64 if not given",
+        "How many moves a worker makes of a fiber in one turn at most, after which another that is ready has its turn: 2 to 10000, 64 if not given",
         BUDGET,
     );
     let moves = number_option(
