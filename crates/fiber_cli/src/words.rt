@@ -1,7 +1,7 @@
 //! What the words of a command line may be.
 
 ghost use Rattle.std.specs.Prelude.{◌≡◌, false, IfOk};
-ghost use Rattle.clap.specs.Words.{app_of, rule_of};
+ghost use Rattle.clap.specs.Words.{app_of, new_app, rule_of};
 ghost use Rattle.clap.specs.declared.builder.command.Command.TheViews.{out-Command};
 ghost use Rattle.fiber_cli.specs.Words.{number_option, program, replay_command, run_command, schedule_option, with_limits};
 
@@ -21,6 +21,14 @@ const STATUSES: &str = "Exit status:
   64  the words or the schedule are wrong
   65  the text is refused
   70  a run or a device failed, or memory ran out";
+
+/// A command without words of its own, whose help ends with the statuses.
+fn new_command<'a>(alloc: Global, name: &'a str, about: &'a str) -> Command<'a>
+    ensures shape { app_of result ≡ new_app name.entry.now }
+    ensures local { (out-Command result).has_globals ≡ false }
+{
+    Command::new(alloc, name).about(about).after_help(STATUSES)
+}
 
 /// An option that takes a whole number of this range.
 fn number_option<'a>(alloc: Global, name: &'a str, help: &'a str, range: NumberRange) -> Arg<'a>
@@ -86,10 +94,8 @@ fn replay_command<'a>(alloc: Global) -> Result<Command<'a>, AllocError>
     ensures shape { IfOk result (λ c. app_of c ≡ replay_command) }
     ensures local { IfOk result (λ c. (out-Command c).has_globals ≡ false) }
 {
-    let command = Command::new(alloc, "replay")
-        .about("Runs the program under a schedule, and prints its report")
-        .after_help(STATUSES)
-        .arg(schedule_option(alloc))?;
+    let about = "Runs the program under a schedule, and prints its report";
+    let command = new_command(alloc, "replay", about).arg(schedule_option(alloc))?;
     with_limits(alloc, command)
 }
 
@@ -115,10 +121,8 @@ fn run_command<'a>(alloc: Global) -> Result<Command<'a>, AllocError>
         "How many moves fiber 0 may make, and each other fiber with those of its parent before it: 1 to 1000000, 100000 if not given. A fiber that has made them is reported as unended",
         MOVES,
     );
-    let command = Command::new(alloc, "run")
-        .about("Runs the program on work-stealing threads, and prints its report")
-        .after_help(STATUSES)
-        .arg(workers)?;
+    let about = "Runs the program on work-stealing threads, and prints its report";
+    let command = new_command(alloc, "run", about).arg(workers)?;
     with_limits(alloc, command)?.arg(budget)?.arg(moves)
 }
 
@@ -126,17 +130,12 @@ fn run_command<'a>(alloc: Global) -> Result<Command<'a>, AllocError>
 pub fn all_words<'a>(alloc: Global) -> Result<Command<'a>, AllocError>
     ensures { IfOk result (λ c. app_of c ≡ program) }
 {
-    let check = Command::new(alloc, "check")
-        .about("Tells whether the text is a program")
-        .after_help(STATUSES);
-    let show = Command::new(alloc, "show")
-        .about("Prints the expansion of the program")
-        .after_help(STATUSES);
+    let check = new_command(alloc, "check", "Tells whether the text is a program");
+    let show = new_command(alloc, "show", "Prints the expansion of the program");
     let replay = replay_command(alloc)?;
     let run = run_command(alloc)?;
-    Command::new(alloc, "fiber_cli")
-        .about("Runs effect programs on fibers. The program's text is read from standard input")
-        .after_help(STATUSES)
+    let about = "Runs effect programs on fibers. The program's text is read from standard input";
+    new_command(alloc, "fiber_cli", about)
         .version(VERSION)
         .subcommand_required(true)
         .subcommand(check)?
