@@ -59,7 +59,7 @@ const WRONG: &[(&str, &[&str], &str)] = &[
     ),
     (
         "replay has no workers",
-        &["fiber_cli", "replay", "--schedule", "0", "--workers", "2"],
+        &["fiber_cli", "replay", "--workers", "2", "--schedule", "0"],
         "error: unexpected argument '--workers' found\n\nUsage: fiber_cli replay [OPTIONS] --schedule <TEXT>\n\nFor more information, try '--help'.\n",
     ),
     (
