@@ -6,14 +6,14 @@ use Rattle.clap.specs.declared.error.kind.ErrorKind.TheVariants as kind
 use Rattle.clap.specs.declared.parser.matches.ArgMatches.{ArgMatches}
 use Rattle.outcome_trace.specs.declared.fault.TextFault.{TextFault}
 use Rattle.outcome_trace.specs.declared.fault.TextFault.TheVariants as faults
-use Rattle.outcome_trace.specs.declared.orders.Order.{Order}
 use Rattle.outcome_trace.specs.declared.status.Status.{Status}
 use Rattle.outcome_trace.specs.declared.status.Status.TheVariants.{Succeeded, Fault}
 use Rattle.outcome_trace.specs.Devices.{Devices, Writer}
 use Rattle.outcome_trace.specs.FaultLines.{fault_line}
-use Rattle.outcome_trace.specs.Orders.{Obeys, Told}
+use Rattle.outcome_trace.specs.Orders.{Told}
 use Rattle.outcome_trace.specs.Text.{GoesOut, OnlyWriteFaults, is_write_fault}
-use Rattle.fiber_cli.specs.Orders.{GivesOrder, HasNoOrder, IsOutOfMemory, IsRefused, IsRequest, LacksMemory, Runs, RunsOrder, ShowsText, TellsKind, TellsWrong, no_memory, no_order, no_words, order, refused, shown, wrong}
+use Rattle.fiber_cli.specs.declared.requests.Request.{Request}
+use Rattle.fiber_cli.specs.Requests.{AsksHelp, GivesRequest, HasNoRequest, IsOutOfMemory, IsRefused, LacksMemory, ObeysRequest, Runs, RunsRequest, ShowsText, TellsKind, TellsWrong, no_memory, no_request, no_words, refused, request, shown, wrong}
 use Rattle.fiber_cli.specs.Words.{program}
 
 -- the command is one of those of which `clap` says how a parse fails
@@ -24,37 +24,37 @@ free_built a same = ap is_simple_and_free same
 said_so : (a : App) (words : List Text) (m : ArgMatches) → a ≡ program → HasMatchesOf a words m → subcommand_rows_of m ≡ subcommand_of program words
 said_so a words m same h = (h (ap is_simple same)).1 ∙ ap (λ (x : App). subcommand_of x words) same
 
-pub runs_order : (a : App) (words : List Text) (m : ArgMatches) (o : Order) (before after : Devices) (status : Status) → a ≡ program → HasMatchesOf a words m → fault_of a words ≡ [] → GivesOrder (subcommand_rows_of m) (Some o) → Obeys o before after status → Runs words before after status
-runs_order a words m o before after status same h right gives obeys = order record {
-  order = o;
+pub runs_request : (a : App) (words : List Text) (m : ArgMatches) (r : Request) (before after : Devices) (status : Status) → a ≡ program → HasMatchesOf a words m → fault_of a words ≡ [] → GivesRequest (subcommand_rows_of m) (Some r) → ObeysRequest r before after status → Runs words before after status
+runs_request a words m r before after status same h right gives obeys = request record {
+  request = r;
   right = sym (ap (λ (x : App). fault_of x words) same) ∙ right;
-  gives = subst (λ (s : Option (Text × List Row)). GivesOrder s (Some o)) (said_so a words m same h) gives;
+  gives = subst (λ (s : Option (Text × List Row)). GivesRequest s (Some r)) (said_so a words m same h) gives;
   obeys = obeys;
 }
 
-pub runs_no_order : (a : App) (words : List Text) (m : ArgMatches) (before after : Devices) (status : Status) → a ≡ program → HasMatchesOf a words m → GivesOrder (subcommand_rows_of m) None → after.input ≡ before.input → after.out ≡ before.out → TellsWrong before.err after.err status ⊎ LacksMemory before.err after.err status → Runs words before after status
-runs_no_order a words m before after status same h gives unread unanswered told = no_order record {
-  gives = subst (λ (s : Option (Text × List Row)). GivesOrder s None) (said_so a words m same h) gives;
+pub runs_no_request : (a : App) (words : List Text) (m : ArgMatches) (before after : Devices) (status : Status) → a ≡ program → HasMatchesOf a words m → GivesRequest (subcommand_rows_of m) None → after.input ≡ before.input → after.out ≡ before.out → TellsWrong before.err after.err status ⊎ LacksMemory before.err after.err status → Runs words before after status
+runs_no_request a words m before after status same h gives unread unanswered told = no_request record {
+  gives = subst (λ (s : Option (Text × List Row)). GivesRequest s None) (said_so a words m same h) gives;
   unread = unread;
   unanswered = unanswered;
   told = told;
 }
 
--- a request isn't want of memory
-request_known : (k : ErrorKind) → IsRequest k → k ≢ kind.OutOfMemory
-request_known k (inl help) = λ e. cc
-request_known k (inr version) = λ e. cc
+-- help isn't want of memory
+help_known : (k : ErrorKind) → AsksHelp k → k ≢ kind.OutOfMemory
+help_known k (inl help) = λ e. cc
+help_known k (inr version) = λ e. cc
 
 pub runs_error : (a : App) (words : List Text) (k : ErrorKind) (before after : Devices) (status : Status) → a ≡ program → (k ≡ kind.OutOfMemory) ⊎ IsAmong k (fault_of a words) → (takes a words ≡ true → k ≡ kind.OutOfMemory) → after.input ≡ before.input → TellsKind k before.out after.out before.err after.err status → Runs words before after status
 runs_error a words k before after status same among passes unread (no_memory unanswered lacks) = no_words record { unread = unread; unanswered = unanswered; lacks = lacks }
-runs_error a words k before after status same (inl memory) passes unread (shown request shows) = absurd (request_known k request memory)
+runs_error a words k before after status same (inl memory) passes unread (shown asks shows) = absurd (help_known k asks memory)
 runs_error a words k before after status same (inl memory) passes unread (wrong other known unanswered tells) = absurd (known memory)
-runs_error a words k before after status same (inr among) passes unread (shown request shows) = refused record {
+runs_error a words k before after status same (inr among) passes unread (shown asks shows) = refused record {
   kind = k;
   among = subst (λ (x : App). IsAmong k (fault_of x words)) same among;
-  untaken = λ taken. request_known k request (passes (ap (λ (x : App). takes x words) same ∙ taken));
+  untaken = λ taken. help_known k asks (passes (ap (λ (x : App). takes x words) same ∙ taken));
   unread = unread;
-  told = shown request shows;
+  told = shown asks shows;
 }
 runs_error a words k before after status same (inr among) passes unread (wrong other known unanswered tells) = refused record {
   kind = k;
@@ -68,10 +68,10 @@ pub runs_no_words : (words : List Text) (before after : Devices) (status : Statu
 runs_no_words words before after status unread unanswered lacks = no_words record { unread = unread; unanswered = unanswered; lacks = lacks }
 
 -- the kinds whose text goes to the output
-pub request_of : (k : ErrorKind) → ((k ≢ kind.DisplayHelp) × (k ≢ kind.DisplayVersion) → ⊥) → IsRequest k
-request_of kind.DisplayHelp h = inl refl
-request_of kind.DisplayVersion h = inr refl
-request_of k h = absurd (h ((λ e. cc), (λ e. cc)))
+pub help_of : (k : ErrorKind) → ((k ≢ kind.DisplayHelp) × (k ≢ kind.DisplayVersion) → ⊥) → AsksHelp k
+help_of kind.DisplayHelp h = inl refl
+help_of kind.DisplayVersion h = inr refl
+help_of k h = absurd (h ((λ e. cc), (λ e. cc)))
 
 -- the text that was asked for went out
 pub text_shown : (out out' err : Writer) (text : List ℕ) (result : Result (Unit {0}) TextFault) (done : Unit {0}) → result ≡ Ok done → GoesOut out.contents out'.contents text result → OnlyWriteFaults result → out'.failed ≡ is_write_fault result → ShowsText out out' err err Succeeded

@@ -1,3 +1,3 @@
 pub mod Words
-pub mod Orders
 pub mod Workers
+pub mod Requests

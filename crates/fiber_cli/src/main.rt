@@ -1,10 +1,13 @@
 //! The program: one command line over the standard streams.
 //!
-//! It reads its words by `clap`, and obeys the order that they give by `outcome_trace`, which
-//! promises what goes out and with which status.
+//! It reads its words by `clap`, and does what they ask for: the orders of `outcome_trace`, which
+//! promises what goes out and with which status, and runs on the workers of `steal_pool`.
 #![tactic(auto)]
 
 mod cli;
+mod ranges;
+mod requests;
+mod run_order;
 mod words;
 
 use outcome_trace::{FromRead, TextFault, ToWrite, tell_fault};

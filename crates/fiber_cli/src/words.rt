@@ -1,23 +1,13 @@
-//! What the words of a command line may be, and the order that they give.
+//! What the words of a command line may be.
 
-ghost use Rattle.std.specs.Prelude.{◌≡◌, ◌≤◌, ℕ, false, codes, IfOk, IfSome, IfNone, option_map};
-ghost use Rattle.cell_registry.specs.declared.limits.Limits.{Limits};
-ghost use Rattle.clap.specs.Words.{app_of, first_of, found_of, rows_of, rule_of, subcommand_rows_of};
-ghost use Rattle.cell_registry.specs.Cells.{AreLimits};
+ghost use Rattle.std.specs.Prelude.{◌≡◌, false, IfOk};
+ghost use Rattle.clap.specs.Words.{app_of, new_app, rule_of};
 ghost use Rattle.clap.specs.declared.builder.command.Command.TheViews.{out-Command};
-ghost use Rattle.outcome_trace.specs.Orders.{HasLimits};
-ghost use Rattle.fiber_cli.specs.Orders.{GivesOrder, IsNumberUpTo, Says, SaysLimits, SaysNumber};
-ghost use Rattle.fiber_cli.specs.Words.{number_option, program, replay_command, schedule_option};
+ghost use Rattle.fiber_cli.specs.Words.{number_option, program, replay_command, run_command, schedule_option, with_limits};
 
-use clap::{Arg, ArgAction, ArgMatches, Command, value_parser};
-use outcome_trace::{Limits, Order};
+use crate::ranges::{BAND, BUDGET, COUNT, MOVES, NumberRange, WORKERS};
+use clap::{Arg, ArgAction, Command, value_parser};
 use std::alloc::{AllocError, Global};
-
-/// How many fibers, refs and deferreds there may be, and are if nothing else is said.
-const MOST_NUMBERS: u32 = 1000;
-
-/// How often a fiber may change its own state, and may if nothing else is said.
-const MOST_COUNT: u32 = 262_143;
 
 /// What `--version` tells behind the name.
 const VERSION: &str = "0.1.0";
@@ -32,9 +22,17 @@ const STATUSES: &str = "Exit status:
   65  the text is refused
   70  a run or a device failed, or memory ran out";
 
-/// An option that takes a whole number from 1 to `most`.
-fn number_option<'a>(alloc: Global, name: &'a str, help: &'a str, most: u32) -> Arg<'a>
-    ensures rule { rule_of result ≡ number_option name.entry.now most }
+/// A command without words of its own, whose help ends with the statuses.
+fn new_command<'a>(alloc: Global, name: &'a str, about: &'a str) -> Command<'a>
+    ensures shape { app_of result ≡ new_app name.entry.now }
+    ensures local { (out-Command result).has_globals ≡ false }
+{
+    Command::new(alloc, name).about(about).after_help(STATUSES)
+}
+
+/// An option that takes a whole number of this range.
+fn number_option<'a>(alloc: Global, name: &'a str, help: &'a str, range: NumberRange) -> Arg<'a>
+    ensures rule { rule_of result ≡ number_option name.entry.now range }
     ensures local { result.global ≡ false }
 {
     Arg::new(alloc, name)
@@ -42,7 +40,7 @@ fn number_option<'a>(alloc: Global, name: &'a str, help: &'a str, most: u32) -> 
         .value_name("N")
         .help(help)
         .action(ArgAction::Set)
-        .value_parser(value_parser!(u64).range(1..=most as i64))
+        .value_parser(value_parser!(u64).range(range.least as i64..=range.most as i64))
 }
 
 /// The option that takes a schedule's text, which must be given.
@@ -60,136 +58,88 @@ fn schedule_option<'a>(alloc: Global) -> Arg<'a>
         .action(ArgAction::Set)
 }
 
-fn replay_command<'a>(alloc: Global) -> Result<Command<'a>, AllocError>
-    ensures shape { IfOk result (λ c. app_of c ≡ replay_command) }
-    ensures local { IfOk result (λ c. (out-Command c).has_globals ≡ false) }
+/// Adds the options for the limits of a run.
+fn with_limits<'a>(alloc: Global, command: Command<'a>) -> Result<Command<'a>, AllocError>
+    ensures shape { IfOk result (λ c. app_of c ≡ with_limits (app_of command.entry)) }
+    ensures local { IfOk result (λ c. (out-Command c).has_globals ≡ (out-Command command.entry).has_globals) }
 {
     let fibers = number_option(
         alloc,
         "fibers",
         "How many fibers there may be: 1 to 1000, 1000 if not given",
-        MOST_NUMBERS,
+        BAND,
     );
     let refs = number_option(
         alloc,
         "refs",
         "How many refs there may be: 1 to 1000, 1000 if not given",
-        MOST_NUMBERS,
+        BAND,
     );
     let deferreds = number_option(
         alloc,
         "deferreds",
         "How many deferreds there may be: 1 to 1000, 1000 if not given",
-        MOST_NUMBERS,
+        BAND,
     );
     let count = number_option(
         alloc,
         "count",
         "How often a fiber may change its own state: 1 to 262143, 262143 if not given",
-        MOST_COUNT,
+        COUNT,
     );
-    Command::new(alloc, "replay")
-        .about("Runs the program under a schedule, and prints its report")
-        .after_help(STATUSES)
-        .arg(schedule_option(alloc))?
-        .arg(fibers)?
-        .arg(refs)?
-        .arg(deferreds)?
-        .arg(count)
+    command.arg(fibers)?.arg(refs)?.arg(deferreds)?.arg(count)
+}
+
+fn replay_command<'a>(alloc: Global) -> Result<Command<'a>, AllocError>
+    ensures shape { IfOk result (λ c. app_of c ≡ replay_command) }
+    ensures local { IfOk result (λ c. (out-Command c).has_globals ≡ false) }
+{
+    let about = "Runs the program under a schedule, and prints its report";
+    let command = new_command(alloc, "replay", about).arg(schedule_option(alloc))?;
+    with_limits(alloc, command)
+}
+
+fn run_command<'a>(alloc: Global) -> Result<Command<'a>, AllocError>
+    ensures shape { IfOk result (λ c. app_of c ≡ run_command) }
+    ensures local { IfOk result (λ c. (out-Command c).has_globals ≡ false) }
+{
+    let workers = number_option(
+        alloc,
+        "workers",
+        "How many workers there are, threads that move fibers and steal them from one another: 1 to 16, 4 if not given",
+        WORKERS,
+    );
+    let budget = number_option(
+        alloc,
+        "budget",
+        "How many moves a worker makes of a fiber in one turn at most, after which another that is ready has its turn: 2 to 10000, 64 if not given",
+        BUDGET,
+    );
+    let moves = number_option(
+        alloc,
+        "moves",
+        "How many moves fiber 0 may make, and each other fiber with those of its parent before it: 1 to 1000000, 100000 if not given. A fiber that has made them is reported as unended",
+        MOVES,
+    );
+    let about = "Runs the program on work-stealing threads, and prints its report";
+    let command = new_command(alloc, "run", about).arg(workers)?;
+    with_limits(alloc, command)?.arg(budget)?.arg(moves)
 }
 
 /// The command, with all that its words may be.
 pub fn all_words<'a>(alloc: Global) -> Result<Command<'a>, AllocError>
     ensures { IfOk result (λ c. app_of c ≡ program) }
 {
-    let check = Command::new(alloc, "check")
-        .about("Tells whether the text is a program")
-        .after_help(STATUSES);
-    let show = Command::new(alloc, "show")
-        .about("Prints the expansion of the program")
-        .after_help(STATUSES);
+    let check = new_command(alloc, "check", "Tells whether the text is a program");
+    let show = new_command(alloc, "show", "Prints the expansion of the program");
     let replay = replay_command(alloc)?;
-    Command::new(alloc, "fiber_cli")
-        .about("Runs effect programs on fibers. The program's text is read from standard input")
-        .after_help(STATUSES)
+    let run = run_command(alloc)?;
+    let about = "Runs effect programs on fibers. The program's text is read from standard input";
+    new_command(alloc, "fiber_cli", about)
         .version(VERSION)
         .subcommand_required(true)
         .subcommand(check)?
         .subcommand(show)?
-        .subcommand(replay)
-}
-
-/// The text of an option, where it is given.
-fn text_of<'a>(matches: &ArgMatches<'a>, name: &str) -> Option<&'a str>
-    ensures { option_map (λ s. s.now) result ≡ first_of name.now (rows_of (found_of matches.now)) }
-{
-    matches.get_str(name)
-}
-
-/// The number from 1 to `most` that a text spells.
-fn number(text: &str, most: u32) -> Option<u32>
-    ensures spelled { IfSome result (SaysNumber most (Some text.now)) }
-    ensures none { IfNone result (IsNumberUpTo most text.now → ⊥) }
-{
-    match text.parse::<u32>() {
-        Ok(number) if 1 <= number && number <= most => Some(number),
-        _ => None,
-    }
-}
-
-/// The number that an option says, which is `most` where the option isn't given.
-fn number_of(matches: &ArgMatches<'_>, name: &str, most: u32) -> Option<u32>
-    requires { 1 ≤ most }
-    ensures said { IfSome result (SaysNumber most (first_of name.now (rows_of (found_of matches.now)))) }
-    ensures none { IfNone result ((n : ℕ) → SaysNumber most (first_of name.now (rows_of (found_of matches.now))) n → ⊥) }
-    ensures least { IfSome result (λ n. 1 ≤ n) }
-    ensures most { IfSome result (λ n. n ≤ most) }
-{
-    match text_of(matches, name) {
-        Some(text) => number(text, most),
-        None => Some(most),
-    }
-}
-
-/// The limits that the options of `replay` say.
-fn limits_of(replay: &ArgMatches<'_>) -> Option<Limits>
-    ensures said { IfSome result (SaysLimits (rows_of (found_of replay.now))) }
-    ensures none { IfNone result ((limits : Limits) → SaysLimits (rows_of (found_of replay.now)) limits → ⊥) }
-    ensures ranges { IfSome result AreLimits }
-{
-    let fibers = number_of(replay, "fibers", MOST_NUMBERS)?;
-    let refs = number_of(replay, "refs", MOST_NUMBERS)?;
-    let deferreds = number_of(replay, "deferreds", MOST_NUMBERS)?;
-    let count = number_of(replay, "count", MOST_COUNT)?;
-    Some(Limits {
-        fibers: fibers as u16,
-        refs: refs as u16,
-        deferreds: deferreds as u16,
-        count,
-    })
-}
-
-/// The order that the words give.
-pub fn order_of<'a>(matches: &ArgMatches<'a>) -> Option<Order<'a>>
-    ensures order { GivesOrder (subcommand_rows_of matches.now) result }
-    ensures limits { IfSome result HasLimits }
-{
-    let (name, options) = matches.subcommand()?;
-    match name {
-        "check" => Some(Order::Check),
-        "show" => Some(Order::Show),
-        "replay" => replay_order(options),
-        _ => None,
-    }
-}
-
-/// The order that the options of `replay` give.
-fn replay_order<'a>(replay: &ArgMatches<'a>) -> Option<Order<'a>>
-    ensures said { IfSome result (Says (codes "replay", rows_of (found_of replay.now))) }
-    ensures none { IfNone result ((schedule : _) (limits : Limits) → Says (codes "replay", rows_of (found_of replay.now)) (Order.Replay schedule limits) → ⊥) }
-    ensures limits { IfSome result HasLimits }
-{
-    let schedule = text_of(replay, "schedule")?;
-    let limits = limits_of(replay)?;
-    Some(Order::Replay { schedule, limits })
+        .subcommand(replay)?
+        .subcommand(run)
 }

@@ -1,5 +1,5 @@
 -- Each step keeps the rule of a bay's table.
-use Rattle.std.proofs.Common.{◌≡◌, ◌≢◌, ◌==◌, ◌<◌, ◌+◌, ◌^◌, ℕ, zero, suc, true, false, Bool, Option, Some, None, List, [], ◌∷◌, ◌++◌, length, map, replicate, set, get_or, get_or-set_same, get_or-set_other, sym, refl, ap, ◌∙◌, subst, ⊎_elim, MatchBool, arith}
+use Rattle.std.proofs.Common.{◌≡◌, ◌≢◌, ◌==◌, ◌<◌, ℕ, zero, suc, true, false, Option, None, List, [], ◌∷◌, length, map, replicate, set, get_or, get_or-set_same, get_or-set_other, sym, refl, ap, ◌∙◌, subst, ⊎_elim, arith}
 use Rattle.std.proofs.lemmas.Bool.Decides.{nat_tests}
 use Rattle.std.proofs.Math.ListN.{length-set}
 use Rattle.std.proofs.lemmas.List.{length-map, length-replicate}
@@ -8,7 +8,7 @@ use mathlib.Core.Logic.{dite}
 use native.Mathlib.Decide.{ℕ_discrete}
 use lib.ListN.{get_elem?}
 use prog.Atomic.{either}
-use Rattle.atomic_table.specs.Table.{State, Step, Me, step, keeps, takes, gives, Allows, Splits, Final, opening, rest}
+use Rattle.atomic_table.specs.Table.{State, step, keeps, takes, gives, Allows, Splits, Final, opening, rest}
 use Rattle.atomic_table.proofs.Lists.{at_set, at_snoc, set_here, set_else, some_there}
 use Rattle.fiber_poll.specs.Tasks.{TaskView}
 use Rattle.wait_bay.specs.declared.rule.Knowledge.{Knowledge}

@@ -1,5 +1,5 @@
 -- What a bay names, and what may lie in its slots.
-use Rattle.std.specs.Prelude.{◌≡◌, ℕ, Option, Some, None}
+use Rattle.std.specs.Prelude.{◌≡◌, ◌<◌, ℕ, Option, Some, None}
 use Rattle.derived_ops.specs.Tree.{Tree}
 use Rattle.cell_registry.specs.Passes.{RegistryView}
 use Rattle.fiber_poll.specs.Tasks.{IsTaskOf, TaskView}
@@ -24,3 +24,7 @@ IsNamed (Some n) t = IsTaskOf n.home n.code t
 abbrev pub MayLie : Option Named → ℕ → Option TaskView → Type 0
 MayLie named f None = Unit {0}
 MayLie named f (Some t) = (t.state.number ≡ f) × IsNamed named t
+
+-- the number of the one task's fiber is below that of the other's
+abbrev pub ComesBefore : TaskView → TaskView → Type 0
+ComesBefore t u = t.state.number < u.state.number

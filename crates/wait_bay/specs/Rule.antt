@@ -1,5 +1,5 @@
 -- The rule of a bay's table, and what the steps on it tell.
-use Rattle.std.specs.Prelude.{◌≡◌, ◌==◌, ◌<◌, ℕ, Option, Some, None, List, [], ◌∷◌, length, slice_index, MatchBool}
+use Rattle.std.specs.Prelude.{◌≡◌, ◌==◌, ◌<◌, ℕ, Option, ◌∷◌, length, slice_index, MatchBool}
 use Rattle.atomic_table.specs.Table.{State, Step, Me, rest}
 use mathlib.Core.Option.{some}
 use lib.ListN.{get_elem?}

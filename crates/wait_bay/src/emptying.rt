@@ -1,7 +1,7 @@
 //! What is left in a bay at its end.
-ghost use Rattle.std.specs.Prelude.{◌≡◌, ◌⊎◌, ◌∷◌, ◌++◌, [], All, IfOk, Some, true};
+ghost use Rattle.std.specs.Prelude.{◌≡◌, ◌⊎◌, ◌∷◌, ◌++◌, [], All, AllPairs, IfOk, Some, true};
 ghost use Rattle.fiber_poll.specs.Tasks.{TaskView};
-ghost use Rattle.wait_bay.specs.Names.{IsNamed};
+ghost use Rattle.wait_bay.specs.Names.{ComesBefore, IsNamed};
 
 use crate::bay::Bay;
 use fiber_poll::FiberTask;
@@ -12,7 +12,8 @@ impl<'a> Bay<'a> {
     /// over. Answers `AllocError` where there is no memory for the list, and the tasks are dropped
     /// then.
     pub fn empty(self) -> Result<Vec<FiberTask<'a>>, AllocError>
-        ensures { IfOk result (λ tasks. All (IsNamed self.entry.named) tasks.items) }
+        ensures named { IfOk result (λ tasks. All (IsNamed self.entry.named) tasks.items) }
+        ensures order { IfOk result (λ tasks. AllPairs ComesBefore tasks.items) }
     {
         let Bay {
             alloc,

@@ -2,6 +2,8 @@
 
 use super::tests::expect;
 use std::process::Abort;
+use std::sync::Wait;
+use std::thread::Threads;
 
 mod brackets_tests;
 mod cells_tests;
@@ -23,7 +25,7 @@ struct Replay<'a> {
 }
 
 /// Replays each program under its schedule, and compares the report and the status.
-fn expect_replays<R: Abort + AllocGlobal>(rt: &R, replays: &[Replay<'_>]) {
+fn expect_replays<R: Abort + AllocGlobal + Threads + Wait + Sync>(rt: &R, replays: &[Replay<'_>]) {
     for replay in replays {
         let words = ["fiber_cli", "replay", "--schedule", replay.schedule];
         expect(

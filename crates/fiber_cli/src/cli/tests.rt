@@ -6,17 +6,21 @@ use std::alloc::{AllocError, Global};
 use std::io;
 use std::io::{ErrorKind, Read, Write};
 use std::process::Abort;
+use std::sync::Wait;
 use std::test::Fail;
+use std::thread::Threads;
 
 const CHECK: [&str; 2] = ["fiber_cli", "check"];
 
 const SHOW: [&str; 2] = ["fiber_cli", "show"];
 
+const RUN: [&str; 2] = ["fiber_cli", "run"];
+
 pub(super) const LONG: &[&str] = &["fiber_cli", "replay", "--schedule", "0*99"];
 
 /// Runs a command line, and compares all that it writes and its status. Where that isn't what is
 /// wanted, the rule is printed.
-pub(super) fn expect<R: Abort + AllocGlobal>(
+pub(super) fn expect<R: Abort + AllocGlobal + Threads + Wait + Sync>(
     rt: &R,
     rule: &str,
     words: &[&str],
@@ -318,7 +322,7 @@ fn refuses_each_front_of_a_program(rt: HostRuntime) -> Result<(), Fail> {
 
 #[test]
 fn tells_failed_readers(rt: HostRuntime) {
-    for words in [&CHECK as &[&str], &SHOW, LONG] {
+    for words in [&CHECK as &[&str], &SHOW, LONG, &RUN] {
         let mut out = Vec::new(rt.alloc());
         let mut err = Vec::new(rt.alloc());
         let status = command(
@@ -355,6 +359,7 @@ fn tells_failed_writers(rt: HostRuntime) -> Result<(), Fail> {
         (&CHECK as &[&str], "ok size 1 nest 1 masks 0\n"),
         (&SHOW, "(pure 7)\n"),
         (LONG, "fiber 0 succeeded 7\n"),
+        (&RUN, "fiber 0 succeeded 7\n"),
     ] {
         for fails in [true, false] {
             for room in 0..out.len() {

@@ -5,7 +5,9 @@ use super::{command, refuse_words};
 use outcome_trace::{FromRead, ToWrite};
 use std::alloc::AllocError;
 use std::process::Abort;
+use std::sync::Wait;
 use std::test::Fail;
+use std::thread::Threads;
 
 /// Words that are refused with status 64, before the text is read: the rule, the words, and what is
 /// told.
@@ -38,7 +40,7 @@ const WRONG: &[(&str, &[&str], &str)] = &[
     (
         "a subcommand is required",
         &["fiber_cli"],
-        "error: 'fiber_cli' requires a subcommand but one was not provided\n  [subcommands: check, show, replay, help]\n\nUsage: fiber_cli <COMMAND>\n\nFor more information, try '--help'.\n",
+        "error: 'fiber_cli' requires a subcommand but one was not provided\n  [subcommands: check, show, replay, run, help]\n\nUsage: fiber_cli <COMMAND>\n\nFor more information, try '--help'.\n",
     ),
     (
         "no such subcommand",
@@ -51,6 +53,26 @@ const WRONG: &[(&str, &[&str], &str)] = &[
         "error: unexpected argument '--schedule' found\n\nUsage: fiber_cli check\n\nFor more information, try '--help'.\n",
     ),
     (
+        "run takes no schedule",
+        &["fiber_cli", "run", "--schedule", "0"],
+        "error: unexpected argument '--schedule' found\n\nUsage: fiber_cli run [OPTIONS]\n\nFor more information, try '--help'.\n",
+    ),
+    (
+        "replay has no workers",
+        &["fiber_cli", "replay", "--workers", "2", "--schedule", "0"],
+        "error: unexpected argument '--workers' found\n\nUsage: fiber_cli replay [OPTIONS] --schedule <TEXT>\n\nFor more information, try '--help'.\n",
+    ),
+    (
+        "an option of run twice",
+        &["fiber_cli", "run", "--workers", "2", "--workers", "2"],
+        "error: the argument '--workers <N>' cannot be used multiple times\n\nUsage: fiber_cli run [OPTIONS]\n\nFor more information, try '--help'.\n",
+    ),
+    (
+        "an option without its number",
+        &["fiber_cli", "run", "--budget"],
+        "error: a value is required for '--budget <N>' but none was supplied\n\nFor more information, try '--help'.\n",
+    ),
+    (
         "an option twice",
         &["fiber_cli", "replay", "--schedule", "0", "--schedule", "0"],
         "error: the argument '--schedule <TEXT>' cannot be used multiple times\n\nUsage: fiber_cli replay [OPTIONS] --schedule <TEXT>\n\nFor more information, try '--help'.\n",
@@ -61,7 +83,7 @@ const WRONG: &[(&str, &[&str], &str)] = &[
 const HELP: &[(&[&str], &str)] = &[
     (
         &["fiber_cli", "--help"],
-        "Runs effect programs on fibers. The program's text is read from standard input\n\nUsage: fiber_cli <COMMAND>\n\nCommands:\n  check   Tells whether the text is a program\n  show    Prints the expansion of the program\n  replay  Runs the program under a schedule, and prints its report\n  help    Print this message or the help of the given subcommand(s)\n\nOptions:\n  -h, --help     Print help\n  -V, --version  Print version\n\nExit status:\n   0  fiber 0 succeeded, the text was checked or shown, or help was asked for\n   1  fiber 0 errored\n   2  fiber 0 was canceled\n   3  fiber 0 has not ended\n  64  the words or the schedule are wrong\n  65  the text is refused\n  70  a run or a device failed, or memory ran out\n",
+        "Runs effect programs on fibers. The program's text is read from standard input\n\nUsage: fiber_cli <COMMAND>\n\nCommands:\n  check   Tells whether the text is a program\n  show    Prints the expansion of the program\n  replay  Runs the program under a schedule, and prints its report\n  run     Runs the program on work-stealing threads, and prints its report\n  help    Print this message or the help of the given subcommand(s)\n\nOptions:\n  -h, --help     Print help\n  -V, --version  Print version\n\nExit status:\n   0  fiber 0 succeeded, the text was checked or shown, or help was asked for\n   1  fiber 0 errored\n   2  fiber 0 was canceled\n   3  fiber 0 has not ended\n  64  the words or the schedule are wrong\n  65  the text is refused\n  70  a run or a device failed, or memory ran out\n",
     ),
     (
         &["fiber_cli", "check", "--help"],
@@ -75,19 +97,81 @@ const HELP: &[(&[&str], &str)] = &[
         &["fiber_cli", "replay", "--help"],
         "Runs the program under a schedule, and prints its report\n\nUsage: fiber_cli replay [OPTIONS] --schedule <TEXT>\n\nOptions:\n      --schedule <TEXT>  Whose move is next: items F or F*K (K moves of fiber F) with one space between, as in \"0*2 1*9\". F is 0 to 999, K is 1 to 100000\n      --fibers <N>       How many fibers there may be: 1 to 1000, 1000 if not given\n      --refs <N>         How many refs there may be: 1 to 1000, 1000 if not given\n      --deferreds <N>    How many deferreds there may be: 1 to 1000, 1000 if not given\n      --count <N>        How often a fiber may change its own state: 1 to 262143, 262143 if not given\n  -h, --help             Print help\n\nExit status:\n   0  fiber 0 succeeded, the text was checked or shown, or help was asked for\n   1  fiber 0 errored\n   2  fiber 0 was canceled\n   3  fiber 0 has not ended\n  64  the words or the schedule are wrong\n  65  the text is refused\n  70  a run or a device failed, or memory ran out\n",
     ),
+    (
+        &["fiber_cli", "run", "--help"],
+        "Runs the program on work-stealing threads, and prints its report\n\nUsage: fiber_cli run [OPTIONS]\n\nOptions:\n      --workers <N>    How many workers there are, threads that move fibers and steal them from one another: 1 to 16, 4 if not given\n      --fibers <N>     How many fibers there may be: 1 to 1000, 1000 if not given\n      --refs <N>       How many refs there may be: 1 to 1000, 1000 if not given\n      --deferreds <N>  How many deferreds there may be: 1 to 1000, 1000 if not given\n      --count <N>      How often a fiber may change its own state: 1 to 262143, 262143 if not given\n      --budget <N>     How many moves a worker makes of a fiber in one turn at most, after which another that is ready has its turn: 2 to 10000, 64 if not given\n      --moves <N>      How many moves fiber 0 may make, and each other fiber with those of its parent before it: 1 to 1000000, 100000 if not given. A fiber that has made them is reported as unended\n  -h, --help           Print help\n\nExit status:\n   0  fiber 0 succeeded, the text was checked or shown, or help was asked for\n   1  fiber 0 errored\n   2  fiber 0 was canceled\n   3  fiber 0 has not ended\n  64  the words or the schedule are wrong\n  65  the text is refused\n  70  a run or a device failed, or memory ran out\n",
+    ),
 ];
 
 /// The version: the words, and the text.
 const TOLD_VERSION: (&[&str], &str) = (&["fiber_cli", "--version"], "fiber_cli 0.1.0\n");
 
-/// An option that takes a number, the greatest that it takes, the least above that, and one that a
-/// narrow number would take for 1.
-const NUMBERS: [(&str, &str, &str, &str); 4] = [
-    ("fibers", "1000", "1001", "65537"),
-    ("refs", "1000", "1001", "65537"),
-    ("deferreds", "1000", "1001", "65537"),
-    ("count", "262143", "262144", "4294967297"),
+/// An option that takes a number: texts of numbers that it takes, and of numbers that it doesn't, with
+/// its range as it is told of those.
+struct Numbers {
+    name: &'static str,
+    taken: [&'static str; 4],
+    refused: [&'static str; 3],
+    range: &'static str,
+}
+
+/// The limits, which `replay` and `run` both have. A narrow number would take the last one that is
+/// refused for 1, or for the least number.
+const LIMITS: [Numbers; 4] = [
+    Numbers {
+        name: "fibers",
+        taken: ["1", "01", "+1", "1000"],
+        refused: ["0", "1001", "65537"],
+        range: "1..=1000",
+    },
+    Numbers {
+        name: "refs",
+        taken: ["1", "01", "+1", "1000"],
+        refused: ["0", "1001", "65537"],
+        range: "1..=1000",
+    },
+    Numbers {
+        name: "deferreds",
+        taken: ["1", "01", "+1", "1000"],
+        refused: ["0", "1001", "65537"],
+        range: "1..=1000",
+    },
+    Numbers {
+        name: "count",
+        taken: ["1", "01", "+1", "262143"],
+        refused: ["0", "262144", "4294967297"],
+        range: "1..=262143",
+    },
 ];
+
+/// What `run` has besides. `(pure 7)` takes two moves.
+const RUNNING: [Numbers; 3] = [
+    Numbers {
+        name: "workers",
+        taken: ["1", "01", "+1", "16"],
+        refused: ["0", "17", "257"],
+        range: "1..=16",
+    },
+    Numbers {
+        name: "budget",
+        taken: ["2", "02", "+2", "10000"],
+        refused: ["1", "10001", "4294967298"],
+        range: "2..=10000",
+    },
+    Numbers {
+        name: "moves",
+        taken: ["2", "02", "+2", "1000000"],
+        refused: ["0", "1000001", "4294967297"],
+        range: "1..=1000000",
+    },
+];
+
+const REPLAY: &[&str] = &["fiber_cli", "replay", "--schedule", "0*2"];
+
+const RUN: &[&str] = &["fiber_cli", "run"];
+
+/// Each command that takes numbers, with its options that do.
+const COMMANDS: [(&[&str], &[Numbers]); 3] = [(REPLAY, &LIMITS), (RUN, &LIMITS), (RUN, &RUNNING)];
 
 #[test]
 fn tells_wrong_words(rt: HostRuntime) {
@@ -96,9 +180,10 @@ fn tells_wrong_words(rt: HostRuntime) {
     }
 }
 
-/// Replays with an option that takes a number, and compares what comes of it.
-fn expect_number<R: Abort + AllocGlobal>(
+/// Runs a command with an option that takes a number, and compares what comes of it.
+fn expect_number<R: Abort + AllocGlobal + Threads + Wait + Sync>(
     rt: &R,
+    command: &[&str],
     option: (&str, &str),
     status: u8,
     out: &str,
@@ -106,11 +191,13 @@ fn expect_number<R: Abort + AllocGlobal>(
 ) -> Result<(), AllocError> {
     let (name, number) = option;
     let word = format!(in rt.alloc(); "--{name}={number}")?;
-    let words = ["fiber_cli", "replay", "--schedule", "0*2", word.as_str()];
+    let mut words = Vec::new(rt.alloc());
+    words.extend_from_slice(command)?;
+    words.push(word.as_str())?;
     expect(
         rt,
         "an option's number",
-        &words,
+        words.as_slice(),
         "(pure 7)",
         status,
         out,
@@ -120,8 +207,9 @@ fn expect_number<R: Abort + AllocGlobal>(
 }
 
 /// The same of a number that is refused, for this reason.
-fn refuses<R: Abort + AllocGlobal>(
+fn refuses<R: Abort + AllocGlobal + Threads + Wait + Sync>(
     rt: &R,
+    command: &[&str],
     option: (&str, &str),
     why: &str,
 ) -> Result<(), AllocError> {
@@ -129,25 +217,35 @@ fn refuses<R: Abort + AllocGlobal>(
     let err = format!(in rt.alloc();
         "error: invalid value '{number}' for '--{name} <N>': {why}\n\nFor more information, try '--help'.\n"
     )?;
-    expect_number(rt, option, 64, "", err.as_str())
+    expect_number(rt, command, option, 64, "", err.as_str())
 }
 
-/// The same of one that is above `most`, or 0.
-fn refuses_beyond<R: Abort + AllocGlobal>(
+/// The same of one that isn't in this range.
+fn refuses_beyond<R: Abort + AllocGlobal + Threads + Wait + Sync>(
     rt: &R,
+    command: &[&str],
     option: (&str, &str),
-    most: &str,
+    range: &str,
 ) -> Result<(), AllocError> {
     let number = option.1;
-    let why = format!(in rt.alloc(); "{number} is not in 1..={most}")?;
-    refuses(rt, option, why.as_str())
+    let why = format!(in rt.alloc(); "{number} is not in {range}")?;
+    refuses(rt, command, option, why.as_str())
 }
 
 #[test]
 fn takes_numbers_in_their_range(rt: HostRuntime) -> Result<(), Fail> {
-    for (name, most, _, _) in NUMBERS {
-        for number in ["1", "01", "+1", most] {
-            expect_number(&rt, (name, number), 0, "fiber 0 succeeded 7\n", "")?;
+    for (command, options) in COMMANDS {
+        for option in options {
+            for number in option.taken {
+                expect_number(
+                    &rt,
+                    command,
+                    (option.name, number),
+                    0,
+                    "fiber 0 succeeded 7\n",
+                    "",
+                )?;
+            }
         }
     }
     Ok(())
@@ -155,9 +253,11 @@ fn takes_numbers_in_their_range(rt: HostRuntime) -> Result<(), Fail> {
 
 #[test]
 fn refuses_numbers_out_of_their_range(rt: HostRuntime) -> Result<(), Fail> {
-    for (name, most, above, wide) in NUMBERS {
-        for number in ["0", above, wide] {
-            refuses_beyond(&rt, (name, number), most)?;
+    for (command, options) in COMMANDS {
+        for option in options {
+            for number in option.refused {
+                refuses_beyond(&rt, command, (option.name, number), option.range)?;
+            }
         }
     }
     Ok(())
@@ -165,18 +265,20 @@ fn refuses_numbers_out_of_their_range(rt: HostRuntime) -> Result<(), Fail> {
 
 #[test]
 fn refuses_what_is_no_number(rt: HostRuntime) -> Result<(), Fail> {
-    for (name, _, _, _) in NUMBERS {
-        for (number, why) in [
-            ("", "cannot parse integer from empty string"),
-            ("x", "invalid digit found in string"),
-            ("-1", "invalid digit found in string"),
-            ("1.5", "invalid digit found in string"),
-            (
-                "18446744073709551616",
-                "number too large to fit in target type",
-            ),
-        ] {
-            refuses(&rt, (name, number), why)?;
+    for (command, options) in COMMANDS {
+        for option in options {
+            for (number, why) in [
+                ("", "cannot parse integer from empty string"),
+                ("x", "invalid digit found in string"),
+                ("-1", "invalid digit found in string"),
+                ("1.5", "invalid digit found in string"),
+                (
+                    "18446744073709551616",
+                    "number too large to fit in target type",
+                ),
+            ] {
+                refuses(&rt, command, (option.name, number), why)?;
+            }
         }
     }
     Ok(())

@@ -8,7 +8,9 @@ use outcome_trace::{FromRead, ToWrite};
 use std::alloc::{AllocError, Global};
 use std::process::Abort;
 use std::str;
+use std::sync::Wait;
 use std::test::Fail;
+use std::thread::Threads;
 
 /// Two programs that can't be told apart.
 struct Law<'a> {
@@ -221,7 +223,11 @@ const TIMES: usize = 40;
 const MOMENTS: usize = 36;
 
 /// What a replay of the program reports.
-fn replayed<R: Abort + AllocGlobal>(rt: &R, program: &str, schedule: &str) -> Vec<u8> {
+fn replayed<R: Abort + AllocGlobal + Threads + Wait + Sync>(
+    rt: &R,
+    program: &str,
+    schedule: &str,
+) -> Vec<u8> {
     let mut out = Vec::new(rt.alloc());
     let mut err = Vec::new(rt.alloc());
     let words = ["fiber_cli", "replay", "--schedule", schedule];
@@ -262,7 +268,7 @@ fn ending_in(alloc: Global, report: &str) -> Result<String, AllocError> {
 }
 
 /// How a program ends under a schedule.
-fn ending<R: Abort + AllocGlobal>(
+fn ending<R: Abort + AllocGlobal + Threads + Wait + Sync>(
     rt: &R,
     program: &str,
     schedule: &str,
@@ -286,7 +292,7 @@ fn schedule(alloc: Global, round: &str, times: usize) -> Result<String, AllocErr
 }
 
 /// Compares how the two sides of each law end under these rounds.
-fn expect_same<R: Abort + AllocGlobal>(
+fn expect_same<R: Abort + AllocGlobal + Threads + Wait + Sync>(
     rt: &R,
     round: &str,
     laws: &[Law<'_>],
@@ -311,7 +317,10 @@ fn the_sides_of_a_law_end_alike_in_every_order(rt: HostRuntime) -> Result<(), Fa
 
 /// How a program ends in a fiber that is canceled after each number of its moves in turn. The
 /// first of them are those of a `cede`, so the request comes before the program's own first look, too.
-fn endings<R: Abort + AllocGlobal>(rt: &R, program: &str) -> Result<Vec<String>, AllocError> {
+fn endings<R: Abort + AllocGlobal + Threads + Wait + Sync>(
+    rt: &R,
+    program: &str,
+) -> Result<Vec<String>, AllocError> {
     let whole = format!(in rt.alloc();
         "(start f (seq (cede) {program}) (seq (cancel f) (join f x (pure x) e (raise e) (pure -1))))"
     )?;

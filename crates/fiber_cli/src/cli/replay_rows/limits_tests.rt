@@ -3,6 +3,8 @@
 
 use super::super::tests::expect;
 use std::process::Abort;
+use std::sync::Wait;
+use std::thread::Threads;
 
 /// A replay under an option, and what comes of it.
 struct Limited<'a> {
@@ -216,7 +218,7 @@ const LATE: &[Limited<'static>] = &[
 ];
 
 /// Replays each program under its schedule and option, and compares what is written and the status.
-fn expect_limited<R: Abort + AllocGlobal>(rt: &R, replays: &[Limited<'_>]) {
+fn expect_limited<R: Abort + AllocGlobal + Threads + Wait + Sync>(rt: &R, replays: &[Limited<'_>]) {
     for replay in replays {
         let words = [
             "fiber_cli",

@@ -1,6 +1,5 @@
-use Rattle.std.proofs.Common.{◌≡◌, ◌∙◌, ◌^◌, ◌<◌, sym, ap, arith, refl, subst}
+use Rattle.std.proofs.Common.{◌≡◌, ap, arith, refl, subst}
 use Rattle.cell_registry.specs.declared.limits.Band.TheVariants.{Fibers}
-use Rattle.cell_registry.specs.Histories.{left}
 use Rattle.cell_registry.specs.Passes.{Counts, PassView, RegistryView, pass_of}
 use Rattle.cell_registry.proofs.Claiming.{sees_next}
 use Rattle.cell_registry.proofs.Giving.{next_of-most}

@@ -1,8 +1,7 @@
-use Rattle.std.proofs.Common.{◌≡◌, ◌∙◌, ◌==◌, ap, sym, subst, ℕ, Option, None, Some, List, ◌∷◌, [], arith}
+use Rattle.std.proofs.Common.{◌∙◌, ap, sym, subst, ℕ, Option, List, arith}
 use mathlib.Core.Option.{none}
-use Rattle.atomic_table.specs.Table.{Me, Allows, step, rest}
+use Rattle.atomic_table.specs.Table.{Allows, step}
 use Rattle.fiber_poll.specs.Tasks.{TaskView}
-use Rattle.wait_bay.specs.declared.rule.Knowledge.{Knowledge}
 use Rattle.wait_bay.specs.Bays.{BayView}
 use Rattle.wait_bay.specs.Rule.{KeepsTasks, ComesHome}
 use Rattle.wait_bay.proofs.Keeping.{returns_home}

@@ -1,8 +1,8 @@
-use Rattle.std.proofs.Common.{◌≡◌, ◌∙◌, ap, sym, subst, ℕ, Option, None, Some, List, ◌∷◌, [], refl}
+use Rattle.std.proofs.Common.{◌≡◌, ◌∙◌, ap, sym, subst, ℕ, Option, Some, List, ◌∷◌, []}
 use Rattle.atomic_table.specs.Table.{Me, rest}
 use Rattle.fiber_poll.specs.Tasks.{TaskView}
 use Rattle.wait_bay.specs.declared.rule.Knowledge.{Knowledge}
-use Rattle.wait_bay.specs.Names.{Named, IsNamed, MayLie}
+use Rattle.wait_bay.specs.Names.{Named, MayLie}
 use Rattle.wait_bay.specs.Bays.{BayView, SeatView}
 use Rattle.wait_bay.proofs.Keeping.{one_value, still_out}
 use Rattle.wait_bay.proofs.bay.Bay.lay.Goals as goal

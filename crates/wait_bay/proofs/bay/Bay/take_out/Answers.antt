@@ -1,9 +1,8 @@
-use Rattle.std.proofs.Common.{◌≡◌, ◌∙◌, ◌==◌, ap, sym, subst, ℕ, Option, None, Some, List, ◌∷◌, [], arith}
+use Rattle.std.proofs.Common.{◌∙◌, ◌==◌, ap, sym, subst, ℕ, Option, List, arith}
 use mathlib.Core.Option.{none}
 use prog.Atomic.{either}
-use Rattle.atomic_table.specs.Table.{Me, Allows, step, rest}
+use Rattle.atomic_table.specs.Table.{Allows, step}
 use Rattle.fiber_poll.specs.Tasks.{TaskView}
-use Rattle.wait_bay.specs.declared.rule.Knowledge.{Knowledge}
 use Rattle.wait_bay.specs.Bays.{BayView}
 use Rattle.wait_bay.specs.Rule.{KeepsTasks, GoesOut}
 use Rattle.wait_bay.proofs.Keeping.{goes}

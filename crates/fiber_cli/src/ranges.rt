@@ -1,0 +1,46 @@
+//! The numbers that the options take.
+
+/// The numbers that an option takes, from `least` to `most`, and the usual one, which stands where the
+/// option isn't given.
+#[derive(Clone, Copy)]
+pub struct NumberRange {
+    pub least: u32,
+    pub most: u32,
+    pub usual: u32,
+}
+
+/// How many fibers, refs or deferreds there may be.
+pub const BAND: NumberRange = NumberRange {
+    least: 1,
+    most: 1000,
+    usual: 1000,
+};
+
+/// How often a fiber may change its own state.
+pub const COUNT: NumberRange = NumberRange {
+    least: 1,
+    most: 262_143,
+    usual: 262_143,
+};
+
+/// How many workers a run has.
+pub const WORKERS: NumberRange = NumberRange {
+    least: 1,
+    most: 16,
+    usual: 4,
+};
+
+/// How many moves a turn has at most. A fiber that waits looks before it tries again, and a turn with
+/// no room for both would never tell that it still waits.
+pub const BUDGET: NumberRange = NumberRange {
+    least: 2,
+    most: 10_000,
+    usual: 64,
+};
+
+/// How many moves fiber 0 may make, and each other fiber with those of its parent before it.
+pub const MOVES: NumberRange = NumberRange {
+    least: 1,
+    most: 1_000_000,
+    usual: 100_000,
+};
