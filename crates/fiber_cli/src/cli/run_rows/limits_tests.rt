@@ -78,7 +78,10 @@ const NUMBERS: &[Faults<'static>] = &[
     },
     Faults {
         option: "--deferreds=1",
-        programs: &[("one deferred too many", "(deferred a (deferred b (pure 1)))")],
+        programs: &[(
+            "one deferred too many",
+            "(deferred a (deferred b (pure 1)))",
+        )],
         fault: "fault 18 Full deferreds 1\n",
     },
 ];
@@ -169,8 +172,7 @@ fn expect_faults<R: Abort + AllocGlobal + Threads + Wait + Sync>(rt: &R, faults:
         option,
         programs,
         fault,
-    } in faults
-    {
+    } in faults {
         for (rule, program) in *programs {
             let run = Run {
                 rule,
