@@ -137,6 +137,8 @@ where
 #[cfg(test)]
 mod replay_rows;
 #[cfg(test)]
+mod run_rows;
+#[cfg(test)]
 mod tests;
 #[cfg(test)]
 mod text_tests;
