@@ -105,7 +105,10 @@ fn those_that_wait_are_told_once_in_their_order(rt: HostRuntime) -> Result<(), F
     let (bay, _) = Bay::new(rt.alloc(), 3, 1, None)?;
     let deferred = Topic::Deferred(0);
     bay.register(&rt, deferred, 1)?;
-    assert_eq!(rt; bay.drain_topic(&rt, deferred).as_slice(), [1u16].as_slice());
+    assert_eq!(rt;
+        bay.drain_topic(&rt, deferred).as_slice(),
+        [1u16].as_slice()
+    );
     assert!(&rt; bay.drain_topic(&rt, deferred).is_empty());
     bay.register(&rt, Topic::Fiber(2), 1)?;
     bay.register(&rt, Topic::Fiber(2), 0)?;
@@ -162,9 +165,15 @@ fn what_is_left_in_a_named_bay_gathers(rt: HostRuntime) -> Result<(), Fail> {
     };
     let (told, _) = turned(&mut child, 64)?;
     assert_eq!(rt; told, ENDED);
-    assert_eq!(rt; bay.put(&rt, &mut other_seat, 1, child, false).ok(), Some(false));
+    assert_eq!(rt;
+        bay.put(&rt, &mut other_seat, 1, child, false).ok(),
+        Some(false)
+    );
     let report = gather(rt.alloc(), &registry, &code, bay.empty()?)?;
     let text = text_of_report(rt.alloc(), &report)?;
-    assert_eq!(rt; text.as_str(), "fiber 0 unended\nfiber 1 succeeded 0: say 1\n");
+    assert_eq!(rt;
+        text.as_str(),
+        "fiber 0 unended\nfiber 1 succeeded 0: say 1\n"
+    );
     Ok(())
 }

@@ -11,7 +11,8 @@ use std::alloc::AllocError;
 use wait_bay::Bay;
 
 /// Three brackets, which are cut in the innermost body.
-const NESTED: &str = "(bracket a (pure 1) (bracket b (pure 2) (bracket c (pure 3) (canceled) (say c)) (say b)) (say a))";
+const NESTED: &str =
+    "(bracket a (pure 1) (bracket b (pure 2) (bracket c (pure 3) (canceled) (say c)) (say b)) (say a))";
 
 const NESTED_MARKS: [Mark; 25] = [
     Mark::Enter(0),
@@ -73,7 +74,8 @@ fn a_turn_ends_the_fiber_or_memory_ran_out(rt: HostRuntime) {
 /// The child's task and its mark, or that memory ran out, which each later turn answers, too.
 #[test]
 fn a_turn_starts_a_fiber_or_memory_ran_out(rt: HostRuntime) {
-    let text = "(let x (pure 7) (let y (pure 8) (start f (say y) (join f z (say z) e (pure 0) (pure 0)))))";
+    let text =
+        "(let x (pure 7) (let y (pure 8) (start f (say y) (join f z (say z) e (pure 0) (pure 0)))))";
     let Ok(code) = code(rt.alloc(), text) else {
         return;
     };

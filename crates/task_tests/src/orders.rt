@@ -28,12 +28,7 @@ const JOIN_ORDERS: &[Turns<'static>] = &[
         program: JOINING,
         moves: 99,
         turns: &[(0, 64), (0, 64), (1, 64), (0, 64)],
-        told: &[
-            Told::Started(1),
-            Told::Waits(Topic::Fiber(1)),
-            ENDED,
-            ENDED,
-        ],
+        told: &[Told::Started(1), Told::Waits(Topic::Fiber(1)), ENDED, ENDED],
         schedule: "0*4 1*4 0*6",
         report: JOINED,
     },
