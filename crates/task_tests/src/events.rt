@@ -1,0 +1,240 @@
+//! The events that a turn stops at, each told once and at its own move.
+
+use crate::programs::{ample, replayed};
+use crate::turning::{Told, Turns, expect_turns};
+use effect_term::Outcome;
+use fiber_poll::Topic;
+use std::test::Fail;
+
+const ENDED: Told = Told::Ended(Outcome::Succeeded(0));
+
+const CANCELED: Told = Told::Ended(Outcome::Canceled);
+
+const ENDS: &[Turns<'static>] = &[
+    Turns {
+        rule: "a fiber that has ended answers its value again, though it has no moves left",
+        program: "(pure 7)",
+        moves: 2,
+        turns: &[(0, 64), (0, 2), (0, 64)],
+        told: &[
+            Told::Ended(Outcome::Succeeded(7)),
+            Told::Ended(Outcome::Succeeded(7)),
+            Told::Ended(Outcome::Succeeded(7)),
+        ],
+        schedule: "0*2",
+        report: "fiber 0 succeeded 7\n",
+    },
+    Turns {
+        rule: "an error is told",
+        program: "(raise 9)",
+        moves: 99,
+        turns: &[(0, 64), (0, 64)],
+        told: &[
+            Told::Ended(Outcome::Errored(9)),
+            Told::Ended(Outcome::Errored(9)),
+        ],
+        schedule: "0*2",
+        report: "fiber 0 errored 9\n",
+    },
+    Turns {
+        rule: "to request one's own cancellation wakes nobody",
+        program: "(uncancelable p (canceled))",
+        moves: 99,
+        turns: &[(0, 64), (0, 64)],
+        told: &[CANCELED, CANCELED],
+        schedule: "0*7",
+        report: "fiber 0 canceled: enter 0, leave 0, cut\n",
+    },
+];
+
+const WAITS: &[Turns<'static>] = &[
+    Turns {
+        rule: "who awaits an empty deferred waits for it, each time anew",
+        program: "(deferred d (await d))",
+        moves: 99,
+        turns: &[(0, 64), (0, 64)],
+        told: &[
+            Told::Waits(Topic::Deferred(0)),
+            Told::Waits(Topic::Deferred(0)),
+        ],
+        schedule: "0*6",
+        report: "fiber 0 unended\n",
+    },
+    Turns {
+        rule: "who waits without end is told so",
+        program: "(seq (say 1) (never))",
+        moves: 99,
+        turns: &[(0, 64), (0, 64)],
+        told: &[Told::Waits(Topic::Never), Told::Waits(Topic::Never)],
+        schedule: "0*8",
+        report: "fiber 0 unended: say 1\n",
+    },
+    Turns {
+        rule: "a masked wait is told with each of its moves",
+        program: "(uncancelable p (never))",
+        moves: 4,
+        turns: &[(0, 64), (0, 64), (0, 64)],
+        told: &[
+            Told::Waits(Topic::Never),
+            Told::Waits(Topic::Never),
+            Told::OutOfMoves,
+        ],
+        schedule: "0*4",
+        report: "fiber 0 unended: enter 0\n",
+    },
+];
+
+const YIELDS: &[Turns<'static>] = &[
+    Turns {
+        rule: "a fiber yields at a cede, and nowhere before",
+        program: "(seq (say 1) (cede) (say 2))",
+        moves: 99,
+        turns: &[(0, 64)],
+        told: &[Told::Cedes],
+        schedule: "0*6",
+        report: "fiber 0 unended: say 1\n",
+    },
+    Turns {
+        rule: "a fiber goes on after a cede",
+        program: "(seq (say 1) (cede) (say 2))",
+        moves: 99,
+        turns: &[(0, 64), (0, 64)],
+        told: &[Told::Cedes, ENDED],
+        schedule: "0*12",
+        report: "fiber 0 succeeded 0: say 1, say 2\n",
+    },
+    Turns {
+        rule: "a fiber yields once the budget's moves are made",
+        program: "(forever (say 1))",
+        moves: 99,
+        turns: &[(0, 7), (0, 2), (0, 3)],
+        told: &[Told::Cedes, Told::Cedes, Told::Cedes],
+        schedule: "0*12",
+        report: "fiber 0 unended: say 1, say 1\n",
+    },
+];
+
+const WAKES: &[Turns<'static>] = &[
+    Turns {
+        rule: "the first to request a cancellation wakes the fiber, and no later one does",
+        program: "(start f (never) (start g (cancel f) (cancel f)))",
+        moves: 99,
+        turns: &[
+            (0, 64),
+            (0, 64),
+            (1, 64),
+            (0, 64),
+            (2, 64),
+            (0, 64),
+            (1, 64),
+            (2, 64),
+            (0, 64),
+        ],
+        told: &[
+            Told::Started(1),
+            Told::Started(2),
+            Told::Waits(Topic::Never),
+            Told::WakeFiber(1),
+            Told::Waits(Topic::Fiber(1)),
+            Told::Waits(Topic::Fiber(1)),
+            CANCELED,
+            ENDED,
+            ENDED,
+        ],
+        schedule: "0*4 1*2 0*3 2*4 0*1 1*3 2*4 0*4",
+        report: "fiber 0 succeeded 0: enter 0, leave 0\nfiber 1 canceled: cut\nfiber 2 succeeded 0: enter 0, leave 0\n",
+    },
+    Turns {
+        rule: "who completes a deferred wakes those that wait for it, and who comes late wakes nobody",
+        program: "(deferred d (start f (await d) (seq (complete d 5) (complete d 6))))",
+        moves: 99,
+        turns: &[(0, 64), (1, 64), (0, 64), (0, 64), (1, 64)],
+        told: &[
+            Told::Started(1),
+            Told::Waits(Topic::Deferred(0)),
+            Told::WakeTopic(Topic::Deferred(0)),
+            ENDED,
+            Told::Ended(Outcome::Succeeded(5)),
+        ],
+        schedule: "0*4 1*2 0*8 1*4",
+        report: "fiber 0 succeeded 0\nfiber 1 succeeded 5\n",
+    },
+];
+
+const USED_UP: &[Turns<'static>] = &[
+    Turns {
+        rule: "a task with no moves makes none",
+        program: "(say 1)",
+        moves: 0,
+        turns: &[(0, 64), (0, 64)],
+        told: &[Told::OutOfMoves, Told::OutOfMoves],
+        schedule: "",
+        report: "fiber 0 unended\n",
+    },
+    Turns {
+        rule: "a task that has made its moves makes no more",
+        program: "(say 1)",
+        moves: 3,
+        turns: &[(0, 64), (0, 64)],
+        told: &[Told::OutOfMoves, Told::OutOfMoves],
+        schedule: "0*3",
+        report: "fiber 0 unended: say 1\n",
+    },
+    Turns {
+        rule: "a budget that ends with the moves is told first",
+        program: "(say 1)",
+        moves: 2,
+        turns: &[(0, 2), (0, 2)],
+        told: &[Told::Cedes, Told::OutOfMoves],
+        schedule: "0*2",
+        report: "fiber 0 unended: say 1\n",
+    },
+];
+
+#[test]
+fn an_end_is_told_again(rt: HostRuntime) -> Result<(), Fail> {
+    expect_turns(&rt, ample(), ENDS)
+}
+
+#[test]
+fn a_wait_is_told_with_its_topic(rt: HostRuntime) -> Result<(), Fail> {
+    expect_turns(&rt, ample(), WAITS)
+}
+
+#[test]
+fn a_fiber_yields(rt: HostRuntime) -> Result<(), Fail> {
+    expect_turns(&rt, ample(), YIELDS)
+}
+
+#[test]
+fn the_first_to_come_wakes(rt: HostRuntime) -> Result<(), Fail> {
+    expect_turns(&rt, ample(), WAKES)
+}
+
+#[test]
+fn used_up_moves_are_told(rt: HostRuntime) -> Result<(), Fail> {
+    expect_turns(&rt, ample(), USED_UP)
+}
+
+/// Both fibers need eight moves from then on.
+#[test]
+fn a_child_begins_with_the_moves_that_are_left(rt: HostRuntime) -> Result<(), Fail> {
+    let alloc = rt.alloc();
+    for left in 1..11u32 {
+        let program = "(start f (seq (say 1) (say 2)) (seq (say 3) (say 4)))";
+        let schedule = format!(in alloc; "0*2 1*{left} 0*{left}")?;
+        let report = replayed(alloc, program, ample(), schedule.as_str())?;
+        let last = if left < 8 { Told::OutOfMoves } else { ENDED };
+        let case = Turns {
+            rule: schedule.as_str(),
+            program,
+            moves: 2 + left,
+            turns: &[(0, 64), (1, 64), (0, 64)],
+            told: &[Told::Started(1), last, last],
+            schedule: schedule.as_str(),
+            report: report.as_str(),
+        };
+        expect_turns(&rt, ample(), &[case])?;
+    }
+    Ok(())
+}
