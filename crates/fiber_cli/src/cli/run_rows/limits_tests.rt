@@ -167,20 +167,16 @@ const TOO_FEW: &[(&str, Run<'static>)] = &[
 ];
 
 /// Runs each program under its option, and compares the fault.
-fn expect_faults<R: Abort + AllocGlobal + Threads + Wait + Sync>(rt: &R, faults: &[Faults<'_>]) {
-    for Faults {
-        option,
-        programs,
-        fault,
-    } in faults {
-        for (rule, program) in *programs {
+fn expect_faults<R: Abort + AllocGlobal + Threads + Wait + Sync>(rt: &R, all: &[Faults<'_>]) {
+    for faults in all {
+        for (rule, program) in faults.programs {
             let run = Run {
-                rule,
-                program,
+                rule: *rule,
+                program: *program,
                 status: 70,
-                report: fault,
+                report: faults.fault,
             };
-            expect_run(rt, option, &run);
+            expect_run(rt, faults.option, &run);
         }
     }
 }
