@@ -13,6 +13,7 @@ mod schedules_tests;
 const WORKERS: [&str; 5] = ["1", "2", "3", "4", "16"];
 
 /// A run whose report is the same under all schedules, and what comes of it.
+#[derive(Clone, Copy)]
 struct Run<'a> {
     /// What the run shows.
     rule: &'a str,
