@@ -331,6 +331,9 @@ module _ (b : Given) where
     named-expansion (term.BracketCase' _ x _ y _ rs _ re _ rc) g m s d q h w =
         named-bracket_case s d (expansion m (d + 1) (source_of x)) (expansion (m ++ (d + 1) ∷ []) (d + 3) (source_of y)) (expansion ((m ++ (d + 1) ∷ []) ++ (d + 3) ∷ []) (d + 4) (source_of rs)) (expansion ((m ++ (d + 1) ∷ []) ++ (d + 3) ∷ []) (d + 4) (source_of re)) (expansion (m ++ (d + 1) ∷ []) (d + 3) (source_of rc)) q
         (below_one g m s d q h No_handle x (named-expansion x) w.0) (in_value g m s d q h y (named-expansion y) w.1) (in_end g m s d q h rs (named-expansion rs) w.2) (in_end g m s d q h re (named-expansion re) w.3) (in_value g m s d q h rc (named-expansion rc) w.4)
+    named-expansion (term.BracketFull' _ x _ y _ rs _ re _ rc) g m s d q h w =
+        named-bracket_case s d (expansion (m ++ d ∷ []) (d + 1) (source_of x)) (expansion (m ++ (d + 1) ∷ []) (d + 3) (source_of y)) (expansion ((m ++ (d + 1) ∷ []) ++ (d + 3) ∷ []) (d + 4) (source_of rs)) (expansion ((m ++ (d + 1) ∷ []) ++ (d + 3) ∷ []) (d + 4) (source_of re)) (expansion (m ++ (d + 1) ∷ []) (d + 3) (source_of rc)) q
+        (bound g m s d q h kind.Poll x (named-expansion x) w.0) (in_value g m s d q h y (named-expansion y) w.1) (in_end g m s d q h rs (named-expansion rs) w.2) (in_end g m s d q h re (named-expansion re) w.3) (in_value g m s d q h rc (named-expansion rc) w.4)
     named-expansion (term.Race' _ x _ y) g m s d q h w = named-race g m s d q h x y (named-expansion x) (named-expansion y) w.0 w.1
     named-expansion (term.Both' _ x _ y _ k) g m s d q h w = named-both g m s d q h x y k (named-expansion x) (named-expansion y) (named-expansion k) w.0 w.1 w.2
 

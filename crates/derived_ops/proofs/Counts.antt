@@ -46,6 +46,7 @@ mutual
   words_expansion (term.Guarantee' _ e _ fin) m d = omega (arith, words_expansion e m (d + 1), words_expansion fin m (d + 1), words_expansion fin m (d + 2))
   words_expansion (term.Bracket' _ acq _ body _ rel) m d = omega (arith, words_expansion acq m (d + 1), words_expansion body (m ++ (d + 1) ∷ []) (d + 3), words_expansion rel (m ++ (d + 1) ∷ []) (d + 4), words_expansion rel (m ++ (d + 1) ∷ []) (d + 3))
   words_expansion (term.BracketCase' _ acq _ body _ rs _ re _ rc) m d = omega (arith, words_expansion acq m (d + 1), words_expansion body (m ++ (d + 1) ∷ []) (d + 3), words_expansion rs ((m ++ (d + 1) ∷ []) ++ (d + 3) ∷ []) (d + 4), words_expansion re ((m ++ (d + 1) ∷ []) ++ (d + 3) ∷ []) (d + 4), words_expansion rc (m ++ (d + 1) ∷ []) (d + 3))
+  words_expansion (term.BracketFull' _ acq _ body _ rs _ re _ rc) m d = omega (arith, words_expansion acq (m ++ d ∷ []) (d + 1), words_expansion body (m ++ (d + 1) ∷ []) (d + 3), words_expansion rs ((m ++ (d + 1) ∷ []) ++ (d + 3) ∷ []) (d + 4), words_expansion re ((m ++ (d + 1) ∷ []) ++ (d + 3) ∷ []) (d + 4), words_expansion rc (m ++ (d + 1) ∷ []) (d + 3))
   words_expansion (term.Race' _ a _ b) m d = omega (arith, words_expansion a m (d + 3), words_expansion b m (d + 4))
   words_expansion (term.Both' _ a _ b _ k) m d = omega (arith, words_expansion a m (d + 4), words_expansion b m (d + 5), words_expansion k ((m ++ (d + 1) ∷ []) ++ (d + 2) ∷ []) (d + 3))
 
@@ -133,6 +134,9 @@ mutual
   masks_expansion (term.BracketCase' _ acq _ body _ rs _ re _ rc) m d =
       bracket_case_most d (expansion m (d + 1) (source_of acq)) (expansion (m ++ (d + 1) ∷ []) (d + 3) (source_of body)) (expansion ((m ++ (d + 1) ∷ []) ++ (d + 3) ∷ []) (d + 4) (source_of rs)) (expansion ((m ++ (d + 1) ∷ []) ++ (d + 3) ∷ []) (d + 4) (source_of re)) (expansion (m ++ (d + 1) ∷ []) (d + 3) (source_of rc))
       ∙ (rw (masks_expansion acq m (d + 1), masks_expansion body (m ++ (d + 1) ∷ []) (d + 3), masks_expansion rs ((m ++ (d + 1) ∷ []) ++ (d + 3) ∷ []) (d + 4), masks_expansion re ((m ++ (d + 1) ∷ []) ++ (d + 3) ∷ []) (d + 4), masks_expansion rc (m ++ (d + 1) ∷ []) (d + 3)) refl)
+  masks_expansion (term.BracketFull' _ acq _ body _ rs _ re _ rc) m d =
+      bracket_case_most d (expansion (m ++ d ∷ []) (d + 1) (source_of acq)) (expansion (m ++ (d + 1) ∷ []) (d + 3) (source_of body)) (expansion ((m ++ (d + 1) ∷ []) ++ (d + 3) ∷ []) (d + 4) (source_of rs)) (expansion ((m ++ (d + 1) ∷ []) ++ (d + 3) ∷ []) (d + 4) (source_of re)) (expansion (m ++ (d + 1) ∷ []) (d + 3) (source_of rc))
+      ∙ (rw (masks_expansion acq (m ++ d ∷ []) (d + 1), masks_expansion body (m ++ (d + 1) ∷ []) (d + 3), masks_expansion rs ((m ++ (d + 1) ∷ []) ++ (d + 3) ∷ []) (d + 4), masks_expansion re ((m ++ (d + 1) ∷ []) ++ (d + 3) ∷ []) (d + 4), masks_expansion rc (m ++ (d + 1) ∷ []) (d + 3)) refl)
   masks_expansion (term.Race' _ a _ b) m d = rw (masks_expansion a m (d + 3), masks_expansion b m (d + 4)) (pair_most (masks_of a) (masks_of b))
   masks_expansion (term.Both' _ a _ b _ k) m d = rw (masks_expansion a m (d + 4), masks_expansion b m (d + 5), masks_expansion k ((m ++ (d + 1) ∷ []) ++ (d + 2) ∷ []) (d + 3)) (both_most (masks_of a) (masks_of b) (masks_of k))
 

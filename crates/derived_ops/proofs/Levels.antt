@@ -146,6 +146,14 @@ levelled-expansion m d (word.Bracket_case acq body rs re rc) =
     let failed = at_level (d + 4) (d + 1 + 1 + 1 + 1) (expansion y (d + 4) re) (omega arith) (levelled-expansion y (d + 4) re) in
     let canceled = at_level (d + 3) (d + 1 + 1 + 1) (expansion x (d + 3) rc) (omega arith) (levelled-expansion x (d + 3) rc) in
     levelled-bracket_case d d (expansion m (d + 1) acq) (expansion x (d + 3) body) (expansion y (d + 4) rs) (expansion y (d + 4) re) (expansion x (d + 3) rc) refl (levelled-expansion m (d + 1) acq) inner done failed canceled
+levelled-expansion m d (word.Bracket_full acq body rs re rc) =
+    let x = m ++ (d + 1) ∷ [] in
+    let y = x ++ (d + 3) ∷ [] in
+    let inner = at_level (d + 3) (d + 1 + 1 + 1) (expansion x (d + 3) body) (omega arith) (levelled-expansion x (d + 3) body) in
+    let done = at_level (d + 4) (d + 1 + 1 + 1 + 1) (expansion y (d + 4) rs) (omega arith) (levelled-expansion y (d + 4) rs) in
+    let failed = at_level (d + 4) (d + 1 + 1 + 1 + 1) (expansion y (d + 4) re) (omega arith) (levelled-expansion y (d + 4) re) in
+    let canceled = at_level (d + 3) (d + 1 + 1 + 1) (expansion x (d + 3) rc) (omega arith) (levelled-expansion x (d + 3) rc) in
+    levelled-bracket_case d d (expansion (m ++ d ∷ []) (d + 1) acq) (expansion x (d + 3) body) (expansion y (d + 4) rs) (expansion y (d + 4) re) (expansion x (d + 3) rc) refl (levelled-expansion (m ++ d ∷ []) (d + 1) acq) inner done failed canceled
 levelled-expansion m d (word.Race a b) =
     let first = at_level (d + 3) (d + 1 + 1 + 1) (expansion m (d + 3) a) (omega arith) (levelled-expansion m (d + 3) a) in
     let second = at_level (d + 4) (d + 1 + 1 + 1 + 1) (expansion m (d + 4) b) (omega arith) (levelled-expansion m (d + 4) b) in

@@ -39,6 +39,15 @@ bracket_case_written : code_of (word.Bracket_case (word.Pure (Number (pos 1))) (
     3 (Seq More (noted Releasing 0) (Seq More (Handled (shown 3) 4 (Seq Last (noted Released 0) (Raise (Slot 4)))) (Seq Last (noted Released 0) (Pure (Slot 3)))))))))
 bracket_case_written = refl
 
+-- (bracketfull p x (poll p (pure 1)) (say x) y (say y) z (say z) (say x)) is the same, with (poll p0 (pure 1)) for what is acquired
+bracket_full_written : code_of (word.Bracket_full (word.Poll 0 (word.Pure (Number (pos 1)))) (word.Say (Slot 0)) (word.Say (Slot 1)) (word.Say (Slot 1)) (word.Say (Slot 0)))
+    ≡ Uncancelable 0 (Let (Poll (Named 0) (Pure (Number (pos 1)))) 1 (Seq Last (noted Acquired 0) (Uncancelable 2 (Let
+    (Handled
+    (On_cancel (Poll (Named 2) (Poll (Named 0) (shown 1))) (Seq More (noted Releasing 0) (Seq Last (Handled (shown 1) 3 (Seq Last (noted Released 0) (Raise (Slot 3)))) (noted Released 0))))
+    3 (Seq More (noted Releasing 0) (Seq More (Handled (shown 3) 4 zero_given) (Seq Last (noted Released 0) (Raise (Slot 3))))))
+    3 (Seq More (noted Releasing 0) (Seq More (Handled (shown 3) 4 (Seq Last (noted Released 0) (Raise (Slot 4)))) (Seq Last (noted Released 0) (Pure (Slot 3)))))))))
+bracket_full_written = refl
+
 -- (bracket x (pure 1) (say 2) (say x)) is
 -- (uncancelable p0 (let v1 (pure 1) (seq (acquired p0) (uncancelable p2
 --   (let v3 (handle

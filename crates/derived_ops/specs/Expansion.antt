@@ -189,6 +189,10 @@ expansion m d (word.Bracket_case acq body rs re rc) =
     let x = m ++ (d + 1) ∷ [] in
     let y = x ++ (d + 3) ∷ [] in
     bracket_case d (expansion m (d + 1) acq) (expansion x (d + 3) body) (expansion y (d + 4) rs) (expansion y (d + 4) re) (expansion x (d + 3) rc)
+expansion m d (word.Bracket_full acq body rs re rc) =
+    let x = m ++ (d + 1) ∷ [] in
+    let y = x ++ (d + 3) ∷ [] in
+    bracket_case d (expansion (m ++ d ∷ []) (d + 1) acq) (expansion x (d + 3) body) (expansion y (d + 4) rs) (expansion y (d + 4) re) (expansion x (d + 3) rc)
 expansion m d (word.Race a b) = race d (expansion m (d + 3) a) (expansion m (d + 4) b)
 expansion m d (word.Both a b k) =
     both d (expansion m (d + 4) a) (expansion m (d + 5) b) (expansion ((m ++ (d + 1) ∷ []) ++ (d + 2) ∷ []) (d + 3) k)

@@ -43,6 +43,8 @@ abbrev mutual
   source_of (term.Bracket' _ acq _ body _ rel) = word.Bracket (source_of acq) (source_of body) (source_of rel)
   source_of (term.BracketCase' _ acq _ body _ rs _ re _ rc) =
       word.Bracket_case (source_of acq) (source_of body) (source_of rs) (source_of re) (source_of rc)
+  source_of (term.BracketFull' _ acq _ body _ rs _ re _ rc) =
+      word.Bracket_full (source_of acq) (source_of body) (source_of rs) (source_of re) (source_of rc)
   source_of (term.Race' _ a _ b) = word.Race (source_of a) (source_of b)
   source_of (term.Both' _ a _ b _ k) = word.Both (source_of a) (source_of b) (source_of k)
 

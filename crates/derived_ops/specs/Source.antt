@@ -1,4 +1,4 @@
--- The terms of a program, in all 31 words, without pointers. A name is the slot of its binder, which is the number of
+-- The terms of a program, in all 32 words, without pointers. A name is the slot of its binder, which is the number of
 -- binders around that one. The parts stand in the order in which they are written.
 use Rattle.std.specs.Prelude.{ℕ}
 use Rattle.derived_ops.specs.Tree.{Value, Rest}
@@ -33,5 +33,6 @@ pub data Source : Type 0 where
   Guarantee : (e fin : Source) → Source
   Bracket : (acq body rel : Source) → Source
   Bracket_case : (acq body rs re rc : Source) → Source
+  Bracket_full : (acq body rs re rc : Source) → Source
   Race : (a b : Source) → Source
   Both : (a b k : Source) → Source

@@ -1,4 +1,4 @@
-//! What the words that release stand for: `guarantee`, and `bracket` and `bracketcase`.
+//! What the words that release stand for: `guarantee`, `bracket`, `bracketcase` and `bracketfull`.
 
 ghost use Rattle.std.specs.Prelude.{◌≡◌, ◌+◌, ◌<◌, ◌^◌, IfOk};
 ghost use Rattle.derived_ops.specs.Cores.{tree_of};

@@ -3,7 +3,7 @@
 ghost use Rattle.std.specs.Prelude.{◌≡◌, ◌+◌, ◌*◌, ◌<◌, ◌^◌, ◌++◌, [], ◌∷◌, map, IfOk, OnOk};
 ghost use Rattle.effect_term.specs.ExpansionSize.{expansion_size_of, total_expansion_size};
 ghost use Rattle.derived_ops.specs.Cores.{tree_of, value_in_core};
-ghost use Rattle.derived_ops.specs.Expansion.{expansion, slot_at, value_in};
+ghost use Rattle.derived_ops.specs.Expansion.{bracket_case, expansion, slot_at, value_in};
 ghost use Rattle.derived_ops.specs.Private.Sequences.{sources_in_order};
 ghost use Rattle.derived_ops.specs.Reading.{source_of, value_of};
 ghost use Rattle.derived_ops.specs.Source as word;
@@ -115,7 +115,12 @@ impl Scope {
             Term::Guarantee(e, fin) => self.guarantee(e, fin, depth),
             Term::Bracket(acq, body, rel) => self.bracket(acq, body, rel, depth),
             Term::BracketCase(acq, body, rs, re, rc) => {
-                self.bracket_case(acq, body, rs, re, rc, depth)
+                let acquired = self.part(acq, depth + 1)?;
+                self.bracket_case(acquired, body, rs, re, rc, depth)
+            }
+            Term::BracketFull(acq, body, rs, re, rc) => {
+                let acquired = self.under(acq, depth)?;
+                self.bracket_case(acquired, body, rs, re, rc, depth)
             }
             Term::Race(a, b) => {
                 let (a, b) = self.parts(a, depth + 3, b, depth + 4)?;
@@ -290,24 +295,27 @@ impl Scope {
         bracket_case(self.alloc, depth, acquired, body, releases)
     }
 
-    // The value or the code by which a release is chosen has the slot after the inner poll's.
+    // What was acquired has the slot after the outer poll's, and the value or the code by which a
+    // release is chosen the slot after the inner poll's.
     #[cycle(expansion)]
     #[tactic(auto, using(crate::proofs::Slots::two_more))]
     fn bracket_case(
         &mut self,
-        acquired: &Term,
+        acquired: Core,
         body: &Term,
         on_value: &Term,
         on_error: &Term,
         on_cancel: &Term,
         depth: u32,
     ) -> Result<Core, AllocError>
-        requires { depth + 31 + expansion_size_of acquired.now + expansion_size_of body.now + expansion_size_of on_value.now + expansion_size_of on_error.now + expansion_size_of on_cancel.now < 2 ^ 32 }
-        ensures core { IfOk result (λ core.
-            tree_of core ≡ expansion self.old.slots.items depth (word.Bracket_case (source_of acquired.now) (source_of body.now) (source_of on_value.now) (source_of on_error.now) (source_of on_cancel.now))) }
+        requires { depth + 31 + expansion_size_of body.now + expansion_size_of on_value.now + expansion_size_of on_error.now + expansion_size_of on_cancel.now < 2 ^ 32 }
+        ensures core { IfOk result (λ core. tree_of core ≡ bracket_case depth (tree_of acquired)
+            (expansion (self.old.slots.items ++ (depth + 1) ∷ []) (depth + 3) (source_of body.now))
+            (expansion ((self.old.slots.items ++ (depth + 1) ∷ []) ++ (depth + 3) ∷ []) (depth + 4) (source_of on_value.now))
+            (expansion ((self.old.slots.items ++ (depth + 1) ∷ []) ++ (depth + 3) ∷ []) (depth + 4) (source_of on_error.now))
+            (expansion (self.old.slots.items ++ (depth + 1) ∷ []) (depth + 3) (source_of on_cancel.now))) }
         ensures slots { OnOk result (self.new.slots.items ≡ self.old.slots.items) }
     {
-        let acquired = self.part(acquired, depth + 1)?;
         let body = self.below(body, &[depth + 1], depth + 3)?;
         let bound = [depth + 1, depth + 3];
         let releases = self.releases(on_cancel, on_error, on_value, &bound, depth)?;

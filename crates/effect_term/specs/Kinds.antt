@@ -6,7 +6,7 @@ use Rattle.effect_term.specs.declared.term.Name.{Name}
 use Rattle.effect_term.specs.declared.term.Operand.{Operand}
 use Rattle.effect_term.specs.declared.term.Operand.TheVariants.{Number, Named}
 use Rattle.effect_term.specs.declared.term.Term.{Term, Row_of-Term, end_of-Term, more_of-Term}
-use Rattle.effect_term.specs.declared.term.Term.TheVariants.{Pure, Raise, Let', Seq', Handle', If0', Add, Say, Cede, Never, Canceled, Uncancelable', Poll', OnCancel', Start', Join', Cancel, Ref', Get, Set, Modify, Deferred', Complete, Await, Repeat', Forever', Guarantee', Bracket', BracketCase', Race', Both'}
+use Rattle.effect_term.specs.declared.term.Term.TheVariants.{Pure, Raise, Let', Seq', Handle', If0', Add, Say, Cede, Never, Canceled, Uncancelable', Poll', OnCancel', Start', Join', Cancel, Ref', Get, Set, Modify, Deferred', Complete, Await, Repeat', Forever', Guarantee', Bracket', BracketCase', BracketFull', Race', Both'}
 
 -- A name's slot is the number of binders that enclose its binder, so its binder's kind is the one at that index of the
 -- kinds of the binders around, outermost first. The kinds of the binder, of the name and of the place are one.
@@ -50,6 +50,7 @@ abbrev mutual
   WellKinded around (Guarantee' p e q fin) = WellKinded around e × WellKinded around fin
   WellKinded around (Bracket' p acq q body r rel) = WellKinded around acq × WellKinded (around ++ Value ∷ []) body × WellKinded (around ++ Value ∷ []) rel
   WellKinded around (BracketCase' p acq q body r rs s re t rc) = WellKinded around acq × WellKinded (around ++ Value ∷ []) body × WellKinded (around ++ Value ∷ Value ∷ []) rs × WellKinded (around ++ Value ∷ Value ∷ []) re × WellKinded (around ++ Value ∷ []) rc
+  WellKinded around (BracketFull' p acq q body r rs s re t rc) = WellKinded (around ++ Poll ∷ []) acq × WellKinded (around ++ Value ∷ []) body × WellKinded (around ++ Value ∷ Value ∷ []) rs × WellKinded (around ++ Value ∷ Value ∷ []) re × WellKinded (around ++ Value ∷ []) rc
   WellKinded around (Race' p a q b) = WellKinded around a × WellKinded around b
   WellKinded around (Both' p a q b r k) = WellKinded around a × WellKinded around b × WellKinded (around ++ Value ∷ Value ∷ []) k
 

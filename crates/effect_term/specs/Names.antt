@@ -9,7 +9,7 @@ use Rattle.effect_term.specs.declared.term.Operand.TheVariants.{Number, Named}
 use Rattle.effect_term.specs.declared.refusal.TermError.{TermError}
 use Rattle.effect_term.specs.declared.refusal.TermError.TheVariants.{NoMemory, Unbound, WrongKind}
 use Rattle.effect_term.specs.declared.term.Term.{Term, Row_of-Term, end_of-Term, more_of-Term}
-use Rattle.effect_term.specs.declared.term.Term.TheVariants.{Pure, Raise, Let', Seq', Handle', If0', Add, Say, Cede, Never, Canceled, Uncancelable', Poll', OnCancel', Start', Join', Cancel, Ref', Get, Set, Modify, Deferred', Complete, Await, Repeat', Forever', Guarantee', Bracket', BracketCase', Race', Both'}
+use Rattle.effect_term.specs.declared.term.Term.TheVariants.{Pure, Raise, Let', Seq', Handle', If0', Add, Say, Cede, Never, Canceled, Uncancelable', Poll', OnCancel', Start', Join', Cancel, Ref', Get, Set, Modify, Deferred', Complete, Await, Repeat', Forever', Guarantee', Bracket', BracketCase', BracketFull', Race', Both'}
 
 -- A name in a place of a kind, and the kinds of the binders around it, outermost first: a name's slot is the number of
 -- binders that enclose its binder, and so the index of its binder's kind.
@@ -87,6 +87,7 @@ abbrev mutual
   uses_of around (Guarantee' p e q fin) = uses_of around e ++ uses_of around fin
   uses_of around (Bracket' p acq q body r rel) = uses_of around acq ++ (uses_of (around ++ Value ∷ []) body ++ uses_of (around ++ Value ∷ []) rel)
   uses_of around (BracketCase' p acq q body r rs s re t rc) = uses_of around acq ++ (uses_of (around ++ Value ∷ []) body ++ (uses_of (around ++ Value ∷ Value ∷ []) rs ++ (uses_of (around ++ Value ∷ Value ∷ []) re ++ uses_of (around ++ Value ∷ []) rc)))
+  uses_of around (BracketFull' p acq q body r rs s re t rc) = uses_of (around ++ Poll ∷ []) acq ++ (uses_of (around ++ Value ∷ []) body ++ (uses_of (around ++ Value ∷ Value ∷ []) rs ++ (uses_of (around ++ Value ∷ Value ∷ []) re ++ uses_of (around ++ Value ∷ []) rc)))
   uses_of around (Race' p a q b) = uses_of around a ++ uses_of around b
   uses_of around (Both' p a q b r k) = uses_of around a ++ (uses_of around b ++ uses_of (around ++ Value ∷ Value ∷ []) k)
 

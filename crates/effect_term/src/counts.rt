@@ -29,10 +29,10 @@ impl Term {
             Term::Join(_, a, b, c) | Term::Bracket(a, b, c) | Term::Both(a, b, c) => {
                 above(a.size(), b.size()).saturating_add(c.size())
             }
-            Term::BracketCase(a, b, c, d, e) => above(a.size(), b.size())
-                .saturating_add(c.size())
-                .saturating_add(d.size())
-                .saturating_add(e.size()),
+            Term::BracketCase(a, b, c, d, e) | Term::BracketFull(a, b, c, d, e) => {
+                let before = above(a.size(), b.size()).saturating_add(c.size());
+                before.saturating_add(d.size()).saturating_add(e.size())
+            }
             Term::Seq(a, b, more) => {
                 let mut total = above(a.size(), b.size());
                 for t in more {
@@ -61,7 +61,7 @@ impl Term {
             Term::Join(_, a, b, c) | Term::Bracket(a, b, c) | Term::Both(a, b, c) => {
                 on_top(a.nest().max(b.nest()), c.nest())
             }
-            Term::BracketCase(a, b, c, d, e) => {
+            Term::BracketCase(a, b, c, d, e) | Term::BracketFull(a, b, c, d, e) => {
                 on_top(a.nest().max(b.nest()).max(c.nest()).max(d.nest()), e.nest())
             }
             Term::Seq(a, b, more) => {
@@ -96,11 +96,12 @@ impl Term {
             Term::Bracket(acq, body, rel) => within(acq.masks(), 1)
                 .max(within(body.masks(), 2))
                 .max(within(rel.masks(), 3)),
-            Term::BracketCase(acq, body, rs, re, rc) => within(acq.masks(), 1)
-                .max(within(body.masks(), 2))
-                .max(within(rs.masks(), 2))
-                .max(within(re.masks(), 2))
-                .max(within(rc.masks(), 3)),
+            Term::BracketCase(acq, body, rs, re, rc) | Term::BracketFull(acq, body, rs, re, rc) =>
+                within(acq.masks(), 1)
+                    .max(within(body.masks(), 2))
+                    .max(within(rs.masks(), 2))
+                    .max(within(re.masks(), 2))
+                    .max(within(rc.masks(), 3)),
             Term::Race(a, b) => within(a.masks().max(b.masks()), 2).max(3),
             Term::Both(a, b, k) => within(a.masks().max(b.masks()), 2).max(3).max(k.masks()),
             Term::Seq(a, b, more) => {
@@ -150,7 +151,7 @@ impl Term {
                 let total = over(31, acq.expansion_size(), body.expansion_size());
                 stopping(total, 3 * rel.expansion_size())
             }
-            Term::BracketCase(acq, body, rs, re, rc) => {
+            Term::BracketCase(acq, body, rs, re, rc) | Term::BracketFull(acq, body, rs, re, rc) => {
                 let total = stopping(
                     over(31, acq.expansion_size(), body.expansion_size()),
                     rs.expansion_size(),
@@ -186,7 +187,7 @@ impl Term {
             Term::Join(_, a, b, c) | Term::Bracket(a, b, c) => {
                 a.starts_fiber() || b.starts_fiber() || c.starts_fiber()
             }
-            Term::BracketCase(a, b, c, d, e) => {
+            Term::BracketCase(a, b, c, d, e) | Term::BracketFull(a, b, c, d, e) => {
                 a.starts_fiber()
                     || b.starts_fiber()
                     || c.starts_fiber()

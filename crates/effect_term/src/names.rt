@@ -90,6 +90,13 @@ pub(crate) fn check_names(kinds: &mut Vec<Kind>, term: &Term) -> Result<(), Term
             check_under(kinds, &[Kind::Value, Kind::Value], re)?;
             check_under(kinds, &[Kind::Value], rc)
         }
+        Term::BracketFull(acq, body, rs, re, rc) => {
+            check_under(kinds, &[Kind::Poll], acq)?;
+            check_under(kinds, &[Kind::Value], body)?;
+            check_under(kinds, &[Kind::Value, Kind::Value], rs)?;
+            check_under(kinds, &[Kind::Value, Kind::Value], re)?;
+            check_under(kinds, &[Kind::Value], rc)
+        }
         Term::Both(a, b, k) => {
             check_names(kinds, a)?;
             check_names(kinds, b)?;

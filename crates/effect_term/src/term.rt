@@ -1,4 +1,4 @@
-//! The terms of effect programs, as boxed trees of the 31 words.
+//! The terms of effect programs, as boxed trees of the 32 words.
 //!
 //! The words are those of Cats Effect 3's `MonadCancel`, `GenSpawn` and `GenConcurrent`, with terms in
 //! the place of functions and whole numbers in the place of values.
@@ -101,6 +101,8 @@ pub enum Term {
     /// Acquires, uses what was acquired, and releases it by the outcome's case: success, whose
     /// value is bound, error, whose code is bound, or cancellation.
     BracketCase(Box<Term>, Box<Term>, Box<Term>, Box<Term>, Box<Term>),
+    /// The same, where the first term binds the poll of the mask below which it acquires.
+    BracketFull(Box<Term>, Box<Term>, Box<Term>, Box<Term>, Box<Term>),
     /// The value or error of the side that ends first. The other is canceled.
     Race(Box<Term>, Box<Term>),
     /// Both sides at once, and then the third term, which binds their values.

@@ -66,7 +66,7 @@ fn core_words_with_parts(rt: HostRuntime) -> Result<(), Fail> {
 
 #[test]
 fn derived_words(rt: HostRuntime) -> Result<(), Fail> {
-    let table: [(&[u8], Told); 7] = [
+    let table: [(&[u8], Told); 9] = [
         (b"(guarantee (never) (cede))", (3, 2, 2, false)),
         (b"(bracket x (cede) (say x) (say x))", (4, 2, 3, false)),
         (
@@ -76,6 +76,14 @@ fn derived_words(rt: HostRuntime) -> Result<(), Fail> {
         (
             b"(bracketcase x (cede) (say x) y (add x y) z (add x z) (say x))",
             (6, 2, 3, false),
+        ),
+        (
+            b"(bracketfull p x (poll p (cede)) (say x) y (add x y) z (add x z) (say x))",
+            (7, 3, 3, false),
+        ),
+        (
+            b"(bracketfull p x (guarantee (race (cede) (cede)) (cede)) (cede) y (cede) z (cede) (cede))",
+            (10, 4, 5, true),
         ),
         (b"(race (cede) (never))", (3, 2, 3, true)),
         (b"(both (cede) (never) x y (add x y))", (4, 2, 3, true)),

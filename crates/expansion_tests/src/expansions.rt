@@ -52,6 +52,14 @@ const BRACKET_CASE: &[u8] =
     0)) (released p0) (raise v3))) (seq (releasing p0) (handle (say v3) v4 (seq (released p0) \
     (raise v4))) (released p0) (pure v3)))))))";
 
+// `(bracketfull p x (poll p (pure 1)) (say x) y (say y) z (say z) (say x))`.
+const BRACKET_FULL: &[u8] =
+    b"(uncancelable p0 (let v1 (poll p0 (pure 1)) (seq (acquired p0) (uncancelable p2 (let v3 \
+    (handle (oncancel (poll p2 (poll p0 (say v1))) (seq (releasing p0) (handle (say v1) v3 (seq \
+    (released p0) (raise v3))) (released p0))) v3 (seq (releasing p0) (handle (say v3) v4 (pure \
+    0)) (released p0) (raise v3))) (seq (releasing p0) (handle (say v3) v4 (seq (released p0) \
+    (raise v4))) (released p0) (pure v3)))))))";
+
 // `(race (say 1) (say 2))`.
 const RACE: &[u8] =
     b"(uncancelable p0 (deferred d1 (start f2 (uncancelable p2 (let v3 (handle (oncancel (poll p2 \
@@ -91,7 +99,7 @@ fn core_words_are_expanded_part_by_part(rt: HostRuntime) -> Result<(), Fail> {
 }
 
 // Programs of derived words, each with the text of its expansion.
-const DERIVED_WORDS: [(&[u8], &[u8]); 5] = [
+const DERIVED_WORDS: [(&[u8], &[u8]); 6] = [
     (b"(guarantee (say 1) (say 2))", GUARANTEE),
     (
         b"(bracket x (pure 1) (say x) (let w (say x) (pure w)))",
@@ -100,6 +108,10 @@ const DERIVED_WORDS: [(&[u8], &[u8]); 5] = [
     (
         b"(bracketcase x (pure 1) (say x) y (say y) z (say z) (say x))",
         BRACKET_CASE,
+    ),
+    (
+        b"(bracketfull p x (poll p (pure 1)) (say x) y (say y) z (say z) (say x))",
+        BRACKET_FULL,
     ),
     (b"(race (say 1) (say 2))", RACE),
     (b"(both (say 1) (say 2) x y (add x y))", BOTH),

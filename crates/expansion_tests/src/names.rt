@@ -61,6 +61,25 @@ fn a_binder_ends_with_its_part(rt: HostRuntime) -> Result<(), AllocError> {
 }
 
 #[test]
+fn a_poll_of_an_acquisition_ends_with_it(rt: HostRuntime) -> Result<(), AllocError> {
+    let alloc = rt.alloc();
+    let poll = Name {
+        slot: 0,
+        kind: Kind::Poll,
+    };
+    let polled = boxed(alloc, Term::Poll(poll, boxed(alloc, Term::Cede)?))?;
+    let term = Term::BracketFull(
+        boxed(alloc, Term::Cede)?,
+        polled,
+        boxed(alloc, Term::Cede)?,
+        boxed(alloc, Term::Cede)?,
+        boxed(alloc, Term::Cede)?,
+    );
+    assert_eq!(rt; refusal(alloc, term), Some(TermError::WrongKind(0)));
+    Ok(())
+}
+
+#[test]
 fn a_child_has_no_name_of_itself(rt: HostRuntime) -> Result<(), AllocError> {
     let alloc = rt.alloc();
     let fiber = Name {

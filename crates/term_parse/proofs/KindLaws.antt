@@ -8,7 +8,7 @@ use Rattle.effect_term.specs.declared.term.Kind.TheVariants as kinds
 use Rattle.effect_term.specs.declared.term.Name.{Name}
 use Rattle.effect_term.specs.declared.term.Operand.TheVariants.{Number, Named}
 use Rattle.effect_term.specs.declared.term.Term.{Term, Row_of-Term, end_of-Term, more_of-Term}
-use Rattle.effect_term.specs.declared.term.Term.TheVariants.{Pure, Raise, Let', Seq', Handle', If0', Add, Say, Cede, Never, Canceled, Uncancelable', Poll', OnCancel', Start', Join', Cancel, Ref', Get, Set, Modify, Deferred', Complete, Await, Repeat', Forever', Guarantee', Bracket', BracketCase', Race', Both'}
+use Rattle.effect_term.specs.declared.term.Term.TheVariants.{Pure, Raise, Let', Seq', Handle', If0', Add, Say, Cede, Never, Canceled, Uncancelable', Poll', OnCancel', Start', Join', Cancel, Ref', Get, Set, Modify, Deferred', Complete, Await, Repeat', Forever', Guarantee', Bracket', BracketCase', BracketFull', Race', Both'}
 use Rattle.effect_term.specs.Kinds.{Fits, ValueFits, WellKinded, AllWellKinded}
 use Rattle.term_parse.specs.declared.error.ParseError.{ParseError}
 use Rattle.term_parse.specs.declared.table.Part.{Part}
@@ -162,6 +162,7 @@ as_form (Forever' p e) rest = (_, _, refl)
 as_form (Guarantee' p e q fin) rest = (_, _, refl)
 as_form (Bracket' p acq q body r rel) rest = (_, _, refl)
 as_form (BracketCase' p acq q body r rs s re t rc) rest = (_, _, refl)
+as_form (BracketFull' p acq q body r rs s re t rc) rest = (_, _, refl)
 as_form (Race' p a q b) rest = (_, _, refl)
 as_form (Both' p a q b r k) rest = (_, _, refl)
 
@@ -270,6 +271,13 @@ mutual
       let in_re = split_both 0 2 re (term_then rc closed) ks (kinds.Value ∷ kinds.Value ∷ kinds.Value ∷ []) _ in_rs.1 in
       let in_rc = split_under 0 rc closed ks (kinds.Value ∷ kinds.Value ∷ kinds.Value ∷ []) _ in_re.1 in
       (kinded_term acq ks (term_then body (term_then rs (term_then re (term_then rc closed)))) in_acq.0, kinded_term body (ks ++ kinds.Value ∷ []) (term_then rs (term_then re (term_then rc closed))) in_body.0, kinded_term rs (ks ++ kinds.Value ∷ kinds.Value ∷ []) (term_then re (term_then rc closed)) in_rs.0, kinded_term re (ks ++ kinds.Value ∷ kinds.Value ∷ []) (term_then rc closed) in_re.0, kinded_term rc (ks ++ kinds.Value ∷ []) closed in_rc.0)
+  kinded_term (BracketFull' p acq q body r rs s re t rc) ks rest m =
+      let in_acq = split_under 0 acq (term_then body (term_then rs (term_then re (term_then rc closed)))) ks (kinds.Poll ∷ kinds.Value ∷ []) _ m in
+      let in_body = split_under 1 body (term_then rs (term_then re (term_then rc closed))) ks (kinds.Poll ∷ kinds.Value ∷ []) _ in_acq.1 in
+      let in_rs = split_both 1 2 rs (term_then re (term_then rc closed)) ks (kinds.Poll ∷ kinds.Value ∷ kinds.Value ∷ []) _ in_body.1 in
+      let in_re = split_both 1 3 re (term_then rc closed) ks (kinds.Poll ∷ kinds.Value ∷ kinds.Value ∷ kinds.Value ∷ []) _ in_rs.1 in
+      let in_rc = split_under 1 rc closed ks (kinds.Poll ∷ kinds.Value ∷ kinds.Value ∷ kinds.Value ∷ []) _ in_re.1 in
+      (kinded_term acq (ks ++ kinds.Poll ∷ []) (term_then body (term_then rs (term_then re (term_then rc closed)))) in_acq.0, kinded_term body (ks ++ kinds.Value ∷ []) (term_then rs (term_then re (term_then rc closed))) in_body.0, kinded_term rs (ks ++ kinds.Value ∷ kinds.Value ∷ []) (term_then re (term_then rc closed)) in_rs.0, kinded_term re (ks ++ kinds.Value ∷ kinds.Value ∷ []) (term_then rc closed) in_re.0, kinded_term rc (ks ++ kinds.Value ∷ []) closed in_rc.0)
   kinded_term (Race' p a q b) ks rest m =
       let in_a = split_term a (term_then b closed) ks [] _ m in
       let in_b = split_term b closed ks [] _ in_a.1 in

@@ -4,7 +4,7 @@ use Rattle.std.proofs.lemmas.Bool.{le-ltb}
 use Rattle.effect_term.specs.declared.term.Kind.{Kind}
 use Rattle.effect_term.specs.declared.term.Kind.TheVariants as kinds
 use Rattle.effect_term.specs.declared.term.Term.{Term, Row_of-Term, end_of-Term, more_of-Term}
-use Rattle.effect_term.specs.declared.term.Term.TheVariants.{Pure, Raise, Let', Seq', Handle', If0', Add, Say, Cede, Never, Canceled, Uncancelable', Poll', OnCancel', Start', Join', Cancel, Ref', Get, Set, Modify, Deferred', Complete, Await, Repeat', Forever', Guarantee', Bracket', BracketCase', Race', Both'}
+use Rattle.effect_term.specs.declared.term.Term.TheVariants.{Pure, Raise, Let', Seq', Handle', If0', Add, Say, Cede, Never, Canceled, Uncancelable', Poll', OnCancel', Start', Join', Cancel, Ref', Get, Set, Modify, Deferred', Complete, Await, Repeat', Forever', Guarantee', Bracket', BracketCase', BracketFull', Race', Both'}
 use Rattle.effect_term.specs.Kinds.{WellKinded, AllWellKinded}
 use Rattle.effect_term.specs.Sizes.{nest_of, nests_of}
 use Rattle.term_parse.specs.declared.table.Word.TheVariants as words
@@ -64,6 +64,7 @@ mutual
   term_read (Guarantee' p e q fin) ks kinded = form_read words.Guarantee (inner_read (reader e) ∷ inner_read (reader fin) ∷ []) [] ks (nest_of (Guarantee' p e q fin)) (spelling (Guarantee' p e q fin)) (atoms_of (Guarantee' p e q fin)) refl refl (omega arith, term_read e ks kinded.0, (omega arith, term_read fin ks kinded.1, tt)) (omega arith)
   term_read (Bracket' p acq q body r rel) ks kinded = form_read words.Bracket (inner_read (reader acq) ∷ inner_read (reader body) ∷ inner_read (reader rel) ∷ []) [] ks (nest_of (Bracket' p acq q body r rel)) (spelling (Bracket' p acq q body r rel)) (atoms_of (Bracket' p acq q body r rel)) refl refl (omega arith, term_read acq ks kinded.0, (kinds.Value, refl, omega arith, term_read body (ks ++ kinds.Value ∷ []) kinded.1, (kinds.Value, refl, omega arith, term_read rel (ks ++ kinds.Value ∷ []) kinded.2, tt))) (omega arith)
   term_read (BracketCase' p acq q body r rs s re t rc) ks kinded = form_read words.BracketCase (inner_read (reader acq) ∷ inner_read (reader body) ∷ inner_read (reader rs) ∷ inner_read (reader re) ∷ inner_read (reader rc) ∷ []) [] ks (nest_of (BracketCase' p acq q body r rs s re t rc)) (spelling (BracketCase' p acq q body r rs s re t rc)) (atoms_of (BracketCase' p acq q body r rs s re t rc)) refl refl (omega arith, term_read acq ks kinded.0, (kinds.Value, refl, omega arith, term_read body (ks ++ kinds.Value ∷ []) kinded.1, (kinds.Value, kinds.Value, refl, refl, omega arith, term_read rs (ks ++ kinds.Value ∷ kinds.Value ∷ []) kinded.2, (kinds.Value, kinds.Value, refl, refl, omega arith, term_read re (ks ++ kinds.Value ∷ kinds.Value ∷ []) kinded.3, (kinds.Value, refl, omega arith, term_read rc (ks ++ kinds.Value ∷ []) kinded.4, tt))))) (omega arith)
+  term_read (BracketFull' p acq q body r rs s re t rc) ks kinded = form_read words.BracketFull (inner_read (reader acq) ∷ inner_read (reader body) ∷ inner_read (reader rs) ∷ inner_read (reader re) ∷ inner_read (reader rc) ∷ []) [] ks (nest_of (BracketFull' p acq q body r rs s re t rc)) (spelling (BracketFull' p acq q body r rs s re t rc)) (atoms_of (BracketFull' p acq q body r rs s re t rc)) refl refl (kinds.Poll, refl, omega arith, term_read acq (ks ++ kinds.Poll ∷ []) kinded.0, (kinds.Value, refl, omega arith, term_read body (ks ++ kinds.Value ∷ []) kinded.1, (kinds.Value, kinds.Value, refl, refl, omega arith, term_read rs (ks ++ kinds.Value ∷ kinds.Value ∷ []) kinded.2, (kinds.Value, kinds.Value, refl, refl, omega arith, term_read re (ks ++ kinds.Value ∷ kinds.Value ∷ []) kinded.3, (kinds.Value, refl, omega arith, term_read rc (ks ++ kinds.Value ∷ []) kinded.4, tt))))) (omega arith)
   term_read (Race' p a q b) ks kinded = form_read words.Race (inner_read (reader a) ∷ inner_read (reader b) ∷ []) [] ks (nest_of (Race' p a q b)) (spelling (Race' p a q b)) (atoms_of (Race' p a q b)) refl refl (omega arith, term_read a ks kinded.0, (omega arith, term_read b ks kinded.1, tt)) (omega arith)
   term_read (Both' p a q b r k) ks kinded = form_read words.Both (inner_read (reader a) ∷ inner_read (reader b) ∷ inner_read (reader k) ∷ []) [] ks (nest_of (Both' p a q b r k)) (spelling (Both' p a q b r k)) (atoms_of (Both' p a q b r k)) refl refl (omega arith, term_read a ks kinded.0, (omega arith, term_read b ks kinded.1, (kinds.Value, kinds.Value, refl, refl, omega arith, term_read k (ks ++ kinds.Value ∷ kinds.Value ∷ []) kinded.2, tt))) (omega arith)
 

@@ -1,7 +1,7 @@
 -- Terms with the same atoms are the same but for where they lie in memory.
 use Rattle.std.proofs.Common.{◌≡◌, List, [], ◌∷◌, ◌++◌, refl, ap, sym, ◌∙◌, append_assoc}
 use Rattle.effect_term.specs.declared.term.Term.{Term, Row_of-Term, end_of-Term, more_of-Term}
-use Rattle.effect_term.specs.declared.term.Term.TheVariants.{Pure, Raise, Let', Seq', Handle', If0', Add, Say, Cede, Never, Canceled, Uncancelable', Poll', OnCancel', Start', Join', Cancel, Ref', Get, Set, Modify, Deferred', Complete, Await, Repeat', Forever', Guarantee', Bracket', BracketCase', Race', Both'}
+use Rattle.effect_term.specs.declared.term.Term.TheVariants.{Pure, Raise, Let', Seq', Handle', If0', Add, Say, Cede, Never, Canceled, Uncancelable', Poll', OnCancel', Start', Join', Cancel, Ref', Get, Set, Modify, Deferred', Complete, Await, Repeat', Forever', Guarantee', Bracket', BracketCase', BracketFull', Race', Both'}
 use Rattle.term_parse.specs.declared.table.Word.TheVariants as words
 use Rattle.term_parse.specs.Atoms.{Atom, word, value, name, ended, atoms_of, row_atoms}
 use Rattle.term_parse.specs.Shapes.{Shape, closed, value_then, name_then, form_then, term_then, row_then, shape_of}
@@ -64,6 +64,7 @@ mutual
   flat_term (Guarantee' p e q fin) rest = ap (λ x. word words.Guarantee ∷ (x ++ flat rest)) (flat_term e (term_then fin closed) ∙ ap (λ x. atoms_of e ++ x) (flat_term fin closed))
   flat_term (Bracket' p acq q body r rel) rest = ap (λ x. word words.Bracket ∷ (x ++ flat rest)) (flat_term acq (term_then body (term_then rel closed)) ∙ ap (λ x. atoms_of acq ++ x) (flat_term body (term_then rel closed) ∙ ap (λ x. atoms_of body ++ x) (flat_term rel closed)))
   flat_term (BracketCase' p acq q body r rs s re t rc) rest = ap (λ x. word words.BracketCase ∷ (x ++ flat rest)) (flat_term acq (term_then body (term_then rs (term_then re (term_then rc closed)))) ∙ ap (λ x. atoms_of acq ++ x) (flat_term body (term_then rs (term_then re (term_then rc closed))) ∙ ap (λ x. atoms_of body ++ x) (flat_term rs (term_then re (term_then rc closed)) ∙ ap (λ x. atoms_of rs ++ x) (flat_term re (term_then rc closed) ∙ ap (λ x. atoms_of re ++ x) (flat_term rc closed)))))
+  flat_term (BracketFull' p acq q body r rs s re t rc) rest = ap (λ x. word words.BracketFull ∷ (x ++ flat rest)) (flat_term acq (term_then body (term_then rs (term_then re (term_then rc closed)))) ∙ ap (λ x. atoms_of acq ++ x) (flat_term body (term_then rs (term_then re (term_then rc closed))) ∙ ap (λ x. atoms_of body ++ x) (flat_term rs (term_then re (term_then rc closed)) ∙ ap (λ x. atoms_of rs ++ x) (flat_term re (term_then rc closed) ∙ ap (λ x. atoms_of re ++ x) (flat_term rc closed)))))
   flat_term (Race' p a q b) rest = ap (λ x. word words.Race ∷ (x ++ flat rest)) (flat_term a (term_then b closed) ∙ ap (λ x. atoms_of a ++ x) (flat_term b closed))
   flat_term (Both' p a q b r k) rest = ap (λ x. word words.Both ∷ (x ++ flat rest)) (flat_term a (term_then b (term_then k closed)) ∙ ap (λ x. atoms_of a ++ x) (flat_term b (term_then k closed) ∙ ap (λ x. atoms_of b ++ x) (flat_term k closed)))
 

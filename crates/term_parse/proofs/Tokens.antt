@@ -204,5 +204,6 @@ word_token words.Forever at rest e = identifier at 102 (111 ∷ 114 ∷ 101 ∷ 
 word_token words.Guarantee at rest e = identifier at 103 (117 ∷ 97 ∷ 114 ∷ 97 ∷ 110 ∷ 116 ∷ 101 ∷ 101 ∷ []) rest (λ bs. refl) refl e
 word_token words.Bracket at rest e = identifier at 98 (114 ∷ 97 ∷ 99 ∷ 107 ∷ 101 ∷ 116 ∷ []) rest (λ bs. refl) refl e
 word_token words.BracketCase at rest e = identifier at 98 (114 ∷ 97 ∷ 99 ∷ 107 ∷ 101 ∷ 116 ∷ 99 ∷ 97 ∷ 115 ∷ 101 ∷ []) rest (λ bs. refl) refl e
+word_token words.BracketFull at rest e = identifier at 98 (114 ∷ 97 ∷ 99 ∷ 107 ∷ 101 ∷ 116 ∷ 102 ∷ 117 ∷ 108 ∷ 108 ∷ []) rest (λ bs. refl) refl e
 word_token words.Race at rest e = identifier at 114 (97 ∷ 99 ∷ 101 ∷ []) rest (λ bs. refl) refl e
 word_token words.Both at rest e = identifier at 98 (111 ∷ 116 ∷ 104 ∷ []) rest (λ bs. refl) refl e

@@ -38,6 +38,7 @@ completed words.Forever m c = cc
 completed words.Guarantee m c = cc
 completed words.Bracket m c = cc
 completed words.BracketCase m c = cc
+completed words.BracketFull m c = cc
 completed words.Race m c = cc
 completed words.Both m c = cc
 
@@ -72,6 +73,7 @@ word_of-spelled words.Forever = refl
 word_of-spelled words.Guarantee = refl
 word_of-spelled words.Bracket = refl
 word_of-spelled words.BracketCase = refl
+word_of-spelled words.BracketFull = refl
 word_of-spelled words.Race = refl
 word_of-spelled words.Both = refl
 

@@ -5,7 +5,7 @@ use Rattle.effect_term.specs.declared.term.Name.{Name}
 use Rattle.term_parse.specs.declared.table.Word.{Word}
 use Rattle.term_parse.specs.declared.table.Word.TheVariants as words
 use Rattle.effect_term.specs.declared.term.Term.{Term, Row_of-Term, end_of-Term, more_of-Term}
-use Rattle.effect_term.specs.declared.term.Term.TheVariants.{Pure, Raise, Let', Seq', Handle', If0', Add, Say, Cede, Never, Canceled, Uncancelable', Poll', OnCancel', Start', Join', Cancel, Ref', Get, Set, Modify, Deferred', Complete, Await, Repeat', Forever', Guarantee', Bracket', BracketCase', Race', Both'}
+use Rattle.effect_term.specs.declared.term.Term.TheVariants.{Pure, Raise, Let', Seq', Handle', If0', Add, Say, Cede, Never, Canceled, Uncancelable', Poll', OnCancel', Start', Join', Cancel, Ref', Get, Set, Modify, Deferred', Complete, Await, Repeat', Forever', Guarantee', Bracket', BracketCase', BracketFull', Race', Both'}
 
 pub data Atom : Type 0 where
   word : Word → Atom
@@ -44,6 +44,7 @@ abbrev mutual
   atoms_of (Guarantee' p0 e0 p1 e1) = word words.Guarantee ∷ (atoms_of e0 ++ (atoms_of e1 ++ (ended ∷ [])))
   atoms_of (Bracket' p0 e0 p1 e1 p2 e2) = word words.Bracket ∷ (atoms_of e0 ++ (atoms_of e1 ++ (atoms_of e2 ++ (ended ∷ []))))
   atoms_of (BracketCase' p0 e0 p1 e1 p2 e2 p3 e3 p4 e4) = word words.BracketCase ∷ (atoms_of e0 ++ (atoms_of e1 ++ (atoms_of e2 ++ (atoms_of e3 ++ (atoms_of e4 ++ (ended ∷ []))))))
+  atoms_of (BracketFull' p0 e0 p1 e1 p2 e2 p3 e3 p4 e4) = word words.BracketFull ∷ (atoms_of e0 ++ (atoms_of e1 ++ (atoms_of e2 ++ (atoms_of e3 ++ (atoms_of e4 ++ (ended ∷ []))))))
   atoms_of (Race' p0 e0 p1 e1) = word words.Race ∷ (atoms_of e0 ++ (atoms_of e1 ++ (ended ∷ [])))
   atoms_of (Both' p0 e0 p1 e1 p2 e2) = word words.Both ∷ (atoms_of e0 ++ (atoms_of e1 ++ (atoms_of e2 ++ (ended ∷ []))))
 

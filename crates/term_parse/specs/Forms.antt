@@ -98,6 +98,7 @@ Shaped words.Forever s = s ≡ a_term ∷ []
 Shaped words.Guarantee s = s ≡ a_term ∷ a_term ∷ []
 Shaped words.Bracket s = s ≡ a_term ∷ a_term ∷ a_term ∷ []
 Shaped words.BracketCase s = s ≡ a_term ∷ a_term ∷ a_term ∷ a_term ∷ a_term ∷ []
+Shaped words.BracketFull s = s ≡ a_term ∷ a_term ∷ a_term ∷ a_term ∷ a_term ∷ []
 Shaped words.Race s = s ≡ a_term ∷ a_term ∷ []
 Shaped words.Both s = s ≡ a_term ∷ a_term ∷ a_term ∷ []
 
@@ -135,7 +136,7 @@ front_of f = word f.word ∷ pieces_atoms f.pieces.items
 
 -- the part that is wanted next
 pub record NextIs (f : Form) (p : Part) : Type 0 where
-  pub below : f.next < 9
+  pub below : f.next < 10
   pub part_is : drop f.next (parts_of f.word) ≡ p ∷ drop (f.next + 1) (parts_of f.word)
 
 abbrev pub IsTermPart : Part → Type 0

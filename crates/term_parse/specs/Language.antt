@@ -13,8 +13,8 @@ every_word =
     words.Pure ∷ words.Raise ∷ words.Let ∷ words.Seq ∷ words.Handle ∷ words.If0 ∷ words.Add ∷ words.Say ∷
     words.Cede ∷ words.Never ∷ words.Canceled ∷ words.Uncancelable ∷ words.Poll ∷ words.OnCancel ∷ words.Start ∷
     words.Join ∷ words.Cancel ∷ words.Ref ∷ words.Get ∷ words.Set ∷ words.Modify ∷ words.Deferred ∷ words.Complete ∷
-    words.Await ∷ words.Repeat ∷ words.Forever ∷ words.Guarantee ∷ words.Bracket ∷ words.BracketCase ∷ words.Race ∷
-    words.Both ∷ []
+    words.Await ∷ words.Repeat ∷ words.Forever ∷ words.Guarantee ∷ words.Bracket ∷ words.BracketCase ∷
+    words.BracketFull ∷ words.Race ∷ words.Both ∷ []
 
 -- how each is spelled
 unfoldable pub word_spelling : Word → List ℕ
@@ -47,6 +47,7 @@ word_spelling words.Forever = codes "forever"
 word_spelling words.Guarantee = codes "guarantee"
 word_spelling words.Bracket = codes "bracket"
 word_spelling words.BracketCase = codes "bracketcase"
+word_spelling words.BracketFull = codes "bracketfull"
 word_spelling words.Race = codes "race"
 word_spelling words.Both = codes "both"
 
@@ -111,6 +112,8 @@ parts_of words.Guarantee = Term ∷ Term ∷ Close ∷ []
 parts_of words.Bracket = Bind kinds.Value ∷ Term ∷ Under 0 ∷ Under 0 ∷ Close ∷ []
 -- (bracketcase x acq body y rs z re rc)
 parts_of words.BracketCase = Bind kinds.Value ∷ Term ∷ Under 0 ∷ Bind kinds.Value ∷ UnderBoth 0 1 ∷ Bind kinds.Value ∷ UnderBoth 0 2 ∷ Under 0 ∷ Close ∷ []
+-- (bracketfull p x acq body y rs z re rc)
+parts_of words.BracketFull = Bind kinds.Poll ∷ Bind kinds.Value ∷ Under 0 ∷ Under 1 ∷ Bind kinds.Value ∷ UnderBoth 1 2 ∷ Bind kinds.Value ∷ UnderBoth 1 3 ∷ Under 1 ∷ Close ∷ []
 -- (race a b)
 parts_of words.Race = Term ∷ Term ∷ Close ∷ []
 -- (both a b x y k)

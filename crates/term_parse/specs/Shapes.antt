@@ -2,7 +2,7 @@
 use Rattle.effect_term.specs.declared.term.Operand.{Operand}
 use Rattle.effect_term.specs.declared.term.Name.{Name}
 use Rattle.effect_term.specs.declared.term.Term.{Term, Row_of-Term, end_of-Term, more_of-Term}
-use Rattle.effect_term.specs.declared.term.Term.TheVariants.{Pure, Raise, Let', Seq', Handle', If0', Add, Say, Cede, Never, Canceled, Uncancelable', Poll', OnCancel', Start', Join', Cancel, Ref', Get, Set, Modify, Deferred', Complete, Await, Repeat', Forever', Guarantee', Bracket', BracketCase', Race', Both'}
+use Rattle.effect_term.specs.declared.term.Term.TheVariants.{Pure, Raise, Let', Seq', Handle', If0', Add, Say, Cede, Never, Canceled, Uncancelable', Poll', OnCancel', Start', Join', Cancel, Ref', Get, Set, Modify, Deferred', Complete, Await, Repeat', Forever', Guarantee', Bracket', BracketCase', BracketFull', Race', Both'}
 use Rattle.term_parse.specs.declared.table.Word.{Word}
 use Rattle.term_parse.specs.declared.table.Word.TheVariants as words
 
@@ -45,6 +45,7 @@ abbrev mutual
   term_then (Guarantee' p e q fin) rest = form_then words.Guarantee (term_then e (term_then fin closed)) rest
   term_then (Bracket' p acq q body r rel) rest = form_then words.Bracket (term_then acq (term_then body (term_then rel closed))) rest
   term_then (BracketCase' p acq q body r rs s re t rc) rest = form_then words.BracketCase (term_then acq (term_then body (term_then rs (term_then re (term_then rc closed))))) rest
+  term_then (BracketFull' p acq q body r rs s re t rc) rest = form_then words.BracketFull (term_then acq (term_then body (term_then rs (term_then re (term_then rc closed))))) rest
   term_then (Race' p a q b) rest = form_then words.Race (term_then a (term_then b closed)) rest
   term_then (Both' p a q b r k) rest = form_then words.Both (term_then a (term_then b (term_then k closed))) rest
 

@@ -8,7 +8,7 @@ use Rattle.effect_term.specs.declared.term.Name.{Name}
 use Rattle.effect_term.specs.declared.term.Operand.{Operand}
 use Rattle.effect_term.specs.declared.term.Operand.TheVariants.{Number, Named}
 use Rattle.effect_term.specs.declared.term.Term.{Term, Row_of-Term, end_of-Term, more_of-Term}
-use Rattle.effect_term.specs.declared.term.Term.TheVariants.{Pure, Raise, Let', Seq', Handle', If0', Add, Say, Cede, Never, Canceled, Uncancelable', Poll', OnCancel', Start', Join', Cancel, Ref', Get, Set, Modify, Deferred', Complete, Await, Repeat', Forever', Guarantee', Bracket', BracketCase', Race', Both'}
+use Rattle.effect_term.specs.declared.term.Term.TheVariants.{Pure, Raise, Let', Seq', Handle', If0', Add, Say, Cede, Never, Canceled, Uncancelable', Poll', OnCancel', Start', Join', Cancel, Ref', Get, Set, Modify, Deferred', Complete, Await, Repeat', Forever', Guarantee', Bracket', BracketCase', BracketFull', Race', Both'}
 use Rattle.term_parse.specs.declared.table.Part.{Part}
 use Rattle.term_parse.specs.declared.table.Part.TheVariants as parts
 use Rattle.term_parse.specs.declared.table.Word.{Word}
@@ -104,6 +104,7 @@ abbrev mutual
   spelling (Guarantee' p e q fin) = form words.Guarantee (inner (spelling e) ∷ inner (spelling fin) ∷ []) []
   spelling (Bracket' p acq q body r rel) = form words.Bracket (inner (spelling acq) ∷ inner (spelling body) ∷ inner (spelling rel) ∷ []) []
   spelling (BracketCase' p acq q body r rs s re t rc) = form words.BracketCase (inner (spelling acq) ∷ inner (spelling body) ∷ inner (spelling rs) ∷ inner (spelling re) ∷ inner (spelling rc) ∷ []) []
+  spelling (BracketFull' p acq q body r rs s re t rc) = form words.BracketFull (inner (spelling acq) ∷ inner (spelling body) ∷ inner (spelling rs) ∷ inner (spelling re) ∷ inner (spelling rc) ∷ []) []
   spelling (Race' p a q b) = form words.Race (inner (spelling a) ∷ inner (spelling b) ∷ []) []
   spelling (Both' p a q b r k) = form words.Both (inner (spelling a) ∷ inner (spelling b) ∷ inner (spelling k) ∷ []) []
 

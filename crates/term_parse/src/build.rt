@@ -379,6 +379,10 @@ fn build_with_more(alloc: Global, word: Word, pieces: VecDeque<Piece>) -> Result
             let (first, second, third, fourth, fifth) = five_terms(alloc, pieces)?;
             Ok(Term::BracketCase(first, second, third, fourth, fifth))
         }
+        Word::BracketFull => {
+            let (first, second, third, fourth, fifth) = five_terms(alloc, pieces)?;
+            Ok(Term::BracketFull(first, second, third, fourth, fifth))
+        }
         _ => unreachable!(),
     }
 }

@@ -115,6 +115,14 @@ fn form_of(term: &Term) -> Form<'_>
             Piece::Term(re),
             Piece::Term(rc)
         ),
+        Term::BracketFull(a, b, rs, re, rc) => form_with!(
+            BracketFull,
+            Piece::Term(a),
+            Piece::Term(b),
+            Piece::Term(rs),
+            Piece::Term(re),
+            Piece::Term(rc)
+        ),
         Term::Race(a, b) => form_with!(Race, Piece::Term(a), Piece::Term(b)),
         Term::Both(a, b, k) => form_with!(Both, Piece::Term(a), Piece::Term(b), Piece::Term(k)),
     }
@@ -219,7 +227,7 @@ fn write_parts(
     bound: usize,
 ) -> Result<(), AllocError>
     requires room { around + 2 ≤ vec_len out.old }
-    requires few { bound + length parts.now ≤ 9 }
+    requires few { bound + length parts.now ≤ 10 }
     requires enough { Suffice parts.now pieces.now more.now }
     ensures text { OnOk result (out.new.items ≡ out.old.items ++ parts_spelling around bound parts.now (pieces_of pieces.now) (terms_spelled more.now)) }
     ensures numbers { OnOk result (NumbersFit (pieces_atoms pieces.now (terms_atoms more.now (ended ∷ [])))) }

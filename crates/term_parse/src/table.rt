@@ -9,7 +9,7 @@ ghost use Rattle.term_parse.specs.Language.{every_word, word_spelling, parts_of,
 
 use effect_term::Kind;
 
-/// The 31 words of the language. Each variant is the word of its own name in small letters.
+/// The 32 words of the language. Each variant is the word of its own name in small letters.
 #[derive(Clone, Copy, PartialEq, Eq, Debug)]
 pub enum Word {
     Pure,
@@ -41,6 +41,7 @@ pub enum Word {
     Guarantee,
     Bracket,
     BracketCase,
+    BracketFull,
     Race,
     Both,
 }
@@ -67,7 +68,7 @@ pub enum Part {
 }
 
 /// The words, in the order in which they are looked up.
-const WORDS: [Word; 31] = [
+const WORDS: [Word; 32] = [
     Word::Pure,
     Word::Raise,
     Word::Let,
@@ -97,6 +98,7 @@ const WORDS: [Word; 31] = [
     Word::Guarantee,
     Word::Bracket,
     Word::BracketCase,
+    Word::BracketFull,
     Word::Race,
     Word::Both,
 ];
@@ -137,6 +139,7 @@ pub(crate) fn spelling_of(word: Word) -> &'static [u8]
         Word::Guarantee => b"guarantee",
         Word::Bracket => b"bracket",
         Word::BracketCase => b"bracketcase",
+        Word::BracketFull => b"bracketfull",
         Word::Race => b"race",
         Word::Both => b"both",
     }
@@ -146,7 +149,7 @@ pub(crate) fn spelling_of(word: Word) -> &'static [u8]
 #[tactic(auto, unfolding(crate::specs::Language::parts_of))]
 pub(crate) fn parts_of(word: Word) -> &'static [Part]
     ensures value { result.now ≡ parts_of word }
-    ensures few { length result.now ≤ 9 }
+    ensures few { length result.now ≤ 10 }
 {
     match word {
         Word::Pure | Word::Raise | Word::Say => &[Part::Value, Part::Close],
@@ -214,6 +217,18 @@ pub(crate) fn parts_of(word: Word) -> &'static [Part]
             Part::Bind(Kind::Value),
             Part::UnderBoth(0, 2),
             Part::Under(0),
+            Part::Close,
+        ],
+        Word::BracketFull => &[
+            Part::Bind(Kind::Poll),
+            Part::Bind(Kind::Value),
+            Part::Under(0),
+            Part::Under(1),
+            Part::Bind(Kind::Value),
+            Part::UnderBoth(1, 2),
+            Part::Bind(Kind::Value),
+            Part::UnderBoth(1, 3),
+            Part::Under(1),
             Part::Close,
         ],
         Word::Both => &[

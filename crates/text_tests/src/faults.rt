@@ -66,7 +66,7 @@ fn tokens_in_the_wrong_place(rt: HostRuntime) {
 
 #[test]
 fn names_without_a_meaning(rt: HostRuntime) {
-    let table: [(&[u8], ParseError); 9] = [
+    let table: [(&[u8], ParseError); 12] = [
         (b"(pure x)", ParseError::UnknownName(6)),
         (b"(pure x.y)", ParseError::UnknownName(6)),
         (b"(uncancelable p (pure p))", ParseError::NameKind(22)),
@@ -83,6 +83,18 @@ fn names_without_a_meaning(rt: HostRuntime) {
         (
             b"(bracketcase x (cede) (cede) y (pure y) z (pure y) (cede))",
             ParseError::UnknownName(48),
+        ),
+        (
+            b"(bracketfull p x (pure 0) (poll p (pure 1)) y (pure 0) z (pure 0) (pure 0))",
+            ParseError::UnknownName(32),
+        ),
+        (
+            b"(bracketfull p x (say x) (pure 0) y (pure 0) z (pure 0) (pure 0))",
+            ParseError::UnknownName(22),
+        ),
+        (
+            b"(bracketfull p x (say p) (pure 0) y (pure 0) z (pure 0) (pure 0))",
+            ParseError::NameKind(22),
         ),
         (b"(seq (pure y) (01))", ParseError::UnknownName(11)),
     ];

@@ -7,7 +7,7 @@ use term_parse::{parse, print};
 /// and printing give.
 #[test]
 fn each_form_is_read_and_printed(rt: HostRuntime) -> Result<(), Fail> {
-    let table: [(&[u8], &[u8]); 33] = [
+    let table: [(&[u8], &[u8]); 34] = [
         (b" ( pure\t-2147483648\r\n) ", b"(pure -2147483648)"),
         (b"(raise 2147483647)", b"(raise 2147483647)"),
         (b"(let x(cede)(pure x))", b"(let v0 (cede) (pure v0))"),
@@ -62,6 +62,10 @@ fn each_form_is_read_and_printed(rt: HostRuntime) -> Result<(), Fail> {
             b"(bracketcase x (cede) (pure x) y (add x y) z (add z x) (say x))",
             b"(bracketcase v0 (cede) (pure v0) v1 (add v0 v1) v1 (add v1 v0) (say v0))",
         ),
+        (
+            b"(bracketfull p x (poll p (cede)) (pure x) y (add x y) z (add z x) (say x))",
+            b"(bracketfull p0 v0 (poll p0 (cede)) (pure v0) v1 (add v0 v1) v1 (add v1 v0) (say v0))",
+        ),
         (b"(race (cede) (never))", b"(race (cede) (never))"),
         (
             b"(both (cede) (never) x y (add x y))",
@@ -94,7 +98,7 @@ fn each_form_is_read_and_printed(rt: HostRuntime) -> Result<(), Fail> {
 /// Canonical texts, which printing gives back.
 #[test]
 fn canonical_texts_stay_as_they_are(rt: HostRuntime) -> Result<(), Fail> {
-    let table: [&[u8]; 8] = [
+    let table: [&[u8]; 9] = [
         b"(let v0 (pure 1) (pure v0))",
         b"(let v0 (cede) (handle (if0 v0 (repeat 3 (cede)) (forever (cede))) v1 (add v0 v1)))",
         b"(uncancelable p0 (poll p0 (oncancel (cede) (canceled))))",
@@ -102,6 +106,7 @@ fn canonical_texts_stay_as_they_are(rt: HostRuntime) -> Result<(), Fail> {
         b"(ref r0 5 (deferred d1 (seq (get r0) (set r0 1) (modify r0 2) (complete d1 3) (await d1))))",
         b"(bracketcase v0 (pure 1) (say v0) v1 (add v0 v1) v1 (raise v1) (guarantee (cede) (say v0)))",
         b"(bracketcase v0 (pure 1) (say v0) v1 (cede) v1 (never) (bracket v1 (cede) (say v1) (say v0)))",
+        b"(let v0 (cede) (bracketfull p1 v1 (uncancelable p2 (poll p2 (poll p1 (say v0)))) (say v1) v2 (say v2) v2 (cede) (never)))",
         b"(both (race (cede) (never)) (pure 2) v0 v1 (add v0 v1))",
     ];
     for text in table {

@@ -12,6 +12,7 @@ mod handlers_tests;
 mod laws_tests;
 mod limits_tests;
 mod masks_tests;
+mod polled_acquisitions_tests;
 mod races_tests;
 
 /// A replay, and what comes of it.

@@ -233,6 +233,10 @@ mutual
       let below : Scope g m (with_slot V d) (d + 1) = scope_under g m V d d (d + 1) (omega arith) (omega arith) s in
       part_bracket V d _ _ _ _ _ s.fresh (sound a g m (d + 1) (with_slot V d) below w.0) (in_value g m d V s (d + 3) b (omega arith) (sound b) w.1)
       (in_end g m d V s (d + 4) rs (omega arith) (sound rs) w.2) (in_end g m d V s (d + 4) re (omega arith) (sound re) w.3) (in_value g m d V s (d + 3) rc (omega arith) (sound rc) w.4)
+  sound (term.BracketFull' _ a _ b _ rs _ re _ rc) g m d V s w =
+      let below : Scope (g ++ kind.Poll ∷ []) (m ++ d ∷ []) (with_slot V d) (d + 1) = scope_poll g m V d s in
+      part_bracket V d _ _ _ _ _ s.fresh (sound a (g ++ kind.Poll ∷ []) (m ++ d ∷ []) (d + 1) (with_slot V d) below w.0) (in_value g m d V s (d + 3) b (omega arith) (sound b) w.1)
+      (in_end g m d V s (d + 4) rs (omega arith) (sound rs) w.2) (in_end g m d V s (d + 4) re (omega arith) (sound re) w.3) (in_value g m d V s (d + 3) rc (omega arith) (sound rc) w.4)
   sound (term.Race' _ a _ b) g m d V s w = race_sound g m d V s a b (sound a) (sound b) w.0 w.1
   sound (term.Both' _ a _ b _ k) g m d V s w = both_sound g m d V s a b k (sound a) (sound b) (sound k) w.0 w.1 w.2
 

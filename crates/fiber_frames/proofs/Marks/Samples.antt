@@ -1,9 +1,12 @@
 -- Marks that are lawful, and marks that aren't.
-use Rattle.std.proofs.Common.{◌≡◌, inl, inr, ℕ, List, [], ◌∷◌, ◌++◌, refl, sym, subst}
+use Rattle.std.proofs.Common.{◌≡◌, inl, inr, ℕ, List, [], ◌∷◌, ◌++◌, Option, Some, refl, sym, subst}
+use Rattle.derived_ops.specs.Tree as tree
+use Rattle.derived_ops.specs.Tree.{Act, Canceled, Last, Named, Note, Poll, Seq, Uncancelable}
 use Rattle.fiber_frames.specs.declared.mark.Mark.{Mark}
 use Rattle.fiber_frames.specs.declared.mark.Mark.TheVariants as mark
 use Rattle.fiber_frames.specs.Marks.{Acquired, Releasing, Released, bracket_steps, Nested, empty, bracket, Has, IsPolled, UncutRegions}
 use Rattle.fiber_frames.proofs.Marks.Balance.{balanced_signs}
+use Rattle.fiber_frames.proofs.Marks.Typed.{If_ends, Masks, Stack, Typed, with_slot}
 
 -- a bracket in the acquired part of another one
 nested : Nested (bracket_steps (mark.Enter 0 ∷ mark.Acquired 0 ∷ mark.Enter 1 ∷ mark.Acquired 1 ∷ mark.Releasing 1 ∷ mark.Released 1 ∷ mark.Releasing 0 ∷ mark.Leave 1 ∷ mark.Released 0 ∷ []))
@@ -49,3 +52,13 @@ masked (inr h) = go h.0 h.1 h.2 h.5
         unpolled p.0 p.1 p.2
     go (x ∷ y ∷ []) b e f = cc
     go (x ∷ y ∷ z ∷ a) b e f = cc
+
+-- a bracket marked as acquired before an acquisition that polls: a cut there would leave it open
+acquired_before : (i : ℕ) (P : Masks) (n x : Option Stack) → Typed i P [] (Some []) [] n x (Uncancelable 0 (Seq Last (Note tree.Acquired (Named 0)) (Poll (Named 0) (Act Canceled)))) → ⊥
+acquired_before i P n x h =
+    let (m, known, note, polled) = h.4 in
+    let (g, own, t, at, ends, here) = note in
+    let W : Masks = with_slot P 0 in
+    let inner : Typed i W (Named 0 ∷ []) (Some []) t n x (Poll (Named 0) (Act Canceled)) = subst (λ o. If_ends o (λ s. Typed i W (Named 0 ∷ []) (Some []) s n x (Poll (Named 0) (Act Canceled)))) ends polled in
+    let opened : t ≡ [] = inner.4.0 in
+    cc (opened, at.1)

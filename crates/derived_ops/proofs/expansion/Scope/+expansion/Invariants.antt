@@ -39,7 +39,7 @@ abbrev pub decreases-bracket : goal.decreases-bracket
 decreases-bracket l = 4 * (expansion_size_of l.acquired.now + expansion_size_of l.body.now + 3 * expansion_size_of l.release.now) + 3
 
 abbrev pub decreases-bracket_case : goal.decreases-bracket_case
-decreases-bracket_case l = 4 * (expansion_size_of l.acquired.now + expansion_size_of l.body.now + expansion_size_of l.on_value.now + expansion_size_of l.on_error.now + expansion_size_of l.on_cancel.now) + 3
+decreases-bracket_case l = 4 * (expansion_size_of l.body.now + expansion_size_of l.on_value.now + expansion_size_of l.on_error.now + expansion_size_of l.on_cancel.now) + 3
 
 abbrev pub decreases-both : goal.decreases-both
 decreases-both l = 4 * (expansion_size_of l.first.now + expansion_size_of l.second.now + expansion_size_of l.next.now) + 2
