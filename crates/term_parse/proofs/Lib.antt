@@ -4,6 +4,8 @@ pub mod GrammarLaws
 pub mod Coverage
 pub mod SpelledLaws
 pub mod ScopeLaws
+pub mod LastBinder
+pub mod Lookup
 pub mod TermRows
 pub mod Weights
 pub mod Parts

@@ -203,10 +203,10 @@ reading_trails text t end k l w n =
     let more : reads_at text end [] ≡ Err (errors.Trailing k.start) = rw (n.tokens) refl in
     reading_short text l ∙ w.left ∙ ap (with_front (atoms_of t)) more
 
-pub buildable : (text : List ℕ) (at depth : ℕ) (f : Form) (step : Step) → Sound text f → Stepped text at depth f step → Buildable step
-buildable text at depth f (steps.Read g next) s h = tt
-buildable text at depth f (steps.Opened outer inner next) s h = tt
-buildable text at depth f (steps.Closed g next) s h = subst (λ x. Shaped x.word (sorts x.pieces.items)) (sym h.1) (h.0.shaped s)
+pub buildable : (text : List ℕ) (at depth : ℕ) (f g : Form) (step : Step) → Sound text f → Stepped text at depth f g step → Buildable g step
+buildable text at depth f g (steps.Read next) s h = tt
+buildable text at depth f g (steps.Opened inner next) s h = tt
+buildable text at depth f g (steps.Closed next) s h = subst (λ x. Shaped x.word (sorts x.pieces.items)) (sym h.1) (h.0.shaped s)
 
 pub none_left : (fs : List Form) → length fs ≡ 0 → fs ≡ []
 none_left [] h = refl

@@ -186,11 +186,11 @@ pub record Closes (text : List ℕ) (at : ℕ) (f : Form) (next : ℕ) : Type 0 
   pub goes_on : (todo : List Want) → reads_at text at (want_of text f ∷ todo) ≡ with_front (ended ∷ []) (reads_at text next todo)
   pub shaped : Sound text f → Shaped f.word (sorts f.pieces.items)
 
--- what a token did to this form, under which so many brackets are open
-abbrev pub Stepped : List ℕ → ℕ → ℕ → Form → Step → Type 0
-Stepped text at depth f (steps.Read g next) = Reads text at f g next × (at < next) × (next ≤ length text)
-Stepped text at depth f (steps.Opened outer inner next) = Opens text at depth f outer inner next × (at + 2 ≤ next) × (next ≤ length text)
-Stepped text at depth f (steps.Closed g next) = Closes text at f next × (g ≡ f) × (at < next) × (next ≤ length text)
+-- what a token did to this form, which became g, and under which so many brackets are open
+abbrev pub Stepped : List ℕ → ℕ → ℕ → Form → Form → Step → Type 0
+Stepped text at depth f g (steps.Read next) = Reads text at f g next × (at < next) × (next ≤ length text)
+Stepped text at depth f g (steps.Opened inner next) = Opens text at depth f g inner next × (at + 2 ≤ next) × (next ≤ length text)
+Stepped text at depth f g (steps.Closed next) = Closes text at f next × (g ≡ f) × (at < next) × (next ≤ length text)
 
 -- what is wanted of the forms around, the innermost first, which stand with the outermost first
 abbrev pub todo_onto : List ℕ → List Want → List Form → List Want
@@ -225,13 +225,13 @@ pub record IsWhole (text : List ℕ) (t : terms.Term) (end : ℕ) : Type 0 where
   pub within : end ≤ length text
   pub left : reads_at text 0 (term [] ∷ []) ≡ with_front (atoms_of t) (reads_at text end [])
 
--- what one token did to the open forms
-abbrev pub Turned : List ℕ → ℕ → Turn → Type 0
-Turned text at (turns.More f fs next) = IsStack text next f fs.items × (at < next)
-Turned text at (turns.Done t end) = IsWhole text t end
+-- what one token did: these forms are open now, or the whole term was read
+abbrev pub Turned : List ℕ → ℕ → Form → List Form → Turn → Type 0
+Turned text at f fs (turns.More next) = IsStack text next f fs × (at < next)
+Turned text at f fs (turns.Done t end) = IsWhole text t end
 
 -- a form that was closed has the pieces that its word wants
-abbrev pub Buildable : Step → Type 0
-Buildable (steps.Read f next) = Unit {0}
-Buildable (steps.Opened outer inner next) = Unit {0}
-Buildable (steps.Closed f next) = Shaped f.word (sorts f.pieces.items)
+abbrev pub Buildable : Form → Step → Type 0
+Buildable f (steps.Read next) = Unit {0}
+Buildable f (steps.Opened inner next) = Unit {0}
+Buildable f (steps.Closed next) = Shaped f.word (sorts f.pieces.items)

@@ -1,5 +1,6 @@
 pub mod Atoms
 pub mod Language
+pub mod Lookup
 pub mod Lexemes
 pub mod Reading
 pub mod Seen

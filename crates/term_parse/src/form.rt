@@ -38,13 +38,13 @@ pub(crate) struct Form {
     pub pieces: VecDeque<Piece>,
 }
 
-/// What a token did: it read a part of the form, opened a form inside it, or closed it. The number
-/// is where the text goes on.
+/// What a token did to a form: it read a part of it, opened this form inside it, or closed it. The
+/// number is where the text goes on.
 #[derive(Drop)]
 pub(crate) enum Step {
-    Read(Form, usize),
-    Opened(Form, Form, usize),
-    Closed(Form, usize),
+    Read(usize),
+    Opened(Form, usize),
+    Closed(usize),
 }
 
 /// How many brackets may be open.
@@ -85,11 +85,11 @@ pub(crate) fn word(text: &[u8], at: usize) -> Result<(Word, usize), ParseError>
 }
 
 /// Reads a binder.
-fn bind(mut form: Form, token: Token, kind: Kind) -> Result<Step, ParseError>
+fn bind(form: &mut Form, token: Token, kind: Kind) -> Result<Step, ParseError>
     requires good { IsGood token.kind }
-    requires part { NextIs form (Part.Bind kind) }
-    ensures found { (text : List ℕ) (at depth : ℕ) → IsNext text at token → IfOk result (Stepped text at depth form) }
-    ensures fault { (text : List ℕ) (at depth : ℕ) → IsNext text at token → IfErr result (FailsAt text at depth form) }
+    requires part { NextIs form.old (Part.Bind kind) }
+    ensures found { (text : List ℕ) (at depth : ℕ) → IsNext text at token → IfOk result (Stepped text at depth form.old form.new) }
+    ensures fault { (text : List ℕ) (at depth : ℕ) → IsNext text at token → IfErr result (FailsAt text at depth form.old) }
 {
     let TokenKind::Called = token.kind else {
         return Err(ParseError::Arity(token.start));
@@ -100,27 +100,27 @@ fn bind(mut form: Form, token: Token, kind: Kind) -> Result<Step, ParseError>
         kind,
     })?;
     form.next += 1;
-    Ok(Step::Read(form, token.end))
+    Ok(Step::Read(token.end))
 }
 
-/// The form with one more piece, and the next part wanted.
-pub(crate) fn with_piece(mut form: Form, piece: Piece, next: usize) -> Result<Form, AllocError>
-    ensures { IfOk result (Adds form piece next) }
+/// Adds a piece to the form, of which this part is wanted next.
+pub(crate) fn with_piece(form: &mut Form, piece: Piece, next: usize) -> Result<(), AllocError>
+    ensures { IfOk result (λ _. Adds form.old piece next form.new) }
 {
     form.pieces.push_back(piece)?;
     form.next = next;
-    Ok(form)
+    Ok(())
 }
 
 /// Reads a use of a name.
-fn use_name(text: &[u8], form: Form, token: Token, kind: Kind) -> Result<Step, ParseError>
+fn use_name(text: &[u8], form: &mut Form, token: Token, kind: Kind) -> Result<Step, ParseError>
     requires within { (token.start ≤ token.end) × (token.end ≤ length text.now) }
     requires good { IsGood token.kind }
-    requires part { NextIs form (Part.Use kind) }
-    requires sound { Sound text.now form }
-    requires few { length form.scope.items < 2 ^ 32 }
-    ensures found { (at depth : ℕ) → IsNext text.now at token → IfOk result (Stepped text.now at depth form) }
-    ensures fault { (at depth : ℕ) → IsNext text.now at token → IfErr result (FailsAt text.now at depth form) }
+    requires part { NextIs form.old (Part.Use kind) }
+    requires sound { Sound text.now form.old }
+    requires few { length form.old.scope.items < 2 ^ 32 }
+    ensures found { (at depth : ℕ) → IsNext text.now at token → IfOk result (Stepped text.now at depth form.old form.new) }
+    ensures fault { (at depth : ℕ) → IsNext text.now at token → IfErr result (FailsAt text.now at depth form.old) }
 {
     let TokenKind::Called = token.kind else {
         return Err(ParseError::Arity(token.start));
@@ -129,7 +129,8 @@ fn use_name(text: &[u8], form: Form, token: Token, kind: Kind) -> Result<Step, P
     match meaning(text, &form.scope, kind, spelling, token.start) {
         Ok(name) => {
             let next = form.next + 1;
-            Ok(Step::Read(with_piece(form, Piece::Name(name), next)?, token.end))
+            with_piece(form, Piece::Name(name), next)?;
+            Ok(Step::Read(token.end))
         }
         Err(error) => Err(error),
     }
@@ -142,19 +143,20 @@ fn number(n: i32) -> Operand
 }
 
 /// Reads a number or a use of a value's name.
-fn value(text: &[u8], form: Form, token: Token) -> Result<Step, ParseError>
+fn value(text: &[u8], form: &mut Form, token: Token) -> Result<Step, ParseError>
     requires within { (token.start ≤ token.end) × (token.end ≤ length text.now) }
     requires good { IsGood token.kind }
-    requires part { NextIs form Part.Value }
-    requires sound { Sound text.now form }
-    requires few { length form.scope.items < 2 ^ 32 }
-    ensures found { (at depth : ℕ) → IsNext text.now at token → IfOk result (Stepped text.now at depth form) }
-    ensures fault { (at depth : ℕ) → IsNext text.now at token → IfErr result (FailsAt text.now at depth form) }
+    requires part { NextIs form.old Part.Value }
+    requires sound { Sound text.now form.old }
+    requires few { length form.old.scope.items < 2 ^ 32 }
+    ensures found { (at depth : ℕ) → IsNext text.now at token → IfOk result (Stepped text.now at depth form.old form.new) }
+    ensures fault { (at depth : ℕ) → IsNext text.now at token → IfErr result (FailsAt text.now at depth form.old) }
 {
     match token.kind {
         TokenKind::Number(n) => {
             let next = form.next + 1;
-            Ok(Step::Read(with_piece(form, Piece::Value(number(n)), next)?, token.end))
+            with_piece(form, Piece::Value(number(n)), next)?;
+            Ok(Step::Read(token.end))
         }
         TokenKind::Called => named_value(text, form, token),
         _ => Err(ParseError::Arity(token.start)),
@@ -162,23 +164,21 @@ fn value(text: &[u8], form: Form, token: Token) -> Result<Step, ParseError>
 }
 
 /// Reads a use of a value's name.
-fn named_value(text: &[u8], form: Form, token: Token) -> Result<Step, ParseError>
+fn named_value(text: &[u8], form: &mut Form, token: Token) -> Result<Step, ParseError>
     requires within { (token.start ≤ token.end) × (token.end ≤ length text.now) }
     requires called { token.kind ≡ TokenKind.Called }
-    requires part { NextIs form Part.Value }
-    requires sound { Sound text.now form }
-    requires few { length form.scope.items < 2 ^ 32 }
-    ensures found { (at depth : ℕ) → IsNext text.now at token → IfOk result (Stepped text.now at depth form) }
-    ensures fault { (at depth : ℕ) → IsNext text.now at token → IfErr result (FailsAt text.now at depth form) }
+    requires part { NextIs form.old Part.Value }
+    requires sound { Sound text.now form.old }
+    requires few { length form.old.scope.items < 2 ^ 32 }
+    ensures found { (at depth : ℕ) → IsNext text.now at token → IfOk result (Stepped text.now at depth form.old form.new) }
+    ensures fault { (at depth : ℕ) → IsNext text.now at token → IfErr result (FailsAt text.now at depth form.old) }
 {
     let spelling = &text[token.start..token.end];
     match meaning(text, &form.scope, Kind::Value, spelling, token.start) {
         Ok(name) => {
             let next = form.next + 1;
-            Ok(Step::Read(
-                with_piece(form, Piece::Value(Operand::Named(name)), next)?,
-                token.end,
-            ))
+            with_piece(form, Piece::Value(Operand::Named(name)), next)?;
+            Ok(Step::Read(token.end))
         }
         Err(error) => Err(error),
     }
@@ -188,7 +188,7 @@ fn named_value(text: &[u8], form: Form, token: Token) -> Result<Step, ParseError
 fn open(
     alloc: Global,
     text: &[u8],
-    mut form: Form,
+    form: &mut Form,
     token: Token,
     part: Part,
     rest: usize,
@@ -196,11 +196,11 @@ fn open(
 ) -> Result<Step, ParseError>
     requires within { token.end ≤ length text.now }
     requires opens { token.kind ≡ TokenKind.Open }
-    requires part { NextIs form part }
+    requires part { NextIs form.old part }
     requires term { IsTermPart part }
-    requires rest { drop rest (parts_of form.word) ≡ after part (drop (form.next + 1) (parts_of form.word)) }
-    ensures found { (at : ℕ) → IsNext text.now at token → IfOk result (Stepped text.now at depth form) }
-    ensures fault { (at : ℕ) → IsNext text.now at token → IfErr result (FailsAt text.now at depth form) }
+    requires rest { drop rest (parts_of form.old.word) ≡ after part (drop (form.old.next + 1) (parts_of form.old.word)) }
+    ensures found { (at : ℕ) → IsNext text.now at token → IfOk result (Stepped text.now at depth form.old form.new) }
+    ensures fault { (at : ℕ) → IsNext text.now at token → IfErr result (FailsAt text.now at depth form.old) }
 {
     if depth >= MOST_OPEN {
         return Err(ParseError::TooDeep(token.start));
@@ -216,7 +216,7 @@ fn open(
                 bound: Vec::new(alloc),
                 pieces: VecDeque::new(alloc),
             };
-            Ok(Step::Opened(form, inner, next))
+            Ok(Step::Opened(inner, next))
         }
         Err(error) => Err(error),
     }
@@ -226,17 +226,17 @@ fn open(
 fn one_term(
     alloc: Global,
     text: &[u8],
-    form: Form,
+    form: &mut Form,
     token: Token,
     part: Part,
     depth: usize,
 ) -> Result<Step, ParseError>
     requires within { token.end ≤ length text.now }
     requires good { IsGood token.kind }
-    requires part { NextIs form part }
+    requires part { NextIs form.old part }
     requires term { IsOneTerm part }
-    ensures found { (at : ℕ) → IsNext text.now at token → IfOk result (Stepped text.now at depth form) }
-    ensures fault { (at : ℕ) → IsNext text.now at token → IfErr result (FailsAt text.now at depth form) }
+    ensures found { (at : ℕ) → IsNext text.now at token → IfOk result (Stepped text.now at depth form.old form.new) }
+    ensures fault { (at : ℕ) → IsNext text.now at token → IfErr result (FailsAt text.now at depth form.old) }
 {
     let TokenKind::Open = token.kind else {
         return Err(ParseError::Arity(token.start));
@@ -249,37 +249,37 @@ fn one_term(
 fn more_terms(
     alloc: Global,
     text: &[u8],
-    form: Form,
+    form: &mut Form,
     token: Token,
     depth: usize,
 ) -> Result<Step, ParseError>
     requires within { token.end ≤ length text.now }
     requires good { IsGood token.kind }
-    requires part { NextIs form Part.More }
-    ensures found { (at : ℕ) → IsNext text.now at token → IfOk result (Stepped text.now at depth form) }
-    ensures fault { (at : ℕ) → IsNext text.now at token → IfErr result (FailsAt text.now at depth form) }
+    requires part { NextIs form.old Part.More }
+    ensures found { (at : ℕ) → IsNext text.now at token → IfOk result (Stepped text.now at depth form.old form.new) }
+    ensures fault { (at : ℕ) → IsNext text.now at token → IfErr result (FailsAt text.now at depth form.old) }
 {
     match token.kind {
         TokenKind::Open => {
             let rest = form.next;
             open(alloc, text, form, token, Part::More, rest, depth)
         }
-        TokenKind::Close => Ok(Step::Closed(form, token.end)),
+        TokenKind::Close => Ok(Step::Closed(token.end)),
         _ => Err(ParseError::Arity(token.start)),
     }
 }
 
 /// Reads the closing bracket.
-fn close(form: Form, token: Token) -> Result<Step, ParseError>
+fn close(form: &mut Form, token: Token) -> Result<Step, ParseError>
     requires good { IsGood token.kind }
-    requires part { NextIs form Part.Close }
-    ensures found { (text : List ℕ) (at depth : ℕ) → IsNext text at token → IfOk result (Stepped text at depth form) }
-    ensures fault { (text : List ℕ) (at depth : ℕ) → IsNext text at token → IfErr result (FailsAt text at depth form) }
+    requires part { NextIs form.old Part.Close }
+    ensures found { (text : List ℕ) (at depth : ℕ) → IsNext text at token → IfOk result (Stepped text at depth form.old form.new) }
+    ensures fault { (text : List ℕ) (at depth : ℕ) → IsNext text at token → IfErr result (FailsAt text at depth form.old) }
 {
     let TokenKind::Close = token.kind else {
         return Err(ParseError::Arity(token.start));
     };
-    Ok(Step::Closed(form, token.end))
+    Ok(Step::Closed(token.end))
 }
 
 /// What the next token does to the innermost form, under which so many brackets are open.
@@ -287,14 +287,14 @@ pub(crate) fn advance(
     alloc: Global,
     text: &[u8],
     at: usize,
-    form: Form,
+    form: &mut Form,
     depth: usize,
 ) -> Result<Step, ParseError>
     requires at { at ≤ length text.now }
-    requires sound { Sound text.now form }
-    requires few { length form.scope.items < 2 ^ 32 }
-    ensures found { IfOk result (Stepped text.now at depth form) }
-    ensures fault { IfErr result (FailsAt text.now at depth form) }
+    requires sound { Sound text.now form.old }
+    requires few { length form.old.scope.items < 2 ^ 32 }
+    ensures found { IfOk result (Stepped text.now at depth form.old form.new) }
+    ensures fault { IfErr result (FailsAt text.now at depth form.old) }
 {
     let token = wanted(text, at)?;
     let Some(part) = parts_of(form.word).get(form.next) else {

@@ -19,15 +19,15 @@ use crate::token::{TokenKind, token_at};
 use effect_term::Term;
 use std::alloc::{AllocError, Global};
 use std::collections::VecDeque;
+use std::mem;
 
 /// How many bytes a text may have.
 const LONGEST: usize = 65536;
 
-/// What one token did: the innermost form, those around it and the place where the text goes on, or
-/// the whole term and the place behind it.
+/// What one token did: the place where the text goes on, or the whole term and the place behind it.
 #[derive(Drop)]
 pub(crate) enum Turn {
-    More(Form, Vec<Form>, usize),
+    More(usize),
     Done(Term, usize),
 }
 
@@ -57,47 +57,53 @@ fn first_form(alloc: Global, text: &[u8]) -> Result<(Form, usize), ParseError>
     }
 }
 
-/// The term of a form that has closed.
-fn term_of(alloc: Global, form: Form) -> Result<Term, AllocError>
-    requires { Shaped form.word (sorts form.pieces.items) }
-    ensures { IfOk result (λ t. atoms_of t ≡ word form.word ∷ ends form.pieces.items) }
+/// The term of a form that has closed, whose pieces it takes.
+fn term_of(alloc: Global, form: &mut Form) -> Result<Term, AllocError>
+    requires { Shaped form.old.word (sorts form.old.pieces.items) }
+    ensures { IfOk result (λ t. atoms_of t ≡ word form.old.word ∷ ends form.old.pieces.items) }
 {
-    let Form {
-        word,
-        next: _,
-        scope: _,
-        bound: _,
-        pieces,
-    } = form;
-    build(alloc, word, pieces)
+    let pieces = mem::replace(&mut form.pieces, VecDeque::new(alloc));
+    build(alloc, form.word, pieces)
 }
 
 /// Goes on in the form around one that has closed, if there is one.
-fn resume(alloc: Global, form: Form, mut around: Vec<Form>, next: usize) -> Result<Turn, AllocError>
-    requires { Shaped form.word (sorts form.pieces.items) }
-    ensures { (text : List ℕ) (at : ℕ) → IsStack text at form around.items → Closes text at form next → at < next → next ≤ length text → IfOk result (Turned text at) }
+fn resume(
+    alloc: Global,
+    form: &mut Form,
+    around: &mut Vec<Form>,
+    next: usize,
+) -> Result<Turn, AllocError>
+    requires { Shaped form.old.word (sorts form.old.pieces.items) }
+    ensures { (text : List ℕ) (at : ℕ) → IsStack text at form.old around.old.items → Closes text at form.old next → at < next → next ≤ length text → IfOk result (Turned text at form.new around.new.items) }
 {
     let term = term_of(alloc, form)?;
     let Some(outer) = around.pop() else {
         return Ok(Turn::Done(term, next));
     };
     let part = outer.next;
-    let form = with_piece(outer, Piece::Term(term), part)?;
-    Ok(Turn::More(form, around, next))
+    *form = outer;
+    with_piece(form, Piece::Term(term), part)?;
+    Ok(Turn::More(next))
 }
 
-/// The open forms after a step of the innermost.
-fn apply(alloc: Global, step: Step, mut around: Vec<Form>) -> Result<Turn, AllocError>
-    requires { Buildable step }
-    ensures { (text : List ℕ) (at depth : ℕ) (form : Form) → IsStack text at form around.items → depth ≡ length around.items + 1 → Stepped text at depth form step → IfOk result (Turned text at) }
+/// Goes on after a step of the innermost form.
+fn apply(
+    alloc: Global,
+    step: Step,
+    form: &mut Form,
+    around: &mut Vec<Form>,
+) -> Result<Turn, AllocError>
+    requires { Buildable form.old step }
+    ensures { (text : List ℕ) (at depth : ℕ) (before : Form) → IsStack text at before around.old.items → depth ≡ length around.old.items + 1 → Stepped text at depth before form.old step → IfOk result (Turned text at form.new around.new.items) }
 {
     match step {
-        Step::Read(form, next) => Ok(Turn::More(form, around, next)),
-        Step::Opened(outer, inner, next) => {
+        Step::Read(next) => Ok(Turn::More(next)),
+        Step::Opened(inner, next) => {
+            let outer = mem::replace(form, inner);
             around.push(outer)?;
-            Ok(Turn::More(inner, around, next))
+            Ok(Turn::More(next))
         }
-        Step::Closed(form, next) => resume(alloc, form, around, next),
+        Step::Closed(next) => resume(alloc, form, around, next),
     }
 }
 
@@ -106,17 +112,17 @@ fn read_token(
     alloc: Global,
     text: &[u8],
     at: usize,
-    form: Form,
-    around: Vec<Form>,
+    form: &mut Form,
+    around: &mut Vec<Form>,
 ) -> Result<Turn, ParseError>
-    requires stack { IsStack text.now at form around.items }
+    requires stack { IsStack text.now at form.old around.old.items }
     requires short { length text.now ≤ 65536 }
-    ensures found { IfOk result (Turned text.now at) }
+    ensures found { IfOk result (Turned text.now at form.new around.new.items) }
     ensures fault { IfErr result (λ e. Fails e (reads_at text.now 0 (term [] ∷ []))) }
 {
     let depth = around.len() + 1;
     match advance(alloc, text, at, form, depth) {
-        Ok(step) => Ok(apply(alloc, step, around)?),
+        Ok(step) => Ok(apply(alloc, step, form, around)?),
         Err(error) => Err(error),
     }
 }
@@ -130,12 +136,8 @@ fn whole(alloc: Global, text: &[u8]) -> Result<(Term, usize), ParseError>
     let (mut form, mut at) = first_form(alloc, text)?;
     let mut around = Vec::new(alloc);
     'tokens: loop {
-        match read_token(alloc, text, at, form, around) {
-            Ok(Turn::More(inner, outer, next)) => {
-                form = inner;
-                around = outer;
-                at = next;
-            }
+        match read_token(alloc, text, at, &mut form, &mut around) {
+            Ok(Turn::More(next)) => at = next,
             Ok(Turn::Done(term, end)) => return Ok((term, end)),
             Err(error) => return Err(error),
         }

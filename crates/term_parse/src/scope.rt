@@ -1,6 +1,7 @@
 //! The binders in scope.
 
-ghost use Rattle.std.specs.Prelude.{◌≡◌, ◌≢◌, ◌↔◌, ◌≤◌, ◌+◌, ◌<◌, ◌^◌, ℕ, List, Ok, Err, IfOk, IfSome, IfNone, ◌++◌, length};
+ghost use Rattle.std.specs.Prelude.{◌≡◌, ◌≢◌, ◌↔◌, ◌≤◌, ◌+◌, ◌<◌, ◌^◌, ℕ, List, Ok, Err, IfOk, IfSome, IfNone, ◌++◌, length, slice_range};
+ghost use Rattle.std.specs.Str.{bytes_eq};
 ghost use Rattle.effect_term.specs.declared.term.Name as names;
 ghost use Rattle.term_parse.specs.Innermost.{Unspelled, IsInnermost};
 ghost use Rattle.term_parse.specs.Reading.{find_from, same_kind, meaning, entered, picked};
@@ -19,29 +20,34 @@ pub(crate) struct Binding {
     pub kind: Kind,
 }
 
-/// The innermost binder of a spelling, where the first has this slot.
-#[tactic(auto, unfolding(crate::specs::Reading::find_from))]
-fn find_from(text: &[u8], scope: &[Binding], spelling: &[u8], slot: u32) -> Option<Name>
-    requires few { slot + length scope.now < 2 ^ 32 }
-    requires within { InText text.now scope.now }
-    ensures { result ≡ find_from slot (bounds text.now scope.now) spelling.now }
+/// Whether this is how the binder is spelled.
+#[tactic(auto, using(crate::proofs::LastBinder::other_length))]
+fn is_spelled(text: &[u8], binding: Binding, spelling: &[u8]) -> bool
+    requires { (binding.start ≤ binding.end) × (binding.end ≤ length text.now) }
+    ensures { result ≡ bytes_eq (slice_range text.now binding.start binding.end) spelling.now }
 {
-    let [outer, rest @ ..] = scope else {
-        return None;
-    };
-    match find_from(text, rest, spelling, slot + 1) {
-        Some(name) => Some(name),
-        None => {
-            if &text[outer.start..outer.end] == spelling {
-                Some(Name {
-                    slot,
-                    kind: outer.kind,
-                })
-            } else {
-                None
-            }
+    let bytes = &text[binding.start..binding.end];
+    bytes.len() == spelling.len() && bytes == spelling
+}
+
+/// The innermost binder of a spelling, which is the last one.
+#[tactic(auto, using(crate::proofs::LastBinder::found_last, crate::proofs::LastBinder::found_around, crate::proofs::LastBinder::around_in_text, crate::proofs::LastBinder::last_in_text, crate::proofs::LastBinder::found_none))]
+fn innermost(text: &[u8], scope: &[Binding], spelling: &[u8]) -> Option<Name>
+    requires few { length scope.now < 2 ^ 32 }
+    requires within { InText text.now scope.now }
+    ensures { result ≡ find_from 0 (bounds text.now scope.now) spelling.now }
+{
+    let mut left = scope;
+    while let Some((binding, around)) = left.split_last() {
+        if is_spelled(text, *binding, spelling) {
+            return Some(Name {
+                slot: around.len() as u32,
+                kind: binding.kind,
+            });
         }
+        left = around;
     }
+    None
 }
 
 fn same_kind(a: Kind, b: Kind) -> bool
@@ -75,7 +81,7 @@ pub(crate) fn meaning(
     ensures unknown { (result ≡ Err (ParseError.UnknownName place)) ↔ Unspelled (bounds text.now scope.now) spelling.now }
     ensures other_kind { (result ≡ Err (ParseError.NameKind place)) ↔ ((n : names.Name) × IsInnermost (bounds text.now scope.now) spelling.now n × (n.kind ≢ kind)) }
 {
-    let Some(name) = find_from(text, scope, spelling, 0) else {
+    let Some(name) = innermost(text, scope, spelling) else {
         return Err(ParseError::UnknownName(place));
     };
     if same_kind(name.kind, kind) {
@@ -105,6 +111,18 @@ fn picked(
     }
 }
 
+/// The scope again, with room for the two binders that a part may add.
+fn with_room(alloc: Global, scope: &[Binding]) -> Result<Vec<Binding>, AllocError>
+    ensures items { IfOk result (λ v. v.items ≡ scope.now) }
+{
+    if scope.is_empty() {
+        return Ok(Vec::new(alloc));
+    }
+    let mut inner = Vec::with_capacity(alloc, scope.len().saturating_add(2))?;
+    inner.extend_from_slice(scope)?;
+    Ok(inner)
+}
+
 /// The binders that enclose a term: those around its form, and of the form's own those that the part names.
 #[tactic(auto, unfolding(crate::specs::Reading::entered))]
 pub(crate) fn entered(
@@ -117,7 +135,7 @@ pub(crate) fn entered(
     ensures within { (text : List ℕ) → InText text scope.now → InText text bound.now → IfOk result (λ v. InText text v.items) }
     ensures entered { (text : List ℕ) → IfOk result (λ v. bounds text v.items ≡ entered (bounds text scope.now) (bounds text bound.now) part) }
 {
-    let inner = Vec::from_slice(alloc, scope)?;
+    let inner = with_room(alloc, scope)?;
     match part {
         Part::Under(i) => picked(inner, bound, i),
         Part::UnderBoth(i, j) => {

@@ -1,11 +1,13 @@
 //! The words of the language: how each is spelled, and what stands in its form.
 //!
 //! The parser and the printer look a word's parts up here, one after another. A further word is one
-//! more variant, spelling and row of parts here, and says in `build`, `printer` and the atoms of a
-//! term which of the parts are its own.
+//! more variant, spelling, row of parts and word of its first letter here, and says in `build`,
+//! `printer` and the atoms of a term which of the parts are its own.
 
-ghost use Rattle.std.specs.Prelude.{◌≡◌, ◌<◌, ◌≤◌, ℕ, suc, length};
+ghost use Rattle.std.specs.Prelude.{◌≡◌, ◌<◌, ◌≤◌, ℕ, suc, length, find};
+ghost use Rattle.std.specs.Str.{bytes_eq};
 ghost use Rattle.term_parse.specs.Language.{every_word, word_spelling, parts_of, word_of};
+ghost use Rattle.term_parse.specs.Lookup.{words_from};
 
 use effect_term::Kind;
 
@@ -66,42 +68,6 @@ pub enum Part {
     /// The closing bracket.
     Close,
 }
-
-/// The words, in the order in which they are looked up.
-const WORDS: [Word; 32] = [
-    Word::Pure,
-    Word::Raise,
-    Word::Let,
-    Word::Seq,
-    Word::Handle,
-    Word::If0,
-    Word::Add,
-    Word::Say,
-    Word::Cede,
-    Word::Never,
-    Word::Canceled,
-    Word::Uncancelable,
-    Word::Poll,
-    Word::OnCancel,
-    Word::Start,
-    Word::Join,
-    Word::Cancel,
-    Word::Ref,
-    Word::Get,
-    Word::Set,
-    Word::Modify,
-    Word::Deferred,
-    Word::Complete,
-    Word::Await,
-    Word::Repeat,
-    Word::Forever,
-    Word::Guarantee,
-    Word::Bracket,
-    Word::BracketCase,
-    Word::BracketFull,
-    Word::Race,
-    Word::Both,
-];
 
 /// How a word is spelled.
 #[tactic(auto, unfolding(crate::specs::Language::word_spelling))]
@@ -242,13 +208,55 @@ pub(crate) fn parts_of(word: Word) -> &'static [Part]
     }
 }
 
-/// The word that is spelled so, if there is one.
-#[tactic(auto, unfolding(crate::specs::Language::word_of))]
-pub(crate) fn word_of(spelling: &[u8]) -> Option<Word>
-    ensures { result ≡ word_of spelling.now }
+/// The words that begin with this letter.
+#[tactic(auto, unfolding(crate::specs::Lookup::words_from))]
+fn words_from(first: u8) -> &'static [Word]
+    ensures { result.now ≡ words_from first }
 {
-    WORDS
+    match first {
+        b'a' => &[Word::Add, Word::Await],
+        b'b' => &[
+            Word::Bracket,
+            Word::BracketCase,
+            Word::BracketFull,
+            Word::Both,
+        ],
+        b'c' => &[Word::Cede, Word::Canceled, Word::Cancel, Word::Complete],
+        b'd' => &[Word::Deferred],
+        b'f' => &[Word::Forever],
+        b'g' => &[Word::Get, Word::Guarantee],
+        b'h' => &[Word::Handle],
+        b'i' => &[Word::If0],
+        b'j' => &[Word::Join],
+        b'l' => &[Word::Let],
+        b'm' => &[Word::Modify],
+        b'n' => &[Word::Never],
+        b'o' => &[Word::OnCancel],
+        b'p' => &[Word::Pure, Word::Poll],
+        b'r' => &[Word::Raise, Word::Ref, Word::Repeat, Word::Race],
+        b's' => &[Word::Seq, Word::Say, Word::Start, Word::Set],
+        b'u' => &[Word::Uncancelable],
+        _ => &[],
+    }
+}
+
+/// The one of these words that is spelled so, if there is one.
+fn spelled_so(words: &[Word], spelling: &[u8]) -> Option<Word>
+    ensures { result ≡ find (λ w. bytes_eq (word_spelling w) spelling.now) words.now }
+{
+    words
         .iter()
         .copied()
         .find(|word| spelling_of(*word) == spelling)
+}
+
+/// The word that is spelled so, if there is one.
+#[tactic(auto, using(crate::proofs::Lookup::no_word))]
+pub(crate) fn word_of(spelling: &[u8]) -> Option<Word>
+    ensures { result ≡ word_of spelling.now }
+{
+    let Some((first, _)) = spelling.split_first() else {
+        return None;
+    };
+    spelled_so(words_from(*first), spelling)
 }

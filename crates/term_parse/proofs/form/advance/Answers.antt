@@ -5,8 +5,8 @@ use Rattle.term_parse.proofs.form.advance.Goals as goal
 
 pub returns-in_default-clause-fault : goal.returns-in_default-clause-fault
 returns-in_default-clause-fault c =
-    let over : drop c.args.form.next (parts_of c.args.form.word) ≡ [] = drop_over (parts_of c.args.form.word) c.args.form.next (omega (arith, ap length c.parts_of.ensures.value, c.in_default.ensures.lookup.3)) in
-    fails_over c.args.text.now c.args.at c.args.form c.in_ok-token.token c.in_ok-token.ensures.found c.in_ok-token.ensures.good over c.args.depth
+    let over : drop c.args.form.now.next (parts_of c.args.form.now.word) ≡ [] = drop_over (parts_of c.args.form.now.word) c.args.form.now.next (omega (arith, ap length c.parts_of.ensures.value, c.in_default.ensures.lookup.3)) in
+    fails_over c.args.text.now c.args.at c.args.form.now c.in_ok-token.token c.in_ok-token.ensures.found c.in_ok-token.ensures.good over c.args.depth
 
 pub returns-in-Bind-clause-found : goal.returns-in-Bind-clause-found
 returns-in-Bind-clause-found c = c.bind.ensures.found c.args.text.now c.args.at c.args.depth c.in_ok-token.ensures.found
