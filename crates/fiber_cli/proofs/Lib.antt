@@ -1,4 +1,3 @@
 pub mod RangeLemmas
 pub mod RunLemmas
-pub mod UsageLemmas
 pub mod WorkerLemmas
