@@ -1,16 +1,18 @@
 //! Bays: slots, wakes, and the lists of those that wait.
 
 ghost use Rattle.std.specs.Prelude.{◌≡◌, IfOk};
-ghost use Rattle.cell_registry.specs.Passes.{RegistryView};
+ghost use Rattle.cell_registry.specs.Passes.{RegistryView, first_pass};
 ghost use Rattle.derived_ops.specs.Tree.{Tree};
 ghost use Rattle.fiber_poll.specs.Tasks.{IsTaskOf};
 
 use crate::programs::code;
 use crate::turning::{Told, turned};
-use cell_registry::Registry;
+use cell_registry::{Pass, Registry};
+use derived_ops::Code;
 use effect_term::Outcome;
 use fiber_poll::{FiberTask, Topic, first};
 use outcome_trace::text_of_report;
+use std::alloc::Global;
 use std::test::Fail;
 use steal_pool::gather;
 use wait_bay::{Bay, PutError, PutFault};
@@ -31,6 +33,25 @@ fn child_of<'a>(task: &mut FiberTask<'a>) -> Result<FiberTask<'a>, Fail>
     }
 }
 
+// Tasks of fibers 1 of two registries. The first of them has ended.
+fn two_children<'a>(
+    alloc: Global,
+    code: &Code,
+    registry: &'a Registry,
+    pass: Pass,
+    elsewhere: &'a Registry,
+    its_pass: Pass,
+) -> Result<(FiberTask<'a>, FiberTask<'a>), Fail>
+    requires first { pass ≡ first_pass registry.now }
+    requires second { its_pass ≡ first_pass elsewhere.now }
+{
+    let mut parent = first(alloc, registry, pass, code, 99)?;
+    let mut ended = child_of(&mut parent)?;
+    turned(&mut ended, 64)?;
+    let mut parent = first(alloc, elsewhere, its_pass, code, 99)?;
+    Ok((ended, child_of(&mut parent)?))
+}
+
 // The task that was refused, and why.
 fn refused<'a>(answer: Result<bool, PutFault<'a>>) -> Result<(PutError, FiberTask<'a>), Fail> {
     match answer {
@@ -44,9 +65,7 @@ fn a_slot_holds_one_task_of_its_own_fiber(rt: HostRuntime) -> Result<(), Fail> {
     let code = code(rt.alloc(), STARTING)?;
     let (registry, pass) = Registry::new(rt.alloc(), 2, 1, 1, 9)?;
     let (elsewhere, its_pass) = Registry::new(rt.alloc(), 2, 1, 1, 9)?;
-    let mut ended = child_of(&mut first(rt.alloc(), &registry, pass, &code, 99)?)?;
-    turned(&mut ended, 64)?;
-    let other = child_of(&mut first(rt.alloc(), &elsewhere, its_pass, &code, 99)?)?;
+    let (ended, other) = two_children(rt.alloc(), &code, &registry, pass, &elsewhere, its_pass)?;
     let (bay, mut seat) = Bay::new(rt.alloc(), 3, 1, None)?;
     let (error, ended) = refused(bay.put(&rt, &mut seat, 2, ended, true))?;
     assert_eq!(rt; error, PutError::WrongSlot(2));

@@ -1,9 +1,10 @@
 //! The events that a turn stops at, each told once and at its own move.
 
 use crate::programs::{ample, replayed};
-use crate::turning::{Told, Turns, expect_turns};
+use crate::turning::{Told, Turns, expect_turns, turn_by_turn};
 use effect_term::Outcome;
 use fiber_poll::Topic;
+use std::alloc::{AllocError, Global};
 use std::test::Fail;
 
 const ENDED: Told = Told::Ended(Outcome::Succeeded(0));
@@ -216,25 +217,27 @@ fn used_up_moves_are_told(rt: HostRuntime) -> Result<(), Fail> {
     expect_turns(&rt, ample(), USED_UP)
 }
 
-/// Both fibers need eight moves from then on.
+const SAYING: &str = "(start f (seq (say 1) (say 2)) (seq (say 3) (say 4)))";
+
+/// Both fibers need eight moves from the start on.
 #[test]
 fn a_child_begins_with_the_moves_that_are_left(rt: HostRuntime) -> Result<(), Fail> {
-    let alloc = rt.alloc();
     for left in 1..11u32 {
-        let program = "(start f (seq (say 1) (say 2)) (seq (say 3) (say 4)))";
-        let schedule = format!(in alloc; "0*2 1*{left} 0*{left}")?;
-        let report = replayed(alloc, program, ample(), schedule.as_str())?;
+        let turns = [(0, 64), (1, 64), (0, 64)];
+        let (told, report) = turn_by_turn(rt.alloc(), SAYING, ample(), left + 2, turns.as_slice())?;
         let last = if left < 8 { Told::OutOfMoves } else { ENDED };
-        let case = Turns {
-            rule: schedule.as_str(),
-            program,
-            moves: 2 + left,
-            turns: &[(0, 64), (1, 64), (0, 64)],
-            told: &[Told::Started(1), last, last],
-            schedule: schedule.as_str(),
-            report: report.as_str(),
-        };
-        expect_turns(&rt, ample(), &[case])?;
+        assert_eq!(rt; told.as_slice(), [Told::Started(1), last, last].as_slice());
+        assert_eq!(rt; report, core_report(rt.alloc(), left)?, "{left}");
     }
     Ok(())
+}
+
+// The core's report where each fiber makes so many moves from the start on.
+fn core_report(alloc: Global, left: u32) -> Result<String, Fail> {
+    let schedule = schedule(alloc, left)?;
+    replayed(alloc, SAYING, ample(), schedule.as_str())
+}
+
+fn schedule(alloc: Global, left: u32) -> Result<String, AllocError> {
+    format!(in alloc; "0*2 1*{left} 0*{left}")
 }

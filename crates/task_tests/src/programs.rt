@@ -1,6 +1,6 @@
 //! Programs of texts, and what the core makes of them.
 
-ghost use Rattle.std.specs.Prelude.{◌≡◌, IfOk};
+ghost use Rattle.std.specs.Prelude.{◌≡◌, IfOk, false};
 ghost use Rattle.cell_registry.specs.Cells.{AreLimits};
 ghost use Rattle.effect_term.specs.Starts.{starts_fiber};
 

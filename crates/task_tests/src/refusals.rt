@@ -2,21 +2,21 @@
 
 use crate::programs::code;
 use crate::turning::{Told, Turns, expect_turns, turned};
-use cell_registry::{Band, CancelReply, Limits, Registry, RunError};
+use cell_registry::{Band, CancelReply, Limits, Registry};
 use effect_term::Outcome;
 use fiber_frames::{Ask, Mark};
 use fiber_poll::first;
 use std::test::Fail;
 
-const NO_FIBER: Told = Told::Refused(RunError::Full(Band::Fibers, 1));
+const NO_FIBER: Told = Told::Full(Band::Fibers, 1);
 
-const NO_REF: Told = Told::Refused(RunError::Full(Band::Refs, 1));
+const NO_REF: Told = Told::Full(Band::Refs, 1);
 
-const NO_DEFERRED: Told = Told::Refused(RunError::Full(Band::Deferreds, 1));
+const NO_DEFERRED: Told = Told::Full(Band::Deferreds, 1);
 
-const SPENT: Told = Told::Refused(RunError::Spent(0));
+const SPENT: Told = Told::Spent(0);
 
-const CHILD_SPENT: Told = Told::Refused(RunError::Spent(1));
+const CHILD_SPENT: Told = Told::Spent(1);
 
 /// Where each band has one number.
 const FULL: &[Turns<'static>] = &[

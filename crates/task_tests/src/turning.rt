@@ -7,7 +7,7 @@ ghost use Rattle.derived_ops.specs.Tree.{Tree};
 ghost use Rattle.fiber_poll.specs.Tasks.{IsTaskOf};
 
 use crate::programs::{code, replayed};
-use cell_registry::{Limits, Registry, RunError};
+use cell_registry::{Band, Limits, Registry, RunError};
 use derived_ops::Code;
 use effect_term::Outcome;
 use fiber_poll::{FiberTask, Topic, Turn, first};
@@ -27,10 +27,12 @@ pub enum Told {
     WakeFiber(u16),
     WakeTopic(Topic),
     OutOfMoves,
-    Refused(RunError),
+    Full(Band, u16),
+    Spent(u16),
 }
 
-/// Makes a turn. Gives what it told, and the task of the fiber that it started.
+/// Makes a turn. Gives what it told, and the task of the fiber that it started. `AllocError` where
+/// memory ran out.
 pub fn turned<'a>(
     task: &mut FiberTask<'a>,
     budget: u32,
@@ -47,8 +49,10 @@ pub fn turned<'a>(
         Ok(Turn::WakeFiber(fiber)) => Ok((Told::WakeFiber(fiber), None)),
         Ok(Turn::WakeTopic(topic)) => Ok((Told::WakeTopic(topic), None)),
         Ok(Turn::OutOfMoves) => Ok((Told::OutOfMoves, None)),
-        Err(RunError::NoMemory) => Err(AllocError),
-        Err(error) => Ok((Told::Refused(error), None)),
+        Err(RunError::Full(band, limit)) => Ok((Told::Full(band, limit), None)),
+        Err(RunError::Spent(fiber)) => Ok((Told::Spent(fiber), None)),
+        // No turn answers another fault.
+        Err(RunError::NoMemory | RunError::Lost(_) | RunError::NoWorker) => Err(AllocError),
     }
 }
 
@@ -93,9 +97,9 @@ fn all_turns<'a>(
     Ok(told)
 }
 
-// Makes these turns of a program's fibers, each of the fiber of this number and by this budget. Gives
-// what the turns told, and the text of the report that the tasks gather to.
-fn turn_by_turn(
+/// Makes these turns of a program's fibers, each of the fiber of this number and by this budget. Gives
+/// what the turns told, and the text of the report that the tasks gather to.
+pub fn turn_by_turn(
     alloc: Global,
     text: &str,
     limits: Limits,
@@ -112,8 +116,9 @@ fn turn_by_turn(
         limits.deferreds,
         limits.count,
     )?;
+    let task = first(alloc, &registry, pass, &code, moves)?;
     let mut tasks = Vec::new(alloc);
-    tasks.push(first(alloc, &registry, pass, &code, moves)?)?;
+    tasks.push(task)?;
     let told = all_turns(alloc, &registry, &code, &mut tasks, turns)?;
     let report = gather(alloc, &registry, &code, tasks)?;
     Ok((told, text_of_report(alloc, &report)?))
