@@ -29,6 +29,7 @@ IsSource (word.Forever e) = IsSource e
 IsSource (word.Guarantee e fin) = IsSource e × IsSource fin
 IsSource (word.Bracket acq body rel) = IsSource acq × (IsSource body × IsSource rel)
 IsSource (word.Bracket_case acq body rs re rc) = IsSource acq × (IsSource body × (IsSource rs × (IsSource re × IsSource rc)))
+IsSource (word.Bracket_full acq body rs re rc) = IsSource acq × (IsSource body × (IsSource rs × (IsSource re × IsSource rc)))
 IsSource (word.Race a b) = ⊥
 IsSource (word.Both a b k) = ⊥
 IsSource _ = Unit {0}
@@ -72,6 +73,11 @@ mutual
   source_childless (term.Guarantee' p e q fin) h = (source_childless e (or_left _ _ h), source_childless fin (or_right _ _ h))
   source_childless (term.Bracket' p acq q body r rel) h = (source_childless acq (or_left _ _ h), (source_childless body (or_left _ _ (or_right _ _ h)), source_childless rel (or_right _ _ (or_right _ _ h))))
   source_childless (term.BracketCase' p acq q body r rs s re t rc) h =
+      let one = or_right _ _ h in
+      let two = or_right _ _ one in
+      let three = or_right _ _ two in
+      (source_childless acq (or_left _ _ h), (source_childless body (or_left _ _ one), (source_childless rs (or_left _ _ two), (source_childless re (or_left _ _ three), source_childless rc (or_right _ _ three)))))
+  source_childless (term.BracketFull' p acq q body r rs s re t rc) h =
       let one = or_right _ _ h in
       let two = or_right _ _ one in
       let three = or_right _ _ two in
@@ -127,6 +133,10 @@ expansion_childless m d (word.Bracket_case acq body rs re rc) h =
     let x = m ++ (d + 1) ∷ [] in
     let y = x ++ (d + 3) ∷ [] in
     bracket_childless d (expansion m (d + 1) acq) (expansion x (d + 3) body) (expansion y (d + 4) rs) (expansion y (d + 4) re) (expansion x (d + 3) rc) (expansion_childless m (d + 1) acq h.0) (expansion_childless x (d + 3) body h.1.0) (expansion_childless y (d + 4) rs h.1.1.0) (expansion_childless y (d + 4) re h.1.1.1.0) (expansion_childless x (d + 3) rc h.1.1.1.1)
+expansion_childless m d (word.Bracket_full acq body rs re rc) h =
+    let x = m ++ (d + 1) ∷ [] in
+    let y = x ++ (d + 3) ∷ [] in
+    bracket_childless d (expansion (m ++ d ∷ []) (d + 1) acq) (expansion x (d + 3) body) (expansion y (d + 4) rs) (expansion y (d + 4) re) (expansion x (d + 3) rc) (expansion_childless (m ++ d ∷ []) (d + 1) acq h.0) (expansion_childless x (d + 3) body h.1.0) (expansion_childless y (d + 4) rs h.1.1.0) (expansion_childless y (d + 4) re h.1.1.1.0) (expansion_childless x (d + 3) rc h.1.1.1.1)
 expansion_childless m d (word.Race a b) h = absurd h
 expansion_childless m d (word.Both a b k) h = absurd h
 
