@@ -1,11 +1,16 @@
-/* Refuses one request for memory of a program that it is preloaded into: the one whose number, from
- * 1 on, is in REFUSED. At the end it writes the number of requests into the file named in REQUESTS.
+/* Refuses requests of a program that it is preloaded into. Of those for memory it refuses the one whose
+ * number, from 1 on, is in REFUSED; of those for a thread the one whose number is in REFUSED_THREAD, and
+ * all whose numbers are above the one in MOST_THREADS. At the end it writes the number of requests for
+ * memory into the file named in REQUESTS, and of those for a thread into the file named in THREADS.
  * It counts the requests of all threads, the C library's own among them, as for a new thread's
- * storage. What isn't refused goes to glibc's allocator by its inner names, so that no name has to be
- * looked up, and no request is counted twice. */
+ * storage. A request for memory that isn't refused goes to glibc's allocator by its inner names, so that
+ * no name has to be looked up, and no request is counted twice. */
 #define _GNU_SOURCE
+#include <dlfcn.h>
 #include <errno.h>
 #include <fcntl.h>
+#include <limits.h>
+#include <pthread.h>
 #include <stdatomic.h>
 #include <stddef.h>
 #include <stdio.h>
@@ -18,12 +23,23 @@ extern void *__libc_calloc(size_t, size_t);
 extern void *__libc_realloc(void *, size_t);
 extern void *__libc_memalign(size_t, size_t);
 
+typedef int create_call(pthread_t *, const pthread_attr_t *, void *(*)(void *), void *);
+
 static atomic_ulong requests;
 static unsigned long refused;
+static atomic_ulong threads;
+static unsigned long refused_thread;
+static unsigned long most_threads = ULONG_MAX;
+
+static unsigned long number_in(const char *name, unsigned long otherwise) {
+    const char *number = getenv(name);
+    return number == NULL ? otherwise : strtoul(number, NULL, 10);
+}
 
 __attribute__((constructor)) static void begin(void) {
-    const char *number = getenv("REFUSED");
-    refused = number == NULL ? 0 : strtoul(number, NULL, 10);
+    refused = number_in("REFUSED", 0);
+    refused_thread = number_in("REFUSED_THREAD", 0);
+    most_threads = number_in("MOST_THREADS", ULONG_MAX);
 }
 
 static int is_refused(void) {
@@ -63,17 +79,30 @@ int posix_memalign(void **to, size_t alignment, size_t size) {
     return 0;
 }
 
+int pthread_create(pthread_t *thread, const pthread_attr_t *attributes, void *(*start)(void *), void *with) {
+    unsigned long number = atomic_fetch_add(&threads, 1) + 1;
+    create_call *next = (create_call *)dlsym(RTLD_NEXT, "pthread_create");
+    if (next == NULL || number == refused_thread || number > most_threads) {
+        return EAGAIN;
+    }
+    return next(thread, attributes, start, with);
+}
+
 /* Takes no memory, so that no count is lost by a refusal. */
-__attribute__((destructor)) static void end(void) {
-    const char *name = getenv("REQUESTS");
+static void write_count(const char *name, unsigned long count) {
     if (name == NULL) {
         return;
     }
     int file = open(name, O_WRONLY | O_CREAT | O_TRUNC, 0666);
     if (file >= 0) {
-        dprintf(file, "%lu\n", atomic_load(&requests));
+        dprintf(file, "%lu\n", count);
         close(file);
     }
+}
+
+__attribute__((destructor)) static void end(void) {
+    write_count(getenv("REQUESTS"), atomic_load(&requests));
+    write_count(getenv("THREADS"), atomic_load(&threads));
 }
 
 /* A program that may start threads ends here, and no destructor runs. */
