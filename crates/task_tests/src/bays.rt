@@ -1,32 +1,23 @@
 //! Bays: slots, wakes, and the lists of those that wait.
 
-ghost use Rattle.std.specs.Prelude.{◌≡◌, IfOk};
-ghost use Rattle.cell_registry.specs.Passes.{RegistryView, first_pass};
-ghost use Rattle.derived_ops.specs.Tree.{Tree};
-ghost use Rattle.fiber_poll.specs.Tasks.{IsTaskOf};
+ghost use Rattle.std.specs.Prelude.{◌≡◌};
+ghost use Rattle.cell_registry.specs.Passes.{first_pass};
 
 use crate::programs::code;
-use crate::turning::{Told, turned};
+use crate::turning::turned;
 use cell_registry::{Pass, Registry};
 use derived_ops::Code;
 use effect_term::Outcome;
 use fiber_poll::{FiberTask, Topic, first};
-use outcome_trace::text_of_report;
 use std::alloc::Global;
 use std::test::Fail;
-use steal_pool::gather;
 use wait_bay::{Bay, PutError, PutFault};
 
 /// A program whose first turn starts fiber 1.
 const STARTING: &str = "(start f (say 1) (pure 2))";
 
-const ENDED: Told = Told::Ended(Outcome::Succeeded(0));
-
 // The task of the fiber that the first turn of this one starts.
-fn child_of<'a>(task: &mut FiberTask<'a>) -> Result<FiberTask<'a>, Fail>
-    ensures child { IfOk result (λ child. (home : RegistryView) (code : Tree) → IsTaskOf home code task.old → IsTaskOf home code child) }
-    ensures task { IfOk result (λ _. (home : RegistryView) (code : Tree) → IsTaskOf home code task.old → IsTaskOf home code task.new) }
-{
+fn child_of<'a>(task: &mut FiberTask<'a>) -> Result<FiberTask<'a>, Fail> {
     match turned(task, 64)? {
         (_, Some(child)) => Ok(child),
         (_, None) => Err(Fail::new("no fiber was started")),
@@ -166,33 +157,5 @@ fn what_lies_in_a_bay_is_left_at_its_end(rt: HostRuntime) -> Result<(), Fail> {
     let tasks = bay.empty()?;
     assert_eq!(rt; tasks.len(), 1);
     assert_eq!(rt; tasks[0].number(), 1);
-    Ok(())
-}
-
-#[test]
-fn what_is_left_in_a_named_bay_gathers(rt: HostRuntime) -> Result<(), Fail> {
-    let code = code(rt.alloc(), STARTING)?;
-    let (registry, pass) = Registry::new(rt.alloc(), 2, 1, 1, 9)?;
-    let mut parent = first(rt.alloc(), &registry, pass, &code, 99)?;
-    let child = child_of(&mut parent)?;
-    let (bay, mut seat) = Bay::new(rt.alloc(), 2, 1, Some((&registry, &code)))?;
-    let mut other_seat = bay.split(&mut seat);
-    assert_eq!(rt; bay.put(&rt, &mut seat, 1, child, true).ok(), Some(true));
-    assert_eq!(rt; bay.put(&rt, &mut seat, 0, parent, false).ok(), Some(false));
-    let Some(mut child) = bay.take(&rt, &mut other_seat, 1) else {
-        return Err(Fail::new("the task is lost"));
-    };
-    let (told, _) = turned(&mut child, 64)?;
-    assert_eq!(rt; told, ENDED);
-    assert_eq!(rt;
-        bay.put(&rt, &mut other_seat, 1, child, false).ok(),
-        Some(false)
-    );
-    let report = gather(rt.alloc(), &registry, &code, bay.empty()?)?;
-    let text = text_of_report(rt.alloc(), &report)?;
-    assert_eq!(rt;
-        text.as_str(),
-        "fiber 0 unended\nfiber 1 succeeded 0: say 1\n"
-    );
     Ok(())
 }

@@ -2,7 +2,7 @@
 
 use crate::programs::code;
 use crate::turning::{Told, Turns, expect_turns, turned};
-use cell_registry::{Band, CancelReply, Limits, Registry};
+use cell_registry::{Band, Limits, Registry};
 use effect_term::Outcome;
 use fiber_frames::{Ask, Mark};
 use fiber_poll::first;
@@ -131,10 +131,9 @@ fn the_pass_goes_on_after_a_full_band(rt: HostRuntime) -> Result<(), Fail> {
         assert_eq!(rt; task.outcome(), None);
         assert_eq!(rt; task.trace(), [Mark::Say(1)].as_slice());
     }
-    let (mut pass, config) = task.into_parts();
+    let (pass, config) = task.into_parts();
     assert_eq!(rt; config.ask(), Ask::Start);
-    assert_eq!(rt; registry.cancel(&mut pass, 0), CancelReply::Asked);
-    assert_eq!(rt; registry.new_ref(&mut pass), Ok(0));
+    assert_eq!(rt; (pass.count(), pass.depth()), (0, 0));
     Ok(())
 }
 
@@ -149,11 +148,9 @@ fn the_pass_goes_on_after_a_used_up_count(rt: HostRuntime) -> Result<(), Fail> {
         assert_eq!(rt; task.outcome(), None);
         assert_eq!(rt; task.trace(), [Mark::Enter(0), Mark::Say(1)].as_slice());
     }
-    let (mut pass, config) = task.into_parts();
+    let (pass, config) = task.into_parts();
     assert_eq!(rt; config.ask(), Ask::Unmask);
     assert_eq!(rt; pass.count(), 1);
     assert_eq!(rt; pass.depth(), 1);
-    assert_eq!(rt; registry.cancel(&mut pass, 0), CancelReply::Asked);
-    assert_eq!(rt; registry.new_ref(&mut pass), Ok(0));
     Ok(())
 }

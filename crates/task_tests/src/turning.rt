@@ -1,21 +1,16 @@
-//! Tasks that are turned by hand, and gathered.
+//! Tasks that are turned by hand, and what they have come to.
 
-ghost use Rattle.std.specs.Prelude.{◌≡◌, ◌<◌, All, IfOk, IfSome, OnOk, length};
+ghost use Rattle.std.specs.Prelude.{◌<◌, length};
 ghost use Rattle.cell_registry.specs.Cells.{AreLimits};
-ghost use Rattle.cell_registry.specs.Passes.{RegistryView};
-ghost use Rattle.derived_ops.specs.Tree.{Tree};
-ghost use Rattle.fiber_poll.specs.Tasks.{IsTaskOf};
 
 use crate::programs::{code, replayed};
 use cell_registry::{Band, Limits, Registry, RunError};
-use derived_ops::Code;
 use effect_term::Outcome;
 use fiber_poll::{FiberTask, Topic, Turn, first};
-use outcome_trace::text_of_report;
+use outcome_trace::{FiberReport, FiberReports, Marks, Report, text_of_report};
 use std::alloc::{AllocError, Global};
 use std::process::Abort;
 use std::test::Fail;
-use steal_pool::gather;
 
 /// What a turn answered, with the number of a started fiber in place of its task.
 #[derive(Clone, Copy, PartialEq, Eq, Debug)]
@@ -38,8 +33,6 @@ pub fn turned<'a>(
     budget: u32,
 ) -> Result<(Told, Option<FiberTask<'a>>), AllocError>
     requires { 1 < budget }
-    ensures task { OnOk result ((home : RegistryView) (code : Tree) → IsTaskOf home code task.old → IsTaskOf home code task.new) }
-    ensures child { IfOk result (λ it. (home : RegistryView) (code : Tree) → IsTaskOf home code task.old → IfSome it.1 (IsTaskOf home code)) }
 {
     match task.turn(budget) {
         Ok(Turn::Ended(outcome)) => Ok((Told::Ended(outcome), None)),
@@ -58,16 +51,12 @@ pub fn turned<'a>(
 
 // Makes a turn of the fiber of this number. A started fiber's task goes to the end, which is its place.
 fn turn_of<'a>(
-    registry: &Registry,
-    code: &Code,
     tasks: &mut Vec<FiberTask<'a>>,
     number: usize,
     budget: u32,
 ) -> Result<Told, AllocError>
     requires there { number < length tasks.old.items }
     requires budget { 1 < budget }
-    requires ours { All (IsTaskOf registry.now code.now) tasks.old.items }
-    ensures ours { OnOk result (All (IsTaskOf registry.now code.now) tasks.new.items) }
 {
     let (told, child) = turned(&mut tasks[number], budget)?;
     if let Some(child) = child {
@@ -79,26 +68,42 @@ fn turn_of<'a>(
 // Makes these turns, each of the fiber of this number and by this budget.
 fn all_turns<'a>(
     alloc: Global,
-    registry: &Registry,
-    code: &Code,
     tasks: &mut Vec<FiberTask<'a>>,
     turns: &[(usize, u32)],
-) -> Result<Vec<Told>, Fail>
-    requires ours { All (IsTaskOf registry.now code.now) tasks.old.items }
-    ensures ours { OnOk result (All (IsTaskOf registry.now code.now) tasks.new.items) }
-{
+) -> Result<Vec<Told>, Fail> {
     let mut told = Vec::new(alloc);
     for (number, budget) in turns {
         if *number >= tasks.len() || *budget < 2 {
             return Err(Fail::new("there is no such turn"));
         }
-        told.push(turn_of(registry, code, tasks, *number, *budget)?)?;
+        told.push(turn_of(tasks, *number, *budget)?)?;
     }
     Ok(told)
 }
 
+// What the fiber of a task has come to.
+fn line_of(alloc: Global, task: &FiberTask<'_>) -> Result<FiberReport, AllocError> {
+    let marks = Vec::from_slice(alloc, task.trace())?;
+    Ok(FiberReport {
+        outcome: task.outcome(),
+        marks: Marks::new(marks),
+    })
+}
+
+// The text of the report of what the fibers of these tasks have come to.
+fn report_of(alloc: Global, tasks: &[FiberTask<'_>]) -> Result<String, Fail> {
+    let mut lines = Vec::new(alloc);
+    for task in tasks {
+        lines.push(line_of(alloc, task)?)?;
+    }
+    let report = Report {
+        fibers: FiberReports::new(lines),
+    };
+    Ok(text_of_report(alloc, &report)?)
+}
+
 /// Makes these turns of a program's fibers, each of the fiber of this number and by this budget. Gives
-/// what the turns told, and the text of the report that the tasks gather to.
+/// what the turns told, and the text of the report of what the fibers have come to.
 pub fn turn_by_turn(
     alloc: Global,
     text: &str,
@@ -119,9 +124,8 @@ pub fn turn_by_turn(
     let task = first(alloc, &registry, pass, &code, moves)?;
     let mut tasks = Vec::new(alloc);
     tasks.push(task)?;
-    let told = all_turns(alloc, &registry, &code, &mut tasks, turns)?;
-    let report = gather(alloc, &registry, &code, tasks)?;
-    Ok((told, text_of_report(alloc, &report)?))
+    let told = all_turns(alloc, &mut tasks, turns)?;
+    Ok((told, report_of(alloc, tasks.as_slice())?))
 }
 
 /// Turns of a program's fibers that are made by hand, and what comes of them.
@@ -138,7 +142,7 @@ pub struct Turns<'a> {
     pub told: &'a [Told],
     /// A schedule that has the moves of the turns, in their order.
     pub schedule: &'a str,
-    /// The report that the tasks gather to, which is the core's under the schedule.
+    /// The report of what the fibers have come to, which is the core's under the schedule.
     pub report: &'a str,
 }
 
