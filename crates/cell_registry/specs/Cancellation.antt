@@ -10,4 +10,5 @@ WasCancelled (e ∷ es) f = (e.call ≡ Cancel f) ⊎ WasCancelled es f
 
 -- cut after cancel: each cut stands after a request for its fiber's cancellation
 abbrev pub CutsAfterCancel : List Entry → Type 0
-CutsAfterCancel h = (before rest : List Entry) (e : Entry) → h ≡ before ++ e ∷ rest → e.call ≡ Cut → WasCancelled before e.by
+CutsAfterCancel h = (before rest : List Entry) (e : Entry) → h ≡ before ++ e ∷ rest → e.call ≡ Cut →
+    WasCancelled before e.by

@@ -1,5 +1,6 @@
 -- A registry as one thread would keep it: plain records, and what each call does to them.
-use Rattle.std.specs.Prelude.{◌≡◌, ℕ, ◌+◌, ◌-◌, ◌^◌, ◌<◌, ◌≤◌, Bool, true, false, ◌==◌, List, length, Option, Some, None, cond, is_none, replicate, slice_index_or, slice_set, ℤ, pos, ◌+ℤ◌}
+use Rattle.std.specs.Prelude.{◌≡◌, ℕ, ◌+◌, ◌-◌, ◌^◌, ◌<◌, ◌≤◌, Bool, true, false, ◌==◌, List, length, Option, Some}
+use Rattle.std.specs.Prelude.{None, cond, is_none, replicate, slice_index_or, slice_set, ℤ, pos, ◌+ℤ◌}
 use Rattle.std.specs.Int.{w32, int_wrap}
 use Rattle.std.specs.Int.RustNames.{FitsSigned}
 use Rattle.effect_term.specs.declared.reply.Outcome.{Outcome}
@@ -20,7 +21,8 @@ use Rattle.cell_registry.specs.declared.cell.Stage.{Stage}
 use Rattle.cell_registry.specs.declared.cell.Stage.TheVariants.{Running, Finalizing, Ended}
 use Rattle.cell_registry.specs.declared.cell.Cell.{Cell}
 use Rattle.cell_registry.specs.declared.call.Call.{Call}
-use Rattle.cell_registry.specs.declared.call.Call.TheVariants.{Start, Cancel, Join, Look, Mask, Unmask, Cut, Finish, NewRef, NewDeferred, Get, Set, Modify, Complete, Read}
+use Rattle.cell_registry.specs.declared.call.Call.TheVariants.{Start, Cancel, Join, Look, Mask, Unmask, Cut, Finish}
+use Rattle.cell_registry.specs.declared.call.Call.TheVariants.{NewRef, NewDeferred, Get, Set, Modify, Complete, Read}
 
 -- the limits that a registry can have
 pub record AreLimits (k : Limits) : Type 0 where
@@ -88,7 +90,8 @@ MayUnmask Running depth = 0 < depth
 MayUnmask Finalizing depth = 1 < depth
 MayUnmask (Ended o) depth = ⊥
 
--- the fiber may end with this outcome: a running one unmasked and not as canceled, and one that runs its finalizers as canceled, under the mask of the cut alone
+-- the fiber may end with this outcome: a running one unmasked and not as canceled, and one that runs its finalizers
+-- as canceled, under the mask of the cut alone
 abbrev pub MayFinish : Stage → ℕ → Outcome → Type 0
 MayFinish Running depth (Succeeded v) = (depth ≡ 0) × FitsSigned w32 v
 MayFinish Running depth (Errored c) = (depth ≡ 0) × FitsSigned w32 c
@@ -99,7 +102,8 @@ MayFinish Finalizing depth Canceled = depth ≡ 1
 MayFinish (Ended p) depth o = ⊥
 
 -- ---- the registry
--- a cell for each fiber number, a value for each ref, an optional value for each deferred, and the next number of each band
+-- a cell for each fiber number, a value for each ref, an optional value for each deferred, and the next number of
+-- each band
 pub record Cells : Type 0 where
   pub next_fiber : ℕ
   pub next_ref : ℕ

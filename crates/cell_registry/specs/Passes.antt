@@ -37,7 +37,8 @@ pub record IsRegistry (key : Limits) (r : RegistryView) : Type 0 where
   pub slots : r.table.slots ≡ 0
 
 -- ---- a pass
--- the registry that it is of, the fiber, what its owner knows of the fiber's cell, the reply of the last look, the fibers whose calls the pass makes or made, and the history that it has seen
+-- the registry that it is of, the fiber, what its owner knows of the fiber's cell, the reply of the last look, the
+-- fibers whose calls the pass makes or made, and the history that it has seen
 pub record PassView : Type 0 where
   pub registry : RegistryView
   pub number : ℕ
@@ -52,7 +53,8 @@ pub record PassView : Type 0 where
 abbrev pub own_cell : PassView → Cell
 own_cell p = cell_of (left p.registry.limits p.seen) p.number
 
--- what holds of every pass: what it has seen is legal, and leaves the fiber's cell as the pass tells, whose count is within its limit. The fiber is one of the pass's, and all of these were born in what it has seen
+-- what holds of every pass: what it has seen is legal, and leaves the fiber's cell as the pass tells, whose count
+-- is within its limit. The fiber is one of the pass's, and all of these were born in what it has seen
 pub record IsPass (p : PassView) : Type 0 where
   pub limits : AreLimits p.registry.limits
   pub legal : IsLegal p.registry.limits p.seen
@@ -66,7 +68,16 @@ pub record IsPass (p : PassView) : Type 0 where
 
 -- the pass whose seat has this knowledge
 abbrev pub pass_of : TableId → Knowledge → ℕ → Stage → ℕ → ℕ → Bool → PassView
-pass_of t v number stage depth count saw = record { registry = record { table = t; limits = v.limits }; number = number; stage = stage; depth = depth; count = count; saw = saw; fibers = v.fibers; seen = v.seen }
+pass_of t v number stage depth count saw = record {
+  registry = record { table = t; limits = v.limits };
+  number = number;
+  stage = stage;
+  depth = depth;
+  count = count;
+  saw = saw;
+  fibers = v.fibers;
+  seen = v.seen;
+}
 
 pub record IsSeated (v : Knowledge) (p : PassView) : Type 0 where
   pub number_is : p.number ≡ v.number
@@ -78,7 +89,16 @@ IsOf r p = p.registry ≡ r
 
 -- fiber 0's pass, before any call
 abbrev pub first_pass : RegistryView → PassView
-first_pass r = record { registry = r; number = 0; stage = Running; depth = 0; count = 0; saw = false; fibers = 0 ∷ []; seen = [] }
+first_pass r = record {
+  registry = r;
+  number = 0;
+  stage = Running;
+  depth = 0;
+  count = 0;
+  saw = false;
+  fibers = 0 ∷ [];
+  seen = [];
+}
 
 -- ---- the calls
 -- the pass has seen more, and nothing else has changed
@@ -89,7 +109,8 @@ OnlySees p q = q ≡ record p { seen = q.seen }
 abbrev pub Calls : PassView → Call → Reply → PassView → Type 0
 Calls p c r q = IsCall p.registry.limits p.fibers p.seen p.number c r q.seen
 
--- a change that the pass p made of its fiber's own cell: the fiber is at this stage and depth since, with one change more. The count was below the limit
+-- a change that the pass p made of its fiber's own cell: the fiber is at this stage and depth since, with one
+-- change more. The count was below the limit
 pub record Changes (p : PassView) (c : Call) (g : Stage) (depth : ℕ) (q : PassView) : Type 0 where
   pub room : p.count < p.registry.limits.count
   pub same : q ≡ record p { stage = g; depth = depth; count = p.count + 1; seen = q.seen }
@@ -105,7 +126,8 @@ pub record IsSpent (p : PassView) (e : CellError) (q : PassView) : Type 0 where
 abbrev pub newborn : PassView → ℕ → PassView
 newborn p n = record p { number = n; stage = Running; depth = 0; count = 0; saw = false; fibers = n ∷ [] }
 
--- the pass p started the fiber of the pass c, and is q since. The fiber's number is below the limit and above those of p's fibers, and the fiber has made no call
+-- the pass p started the fiber of the pass c, and is q since. The fiber's number is below the limit and above those
+-- of p's fibers, and the fiber has made no call
 pub record Starts (p c q : PassView) : Type 0 where
   pub call : Calls p Start (reply.Number c.number) q
   pub child : c ≡ newborn q c.number
@@ -128,7 +150,9 @@ pub record Counts (p : PassView) (n : ℕ) (q : PassView) : Type 0 where
   pub look : IsLook p.registry.limits p.fibers p.seen q.seen
   pub next : (left p.registry.limits q.seen).next_fiber ≡ n
 
--- The pass a has met b, and is q since: what it has seen is one legal history, which begins with what a had seen and with what b had seen. The calls in it of the fibers of a are those that a had seen, and of the fibers of b those that b had. No fiber is of both
+-- The pass a has met b, and is q since: what it has seen is one legal history, which begins with what a had seen
+-- and with what b had seen. The calls in it of the fibers of a are those that a had seen, and of the fibers of b
+-- those that b had. No fiber is of both
 pub record Meets (a b q : PassView) : Type 0 where
   pub same : q ≡ record a { fibers = a.fibers ++ b.fibers; seen = q.seen }
   pub first : IsPrefix a.seen q.seen
@@ -138,7 +162,8 @@ pub record Meets (a b q : PassView) : Type 0 where
   pub other : (f : ℕ) → Has b.fibers f → calls_by f q.seen ≡ calls_by f b.seen
   pub apart : (f : ℕ) → Has a.fibers f → Has b.fibers f → ⊥
 
--- At the end, the word of the fiber f is n: some legal history, which begins with all that was seen and has no further call of the fibers fs, leaves it so
+-- At the end, the word of the fiber f is n: some legal history, which begins with all that was seen and has no
+-- further call of the fibers fs, leaves it so
 pub record IsLeftWord (k : Limits) (fs : List ℕ) (seen : List Entry) (f n : ℕ) : Type 0 where
   pub history : List Entry
   pub begins : IsPrefix seen history

@@ -21,13 +21,15 @@ Has (x ∷ xs) f = (x ≡ f) ⊎ Has xs f
 abbrev pub seen_cell : Knowledge → ℕ → Cell
 seen_cell v f = cell_of (left v.limits v.seen) f
 
--- the fiber f is born in the history h, and has made no call in it since g, so that its own part of its cell is as g left it
+-- the fiber f is born in the history h, and has made no call in it since g, so that its own part of its cell is as
+-- g left it
 pub record IsQuietSince (k : Limits) (h g : List Entry) (f : ℕ) : Type 0 where
   pub calls : calls_by f h ≡ calls_by f g
   pub cell : owned (cell_of (left k h) f) ≡ owned (cell_of (left k g) f)
   pub born : f < (left k h).next_fiber
 
--- what holds of one pass, where the history is h: what it has seen is how h begins, and its fibers' calls in h are those that it has seen
+-- what holds of one pass, where the history is h: what it has seen is how h begins, and its fibers' calls in h are
+-- those that it has seen
 pub record Fits (k : Limits) (h : List Entry) (v : Knowledge) : Type 0 where
   pub limits : (f : ℕ) → Has v.fibers f → v.limits ≡ k
   pub seen : IsPrefix v.seen h

@@ -14,10 +14,12 @@ use Rattle.cell_registry.specs.declared.cell.Stage.{Stage}
 use Rattle.cell_registry.specs.declared.cell.Stage.TheVariants.{Running}
 use Rattle.cell_registry.specs.declared.cell.Cell.{Cell}
 use Rattle.cell_registry.specs.declared.call.Call.{Call}
-use Rattle.cell_registry.specs.declared.call.Call.TheVariants.{Cancel, Join, Look, Mask, Unmask, Cut, Finish, Get, Set, Modify, Complete, Read}
+use Rattle.cell_registry.specs.declared.call.Call.TheVariants.{Cancel, Join, Look, Mask, Unmask, Cut, Finish, Get}
+use Rattle.cell_registry.specs.declared.call.Call.TheVariants.{Set, Modify, Complete, Read}
 use Rattle.cell_registry.specs.declared.call.Entry.{Entry}
 use Rattle.cell_registry.specs.declared.knowledge.Knowledge.{Knowledge}
-use Rattle.cell_registry.specs.Cells.{masked, unmasked, cut, finished, owned, reply_of, IsOpen, cancel_reply, join_reply, OutcomeFits, ValueFits}
+use Rattle.cell_registry.specs.Cells.{masked, unmasked, cut, finished, owned, reply_of, IsOpen, cancel_reply}
+use Rattle.cell_registry.specs.Cells.{join_reply, OutcomeFits, ValueFits}
 use Rattle.cell_registry.specs.Histories.{left, IsLegal, calls_by}
 use Rattle.cell_registry.specs.Bands.{next_of, limit_of, claim_of, AreAllGiven}
 use Rattle.cell_registry.specs.Words.{phase_at, control, cell_word, deferred_word, ref_value}
@@ -27,8 +29,12 @@ use Rattle.cell_registry.specs.Rule.{Has, seen_cell}
 abbrev pub entry : ℕ → Call → Reply → Entry
 entry by c r = record { by = by; call = c; reply = r }
 
--- Each call in a history. A pass that makes the calls of the fibers fs had seen `before`, and its fiber `by` made a call: what it has seen now is one legal history, which begins with all that it had seen and ends with this call and its reply. The caller's calls in it are those before, and then this one. The reply is the registry's after the entries that stand before the call. The pass's other fibers have made none since
-pub record IsCall (k : Limits) (fs : List ℕ) (before : List Entry) (by : ℕ) (c : Call) (r : Reply) (now : List Entry) : Type 0 where
+-- Each call in a history. A pass that makes the calls of the fibers fs had seen `before`, and its fiber `by` made a
+-- call: what it has seen now is one legal history, which begins with all that it had seen and ends with this call
+-- and its reply. The caller's calls in it are those before, and then this one. The reply is the registry's after
+-- the entries that stand before the call. The pass's other fibers have made none since
+pub record IsCall (k : Limits) (fs : List ℕ) (before : List Entry) (by : ℕ) (c : Call) (r : Reply) (now : List Entry)
+    : Type 0 where
   pub between : List Entry
   pub seen : now ≡ (before ++ between) ++ entry by c r ∷ []
   pub replied : r ≡ reply_of (left k (before ++ between)) by c
@@ -36,7 +42,8 @@ pub record IsCall (k : Limits) (fs : List ℕ) (before : List Entry) (by : ℕ) 
   pub own : calls_by by now ≡ calls_by by before ++ entry by c r ∷ []
   pub others : (f : ℕ) → Has fs f → f ≢ by → calls_by f now ≡ calls_by f before
 
--- The pass made no call, and has seen a whole legal history, which begins with all that it had seen and has no further call of its fibers
+-- The pass made no call, and has seen a whole legal history, which begins with all that it had seen and has no
+-- further call of its fibers
 pub record IsLook (k : Limits) (fs : List ℕ) (before now : List Entry) : Type 0 where
   pub seen : IsPrefix before now
   pub legal : IsLegal k now
@@ -65,14 +72,16 @@ abbrev pub FoundCell : ℕ → (Cell → Type 0) → Type 0
 FoundCell n P = (c : Cell) × InRange (control c) × (cell_word c ≡ n) × P c
 
 abbrev pub Cancelled : ℕ → Knowledge → ℕ → Knowledge → Type 0
-Cancelled f v found w = FoundCell found (λ c. Called v (Cancel f) (reply.Cancel (cancel_reply c.stage c.request)) w × IsSame v w)
+Cancelled f v found w =
+    FoundCell found (λ c. Called v (Cancel f) (reply.Cancel (cancel_reply c.stage c.request)) w × IsSame v w)
 
 abbrev pub Joined : ℕ → Knowledge → ℕ → Knowledge → Type 0
 Joined f v found w = FoundCell found (λ c. Called v (Join f) (reply.Join (join_reply c.stage)) w × IsSame v w)
 
 -- the request that was found stands in what was seen
 abbrev pub SawRequest : Knowledge → ℕ → Knowledge → Type 0
-SawRequest v found w = FoundCell found (λ c. Called v Look (reply.Seen c.request) w × IsSame v w × ((seen_cell w v.number).request ≡ c.request))
+SawRequest v found w = FoundCell found (λ c. Called v Look (reply.Seen c.request) w × IsSame v w ×
+    ((seen_cell w v.number).request ≡ c.request))
 
 -- ---- steps on the caller's own word
 -- the same pass, whose own part of its cell is now this
@@ -97,7 +106,8 @@ WasCut v w = Changed v Cut cut w
 
 -- the owner added k, which tells the outcome
 abbrev pub Finished : ℕ → Knowledge → Knowledge → Type 0
-Finished k v w = (b : Bool) (o : Outcome) → phase_at (seen_cell v v.number).stage ≡ bit b → OutcomeFits o → k ≡ finish_sum b o → Changed v (Finish o) (finished o) w
+Finished k v w = (b : Bool) (o : Outcome) → phase_at (seen_cell v v.number).stage ≡ bit b → OutcomeFits o →
+    k ≡ finish_sum b o → Changed v (Finish o) (finished o) w
 
 -- ---- steps on the word of a ref or a deferred
 -- the word i is that of the ref r
@@ -121,15 +131,18 @@ WasSet i n v w = AtRef i v.limits (λ r. (x : ℤ) → HasBits n x → Called v 
 
 -- the number n was added
 abbrev pub Modified : ℕ → ℕ → Knowledge → ℕ → Knowledge → Type 0
-Modified i n v found w = AtRef i v.limits (λ r. (x : ℤ) → HasBits n x → Called v (Modify r x) (reply.Value (ref_value found)) w × IsSame v w)
+Modified i n v found w = AtRef i v.limits (λ r. (x : ℤ) → HasBits n x →
+    Called v (Modify r x) (reply.Value (ref_value found)) w × IsSame v w)
 
 -- n was exchanged for an empty deferred's word
 abbrev pub Completed : ℕ → ℕ → Knowledge → ℕ → Knowledge → Type 0
-Completed i n v found w = AtDeferred i v.limits (λ d. (x : ℤ) → FitsSigned w32 x → n ≡ deferred_word (Some x) → Called v (Complete d x) (reply.Completed (found == 0)) w × IsSame v w)
+Completed i n v found w = AtDeferred i v.limits (λ d. (x : ℤ) → FitsSigned w32 x → n ≡ deferred_word (Some x) →
+    Called v (Complete d x) (reply.Completed (found == 0)) w × IsSame v w)
 
 -- the word that was found is that of the value
 abbrev pub WasRead : ℕ → Knowledge → ℕ → Knowledge → Type 0
-WasRead i v found w = AtDeferred i v.limits (λ d. (x : Option ℤ) × ValueFits x × (deferred_word x ≡ found) × Called v (Read d) (reply.Read x) w × IsSame v w)
+WasRead i v found w = AtDeferred i v.limits (λ d. (x : Option ℤ) × ValueFits x × (deferred_word x ≡ found) ×
+    Called v (Read d) (reply.Read x) w × IsSame v w)
 
 -- ---- steps on the claim word of a band
 abbrev pub band_word : Band → ℕ
@@ -207,7 +220,14 @@ abbrev pub hosting : Knowledge → Knowledge → Knowledge
 hosting v w = record v { guests = w.fibers; heard = w.seen }
 
 abbrev pub nothing : Knowledge
-nothing = record { limits = record { fibers = 0; refs = 0; deferreds = 0; count = 0 }; number = 0; fibers = []; seen = []; guests = []; heard = [] }
+nothing = record {
+  limits = record { fibers = 0; refs = 0; deferreds = 0; count = 0 };
+  number = 0;
+  fibers = [];
+  seen = [];
+  guests = [];
+  heard = [];
+}
 
 -- the guests became fibers of the pass, which has seen the history so far
 pub record Met (v w : Knowledge) : Type 0 where

@@ -26,9 +26,11 @@ JoinsAgree h = (f : ℕ) (o p : Outcome) → WasToldEnd h f o → WasToldEnd h f
 
 -- no number of a band is given a second time
 abbrev pub GivesOnce : List Entry → Type 0
-GivesOnce h = (b : Band) (n : ℕ) (before rest : List Entry) (e : Entry) → h ≡ before ++ e ∷ rest → e.call ≡ claim_of b → e.reply ≡ reply.Number n → WasGiven b before n → ⊥
+GivesOnce h = (b : Band) (n : ℕ) (before rest : List Entry) (e : Entry) → h ≡ before ++ e ∷ rest →
+    e.call ≡ claim_of b → e.reply ≡ reply.Number n → WasGiven b before n → ⊥
 
--- What a legal history tells of its entries: who called, where cuts stand, what joins answer, and which numbers are given. The fibers below the next number are those that were born by the history's starts: no other call adds one
+-- What a legal history tells of its entries: who called, where cuts stand, what joins answer, and which numbers are
+-- given. The fibers below the next number are those that were born by the history's starts: no other call adds one
 pub record IsTold (k : Limits) (h : List Entry) : Type 0 where
   pub callers : CallersWereBorn h
   pub cuts : CutsAfterCancel h

@@ -1,5 +1,6 @@
 -- The words of the table, and the registry that they are left by.
-use Rattle.std.specs.Prelude.{◌≡◌, ℕ, ◌+◌, ◌%◌, ◌^◌, List, ◌∷◌, ◌++◌, length, map, Bool, Option, Some, None, slice_index_or, ℤ, pos}
+use Rattle.std.specs.Prelude.{◌≡◌, ℕ, ◌+◌, ◌%◌, ◌^◌, List, ◌∷◌, ◌++◌, length, map, Bool, Option, Some, None}
+use Rattle.std.specs.Prelude.{slice_index_or, ℤ, pos}
 use Rattle.std.specs.Int.{w32, cast_signed, cast_unsigned}
 use Rattle.effect_term.specs.declared.reply.CancelReply.{CancelReply}
 use Rattle.effect_term.specs.declared.reply.JoinReply.{JoinReply}
@@ -28,7 +29,15 @@ value_at (Ended o) = value_of o
 
 -- the fields of a cell, as its word has them
 unfoldable pub control : Cell → Control
-control c = record { count = c.count; depth = c.depth; phase = phase_at c.stage; kind = kind_at c.stage; cancel = c.request; waited = c.waited; value = value_at c.stage }
+control c = record {
+  count = c.count;
+  depth = c.depth;
+  phase = phase_at c.stage;
+  kind = kind_at c.stage;
+  cancel = c.request;
+  waited = c.waited;
+  value = value_at c.stage;
+}
 
 abbrev pub cell_word : Cell → ℕ
 cell_word c = word_of (control c)
@@ -38,10 +47,12 @@ abbrev pub deferred_word : Option ℤ → ℕ
 deferred_word None = 0
 deferred_word (Some v) = 2 ^ 32 + cast_unsigned w32 v
 
--- ---- the words that a registry leaves: the next number of each band, then a word for each fiber, for each ref and for each deferred. A ref's value is its word modulo 2 ^ 32
+-- ---- the words that a registry leaves: the next number of each band, then a word for each fiber, for each ref and
+-- for each deferred. A ref's value is its word modulo 2 ^ 32
 pub record Leaves (words : List ℕ) (s : Cells) : Type 0 where
   pub raw : List ℕ
-  pub words_are : words ≡ s.next_fiber ∷ s.next_ref ∷ s.next_deferred ∷ (map cell_word s.cells ++ (raw ++ map deferred_word s.deferreds))
+  pub words_are : words ≡ s.next_fiber ∷ s.next_ref ∷ s.next_deferred ∷
+      (map cell_word s.cells ++ (raw ++ map deferred_word s.deferreds))
   pub long : length raw ≡ length s.refs
   pub refs : (r : ℕ) → slice_index_or raw r 0 % 2 ^ 32 ≡ cast_unsigned w32 (ref_of s r)
 

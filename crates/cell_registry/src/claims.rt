@@ -19,11 +19,15 @@ pub(crate) fn claim(
     band: Band,
     limit: u16,
 ) -> Option<u16>
-    requires table { (seat.old.table_id ≡ shared.now.table_id) × (2 < shared.now.table_id.words) × (seat.old.me.1 ≡ []) }
-    requires limit { (limit ≡ limit_of band shared.now.key) × (limit ≡ limit_of band seat.old.me.0.limits) × AreLimits seat.old.me.0.limits }
-    requires may { Has seat.old.me.0.fibers seat.old.me.0.number × MayClaim band (seen_cell seat.old.me.0 seat.old.me.0.number).stage }
+    requires table { (seat.old.table_id ≡ shared.now.table_id) × (2 < shared.now.table_id.words) ×
+        (seat.old.me.1 ≡ []) }
+    requires limit { (limit ≡ limit_of band shared.now.key) × (limit ≡ limit_of band seat.old.me.0.limits) ×
+        AreLimits seat.old.me.0.limits }
+    requires may { Has seat.old.me.0.fibers seat.old.me.0.number ×
+        MayClaim band (seen_cell seat.old.me.0 seat.old.me.0.number).stage }
     ensures seat { (seat.new.table_id ≡ seat.old.table_id) × (seat.new.me.1 ≡ []) }
-    ensures claim { MatchOption result (FoundNone band seat.old.me.0 seat.new.me.0) (λ n. Claimed band seat.old.me.0 n seat.new.me.0) }
+    ensures claim { MatchOption result (FoundNone band seat.old.me.0 seat.new.me.0)
+        (λ n. Claimed band seat.old.me.0 n seat.new.me.0) }
 {
     let place = claim_place(band);
     let mut next = shared.load::<rule::Nexts>(seat, place);

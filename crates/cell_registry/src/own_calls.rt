@@ -68,7 +68,8 @@ impl Registry {
         requires own { IsOf self.now pass.old }
         requires masked { MayUnmask pass.old.stage pass.old.depth }
         ensures lawful { IsPass pass.new }
-        ensures unmasked { IfOk result (λ _. Changes pass.old call.Unmask pass.old.stage (pass.old.depth - 1) pass.new) }
+        ensures unmasked { IfOk result (λ _. Changes pass.old call.Unmask pass.old.stage (pass.old.depth - 1)
+            pass.new) }
         ensures spent { IfErr result (λ e. IsSpent pass.old e pass.new) }
     {
         refuse_if_spent(pass.count, self.limits.count)?;
@@ -108,7 +109,8 @@ impl Registry {
         requires own { IsOf self.now pass.old }
         requires may { MayFinish pass.old.stage pass.old.depth outcome }
         ensures lawful { IsPass pass.new }
-        ensures ended { IfOk result (λ _. Changes pass.old (call.Finish outcome) (at.Ended outcome) pass.old.depth pass.new) }
+        ensures ended { IfOk result (λ _. Changes pass.old (call.Finish outcome) (at.Ended outcome) pass.old.depth
+            pass.new) }
         ensures spent { IfErr result (λ e. IsSpent pass.old e pass.new) }
     {
         refuse_if_spent(pass.count, self.limits.count)?;

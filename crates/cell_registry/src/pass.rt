@@ -30,7 +30,8 @@ impl Model for Pass {
 
     ghost view = { λ p. pass_of p.seat.table_id p.seat.me.0 p.number p.stage p.depth p.count p.saw };
 
-    ghost invariant = { λ p. (p.seat.me.1 ≡ []) × IsSeated p.seat.me.0 (pass_of p.seat.table_id p.seat.me.0 p.number p.stage p.depth p.count p.saw) };
+    ghost invariant = { λ p. (p.seat.me.1 ≡ []) ×
+        IsSeated p.seat.me.0 (pass_of p.seat.table_id p.seat.me.0 p.number p.stage p.depth p.count p.saw) };
 }
 
 impl Pass {

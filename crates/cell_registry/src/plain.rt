@@ -32,9 +32,29 @@ impl Model for PlainRegistry {
 
     ghost Value = { PlainView };
 
-    ghost view = { λ r. record { limits = r.limits; state = record { next_fiber = r.next_fiber; next_ref = r.next_ref; next_deferred = r.next_deferred; cells = r.cells.items; refs = r.refs.items; deferreds = r.deferreds.items } } };
+    ghost view = { λ r. record {
+      limits = r.limits;
+      state = record {
+        next_fiber = r.next_fiber;
+        next_ref = r.next_ref;
+        next_deferred = r.next_deferred;
+        cells = r.cells.items;
+        refs = r.refs.items;
+        deferreds = r.deferreds.items;
+      };
+    } };
 
-    ghost invariant = { λ r. IsPlain record { limits = r.limits; state = record { next_fiber = r.next_fiber; next_ref = r.next_ref; next_deferred = r.next_deferred; cells = r.cells.items; refs = r.refs.items; deferreds = r.deferreds.items } } };
+    ghost invariant = { λ r. IsPlain record {
+      limits = r.limits;
+      state = record {
+        next_fiber = r.next_fiber;
+        next_ref = r.next_ref;
+        next_deferred = r.next_deferred;
+        cells = r.cells.items;
+        refs = r.refs.items;
+        deferreds = r.deferreds.items;
+      };
+    } };
 }
 
 const FRESH: Cell = Cell {
@@ -57,7 +77,12 @@ impl PlainRegistry {
         limit: u32,
     ) -> Result<PlainRegistry, AllocError>
         requires limits { AreLimits record { fibers = fibers; refs = refs; deferreds = deferreds; count = limit } }
-        ensures opening { IfOk result (λ r. r ≡ new_plain record { fibers = fibers; refs = refs; deferreds = deferreds; count = limit }) }
+        ensures opening { IfOk result (λ r. r ≡ new_plain record {
+          fibers = fibers;
+          refs = refs;
+          deferreds = deferreds;
+          count = limit;
+        }) }
         ensures lawful { IfOk result (λ r. IsPlain r) }
     {
         Ok(PlainRegistry {

@@ -6,7 +6,8 @@ ghost use Rattle.cell_registry.specs.declared.limits.CellError.TheVariants.{Full
 ghost use Rattle.cell_registry.specs.declared.call.Call.TheVariants as call;
 ghost use Rattle.cell_registry.specs.Cells.{AreLimits, IsOpen};
 ghost use Rattle.cell_registry.specs.Cancellation.{WasCancelled};
-ghost use Rattle.cell_registry.specs.Passes.{Calls, Counts, Gives, IsLeftWord, IsOf, IsPass, Meets, OnlySees, SeesAllGiven, Starts, first_pass};
+ghost use Rattle.cell_registry.specs.Passes.{Calls, Counts, Gives, IsLeftWord, IsOf, IsPass, Meets, OnlySees};
+ghost use Rattle.cell_registry.specs.Passes.{SeesAllGiven, Starts, first_pass};
 
 use crate::cell::Stage;
 use crate::claims::claim;
@@ -62,7 +63,12 @@ impl Registry {
         limit: u32,
     ) -> Result<(Registry, Pass), AllocError>
         requires limits { AreLimits record { fibers = fibers; refs = refs; deferreds = deferreds; count = limit } }
-        ensures limits { IfOk result (λ r. r.0.limits ≡ record { fibers = fibers; refs = refs; deferreds = deferreds; count = limit }) }
+        ensures limits { IfOk result (λ r. r.0.limits ≡ record {
+          fibers = fibers;
+          refs = refs;
+          deferreds = deferreds;
+          count = limit;
+        }) }
         ensures pass { IfOk result (λ r. r.1 ≡ first_pass r.0) }
         ensures lawful { IfOk result (λ r. IsPass r.1) }
     {

@@ -1,7 +1,9 @@
 //! What holds of the table between any two steps, and what each step tells.
 ghost use Rattle.std.specs.Prelude.{◌≡◌, []};
 ghost use Rattle.cell_registry.specs.Rule.{WordsAreAHistory, first_knowledge};
-ghost use Rattle.cell_registry.specs.Steps.{AtBand, AtCell, Cancelled, Completed, Finished, Got, Joined, Masked, Met, Modified, SawNext, SawRequest, Tried, Unmasked, WasCut, WasRead, WasSet, child, hosting, nothing, parent};
+ghost use Rattle.cell_registry.specs.Steps.{AtBand, AtCell, Cancelled, Completed, Finished, Got, Joined, Masked, Met};
+ghost use Rattle.cell_registry.specs.Steps.{Modified, SawNext, SawRequest, Tried, Unmasked, WasCut, WasRead, WasSet};
+ghost use Rattle.cell_registry.specs.Steps.{child, hosting, nothing, parent};
 
 use crate::knowledge::Knowledge;
 use crate::limits::Limits;
@@ -99,7 +101,8 @@ impl Play<u8, Knowledge> for Nexts {
 pub(crate) struct Claims;
 
 impl Play<u8, Knowledge> for Claims {
-    ghost then = { λ step before found now. (now.1 ≡ []) × AtBand step.word (λ b. Tried b step.first before.0 found now.0) };
+    ghost then = { λ step before found now. (now.1 ≡ []) ×
+        AtBand step.word (λ b. Tried b step.first before.0 found now.0) };
 }
 
 // A new fiber's number goes to a seat of its own.

@@ -20,11 +20,20 @@ pub record InRange (c : Control) : Type 0 where
 
 -- the packed word
 unfoldable pub word_of : Control → ℕ
-word_of c = c.count + 2 ^ 18 * c.depth + 2 ^ 26 * c.phase + 2 ^ 28 * c.kind + 2 ^ 30 * bit c.cancel + 2 ^ 31 * bit c.waited + 2 ^ 32 * cast_unsigned w32 c.value
+word_of c = c.count + 2 ^ 18 * c.depth + 2 ^ 26 * c.phase + 2 ^ 28 * c.kind + 2 ^ 30 * bit c.cancel +
+    2 ^ 31 * bit c.waited + 2 ^ 32 * cast_unsigned w32 c.value
 
 -- the digits of a number at the places of the fields
 unfoldable pub control_of : ℕ → Control
-control_of n = record { count = n / 2 ^ 0 % 2 ^ 18; depth = n / 2 ^ 18 % 2 ^ 8; phase = n / 2 ^ 26 % 2 ^ 2; kind = n / 2 ^ 28 % 2 ^ 2; cancel = n / 2 ^ 30 % 2 ^ 1 == 1; waited = n / 2 ^ 31 % 2 ^ 1 == 1; value = cast_signed w32 (n / 2 ^ 32 % 2 ^ 32) }
+control_of n = record {
+  count = n / 2 ^ 0 % 2 ^ 18;
+  depth = n / 2 ^ 18 % 2 ^ 8;
+  phase = n / 2 ^ 26 % 2 ^ 2;
+  kind = n / 2 ^ 28 % 2 ^ 2;
+  cancel = n / 2 ^ 30 % 2 ^ 1 == 1;
+  waited = n / 2 ^ 31 % 2 ^ 1 == 1;
+  value = cast_signed w32 (n / 2 ^ 32 % 2 ^ 32);
+}
 
 -- if the number n is a packed word, it was packed from r
 abbrev pub IsPackedFrom : ℕ → Control → Type 0
@@ -72,18 +81,23 @@ value_of Canceled = pos 0
 abbrev pub finished : Outcome → Control → Control
 finished o c = record c { count = c.count + 1; phase = ended; kind = kind_of o; value = value_of o }
 
--- ---- the amounts: whatever the cancel and the waited bit are, the word plus (for a mask that is left, minus) the amount is the word with the fields changed
+-- ---- the amounts: whatever the cancel and the waited bit are, the word plus (for a mask that is left, minus) the
+-- amount is the word with the fields changed
 abbrev pub Masks : ℕ → Type 0
-Masks k = (c : Control) → InRange c → HasNoOutcome c → c.count < greatest_count → c.depth < 255 → (word_of c + k) % 2 ^ 64 ≡ word_of (masked c)
+Masks k = (c : Control) → InRange c → HasNoOutcome c → c.count < greatest_count → c.depth < 255 →
+    (word_of c + k) % 2 ^ 64 ≡ word_of (masked c)
 
 abbrev pub Unmasks : ℕ → Type 0
-Unmasks k = (c : Control) → InRange c → HasNoOutcome c → c.count < greatest_count → 0 < c.depth → (word_of c + (2 ^ 64 - k)) % 2 ^ 64 ≡ word_of (unmasked c)
+Unmasks k = (c : Control) → InRange c → HasNoOutcome c → c.count < greatest_count → 0 < c.depth →
+    (word_of c + (2 ^ 64 - k)) % 2 ^ 64 ≡ word_of (unmasked c)
 
 abbrev pub Cuts : ℕ → Type 0
-Cuts k = (c : Control) → InRange c → HasNoOutcome c → c.count < greatest_count → c.depth ≡ 0 → c.phase ≡ running → (word_of c + k) % 2 ^ 64 ≡ word_of (cut c)
+Cuts k = (c : Control) → InRange c → HasNoOutcome c → c.count < greatest_count → c.depth ≡ 0 → c.phase ≡ running →
+    (word_of c + k) % 2 ^ 64 ≡ word_of (cut c)
 
 abbrev pub Finishes : Bool → Outcome → ℕ → Type 0
-Finishes b o k = (c : Control) → InRange c → HasNoOutcome c → c.count < greatest_count → c.phase ≡ bit b → (word_of c + k) % 2 ^ 64 ≡ word_of (finished o c)
+Finishes b o k = (c : Control) → InRange c → HasNoOutcome c → c.count < greatest_count → c.phase ≡ bit b →
+    (word_of c + k) % 2 ^ 64 ≡ word_of (finished o c)
 
 -- the amount of an end, as a sum: the step to the phase ended, and the outcome's kind and value
 abbrev pub finish_sum : Bool → Outcome → ℕ

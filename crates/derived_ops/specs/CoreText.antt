@@ -1,9 +1,13 @@
 -- The text of a code: one space between parts, none inside the brackets, and each name as a letter of its kind and its
--- slot. What only a running fiber has is spelled in ways that no text has: a number in the place of a name, and words that
--- aren't words of a program.
+-- slot. What only a running fiber has is spelled in ways that no text has: a number in the place of a name, and
+-- words that aren't words of a program.
 use Rattle.std.specs.Prelude.{ℕ, List, [], ◌∷◌, ◌++◌, codes}
 use Rattle.std.specs.Fmt.{decimal, signed_decimal}
-use Rattle.derived_ops.specs.Tree.{Value, Number, Slot, Handle, Known, Open_slot, Mask, Named, Pair, Action, Add, Say, Cede, Never, Canceled, Request, Ending, Get, Set, Modify, Complete, Await, Bracket_mark, Acquired, Releasing, Released, New_ref, New_deferred, Times, Always, Rest, Last, More, Tree, Pure, Raise, Act, Note, Cancel, Let, Seq, Handled, If0, Join, Make, Start, Loop, Uncancelable, Poll, On_cancel, Masked, Polled, Guarded}
+use Rattle.derived_ops.specs.Tree.{Value, Number, Slot, Handle, Known, Open_slot, Mask, Named, Pair, Action, Add, Say}
+use Rattle.derived_ops.specs.Tree.{Cede, Never, Canceled, Request, Ending, Get, Set, Modify, Complete, Await}
+use Rattle.derived_ops.specs.Tree.{Bracket_mark, Acquired, Releasing, Released, New_ref, New_deferred, Times, Always}
+use Rattle.derived_ops.specs.Tree.{Rest, Last, More, Tree, Pure, Raise, Act, Note, Cancel, Let, Seq, Handled, If0}
+use Rattle.derived_ops.specs.Tree.{Join, Make, Start, Loop, Uncancelable, Poll, On_cancel, Masked, Polled, Guarded}
 
 -- parts with one space between them
 abbrev pub spaced : List (List ℕ) → List ℕ
@@ -72,7 +76,8 @@ text_in w (Let e x k) = form (codes "let" ∷ value_text (Slot x) ∷ text_in La
 text_in w (Seq r e k) = sequence_text w (spaced (text_in Last e ∷ text_in r k ∷ []))
 text_in w (Handled e x h) = form (codes "handle" ∷ text_in Last e ∷ value_text (Slot x) ∷ text_in Last h ∷ [])
 text_in w (If0 v s e) = form (codes "if0" ∷ value_text v ∷ text_in Last s ∷ text_in Last e ∷ [])
-text_in w (Join f x s y e c) = form (codes "join" ∷ fiber_text f ∷ value_text (Slot x) ∷ text_in Last s ∷ value_text (Slot y) ∷ text_in Last e ∷ text_in Last c ∷ [])
+text_in w (Join f x s y e c) = form (codes "join" ∷ fiber_text f ∷ value_text (Slot x) ∷ text_in Last s ∷
+    value_text (Slot y) ∷ text_in Last e ∷ text_in Last c ∷ [])
 text_in w (Make (New_ref v) r k) = form (codes "ref" ∷ ref_text (Open_slot r) ∷ value_text v ∷ text_in Last k ∷ [])
 text_in w (Make New_deferred d k) = form (codes "deferred" ∷ deferred_text (Open_slot d) ∷ text_in Last k ∷ [])
 text_in w (Start f e k) = form (codes "start" ∷ fiber_text (Open_slot f) ∷ text_in Last e ∷ text_in Last k ∷ [])

@@ -1,7 +1,10 @@
 -- What the words of a program stand for. A derived word takes the slot d of its first new binder; its parts stand above
 -- the slots that are bound around them.
 use Rattle.std.specs.Prelude.{ℕ, zero, suc, ◌+◌, pos, List, [], ◌∷◌, ◌++◌}
-use Rattle.derived_ops.specs.Tree.{Value, Number, Slot, Open_slot, Mask, Named, Add, Say, Cede, Never, Canceled, Get, Set, Modify, Complete, Await, Acquired, Releasing, Released, New_ref, New_deferred, Times, Always, Last, More, Tree, Pure, Raise, Act, Note, Cancel, Let, Seq, Handled, If0, Join, Make, Start, Loop, Uncancelable, Poll, On_cancel}
+use Rattle.derived_ops.specs.Tree.{Value, Number, Slot, Open_slot, Mask, Named, Add, Say, Cede, Never, Canceled, Get}
+use Rattle.derived_ops.specs.Tree.{Set, Modify, Complete, Await, Acquired, Releasing, Released, New_ref, New_deferred}
+use Rattle.derived_ops.specs.Tree.{Times, Always, Last, More, Tree, Pure, Raise, Act, Note, Cancel, Let, Seq, Handled}
+use Rattle.derived_ops.specs.Tree.{If0, Join, Make, Start, Loop, Uncancelable, Poll, On_cancel}
 use Rattle.derived_ops.specs.Source as word
 use Rattle.derived_ops.specs.Source.{Source}
 
@@ -92,7 +95,8 @@ starts_side c d z e k = Start c (runs_side c d z e) k
 -- the pair race of the poll p: the deferred p + 1, the fibers p + 2 and p + 3, and in s the winner p + 4
 abbrev pub pair_race : ℕ → (a b s : Tree) → Tree
 pair_race p a b s =
-    Make New_deferred (p + 1) (starts_side (p + 2) (p + 1) 0 a (starts_side (p + 3) (p + 1) 1 b (Let (race_winner p) (p + 4) s)))
+    Make New_deferred (p + 1)
+    (starts_side (p + 2) (p + 1) 0 a (starts_side (p + 3) (p + 1) 1 b (Let (race_winner p) (p + 4) s)))
 
 -- waits for g below the poll, and cancels it where the wait is cut
 abbrev pub awaits : ℕ → ℕ → ℕ → Tree
@@ -113,7 +117,8 @@ race_outcome d = If0 (Slot (d + 4)) (race_side d (d + 5) (d + 2) (d + 3)) (race_
 abbrev pub race : ℕ → (a b : Tree) → Tree
 race d a b = Uncancelable d (pair_race d a b (race_outcome d))
 
--- the other fiber of `both` has to give its value too, which has the slot c; first and second are the slots of the values
+-- the other fiber of `both` has to give its value too, which has the slot c; first and second are the slots of the
+-- values
 abbrev pub both_values : (p r c g second first : ℕ) → Tree
 both_values p r c g second first =
     let values = in_order (Act (Set (Open_slot r) (Slot second))) (Pure (Slot first)) in
@@ -130,7 +135,8 @@ both_side p r c f g second first =
 -- the value of the first side by the winner p + 4, with the second side's value in the ref r
 abbrev pub both_outcome : (p r : ℕ) → Tree
 both_outcome p r =
-    If0 (Slot (p + 4)) (both_side p r (p + 5) (p + 2) (p + 3) (p + 6) (p + 5)) (both_side p r (p + 5) (p + 3) (p + 2) (p + 5) (p + 6))
+    If0 (Slot (p + 4)) (both_side p r (p + 5) (p + 2) (p + 3) (p + 6) (p + 5))
+    (both_side p r (p + 5) (p + 3) (p + 2) (p + 5) (p + 6))
 
 -- the ref d holds the second value, below the poll d + 1
 abbrev pub both : ℕ → (a b k : Tree) → Tree
@@ -169,7 +175,8 @@ expansion m d (word.Poll p e) = Poll (Named (slot_at m p)) (expansion m d e)
 expansion m d (word.On_cancel e fin) = On_cancel (expansion m d e) (expansion m d fin)
 expansion m d (word.Start e k) = Start d (expansion m d e) (expansion (m ++ d ∷ []) (d + 1) k)
 expansion m d (word.Join f s e c) =
-    Join (Open_slot (slot_at m f)) d (expansion (m ++ d ∷ []) (d + 1) s) d (expansion (m ++ d ∷ []) (d + 1) e) (expansion m d c)
+    Join (Open_slot (slot_at m f)) d (expansion (m ++ d ∷ []) (d + 1) s) d (expansion (m ++ d ∷ []) (d + 1) e)
+    (expansion m d c)
 expansion m d (word.Cancel f) = Cancel (Open_slot (slot_at m f))
 expansion m d (word.Ref v k) = Make (New_ref (value_in m v)) d (expansion (m ++ d ∷ []) (d + 1) k)
 expansion m d (word.Get r) = Act (Get (Open_slot (slot_at m r)))
@@ -184,15 +191,18 @@ expansion m d (word.Guarantee e fin) =
     guarantee d (expansion m (d + 1) e) (expansion m (d + 1) fin) (expansion m (d + 2) fin) (expansion m (d + 2) fin)
 expansion m d (word.Bracket acq body rel) =
     let x = m ++ (d + 1) ∷ [] in
-    bracket_case d (expansion m (d + 1) acq) (expansion x (d + 3) body) (expansion x (d + 4) rel) (expansion x (d + 4) rel) (expansion x (d + 3) rel)
+    bracket_case d (expansion m (d + 1) acq) (expansion x (d + 3) body) (expansion x (d + 4) rel)
+    (expansion x (d + 4) rel) (expansion x (d + 3) rel)
 expansion m d (word.Bracket_case acq body rs re rc) =
     let x = m ++ (d + 1) ∷ [] in
     let y = x ++ (d + 3) ∷ [] in
-    bracket_case d (expansion m (d + 1) acq) (expansion x (d + 3) body) (expansion y (d + 4) rs) (expansion y (d + 4) re) (expansion x (d + 3) rc)
+    bracket_case d (expansion m (d + 1) acq) (expansion x (d + 3) body) (expansion y (d + 4) rs)
+    (expansion y (d + 4) re) (expansion x (d + 3) rc)
 expansion m d (word.Bracket_full acq body rs re rc) =
     let x = m ++ (d + 1) ∷ [] in
     let y = x ++ (d + 3) ∷ [] in
-    bracket_case d (expansion (m ++ d ∷ []) (d + 1) acq) (expansion x (d + 3) body) (expansion y (d + 4) rs) (expansion y (d + 4) re) (expansion x (d + 3) rc)
+    bracket_case d (expansion (m ++ d ∷ []) (d + 1) acq) (expansion x (d + 3) body) (expansion y (d + 4) rs)
+    (expansion y (d + 4) re) (expansion x (d + 3) rc)
 expansion m d (word.Race a b) = race d (expansion m (d + 3) a) (expansion m (d + 4) b)
 expansion m d (word.Both a b k) =
     both d (expansion m (d + 4) a) (expansion m (d + 5) b) (expansion ((m ++ (d + 1) ∷ []) ++ (d + 2) ∷ []) (d + 3) k)

@@ -1,6 +1,7 @@
 -- Where binders stand.
 use Rattle.std.specs.Prelude.{◌≡◌, ℕ, ◌+◌}
-use Rattle.derived_ops.specs.Tree.{Tree, Let, Seq, Handled, If0, Join, Make, Start, Loop, Uncancelable, Poll, On_cancel, Masked, Polled, Guarded}
+use Rattle.derived_ops.specs.Tree.{Tree, Let, Seq, Handled, If0, Join, Make, Start, Loop, Uncancelable, Poll}
+use Rattle.derived_ops.specs.Tree.{On_cancel, Masked, Polled, Guarded}
 
 -- below so many binders, the slot of each binder is the number of binders around it
 abbrev pub Levelled : ℕ → Tree → Type 0

@@ -1,6 +1,9 @@
 -- Which fibers, refs and deferreds a term names: numbers that were given, or the slots of binders of their kind.
 use Rattle.std.specs.Prelude.{◌≡◌, ℕ, ◌<◌, ◌≤◌, List, [], ◌∷◌, ◌++◌, length, replicate, slice_index_or}
-use Rattle.derived_ops.specs.Tree.{Handle, Known, Open_slot, Action, Request, Ending, Get, Set, Modify, Complete, Await, Maker, New_ref, New_deferred, Tree, Pure, Raise, Act, Note, Cancel, Let, Seq, Handled, If0, Join, Make, Start, Loop, Uncancelable, Poll, On_cancel, Masked, Polled, Guarded}
+use Rattle.derived_ops.specs.Tree.{Handle, Known, Open_slot, Action, Request, Ending, Get, Set, Modify, Complete}
+use Rattle.derived_ops.specs.Tree.{Await, Maker, New_ref, New_deferred, Tree, Pure, Raise, Act, Note, Cancel, Let}
+use Rattle.derived_ops.specs.Tree.{Seq, Handled, If0, Join, Make, Start, Loop, Uncancelable, Poll, On_cancel, Masked}
+use Rattle.derived_ops.specs.Tree.{Polled, Guarded}
 
 -- how many numbers of each kind were given: those below are in use
 pub record Given : Type 0 where
@@ -21,8 +24,8 @@ given_of b A_ref = b.refs
 given_of b A_deferred = b.deferreds
 given_of b No_handle = 0
 
--- a handle in a place of this kind, below binders of these kinds (outermost first): a number that was given, or the slot of
--- a binder of that kind
+-- a handle in a place of this kind, below binders of these kinds (outermost first): a number that was given, or the
+-- slot of a binder of that kind
 abbrev pub HandleFits : Given → List Place → Place → Handle → Type 0
 HandleFits b g p (Known n) = n < given_of b p
 HandleFits b g p (Open_slot s) = slice_index_or g s No_handle ≡ p
@@ -52,7 +55,9 @@ Named b g (Let e x k) = (x ≡ length g) × (Named b g e × Named b (g ++ No_han
 Named b g (Seq w e k) = Named b g e × Named b g k
 Named b g (Handled e x h) = (x ≡ length g) × (Named b g e × Named b (g ++ No_handle ∷ []) h)
 Named b g (If0 v s e) = Named b g s × Named b g e
-Named b g (Join f x s y e c) = HandleFits b g A_fiber f × (((x ≡ length g) × (y ≡ length g)) × (Named b (g ++ No_handle ∷ []) s × (Named b (g ++ No_handle ∷ []) e × Named b g c)))
+Named b g (Join f x s y e c) = HandleFits b g A_fiber f ×
+    (((x ≡ length g) × (y ≡ length g)) ×
+    (Named b (g ++ No_handle ∷ []) s × (Named b (g ++ No_handle ∷ []) e × Named b g c)))
 Named b g (Make m x k) = (x ≡ length g) × Named b (g ++ made_by m ∷ []) k
 Named b g (Start x e k) = (x ≡ length g) × (Named b g e × Named b (g ++ A_fiber ∷ []) k)
 Named b g (Loop t e) = Named b g e

@@ -2,7 +2,11 @@
 use Rattle.std.specs.Prelude.{ℕ, zero, suc, ℤ, ◌⊎◌, refl, List, [], ◌∷◌}
 use Rattle.std.specs.Coded.{Coded, code_by, coded_ℕ, coded_ℤ, coded_list, coded×, coded⊎}
 use Rattle.std.proofs.Common.{◌≡◌, ap, ◌∙◌, inl, inr}
-use Rattle.derived_ops.specs.Tree.{Value, Number, Slot, Handle, Known, Open_slot, Mask, Named, Pair, Add, Say, Cede, Never, Canceled, Request, Ending, Get, Set, Modify, Complete, Await, Acquired, Releasing, Released, New_ref, New_deferred, Times, Always, Last, More, Tree, Pure, Raise, Act, Note, Cancel, Let, Seq, Handled, If0, Join, Make, Start, Loop, Uncancelable, Poll, On_cancel, Masked, Polled, Guarded}
+use Rattle.derived_ops.specs.Tree.{Value, Number, Slot, Handle, Known, Open_slot, Mask, Named, Pair, Add, Say, Cede}
+use Rattle.derived_ops.specs.Tree.{Never, Canceled, Request, Ending, Get, Set, Modify, Complete, Await, Acquired}
+use Rattle.derived_ops.specs.Tree.{Releasing, Released, New_ref, New_deferred, Times, Always, Last, More, Tree, Pure}
+use Rattle.derived_ops.specs.Tree.{Raise, Act, Note, Cancel, Let, Seq, Handled, If0, Join, Make, Start, Loop}
+use Rattle.derived_ops.specs.Tree.{Uncancelable, Poll, On_cancel, Masked, Polled, Guarded}
 
 abbrev value_stored : Value → ℤ ⊎ ℕ
 value_stored (Number z) = inl z
@@ -61,7 +65,18 @@ pub record Piece : Type 0 where
 
 abbrev piece_code : Coded Piece
 piece_code =
-    code_by (ℕ × ((Value × Value) × ((Handle × Mask) × (ℕ × ℕ)))) (coded× coded_ℕ (coded× (coded× value_code value_code) (coded× (coded× handle_code mask_code) (coded× coded_ℕ coded_ℕ)))) (λ p. (p.word, ((p.value, p.other), ((p.handle, p.mask), (p.slot, p.second))))) (λ p. record { word = p.0; value = p.1.0.0; other = p.1.0.1; handle = p.1.1.0.0; mask = p.1.1.0.1; slot = p.1.1.1.0; second = p.1.1.1.1 }) (λ _. refl)
+    code_by (ℕ × ((Value × Value) × ((Handle × Mask) × (ℕ × ℕ))))
+    (coded× coded_ℕ (coded× (coded× value_code value_code) (coded× (coded× handle_code mask_code)
+    (coded× coded_ℕ coded_ℕ)))) (λ p. (p.word, ((p.value, p.other), ((p.handle, p.mask), (p.slot, p.second)))))
+    (λ p. record {
+      word = p.0;
+      value = p.1.0.0;
+      other = p.1.0.1;
+      handle = p.1.1.0.0;
+      mask = p.1.1.0.1;
+      slot = p.1.1.1.0;
+      second = p.1.1.1.1;
+    }) (λ _. refl)
 
 -- a word with nothing but its slot
 abbrev bare : ℕ → ℕ → Piece
@@ -100,7 +115,8 @@ pieces (Seq Last e k) rest = pieces e (pieces k (bare 19 0 ∷ rest))
 pieces (Seq More e k) rest = pieces e (pieces k (bare 20 0 ∷ rest))
 pieces (Handled e s h) rest = pieces e (pieces h (bare 21 s ∷ rest))
 pieces (If0 v a b) rest = pieces a (pieces b (with_values 22 v (Slot 0) ∷ rest))
-pieces (Join f x a y b c) rest = pieces a (pieces b (pieces c ((record (with_handle 23 f (Slot 0)) { slot = x; second = y }) ∷ rest)))
+pieces (Join f x a y b c) rest =
+    pieces a (pieces b (pieces c ((record (with_handle 23 f (Slot 0)) { slot = x; second = y }) ∷ rest)))
 pieces (Make (New_ref v) s k) rest = pieces k ((record (with_values 24 v (Slot 0)) { slot = s }) ∷ rest)
 pieces (Make New_deferred s k) rest = pieces k (bare 25 s ∷ rest)
 pieces (Start s e k) rest = pieces e (pieces k (bare 26 s ∷ rest))
@@ -134,7 +150,17 @@ pick n [] ts = ts
 
 abbrev words : Piece → List (List Tree → List Tree)
 words p =
-    (λ ts. Pure p.value ∷ ts) ∷ (λ ts. Raise p.value ∷ ts) ∷ (λ ts. Act (Add p.value p.other) ∷ ts) ∷ (λ ts. Act (Say p.value) ∷ ts) ∷ (λ ts. Act Cede ∷ ts) ∷ (λ ts. Act Never ∷ ts) ∷ (λ ts. Act Canceled ∷ ts) ∷ (λ ts. Act (Request p.handle) ∷ ts) ∷ (λ ts. Act (Ending p.handle) ∷ ts) ∷ (λ ts. Act (Get p.handle) ∷ ts) ∷ (λ ts. Act (Set p.handle p.value) ∷ ts) ∷ (λ ts. Act (Modify p.handle p.value) ∷ ts) ∷ (λ ts. Act (Complete p.handle p.value) ∷ ts) ∷ (λ ts. Act (Await p.handle) ∷ ts) ∷ (λ ts. Note Acquired p.mask ∷ ts) ∷ (λ ts. Note Releasing p.mask ∷ ts) ∷ (λ ts. Note Released p.mask ∷ ts) ∷ (λ ts. Cancel p.handle ∷ ts) ∷ two (λ a b. Let a p.slot b) ∷ two (Seq Last) ∷ two (Seq More) ∷ two (λ a b. Handled a p.slot b) ∷ two (If0 p.value) ∷ three (λ a b c. Join p.handle p.slot a p.second b c) ∷ one (Make (New_ref p.value) p.slot) ∷ one (Make New_deferred p.slot) ∷ two (Start p.slot) ∷ one (Loop (Times p.value)) ∷ one (Loop Always) ∷ one (Uncancelable p.slot) ∷ one (Poll p.mask) ∷ two On_cancel ∷ one (Masked p.slot) ∷ one (Polled p.mask) ∷ two Guarded ∷ []
+    (λ ts. Pure p.value ∷ ts) ∷ (λ ts. Raise p.value ∷ ts) ∷ (λ ts. Act (Add p.value p.other) ∷ ts) ∷
+    (λ ts. Act (Say p.value) ∷ ts) ∷ (λ ts. Act Cede ∷ ts) ∷ (λ ts. Act Never ∷ ts) ∷ (λ ts. Act Canceled ∷ ts) ∷
+    (λ ts. Act (Request p.handle) ∷ ts) ∷ (λ ts. Act (Ending p.handle) ∷ ts) ∷ (λ ts. Act (Get p.handle) ∷ ts) ∷
+    (λ ts. Act (Set p.handle p.value) ∷ ts) ∷ (λ ts. Act (Modify p.handle p.value) ∷ ts) ∷
+    (λ ts. Act (Complete p.handle p.value) ∷ ts) ∷ (λ ts. Act (Await p.handle) ∷ ts) ∷
+    (λ ts. Note Acquired p.mask ∷ ts) ∷ (λ ts. Note Releasing p.mask ∷ ts) ∷ (λ ts. Note Released p.mask ∷ ts) ∷
+    (λ ts. Cancel p.handle ∷ ts) ∷ two (λ a b. Let a p.slot b) ∷ two (Seq Last) ∷ two (Seq More) ∷
+    two (λ a b. Handled a p.slot b) ∷ two (If0 p.value) ∷ three (λ a b c. Join p.handle p.slot a p.second b c) ∷
+    one (Make (New_ref p.value) p.slot) ∷ one (Make New_deferred p.slot) ∷ two (Start p.slot) ∷
+    one (Loop (Times p.value)) ∷ one (Loop Always) ∷ one (Uncancelable p.slot) ∷ one (Poll p.mask) ∷
+    two On_cancel ∷ one (Masked p.slot) ∷ one (Polled p.mask) ∷ two Guarded ∷ []
 
 abbrev built : Piece → List Tree → List Tree
 built p = pick p.word (words p)
@@ -143,7 +169,8 @@ abbrev all_built : List Piece → List Tree → List Tree
 all_built [] ts = ts
 all_built (p ∷ ps) ts = all_built ps (built p ts)
 
-pub built_again : (t : Tree) (rest : List Piece) (ts : List Tree) → all_built (pieces t rest) ts ≡ all_built rest (t ∷ ts)
+pub built_again : (t : Tree) (rest : List Piece) (ts : List Tree) → all_built (pieces t rest) ts ≡ all_built rest
+    (t ∷ ts)
 built_again (Pure v) rest ts = refl
 built_again (Raise v) rest ts = refl
 built_again (Act (Add v w)) rest ts = refl
@@ -185,4 +212,5 @@ first_of_all (t ∷ ts) = t
 first_of_all [] = Act Never
 
 abbrev pub tree_code : Coded Tree
-tree_code = code_by (List Piece) (coded_list piece_code) (λ t. pieces t []) (λ ps. first_of_all (all_built ps [])) (λ t. ap first_of_all (built_again t [] []))
+tree_code = code_by (List Piece) (coded_list piece_code) (λ t. pieces t []) (λ ps. first_of_all (all_built ps []))
+    (λ t. ap first_of_all (built_again t [] []))

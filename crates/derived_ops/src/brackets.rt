@@ -2,7 +2,9 @@
 
 ghost use Rattle.std.specs.Prelude.{◌≡◌, ◌+◌, ◌<◌, ◌^◌, IfOk};
 ghost use Rattle.derived_ops.specs.Cores.{tree_of};
-ghost use Rattle.derived_ops.specs.Expansion.{attempted, bracket_case, concluded, guarantee, in_order, released_on_cancel, released_on_error, released_on_value, released_then, released_then_raised};
+ghost use Rattle.derived_ops.specs.Expansion.{attempted, bracket_case, concluded, guarantee, in_order};
+ghost use Rattle.derived_ops.specs.Expansion.{released_on_cancel, released_on_error, released_on_value};
+ghost use Rattle.derived_ops.specs.Expansion.{released_then, released_then_raised};
 ghost use Rattle.derived_ops.specs.Tree as tree;
 ghost use Rattle.derived_ops.specs.Tree.{Named};
 
@@ -29,7 +31,8 @@ fn concluded(
     cases: Cases,
 ) -> Result<Core, AllocError>
     ensures { IfOk result (λ core. tree_of core
-        ≡ concluded slot outcome (tree_of body) (tree_of cases.on_cancel) (tree_of cases.on_error) (tree_of cases.on_value)) }
+        ≡ concluded slot outcome (tree_of body) (tree_of cases.on_cancel) (tree_of cases.on_error)
+        (tree_of cases.on_value)) }
 {
     let Cases {
         on_cancel,
@@ -82,7 +85,8 @@ pub(crate) fn guarantee(
 ) -> Result<Core, AllocError>
     requires { slot + 2 < 2 ^ 32 }
     ensures { IfOk result (λ core. tree_of core
-        ≡ guarantee slot (tree_of body) (tree_of finalizers.on_cancel) (tree_of finalizers.on_error) (tree_of finalizers.on_value)) }
+        ≡ guarantee slot (tree_of body) (tree_of finalizers.on_cancel) (tree_of finalizers.on_error)
+        (tree_of finalizers.on_value)) }
 {
     let cases = guarantee_cases(alloc, slot, finalizers)?;
     let polled = polled(alloc, slot, body)?;
@@ -217,7 +221,8 @@ pub(crate) fn bracket_case(
 ) -> Result<Core, AllocError>
     requires { slot + 4 < 2 ^ 32 }
     ensures { IfOk result (λ core. tree_of core
-        ≡ bracket_case slot (tree_of acquired) (tree_of body) (tree_of releases.on_value) (tree_of releases.on_error) (tree_of releases.on_cancel)) }
+        ≡ bracket_case slot (tree_of acquired) (tree_of body) (tree_of releases.on_value) (tree_of releases.on_error)
+        (tree_of releases.on_cancel)) }
 {
     let used = used(alloc, slot, body, releases)?;
     let noted = in_order(alloc, Core::Note(Acquired, slot), used)?;

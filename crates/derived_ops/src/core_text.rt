@@ -1,7 +1,8 @@
 //! The text of a code.
 
 ghost use Rattle.std.specs.Prelude.{◌≡◌, ◌++◌, [], ◌∷◌, map, IfOk, OnOk, codes, string_bytes};
-ghost use Rattle.derived_ops.specs.Cores.{action_in_core, bracket_mark_of, maker_in_core, tree_of, turns_in_core, value_in_core};
+ghost use Rattle.derived_ops.specs.Cores.{action_in_core, bracket_mark_of, maker_in_core, tree_of, turns_in_core};
+ghost use Rattle.derived_ops.specs.Cores.{value_in_core};
 ghost use Rattle.derived_ops.specs.CoreText.{action_text, core_text, form, mark_text, poll_text, value_text};
 ghost use Rattle.derived_ops.specs.Private.Heads.{head_text, maker_text, turns_text};
 ghost use Rattle.derived_ops.specs.Private.Sequences.{trees_in_order};
@@ -82,7 +83,8 @@ fn push_action(text: &mut String, action: Action) -> Result<(), AllocError>
 }
 
 fn push_mark(text: &mut String, mark: BracketMark, poll: u32) -> Result<(), AllocError>
-    ensures { OnOk result (string_bytes text.new ≡ string_bytes text.old ++ form (mark_text (bracket_mark_of mark) ∷ poll_text (tree.Named poll) ∷ [])) }
+    ensures { OnOk result (string_bytes text.new ≡ string_bytes text.old ++ form (mark_text (bracket_mark_of mark) ∷
+        poll_text (tree.Named poll) ∷ [])) }
 {
     match mark {
         BracketMark::Acquired => push_word(text, Head::Named("(acquired p", poll)),
@@ -160,7 +162,8 @@ fn push_sequence(
     second: &Core,
     more: &[Core],
 ) -> Result<(), AllocError>
-    ensures { OnOk result (string_bytes text.new ≡ string_bytes text.old ++ core_text (trees_in_order (tree_of first.now) (tree_of second.now) (map tree_of more.now))) }
+    ensures { OnOk result (string_bytes text.new ≡ string_bytes text.old ++
+        core_text (trees_in_order (tree_of first.now) (tree_of second.now) (map tree_of more.now))) }
 {
     push_part(text, Head::Plain("(seq"), first)?;
     push_part(text, Head::Plain(""), second)?;
@@ -173,7 +176,8 @@ fn push_sequence(
 // Writes a head, and a part behind it.
 #[cycle(printing)]
 fn push_part(text: &mut String, head: Head, part: &Core) -> Result<(), AllocError>
-    ensures { OnOk result (string_bytes text.new ≡ string_bytes text.old ++ (head_text head ++ (codes " " ++ core_text (tree_of part.now)))) }
+    ensures { OnOk result (string_bytes text.new ≡ string_bytes text.old ++
+        (head_text head ++ (codes " " ++ core_text (tree_of part.now)))) }
 {
     push_head(text, head)?;
     text.push_str(" ")?;
@@ -183,7 +187,8 @@ fn push_part(text: &mut String, head: Head, part: &Core) -> Result<(), AllocErro
 // Writes a head and the last part of a form.
 #[cycle(printing)]
 fn push_one(text: &mut String, head: Head, part: &Core) -> Result<(), AllocError>
-    ensures { OnOk result (string_bytes text.new ≡ string_bytes text.old ++ (head_text head ++ (codes " " ++ (core_text (tree_of part.now) ++ codes ")")))) }
+    ensures { OnOk result (string_bytes text.new ≡ string_bytes text.old ++
+        (head_text head ++ (codes " " ++ (core_text (tree_of part.now) ++ codes ")")))) }
 {
     push_part(text, head, part)?;
     text.push_str(")")
@@ -192,7 +197,9 @@ fn push_one(text: &mut String, head: Head, part: &Core) -> Result<(), AllocError
 // Writes a head and the last two parts of a form.
 #[cycle(printing)]
 fn push_two(text: &mut String, head: Head, first: &Core, last: &Core) -> Result<(), AllocError>
-    ensures { OnOk result (string_bytes text.new ≡ string_bytes text.old ++ (head_text head ++ (codes " " ++ (core_text (tree_of first.now) ++ (codes " " ++ (core_text (tree_of last.now) ++ codes ")")))))) }
+    ensures { OnOk result (string_bytes text.new ≡ string_bytes text.old ++
+        (head_text head ++ (codes " " ++
+        (core_text (tree_of first.now) ++ (codes " " ++ (core_text (tree_of last.now) ++ codes ")")))))) }
 {
     push_part(text, head, first)?;
     push_one(text, Head::Plain(""), last)

@@ -207,9 +207,11 @@ impl Scope {
         more: &[Term],
         depth: u32,
     ) -> Result<Core, AllocError>
-        requires { depth + (expansion_size_of first.now + expansion_size_of second.now + total_expansion_size more.now) < 2 ^ 32 }
+        requires { depth + (expansion_size_of first.now + expansion_size_of second.now +
+            total_expansion_size more.now) < 2 ^ 32 }
         ensures core { IfOk result (λ core.
-            tree_of core ≡ expansion self.old.slots.items depth (sources_in_order (source_of first.now) (source_of second.now) more.now)) }
+            tree_of core ≡ expansion self.old.slots.items depth (sources_in_order (source_of first.now)
+            (source_of second.now) more.now)) }
         ensures slots { OnOk result (self.new.slots.items ≡ self.old.slots.items) }
     {
         let (first, second) = self.parts(first, depth, second, depth)?;
@@ -243,9 +245,11 @@ impl Scope {
         canceled: &Term,
         depth: u32,
     ) -> Result<Core, AllocError>
-        requires { depth + 1 + expansion_size_of succeeded.now + expansion_size_of errored.now + expansion_size_of canceled.now < 2 ^ 32 }
+        requires { depth + 1 + expansion_size_of succeeded.now + expansion_size_of errored.now +
+            expansion_size_of canceled.now < 2 ^ 32 }
         ensures core { IfOk result (λ core.
-            tree_of core ≡ expansion self.old.slots.items depth (word.Join fiber.slot (source_of succeeded.now) (source_of errored.now) (source_of canceled.now))) }
+            tree_of core ≡ expansion self.old.slots.items depth (word.Join fiber.slot (source_of succeeded.now)
+            (source_of errored.now) (source_of canceled.now))) }
         ensures slots { OnOk result (self.new.slots.items ≡ self.old.slots.items) }
     {
         let succeeded = self.under(succeeded, depth)?;
@@ -260,7 +264,8 @@ impl Scope {
     fn guarantee(&mut self, body: &Term, finalizer: &Term, depth: u32) -> Result<Core, AllocError>
         requires { depth + 11 + expansion_size_of body.now + 3 * expansion_size_of finalizer.now < 2 ^ 32 }
         ensures core { IfOk result (λ core.
-            tree_of core ≡ expansion self.old.slots.items depth (word.Guarantee (source_of body.now) (source_of finalizer.now))) }
+            tree_of core ≡ expansion self.old.slots.items depth
+            (word.Guarantee (source_of body.now) (source_of finalizer.now))) }
         ensures slots { OnOk result (self.new.slots.items ≡ self.old.slots.items) }
     {
         let (body, on_cancel) = self.parts(body, depth + 1, finalizer, depth + 1)?;
@@ -283,9 +288,11 @@ impl Scope {
         release: &Term,
         depth: u32,
     ) -> Result<Core, AllocError>
-        requires { depth + 31 + expansion_size_of acquired.now + expansion_size_of body.now + 3 * expansion_size_of release.now < 2 ^ 32 }
+        requires { depth + 31 + expansion_size_of acquired.now + expansion_size_of body.now +
+            3 * expansion_size_of release.now < 2 ^ 32 }
         ensures core { IfOk result (λ core.
-            tree_of core ≡ expansion self.old.slots.items depth (word.Bracket (source_of acquired.now) (source_of body.now) (source_of release.now))) }
+            tree_of core ≡ expansion self.old.slots.items depth (word.Bracket (source_of acquired.now)
+            (source_of body.now) (source_of release.now))) }
         ensures slots { OnOk result (self.new.slots.items ≡ self.old.slots.items) }
     {
         let resource = [depth + 1];
@@ -308,7 +315,8 @@ impl Scope {
         on_cancel: &Term,
         depth: u32,
     ) -> Result<Core, AllocError>
-        requires { depth + 31 + expansion_size_of body.now + expansion_size_of on_value.now + expansion_size_of on_error.now + expansion_size_of on_cancel.now < 2 ^ 32 }
+        requires { depth + 31 + expansion_size_of body.now + expansion_size_of on_value.now +
+            expansion_size_of on_error.now + expansion_size_of on_cancel.now < 2 ^ 32 }
         ensures core { IfOk result (λ core. tree_of core ≡ bracket_case depth (tree_of acquired)
             (expansion (self.old.slots.items ++ (depth + 1) ∷ []) (depth + 3) (source_of body.now))
             (expansion ((self.old.slots.items ++ (depth + 1) ∷ []) ++ (depth + 3) ∷ []) (depth + 4) (source_of on_value.now))
@@ -333,7 +341,8 @@ impl Scope {
         bound: &[u32],
         depth: u32,
     ) -> Result<Cases, AllocError>
-        requires { depth + 4 + expansion_size_of on_cancel.now + expansion_size_of on_error.now + expansion_size_of on_value.now < 2 ^ 32 }
+        requires { depth + 4 + expansion_size_of on_cancel.now + expansion_size_of on_error.now +
+            expansion_size_of on_value.now < 2 ^ 32 }
         ensures on_cancel { IfOk result (λ cases. tree_of cases.on_cancel
             ≡ expansion (self.old.slots.items ++ (depth + 1) ∷ []) (depth + 3) (source_of on_cancel.now)) }
         ensures on_error { IfOk result (λ cases. tree_of cases.on_error
@@ -361,9 +370,11 @@ impl Scope {
         next: &Term,
         depth: u32,
     ) -> Result<Core, AllocError>
-        requires { depth + 108 + expansion_size_of first.now + expansion_size_of second.now + expansion_size_of next.now < 2 ^ 32 }
+        requires { depth + 108 + expansion_size_of first.now + expansion_size_of second.now +
+            expansion_size_of next.now < 2 ^ 32 }
         ensures core { IfOk result (λ core.
-            tree_of core ≡ expansion self.old.slots.items depth (word.Both (source_of first.now) (source_of second.now) (source_of next.now))) }
+            tree_of core ≡ expansion self.old.slots.items depth
+            (word.Both (source_of first.now) (source_of second.now) (source_of next.now))) }
         ensures slots { OnOk result (self.new.slots.items ≡ self.old.slots.items) }
     {
         let (first, second) = self.parts(first, depth + 4, second, depth + 5)?;

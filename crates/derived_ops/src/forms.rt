@@ -29,7 +29,8 @@ pub(crate) fn sequence(
     second: Core,
     more: Vec<Core>,
 ) -> Result<Core, AllocError>
-    ensures { IfOk result (λ core. tree_of core ≡ trees_in_order (tree_of first) (tree_of second) (map tree_of more.items)) }
+    ensures { IfOk result (λ core. tree_of core ≡ trees_in_order (tree_of first) (tree_of second)
+        (map tree_of more.items)) }
 {
     Ok(Core::Seq(Box::new(alloc, first)?, Box::new(alloc, second)?, more))
 }
@@ -92,7 +93,8 @@ pub(crate) fn joined(
     canceled: Core,
 ) -> Result<Core, AllocError>
     ensures { IfOk result (λ core.
-        tree_of core ≡ tree.Join (tree.Open_slot fiber) slot (tree_of succeeded) slot (tree_of errored) (tree_of canceled)) }
+        tree_of core ≡ tree.Join (tree.Open_slot fiber) slot (tree_of succeeded) slot (tree_of errored)
+        (tree_of canceled)) }
 {
     let succeeded = Box::new(alloc, succeeded)?;
     let errored = Box::new(alloc, errored)?;

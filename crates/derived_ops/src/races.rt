@@ -2,7 +2,9 @@
 
 ghost use Rattle.std.specs.Prelude.{◌≡◌, ◌+◌, ◌<◌, ◌^◌, IfOk};
 ghost use Rattle.derived_ops.specs.Cores.{tree_of};
-ghost use Rattle.derived_ops.specs.Expansion.{awaits, both, both_outcome, both_side, both_values, cancels_both, ended, gives_up, in_order, pair_race, race, race_outcome, race_side, race_winner, runs_side, starts_side};
+ghost use Rattle.derived_ops.specs.Expansion.{awaits, both, both_outcome, both_side, both_values, cancels_both};
+ghost use Rattle.derived_ops.specs.Expansion.{ended, gives_up, in_order, pair_race, race, race_outcome, race_side};
+ghost use Rattle.derived_ops.specs.Expansion.{race_winner, runs_side, starts_side};
 ghost use Rattle.derived_ops.specs.Tree as tree;
 
 use crate::brackets::{Cases, guarantee};

@@ -1,10 +1,14 @@
 -- How many words and marks a term's expansion has.
 use Rattle.std.specs.Prelude.{ℕ, ◌+◌, ◌*◌, List, [], ◌∷◌}
 use Rattle.effect_term.specs.declared.term.Term.{Term, Row_of-Term, end_of-Term, more_of-Term}
-use Rattle.effect_term.specs.declared.term.Term.TheVariants.{Pure, Raise, Let', Seq', Handle', If0', Add, Say, Cede, Never, Canceled, Uncancelable', Poll', OnCancel', Start', Join', Cancel, Ref', Get, Set, Modify, Deferred', Complete, Await, Repeat', Forever', Guarantee', Bracket', BracketCase', BracketFull', Race', Both'}
+use Rattle.effect_term.specs.declared.term.Term.TheVariants.{Pure, Raise, Let', Seq', Handle', If0', Add, Say, Cede}
+use Rattle.effect_term.specs.declared.term.Term.TheVariants.{Never, Canceled, Uncancelable', Poll', OnCancel', Start'}
+use Rattle.effect_term.specs.declared.term.Term.TheVariants.{Join', Cancel, Ref', Get, Set, Modify, Deferred'}
+use Rattle.effect_term.specs.declared.term.Term.TheVariants.{Complete, Await, Repeat', Forever', Guarantee', Bracket'}
+use Rattle.effect_term.specs.declared.term.Term.TheVariants.{BracketCase', BracketFull', Race', Both'}
 
--- A core word is one word, and its parts are expanded in place. A finalizer of `guarantee` and a release of `bracket` are
--- written three times.
+-- A core word is one word, and its parts are expanded in place. A finalizer of `guarantee` and a release of
+-- `bracket` are written three times.
 abbrev mutual
   pub expansion_size_of : Term → ℕ
   expansion_size_of (Pure v) = 1
@@ -34,9 +38,12 @@ abbrev mutual
   expansion_size_of (Repeat' v p e) = 1 + expansion_size_of e
   expansion_size_of (Forever' p e) = 1 + expansion_size_of e
   expansion_size_of (Guarantee' p e q fin) = 11 + expansion_size_of e + 3 * expansion_size_of fin
-  expansion_size_of (Bracket' p acq q body r rel) = 31 + expansion_size_of acq + expansion_size_of body + 3 * expansion_size_of rel
-  expansion_size_of (BracketCase' p acq q body r rs s re t rc) = 31 + expansion_size_of acq + expansion_size_of body + expansion_size_of rs + expansion_size_of re + expansion_size_of rc
-  expansion_size_of (BracketFull' p acq q body r rs s re t rc) = 31 + expansion_size_of acq + expansion_size_of body + expansion_size_of rs + expansion_size_of re + expansion_size_of rc
+  expansion_size_of (Bracket' p acq q body r rel) =
+      31 + expansion_size_of acq + expansion_size_of body + 3 * expansion_size_of rel
+  expansion_size_of (BracketCase' p acq q body r rs s re t rc) = 31 + expansion_size_of acq + expansion_size_of body +
+      expansion_size_of rs + expansion_size_of re + expansion_size_of rc
+  expansion_size_of (BracketFull' p acq q body r rs s re t rc) = 31 + expansion_size_of acq + expansion_size_of body +
+      expansion_size_of rs + expansion_size_of re + expansion_size_of rc
   expansion_size_of (Race' p a q b) = 94 + expansion_size_of a + expansion_size_of b
   expansion_size_of (Both' p a q b r k) = 108 + expansion_size_of a + expansion_size_of b + expansion_size_of k
 

@@ -6,7 +6,11 @@ use Rattle.effect_term.specs.declared.term.Name.{Name}
 use Rattle.effect_term.specs.declared.term.Operand.{Operand}
 use Rattle.effect_term.specs.declared.term.Operand.TheVariants.{Number, Named}
 use Rattle.effect_term.specs.declared.term.Term.{Term, Row_of-Term, end_of-Term, more_of-Term}
-use Rattle.effect_term.specs.declared.term.Term.TheVariants.{Pure, Raise, Let', Seq', Handle', If0', Add, Say, Cede, Never, Canceled, Uncancelable', Poll', OnCancel', Start', Join', Cancel, Ref', Get, Set, Modify, Deferred', Complete, Await, Repeat', Forever', Guarantee', Bracket', BracketCase', BracketFull', Race', Both'}
+use Rattle.effect_term.specs.declared.term.Term.TheVariants.{Pure, Raise, Let', Seq', Handle', If0', Add, Say, Cede}
+use Rattle.effect_term.specs.declared.term.Term.TheVariants.{Never, Canceled, Uncancelable', Poll', OnCancel', Start'}
+use Rattle.effect_term.specs.declared.term.Term.TheVariants.{Join', Cancel, Ref', Get, Set, Modify, Deferred'}
+use Rattle.effect_term.specs.declared.term.Term.TheVariants.{Complete, Await, Repeat', Forever', Guarantee', Bracket'}
+use Rattle.effect_term.specs.declared.term.Term.TheVariants.{BracketCase', BracketFull', Race', Both'}
 
 -- A name's slot is the number of binders that enclose its binder, so its binder's kind is the one at that index of the
 -- kinds of the binders around, outermost first. The kinds of the binder, of the name and of the place are one.
@@ -36,7 +40,8 @@ abbrev mutual
   WellKinded around (Poll' n p e) = Fits around Poll n × WellKinded around e
   WellKinded around (OnCancel' p e q fin) = WellKinded around e × WellKinded around fin
   WellKinded around (Start' p e q k) = WellKinded around e × WellKinded (around ++ Fiber ∷ []) k
-  WellKinded around (Join' f p s q e r c) = Fits around Fiber f × WellKinded (around ++ Value ∷ []) s × WellKinded (around ++ Value ∷ []) e × WellKinded around c
+  WellKinded around (Join' f p s q e r c) = Fits around Fiber f × WellKinded (around ++ Value ∷ []) s ×
+      WellKinded (around ++ Value ∷ []) e × WellKinded around c
   WellKinded around (Cancel f) = Fits around Fiber f
   WellKinded around (Ref' v p k) = ValueFits around v × WellKinded (around ++ Ref ∷ []) k
   WellKinded around (Get r) = Fits around Ref r
@@ -48,11 +53,17 @@ abbrev mutual
   WellKinded around (Repeat' v p e) = ValueFits around v × WellKinded around e
   WellKinded around (Forever' p e) = WellKinded around e
   WellKinded around (Guarantee' p e q fin) = WellKinded around e × WellKinded around fin
-  WellKinded around (Bracket' p acq q body r rel) = WellKinded around acq × WellKinded (around ++ Value ∷ []) body × WellKinded (around ++ Value ∷ []) rel
-  WellKinded around (BracketCase' p acq q body r rs s re t rc) = WellKinded around acq × WellKinded (around ++ Value ∷ []) body × WellKinded (around ++ Value ∷ Value ∷ []) rs × WellKinded (around ++ Value ∷ Value ∷ []) re × WellKinded (around ++ Value ∷ []) rc
-  WellKinded around (BracketFull' p acq q body r rs s re t rc) = WellKinded (around ++ Poll ∷ []) acq × WellKinded (around ++ Value ∷ []) body × WellKinded (around ++ Value ∷ Value ∷ []) rs × WellKinded (around ++ Value ∷ Value ∷ []) re × WellKinded (around ++ Value ∷ []) rc
+  WellKinded around (Bracket' p acq q body r rel) =
+      WellKinded around acq × WellKinded (around ++ Value ∷ []) body × WellKinded (around ++ Value ∷ []) rel
+  WellKinded around (BracketCase' p acq q body r rs s re t rc) = WellKinded around acq ×
+      WellKinded (around ++ Value ∷ []) body × WellKinded (around ++ Value ∷ Value ∷ []) rs ×
+      WellKinded (around ++ Value ∷ Value ∷ []) re × WellKinded (around ++ Value ∷ []) rc
+  WellKinded around (BracketFull' p acq q body r rs s re t rc) = WellKinded (around ++ Poll ∷ []) acq ×
+      WellKinded (around ++ Value ∷ []) body × WellKinded (around ++ Value ∷ Value ∷ []) rs ×
+      WellKinded (around ++ Value ∷ Value ∷ []) re × WellKinded (around ++ Value ∷ []) rc
   WellKinded around (Race' p a q b) = WellKinded around a × WellKinded around b
-  WellKinded around (Both' p a q b r k) = WellKinded around a × WellKinded around b × WellKinded (around ++ Value ∷ Value ∷ []) k
+  WellKinded around (Both' p a q b r k) =
+      WellKinded around a × WellKinded around b × WellKinded (around ++ Value ∷ Value ∷ []) k
 
   pub AllWellKinded : List Kind → {m : _} → Row_of-Term m → Type 0
   AllWellKinded around end_of-Term = Unit {0}

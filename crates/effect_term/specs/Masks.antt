@@ -1,7 +1,11 @@
 -- How many masks may be active at once in a term's expansion.
 use Rattle.std.specs.Prelude.{ℕ, ◌+◌, max, List, [], ◌∷◌}
 use Rattle.effect_term.specs.declared.term.Term.{Term, Row_of-Term, end_of-Term, more_of-Term}
-use Rattle.effect_term.specs.declared.term.Term.TheVariants.{Pure, Raise, Let', Seq', Handle', If0', Add, Say, Cede, Never, Canceled, Uncancelable', Poll', OnCancel', Start', Join', Cancel, Ref', Get, Set, Modify, Deferred', Complete, Await, Repeat', Forever', Guarantee', Bracket', BracketCase', BracketFull', Race', Both'}
+use Rattle.effect_term.specs.declared.term.Term.TheVariants.{Pure, Raise, Let', Seq', Handle', If0', Add, Say, Cede}
+use Rattle.effect_term.specs.declared.term.Term.TheVariants.{Never, Canceled, Uncancelable', Poll', OnCancel', Start'}
+use Rattle.effect_term.specs.declared.term.Term.TheVariants.{Join', Cancel, Ref', Get, Set, Modify, Deferred'}
+use Rattle.effect_term.specs.declared.term.Term.TheVariants.{Complete, Await, Repeat', Forever', Guarantee', Bracket'}
+use Rattle.effect_term.specs.declared.term.Term.TheVariants.{BracketCase', BracketFull', Race', Both'}
 
 -- The greatest number of masks below one another. A mask stands around the term of `uncancelable`, around a finalizer
 -- and around the wait of `cancel`. The words from `guarantee` on count what they expand to.
@@ -35,8 +39,10 @@ abbrev mutual
   masks_of (Forever' p e) = masks_of e
   masks_of (Guarantee' p e q fin) = max (1 + masks_of e) (2 + masks_of fin)
   masks_of (Bracket' p acq q body r rel) = max (1 + masks_of acq) (max (2 + masks_of body) (3 + masks_of rel))
-  masks_of (BracketCase' p acq q body r rs s re t rc) = max (1 + masks_of acq) (max (2 + masks_of body) (max (2 + masks_of rs) (max (2 + masks_of re) (3 + masks_of rc))))
-  masks_of (BracketFull' p acq q body r rs s re t rc) = max (1 + masks_of acq) (max (2 + masks_of body) (max (2 + masks_of rs) (max (2 + masks_of re) (3 + masks_of rc))))
+  masks_of (BracketCase' p acq q body r rs s re t rc) = max (1 + masks_of acq)
+      (max (2 + masks_of body) (max (2 + masks_of rs) (max (2 + masks_of re) (3 + masks_of rc))))
+  masks_of (BracketFull' p acq q body r rs s re t rc) = max (1 + masks_of acq)
+      (max (2 + masks_of body) (max (2 + masks_of rs) (max (2 + masks_of re) (3 + masks_of rc))))
   masks_of (Race' p a q b) = max 3 (max (2 + masks_of a) (2 + masks_of b))
   masks_of (Both' p a q b r k) = max 3 (max (2 + masks_of a) (max (2 + masks_of b) (masks_of k)))
 

@@ -1,5 +1,6 @@
 -- The uses of names in a term, in reading order, and the first that is at fault.
-use Rattle.std.specs.Prelude.{◌≡◌, ◌++◌, ◌⊎◌, Bool, true, false, ◌&&◌, List, [], ◌∷◌, Option, Some, None, slice_get, if◌then◌else◌}
+use Rattle.std.specs.Prelude.{◌≡◌, ◌++◌, ◌⊎◌, Bool, true, false, ◌&&◌, List, [], ◌∷◌, Option, Some, None, slice_get}
+use Rattle.std.specs.Prelude.{if◌then◌else◌}
 use Rattle.std.specs.Option.{option_or}
 use Rattle.effect_term.specs.declared.term.Kind.{Kind}
 use Rattle.effect_term.specs.declared.term.Kind.TheVariants.{Value, Poll, Fiber, Ref, Deferred}
@@ -9,7 +10,11 @@ use Rattle.effect_term.specs.declared.term.Operand.TheVariants.{Number, Named}
 use Rattle.effect_term.specs.declared.refusal.TermError.{TermError}
 use Rattle.effect_term.specs.declared.refusal.TermError.TheVariants.{NoMemory, Unbound, WrongKind}
 use Rattle.effect_term.specs.declared.term.Term.{Term, Row_of-Term, end_of-Term, more_of-Term}
-use Rattle.effect_term.specs.declared.term.Term.TheVariants.{Pure, Raise, Let', Seq', Handle', If0', Add, Say, Cede, Never, Canceled, Uncancelable', Poll', OnCancel', Start', Join', Cancel, Ref', Get, Set, Modify, Deferred', Complete, Await, Repeat', Forever', Guarantee', Bracket', BracketCase', BracketFull', Race', Both'}
+use Rattle.effect_term.specs.declared.term.Term.TheVariants.{Pure, Raise, Let', Seq', Handle', If0', Add, Say, Cede}
+use Rattle.effect_term.specs.declared.term.Term.TheVariants.{Never, Canceled, Uncancelable', Poll', OnCancel', Start'}
+use Rattle.effect_term.specs.declared.term.Term.TheVariants.{Join', Cancel, Ref', Get, Set, Modify, Deferred'}
+use Rattle.effect_term.specs.declared.term.Term.TheVariants.{Complete, Await, Repeat', Forever', Guarantee', Bracket'}
+use Rattle.effect_term.specs.declared.term.Term.TheVariants.{BracketCase', BracketFull', Race', Both'}
 
 -- A name in a place of a kind, and the kinds of the binders around it, outermost first: a name's slot is the number of
 -- binders that enclose its binder, and so the index of its binder's kind.
@@ -73,7 +78,8 @@ abbrev mutual
   uses_of around (Poll' n p e) = use_of around Poll n ++ uses_of around e
   uses_of around (OnCancel' p e q fin) = uses_of around e ++ uses_of around fin
   uses_of around (Start' p e q k) = uses_of around e ++ uses_of (around ++ Fiber ∷ []) k
-  uses_of around (Join' f p s q e r c) = use_of around Fiber f ++ (uses_of (around ++ Value ∷ []) s ++ (uses_of (around ++ Value ∷ []) e ++ uses_of around c))
+  uses_of around (Join' f p s q e r c) = use_of around Fiber f ++
+      (uses_of (around ++ Value ∷ []) s ++ (uses_of (around ++ Value ∷ []) e ++ uses_of around c))
   uses_of around (Cancel f) = use_of around Fiber f
   uses_of around (Ref' v p k) = value_uses around v ++ uses_of (around ++ Ref ∷ []) k
   uses_of around (Get r) = use_of around Ref r
@@ -85,11 +91,17 @@ abbrev mutual
   uses_of around (Repeat' v p e) = value_uses around v ++ uses_of around e
   uses_of around (Forever' p e) = uses_of around e
   uses_of around (Guarantee' p e q fin) = uses_of around e ++ uses_of around fin
-  uses_of around (Bracket' p acq q body r rel) = uses_of around acq ++ (uses_of (around ++ Value ∷ []) body ++ uses_of (around ++ Value ∷ []) rel)
-  uses_of around (BracketCase' p acq q body r rs s re t rc) = uses_of around acq ++ (uses_of (around ++ Value ∷ []) body ++ (uses_of (around ++ Value ∷ Value ∷ []) rs ++ (uses_of (around ++ Value ∷ Value ∷ []) re ++ uses_of (around ++ Value ∷ []) rc)))
-  uses_of around (BracketFull' p acq q body r rs s re t rc) = uses_of (around ++ Poll ∷ []) acq ++ (uses_of (around ++ Value ∷ []) body ++ (uses_of (around ++ Value ∷ Value ∷ []) rs ++ (uses_of (around ++ Value ∷ Value ∷ []) re ++ uses_of (around ++ Value ∷ []) rc)))
+  uses_of around (Bracket' p acq q body r rel) =
+      uses_of around acq ++ (uses_of (around ++ Value ∷ []) body ++ uses_of (around ++ Value ∷ []) rel)
+  uses_of around (BracketCase' p acq q body r rs s re t rc) = uses_of around acq ++
+      (uses_of (around ++ Value ∷ []) body ++ (uses_of (around ++ Value ∷ Value ∷ []) rs ++
+      (uses_of (around ++ Value ∷ Value ∷ []) re ++ uses_of (around ++ Value ∷ []) rc)))
+  uses_of around (BracketFull' p acq q body r rs s re t rc) = uses_of (around ++ Poll ∷ []) acq ++
+      (uses_of (around ++ Value ∷ []) body ++ (uses_of (around ++ Value ∷ Value ∷ []) rs ++
+      (uses_of (around ++ Value ∷ Value ∷ []) re ++ uses_of (around ++ Value ∷ []) rc)))
   uses_of around (Race' p a q b) = uses_of around a ++ uses_of around b
-  uses_of around (Both' p a q b r k) = uses_of around a ++ (uses_of around b ++ uses_of (around ++ Value ∷ Value ∷ []) k)
+  uses_of around (Both' p a q b r k) =
+      uses_of around a ++ (uses_of around b ++ uses_of (around ++ Value ∷ Value ∷ []) k)
 
   pub uses_of_row : List Kind → {m : _} → Row_of-Term m → List Use
   uses_of_row around end_of-Term = []

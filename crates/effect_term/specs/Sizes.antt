@@ -1,7 +1,11 @@
 -- How many words a term has, and how deep it is.
 use Rattle.std.specs.Prelude.{ℕ, ◌+◌, max, List, [], ◌∷◌}
 use Rattle.effect_term.specs.declared.term.Term.{Term, Row_of-Term, end_of-Term, more_of-Term}
-use Rattle.effect_term.specs.declared.term.Term.TheVariants.{Pure, Raise, Let', Seq', Handle', If0', Add, Say, Cede, Never, Canceled, Uncancelable', Poll', OnCancel', Start', Join', Cancel, Ref', Get, Set, Modify, Deferred', Complete, Await, Repeat', Forever', Guarantee', Bracket', BracketCase', BracketFull', Race', Both'}
+use Rattle.effect_term.specs.declared.term.Term.TheVariants.{Pure, Raise, Let', Seq', Handle', If0', Add, Say, Cede}
+use Rattle.effect_term.specs.declared.term.Term.TheVariants.{Never, Canceled, Uncancelable', Poll', OnCancel', Start'}
+use Rattle.effect_term.specs.declared.term.Term.TheVariants.{Join', Cancel, Ref', Get, Set, Modify, Deferred'}
+use Rattle.effect_term.specs.declared.term.Term.TheVariants.{Complete, Await, Repeat', Forever', Guarantee', Bracket'}
+use Rattle.effect_term.specs.declared.term.Term.TheVariants.{BracketCase', BracketFull', Race', Both'}
 
 -- a term's words, its own among them
 abbrev mutual
@@ -34,8 +38,10 @@ abbrev mutual
   size_of (Forever' p e) = 1 + size_of e
   size_of (Guarantee' p e q fin) = 1 + size_of e + size_of fin
   size_of (Bracket' p acq q body r rel) = 1 + size_of acq + size_of body + size_of rel
-  size_of (BracketCase' p acq q body r rs s re t rc) = 1 + size_of acq + size_of body + size_of rs + size_of re + size_of rc
-  size_of (BracketFull' p acq q body r rs s re t rc) = 1 + size_of acq + size_of body + size_of rs + size_of re + size_of rc
+  size_of (BracketCase' p acq q body r rs s re t rc) =
+      1 + size_of acq + size_of body + size_of rs + size_of re + size_of rc
+  size_of (BracketFull' p acq q body r rs s re t rc) =
+      1 + size_of acq + size_of body + size_of rs + size_of re + size_of rc
   size_of (Race' p a q b) = 1 + size_of a + size_of b
   size_of (Both' p a q b r k) = 1 + size_of a + size_of b + size_of k
 
@@ -79,8 +85,10 @@ abbrev mutual
   nest_of (Forever' p e) = 1 + nest_of e
   nest_of (Guarantee' p e q fin) = 1 + max (nest_of e) (nest_of fin)
   nest_of (Bracket' p acq q body r rel) = 1 + max (nest_of acq) (max (nest_of body) (nest_of rel))
-  nest_of (BracketCase' p acq q body r rs s re t rc) = 1 + max (nest_of acq) (max (nest_of body) (max (nest_of rs) (max (nest_of re) (nest_of rc))))
-  nest_of (BracketFull' p acq q body r rs s re t rc) = 1 + max (nest_of acq) (max (nest_of body) (max (nest_of rs) (max (nest_of re) (nest_of rc))))
+  nest_of (BracketCase' p acq q body r rs s re t rc) =
+      1 + max (nest_of acq) (max (nest_of body) (max (nest_of rs) (max (nest_of re) (nest_of rc))))
+  nest_of (BracketFull' p acq q body r rs s re t rc) =
+      1 + max (nest_of acq) (max (nest_of body) (max (nest_of rs) (max (nest_of re) (nest_of rc))))
   nest_of (Race' p a q b) = 1 + max (nest_of a) (nest_of b)
   nest_of (Both' p a q b r k) = 1 + max (nest_of a) (max (nest_of b) (nest_of k))
 

@@ -1,7 +1,11 @@
 -- Which terms start fibers.
 use Rattle.std.specs.Prelude.{Bool, true, false, ◌||◌, List, [], ◌∷◌}
 use Rattle.effect_term.specs.declared.term.Term.{Term, Row_of-Term, end_of-Term, more_of-Term}
-use Rattle.effect_term.specs.declared.term.Term.TheVariants.{Pure, Raise, Let', Seq', Handle', If0', Add, Say, Cede, Never, Canceled, Uncancelable', Poll', OnCancel', Start', Join', Cancel, Ref', Get, Set, Modify, Deferred', Complete, Await, Repeat', Forever', Guarantee', Bracket', BracketCase', BracketFull', Race', Both'}
+use Rattle.effect_term.specs.declared.term.Term.TheVariants.{Pure, Raise, Let', Seq', Handle', If0', Add, Say, Cede}
+use Rattle.effect_term.specs.declared.term.Term.TheVariants.{Never, Canceled, Uncancelable', Poll', OnCancel', Start'}
+use Rattle.effect_term.specs.declared.term.Term.TheVariants.{Join', Cancel, Ref', Get, Set, Modify, Deferred'}
+use Rattle.effect_term.specs.declared.term.Term.TheVariants.{Complete, Await, Repeat', Forever', Guarantee', Bracket'}
+use Rattle.effect_term.specs.declared.term.Term.TheVariants.{BracketCase', BracketFull', Race', Both'}
 
 -- whether a word `start`, `race` or `both` stands in the term
 abbrev mutual
@@ -34,8 +38,10 @@ abbrev mutual
   starts_fiber (Forever' p e) = starts_fiber e
   starts_fiber (Guarantee' p e q fin) = starts_fiber e || starts_fiber fin
   starts_fiber (Bracket' p acq q body r rel) = starts_fiber acq || (starts_fiber body || starts_fiber rel)
-  starts_fiber (BracketCase' p acq q body r rs s re t rc) = starts_fiber acq || (starts_fiber body || (starts_fiber rs || (starts_fiber re || starts_fiber rc)))
-  starts_fiber (BracketFull' p acq q body r rs s re t rc) = starts_fiber acq || (starts_fiber body || (starts_fiber rs || (starts_fiber re || starts_fiber rc)))
+  starts_fiber (BracketCase' p acq q body r rs s re t rc) =
+      starts_fiber acq || (starts_fiber body || (starts_fiber rs || (starts_fiber re || starts_fiber rc)))
+  starts_fiber (BracketFull' p acq q body r rs s re t rc) =
+      starts_fiber acq || (starts_fiber body || (starts_fiber rs || (starts_fiber re || starts_fiber rc)))
   starts_fiber (Race' p a q b) = true
   starts_fiber (Both' p a q b r k) = true
 

@@ -27,7 +27,8 @@ use Rattle.fiber_cli.specs.Workers.{ObeysRun}
 -- the text is a number of the range in decimal digits, with or without a plus in front
 abbrev pub IsNumberOf : NumberRange → Text → Type 0
 IsNumberOf range text =
-    IsNumeral 10 (without_leading_plus text) × (range.least ≤ digits_value 10 (without_leading_plus text)) × (digits_value 10 (without_leading_plus text) ≤ range.most)
+    IsNumeral 10 (without_leading_plus text) × (range.least ≤ digits_value 10 (without_leading_plus text)) ×
+    (digits_value 10 (without_leading_plus text) ≤ range.most)
 
 -- the number that an option says: that of its text, or the usual one where the option isn't given
 abbrev pub SaysNumber : NumberRange → Option Text → ℕ → Type 0
@@ -103,7 +104,8 @@ pub record TellsWrong (err err' : Writer) (status : Status) : Type 0 where
 -- what comes of an error of this kind: the text that was asked for, or what is wrong, or that there is no memory
 pub data TellsKind (k : ErrorKind) (out out' err err' : Writer) (status : Status) : Type 0 where
   shown : AsksHelp k → ShowsText out out' err err' status → TellsKind k out out' err err' status
-  wrong : (AsksHelp k → ⊥) → k ≢ kind.OutOfMemory → out' ≡ out → TellsWrong err err' status → TellsKind k out out' err err' status
+  wrong : (AsksHelp k → ⊥) → k ≢ kind.OutOfMemory → out' ≡ out → TellsWrong err err' status →
+      TellsKind k out out' err err' status
   no_memory : out' ≡ out → LacksMemory err err' status → TellsKind k out out' err err' status
 
 -- ---- what comes of words

@@ -29,10 +29,20 @@ moves_range = record { least = 1; most = 1000000; usual = 100000 }
 -- ---- the options
 -- an option that takes a whole number of this range
 abbrev pub number_option : Text → NumberRange → Rule
-number_option id range = record (new_rule id) { long = Some id; value_names = 1; action = Some Set; parser = Some (Unsigned range.least range.most) }
+number_option id range = record (new_rule id) {
+  long = Some id;
+  value_names = 1;
+  action = Some Set;
+  parser = Some (Unsigned range.least range.most);
+}
 
 abbrev pub schedule_option : Rule
-schedule_option = record (new_rule (codes "schedule")) { long = Some (codes "schedule"); value_names = 1; action = Some Set; required = true }
+schedule_option = record (new_rule (codes "schedule")) {
+  long = Some (codes "schedule");
+  value_names = 1;
+  action = Some Set;
+  required = true;
+}
 
 -- with the options for the limits of a run
 abbrev pub with_limits : App → App
@@ -57,7 +67,11 @@ run_command =
 -- the command, which wants one of four subcommands, and tells its version
 abbrev pub program : App
 program =
-    with_subcommand (with_subcommand (with_subcommand (with_subcommand (on_top (λ s. record s { subcommand_required = true; has_version = true }) (new_app (codes "fiber_cli")))
+    with_subcommand (with_subcommand
+    (with_subcommand (with_subcommand (on_top (λ s. record s {
+      subcommand_required = true;
+      has_version = true;
+    }) (new_app (codes "fiber_cli")))
     (new_app (codes "check")).top)
     (new_app (codes "show")).top)
     replay_command.top)

@@ -21,7 +21,9 @@ use std::thread::Threads;
 fn usage<O: TextOut, E: TextOut>(alloc: Global, error: &Error, out: &mut O, err: &mut E) -> Status
     requires out { O.has_failed out.old ≡ false }
     requires err { E.has_failed err.old ≡ false }
-    ensures { TellsKind (kind_of error.now) (writer (O.contents out.old) (O.has_failed out.old)) (writer (O.contents out.new) (O.has_failed out.new)) (writer (E.contents err.old) (E.has_failed err.old)) (writer (E.contents err.new) (E.has_failed err.new)) result }
+    ensures { TellsKind (kind_of error.now) (writer (O.contents out.old) (O.has_failed out.old))
+        (writer (O.contents out.new) (O.has_failed out.new)) (writer (E.contents err.old) (E.has_failed err.old))
+        (writer (E.contents err.new) (E.has_failed err.new)) result }
 {
     if error.kind() == ErrorKind::OutOfMemory {
         return tell_fault(TextFault::NoMemory, err);
@@ -77,8 +79,12 @@ where
     requires out { O.has_failed out.old ≡ false }
     requires err { E.has_failed err.old ≡ false }
     requires ranges { HasRanges request }
-    ensures obeyed { let before = devices (reader (I.remaining input.old) (I.has_failed input.old) (I.has_ended input.old) (I.reads input.old)) (writer (O.contents out.old) (O.has_failed out.old)) (writer (E.contents err.old) (E.has_failed err.old)) in
-        let after = devices (reader (I.remaining input.new) (I.has_failed input.new) (I.has_ended input.new) (I.reads input.new)) (writer (O.contents out.new) (O.has_failed out.new)) (writer (E.contents err.new) (E.has_failed err.new)) in
+    ensures obeyed { let before = devices (reader (I.remaining input.old) (I.has_failed input.old)
+        (I.has_ended input.old) (I.reads input.old)) (writer (O.contents out.old) (O.has_failed out.old))
+        (writer (E.contents err.old) (E.has_failed err.old)) in
+        let after = devices (reader (I.remaining input.new) (I.has_failed input.new) (I.has_ended input.new)
+        (I.reads input.new)) (writer (O.contents out.new) (O.has_failed out.new))
+        (writer (E.contents err.new) (E.has_failed err.new)) in
         ObeysRequest request.entry before after result }
 
     // A bad schedule is told before the text is read.
@@ -114,8 +120,12 @@ where
     requires countable { I.reads input.old < 2 ^ 63 }
     requires out { O.has_failed out.old ≡ false }
     requires err { E.has_failed err.old ≡ false }
-    ensures runs { let before = devices (reader (I.remaining input.old) (I.has_failed input.old) (I.has_ended input.old) (I.reads input.old)) (writer (O.contents out.old) (O.has_failed out.old)) (writer (E.contents err.old) (E.has_failed err.old)) in
-        let after = devices (reader (I.remaining input.new) (I.has_failed input.new) (I.has_ended input.new) (I.reads input.new)) (writer (O.contents out.new) (O.has_failed out.new)) (writer (E.contents err.new) (E.has_failed err.new)) in
+    ensures runs { let before = devices (reader (I.remaining input.old) (I.has_failed input.old)
+        (I.has_ended input.old) (I.reads input.old)) (writer (O.contents out.old) (O.has_failed out.old))
+        (writer (E.contents err.old) (E.has_failed err.old)) in
+        let after = devices (reader (I.remaining input.new) (I.has_failed input.new) (I.has_ended input.new)
+        (I.reads input.new)) (writer (O.contents out.new) (O.has_failed out.new))
+        (writer (E.contents err.new) (E.has_failed err.new)) in
         Runs (map S.text words.entry.now) before after result }
 
     // Wrong words and a bad schedule are told before the text is read.

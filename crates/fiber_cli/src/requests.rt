@@ -45,7 +45,8 @@ fn number(text: &str, range: NumberRange) -> Option<u32>
 fn number_of(matches: &ArgMatches<'_>, name: &str, range: NumberRange) -> Option<u32>
     requires { (range.least ≤ range.usual) × (range.usual ≤ range.most) }
     ensures said { IfSome result (SaysNumber range (first_of name.now (rows_of (found_of matches.now)))) }
-    ensures none { IfNone result ((n : ℕ) → SaysNumber range (first_of name.now (rows_of (found_of matches.now))) n → ⊥) }
+    ensures none { IfNone result ((n : ℕ) → SaysNumber range (first_of name.now (rows_of (found_of matches.now))) n →
+        ⊥) }
     ensures least { IfSome result (λ n. range.least ≤ n) }
     ensures most { IfSome result (λ n. n ≤ range.most) }
 {
@@ -98,7 +99,8 @@ fn run_options(run: &ArgMatches<'_>) -> Option<Options>
 /// The order that the options of `replay` give.
 fn replay_order<'a>(replay: &ArgMatches<'a>) -> Option<Order<'a>>
     ensures said { IfSome result (λ order. Says (codes "replay", rows_of (found_of replay.now)) (Request.Order order)) }
-    ensures none { IfNone result ((schedule : _) (limits : Limits) → Says (codes "replay", rows_of (found_of replay.now)) (Request.Order (Order.Replay schedule limits)) → ⊥) }
+    ensures none { IfNone result ((schedule : _) (limits : Limits) →
+        Says (codes "replay", rows_of (found_of replay.now)) (Request.Order (Order.Replay schedule limits)) → ⊥) }
     ensures limits { IfSome result HasLimits }
 {
     let schedule = text_of(replay, "schedule")?;

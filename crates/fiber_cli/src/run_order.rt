@@ -82,8 +82,10 @@ fn run_text<R: Threads + Wait + Sync, I: TextIn, O: TextOut>(
     requires out { O.has_failed out.old ≡ false }
     requires limits { AreLimits (limits_of options) }
     requires budget { 1 < options.budget }
-    ensures { let before = reader (I.remaining input.old) (I.has_failed input.old) (I.has_ended input.old) (I.reads input.old) in
-        let after = reader (I.remaining input.new) (I.has_failed input.new) (I.has_ended input.new) (I.reads input.new) in
+    ensures { let before = reader (I.remaining input.old) (I.has_failed input.old) (I.has_ended input.old)
+        (I.reads input.old) in
+        let after = reader (I.remaining input.new) (I.has_failed input.new) (I.has_ended input.new)
+        (I.reads input.new) in
         let old = writer (O.contents out.old) (O.has_failed out.old) in
         let new = writer (O.contents out.new) (O.has_failed out.new) in
         IsAnswered (IsRunTextAnswer options) before after old new result }
@@ -117,8 +119,12 @@ pub fn obey_run<R: Threads + Wait + Sync, I: TextIn, O: TextOut, E: TextOut>(
     requires err { E.has_failed err.old ≡ false }
     requires limits { AreLimits (limits_of options) }
     requires budget { 1 < options.budget }
-    ensures { let before = devices (reader (I.remaining input.old) (I.has_failed input.old) (I.has_ended input.old) (I.reads input.old)) (writer (O.contents out.old) (O.has_failed out.old)) (writer (E.contents err.old) (E.has_failed err.old)) in
-        let after = devices (reader (I.remaining input.new) (I.has_failed input.new) (I.has_ended input.new) (I.reads input.new)) (writer (O.contents out.new) (O.has_failed out.new)) (writer (E.contents err.new) (E.has_failed err.new)) in
+    ensures { let before = devices (reader (I.remaining input.old) (I.has_failed input.old) (I.has_ended input.old)
+        (I.reads input.old)) (writer (O.contents out.old) (O.has_failed out.old))
+        (writer (E.contents err.old) (E.has_failed err.old)) in
+        let after = devices (reader (I.remaining input.new) (I.has_failed input.new) (I.has_ended input.new)
+        (I.reads input.new)) (writer (O.contents out.new) (O.has_failed out.new))
+        (writer (E.contents err.new) (E.has_failed err.new)) in
         ObeysRun options before after result }
 {
     match run_text(rt, alloc, options, input, out) {

@@ -3,7 +3,8 @@
 ghost use Rattle.std.specs.Prelude.{◌≡◌, false, IfOk};
 ghost use Rattle.clap.specs.Words.{app_of, new_app, rule_of};
 ghost use Rattle.clap.specs.declared.builder.command.Command.TheViews.{out-Command};
-ghost use Rattle.fiber_cli.specs.Words.{number_option, program, replay_command, run_command, schedule_option, with_limits};
+ghost use Rattle.fiber_cli.specs.Words.{number_option, program, replay_command, run_command, schedule_option};
+ghost use Rattle.fiber_cli.specs.Words.{with_limits};
 
 use crate::ranges::{BAND, BUDGET, COUNT, MOVES, NumberRange, WORKERS};
 use clap::{Arg, ArgAction, Command, value_parser};

@@ -1,5 +1,6 @@
 -- What the marks of a fiber say of its brackets, of its masks and of its cut.
-use Rattle.std.specs.Prelude.{◌≡◌, ◌⊎◌, ◌↔◌, ◌≤◌, ℕ, ◌+◌, nat_eq, if◌then◌else◌, List, [], ◌∷◌, ◌++◌, Option, Some, None}
+use Rattle.std.specs.Prelude.{◌≡◌, ◌⊎◌, ◌↔◌, ◌≤◌, ℕ, ◌+◌, nat_eq, if◌then◌else◌, List, [], ◌∷◌, ◌++◌, Option, Some}
+use Rattle.std.specs.Prelude.{None}
 use Rattle.effect_term.specs.declared.reply.Outcome.{Outcome}
 use Rattle.effect_term.specs.declared.reply.Outcome.TheVariants as outcome
 use Rattle.fiber_frames.specs.declared.mark.Mark.{Mark}
@@ -24,7 +25,8 @@ bracket_steps (_ ∷ ms) = bracket_steps ms
 pub data Nested : List Bracket_step → Type 0 where
   empty : Nested []
   two : {a b : List Bracket_step} → Nested a → Nested b → Nested (a ++ b)
-  bracket : {a b : List Bracket_step} → (i : ℕ) → Nested a → Nested b → Nested (Acquired i ∷ (a ++ Releasing i ∷ (b ++ Released i ∷ [])))
+  bracket : {a b : List Bracket_step} → (i : ℕ) → Nested a → Nested b →
+      Nested (Acquired i ∷ (a ++ Releasing i ∷ (b ++ Released i ∷ [])))
 
 -- how often i is acquired
 abbrev pub times_acquired : ℕ → List Bracket_step → ℕ

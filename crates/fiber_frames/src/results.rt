@@ -5,7 +5,8 @@ ghost use Rattle.effect_term.specs.declared.reply.Outcome.TheVariants as outcome
 ghost use Rattle.derived_ops.specs.Cores.{value_in_core};
 ghost use Rattle.fiber_frames.specs.Rows.{number_of};
 ghost use Rattle.fiber_frames.specs.Frames.{Levels, Under};
-ghost use Rattle.fiber_frames.specs.Machine.{over, passed, given, thrown, value_at_root, error_at_root, root_turn, value_row, error_row, result_turn};
+ghost use Rattle.fiber_frames.specs.Machine.{over, passed, given, thrown, value_at_root, error_at_root, root_turn};
+ghost use Rattle.fiber_frames.specs.Machine.{value_row, error_row, result_turn};
 ghost use Rattle.fiber_frames.specs.Machines.{state_of, Kept};
 
 use crate::frame::{Frame, Leaf, Stage, Turn};
@@ -88,8 +89,10 @@ impl Machine {
     #[tactic(auto, using(crate::proofs::Reversing::reverse_push))]
     pub(crate) fn value_row(&mut self, value: Value) -> Result<Turn, AllocError>
         requires under { Under (length self.old.env.items) (state_of self.old).frames }
-        ensures state { OnOk result (state_of self.new ≡ value_row (state_of self.old) value (state_of self.old).frames) }
-        ensures turn { IfOk result (λ it. it ≡ result_turn (outcomes.Succeeded (number_of (value_in_core value))) (state_of self.old).stage (state_of self.old).frames) }
+        ensures state { OnOk result (state_of self.new ≡ value_row (state_of self.old) value
+            (state_of self.old).frames) }
+        ensures turn { IfOk result (λ it. it ≡ result_turn (outcomes.Succeeded (number_of (value_in_core value)))
+            (state_of self.old).stage (state_of self.old).frames) }
         ensures kept { OnErr result (Kept self.old self.new) }
     {
         if let Some(frame) = self.frames.pop() {
@@ -109,8 +112,10 @@ impl Machine {
     #[tactic(auto, using(crate::proofs::Reversing::reverse_push))]
     pub(crate) fn error_row(&mut self, code: Value) -> Result<Turn, AllocError>
         requires under { Under (length self.old.env.items) (state_of self.old).frames }
-        ensures state { OnOk result (state_of self.new ≡ error_row (state_of self.old) code (state_of self.old).frames) }
-        ensures turn { IfOk result (λ it. it ≡ result_turn (outcomes.Errored (number_of (value_in_core code))) (state_of self.old).stage (state_of self.old).frames) }
+        ensures state { OnOk result (state_of self.new ≡ error_row (state_of self.old) code
+            (state_of self.old).frames) }
+        ensures turn { IfOk result (λ it. it ≡ result_turn (outcomes.Errored (number_of (value_in_core code)))
+            (state_of self.old).stage (state_of self.old).frames) }
         ensures kept { OnErr result (Kept self.old self.new) }
     {
         if let Some(frame) = self.frames.pop() {

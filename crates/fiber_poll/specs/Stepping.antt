@@ -18,7 +18,9 @@ use Rattle.outcome_trace.specs.Core.{wish_of}
 use Rattle.outcome_trace.specs.Permits.{IsChange}
 use Rattle.fiber_poll.specs.Tasks.{TaskView}
 
--- The task c is that of the fiber that was started by the next move of the task old, which was answered r, and which is new since. It is the child that the move gives, with the pass of that call, and may make the moves that are then left. The call is the last that was seen, and the fiber's first since the task was old
+-- The task c is that of the fiber that was started by the next move of the task old, which was answered r, and
+-- which is new since. It is the child that the move gives, with the pass of that call, and may make the moves that
+-- are then left. The call is the last that was seen, and the fiber's first since the task was old
 pub record IsChild (old : TaskView) (r : Reply) (new c : TaskView) : Type 0 where
   pub number : r ≡ reply.Number c.pass.number
   pub wants : wish_of (ask_of old.state) ≡ Shared call.Start
@@ -31,13 +33,19 @@ pub record IsChild (old : TaskView) (r : Reply) (new c : TaskView) : Type 0 wher
   pub later : IsPrefix old.pass.seen before
   pub still : calls_by old.pass.number before ≡ calls_by old.pass.number old.pass.seen
 
--- Why the next move of the task old wasn't made. All numbers of the band that it wanted one of are given, and the pass may have seen more. The count of the fiber's changes is used up. Or memory was refused: the fiber has lost its term, and the registry may have answered the call that it asked
+-- Why the next move of the task old wasn't made. All numbers of the band that it wanted one of are given, and the
+-- pass may have seen more. The count of the fiber's changes is used up. Or memory was refused: the fiber has lost
+-- its term, and the registry may have answered the call that it asked
 abbrev pub Failed : TaskView → RunError → TaskView → Type 0
 Failed old (run.Full b n) new =
-    (wish_of (ask_of old.state) ≡ Shared (claim_of b)) × (n ≡ limit_of b old.home.limits) × (new ≡ record old { pass = new.pass }) × OnlySees old.pass new.pass × SeesAllGiven b old.pass new.pass
+    (wish_of (ask_of old.state) ≡ Shared (claim_of b)) × (n ≡ limit_of b old.home.limits) ×
+    (new ≡ record old { pass = new.pass }) × OnlySees old.pass new.pass × SeesAllGiven b old.pass new.pass
 Failed old (run.Spent f) new =
-    ((c : Call) × (wish_of (ask_of old.state) ≡ Shared c) × IsChange c) × (f ≡ old.state.number) × (old.pass.count ≡ old.home.limits.count) × (new ≡ old)
+    ((c : Call) × (wish_of (ask_of old.state) ≡ Shared c) × IsChange c) × (f ≡ old.state.number) ×
+    (old.pass.count ≡ old.home.limits.count) × (new ≡ old)
 Failed old run.NoMemory new =
-    (new ≡ record old { pass = new.pass; state = lost old.state }) × ((new.pass ≡ old.pass) ⊎ ((c : Call) × (r : Reply) × (wish_of (ask_of old.state) ≡ Shared c) × Calls old.pass c r new.pass))
+    (new ≡ record old { pass = new.pass; state = lost old.state }) ×
+    ((new.pass ≡ old.pass) ⊎ ((c : Call) × (r : Reply) × (wish_of (ask_of old.state) ≡ Shared c) ×
+    Calls old.pass c r new.pass))
 Failed old (run.Lost f) new = ⊥
 Failed old run.NoWorker new = ⊥

@@ -23,14 +23,17 @@ pub record TaskView : Type 0 where
 abbrev pub IsBroken : Fiber → Type 0
 IsBroken g = way_of g.running ≡ Is_lost
 
--- what holds of every task: its pass is a lawful one of its registry, of its fiber, and they fit, unless the fiber is broken
+-- what holds of every task: its pass is a lawful one of its registry, of its fiber, and they fit, unless the fiber
+-- is broken
 pub record IsTask (t : TaskView) : Type 0 where
   pub here : IsOf t.home t.pass
   pub pass : IsPass t.pass
   pub number : t.state.number ≡ t.pass.number
   pub fits : IsBroken t.state ⊎ Fits (pass_registered t.pass) t.state
 
--- Moves that were answered so lead from the task old to new, and each took one from those that it may make. What its pass had seen goes on: its own fiber's calls in it are those of the moves, with their replies, and of its other fibers there is none more
+-- Moves that were answered so lead from the task old to new, and each took one from those that it may make. What
+-- its pass had seen goes on: its own fiber's calls in it are those of the moves, with their replies, and of its
+-- other fibers there is none more
 pub record Went (old : TaskView) (rs : List Reply) (new : TaskView) : Type 0 where
   pub home : new.home ≡ old.home
   pub number : new.pass.number ≡ old.pass.number
@@ -40,9 +43,11 @@ pub record Went (old : TaskView) (rs : List Reply) (new : TaskView) : Type 0 whe
   pub answers : AreAnswers old.state rs
   pub seen : IsPrefix old.pass.seen new.pass.seen
   pub own : calls_by old.pass.number new.pass.seen ≡ calls_by old.pass.number old.pass.seen ++ calls_of old.state rs
-  pub others : (f : ℕ) → Has old.pass.fibers f → (f ≡ old.pass.number → ⊥) → calls_by f new.pass.seen ≡ calls_by f old.pass.seen
+  pub others : (f : ℕ) → Has old.pass.fibers f → (f ≡ old.pass.number → ⊥) → calls_by f new.pass.seen ≡ calls_by f
+      old.pass.seen
 
--- the task is at home at this registry, and its fiber can stand where it is by moves of this code, under what its pass has seen
+-- the task is at home at this registry, and its fiber can stand where it is by moves of this code, under what its
+-- pass has seen
 pub record IsTaskOf (r : RegistryView) (code : Tree) (t : TaskView) : Type 0 where
   pub home : t.home ≡ r
   pub stands : Stands code t.pass.seen t.pass.number t.state

@@ -8,11 +8,13 @@ use Rattle.cell_registry.specs.declared.limits.RunError.TheVariants as run
 use Rattle.cell_registry.specs.Passes.{RegistryView}
 use Rattle.fiber_poll.specs.declared.turn.Turn.{Turn}
 use Rattle.fiber_poll.specs.declared.turn.Turn.TheVariants as turn
-use Rattle.fiber_poll.specs.Turns.{AreQuiet, Ends, Starts_child, TellsLast, Waits_for, Wakes_fiber, Wakes_topic, Yields, event_of}
+use Rattle.fiber_poll.specs.Turns.{AreQuiet, Ends, Starts_child, TellsLast, Waits_for, Wakes_fiber, Wakes_topic}
+use Rattle.fiber_poll.specs.Turns.{Yields, event_of}
 use Rattle.fiber_poll.specs.Tasks.{IsBroken, IsTask, IsTaskOf, TaskView, Went}
 use Rattle.fiber_poll.specs.Stepping.{Failed, IsChild}
 
--- the last of these moves, which had no event before it, started the fiber of the task c: the parent was so before that move
+-- the last of these moves, which had no event before it, started the fiber of the task c: the parent was so before
+-- that move
 pub record Starts (old : TaskView) (rs : List Reply) (new c : TaskView) : Type 0 where
   pub before : List Reply
   pub last : Reply
@@ -23,9 +25,11 @@ pub record Starts (old : TaskView) (rs : List Reply) (new c : TaskView) : Type 0
   pub event : event_of parent.state last ≡ Some Starts_child
   pub child : IsChild parent last new c
 
--- what an answer tells of the moves that the task old made, by a budget of so many: their last event, or that there was none
+-- what an answer tells of the moves that the task old made, by a budget of so many: their last event, or that there
+-- was none
 abbrev pub Answered : TaskView → List Reply → ℕ → TaskView → Turn → Type 0
-Answered old rs budget new (turn.Ended o) = (outcome_of new.state ≡ Some o) × ((rs ≡ []) ⊎ TellsLast old.state rs (Ends o))
+Answered old rs budget new (turn.Ended o) =
+    (outcome_of new.state ≡ Some o) × ((rs ≡ []) ⊎ TellsLast old.state rs (Ends o))
 Answered old rs budget new (turn.Waits t) = TellsLast old.state rs (Waits_for t)
 Answered old rs budget new turn.Cedes = (AreQuiet old.state rs × (length rs ≡ budget)) ⊎ TellsLast old.state rs Yields
 Answered old rs budget new (turn.Started c) = Starts old rs new c
@@ -40,7 +44,8 @@ pub record Turned (old : TaskView) (budget : ℕ) (answer : Turn) (new : TaskVie
   pub most : length replies ≤ budget
   pub answered : Answered old replies budget new answer
 
--- a turn that met a fault: these moves were made, without an event, and the next one, which the task might still make, wasn't; or the fiber is broken
+-- a turn that met a fault: these moves were made, without an event, and the next one, which the task might still
+-- make, wasn't; or the fiber is broken
 pub record Stopped (old : TaskView) (budget : ℕ) (e : RunError) (new : TaskView) : Type 0 where
   pub replies : List Reply
   pub before : TaskView

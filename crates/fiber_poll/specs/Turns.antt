@@ -58,7 +58,8 @@ awaited (ask.Join f) = topic.Fiber f
 awaited (ask.Read d) = topic.Deferred d
 awaited _ = topic.Never
 
--- whom a plain move of fiber i may wake: another fiber whose cancellation it was the first to request, or those that wait for the deferred that it completed
+-- whom a plain move of fiber i may wake: another fiber whose cancellation it was the first to request, or those
+-- that wait for the deferred that it completed
 abbrev pub woken : ℕ → Ask → Reply → Option Event
 woken i (ask.Cancel f) (reply.Cancel canceled.Asked) = cond (f == i) None (Some (Wakes_fiber f))
 woken i (ask.Complete d v) (reply.Completed true) = Some (Wakes_topic (topic.Deferred d))

@@ -21,7 +21,12 @@ pub fn first<'a>(
     moves: u32,
 ) -> Result<FiberTask<'a>, AllocError>
     requires { pass ≡ first_pass registry.now }
-    ensures task { IfOk result (λ task. task ≡ record { home = registry.now; pass = pass; state = begins 0 code.now; moves = moves }) }
+    ensures task { IfOk result (λ task. task ≡ record {
+      home = registry.now;
+      pass = pass;
+      state = begins 0 code.now;
+      moves = moves;
+    }) }
     ensures of { IfOk result (λ task. IsTaskOf registry.now code.now task) }
 {
     let _core = code.core();

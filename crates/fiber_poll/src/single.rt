@@ -37,7 +37,8 @@ pub fn alone<R: Wait + RandomSource + AllocGlobal>(
     moves: u32,
 ) -> Result<Option<Outcome>, RunError>
     requires { starts_fiber program ≡ false }
-    ensures { (result ≡ Fails RunError.NoMemory) ⊎ (result ≡ Fails RunError.NoWorker) ⊎ (result ≡ first_result (core (code_of (source_of program)) default_limits (replicate moves 0))) }
+    ensures { (result ≡ Fails RunError.NoMemory) ⊎ (result ≡ Fails RunError.NoWorker) ⊎
+        (result ≡ first_result (core (code_of (source_of program)) default_limits (replicate moves 0))) }
 {
     let alloc = rt.alloc();
     let code = expand(alloc, &program)?;

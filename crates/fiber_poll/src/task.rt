@@ -128,9 +128,12 @@ impl<'a> FiberTask<'a> {
         requires budget { 1 < budget }
         ensures turned { IfOk result (λ answer. Turned self.old budget answer self.new) }
         ensures stopped { IfErr result (λ error. Stopped self.old budget error self.new) }
-        ensures ended { (o : Outcome) → outcome_of self.old.state ≡ Some o → (result ≡ GoesWell (Turn.Ended o)) × (self.new ≡ self.old) }
-        ensures stays { (home : RegistryView) (code : Tree) → IsTaskOf home code self.old → StaysOf home code result self.new }
-        ensures broken { ask_of self.old.state ≡ Ask.Broken → (result ≡ Fails RunError.NoMemory) × (self.new ≡ self.old) }
+        ensures ended { (o : Outcome) → outcome_of self.old.state ≡ Some o → (result ≡ GoesWell (Turn.Ended o)) ×
+            (self.new ≡ self.old) }
+        ensures stays { (home : RegistryView) (code : Tree) → IsTaskOf home code self.old →
+            StaysOf home code result self.new }
+        ensures broken { ask_of self.old.state ≡ Ask.Broken → (result ≡ Fails RunError.NoMemory) ×
+            (self.new ≡ self.old) }
     {
         match self.config.ask() {
             Ask::Over(outcome) => Ok(Turn::Ended(outcome)),

@@ -27,7 +27,8 @@ count_text n = decimal (min n (2 ^ 64 - 1))
 -- the size, the nesting and the masks of a program
 abbrev pub ok_line : Term → List ℕ
 ok_line t =
-    codes "ok size " ++ (count_text (size_of t) ++ (codes " nest " ++ (count_text (nest_of t) ++ (codes " masks " ++ (count_text (masks_of t) ++ 10 ∷ [])))))
+    codes "ok size " ++ (count_text (size_of t) ++
+    (codes " nest " ++ (count_text (nest_of t) ++ (codes " masks " ++ (count_text (masks_of t) ++ 10 ∷ [])))))
 
 -- the text of a program's code, and a line feed
 abbrev pub code_line : Term → List ℕ
@@ -37,17 +38,22 @@ code_line t = core_text (code_of (source_of t)) ++ 10 ∷ []
 -- it spells goes past.
 pub data IsRefusalAnswer : List ℕ → List ℕ → Status → Type 0 where
   no_term : (text : List ℕ) (e : ParseError) → reading text ≡ Err e → IsRefusalAnswer text (parse_line e) ends.Refused
-  no_program : (text : List ℕ) (t : Term) (e : TermError) → reading text ≡ Ok (atoms_of t) → limit_passed t ≡ Some e → IsRefusalAnswer text (term_line e) ends.Refused
+  no_program : (text : List ℕ) (t : Term) (e : TermError) → reading text ≡ Ok (atoms_of t) → limit_passed t ≡ Some e →
+      IsRefusalAnswer text (term_line e) ends.Refused
 
 -- what `check` answers, with its status: a refusal, or the counts of the program that the text spells
 pub data IsCheckAnswer : List ℕ → List ℕ → Status → Type 0 where
-  refused : (text answer : List ℕ) (status : Status) → IsRefusalAnswer text answer status → IsCheckAnswer text answer status
-  counted : (text : List ℕ) (t : Term) → reading text ≡ Ok (atoms_of t) → IsProgram t → IsCheckAnswer text (ok_line t) ends.Succeeded
+  refused : (text answer : List ℕ) (status : Status) → IsRefusalAnswer text answer status →
+      IsCheckAnswer text answer status
+  counted : (text : List ℕ) (t : Term) → reading text ≡ Ok (atoms_of t) → IsProgram t → IsCheckAnswer text (ok_line t)
+      ends.Succeeded
 
 -- what `show` answers, with its status: a refusal, or the code of the program that the text spells
 pub data IsShowAnswer : List ℕ → List ℕ → Status → Type 0 where
-  unshown : (text answer : List ℕ) (status : Status) → IsRefusalAnswer text answer status → IsShowAnswer text answer status
-  shown : (text : List ℕ) (t : Term) → reading text ≡ Ok (atoms_of t) → IsProgram t → IsShowAnswer text (code_line t) ends.Succeeded
+  unshown : (text answer : List ℕ) (status : Status) → IsRefusalAnswer text answer status →
+      IsShowAnswer text answer status
+  shown : (text : List ℕ) (t : Term) → reading text ≡ Ok (atoms_of t) → IsProgram t → IsShowAnswer text (code_line t)
+      ends.Succeeded
 
 -- why a text is refused, unless memory was wanting: its first fault, or a limit that its term goes past
 abbrev pub IsRefused : List ℕ → Refused → Type 0

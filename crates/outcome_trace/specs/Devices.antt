@@ -1,7 +1,8 @@
 -- What a program's devices are seen to be: where its text comes from, where its answer goes, and where faults are told.
 use Rattle.std.specs.Prelude.{ℕ, Bool, List, Option}
 
--- the bytes that reads will give, where they are known, whether a read has failed, whether one has found the end of the input, and how many reads were made
+-- the bytes that reads will give, where they are known, whether a read has failed, whether one has found the end of
+-- the input, and how many reads were made
 pub record Reader : Type 0 where
   pub remaining : Option (List ℕ)
   pub failed : Bool

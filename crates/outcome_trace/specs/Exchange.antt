@@ -23,7 +23,8 @@ pub record IsOutOfReads (before after : Reader) : Type 0 where
 
 -- A text was read, and an answer to it, of this status, goes out as the result tells. Where all of it goes out, the
 -- result is the status.
-pub record Exchange (Answers : List ℕ → List ℕ → Status → Type 0) (before after : Reader) (old new : Writer) (result : Result Status TextFault) : Type 0 where
+pub record Exchange (Answers : List ℕ → List ℕ → Status → Type 0) (before after : Reader) (old new : Writer)
+    (result : Result Status TextFault) : Type 0 where
   pub text : List ℕ
   pub answer : List ℕ
   pub status : Status
@@ -33,7 +34,8 @@ pub record Exchange (Answers : List ℕ → List ℕ → Status → Type 0) (bef
   pub told : IfOk result (λ s. s ≡ status)
 
 -- an exchange, where an answer began to go out, and else nothing was written
-abbrev pub Exchanges : (List ℕ → List ℕ → Status → Type 0) → Reader → Reader → Writer → Writer → Result Status TextFault → Type 0
+abbrev pub Exchanges : (List ℕ → List ℕ → Status → Type 0) → Reader → Reader → Writer → Writer →
+    Result Status TextFault → Type 0
 Exchanges Answers before after old new (Ok s) = Exchange Answers before after old new (Ok s)
 Exchanges Answers before after old new (Err NoMemory) = new ≡ old
 Exchanges Answers before after old new (Err ReadFault) = new ≡ old
@@ -42,7 +44,8 @@ Exchanges Answers before after old new (Err TurnBound) = new ≡ old
 
 -- The answer to the text goes out, and its status is the result, or there is a fault: the reader's exactly where a read
 -- has failed, the writer's exactly where a write has failed, and that of too many reads only where they ran out.
-pub record IsAnswered (Answers : List ℕ → List ℕ → Status → Type 0) (before after : Reader) (old new : Writer) (result : Result Status TextFault) : Type 0 where
+pub record IsAnswered (Answers : List ℕ → List ℕ → Status → Type 0) (before after : Reader) (old new : Writer)
+    (result : Result Status TextFault) : Type 0 where
   pub exchange : Exchanges Answers before after old new result
   pub reader : after.failed ≡ is_read_fault result
   pub writer : new.failed ≡ is_write_fault result

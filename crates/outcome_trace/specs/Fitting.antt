@@ -1,5 +1,5 @@
--- A fiber's state and what a registry has of it fit together: in a registry for many threads, where a pass knows it, and in
--- one for one thread.
+-- A fiber's state and what a registry has of it fit together: in a registry for many threads, where a pass knows
+-- it, and in one for one thread.
 use Rattle.std.specs.Prelude.{◌≡◌, ℕ, ◌<◌, ◌≤◌, Bool, true, false}
 use Rattle.fiber_frames.specs.declared.ask.Look.{Look}
 use Rattle.fiber_frames.specs.declared.ask.Look.TheVariants.{Due, Clear, Seen}
@@ -13,8 +13,9 @@ use Rattle.fiber_frames.specs.Leading.{Way, Runs_term, Finalizes, Has_ended, Is_
 use Rattle.derived_ops.specs.Naming.{Given}
 use Rattle.fiber_frames.specs.Naming.{NamedRun}
 
--- What a registry has of a fiber, as its runner knows it: its number, how far it has come, how many masks it is under, how
--- many changes it made, whether its cancellation is known to be requested, and how many numbers were given
+-- What a registry has of a fiber, as its runner knows it: its number, how far it has come, how many masks it is
+-- under, how many changes it made, whether its cancellation is known to be requested, and how many numbers were
+-- given
 pub record Registered : Type 0 where
   pub number : ℕ
   pub stage : Stage
@@ -43,8 +44,8 @@ LookFits Due saw = Unit {0}
 LookFits Clear saw = Unit {0}
 LookFits Seen saw = saw ≡ true
 
--- The fiber's state and what is registered of it fit: its next mask number is at most its changes, it names only what was
--- given, and it was born itself
+-- The fiber's state and what is registered of it fit: its next mask number is at most its changes, it names only
+-- what was given, and it was born itself
 pub record Fits (c : Registered) (g : Fiber) : Type 0 where
   pub number : g.number ≡ c.number
   pub stage : StageFits (way_of g.running) c.stage
@@ -60,7 +61,14 @@ given_by s = record { fibers = s.next_fiber; refs = s.next_ref; deferreds = s.ne
 
 -- what a pass knows of its fiber
 abbrev pub pass_registered : PassView → Registered
-pass_registered p = record { number = p.number; stage = p.stage; depth = p.depth; count = p.count; saw = p.saw; given = given_by (left p.registry.limits p.seen) }
+pass_registered p = record {
+  number = p.number;
+  stage = p.stage;
+  depth = p.depth;
+  count = p.count;
+  saw = p.saw;
+  given = given_by (left p.registry.limits p.seen);
+}
 
 -- what is registered of a new fiber
 abbrev pub new_registered : ℕ → Given → Registered

@@ -38,14 +38,16 @@ status_of (Err fault) = Fault
 -- a bad schedule is told with its place, as wrong usage, and want of memory as a fault
 abbrev pub RefusesSchedule : ScheduleError → Writer → Writer → Status → Type 0
 RefusesSchedule schedules.NoMemory before after status = Told (fault_line NoMemory) before after × (status ≡ Fault)
-RefusesSchedule (schedules.BadSchedule place) before after status = Told (schedule_line place) before after × (status ≡ Usage)
+RefusesSchedule (schedules.BadSchedule place) before after status =
+    Told (schedule_line place) before after × (status ≡ Usage)
 
 -- The text is answered, or there is a fault, which is told on the last device.
-pub record Answered (Answers : List ℕ → List ℕ → Status → Type 0) (before after : Devices) (status : Status) : Type 0 where
-  pub result : Result Status TextFault
-  pub answered : IsAnswered Answers before.input after.input before.out after.out result
-  pub told : TellsResult result before.err after.err
-  pub status_is : status ≡ status_of result
+pub record Answered (Answers : List ℕ → List ℕ → Status → Type 0) (before after : Devices) (status : Status) : Type 0
+  where
+    pub result : Result Status TextFault
+    pub answered : IsAnswered Answers before.input after.input before.out after.out result
+    pub told : TellsResult result before.err after.err
+    pub status_is : status ≡ status_of result
 
 -- The schedule isn't well formed, or there is no memory for it: that is told, and nothing is read or answered.
 pub record Unscheduled (schedule : List ℕ) (before after : Devices) (status : Status) : Type 0 where

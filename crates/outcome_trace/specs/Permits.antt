@@ -75,11 +75,24 @@ saw_after call.Look saw r = seen_in saw r
 saw_after _ saw r = saw
 
 abbrev pub registered_after : Call → Reply → Given → Registered → Registered
-registered_after c r b k = record { number = k.number; stage = stage_after c k.stage; depth = depth_after c k.depth; count = count_after c k.count; saw = saw_after c k.saw r; given = b }
+registered_after c r b k = record {
+  number = k.number;
+  stage = stage_after c k.stage;
+  depth = depth_after c k.depth;
+  count = count_after c k.count;
+  saw = saw_after c k.saw r;
+  given = b;
+}
 
 -- the pass p made the call, was answered r, and is q since
 pub record Makes (p : PassView) (c : Call) (r : Reply) (q : PassView) : Type 0 where
-  pub same : q ≡ record p { stage = stage_after c p.stage; depth = depth_after c p.depth; count = count_after c p.count; saw = saw_after c p.saw r; seen = q.seen }
+  pub same : q ≡ record p {
+    stage = stage_after c p.stage;
+    depth = depth_after c p.depth;
+    count = count_after c p.count;
+    saw = saw_after c p.saw r;
+    seen = q.seen;
+  }
   pub call : Calls p c r q
 
 -- an owner's change
@@ -90,8 +103,9 @@ IsChange call.Cut = Unit {0}
 IsChange (call.Finish o) = Unit {0}
 IsChange _ = ⊥
 
--- The call c of the pass p was refused, and the pass is q since: all numbers of the band that it wanted one of were given,
--- and it may have seen more; or its count is used up, and it is as before
+-- The call c of the pass p was refused, and the pass is q since: all numbers of the band that it wanted one of were
+-- given, and it may have seen more; or its count is used up, and it is as before
 abbrev pub RefusedBy : PassView → Call → CellError → PassView → Type 0
-RefusedBy p c (error.Full b n) q = (c ≡ claim_of b) × (n ≡ limit_of b p.registry.limits) × OnlySees p q × SeesAllGiven b p q
+RefusedBy p c (error.Full b n) q =
+    (c ≡ claim_of b) × (n ≡ limit_of b p.registry.limits) × OnlySees p q × SeesAllGiven b p q
 RefusedBy p c (error.Spent n) q = IsChange c × (n ≡ p.count) × (p.count ≡ p.registry.limits.count) × (q ≡ p)

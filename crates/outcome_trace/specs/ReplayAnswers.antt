@@ -36,11 +36,14 @@ report_status (f ∷ fibers) = outcome_status f.outcome
 
 -- what comes of a program under a schedule and limits, with its status: the report or the fault of the core
 pub data IsRunAnswer (t : Term) (schedule : List ℕ) (limits : Limits) : List ℕ → Status → Type 0 where
-  reports : (r : Report) → replayed t limits schedule ≡ Ok r → IsRunAnswer t schedule limits (text_of_fibers r.fibers) (report_status r.fibers)
+  reports : (r : Report) → replayed t limits schedule ≡ Ok r → IsRunAnswer t schedule limits (text_of_fibers r.fibers)
+      (report_status r.fibers)
   faults : (e : RunError) → replayed t limits schedule ≡ Err e → IsRunAnswer t schedule limits (run_line e) ends.Fault
 
 -- what `replay` answers under a schedule and limits, with its status: a refusal, or what comes of the program that the
 -- text spells
 pub data IsReplayAnswer (schedule : List ℕ) (limits : Limits) : List ℕ → List ℕ → Status → Type 0 where
-  unreplayed : (text answer : List ℕ) (status : Status) → IsRefusalAnswer text answer status → IsReplayAnswer schedule limits text answer status
-  replays : (text answer : List ℕ) (status : Status) (t : Term) → reading text ≡ Ok (atoms_of t) → IsProgram t → IsRunAnswer t schedule limits answer status → IsReplayAnswer schedule limits text answer status
+  unreplayed : (text answer : List ℕ) (status : Status) → IsRefusalAnswer text answer status →
+      IsReplayAnswer schedule limits text answer status
+  replays : (text answer : List ℕ) (status : Status) (t : Term) → reading text ≡ Ok (atoms_of t) → IsProgram t →
+      IsRunAnswer t schedule limits answer status → IsReplayAnswer schedule limits text answer status

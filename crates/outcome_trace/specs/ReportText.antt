@@ -4,7 +4,8 @@ use Rattle.std.specs.Fmt.{decimal, signed_decimal}
 use Rattle.effect_term.specs.declared.reply.Outcome.{Outcome}
 use Rattle.effect_term.specs.declared.reply.Outcome.TheVariants.{Succeeded, Errored, Canceled}
 use Rattle.fiber_frames.specs.declared.mark.Mark.{Mark}
-use Rattle.fiber_frames.specs.declared.mark.Mark.TheVariants.{Say, Enter, Leave, PollIn, PollOut, Cut, Acquired, Releasing, Released, Dropped}
+use Rattle.fiber_frames.specs.declared.mark.Mark.TheVariants.{Say, Enter, Leave, PollIn, PollOut, Cut, Acquired}
+use Rattle.fiber_frames.specs.declared.mark.Mark.TheVariants.{Releasing, Released, Dropped}
 use Rattle.outcome_trace.specs.declared.report.FiberReport.{FiberReport}
 
 -- a mark, with its value, its code or the number of its mask
@@ -39,7 +40,8 @@ outcome_text None = codes "unended"
 
 -- the line of the fiber of this number
 abbrev pub fiber_line : ℕ → FiberReport → List ℕ
-fiber_line n f = codes "fiber " ++ (decimal n ++ (codes " " ++ (outcome_text f.outcome ++ (marks_text f.marks ++ 10 ∷ []))))
+fiber_line n f = codes "fiber " ++
+    (decimal n ++ (codes " " ++ (outcome_text f.outcome ++ (marks_text f.marks ++ 10 ∷ []))))
 
 -- the lines of fibers whose numbers go up from this one
 abbrev pub lines_from : ℕ → List FiberReport → List ℕ

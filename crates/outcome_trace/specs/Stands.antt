@@ -15,13 +15,22 @@ use Rattle.outcome_trace.specs.Core.{core, reported, wish_of}
 abbrev pub wish : Fiber → Wish
 wish g = wish_of (ask_of g)
 
--- The fiber f of the code can stand in this state where the history is h. Fiber 0 stands at the root of the code before any call. A move without a shared call leads on under the same history. A call of the fiber is the next entry, and its move is made under the reply; an entry of another fiber changes nothing. And a fiber that an entry started stands at the beginning of the child that the move gives
+-- The fiber f of the code can stand in this state where the history is h. Fiber 0 stands at the root of the code
+-- before any call. A move without a shared call leads on under the same history. A call of the fiber is the next
+-- entry, and its move is made under the reply; an entry of another fiber changes nothing. And a fiber that an entry
+-- started stands at the beginning of the child that the move gives
 pub data Stands (code : Tree) : List Entry → ℕ → Fiber → Type 0 where
   Opens : (h : List Entry) (f : ℕ) (g : Fiber) → h ≡ [] → f ≡ 0 → g ≡ begins 0 code → Stands code h f g
-  Alone_on : (h : List Entry) (f : ℕ) (g m : Fiber) → Stands code h f m → wish m ≡ Alone → g ≡ move m Done → Stands code h f g
-  Calls : (h : List Entry) (f : ℕ) (g : Fiber) (before : List Entry) (e : Entry) (m : Fiber) → Stands code before f m → h ≡ before ++ e ∷ [] → e.by ≡ f → wish m ≡ Shared e.call → g ≡ move m e.reply → Stands code h f g
-  Rests : (h : List Entry) (f : ℕ) (g : Fiber) (before : List Entry) (e : Entry) → Stands code before f g → h ≡ before ++ e ∷ [] → e.by ≢ f → Stands code h f g
-  Begins : (h : List Entry) (f : ℕ) (g : Fiber) (before : List Entry) (e : Entry) (m : Fiber) → Stands code before e.by m → h ≡ before ++ e ∷ [] → e.call ≡ Start → e.reply ≡ Number f → wish m ≡ Shared Start → g ≡ child m f → Stands code h f g
+  Alone_on : (h : List Entry) (f : ℕ) (g m : Fiber) → Stands code h f m → wish m ≡ Alone → g ≡ move m Done →
+      Stands code h f g
+  Calls : (h : List Entry) (f : ℕ) (g : Fiber) (before : List Entry) (e : Entry) (m : Fiber) →
+      Stands code before f m → h ≡ before ++ e ∷ [] → e.by ≡ f → wish m ≡ Shared e.call → g ≡ move m e.reply →
+      Stands code h f g
+  Rests : (h : List Entry) (f : ℕ) (g : Fiber) (before : List Entry) (e : Entry) → Stands code before f g →
+      h ≡ before ++ e ∷ [] → e.by ≢ f → Stands code h f g
+  Begins : (h : List Entry) (f : ℕ) (g : Fiber) (before : List Entry) (e : Entry) (m : Fiber) →
+      Stands code before e.by m → h ≡ before ++ e ∷ [] → e.call ≡ Start → e.reply ≡ Number f → wish m ≡ Shared Start →
+      g ≡ child m f → Stands code h f g
 
 -- the report is that of the core under some schedule
 abbrev pub IsOfSomeSchedule : Tree → Limits → Report → Type 0

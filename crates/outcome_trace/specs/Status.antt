@@ -1,7 +1,8 @@
 -- The exit statuses.
 use Rattle.std.specs.Prelude.{ℕ}
 use Rattle.outcome_trace.specs.declared.status.Status.{Status}
-use Rattle.outcome_trace.specs.declared.status.Status.TheVariants.{Succeeded, Errored, Canceled, Unended, Usage, Refused, Fault}
+use Rattle.outcome_trace.specs.declared.status.Status.TheVariants.{Succeeded, Errored, Canceled, Unended, Usage}
+use Rattle.outcome_trace.specs.declared.status.Status.TheVariants.{Refused, Fault}
 
 abbrev pub code_of : Status → ℕ
 code_of Succeeded = 0

@@ -33,7 +33,8 @@ writer_of d = d.inner
 abbrev pub write_has_failed : {W : Type 0} → ToWrite W → Bool
 write_has_failed d = d.failed
 
--- a reader's answer, as a device tells it: its count; of an error, that the reader was interrupted, or else that it failed
+-- a reader's answer, as a device tells it: its count; of an error, that the reader was interrupted, or else that it
+-- failed
 abbrev pub TellsRead : Result ℕ Error → Result ℕ ReadError → Type 0
 TellsRead (Ok n) told = told ≡ Ok n
 TellsRead (Err e) (Ok n) = ⊥

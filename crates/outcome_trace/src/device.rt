@@ -4,7 +4,8 @@ ghost use Rattle.std.specs.Prelude.{◌≡◌, ◌||◌, ◌+◌, ◌-◌, ◌<�
 ghost use Rattle.std.specs.Io.{ReadsAtMost, WritesAtMost};
 ghost use Rattle.std.specs.Io.KnownBytes.{ReadConsumes, WriteAppends};
 ghost use Rattle.outcome_trace.specs.Device.{found_end, read_failed, write_failed};
-ghost use Rattle.outcome_trace.specs.Wrapped.{reader_of, read_has_failed, has_found_end, reads_of, writer_of, write_has_failed};
+ghost use Rattle.outcome_trace.specs.Wrapped.{reader_of, read_has_failed, has_found_end, reads_of, writer_of};
+ghost use Rattle.outcome_trace.specs.Wrapped.{write_has_failed};
 
 use std::io;
 use std::io::{ErrorKind, Read, Write};

@@ -37,7 +37,8 @@ pub enum Order<'a> {
 /// Tells a fault. It takes no memory. If this device fails too, nothing more is said.
 pub fn tell_fault<E: TextOut>(fault: TextFault, err: &mut E) -> Status
     requires { E.has_failed err.old ≡ false }
-    ensures told { Told (fault_line fault) (writer (E.contents err.old) (E.has_failed err.old)) (writer (E.contents err.new) (E.has_failed err.new)) }
+    ensures told { Told (fault_line fault) (writer (E.contents err.old) (E.has_failed err.old))
+        (writer (E.contents err.new) (E.has_failed err.new)) }
     ensures status { result ≡ Status.Fault }
 {
     let _ = write_text(fault_line(fault).as_str().as_bytes(), err);
@@ -47,7 +48,8 @@ pub fn tell_fault<E: TextOut>(fault: TextFault, err: &mut E) -> Status
 /// The status of a result, whose fault is told.
 fn status_of<E: TextOut>(outcome: Result<Status, TextFault>, err: &mut E) -> Status
     requires { E.has_failed err.old ≡ false }
-    ensures told { TellsResult outcome (writer (E.contents err.old) (E.has_failed err.old)) (writer (E.contents err.new) (E.has_failed err.new)) }
+    ensures told { TellsResult outcome (writer (E.contents err.old) (E.has_failed err.old))
+        (writer (E.contents err.new) (E.has_failed err.new)) }
     ensures status { result ≡ status_of outcome }
 {
     match outcome {
@@ -70,8 +72,12 @@ pub fn obey_text<A: TextOrder, I: TextIn, O: TextOut, E: TextOut>(
     requires countable { I.reads input.old < 2 ^ 63 }
     requires out { O.has_failed out.old ≡ false }
     requires err { E.has_failed err.old ≡ false }
-    ensures { let before = devices (reader (I.remaining input.old) (I.has_failed input.old) (I.has_ended input.old) (I.reads input.old)) (writer (O.contents out.old) (O.has_failed out.old)) (writer (E.contents err.old) (E.has_failed err.old)) in
-        let after = devices (reader (I.remaining input.new) (I.has_failed input.new) (I.has_ended input.new) (I.reads input.new)) (writer (O.contents out.new) (O.has_failed out.new)) (writer (E.contents err.new) (E.has_failed err.new)) in
+    ensures { let before = devices (reader (I.remaining input.old) (I.has_failed input.old) (I.has_ended input.old)
+        (I.reads input.old)) (writer (O.contents out.old) (O.has_failed out.old))
+        (writer (E.contents err.old) (E.has_failed err.old)) in
+        let after = devices (reader (I.remaining input.new) (I.has_failed input.new) (I.has_ended input.new)
+        (I.reads input.new)) (writer (O.contents out.new) (O.has_failed out.new))
+        (writer (E.contents err.new) (E.has_failed err.new)) in
         Answered (A.answers order.now) before after result }
 {
     let outcome = answer_text(alloc, order, input, out);
@@ -81,7 +87,8 @@ pub fn obey_text<A: TextOrder, I: TextIn, O: TextOut, E: TextOut>(
 /// Tells that a schedule's text is bad, or that there was no memory for its entries.
 fn refuse_schedule<E: TextOut>(error: ScheduleError, err: &mut E) -> Status
     requires { E.has_failed err.old ≡ false }
-    ensures { RefusesSchedule error (writer (E.contents err.old) (E.has_failed err.old)) (writer (E.contents err.new) (E.has_failed err.new)) result }
+    ensures { RefusesSchedule error (writer (E.contents err.old) (E.has_failed err.old))
+        (writer (E.contents err.new) (E.has_failed err.new)) result }
 {
     let ScheduleError::BadSchedule(place) = error else {
         return tell_fault(TextFault::NoMemory, err);
@@ -106,8 +113,12 @@ pub fn obey<I: TextIn, O: TextOut, E: TextOut>(
     requires out { O.has_failed out.old ≡ false }
     requires err { E.has_failed err.old ≡ false }
     requires limits { HasLimits order }
-    ensures obeyed { let before = devices (reader (I.remaining input.old) (I.has_failed input.old) (I.has_ended input.old) (I.reads input.old)) (writer (O.contents out.old) (O.has_failed out.old)) (writer (E.contents err.old) (E.has_failed err.old)) in
-        let after = devices (reader (I.remaining input.new) (I.has_failed input.new) (I.has_ended input.new) (I.reads input.new)) (writer (O.contents out.new) (O.has_failed out.new)) (writer (E.contents err.new) (E.has_failed err.new)) in
+    ensures obeyed { let before = devices (reader (I.remaining input.old) (I.has_failed input.old)
+        (I.has_ended input.old) (I.reads input.old)) (writer (O.contents out.old) (O.has_failed out.old))
+        (writer (E.contents err.old) (E.has_failed err.old)) in
+        let after = devices (reader (I.remaining input.new) (I.has_failed input.new) (I.has_ended input.new)
+        (I.reads input.new)) (writer (O.contents out.new) (O.has_failed out.new))
+        (writer (E.contents err.new) (E.has_failed err.new)) in
         Obeys order.entry before after result }
 
     // Where the schedule is bad, the text isn't read and nothing is answered.

@@ -117,8 +117,10 @@ pub fn replay_text<I: TextIn, O: TextOut>(
     requires countable { I.reads input.old < 2 ^ 63 }
     requires out { O.has_failed out.old ≡ false }
     requires limits { AreLimits limits }
-    ensures { let before = reader (I.remaining input.old) (I.has_failed input.old) (I.has_ended input.old) (I.reads input.old) in
-        let after = reader (I.remaining input.new) (I.has_failed input.new) (I.has_ended input.new) (I.reads input.new) in
+    ensures { let before = reader (I.remaining input.old) (I.has_failed input.old) (I.has_ended input.old)
+        (I.reads input.old) in
+        let after = reader (I.remaining input.new) (I.has_failed input.new) (I.has_ended input.new)
+        (I.reads input.new) in
         let old = writer (O.contents out.old) (O.has_failed out.old) in
         let new = writer (O.contents out.new) (O.has_failed out.new) in
         IsAnswered (IsReplayAnswer schedule.now limits) before after old new result }

@@ -2,7 +2,8 @@
 
 ghost use Rattle.std.specs.Prelude.{◌≡◌, ◌++◌, false, IfOk, OnOk, IsErrOf, string_bytes};
 ghost use Rattle.outcome_trace.specs.Text.{GoesOut, OnlyOutFaults, is_write_fault};
-ghost use Rattle.outcome_trace.specs.ReportText.{mark_text, later_marks_text, marks_text, outcome_text, fiber_line, text_of_fibers};
+ghost use Rattle.outcome_trace.specs.ReportText.{mark_text, later_marks_text, marks_text, outcome_text, fiber_line};
+ghost use Rattle.outcome_trace.specs.ReportText.{text_of_fibers};
 
 use crate::device::TextOut;
 use crate::fault::TextFault;

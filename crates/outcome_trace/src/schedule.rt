@@ -1,8 +1,10 @@
 //! A schedule's text: items `f` or `f*k`, separated by one space each.
 
-ghost use Rattle.std.specs.Prelude.{◌≡◌, ◌≢◌, ◌+◌, ◌-◌, ◌<◌, ◌≤◌, ℕ, List, ◌++◌, ◌∷◌, [], IfOk, OnOk, IfSome, IfNone, IsErrOf, length, replicate, MatchOption, vec_len};
+ghost use Rattle.std.specs.Prelude.{◌≡◌, ◌≢◌, ◌+◌, ◌-◌, ◌<◌, ◌≤◌, ℕ, List, ◌++◌, ◌∷◌, [], IfOk, OnOk, IfSome, IfNone};
+ghost use Rattle.std.specs.Prelude.{IsErrOf, length, replicate, MatchOption, vec_len};
 ghost use Rattle.std.specs.Fmt.{decimal};
-ghost use Rattle.outcome_trace.specs.Schedule.{Item, IsItem, IsItemOf, spelling, SpellsEntries, IsFirstBad, GivesEntries, RefusesAt, HasNo};
+ghost use Rattle.outcome_trace.specs.Schedule.{Item, IsItem, IsItemOf, spelling, SpellsEntries, IsFirstBad};
+ghost use Rattle.outcome_trace.specs.Schedule.{GivesEntries, RefusesAt, HasNo};
 ghost use Rattle.outcome_trace.specs.Digits.{is_plain};
 ghost use Rattle.outcome_trace.specs.declared.schedule.ScheduleError.TheVariants.{NoMemory};
 
@@ -146,14 +148,16 @@ fn read_items(alloc: Global, text: &str) -> Result<Vec<u16>, ScheduleError>
 pub fn read_schedule(alloc: Global, text: &str) -> Result<Vec<u16>, ScheduleError>
     // What is accepted is a text of items, and gives their entries.
     ensures found { IfOk result (λ schedule. SpellsEntries text.now schedule.items) }
-    ensures one_list { IfOk result (λ schedule. (entries : List ℕ) → SpellsEntries text.now entries → entries ≡ schedule.items) }
+    ensures one_list { IfOk result (λ schedule. (entries : List ℕ) → SpellsEntries text.now entries →
+        entries ≡ schedule.items) }
 
     // Each text of items is accepted, unless memory runs out.
     ensures only { (entries : List ℕ) → SpellsEntries text.now entries → GivesEntries entries result }
 
     // The place is that of the first item that is bad, or goes past `MOST_ENTRIES`.
     ensures place { (place : ℕ) → IsErrOf result (ScheduleError.BadSchedule place) → IsFirstBad text.now place }
-    ensures one_place { (place : ℕ) → IsErrOf result (ScheduleError.BadSchedule place) → (other : ℕ) → IsFirstBad text.now other → other ≡ place }
+    ensures one_place { (place : ℕ) → IsErrOf result (ScheduleError.BadSchedule place) → (other : ℕ) →
+        IsFirstBad text.now other → other ≡ place }
 
     // A text with such an item is refused there, unless memory runs out.
     ensures refused { (place : ℕ) → IsFirstBad text.now place → RefusesAt place result }

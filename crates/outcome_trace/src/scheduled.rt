@@ -1,5 +1,6 @@
 //! A program under a schedule, one move for each entry.
-ghost use Rattle.std.specs.Prelude.{◌≡◌, ◌⊎◌, ◌++◌, IfOk, IfErr, IfSome, IfNone, OnOk, MatchResult, Ok as GoesWell, Err as Fails, [], ◌∷◌};
+ghost use Rattle.std.specs.Prelude.{◌≡◌, ◌⊎◌, ◌++◌, IfOk, IfErr, IfSome, IfNone, OnOk, MatchResult, Ok as GoesWell};
+ghost use Rattle.std.specs.Prelude.{Err as Fails, [], ◌∷◌};
 ghost use Rattle.std.specs.List.{All, fold};
 ghost use Rattle.std.specs.Option.{option_to_list};
 ghost use Rattle.derived_ops.specs.Expansion.{code_of};
@@ -39,7 +40,8 @@ pub fn replay(
     limits: Limits,
 ) -> Result<Report, RunError>
     requires limits { AreLimits limits }
-    ensures core { (result ≡ Fails RunError.NoMemory) ⊎ (result ≡ reported (core (code_of (source_of program.now)) limits schedule.now)) }
+    ensures core { (result ≡ Fails RunError.NoMemory) ⊎
+        (result ≡ reported (core (code_of (source_of program.now)) limits schedule.now)) }
     ensures lawful { IfOk result (λ report. All (λ f. AreLawful f.marks f.outcome) report.fibers) }
 {
     let mut fibers = first_fibers(alloc, program)?;
@@ -58,7 +60,8 @@ pub fn replay(
 // The fibers of a program before the first move: fiber 0 alone.
 fn first_fibers(alloc: Global, program: &Program) -> Result<Vec<Config>, AllocError>
     ensures first { IfOk result (λ fibers. fibers.items ≡ begins 0 (code_of (source_of program.now)) ∷ []) }
-    ensures named { IfOk result (λ _. (given : Given) → NamedBeginning given (begins 0 (code_of (source_of program.now)))) }
+    ensures named { IfOk result (λ _. (given : Given) →
+        NamedBeginning given (begins 0 (code_of (source_of program.now)))) }
 {
     let code = expand(alloc, program)?;
     let first = Config::new(alloc, &code)?;
@@ -74,8 +77,12 @@ fn entries(
     schedule: &[u16],
 ) -> Result<(), RunError>
     requires { AllFit (world_of fibers.old.items registry.old.state) }
-    ensures goes { OnOk result (fold (entered registry.old.limits) (GoesWell (world_of fibers.old.items registry.old.state)) schedule.now ≡ GoesWell (world_of fibers.new.items registry.new.state)) }
-    ensures stops { IfErr result (λ e. (e ≡ RunError.NoMemory) ⊎ (fold (entered registry.old.limits) (GoesWell (world_of fibers.old.items registry.old.state)) schedule.now ≡ Fails e)) }
+    ensures goes { OnOk result
+        (fold (entered registry.old.limits) (GoesWell (world_of fibers.old.items registry.old.state))
+        schedule.now ≡ GoesWell (world_of fibers.new.items registry.new.state)) }
+    ensures stops { IfErr result (λ e. (e ≡ RunError.NoMemory) ⊎
+        (fold (entered registry.old.limits) (GoesWell (world_of fibers.old.items registry.old.state))
+        schedule.now ≡ Fails e)) }
 {
     for number in schedule {
         entry(fibers, registry, *number)?;
@@ -92,8 +99,10 @@ fn entry(
     requires { AllFit (world_of fibers.old.items registry.old.state) }
     ensures limits { OnOk result (registry.new.limits ≡ registry.old.limits) }
     ensures fits { OnOk result (AllFit (world_of fibers.new.items registry.new.state)) }
-    ensures goes { OnOk result (entered registry.old.limits (GoesWell (world_of fibers.old.items registry.old.state)) number ≡ GoesWell (world_of fibers.new.items registry.new.state)) }
-    ensures stops { IfErr result (λ e. (e ≡ RunError.NoMemory) ⊎ (entered registry.old.limits (GoesWell (world_of fibers.old.items registry.old.state)) number ≡ Fails e)) }
+    ensures goes { OnOk result (entered registry.old.limits (GoesWell (world_of fibers.old.items registry.old.state))
+        number ≡ GoesWell (world_of fibers.new.items registry.new.state)) }
+    ensures stops { IfErr result (λ e. (e ≡ RunError.NoMemory) ⊎
+        (entered registry.old.limits (GoesWell (world_of fibers.old.items registry.old.state)) number ≡ Fails e)) }
 {
     let place = usize::from(number);
     if place < fibers.len() {
@@ -121,7 +130,8 @@ fn make_move(
 ) -> Result<Option<Config>, RunError>
     requires { Fits (cell_registered registry.old.state number) config.old }
     ensures lawful { IsPlain registry.old }
-    ensures moves { IfOk result (λ child. Moves registry.old number config.old registry.new config.new (option_to_list child)) }
+    ensures moves { IfOk result (λ child. Moves registry.old number config.old registry.new config.new
+        (option_to_list child)) }
     ensures stops { IfErr result (λ e. (e ≡ RunError.NoMemory) ⊎ Refuses registry.old number config.old e) }
 {
     let Some(reply) = reply(config, registry, number)? else {
@@ -142,8 +152,10 @@ fn reply(
     requires { Fits (cell_registered registry.old.state number) config.now }
     ensures asking { Asking config.now }
     ensures lawful { IsPlain registry.old }
-    ensures replied { IfOk result (λ it. IfSome it (λ reply. Replied registry.old number config.now reply registry.new)) }
-    ensures rests { IfOk result (λ it. IfNone it ((wish_of (ask_of config.now) ≡ Wish.Nothing) × (registry.new ≡ registry.old))) }
+    ensures replied { IfOk result
+        (λ it. IfSome it (λ reply. Replied registry.old number config.now reply registry.new)) }
+    ensures rests { IfOk result (λ it. IfNone it ((wish_of (ask_of config.now) ≡ Wish.Nothing) ×
+        (registry.new ≡ registry.old))) }
     ensures stops { IfErr result (λ e. Refuses registry.old number config.now e) }
 {
     // The registry is within its limits.
@@ -162,7 +174,8 @@ fn reply(
 // The registry's answer to a call of a fiber.
 fn answer(registry: &mut PlainRegistry, by: u16, call: Call) -> Result<Reply, CellError>
     requires { IsInRange call → MayCall registry.old by call }
-    ensures { MatchResult result (λ reply. IsMade registry.old registry.new by call reply) (λ e. IsRefused registry.old registry.new by call e) }
+    ensures { MatchResult result (λ reply. IsMade registry.old registry.new by call reply)
+        (λ e. IsRefused registry.old registry.new by call e) }
 {
     match call {
         Call::Start => Ok(Reply::Number(registry.start(by)?)),
@@ -198,7 +211,8 @@ fn answer(registry: &mut PlainRegistry, by: u16, call: Call) -> Result<Reply, Ce
 // The registry's answer to the end of a fiber.
 fn finish(registry: &mut PlainRegistry, by: u16, outcome: Outcome) -> Result<Reply, CellError>
     requires { OutcomeFits outcome → MayCall registry.old by (Call.Finish outcome) }
-    ensures { MatchResult result (λ reply. IsMade registry.old registry.new by (Call.Finish outcome) reply) (λ e. IsRefused registry.old registry.new by (Call.Finish outcome) e) }
+    ensures { MatchResult result (λ reply. IsMade registry.old registry.new by (Call.Finish outcome) reply)
+        (λ e. IsRefused registry.old registry.new by (Call.Finish outcome) e) }
 {
     match outcome {
         Outcome::Succeeded(value) => registry.finish(by, Outcome::Succeeded(value))?,

@@ -1,6 +1,7 @@
 //! Whole texts, read from a device and written to one.
 
-ghost use Rattle.std.specs.Prelude.{◌≡◌, ◌≢◌, ◌||◌, ◌+◌, ◌-◌, ◌<◌, ◌≤◌, ◌^◌, ℕ, false, IfOk, IsErrOf, length, take, drop, vec_len};
+ghost use Rattle.std.specs.Prelude.{◌≡◌, ◌≢◌, ◌||◌, ◌+◌, ◌-◌, ◌<◌, ◌≤◌, ◌^◌, ℕ, false, IfOk, IsErrOf, length, take};
+ghost use Rattle.std.specs.Prelude.{drop, vec_len};
 ghost use Rattle.std.specs.Io.KnownBytes.{ReadConsumes};
 ghost use Rattle.outcome_trace.specs.Device.{found_end, read_failed};
 ghost use Rattle.outcome_trace.specs.Devices.{reader};
@@ -25,14 +26,18 @@ pub fn read_text<T: TextIn>(alloc: Global, input: &mut T) -> Result<Vec<u8>, Tex
     requires countable { T.reads input.old < 2 ^ 63 }
 
     // It gives what it took from the input, which is all of it, or `TEXT_BOUND` bytes.
-    ensures read { let before = reader (T.remaining input.old) (T.has_failed input.old) (T.has_ended input.old) (T.reads input.old) in
-        let after = reader (T.remaining input.new) (T.has_failed input.new) (T.has_ended input.new) (T.reads input.new) in
+    ensures read { let before = reader (T.remaining input.old) (T.has_failed input.old) (T.has_ended input.old)
+        (T.reads input.old) in
+        let after = reader (T.remaining input.new) (T.has_failed input.new) (T.has_ended input.new)
+        (T.reads input.new) in
         IfOk result (λ text. IsRead before after text.items) }
 
     // The fault is told exactly where the reader failed.
     ensures failed { T.has_failed input.new ≡ is_read_fault result }
-    ensures turns { let before = reader (T.remaining input.old) (T.has_failed input.old) (T.has_ended input.old) (T.reads input.old) in
-        let after = reader (T.remaining input.new) (T.has_failed input.new) (T.has_ended input.new) (T.reads input.new) in
+    ensures turns { let before = reader (T.remaining input.old) (T.has_failed input.old) (T.has_ended input.old)
+        (T.reads input.old) in
+        let after = reader (T.remaining input.new) (T.has_failed input.new) (T.has_ended input.new)
+        (T.reads input.new) in
         IsErrOf result TextFault.TurnBound → IsOutOfReads before after }
     ensures memory { IsErrOf result TextFault.NoMemory → input.new ≡ input.old }
     ensures nothing_written { (written : ℕ) → result ≢ Err (TextFault.WriteFault written) }

@@ -43,8 +43,10 @@ pub fn answer_text<A: TextOrder, I: TextIn, O: TextOut>(
     requires input { I.has_failed input.old ≡ false }
     requires countable { I.reads input.old < 2 ^ 63 }
     requires out { O.has_failed out.old ≡ false }
-    ensures { let before = reader (I.remaining input.old) (I.has_failed input.old) (I.has_ended input.old) (I.reads input.old) in
-        let after = reader (I.remaining input.new) (I.has_failed input.new) (I.has_ended input.new) (I.reads input.new) in
+    ensures { let before = reader (I.remaining input.old) (I.has_failed input.old) (I.has_ended input.old)
+        (I.reads input.old) in
+        let after = reader (I.remaining input.new) (I.has_failed input.new) (I.has_ended input.new)
+        (I.reads input.new) in
         let old = writer (O.contents out.old) (O.has_failed out.old) in
         let new = writer (O.contents out.new) (O.has_failed out.new) in
         IsAnswered (A.answers order.now) before after old new result }

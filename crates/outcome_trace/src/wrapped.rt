@@ -6,7 +6,8 @@ ghost use Rattle.std.specs.IoError.{error_kind};
 ghost use Rattle.std.specs.Io.KnownBytes.{ReadConsumes, WriteAppends};
 ghost use Rattle.std.specs.declared.io.Error.{Error};
 ghost use Rattle.outcome_trace.specs.Device.{found_end, read_failed, write_failed};
-ghost use Rattle.outcome_trace.specs.Wrapped.{IsToldRead, IsToldWrite, has_found_end, read_has_failed, reader_of, reads_of, write_has_failed, writer_of};
+ghost use Rattle.outcome_trace.specs.Wrapped.{IsToldRead, IsToldWrite, has_found_end, read_has_failed, reader_of};
+ghost use Rattle.outcome_trace.specs.Wrapped.{reads_of, write_has_failed, writer_of};
 
 use crate::device::{ReadError, TextIn, TextOut, WriteFailed};
 use std::io;
@@ -119,7 +120,8 @@ impl<R: Source> TextIn for FromRead<R> {
         requires healthy { read_has_failed self.old ≡ false }
         requires countable { reads_of self.old < 2 ^ 64 - 1 }
         ensures bound { ReadsAtMost result buffer.new }
-        ensures bytes { ReadConsumes (R.remaining (reader_of self.old)) (R.remaining (reader_of self.new)) result buffer.new }
+        ensures bytes { ReadConsumes (R.remaining (reader_of self.old)) (R.remaining (reader_of self.new)) result
+            buffer.new }
         ensures failed { read_has_failed self.new ≡ read_failed result }
         ensures ended { has_found_end self.new ≡ (has_found_end self.old || found_end result buffer.new) }
         ensures counted { reads_of self.new ≡ reads_of self.old + 1 }
@@ -172,7 +174,8 @@ impl<W: Sink> TextOut for ToWrite<W> {
     fn write_some(&mut self, bytes: &[u8]) -> Result<usize, WriteFailed>
         requires { write_has_failed self.old ≡ false }
         ensures bound { WritesAtMost result bytes.now }
-        ensures bytes { WriteAppends (W.contents (writer_of self.old)) (W.contents (writer_of self.new)) result bytes.now }
+        ensures bytes { WriteAppends (W.contents (writer_of self.old)) (W.contents (writer_of self.new)) result
+            bytes.now }
         ensures failed { write_has_failed self.new ≡ write_failed result bytes.now }
         ensures told { IsToldWrite (W.answers (writer_of self.old) (writer_of self.new)) bytes.now result }
     {

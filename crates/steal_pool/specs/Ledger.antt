@@ -22,7 +22,8 @@ through p (e ∷ es) = if e.0 == p then e.1 ∷ through p es else through p es
 abbrev pub KnowsOwn : List (ℕ × ℕ) → List (ℕ × ℕ) → ℕ → Traffic → Type 0
 KnowsOwn into out p v = (v.pushed ≡ through p into) × (v.taken ≡ through p out)
 
--- a ledger of all that went in and out: the numbers pushed are, in order, those taken and then those left. Each end knows its own part, and nothing went through an end that isn't there
+-- a ledger of all that went in and out: the numbers pushed are, in order, those taken and then those left. Each end
+-- knows its own part, and nothing went through an end that isn't there
 abbrev pub KeepsLedger : List ℕ → List Traffic → Type 0
 KeepsLedger items ends =
     (into : List (ℕ × ℕ)) × (out : List (ℕ × ℕ))

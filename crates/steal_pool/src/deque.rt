@@ -51,7 +51,8 @@ impl ReadyDeque {
     /// Takes the first number. Answers `None` only where the queue was empty at a moment of the
     /// call.
     pub fn take(&mut self) -> Option<u16>
-        ensures { MatchOption result ((self.new ≡ self.old) × WasEmpty self.old) (λ n. TookFirst self.old (n ∷ []) self.new) }
+        ensures { MatchOption result ((self.new ≡ self.old) × WasEmpty self.old)
+            (λ n. TookFirst self.old (n ∷ []) self.new) }
     {
         self.deque.pop_as::<Takes>()
     }

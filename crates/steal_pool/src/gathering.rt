@@ -31,7 +31,8 @@ pub fn gather<'a>(
     requires { All (IsTaskOf registry.now code.now) tasks.items }
     ensures schedule { IfOk result (λ report. IsOfSomeSchedule code.now registry.now.limits report) }
     ensures lawful { IfOk result (λ report. All IsLawful report.fibers) }
-    ensures lost { IfErr result (λ error. (error ≡ RunError.NoMemory) ⊎ ((f : ℕ) × (error ≡ RunError.Lost f) × IsMissing registry.now.limits tasks.entry.items f)) }
+    ensures lost { IfErr result (λ error. (error ≡ RunError.NoMemory) ⊎
+        ((f : ℕ) × (error ≡ RunError.Lost f) × IsMissing registry.now.limits tasks.entry.items f)) }
     ensures empty { tasks.entry.items ≡ [] → result ≡ Fails (RunError.Lost 0) }
 {
     let (mut met, configs) = meet(alloc, registry, tasks)?;
@@ -49,10 +50,12 @@ fn meet<'a>(
     tasks: Vec<FiberTask<'a>>,
 ) -> Result<(Pass, Vec<Config>), RunError>
     requires { All (IsAtHome registry.now) tasks.items }
-    ensures gathered { IfOk result (λ it. (code : Tree) → All (IsTaskOf registry.now code) tasks.entry.items → Gathered registry.now code it.0 it.1.items) }
+    ensures gathered { IfOk result (λ it. (code : Tree) → All (IsTaskOf registry.now code) tasks.entry.items →
+        Gathered registry.now code it.0 it.1.items) }
     ensures home { IfOk result (λ it. IsOf registry.now it.0) }
     ensures taken { IfOk result (λ it. Taken tasks.entry.items [] it.0 it.1.items) }
-    ensures lost { IfErr result (λ error. (error ≡ RunError.NoMemory) ⊎ ((error ≡ RunError.Lost 0) × (tasks.entry.items ≡ []))) }
+    ensures lost { IfErr result (λ error. (error ≡ RunError.NoMemory) ⊎
+        ((error ≡ RunError.Lost 0) × (tasks.entry.items ≡ []))) }
     ensures empty { tasks.entry.items ≡ [] → result ≡ Fails (RunError.Lost 0) }
 {
     let mut tasks = tasks;
@@ -88,7 +91,8 @@ fn push(configs: &mut Vec<Config>, config: Config) -> Result<(), RunError>
 fn lines(alloc: Global, configs: &[Config], born: u16) -> Result<Vec<FiberReport>, RunError>
     ensures lines { IfOk result (λ it. AreLines configs.now born it.items) }
     ensures lawful { IfOk result (λ it. All IsLawful it.items) }
-    ensures lost { IfErr result (λ error. (error ≡ RunError.NoMemory) ⊎ ((f : ℕ) × (error ≡ RunError.Lost f) × IsLeast configs.now born f)) }
+    ensures lost { IfErr result (λ error. (error ≡ RunError.NoMemory) ⊎
+        ((f : ℕ) × (error ≡ RunError.Lost f) × IsLeast configs.now born f)) }
 {
     let mut lines = Vec::new(alloc);
     for number in 0..born {

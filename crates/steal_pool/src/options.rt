@@ -25,7 +25,15 @@ pub struct Options {
 impl Options {
     /// The options by default.
     pub fn new() -> Options
-        ensures { result ≡ record { workers = 4; fibers = 1000; refs = 1000; deferreds = 1000; count = 262143; budget = 64; moves = 100000 } }
+        ensures { result ≡ record {
+          workers = 4;
+          fibers = 1000;
+          refs = 1000;
+          deferreds = 1000;
+          count = 262143;
+          budget = 64;
+          moves = 100000;
+        } }
     {
         Options {
             workers: 4,

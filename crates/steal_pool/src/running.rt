@@ -48,7 +48,8 @@ pub fn run<R: Threads + Wait + Sync, G: Gate>(
 ) -> Result<Report, RunError>
     requires limits { AreLimits (limits_of options) }
     requires budget { 1 < options.budget }
-    ensures schedule { IfOk result (λ report. IsOfSomeSchedule (code_of (source_of program)) (limits_of options) report) }
+    ensures schedule { IfOk result (λ report. IsOfSomeSchedule (code_of (source_of program)) (limits_of options)
+        report) }
     ensures lawful { IfOk result (λ report. All IsLawful report.fibers) }
     ensures full { IfErr result (IsFaultWithin (limits_of options)) }
 {
@@ -68,7 +69,8 @@ fn attempt<R: Threads + Wait + Sync, G: Gate>(
 ) -> Result<Report, RunError>
     requires limits { AreLimits (limits_of options) }
     requires budget { 1 < options.budget }
-    ensures schedule { IfOk result (λ report. IsOfSomeSchedule (code_of (source_of program.now)) (limits_of options) report) }
+    ensures schedule { IfOk result (λ report. IsOfSomeSchedule (code_of (source_of program.now)) (limits_of options)
+        report) }
     ensures lawful { IfOk result (λ report. All IsLawful report.fibers) }
 {
     let Options {

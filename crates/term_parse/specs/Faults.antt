@@ -1,4 +1,5 @@
--- The first fault of a text from left to right, apart from any reading: some tokens fit, and what comes there is a fault.
+-- The first fault of a text from left to right, apart from any reading: some tokens fit, and what comes there is a
+-- fault.
 use Rattle.std.specs.Prelude.{◌≡◌, ℕ, List, [], ◌∷◌, ◌++◌, Ok, Err, Bool, true, false, nat_lt, length}
 use Rattle.term_parse.specs.declared.error.ParseError.{ParseError}
 use Rattle.term_parse.specs.declared.error.ParseError.TheVariants as errors
@@ -9,7 +10,8 @@ use Rattle.term_parse.specs.Reading.{Want, term, Step, want_step, open_of}
 abbrev pub Fit : List Want → List Placed → List Want → Type 0
 Fit ws [] after = ws ≡ after
 Fit [] (t ∷ ts) after = ⊥
-Fit (w ∷ ws) (t ∷ ts) after = (s : Step) × (want_step (open_of (w ∷ ws)) w t.lexeme t.place ≡ Ok s) × Fit (s.wants ++ ws) ts after
+Fit (w ∷ ws) (t ∷ ts) after =
+    (s : Step) × (want_step (open_of (w ∷ ws)) w t.lexeme t.place ≡ Ok s) × Fit (s.wants ++ ws) ts after
 
 -- where these are wanted, what comes there is this fault
 abbrev pub Breaks : ℕ → List Want → List Placed → ParseError → Type 0

@@ -104,25 +104,32 @@ Shaped words.Both s = s ≡ a_term ∷ a_term ∷ a_term ∷ []
 
 -- a word with a term in it
 abbrev pub NotPlain : Word → Type 0
-NotPlain w = (w ≡ words.Pure → ⊥) × (w ≡ words.Raise → ⊥) × (w ≡ words.Add → ⊥) × (w ≡ words.Say → ⊥) × (w ≡ words.Cede → ⊥) × (w ≡ words.Never → ⊥) × (w ≡ words.Canceled → ⊥) × (w ≡ words.Cancel → ⊥) × (w ≡ words.Get → ⊥) × (w ≡ words.Set → ⊥) × (w ≡ words.Modify → ⊥) × (w ≡ words.Complete → ⊥) × (w ≡ words.Await → ⊥)
+NotPlain w = (w ≡ words.Pure → ⊥) × (w ≡ words.Raise → ⊥) × (w ≡ words.Add → ⊥) × (w ≡ words.Say → ⊥) ×
+    (w ≡ words.Cede → ⊥) × (w ≡ words.Never → ⊥) × (w ≡ words.Canceled → ⊥) × (w ≡ words.Cancel → ⊥) ×
+    (w ≡ words.Get → ⊥) × (w ≡ words.Set → ⊥) × (w ≡ words.Modify → ⊥) × (w ≡ words.Complete → ⊥) ×
+    (w ≡ words.Await → ⊥)
 
 -- none of the words with one term in it
 abbrev pub NotOne : Word → Type 0
-NotOne w = (w ≡ words.Uncancelable → ⊥) × (w ≡ words.Poll → ⊥) × (w ≡ words.Ref → ⊥) × (w ≡ words.Deferred → ⊥) × (w ≡ words.Repeat → ⊥) × (w ≡ words.Forever → ⊥)
+NotOne w = (w ≡ words.Uncancelable → ⊥) × (w ≡ words.Poll → ⊥) × (w ≡ words.Ref → ⊥) × (w ≡ words.Deferred → ⊥) ×
+    (w ≡ words.Repeat → ⊥) × (w ≡ words.Forever → ⊥)
 
 -- none of the words with two terms in it
 abbrev pub NotTwo : Word → Type 0
-NotTwo w = (w ≡ words.Let → ⊥) × (w ≡ words.Handle → ⊥) × (w ≡ words.If0 → ⊥) × (w ≡ words.OnCancel → ⊥) × (w ≡ words.Start → ⊥) × (w ≡ words.Guarantee → ⊥) × (w ≡ words.Race → ⊥)
+NotTwo w = (w ≡ words.Let → ⊥) × (w ≡ words.Handle → ⊥) × (w ≡ words.If0 → ⊥) × (w ≡ words.OnCancel → ⊥) ×
+    (w ≡ words.Start → ⊥) × (w ≡ words.Guarantee → ⊥) × (w ≡ words.Race → ⊥)
 
 -- what the parts that are left give completes the form, and its binders stand within the text
 pub record Sound (text : List ℕ) (f : Form) : Type 0 where
-  pub shape : (more : List Sort) → Completes (drop f.next (parts_of f.word)) more → Shaped f.word (sorts f.pieces.items ++ more)
+  pub shape : (more : List Sort) → Completes (drop f.next (parts_of f.word)) more →
+      Shaped f.word (sorts f.pieces.items ++ more)
   pub scope : InText text f.scope.items
   pub bound : InText text f.bound.items
 
 -- the same, once a term has been added
 pub record Awaits (text : List ℕ) (f : Form) : Type 0 where
-  pub shape : (more : List Sort) → Completes (drop f.next (parts_of f.word)) more → Shaped f.word (sorts f.pieces.items ++ (a_term ∷ more))
+  pub shape : (more : List Sort) → Completes (drop f.next (parts_of f.word)) more →
+      Shaped f.word (sorts f.pieces.items ++ (a_term ∷ more))
   pub scope : InText text f.scope.items
   pub bound : InText text f.bound.items
 
@@ -165,17 +172,21 @@ pub record Adds (f : Form) (p : Piece) (next : ℕ) (g : Form) : Type 0 where
 
 -- whatever is wanted around this form, with so many brackets open, the reading from here on fails so
 abbrev pub FailsAt : List ℕ → ℕ → ℕ → Form → ParseError → Type 0
-FailsAt text at depth f e = (todo : List Want) → suc (open_of todo) ≡ depth → Fails e (reads_at text at (want_of text f ∷ todo))
+FailsAt text at depth f e =
+    (todo : List Want) → suc (open_of todo) ≡ depth → Fails e (reads_at text at (want_of text f ∷ todo))
 
 -- a part of the form was read
 pub record Reads (text : List ℕ) (at : ℕ) (f g : Form) (next : ℕ) : Type 0 where
-  pub goes_on : (todo : List Want) → with_front (front_of f) (reads_at text at (want_of text f ∷ todo)) ≡ with_front (front_of g) (reads_at text next (want_of text g ∷ todo))
+  pub goes_on : (todo : List Want) → with_front (front_of f) (reads_at text at (want_of text f ∷ todo)) ≡ with_front
+      (front_of g) (reads_at text next (want_of text g ∷ todo))
   pub sound : Sound text f → Sound text g
   pub same_scope : length g.scope.items ≡ length f.scope.items
 
 -- a form inside this one was opened
 pub record Opens (text : List ℕ) (at depth : ℕ) (f outer inner : Form) (next : ℕ) : Type 0 where
-  pub goes_on : (todo : List Want) → suc (open_of todo) ≡ depth → with_front (front_of f) (reads_at text at (want_of text f ∷ todo)) ≡ with_front (front_of outer ++ front_of inner) (reads_at text next (want_of text inner ∷ want_of text outer ∷ todo))
+  pub goes_on : (todo : List Want) → suc (open_of todo) ≡ depth →
+      with_front (front_of f) (reads_at text at (want_of text f ∷ todo)) ≡ with_front (front_of outer ++
+      front_of inner) (reads_at text next (want_of text inner ∷ want_of text outer ∷ todo))
   pub awaits : Sound text f → Awaits text outer
   pub sound : Sound text f → Sound text inner
   pub same_scope : length outer.scope.items ≡ length f.scope.items
@@ -183,13 +194,15 @@ pub record Opens (text : List ℕ) (at depth : ℕ) (f outer inner : Form) (next
 
 -- the form was closed
 pub record Closes (text : List ℕ) (at : ℕ) (f : Form) (next : ℕ) : Type 0 where
-  pub goes_on : (todo : List Want) → reads_at text at (want_of text f ∷ todo) ≡ with_front (ended ∷ []) (reads_at text next todo)
+  pub goes_on : (todo : List Want) → reads_at text at (want_of text f ∷ todo) ≡ with_front (ended ∷ [])
+      (reads_at text next todo)
   pub shaped : Sound text f → Shaped f.word (sorts f.pieces.items)
 
 -- what a token did to this form, which became g, and under which so many brackets are open
 abbrev pub Stepped : List ℕ → ℕ → ℕ → Form → Form → Step → Type 0
 Stepped text at depth f g (steps.Read next) = Reads text at f g next × (at < next) × (next ≤ length text)
-Stepped text at depth f g (steps.Opened inner next) = Opens text at depth f g inner next × (at + 2 ≤ next) × (next ≤ length text)
+Stepped text at depth f g (steps.Opened inner next) =
+    Opens text at depth f g inner next × (at + 2 ≤ next) × (next ≤ length text)
 Stepped text at depth f g (steps.Closed next) = Closes text at f next × (g ≡ f) × (at < next) × (next ≤ length text)
 
 -- what is wanted of the forms around, the innermost first, which stand with the outermost first
@@ -210,10 +223,12 @@ abbrev pub ScopesWithin : ℕ → List Form → Type 0
 ScopesWithin n [] = Unit {0}
 ScopesWithin n (f ∷ fs) = (length f.scope.items ≤ n) × ScopesWithin n fs
 
--- these forms are open, the first inside the others, and what was read of them and is left of the text is the whole text
+-- these forms are open, the first inside the others, and what was read of them and is left of the text is the whole
+-- text
 pub record IsStack (text : List ℕ) (at : ℕ) (f : Form) (fs : List Form) : Type 0 where
   pub within : at ≤ length text
-  pub left : with_front (fronts fs ++ front_of f) (reads_at text at (want_of text f ∷ todo_onto text [] fs)) ≡ reads_at text 0 (term [] ∷ [])
+  pub left : with_front (fronts fs ++ front_of f) (reads_at text at (want_of text f ∷ todo_onto text [] fs)) ≡
+      reads_at text 0 (term [] ∷ [])
   pub sound : Sound text f
   pub awaits : AllAwait text fs
   pub few : length f.scope.items ≤ at

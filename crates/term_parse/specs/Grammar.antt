@@ -23,7 +23,10 @@ abbrev pub tokens_of : Phrase → List Placed
 tokens_of (done a) = record { lexeme = closes; place = a } ∷ []
 tokens_of (spelled a x p) = record { lexeme = called x; place = a } ∷ tokens_of p
 tokens_of (counted a n p) = record { lexeme = number n; place = a } ∷ tokens_of p
-tokens_of (form a c w q p) = record { lexeme = opens; place = a } ∷ record { lexeme = called (word_spelling w); place = c } ∷ (tokens_of q ++ tokens_of p)
+tokens_of (form a c w q p) = record { lexeme = opens; place = a } ∷ record {
+  lexeme = called (word_spelling w);
+  place = c;
+} ∷ (tokens_of q ++ tokens_of p)
 
 -- how many brackets are open inside at most, beside those around
 abbrev pub depth_of : Phrase → ℕ
@@ -38,13 +41,19 @@ abbrev pub Means : List Bound → List Bound → List Part → Phrase → List A
 Means s b (Close ∷ ps) (done a) xs = xs ≡ ended ∷ []
 Means s b (More ∷ ps) (done a) xs = xs ≡ ended ∷ []
 Means s b (Bind k ∷ ps) (spelled a x p) xs = Means s (b ++ record { spelling = x; kind = k } ∷ []) ps p xs
-Means s b (Use k ∷ ps) (spelled a x p) xs = (n : Name) × (rest : List Atom) × IsInnermost s x n × (n.kind ≡ k) × (xs ≡ name n ∷ rest) × Means s b ps p rest
-Means s b (Value ∷ ps) (spelled a x p) xs = (n : Name) × (rest : List Atom) × IsInnermost s x n × (n.kind ≡ kinds.Value) × (xs ≡ value (Named n) ∷ rest) × Means s b ps p rest
+Means s b (Use k ∷ ps) (spelled a x p) xs =
+    (n : Name) × (rest : List Atom) × IsInnermost s x n × (n.kind ≡ k) × (xs ≡ name n ∷ rest) × Means s b ps p rest
+Means s b (Value ∷ ps) (spelled a x p) xs = (n : Name) × (rest : List Atom) × IsInnermost s x n ×
+    (n.kind ≡ kinds.Value) × (xs ≡ value (Named n) ∷ rest) × Means s b ps p rest
 Means s b (Value ∷ ps) (counted a n p) xs = (rest : List Atom) × (xs ≡ value (Number n) ∷ rest) × Means s b ps p rest
-Means s b (Term ∷ ps) (form a c w q p) xs = (first : List Atom) × (rest : List Atom) × (xs ≡ word w ∷ (first ++ rest)) × Means (entered s b Term) [] (parts_of w) q first × Means s b ps p rest
-Means s b (Under i ∷ ps) (form a c w q p) xs = (first : List Atom) × (rest : List Atom) × (xs ≡ word w ∷ (first ++ rest)) × Means (entered s b (Under i)) [] (parts_of w) q first × Means s b ps p rest
-Means s b (UnderBoth i j ∷ ps) (form a c w q p) xs = (first : List Atom) × (rest : List Atom) × (xs ≡ word w ∷ (first ++ rest)) × Means (entered s b (UnderBoth i j)) [] (parts_of w) q first × Means s b ps p rest
-Means s b (More ∷ ps) (form a c w q p) xs = (first : List Atom) × (rest : List Atom) × (xs ≡ word w ∷ (first ++ rest)) × Means (entered s b More) [] (parts_of w) q first × Means s b (More ∷ ps) p rest
+Means s b (Term ∷ ps) (form a c w q p) xs = (first : List Atom) × (rest : List Atom) ×
+    (xs ≡ word w ∷ (first ++ rest)) × Means (entered s b Term) [] (parts_of w) q first × Means s b ps p rest
+Means s b (Under i ∷ ps) (form a c w q p) xs = (first : List Atom) × (rest : List Atom) ×
+    (xs ≡ word w ∷ (first ++ rest)) × Means (entered s b (Under i)) [] (parts_of w) q first × Means s b ps p rest
+Means s b (UnderBoth i j ∷ ps) (form a c w q p) xs = (first : List Atom) × (rest : List Atom) ×
+    (xs ≡ word w ∷ (first ++ rest)) × Means (entered s b (UnderBoth i j)) [] (parts_of w) q first × Means s b ps p rest
+Means s b (More ∷ ps) (form a c w q p) xs = (first : List Atom) × (rest : List Atom) ×
+    (xs ≡ word w ∷ (first ++ rest)) × Means (entered s b More) [] (parts_of w) q first × Means s b (More ∷ ps) p rest
 Means s b ps p xs = ⊥
 
 -- the text is one closed term with space around its tokens, within the limits, and means these atoms
@@ -56,6 +65,9 @@ pub record Spells (text : List ℕ) (atoms : List Atom) : Type 0 where
   pub inner : List Atom
   pub short : length text ≤ 65536
   pub shallow : suc (depth_of rest) ≤ 100
-  pub tokens : lexemes_at 0 text ≡ record { lexeme = opens; place = opening_place } ∷ record { lexeme = called (word_spelling first); place = word_place } ∷ tokens_of rest
+  pub tokens : lexemes_at 0 text ≡ record {
+    lexeme = opens;
+    place = opening_place;
+  } ∷ record { lexeme = called (word_spelling first); place = word_place } ∷ tokens_of rest
   pub means : Means [] [] (parts_of first) rest inner
   pub atoms_are : atoms ≡ word first ∷ inner

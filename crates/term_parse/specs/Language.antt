@@ -52,7 +52,8 @@ word_spelling words.Race = codes "race"
 word_spelling words.Both = codes "both"
 
 -- What stands in each form behind its word, in the order of writing. A form's binders are counted from 0 in that order;
--- `Under i` is a term that sees binder i, `UnderBoth i j` one that sees i and, inside it, j, and `Term` sees none of them.
+-- `Under i` is a term that sees binder i, `UnderBoth i j` one that sees i and, inside it, j, and `Term` sees none
+-- of them.
 unfoldable pub parts_of : Word → List Part
 -- (pure v)
 parts_of words.Pure = Value ∷ Close ∷ []
@@ -111,9 +112,11 @@ parts_of words.Guarantee = Term ∷ Term ∷ Close ∷ []
 -- (bracket x acq body rel)
 parts_of words.Bracket = Bind kinds.Value ∷ Term ∷ Under 0 ∷ Under 0 ∷ Close ∷ []
 -- (bracketcase x acq body y rs z re rc)
-parts_of words.BracketCase = Bind kinds.Value ∷ Term ∷ Under 0 ∷ Bind kinds.Value ∷ UnderBoth 0 1 ∷ Bind kinds.Value ∷ UnderBoth 0 2 ∷ Under 0 ∷ Close ∷ []
+parts_of words.BracketCase = Bind kinds.Value ∷ Term ∷ Under 0 ∷ Bind kinds.Value ∷ UnderBoth 0 1 ∷ Bind kinds.Value ∷
+    UnderBoth 0 2 ∷ Under 0 ∷ Close ∷ []
 -- (bracketfull p x acq body y rs z re rc)
-parts_of words.BracketFull = Bind kinds.Poll ∷ Bind kinds.Value ∷ Under 0 ∷ Under 1 ∷ Bind kinds.Value ∷ UnderBoth 1 2 ∷ Bind kinds.Value ∷ UnderBoth 1 3 ∷ Under 1 ∷ Close ∷ []
+parts_of words.BracketFull = Bind kinds.Poll ∷ Bind kinds.Value ∷ Under 0 ∷ Under 1 ∷ Bind kinds.Value ∷
+    UnderBoth 1 2 ∷ Bind kinds.Value ∷ UnderBoth 1 3 ∷ Under 1 ∷ Close ∷ []
 -- (race a b)
 parts_of words.Race = Term ∷ Term ∷ Close ∷ []
 -- (both a b x y k)

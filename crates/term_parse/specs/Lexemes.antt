@@ -1,8 +1,10 @@
 -- The tokens of a text, each with its place.
-use Rattle.std.specs.Prelude.{◌==◌, ◌&&◌, ◌||◌, ℕ, suc, ℤ, pos, Bool, true, false, nat_lt, nat_le, List, [], ◌∷◌, length, drop, Option, Some, None, if◌then◌else◌, neg_ℤ}
+use Rattle.std.specs.Prelude.{◌==◌, ◌&&◌, ◌||◌, ℕ, suc, ℤ, pos, Bool, true, false, nat_lt, nat_le, List, [], ◌∷◌}
+use Rattle.std.specs.Prelude.{length, drop, Option, Some, None, if◌then◌else◌, neg_ℤ}
 use Rattle.std.specs.Str.Parse.{digits_value}
 
--- a token: a bracket, an identifier, a number, a run that begins as a number and isn't one, or a byte with which no token begins
+-- a token: a bracket, an identifier, a number, a run that begins as a number and isn't one, or a byte with which no
+-- token begins
 pub data Lexeme : Type 0 where
   opens : Lexeme
   closes : Lexeme
@@ -49,7 +51,8 @@ number_of [] = None
 number_of (b ∷ bs) =
     if (b == 48) && (length bs == 0) then Some (pos 0)
     else if is_plain (b ∷ bs) && nat_lt (digits_value 10 (b ∷ bs)) 2147483648 then Some (pos (digits_value 10 (b ∷ bs)))
-    else if (b == 45) && is_plain bs && nat_le (digits_value 10 bs) 2147483648 then Some (neg_ℤ (pos (digits_value 10 bs)))
+    else if (b == 45) && is_plain bs && nat_le (digits_value 10 bs) 2147483648 then
+    Some (neg_ℤ (pos (digits_value 10 bs)))
     else None
 
 unfoldable pub numbered : Option ℤ → Lexeme
@@ -65,7 +68,8 @@ lexeme_of b bs =
     else if is_digit b || (b == 45) then numbered (number_of (b ∷ run_of bs))
     else bad_byte
 
--- the tokens of these bytes, of which the first has this place; inside a run, the rest of the run belongs to the token before
+-- the tokens of these bytes, of which the first has this place; inside a run, the rest of the run belongs to the
+-- token before
 unfoldable pub lexemes : Bool → ℕ → List ℕ → List Placed
 lexemes inside at [] = []
 lexemes inside at (b ∷ bs) =

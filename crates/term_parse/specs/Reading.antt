@@ -1,5 +1,6 @@
 -- What the forms want, token by token, and the first fault of a text.
-use Rattle.std.specs.Prelude.{◌≡◌, ℕ, suc, Bool, true, false, nat_lt, List, [], ◌∷◌, ◌++◌, length, Option, Some, None, Result, Ok, Err, if◌then◌else◌, slice_get}
+use Rattle.std.specs.Prelude.{◌≡◌, ℕ, suc, Bool, true, false, nat_lt, List, [], ◌∷◌, ◌++◌, length, Option, Some, None}
+use Rattle.std.specs.Prelude.{Result, Ok, Err, if◌then◌else◌, slice_get}
 use Rattle.std.specs.Str.{bytes_eq}
 use Rattle.effect_term.specs.declared.term.Kind.{Kind}
 use Rattle.effect_term.specs.declared.term.Kind.TheVariants as kinds
@@ -76,13 +77,15 @@ begun None scope at = Err (errors.UnknownWord at)
 
 -- a good token where a part of a form is wanted; a token of another kind is a fault of the form
 unfoldable pub part_step : ℕ → List Bound → List Bound → Part → List Part → Lexeme → ℕ → Result Step ParseError
-part_step depth s b (Bind k) ps (called x) at = Ok (record { atoms = []; wants = parts s (b ++ record { spelling = x; kind = k } ∷ []) ps ∷ [] })
+part_step depth s b (Bind k) ps (called x) at =
+    Ok (record { atoms = []; wants = parts s (b ++ record { spelling = x; kind = k } ∷ []) ps ∷ [] })
 part_step depth s b (Use k) ps (called x) at = used (meaning s k x at) (λ n. name n) (parts s b ps)
 part_step depth s b Value ps (called x) at = used (meaning s kinds.Value x at) (λ n. value (Named n)) (parts s b ps)
 part_step depth s b Value ps (number n) at = Ok (record { atoms = value (Number n) ∷ []; wants = parts s b ps ∷ [] })
 part_step depth s b Term ps opens at = opening depth at (a_word (entered s b Term) ∷ parts s b ps ∷ [])
 part_step depth s b (Under i) ps opens at = opening depth at (a_word (entered s b (Under i)) ∷ parts s b ps ∷ [])
-part_step depth s b (UnderBoth i j) ps opens at = opening depth at (a_word (entered s b (UnderBoth i j)) ∷ parts s b ps ∷ [])
+part_step depth s b (UnderBoth i j) ps opens at =
+    opening depth at (a_word (entered s b (UnderBoth i j)) ∷ parts s b ps ∷ [])
 part_step depth s b More ps opens at = opening depth at (a_word (entered s b More) ∷ parts s b (More ∷ ps) ∷ [])
 part_step depth s b More ps closes at = Ok (record { atoms = ended ∷ []; wants = [] })
 part_step depth s b Close ps closes at = Ok (record { atoms = ended ∷ []; wants = [] })

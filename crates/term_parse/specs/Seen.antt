@@ -1,7 +1,9 @@
 -- What the parser's values stand for.
-use Rattle.std.specs.Prelude.{◌≡◌, ◌≤◌, ◌<◌, ◌==◌, ◌&&◌, ◌||◌, ℕ, List, ◌∷◌, length, slice_range, nat_le, Option, Some, None, if◌then◌else◌}
+use Rattle.std.specs.Prelude.{◌≡◌, ◌≤◌, ◌<◌, ◌==◌, ◌&&◌, ◌||◌, ℕ, List, ◌∷◌, length, slice_range, nat_le, Option}
+use Rattle.std.specs.Prelude.{Some, None, if◌then◌else◌}
 use Rattle.std.specs.Str.Parse.{digits_value}
-use Rattle.term_parse.specs.Lexemes.{Lexeme, opens, closes, called, number, bad_number, bad_byte, is_letter, is_digit, is_plain, number_of, numbered, lexemes_at}
+use Rattle.term_parse.specs.Lexemes.{Lexeme, opens, closes, called, number, bad_number, bad_byte, is_letter, is_digit}
+use Rattle.term_parse.specs.Lexemes.{is_plain, number_of, numbered, lexemes_at}
 use Rattle.term_parse.specs.declared.token.Token.{Token}
 use Rattle.term_parse.specs.declared.token.TokenKind.{TokenKind}
 use Rattle.term_parse.specs.declared.token.TokenKind.TheVariants as tokens

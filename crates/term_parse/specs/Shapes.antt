@@ -2,7 +2,11 @@
 use Rattle.effect_term.specs.declared.term.Operand.{Operand}
 use Rattle.effect_term.specs.declared.term.Name.{Name}
 use Rattle.effect_term.specs.declared.term.Term.{Term, Row_of-Term, end_of-Term, more_of-Term}
-use Rattle.effect_term.specs.declared.term.Term.TheVariants.{Pure, Raise, Let', Seq', Handle', If0', Add, Say, Cede, Never, Canceled, Uncancelable', Poll', OnCancel', Start', Join', Cancel, Ref', Get, Set, Modify, Deferred', Complete, Await, Repeat', Forever', Guarantee', Bracket', BracketCase', BracketFull', Race', Both'}
+use Rattle.effect_term.specs.declared.term.Term.TheVariants.{Pure, Raise, Let', Seq', Handle', If0', Add, Say, Cede}
+use Rattle.effect_term.specs.declared.term.Term.TheVariants.{Never, Canceled, Uncancelable', Poll', OnCancel', Start'}
+use Rattle.effect_term.specs.declared.term.Term.TheVariants.{Join', Cancel, Ref', Get, Set, Modify, Deferred'}
+use Rattle.effect_term.specs.declared.term.Term.TheVariants.{Complete, Await, Repeat', Forever', Guarantee', Bracket'}
+use Rattle.effect_term.specs.declared.term.Term.TheVariants.{BracketCase', BracketFull', Race', Both'}
 use Rattle.term_parse.specs.declared.table.Word.{Word}
 use Rattle.term_parse.specs.declared.table.Word.TheVariants as words
 
@@ -31,7 +35,8 @@ abbrev mutual
   term_then (Poll' n p e) rest = form_then words.Poll (name_then n (term_then e closed)) rest
   term_then (OnCancel' p e q fin) rest = form_then words.OnCancel (term_then e (term_then fin closed)) rest
   term_then (Start' p e q k) rest = form_then words.Start (term_then e (term_then k closed)) rest
-  term_then (Join' f p s q e r c) rest = form_then words.Join (name_then f (term_then s (term_then e (term_then c closed)))) rest
+  term_then (Join' f p s q e r c) rest =
+      form_then words.Join (name_then f (term_then s (term_then e (term_then c closed)))) rest
   term_then (Cancel f) rest = form_then words.Cancel (name_then f closed) rest
   term_then (Ref' v p k) rest = form_then words.Ref (value_then v (term_then k closed)) rest
   term_then (Get r) rest = form_then words.Get (name_then r closed) rest
@@ -43,9 +48,12 @@ abbrev mutual
   term_then (Repeat' v p e) rest = form_then words.Repeat (value_then v (term_then e closed)) rest
   term_then (Forever' p e) rest = form_then words.Forever (term_then e closed) rest
   term_then (Guarantee' p e q fin) rest = form_then words.Guarantee (term_then e (term_then fin closed)) rest
-  term_then (Bracket' p acq q body r rel) rest = form_then words.Bracket (term_then acq (term_then body (term_then rel closed))) rest
-  term_then (BracketCase' p acq q body r rs s re t rc) rest = form_then words.BracketCase (term_then acq (term_then body (term_then rs (term_then re (term_then rc closed))))) rest
-  term_then (BracketFull' p acq q body r rs s re t rc) rest = form_then words.BracketFull (term_then acq (term_then body (term_then rs (term_then re (term_then rc closed))))) rest
+  term_then (Bracket' p acq q body r rel) rest =
+      form_then words.Bracket (term_then acq (term_then body (term_then rel closed))) rest
+  term_then (BracketCase' p acq q body r rs s re t rc) rest = form_then words.BracketCase
+      (term_then acq (term_then body (term_then rs (term_then re (term_then rc closed))))) rest
+  term_then (BracketFull' p acq q body r rs s re t rc) rest = form_then words.BracketFull
+      (term_then acq (term_then body (term_then rs (term_then re (term_then rc closed))))) rest
   term_then (Race' p a q b) rest = form_then words.Race (term_then a (term_then b closed)) rest
   term_then (Both' p a q b r k) rest = form_then words.Both (term_then a (term_then b (term_then k closed))) rest
 

@@ -8,7 +8,11 @@ use Rattle.effect_term.specs.declared.term.Name.{Name}
 use Rattle.effect_term.specs.declared.term.Operand.{Operand}
 use Rattle.effect_term.specs.declared.term.Operand.TheVariants.{Number, Named}
 use Rattle.effect_term.specs.declared.term.Term.{Term, Row_of-Term, end_of-Term, more_of-Term}
-use Rattle.effect_term.specs.declared.term.Term.TheVariants.{Pure, Raise, Let', Seq', Handle', If0', Add, Say, Cede, Never, Canceled, Uncancelable', Poll', OnCancel', Start', Join', Cancel, Ref', Get, Set, Modify, Deferred', Complete, Await, Repeat', Forever', Guarantee', Bracket', BracketCase', BracketFull', Race', Both'}
+use Rattle.effect_term.specs.declared.term.Term.TheVariants.{Pure, Raise, Let', Seq', Handle', If0', Add, Say, Cede}
+use Rattle.effect_term.specs.declared.term.Term.TheVariants.{Never, Canceled, Uncancelable', Poll', OnCancel', Start'}
+use Rattle.effect_term.specs.declared.term.Term.TheVariants.{Join', Cancel, Ref', Get, Set, Modify, Deferred'}
+use Rattle.effect_term.specs.declared.term.Term.TheVariants.{Complete, Await, Repeat', Forever', Guarantee', Bracket'}
+use Rattle.effect_term.specs.declared.term.Term.TheVariants.{BracketCase', BracketFull', Race', Both'}
 use Rattle.term_parse.specs.declared.table.Part.{Part}
 use Rattle.term_parse.specs.declared.table.Part.TheVariants as parts
 use Rattle.term_parse.specs.declared.table.Word.{Word}
@@ -64,8 +68,10 @@ more_spelling around (f ∷ fs) = 32 ∷ (f around ++ more_spelling around fs)
 unfoldable pub parts_spelling : ℕ → ℕ → List Part → List Piece → List (ℕ → List ℕ) → List ℕ
 parts_spelling around bound (parts.Close ∷ ps) q more = 41 ∷ []
 parts_spelling around bound (parts.More ∷ ps) q more = more_spelling around more
-parts_spelling around bound (parts.Bind k ∷ ps) q more = 32 ∷ (name_spelling k (around + outer_binders bound ps) ++ parts_spelling around (bound + 1) ps q more)
-parts_spelling around bound (p ∷ ps) (x ∷ q) more = 32 ∷ (piece_spelling around p x ++ parts_spelling around bound ps q more)
+parts_spelling around bound (parts.Bind k ∷ ps) q more =
+    32 ∷ (name_spelling k (around + outer_binders bound ps) ++ parts_spelling around (bound + 1) ps q more)
+parts_spelling around bound (p ∷ ps) (x ∷ q) more =
+    32 ∷ (piece_spelling around p x ++ parts_spelling around bound ps q more)
 parts_spelling around bound ps q more = []
 
 -- a form from its opening bracket to its closing one
@@ -78,7 +84,8 @@ abbrev mutual
   spelling (Pure v) = form words.Pure (value v ∷ []) []
   spelling (Raise v) = form words.Raise (value v ∷ []) []
   spelling (Let' p e q k) = form words.Let (inner (spelling e) ∷ inner (spelling k) ∷ []) []
-  spelling (Seq' p a q b shape more) = form words.Seq (inner (spelling a) ∷ inner (spelling b) ∷ []) (row_spellings more)
+  spelling (Seq' p a q b shape more) =
+      form words.Seq (inner (spelling a) ∷ inner (spelling b) ∷ []) (row_spellings more)
   spelling (Handle' p e q h) = form words.Handle (inner (spelling e) ∷ inner (spelling h) ∷ []) []
   spelling (If0' v p s q e) = form words.If0 (value v ∷ inner (spelling s) ∷ inner (spelling e) ∷ []) []
   spelling (Add v w) = form words.Add (value v ∷ value w ∷ []) []
@@ -90,7 +97,8 @@ abbrev mutual
   spelling (Poll' n p e) = form words.Poll (name n ∷ inner (spelling e) ∷ []) []
   spelling (OnCancel' p e q fin) = form words.OnCancel (inner (spelling e) ∷ inner (spelling fin) ∷ []) []
   spelling (Start' p e q k) = form words.Start (inner (spelling e) ∷ inner (spelling k) ∷ []) []
-  spelling (Join' f p s q e r c) = form words.Join (name f ∷ inner (spelling s) ∷ inner (spelling e) ∷ inner (spelling c) ∷ []) []
+  spelling (Join' f p s q e r c) =
+      form words.Join (name f ∷ inner (spelling s) ∷ inner (spelling e) ∷ inner (spelling c) ∷ []) []
   spelling (Cancel f) = form words.Cancel (name f ∷ []) []
   spelling (Ref' v p k) = form words.Ref (value v ∷ inner (spelling k) ∷ []) []
   spelling (Get r) = form words.Get (name r ∷ []) []
@@ -102,9 +110,12 @@ abbrev mutual
   spelling (Repeat' v p e) = form words.Repeat (value v ∷ inner (spelling e) ∷ []) []
   spelling (Forever' p e) = form words.Forever (inner (spelling e) ∷ []) []
   spelling (Guarantee' p e q fin) = form words.Guarantee (inner (spelling e) ∷ inner (spelling fin) ∷ []) []
-  spelling (Bracket' p acq q body r rel) = form words.Bracket (inner (spelling acq) ∷ inner (spelling body) ∷ inner (spelling rel) ∷ []) []
-  spelling (BracketCase' p acq q body r rs s re t rc) = form words.BracketCase (inner (spelling acq) ∷ inner (spelling body) ∷ inner (spelling rs) ∷ inner (spelling re) ∷ inner (spelling rc) ∷ []) []
-  spelling (BracketFull' p acq q body r rs s re t rc) = form words.BracketFull (inner (spelling acq) ∷ inner (spelling body) ∷ inner (spelling rs) ∷ inner (spelling re) ∷ inner (spelling rc) ∷ []) []
+  spelling (Bracket' p acq q body r rel) =
+      form words.Bracket (inner (spelling acq) ∷ inner (spelling body) ∷ inner (spelling rel) ∷ []) []
+  spelling (BracketCase' p acq q body r rs s re t rc) = form words.BracketCase (inner (spelling acq) ∷
+      inner (spelling body) ∷ inner (spelling rs) ∷ inner (spelling re) ∷ inner (spelling rc) ∷ []) []
+  spelling (BracketFull' p acq q body r rs s re t rc) = form words.BracketFull (inner (spelling acq) ∷
+      inner (spelling body) ∷ inner (spelling rs) ∷ inner (spelling re) ∷ inner (spelling rc) ∷ []) []
   spelling (Race' p a q b) = form words.Race (inner (spelling a) ∷ inner (spelling b) ∷ []) []
   spelling (Both' p a q b r k) = form words.Both (inner (spelling a) ∷ inner (spelling b) ∷ inner (spelling k) ∷ []) []
 

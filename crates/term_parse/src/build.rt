@@ -2,7 +2,8 @@
 
 ghost use Rattle.std.specs.Prelude.{◌≡◌, List, [], ◌∷◌, ◌++◌, IfOk};
 ghost use Rattle.term_parse.specs.Atoms.{word as word_atom, value as value_atom, name as name_atom, ended, atoms_of};
-ghost use Rattle.term_parse.specs.Forms.{Sort, a_name, a_value, a_term, sorts, ends, terms_atoms, AllTerms, NotPlain, NotOne, NotTwo, Shaped};
+ghost use Rattle.term_parse.specs.Forms.{Sort, a_name, a_value, a_term, sorts, ends, terms_atoms, AllTerms, NotPlain};
+ghost use Rattle.term_parse.specs.Forms.{NotOne, NotTwo, Shaped};
 
 use crate::form::Piece;
 use crate::table::Word;
@@ -158,7 +159,8 @@ fn value_and_two_terms(
     mut pieces: VecDeque<Piece>,
 ) -> Result<(Operand, Box<Term>, Box<Term>), AllocError>
     requires { sorts pieces.items ≡ a_value ∷ a_term ∷ a_term ∷ [] }
-    ensures { IfOk result (λ r. ends pieces.items ≡ value_atom r.0 ∷ (atoms_of r.1.value ++ (atoms_of r.2.value ++ ended ∷ []))) }
+    ensures { IfOk result (λ r. ends pieces.items ≡ value_atom r.0 ∷
+        (atoms_of r.1.value ++ (atoms_of r.2.value ++ ended ∷ []))) }
 {
     let value = value(&mut pieces);
     let first = boxed(alloc, &mut pieces)?;
@@ -172,7 +174,8 @@ fn three_terms(
     mut pieces: VecDeque<Piece>,
 ) -> Result<(Box<Term>, Box<Term>, Box<Term>), AllocError>
     requires { sorts pieces.items ≡ a_term ∷ a_term ∷ a_term ∷ [] }
-    ensures { IfOk result (λ r. ends pieces.items ≡ atoms_of r.0.value ++ (atoms_of r.1.value ++ (atoms_of r.2.value ++ ended ∷ []))) }
+    ensures { IfOk result (λ r. ends pieces.items ≡ atoms_of r.0.value ++
+        (atoms_of r.1.value ++ (atoms_of r.2.value ++ ended ∷ []))) }
 {
     let first = boxed(alloc, &mut pieces)?;
     let second = boxed(alloc, &mut pieces)?;
@@ -186,7 +189,8 @@ fn name_and_three_terms(
     mut pieces: VecDeque<Piece>,
 ) -> Result<(Name, Box<Term>, Box<Term>, Box<Term>), AllocError>
     requires { sorts pieces.items ≡ a_name ∷ a_term ∷ a_term ∷ a_term ∷ [] }
-    ensures { IfOk result (λ r. ends pieces.items ≡ name_atom r.0 ∷ (atoms_of r.1.value ++ (atoms_of r.2.value ++ (atoms_of r.3.value ++ ended ∷ [])))) }
+    ensures { IfOk result (λ r. ends pieces.items ≡ name_atom r.0 ∷
+        (atoms_of r.1.value ++ (atoms_of r.2.value ++ (atoms_of r.3.value ++ ended ∷ [])))) }
 {
     let name = name(&mut pieces);
     let first = boxed(alloc, &mut pieces)?;
@@ -201,7 +205,8 @@ fn five_terms(
     mut pieces: VecDeque<Piece>,
 ) -> Result<(Box<Term>, Box<Term>, Box<Term>, Box<Term>, Box<Term>), AllocError>
     requires { sorts pieces.items ≡ a_term ∷ a_term ∷ a_term ∷ a_term ∷ a_term ∷ [] }
-    ensures { IfOk result (λ r. ends pieces.items ≡ atoms_of r.0.value ++ (atoms_of r.1.value ++ (atoms_of r.2.value ++ (atoms_of r.3.value ++ (atoms_of r.4.value ++ ended ∷ []))))) }
+    ensures { IfOk result (λ r. ends pieces.items ≡ atoms_of r.0.value ++
+        (atoms_of r.1.value ++ (atoms_of r.2.value ++ (atoms_of r.3.value ++ (atoms_of r.4.value ++ ended ∷ []))))) }
 {
     let first = boxed(alloc, &mut pieces)?;
     let second = boxed(alloc, &mut pieces)?;
@@ -232,7 +237,8 @@ fn terms_of_seq(
     mut pieces: VecDeque<Piece>,
 ) -> Result<(Box<Term>, Box<Term>, Vec<Term>), AllocError>
     requires { Shaped Word.Seq (sorts pieces.items) }
-    ensures { IfOk result (λ r. ends pieces.items ≡ atoms_of r.0.value ++ (atoms_of r.1.value ++ (terms_atoms r.2.items ++ ended ∷ []))) }
+    ensures { IfOk result (λ r. ends pieces.items ≡ atoms_of r.0.value ++
+        (atoms_of r.1.value ++ (terms_atoms r.2.items ++ ended ∷ []))) }
 {
     let first = boxed(alloc, &mut pieces)?;
     let second = boxed(alloc, &mut pieces)?;

@@ -1,6 +1,7 @@
 //! The forms whose closing bracket hasn't come, and what one token does to the innermost.
 
-ghost use Rattle.std.specs.Prelude.{◌≡◌, ◌≤◌, ◌+◌, ◌<◌, ◌^◌, ℕ, suc, List, [], ◌∷◌, ◌++◌, Err, IfOk, IfErr, length, drop};
+ghost use Rattle.std.specs.Prelude.{◌≡◌, ◌≤◌, ◌+◌, ◌<◌, ◌^◌, ℕ, suc, List, [], ◌∷◌, ◌++◌, Err, IfOk, IfErr, length};
+ghost use Rattle.std.specs.Prelude.{drop};
 ghost use Rattle.term_parse.specs.Atoms.{word};
 ghost use Rattle.term_parse.specs.Language.{parts_of};
 ghost use Rattle.term_parse.specs.Reading.{Bound, Want, a_word, parts, open_of, with_front, reads_at};
@@ -71,8 +72,11 @@ pub(crate) fn wanted(text: &[u8], at: usize) -> Result<Token, ParseError>
 pub(crate) fn word(text: &[u8], at: usize) -> Result<(Word, usize), ParseError>
     requires { at ≤ length text.now }
     ensures within { IfOk result (λ r. (at < r.1) × (r.1 ≤ length text.now)) }
-    ensures found { IfOk result (λ r. (s : List Bound) (todo : List Want) → reads_at text.now at (a_word s ∷ todo) ≡ with_front (word r.0 ∷ []) (reads_at text.now r.1 (parts s [] (parts_of r.0) ∷ todo))) }
-    ensures fault { IfErr result (λ e. (s : List Bound) (todo : List Want) → reads_at text.now at (a_word s ∷ todo) ≡ Err e) }
+    ensures found { IfOk result (λ r. (s : List Bound) (todo : List Want) →
+        reads_at text.now at (a_word s ∷ todo) ≡ with_front (word r.0 ∷ [])
+        (reads_at text.now r.1 (parts s [] (parts_of r.0) ∷ todo))) }
+    ensures fault { IfErr result (λ e. (s : List Bound) (todo : List Want) →
+        reads_at text.now at (a_word s ∷ todo) ≡ Err e) }
 {
     let token = wanted(text, at)?;
     let TokenKind::Called = token.kind else {
@@ -88,8 +92,10 @@ pub(crate) fn word(text: &[u8], at: usize) -> Result<(Word, usize), ParseError>
 fn bind(form: &mut Form, token: Token, kind: Kind) -> Result<Step, ParseError>
     requires good { IsGood token.kind }
     requires part { NextIs form.old (Part.Bind kind) }
-    ensures found { (text : List ℕ) (at depth : ℕ) → IsNext text at token → IfOk result (Stepped text at depth form.old form.new) }
-    ensures fault { (text : List ℕ) (at depth : ℕ) → IsNext text at token → IfErr result (FailsAt text at depth form.old) }
+    ensures found { (text : List ℕ) (at depth : ℕ) → IsNext text at token →
+        IfOk result (Stepped text at depth form.old form.new) }
+    ensures fault { (text : List ℕ) (at depth : ℕ) → IsNext text at token →
+        IfErr result (FailsAt text at depth form.old) }
 {
     let TokenKind::Called = token.kind else {
         return Err(ParseError::Arity(token.start));
@@ -119,7 +125,8 @@ fn use_name(text: &[u8], form: &mut Form, token: Token, kind: Kind) -> Result<St
     requires part { NextIs form.old (Part.Use kind) }
     requires sound { Sound text.now form.old }
     requires few { length form.old.scope.items < 2 ^ 32 }
-    ensures found { (at depth : ℕ) → IsNext text.now at token → IfOk result (Stepped text.now at depth form.old form.new) }
+    ensures found { (at depth : ℕ) → IsNext text.now at token →
+        IfOk result (Stepped text.now at depth form.old form.new) }
     ensures fault { (at depth : ℕ) → IsNext text.now at token → IfErr result (FailsAt text.now at depth form.old) }
 {
     let TokenKind::Called = token.kind else {
@@ -149,7 +156,8 @@ fn value(text: &[u8], form: &mut Form, token: Token) -> Result<Step, ParseError>
     requires part { NextIs form.old Part.Value }
     requires sound { Sound text.now form.old }
     requires few { length form.old.scope.items < 2 ^ 32 }
-    ensures found { (at depth : ℕ) → IsNext text.now at token → IfOk result (Stepped text.now at depth form.old form.new) }
+    ensures found { (at depth : ℕ) → IsNext text.now at token →
+        IfOk result (Stepped text.now at depth form.old form.new) }
     ensures fault { (at depth : ℕ) → IsNext text.now at token → IfErr result (FailsAt text.now at depth form.old) }
 {
     match token.kind {
@@ -170,7 +178,8 @@ fn named_value(text: &[u8], form: &mut Form, token: Token) -> Result<Step, Parse
     requires part { NextIs form.old Part.Value }
     requires sound { Sound text.now form.old }
     requires few { length form.old.scope.items < 2 ^ 32 }
-    ensures found { (at depth : ℕ) → IsNext text.now at token → IfOk result (Stepped text.now at depth form.old form.new) }
+    ensures found { (at depth : ℕ) → IsNext text.now at token →
+        IfOk result (Stepped text.now at depth form.old form.new) }
     ensures fault { (at depth : ℕ) → IsNext text.now at token → IfErr result (FailsAt text.now at depth form.old) }
 {
     let spelling = &text[token.start..token.end];
@@ -198,7 +207,8 @@ fn open(
     requires opens { token.kind ≡ TokenKind.Open }
     requires part { NextIs form.old part }
     requires term { IsTermPart part }
-    requires rest { drop rest (parts_of form.old.word) ≡ after part (drop (form.old.next + 1) (parts_of form.old.word)) }
+    requires rest { drop rest (parts_of form.old.word) ≡ after part
+        (drop (form.old.next + 1) (parts_of form.old.word)) }
     ensures found { (at : ℕ) → IsNext text.now at token → IfOk result (Stepped text.now at depth form.old form.new) }
     ensures fault { (at : ℕ) → IsNext text.now at token → IfErr result (FailsAt text.now at depth form.old) }
 {
@@ -273,8 +283,10 @@ fn more_terms(
 fn close(form: &mut Form, token: Token) -> Result<Step, ParseError>
     requires good { IsGood token.kind }
     requires part { NextIs form.old Part.Close }
-    ensures found { (text : List ℕ) (at depth : ℕ) → IsNext text at token → IfOk result (Stepped text at depth form.old form.new) }
-    ensures fault { (text : List ℕ) (at depth : ℕ) → IsNext text at token → IfErr result (FailsAt text at depth form.old) }
+    ensures found { (text : List ℕ) (at depth : ℕ) → IsNext text at token →
+        IfOk result (Stepped text at depth form.old form.new) }
+    ensures fault { (text : List ℕ) (at depth : ℕ) → IsNext text at token →
+        IfErr result (FailsAt text at depth form.old) }
 {
     let TokenKind::Close = token.kind else {
         return Err(ParseError::Arity(token.start));

@@ -10,8 +10,11 @@ ghost use Rattle.term_parse.specs.Language.{parts_of};
 ghost use Rattle.term_parse.specs.Numbers.{NumbersFit};
 ghost use Rattle.term_parse.specs.Reading.{reading};
 ghost use Rattle.term_parse.specs.Shapes.{shape_of};
-ghost use Rattle.term_parse.specs.Spelling.{name_spelling, operand_spelling, letter_of, piece_spelling, parts_spelling, more_spelling, binders_of, outer_binders, form, spelling, canonical};
-ghost use Rattle.term_parse.specs.Pieces.{piece_of, pieces_of, terms_spelled, terms_atoms, piece_atoms, pieces_atoms, Suffice};
+ghost use Rattle.term_parse.specs.Spelling.{name_spelling, operand_spelling, letter_of, piece_spelling};
+ghost use Rattle.term_parse.specs.Spelling.{parts_spelling, more_spelling, binders_of, outer_binders, form, spelling};
+ghost use Rattle.term_parse.specs.Spelling.{canonical};
+ghost use Rattle.term_parse.specs.Pieces.{piece_of, pieces_of, terms_spelled, terms_atoms, piece_atoms, pieces_atoms};
+ghost use Rattle.term_parse.specs.Pieces.{Suffice};
 
 use crate::table::{Part, Word, parts_of, spelling_of};
 use effect_term::{Kind, Name, Operand, Term};
@@ -60,7 +63,8 @@ macro_rules! form_with {
 #[tactic(auto, unfolding(crate::specs::Language::parts_of))]
 fn form_of(term: &Term) -> Form<'_>
     ensures spelled { spelling term.now ≡ form result.word (pieces_of result.pieces) (terms_spelled result.more.now) }
-    ensures atoms { atoms_of term.now ≡ a_word result.word ∷ pieces_atoms result.pieces (terms_atoms result.more.now (ended ∷ [])) }
+    ensures atoms { atoms_of term.now ≡ a_word result.word ∷
+        pieces_atoms result.pieces (terms_atoms result.more.now (ended ∷ [])) }
     ensures enough { Suffice (parts_of result.word) result.pieces result.more.now }
 {
     match term {
@@ -229,7 +233,8 @@ fn write_parts(
     requires room { around + 2 ≤ vec_len out.old }
     requires few { bound + length parts.now ≤ 10 }
     requires enough { Suffice parts.now pieces.now more.now }
-    ensures text { OnOk result (out.new.items ≡ out.old.items ++ parts_spelling around bound parts.now (pieces_of pieces.now) (terms_spelled more.now)) }
+    ensures text { OnOk result (out.new.items ≡ out.old.items ++ parts_spelling around bound parts.now
+        (pieces_of pieces.now) (terms_spelled more.now)) }
     ensures numbers { OnOk result (NumbersFit (pieces_atoms pieces.now (terms_atoms more.now (ended ∷ [])))) }
     ensures longer { OnOk result (vec_len out.old ≤ vec_len out.new) }
 {
@@ -313,9 +318,11 @@ fn write_more(out: &mut Vec<u8>, terms: &[Term], around: usize) -> Result<(), Al
 pub fn print(alloc: Global, term: &Term) -> Result<Vec<u8>, AllocError>
     ensures canonical { IfOk result (λ text. text.items ≡ canonical term.now) }
     ensures read_back { IfOk result (λ text.
-        WellKinded [] term.now → nest_of term.now ≤ 100 → length text.items ≤ 65536 → Spells text.items (atoms_of term.now)) }
+        WellKinded [] term.now → nest_of term.now ≤ 100 → length text.items ≤ 65536 →
+        Spells text.items (atoms_of term.now)) }
     ensures parsed { IfOk result (λ text.
-        WellKinded [] term.now → nest_of term.now ≤ 100 → length text.items ≤ 65536 → reading text.items ≡ Ok (atoms_of term.now)) }
+        WellKinded [] term.now → nest_of term.now ≤ 100 → length text.items ≤ 65536 →
+        reading text.items ≡ Ok (atoms_of term.now)) }
     ensures same_term { IfOk result (λ text.
         WellKinded [] term.now → nest_of term.now ≤ 100 → length text.items ≤ 65536 →
         (u : terms.Term) → reading text.items ≡ Ok (atoms_of u) → shape_of u ≡ shape_of term.now) }

@@ -74,7 +74,8 @@ fn resume(
     next: usize,
 ) -> Result<Turn, AllocError>
     requires { Shaped form.old.word (sorts form.old.pieces.items) }
-    ensures { (text : List ℕ) (at : ℕ) → IsStack text at form.old around.old.items → Closes text at form.old next → at < next → next ≤ length text → IfOk result (Turned text at form.new around.new.items) }
+    ensures { (text : List ℕ) (at : ℕ) → IsStack text at form.old around.old.items → Closes text at form.old next →
+        at < next → next ≤ length text → IfOk result (Turned text at form.new around.new.items) }
 {
     let term = term_of(alloc, form)?;
     let Some(outer) = around.pop() else {
@@ -94,7 +95,9 @@ fn apply(
     around: &mut Vec<Form>,
 ) -> Result<Turn, AllocError>
     requires { Buildable form.old step }
-    ensures { (text : List ℕ) (at depth : ℕ) (before : Form) → IsStack text at before around.old.items → depth ≡ length around.old.items + 1 → Stepped text at depth before form.old step → IfOk result (Turned text at form.new around.new.items) }
+    ensures { (text : List ℕ) (at depth : ℕ) (before : Form) → IsStack text at before around.old.items →
+        depth ≡ length around.old.items + 1 → Stepped text at depth before form.old step →
+        IfOk result (Turned text at form.new around.new.items) }
 {
     match step {
         Step::Read(next) => Ok(Turn::More(next)),

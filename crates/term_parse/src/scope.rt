@@ -1,6 +1,7 @@
 //! The binders in scope.
 
-ghost use Rattle.std.specs.Prelude.{◌≡◌, ◌≢◌, ◌↔◌, ◌≤◌, ◌+◌, ◌<◌, ◌^◌, ℕ, List, Ok, Err, IfOk, IfSome, IfNone, ◌++◌, length, slice_range};
+ghost use Rattle.std.specs.Prelude.{◌≡◌, ◌≢◌, ◌↔◌, ◌≤◌, ◌+◌, ◌<◌, ◌^◌, ℕ, List, Ok, Err, IfOk, IfSome, IfNone, ◌++◌};
+ghost use Rattle.std.specs.Prelude.{length, slice_range};
 ghost use Rattle.std.specs.Str.{bytes_eq};
 ghost use Rattle.effect_term.specs.declared.term.Name as names;
 ghost use Rattle.term_parse.specs.Innermost.{Unspelled, IsInnermost};
@@ -77,9 +78,12 @@ pub(crate) fn meaning(
     requires few { length scope.now < 2 ^ 32 }
     requires within { InText text.now scope.now }
     ensures meaning { result ≡ meaning (bounds text.now scope.now) kind spelling.now place }
-    ensures meant { (n : names.Name) → (result ≡ Ok n) ↔ (IsInnermost (bounds text.now scope.now) spelling.now n × (n.kind ≡ kind)) }
-    ensures unknown { (result ≡ Err (ParseError.UnknownName place)) ↔ Unspelled (bounds text.now scope.now) spelling.now }
-    ensures other_kind { (result ≡ Err (ParseError.NameKind place)) ↔ ((n : names.Name) × IsInnermost (bounds text.now scope.now) spelling.now n × (n.kind ≢ kind)) }
+    ensures meant { (n : names.Name) → (result ≡ Ok n) ↔ (IsInnermost (bounds text.now scope.now) spelling.now n ×
+        (n.kind ≡ kind)) }
+    ensures unknown { (result ≡ Err (ParseError.UnknownName place)) ↔ Unspelled (bounds text.now scope.now)
+        spelling.now }
+    ensures other_kind { (result ≡ Err (ParseError.NameKind place)) ↔ ((n : names.Name) ×
+        IsInnermost (bounds text.now scope.now) spelling.now n × (n.kind ≢ kind)) }
 {
     let Some(name) = innermost(text, scope, spelling) else {
         return Err(ParseError::UnknownName(place));
@@ -99,8 +103,10 @@ fn picked(
     index: usize,
 ) -> Result<Vec<Binding>, AllocError>
     ensures few { IfOk result (λ v. length v.items ≤ length scope.items + 1) }
-    ensures within { (text : List ℕ) → InText text scope.items → InText text bound.now → IfOk result (λ v. InText text v.items) }
-    ensures picked { (text : List ℕ) → IfOk result (λ v. bounds text v.items ≡ bounds text scope.items ++ picked (bounds text bound.now) index) }
+    ensures within { (text : List ℕ) → InText text scope.items → InText text bound.now →
+        IfOk result (λ v. InText text v.items) }
+    ensures picked { (text : List ℕ) → IfOk result (λ v. bounds text v.items ≡ bounds text scope.items ++
+        picked (bounds text bound.now) index) }
 {
     match bound.get(index) {
         Some(binding) => {
@@ -132,8 +138,10 @@ pub(crate) fn entered(
     part: Part,
 ) -> Result<Vec<Binding>, AllocError>
     ensures few { IfOk result (λ v. length v.items ≤ length scope.now + 2) }
-    ensures within { (text : List ℕ) → InText text scope.now → InText text bound.now → IfOk result (λ v. InText text v.items) }
-    ensures entered { (text : List ℕ) → IfOk result (λ v. bounds text v.items ≡ entered (bounds text scope.now) (bounds text bound.now) part) }
+    ensures within { (text : List ℕ) → InText text scope.now → InText text bound.now →
+        IfOk result (λ v. InText text v.items) }
+    ensures entered { (text : List ℕ) → IfOk result (λ v. bounds text v.items ≡ entered (bounds text scope.now)
+        (bounds text bound.now) part) }
 {
     let inner = with_room(alloc, scope)?;
     match part {

@@ -1,7 +1,9 @@
 //! The tokens of a text, one after another.
 
-ghost use Rattle.std.specs.Prelude.{◌≡◌, ◌≤◌, ◌<◌, ◌+◌, ◌||◌, ◌==◌, false, true, ℕ, List, [], IfSome, IfNone, length, neg_ℤ, pos, slice_index, slice_range, drop};
-ghost use Rattle.term_parse.specs.Lexemes.{is_space, is_digit, is_letter, is_run, run_of, lexemes, lexemes_at, number_of};
+ghost use Rattle.std.specs.Prelude.{◌≡◌, ◌≤◌, ◌<◌, ◌+◌, ◌||◌, ◌==◌, false, true, ℕ, List, [], IfSome, IfNone, length};
+ghost use Rattle.std.specs.Prelude.{neg_ℤ, pos, slice_index, slice_range, drop};
+ghost use Rattle.term_parse.specs.Lexemes.{is_space, is_digit, is_letter, is_run, run_of, lexemes, lexemes_at};
+ghost use Rattle.term_parse.specs.Lexemes.{number_of};
 ghost use Rattle.term_parse.specs.Seen.{IsNext, lexeme_as, plain_value, seen_kind};
 
 /// What a token is.
@@ -172,7 +174,8 @@ fn kind_of(first: u8, run: &[u8]) -> TokenKind
 fn token_of(text: &[u8], start: usize, end: usize) -> Token
     requires within { (start < end) × (end ≤ length text.now) }
     ensures place { result ≡ record { kind = result.kind; start = start; end = end } }
-    ensures kind { seen_kind (slice_range text.now start end) result.kind ≡ lexeme_as (slice_index text.now start) (slice_range text.now start end) }
+    ensures kind { seen_kind (slice_range text.now start end) result.kind ≡ lexeme_as (slice_index text.now start)
+        (slice_range text.now start end) }
 {
     Token {
         kind: kind_of(text[start], &text[start..end]),

@@ -7,20 +7,25 @@ use Rattle.fiber_poll.specs.Tasks.{TaskView}
 use Rattle.wait_bay.specs.declared.rule.Knowledge.{Knowledge}
 use Rattle.wait_bay.specs.Names.{Named, MayLie}
 
--- each seat knows what the bay names. A slot at home has what may lie there, a slot whose word is 0 is at home, and there are as many words as slots
+-- each seat knows what the bay names. A slot at home has what may lie there, a slot whose word is 0 is at home, and
+-- there are as many words as slots
 pub record KeepsTasks (named : Option Named) (s : State (Option TaskView) Knowledge) : Type 0 where
   pub seats : (seat : ℕ) (v : Knowledge) → get_elem? s.views seat ≡ some v → v.named ≡ named
   pub lie : (f : ℕ) (y : Option TaskView) → get_elem? s.homes f ≡ some (some y) → MayLie named f y
-  pub home : (f : ℕ) → f < length s.homes → slice_index s.words f ≡ 0 → (y : Option TaskView) × (get_elem? s.homes f ≡ some (some y))
+  pub home : (f : ℕ) → f < length s.homes → slice_index s.words f ≡ 0 → (y : Option TaskView) ×
+      (get_elem? s.homes f ≡ some (some y))
   pub many : length s.words ≡ length s.homes
 
--- where the word was 0 the slot is out with this seat, which had found it with what may lie there, and else nothing has changed
-abbrev pub GoesOut : Step (Option TaskView) → Me (Option TaskView) Knowledge → ℕ → Me (Option TaskView) Knowledge → Type 0
+-- where the word was 0 the slot is out with this seat, which had found it with what may lie there, and else nothing
+-- has changed
+abbrev pub GoesOut : Step (Option TaskView) → Me (Option TaskView) Knowledge → ℕ → Me (Option TaskView) Knowledge →
+    Type 0
 GoesOut s v found w =
     MatchBool (found == 0)
     ((w.0 ≡ v.0) × ((y : Option TaskView) × (w.1 ≡ (s.word, y) ∷ v.1) × MayLie v.0.named s.word y))
     (w ≡ v)
 
 -- the slot that the seat took last is at home again
-abbrev pub ComesHome : Step (Option TaskView) → Me (Option TaskView) Knowledge → ℕ → Me (Option TaskView) Knowledge → Type 0
+abbrev pub ComesHome : Step (Option TaskView) → Me (Option TaskView) Knowledge → ℕ → Me (Option TaskView) Knowledge →
+    Type 0
 ComesHome s v found w = (w.0 ≡ v.0) × (w.1 ≡ rest v.1)

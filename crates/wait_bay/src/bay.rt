@@ -41,9 +41,15 @@ impl<'a> Model for Bay<'a> {
 
     ghost coded = { Prim.hlevel (codes, tree_code, table_id_coded) };
 
-    ghost view = { λ b. record { table = b.table.shared.table_id; named = b.table.shared.key; fibers = b.count; deferreds = vec_len b.deferreds } };
+    ghost view = { λ b. record {
+      table = b.table.shared.table_id;
+      named = b.table.shared.key;
+      fibers = b.count;
+      deferreds = vec_len b.deferreds;
+    } };
 
-    ghost invariant = { λ b. (vec_len b.fibers ≡ b.count) × (vec_len b.slots ≡ b.count) × (b.table.shared.table_id.words ≡ b.count) × (b.table.shared.table_id.slots ≡ b.count) };
+    ghost invariant = { λ b. (vec_len b.fibers ≡ b.count) × (vec_len b.slots ≡ b.count) ×
+        (b.table.shared.table_id.words ≡ b.count) × (b.table.shared.table_id.slots ≡ b.count) };
 }
 
 impl<'a> Bay<'a> {

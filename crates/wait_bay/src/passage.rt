@@ -127,7 +127,8 @@ impl<'a> Bay<'a> {
         requires within { f < self.now.fibers }
         ensures table { seat.new.table_id ≡ seat.old.table_id }
         ensures known { seat.new.me.0 ≡ seat.old.me.0 }
-        ensures out { result ≡ true → (y : Option TaskView) × (seat.new.me.1 ≡ (f, y) ∷ []) × MayLie seat.old.me.0.named f y }
+        ensures out { result ≡ true → (y : Option TaskView) × (seat.new.me.1 ≡ (f, y) ∷ []) ×
+            MayLie seat.old.me.0.named f y }
         ensures kept { result ≡ false → seat.new.me.1 ≡ [] }
     {
         let found = self

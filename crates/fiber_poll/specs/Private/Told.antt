@@ -15,7 +15,8 @@ use Rattle.fiber_poll.specs.declared.turn.Turn.TheVariants as turn
 use Rattle.fiber_frames.specs.Leading.{Asked, IsGoing, Leads, way_after, way_of}
 use Rattle.derived_ops.specs.Naming.{Given}
 use Rattle.fiber_frames.specs.Naming.{AskNamed, NamedBeginning, NamedRun, NumberGiven}
-use Rattle.fiber_poll.specs.Turns.{Ends, Event, Starts_child, Waits_for, Wakes_fiber, Wakes_topic, Yields, awaited, event_of, woken}
+use Rattle.fiber_poll.specs.Turns.{Ends, Event, Starts_child, Waits_for, Wakes_fiber, Wakes_topic, Yields, awaited}
+use Rattle.fiber_poll.specs.Turns.{event_of, woken}
 use Rattle.fiber_poll.specs.Tasks.{TaskView, Went}
 use Rattle.fiber_poll.specs.Stepping.{IsChild}
 
@@ -98,7 +99,8 @@ IsLast (turn.Started t) = ⊥
 IsLast turn.OutOfMoves = ⊥
 IsLast _ = Unit {0}
 
--- one move, under some reply, which was this: how far the fiber has come by it, and that it goes on unless there is something to tell
+-- one move, under some reply, which was this: how far the fiber has come by it, and that it goes on unless there is
+-- something to tell
 pub record Made (old : TaskView) (a : Ask) (s : Step) (new : TaskView) : Type 0 where
   pub reply : Reply
   pub went : Went old (reply ∷ []) new

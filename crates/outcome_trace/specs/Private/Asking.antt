@@ -12,5 +12,6 @@ pub record Asking (g : Fiber) : Type 0 where
   pub tells : Asked g (ask_of g)
   pub leads : (r : Reply) → Answers g.number (ask_of g) r → Leads g (ask_of g) r (move g r)
   pub names : (b : Given) → NamedRun b g.running → AskNamed b g.number (ask_of g)
-  pub moves_names : (b : Given) (r : Reply) → NamedRun b g.running → NumberGiven b (ask_of g) r → NamedRun b (move g r).running
+  pub moves_names : (b : Given) (r : Reply) → NamedRun b g.running → NumberGiven b (ask_of g) r →
+      NamedRun b (move g r).running
   pub child_names : (b : Given) (n : ℕ) → NamedRun b g.running → NamedBeginning b (child g n)

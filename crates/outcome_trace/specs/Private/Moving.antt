@@ -41,9 +41,11 @@ pub data Replied (old : PlainView) (f : ℕ) (g : Fiber) (r : Reply) (new : Plai
   Made : (c : Call) → wish_of (ask_of g) ≡ Shared c → IsMade old new f c r → Replied old f g r new
 
 -- fiber f has no move, or made its next one
-pub data Moves (old : PlainView) (f : ℕ) (g : Fiber) (new : PlainView) (after : Fiber) (born : List Fiber) : Type 0 where
-  Rests : wish_of (ask_of g) ≡ Nothing → after ≡ g → new ≡ old → born ≡ [] → Moves old f g new after born
-  Goes : Asking g → (r : Reply) → Replied old f g r new → after ≡ move g r → born ≡ children (moved g r) → Moves old f g new after born
+pub data Moves (old : PlainView) (f : ℕ) (g : Fiber) (new : PlainView) (after : Fiber) (born : List Fiber) : Type 0
+  where
+    Rests : wish_of (ask_of g) ≡ Nothing → after ≡ g → new ≡ old → born ≡ [] → Moves old f g new after born
+    Goes : Asking g → (r : Reply) → Replied old f g r new → after ≡ move g r → born ≡ children (moved g r) →
+        Moves old f g new after born
 
 -- the call of fiber f's next move is refused, with this fault
 pub record Refuses (old : PlainView) (f : ℕ) (g : Fiber) (e : RunError) : Type 0 where

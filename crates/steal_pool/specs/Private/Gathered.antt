@@ -19,13 +19,16 @@ IsAtHome r t = t.home ≡ r
 pub record Gathered (r : RegistryView) (code : Tree) (met : PassView) (configs : List Fiber) : Type 0 where
   pub home : IsOf r met
   pub pass : IsPass met
-  pub at : (i : ℕ) (s : Fiber) → slice_get configs i ≡ Some s → Has met.fibers s.number × Stands code met.seen s.number s
+  pub at : (i : ℕ) (s : Fiber) → slice_get configs i ≡ Some s → Has met.fibers s.number ×
+      Stands code met.seen s.number s
 
 -- of all these tasks the rest is still there, and the states of the others are these
 pub record Taken (all rest : List TaskView) (met : PassView) (configs : List Fiber) : Type 0 where
   pub still : (i : ℕ) (t : TaskView) → slice_get rest i ≡ Some t → slice_get all i ≡ Some t
-  pub out : (i : ℕ) (t : TaskView) → slice_get all i ≡ Some t → (slice_get rest i ≡ Some t) ⊎ ((j : ℕ) × (slice_get configs j ≡ Some t.state) × IsPrefix t.pass.seen met.seen)
-  pub from : (j : ℕ) (s : Fiber) → slice_get configs j ≡ Some s → (i : ℕ) × (t : TaskView) × (slice_get all i ≡ Some t) × (t.state ≡ s)
+  pub out : (i : ℕ) (t : TaskView) → slice_get all i ≡ Some t → (slice_get rest i ≡ Some t) ⊎
+      ((j : ℕ) × (slice_get configs j ≡ Some t.state) × IsPrefix t.pass.seen met.seen)
+  pub from : (j : ℕ) (s : Fiber) → slice_get configs j ≡ Some s → (i : ℕ) × (t : TaskView) ×
+      (slice_get all i ≡ Some t) × (t.state ≡ s)
 
 -- the state is one of these, and the fiber's
 pub record IsIn (s : Fiber) (configs : List Fiber) (f : ℕ) : Type 0 where
