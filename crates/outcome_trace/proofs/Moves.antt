@@ -1,6 +1,8 @@
 -- The next move of a fiber that fits its cell, and the entry of a schedule that it is.
 use Rattle.std.proofs.Common.{◌≡◌, ℕ, ◌<◌, ◌≤◌, ◌^◌, List, [], ◌∷◌, ◌++◌, length, set, Ok, Err, refl, sym, ap, ◌∙◌, subst, arith, append-nil}
-use Rattle.std.specs.Prelude.{Some, None}
+use Rattle.std.specs.Prelude.{◌⊎◌, Option, Some, None, Result, IfErr, IfOk, OnOk}
+use Rattle.std.specs.Option.{option_to_list}
+use Rattle.std.proofs.Common.{inl}
 use Rattle.std.specs.List.{fold, slice_get}
 use Rattle.derived_ops.specs.Tree.{Tree}
 use Rattle.std.proofs.lemmas.Option.{slice_get_past}
@@ -15,6 +17,7 @@ use Rattle.fiber_frames.specs.Answers.{Answers}
 use Rattle.fiber_frames.specs.Leading.{GoesOn, IsBirth, KindFits}
 use Rattle.cell_registry.specs.declared.limits.Limits.{Limits}
 use Rattle.cell_registry.specs.declared.limits.RunError.{RunError}
+use Rattle.cell_registry.specs.declared.limits.RunError.TheVariants as run
 use Rattle.cell_registry.specs.declared.call.Call.{Call}
 use Rattle.cell_registry.specs.Cells.{after, opening, refusal, reply_of}
 use Rattle.cell_registry.specs.Plain.{IsPlain, MayCall, PlainView, new_plain}
@@ -143,6 +146,19 @@ module _ (old : PlainView) (fibers : List Fiber) (f : ℕ) (g : Fiber) (all : Al
 
   pub refused_entered : (e : RunError) → Refuses old f g e → entered old.limits (Ok w) f ≡ Err e
   refused_entered e h = wishes (Shared h.call) h.wish ∙ ap (answered w f g h.call) h.refused ∙ ap Err (sym h.fault)
+
+-- what is told of a call that makes a move is told of the entry
+pub goes_on : (old : PlainView) (f : ℕ) (g : Fiber) (new : PlainView) (after : Fiber) (r : Reply)
+    (it : Result (Option Fiber) RunError) → Asking g → Replied old f g r new → OnOk it (after ≡ move g r)
+    → IfOk it (λ child. option_to_list child ≡ children (moved g r))
+    → IfOk it (λ child. Moves old f g new after (option_to_list child))
+goes_on old f g new after r (Ok child) asks replied state born = Goes asks r replied state born
+goes_on old f g new after r (Err e) asks replied state born = tt
+
+pub lacks_memory : (old : PlainView) (f : ℕ) (g : Fiber) (it : Result (Option Fiber) RunError)
+    → IfErr it (λ e. e ≡ run.NoMemory) → IfErr it (λ e. (e ≡ run.NoMemory) ⊎ Refuses old f g e)
+lacks_memory old f g (Ok child) h = tt
+lacks_memory old f g (Err e) h = inl h
 
 -- an entry of a fiber that isn't born
 pub unborn_entered : (old : PlainView) (fibers : List Fiber) (f : ℕ) → length fibers ≤ f → entered old.limits (Ok (world_of fibers old.state)) f ≡ Ok (world_of fibers old.state)

@@ -1,21 +1,22 @@
 //! A program under a schedule, one move for each entry.
-ghost use Rattle.std.specs.Prelude.{◌≡◌, ◌⊎◌, ◌++◌, IfOk, IfErr, IfSome, IfNone, OnOk, MatchResult, Ok as GoesWell};
+ghost use Rattle.std.specs.Prelude.{◌≡◌, ◌⊎◌, ◌++◌, ◌<◌, ◌^◌, IfOk, IfErr, OnOk, MatchResult, Ok as GoesWell};
 ghost use Rattle.std.specs.Prelude.{Err as Fails, [], ◌∷◌};
 ghost use Rattle.std.specs.List.{All, fold};
 ghost use Rattle.std.specs.Option.{option_to_list};
 ghost use Rattle.derived_ops.specs.Expansion.{code_of};
 ghost use Rattle.derived_ops.specs.Naming.{Given};
 ghost use Rattle.derived_ops.specs.Reading.{source_of};
-ghost use Rattle.fiber_frames.specs.Fiber.{ask_of, begins};
+ghost use Rattle.fiber_frames.specs.Answers.{Answers};
+ghost use Rattle.fiber_frames.specs.Fiber.{ask_of, begins, move};
 ghost use Rattle.fiber_frames.specs.Marks.{AreLawful};
+ghost use Rattle.fiber_frames.specs.Moves.{moved};
 ghost use Rattle.fiber_frames.specs.Naming.{NamedBeginning};
 ghost use Rattle.cell_registry.specs.Cells.{AreLimits, OutcomeFits};
 ghost use Rattle.cell_registry.specs.Plain.{MayCall, IsMade, IsPlain, IsRefused};
-ghost use Rattle.outcome_trace.specs.Core.{entered, core, fault_of, reported, wish_of};
+ghost use Rattle.outcome_trace.specs.Core.{entered, core, fault_of, reported};
 ghost use Rattle.outcome_trace.specs.Fitting.{Fits, cell_registered};
 ghost use Rattle.outcome_trace.specs.Permits.{IsInRange};
-ghost use Rattle.outcome_trace.specs.Private.Asking.{Asking};
-ghost use Rattle.outcome_trace.specs.Private.Moving.{AllFit, Moves, Refuses, Replied, world_of};
+ghost use Rattle.outcome_trace.specs.Private.Moving.{AllFit, Moves, Refuses, children, world_of};
 
 use crate::report::Report;
 use crate::reports::report;
@@ -141,41 +142,31 @@ fn make_move(
         (option_to_list child)) }
     ensures stops { IfErr result (λ e. (e ≡ RunError.NoMemory) ⊎ Refuses registry.old number config.old e) }
 {
-    let Some(reply) = reply(config, registry, number)? else {
-        return Ok(None);
-    };
-    match config.resume(reply)? {
-        Moved::Born(child) => Ok(Some(child)),
-        Moved::Plain | Moved::Waited | Moved::Ceded | Moved::Ended(_) => Ok(None),
+    // The registry is within its limits.
+    let _ = registry.limits();
+    match Wish::of(config.ask()) {
+        Wish::Nothing => Ok(None),
+        Wish::Alone => resumed(config, Reply::Done),
+        Wish::Shared(call) => match answer(registry, number, call) {
+            Ok(reply) => resumed(config, reply),
+            Err(error) => Err(fault(number, error)),
+        },
     }
 }
 
-// The reply under which a fiber makes its next move, or none where it has none.
+// The move under a reply; the child that it starts, if it does. Silent moves have a call of their own, in
+// which the reply is known.
 #[inline(always)]
-fn reply(
-    config: &Config,
-    registry: &mut PlainRegistry,
-    number: u16,
-) -> Result<Option<Reply>, RunError>
-    requires { Fits (cell_registered registry.old.state number) config.now }
-    ensures asking { Asking config.now }
-    ensures lawful { IsPlain registry.old }
-    ensures replied { IfOk result
-        (λ it. IfSome it (λ reply. Replied registry.old number config.now reply registry.new)) }
-    ensures rests { IfOk result (λ it. IfNone it ((wish_of (ask_of config.now) ≡ Wish.Nothing) ×
-        (registry.new ≡ registry.old))) }
-    ensures stops { IfErr result (λ e. Refuses registry.old number config.now e) }
+fn resumed(config: &mut Config, reply: Reply) -> Result<Option<Config>, RunError>
+    requires fits { Answers config.old.number (ask_of config.old) reply }
+    requires in_range { config.old.next < 2 ^ 63 }
+    ensures state { OnOk result (config.new ≡ move config.old reply) }
+    ensures child { IfOk result (λ child. option_to_list child ≡ children (moved config.old reply)) }
+    ensures memory { IfErr result (λ e. e ≡ RunError.NoMemory) }
 {
-    // The registry is within its limits.
-    let _ = registry.limits();
-    let call = match Wish::of(config.ask()) {
-        Wish::Nothing => return Ok(None),
-        Wish::Alone => return Ok(Some(Reply::Done)),
-        Wish::Shared(call) => call,
-    };
-    match answer(registry, number, call) {
-        Ok(reply) => Ok(Some(reply)),
-        Err(error) => Err(fault(number, error)),
+    match config.resume(reply)? {
+        Moved::Born(child) => Ok(Some(child)),
+        Moved::Plain | Moved::Waited | Moved::Ceded | Moved::Ended(_) => Ok(None),
     }
 }
 

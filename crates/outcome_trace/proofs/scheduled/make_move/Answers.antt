@@ -1,31 +1,87 @@
-use Rattle.std.proofs.Common.{◌≡◌, inl, inr, [], ◌∷◌, sym, ap, ◌∙◌, subst}
-use Rattle.std.specs.Prelude.{IfSome, Option}
-use Rattle.effect_term.specs.declared.reply.Reply.{Reply}
-use Rattle.fiber_frames.specs.Moves.{moved}
-use Rattle.outcome_trace.specs.Private.Moving.{Goes, Replied, children}
-use Rattle.outcome_trace.proofs.Moves.{few_masks, replied_answers}
+use Rattle.std.proofs.Common.{◌≡◌, inr, refl, sym, ap, ◌∙◌}
+use Rattle.effect_term.specs.declared.reply.Reply.TheVariants.{Done}
+use Rattle.fiber_frames.specs.Fiber.{ask_of}
+use Rattle.outcome_trace.specs.declared.wish.Wish.TheVariants.{Shared, Alone, Nothing}
+use Rattle.outcome_trace.specs.Core.{wish_of}
+use Rattle.outcome_trace.specs.Private.Moving.{Made, Refuses, Rests, Unshared}
+use Rattle.outcome_trace.proofs.Asking.{asking}
+use Rattle.outcome_trace.proofs.Moves.{few_masks, goes_on, lacks_memory, may_call, replied_answers}
 use Rattle.outcome_trace.proofs.scheduled.make_move.Goals as goal
 
-pub resume-requires-clause-fits : goal.resume-requires-clause-fits
-resume-requires-clause-fits c =
-    let replied = subst (λ (o : Option Reply). IfSome o (λ r. Replied c.args.registry.now c.args.number c.args.config.now r c.reply.new.registry)) c.in-Some.is c.in_ok-reply.ensures.replied in
-    replied_answers c.args.registry.now c.reply.new.registry c.args.number c.args.config.now c.in-Some.reply c.requires replied
+pub returns-in-Nothing-clause-moves : goal.returns-in-Nothing-clause-moves
+returns-in-Nothing-clause-moves c =
+    let wish : wish_of (ask_of c.args.config.now) ≡ Nothing =
+    ap wish_of (sym c.ask.ensures.ask) ∙ sym c.in-Nothing.ensures in
+    Rests wish refl refl refl
 
-pub resume-requires-clause-in_range : goal.resume-requires-clause-in_range
-resume-requires-clause-in_range c = λ _. few_masks c.args.registry.now c.args.number c.args.config.now c.in_ok-reply.ensures.lawful c.requires
+pub resumed-requires-clause-fits : goal.resumed-requires-clause-fits
+resumed-requires-clause-fits c =
+    let wish : wish_of (ask_of c.args.config.now) ≡ Alone =
+    ap wish_of (sym c.ask.ensures.ask) ∙ sym c.in-Alone.ensures in
+    replied_answers c.args.registry.now c.args.registry.now c.args.number c.args.config.now Done c.requires
+    (Unshared wish refl refl)
 
-pub returns-in-Born-clause-moves : goal.returns-in-Born-clause-moves
-returns-in-Born-clause-moves c =
-    let replied = subst (λ (o : Option Reply). IfSome o (λ r. Replied c.args.registry.now c.args.number c.args.config.now r c.reply.new.registry)) c.in-Some.is c.in_ok-reply.ensures.replied in
-    let kids : c.in-Born.child ∷ [] ≡ children (moved c.args.config.now c.in-Some.reply) = ap children (sym c.in-Born.is ∙ c.in_ok-child.ensures.kind) in
-    Goes c.in_ok-reply.ensures.asking c.in-Some.reply replied c.in_ok-child.ensures.state kids
+pub resumed-requires-clause-in_range : goal.resumed-requires-clause-in_range
+resumed-requires-clause-in_range c =
+    few_masks c.args.registry.now c.args.number c.args.config.now c.limits.ensures.lawful c.requires
 
-pub returns-in-Plain-clause-moves : goal.returns-in-Plain-clause-moves
-returns-in-Plain-clause-moves c =
-    let replied = subst (λ (o : Option Reply). IfSome o (λ r. Replied c.args.registry.now c.args.number c.args.config.now r c.reply.new.registry)) c.in-Some.is c.in_ok-reply.ensures.replied in
-    let none : children c.in_ok-child.field-0 ≡ [] =
-    elim c.in-Plain.is [
-      | inl e ↦ ap children e
-      | inr later ↦ elim later [ inl e ↦ ap children e | inr more ↦ elim more [ inl e ↦ ap children e | inr e ↦ ap children e.1 ] ]
-    ] in
-    Goes c.in_ok-reply.ensures.asking c.in-Some.reply replied c.in_ok-child.ensures.state (sym none ∙ ap children c.in_ok-child.ensures.kind)
+pub returns-in-Alone-clause-moves : goal.returns-in-Alone-clause-moves
+returns-in-Alone-clause-moves c =
+    let wish : wish_of (ask_of c.args.config.now) ≡ Alone =
+    ap wish_of (sym c.ask.ensures.ask) ∙ sym c.in-Alone.ensures in
+    let asks = asking c.args.config.now c.ask.result c.ask.ensures.ask c.ask.ensures.tells c.ask.ensures.leads
+    c.ask.ensures.names c.ask.ensures.moves_names c.ask.ensures.child_names in
+    goes_on c.args.registry.now c.args.number c.args.config.now c.args.registry.now c.resumed.new.config Done
+    c.resumed.result asks (Unshared wish refl refl) c.resumed.ensures.state c.resumed.ensures.child
+
+pub returns-in-Alone-clause-stops : goal.returns-in-Alone-clause-stops
+returns-in-Alone-clause-stops c =
+    lacks_memory c.args.registry.now c.args.number c.args.config.now c.resumed.result c.resumed.ensures.memory
+
+pub answer-requires : goal.answer-requires
+answer-requires c = λ range.
+    let wish : wish_of (ask_of c.args.config.now) ≡ Shared c.in-Shared.call =
+    ap wish_of (sym c.ask.ensures.ask) ∙ sym c.in-Shared.ensures in
+    let asks = asking c.args.config.now c.ask.result c.ask.ensures.ask c.ask.ensures.tells c.ask.ensures.leads
+    c.ask.ensures.names c.ask.ensures.moves_names c.ask.ensures.child_names in
+    may_call c.args.registry.now c.args.number c.args.config.now c.in-Shared.call c.limits.ensures.lawful c.requires
+    asks wish range
+
+pub resumed-requires-in-Ok-clause-fits : goal.resumed-requires-in-Ok-clause-fits
+resumed-requires-in-Ok-clause-fits c =
+    let wish : wish_of (ask_of c.args.config.now) ≡ Shared c.in-Shared.call =
+    ap wish_of (sym c.ask.ensures.ask) ∙ sym c.in-Shared.ensures in
+    replied_answers c.args.registry.now c.answer.new.registry c.args.number c.args.config.now c.in-Ok.reply c.requires
+    (Made c.in-Shared.call wish c.in-Ok.ensures)
+
+pub resumed-requires-in-Ok-clause-in_range : goal.resumed-requires-in-Ok-clause-in_range
+resumed-requires-in-Ok-clause-in_range c =
+    few_masks c.args.registry.now c.args.number c.args.config.now c.limits.ensures.lawful c.requires
+
+pub returns-in-Ok-clause-moves : goal.returns-in-Ok-clause-moves
+returns-in-Ok-clause-moves c =
+    let wish : wish_of (ask_of c.args.config.now) ≡ Shared c.in-Shared.call =
+    ap wish_of (sym c.ask.ensures.ask) ∙ sym c.in-Shared.ensures in
+    let asks = asking c.args.config.now c.ask.result c.ask.ensures.ask c.ask.ensures.tells c.ask.ensures.leads
+    c.ask.ensures.names c.ask.ensures.moves_names c.ask.ensures.child_names in
+    goes_on c.args.registry.now c.args.number c.args.config.now c.answer.new.registry c.resumed-in-Ok.new.config
+    c.in-Ok.reply c.resumed-in-Ok.result asks (Made c.in-Shared.call wish c.in-Ok.ensures)
+    c.resumed-in-Ok.ensures.state c.resumed-in-Ok.ensures.child
+
+pub returns-in-Ok-clause-stops : goal.returns-in-Ok-clause-stops
+returns-in-Ok-clause-stops c =
+    lacks_memory c.args.registry.now c.args.number c.args.config.now c.resumed-in-Ok.result
+    c.resumed-in-Ok.ensures.memory
+
+pub returns-in-Err-clause-stops : goal.returns-in-Err-clause-stops
+returns-in-Err-clause-stops c =
+    let wish : wish_of (ask_of c.args.config.now) ≡ Shared c.in-Shared.call =
+    ap wish_of (sym c.ask.ensures.ask) ∙ sym c.in-Shared.ensures in
+    let refused : Refuses c.args.registry.now c.args.number c.args.config.now c.fault.result = record {
+      call = c.in-Shared.call;
+      wish = wish;
+      why = c.in-Err.error;
+      refused = c.in-Err.ensures.why;
+      fault = c.fault.ensures;
+    } in
+    inr refused
