@@ -5,7 +5,11 @@ use Rattle.effect_term.specs.declared.term.Kind.TheVariants.{Ref, Deferred}
 use Rattle.effect_term.specs.Names.{use_of, value_uses, uses_of}
 use Rattle.effect_term.specs.Private.Uses.{own_uses, part_uses}
 use Rattle.effect_term.specs.declared.term.Term.{Term}
-use Rattle.effect_term.specs.declared.term.Term.TheVariants.{Pure, Raise, Let', Seq', Handle', If0', Add, Say, Cede, Never, Canceled, Uncancelable', Poll', OnCancel', Start', Join', Cancel, Ref', Get, Set, Modify, Deferred', Complete, Await, Repeat', Forever', Guarantee', Bracket', BracketCase', BracketFull', Race', Both'}
+use Rattle.effect_term.specs.declared.term.Term.TheVariants.{Pure, Raise, Let', Seq', Handle', If0', Add, Say, Cede}
+use Rattle.effect_term.specs.declared.term.Term.TheVariants.{Never, Canceled, Uncancelable', Poll', OnCancel', Start'}
+use Rattle.effect_term.specs.declared.term.Term.TheVariants.{Join', Cancel, Ref', Get, Set, Modify, Deferred'}
+use Rattle.effect_term.specs.declared.term.Term.TheVariants.{Complete, Await, Repeat', Forever', Guarantee', Bracket'}
+use Rattle.effect_term.specs.declared.term.Term.TheVariants.{BracketCase', BracketFull', Race', Both'}
 
 pub own_before_parts : (around : List Kind) (t : Term) → uses_of around t ≡ own_uses around t ++ part_uses around t
 own_before_parts around (Pure v) = sym (append-nil (value_uses around v))

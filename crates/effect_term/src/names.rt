@@ -81,7 +81,8 @@ fn check_under(kinds: &mut Vec<Kind>, bound: &[Kind], part: &Term) -> Result<(),
 #[cycle(names)]
 #[tactic(auto, using(crate::proofs::Faults::faults))]
 fn check_both(kinds: &mut Vec<Kind>, first: &Term, second: &Term) -> Result<(), TermError>
-    ensures good { OnOk result (first_fault (uses_of kinds.old.items first.now ++ uses_of kinds.old.items second.now) ≡ None) }
+    ensures good { OnOk result (first_fault (uses_of kinds.old.items first.now ++
+        uses_of kinds.old.items second.now) ≡ None) }
     ensures fault { IfErr result (IsFault (uses_of kinds.old.items first.now ++ uses_of kinds.old.items second.now)) }
     ensures same { kinds.new.items ≡ kinds.old.items }
 {
@@ -98,8 +99,10 @@ fn check_then_under(
     bound: &[Kind],
     next: &Term,
 ) -> Result<(), TermError>
-    ensures good { OnOk result (first_fault (uses_of kinds.old.items first.now ++ uses_of (kinds.old.items ++ bound.now) next.now) ≡ None) }
-    ensures fault { IfErr result (IsFault (uses_of kinds.old.items first.now ++ uses_of (kinds.old.items ++ bound.now) next.now)) }
+    ensures good { OnOk result (first_fault (uses_of kinds.old.items first.now ++
+        uses_of (kinds.old.items ++ bound.now) next.now) ≡ None) }
+    ensures fault { IfErr result (IsFault (uses_of kinds.old.items first.now ++
+        uses_of (kinds.old.items ++ bound.now) next.now)) }
     ensures same { kinds.new.items ≡ kinds.old.items }
 {
     check_names(kinds, first)?;
@@ -115,8 +118,10 @@ fn check_both_under(
     first: &Term,
     second: &Term,
 ) -> Result<(), TermError>
-    ensures good { OnOk result (first_fault (uses_of (kinds.old.items ++ bound.now) first.now ++ uses_of (kinds.old.items ++ bound.now) second.now) ≡ None) }
-    ensures fault { IfErr result (IsFault (uses_of (kinds.old.items ++ bound.now) first.now ++ uses_of (kinds.old.items ++ bound.now) second.now)) }
+    ensures good { OnOk result (first_fault (uses_of (kinds.old.items ++ bound.now) first.now ++
+        uses_of (kinds.old.items ++ bound.now) second.now) ≡ None) }
+    ensures fault { IfErr result (IsFault (uses_of (kinds.old.items ++ bound.now) first.now ++
+        uses_of (kinds.old.items ++ bound.now) second.now)) }
     ensures same { kinds.new.items ≡ kinds.old.items }
 {
     check_under(kinds, bound, first)?;
@@ -132,8 +137,10 @@ fn check_in_order(
     second: &Term,
     more: &[Term],
 ) -> Result<(), TermError>
-    ensures good { OnOk result (first_fault (uses_of kinds.old.items first.now ++ (uses_of kinds.old.items second.now ++ uses_of_all kinds.old.items more.now)) ≡ None) }
-    ensures fault { IfErr result (IsFault (uses_of kinds.old.items first.now ++ (uses_of kinds.old.items second.now ++ uses_of_all kinds.old.items more.now))) }
+    ensures good { OnOk result (first_fault (uses_of kinds.old.items first.now ++
+        (uses_of kinds.old.items second.now ++ uses_of_all kinds.old.items more.now)) ≡ None) }
+    ensures fault { IfErr result (IsFault (uses_of kinds.old.items first.now ++ (uses_of kinds.old.items second.now ++
+        uses_of_all kinds.old.items more.now))) }
     ensures same { kinds.new.items ≡ kinds.old.items }
 {
     check_names(kinds, first)?;
@@ -164,8 +171,10 @@ fn check_outcomes(
     errored: &Term,
     canceled: &Term,
 ) -> Result<(), TermError>
-    ensures good { OnOk result (first_fault (uses_of (kinds.old.items ++ Value ∷ []) succeeded.now ++ (uses_of (kinds.old.items ++ Value ∷ []) errored.now ++ uses_of kinds.old.items canceled.now)) ≡ None) }
-    ensures fault { IfErr result (IsFault (uses_of (kinds.old.items ++ Value ∷ []) succeeded.now ++ (uses_of (kinds.old.items ++ Value ∷ []) errored.now ++ uses_of kinds.old.items canceled.now))) }
+    ensures good { OnOk result (first_fault (uses_of (kinds.old.items ++ Value ∷ []) succeeded.now ++
+        (uses_of (kinds.old.items ++ Value ∷ []) errored.now ++ uses_of kinds.old.items canceled.now)) ≡ None) }
+    ensures fault { IfErr result (IsFault (uses_of (kinds.old.items ++ Value ∷ []) succeeded.now ++
+        (uses_of (kinds.old.items ++ Value ∷ []) errored.now ++ uses_of kinds.old.items canceled.now))) }
     ensures same { kinds.new.items ≡ kinds.old.items }
 {
     check_under(kinds, &[Kind::Value], succeeded)?;
@@ -183,8 +192,14 @@ fn check_cases(
     on_error: &Term,
     on_cancel: &Term,
 ) -> Result<(), TermError>
-    ensures good { OnOk result (first_fault (uses_of (kinds.old.items ++ Value ∷ []) body.now ++ (uses_of (kinds.old.items ++ Value ∷ Value ∷ []) on_value.now ++ (uses_of (kinds.old.items ++ Value ∷ Value ∷ []) on_error.now ++ uses_of (kinds.old.items ++ Value ∷ []) on_cancel.now))) ≡ None) }
-    ensures fault { IfErr result (IsFault (uses_of (kinds.old.items ++ Value ∷ []) body.now ++ (uses_of (kinds.old.items ++ Value ∷ Value ∷ []) on_value.now ++ (uses_of (kinds.old.items ++ Value ∷ Value ∷ []) on_error.now ++ uses_of (kinds.old.items ++ Value ∷ []) on_cancel.now)))) }
+    ensures good { OnOk result (first_fault (uses_of (kinds.old.items ++ Value ∷ []) body.now ++
+        (uses_of (kinds.old.items ++ Value ∷ Value ∷ []) on_value.now ++
+        (uses_of (kinds.old.items ++ Value ∷ Value ∷ []) on_error.now ++
+        uses_of (kinds.old.items ++ Value ∷ []) on_cancel.now))) ≡ None) }
+    ensures fault { IfErr result (IsFault (uses_of (kinds.old.items ++ Value ∷ []) body.now ++
+        (uses_of (kinds.old.items ++ Value ∷ Value ∷ []) on_value.now ++
+        (uses_of (kinds.old.items ++ Value ∷ Value ∷ []) on_error.now ++
+        uses_of (kinds.old.items ++ Value ∷ []) on_cancel.now)))) }
     ensures same { kinds.new.items ≡ kinds.old.items }
 {
     check_under(kinds, &[Kind::Value], body)?;

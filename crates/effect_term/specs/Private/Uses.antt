@@ -4,7 +4,11 @@ use Rattle.effect_term.specs.declared.term.Kind.{Kind}
 use Rattle.effect_term.specs.declared.term.Kind.TheVariants.{Value, Poll, Fiber, Ref, Deferred}
 use Rattle.effect_term.specs.Names.{Use, use_of, value_uses, uses_of, uses_of_row}
 use Rattle.effect_term.specs.declared.term.Term.{Term}
-use Rattle.effect_term.specs.declared.term.Term.TheVariants.{Pure, Raise, Let', Seq', Handle', If0', Add, Say, Cede, Never, Canceled, Uncancelable', Poll', OnCancel', Start', Join', Cancel, Ref', Get, Set, Modify, Deferred', Complete, Await, Repeat', Forever', Guarantee', Bracket', BracketCase', BracketFull', Race', Both'}
+use Rattle.effect_term.specs.declared.term.Term.TheVariants.{Pure, Raise, Let', Seq', Handle', If0', Add, Say, Cede}
+use Rattle.effect_term.specs.declared.term.Term.TheVariants.{Never, Canceled, Uncancelable', Poll', OnCancel', Start'}
+use Rattle.effect_term.specs.declared.term.Term.TheVariants.{Join', Cancel, Ref', Get, Set, Modify, Deferred'}
+use Rattle.effect_term.specs.declared.term.Term.TheVariants.{Complete, Await, Repeat', Forever', Guarantee', Bracket'}
+use Rattle.effect_term.specs.declared.term.Term.TheVariants.{BracketCase', BracketFull', Race', Both'}
 
 -- the uses of a term's own operands
 abbrev pub own_uses : List Kind → Term → List Use
@@ -58,7 +62,8 @@ part_uses around (Uncancelable' p e) = uses_of (around ++ Poll ∷ []) e
 part_uses around (Poll' n p e) = uses_of around e
 part_uses around (OnCancel' p e q fin) = uses_of around e ++ uses_of around fin
 part_uses around (Start' p e q k) = uses_of around e ++ uses_of (around ++ Fiber ∷ []) k
-part_uses around (Join' f p s q e r c) = uses_of (around ++ Value ∷ []) s ++ (uses_of (around ++ Value ∷ []) e ++ uses_of around c)
+part_uses around (Join' f p s q e r c) =
+    uses_of (around ++ Value ∷ []) s ++ (uses_of (around ++ Value ∷ []) e ++ uses_of around c)
 part_uses around (Cancel f) = []
 part_uses around (Ref' v p k) = uses_of (around ++ Ref ∷ []) k
 part_uses around (Get r) = []
@@ -70,8 +75,14 @@ part_uses around (Await d) = []
 part_uses around (Repeat' v p e) = uses_of around e
 part_uses around (Forever' p e) = uses_of around e
 part_uses around (Guarantee' p e q fin) = uses_of around e ++ uses_of around fin
-part_uses around (Bracket' p acq q body r rel) = uses_of around acq ++ (uses_of (around ++ Value ∷ []) body ++ uses_of (around ++ Value ∷ []) rel)
-part_uses around (BracketCase' p acq q body r rs s re t rc) = uses_of around acq ++ (uses_of (around ++ Value ∷ []) body ++ (uses_of (around ++ Value ∷ Value ∷ []) rs ++ (uses_of (around ++ Value ∷ Value ∷ []) re ++ uses_of (around ++ Value ∷ []) rc)))
-part_uses around (BracketFull' p acq q body r rs s re t rc) = uses_of (around ++ Poll ∷ []) acq ++ (uses_of (around ++ Value ∷ []) body ++ (uses_of (around ++ Value ∷ Value ∷ []) rs ++ (uses_of (around ++ Value ∷ Value ∷ []) re ++ uses_of (around ++ Value ∷ []) rc)))
+part_uses around (Bracket' p acq q body r rel) =
+    uses_of around acq ++ (uses_of (around ++ Value ∷ []) body ++ uses_of (around ++ Value ∷ []) rel)
+part_uses around (BracketCase' p acq q body r rs s re t rc) = uses_of around acq ++
+    (uses_of (around ++ Value ∷ []) body ++ (uses_of (around ++ Value ∷ Value ∷ []) rs ++
+    (uses_of (around ++ Value ∷ Value ∷ []) re ++ uses_of (around ++ Value ∷ []) rc)))
+part_uses around (BracketFull' p acq q body r rs s re t rc) = uses_of (around ++ Poll ∷ []) acq ++
+    (uses_of (around ++ Value ∷ []) body ++ (uses_of (around ++ Value ∷ Value ∷ []) rs ++
+    (uses_of (around ++ Value ∷ Value ∷ []) re ++ uses_of (around ++ Value ∷ []) rc)))
 part_uses around (Race' p a q b) = uses_of around a ++ uses_of around b
-part_uses around (Both' p a q b r k) = uses_of around a ++ (uses_of around b ++ uses_of (around ++ Value ∷ Value ∷ []) k)
+part_uses around (Both' p a q b r k) =
+    uses_of around a ++ (uses_of around b ++ uses_of (around ++ Value ∷ Value ∷ []) k)

@@ -21,10 +21,12 @@ check_all-check_names-requires t c =
 pub check_all-returns-in_err-check_names-clause-fault :
     goal.check_all-returns-in_err-check_names-clause-fault
 check_all-returns-in_err-check_names-clause-fault t c =
-    let here = uses_of_all-at c.args.kinds.now.items c.args.terms.now c.loop-t.t-index c.t-item.result c.loop-t-test.true c.t-item.is in
+    let here = uses_of_all-at c.args.kinds.now.items c.args.terms.now c.loop-t.t-index c.t-item.result
+    c.loop-t-test.true c.t-item.is in
     grind (arith, faults, c.loop-t.invariant, here)
 
 pub check_all-loop-t-preserved : goal.check_all-loop-t-preserved
 check_all-loop-t-preserved t c =
-    let here = uses_of_all-at c.args.kinds.now.items c.args.terms.now c.loop-t.t-index c.t-item.result c.loop-t-test.true c.t-item.is in
+    let here = uses_of_all-at c.args.kinds.now.items c.args.terms.now c.loop-t.t-index c.t-item.result
+    c.loop-t-test.true c.t-item.is in
     record { same = cc; rest = grind (arith, faults, here) }

@@ -31,10 +31,12 @@ abbrev pub decreases-check_outcomes : goal.decreases-check_outcomes
 decreases-check_outcomes l = 4 * (size_of l.succeeded.now + size_of l.errored.now + size_of l.canceled.now) + 3
 
 abbrev pub decreases-check_cases : goal.decreases-check_cases
-decreases-check_cases l = 4 * (size_of l.body.now + size_of l.on_value.now + size_of l.on_error.now + size_of l.on_cancel.now) + 3
+decreases-check_cases l =
+    4 * (size_of l.body.now + size_of l.on_value.now + size_of l.on_error.now + size_of l.on_cancel.now) + 3
 
 abbrev pub invariant-check_all-loop-t : goal.invariant-check_all-loop-t
 invariant-check_all-loop-t l = record {
   same : l.kinds.items ≡ l.fn.kinds.items;
-  rest : first_fault (uses_of_all l.fn.kinds.items l.terms) ≡ first_fault (uses_of_all l.fn.kinds.items (drop l.t-index l.terms));
+  rest : first_fault (uses_of_all l.fn.kinds.items l.terms) ≡
+      first_fault (uses_of_all l.fn.kinds.items (drop l.t-index l.terms));
 }
