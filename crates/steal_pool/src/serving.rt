@@ -16,8 +16,10 @@ impl<'g, 'f, G: Gate, C: FaultCell> Shared<'g, 'f, G, C> {
     /// from its own queue meanwhile, and is to serve next.
     ///
     /// A fiber that could go on at once is put back only where another number is in the worker's
-    /// queue: that one is taken, and this one is put last. Else the worker goes on with it.
-    pub fn serve<'b, 'a, R: Wait>(
+    /// queue: that one is taken, and this one is put last. Else the worker goes on with it. Where it has
+    /// started a child, the child would be the other number: so this one is put back and queued, and the
+    /// worker goes on with the child, which has never been in the bay.
+    pub(crate) fn serve<'b, 'a, R: Wait>(
         &self,
         rt: &R,
         worker: u8,
@@ -27,7 +29,10 @@ impl<'g, 'f, G: Gate, C: FaultCell> Shared<'g, 'f, G, C> {
     ) -> Result<Option<u16>, RunError>
         ensures same { berth.new ≡ berth.old }
     {
-        let mut task = berth.take(rt, number)?;
+        let Some(mut task) = berth.take(rt, number) else {
+            return Err(RunError::Lost(number));
+        };
+        let mut number = number;
         let mut waited = None;
         for _ in rt.forever() {
             if self.first_fault.is_known() {
@@ -48,17 +53,43 @@ impl<'g, 'f, G: Gate, C: FaultCell> Shared<'g, 'f, G, C> {
                 }
                 Turn::OutOfMoves => return self.rest(rt, queues, berth, task, number),
                 Turn::Cedes => {}
-                Turn::Started(child) => self.start(rt, queues, berth, child)?,
+                Turn::Started(child) => {
+                    if let Some(next) = queues.own.take() {
+                        self.start(rt, queues, berth, child)?;
+                        return self.make_way(rt, queues, berth, task, number, next);
+                    }
+                    number = self.hand_over(rt, queues, berth, task, &child)?;
+                    task = child;
+                    continue;
+                }
                 Turn::WakeFiber(other) => self.wake(rt, queues, berth, other)?,
                 Turn::WakeTopic(topic) => self.wake_all_of(rt, queues, berth, topic, number)?,
             }
             if let Some(next) = queues.own.take() {
-                berth.put(rt, task, true)?;
-                self.pass_on(queues, number)?;
-                return Ok(Some(next));
+                return self.make_way(rt, queues, berth, task, number, next);
             }
         }
         unreachable!()
+    }
+
+    // Puts back the task of a fiber that could go on, and queues it, since this number is to be served
+    // next.
+    #[inline(always)]
+    fn make_way<'b, 'a, R: Wait>(
+        &self,
+        rt: &R,
+        queues: &mut Queues<'_>,
+        berth: &mut Berth<'b, 'a>,
+        task: FiberTask<'a>,
+        number: u16,
+        next: u16,
+    ) -> Result<Option<u16>, RunError>
+        requires named { IsNamed berth.old.named task }
+        ensures same { berth.new ≡ berth.old }
+    {
+        berth.put(rt, task, true)?;
+        self.pass_on(queues, number)?;
+        Ok(Some(next))
     }
 
     // Puts back the task of a fiber that can't go on. It is queued again where it was woken
@@ -103,6 +134,25 @@ impl<'g, 'f, G: Gate, C: FaultCell> Shared<'g, 'f, G, C> {
             self.release();
         }
         Ok(None)
+    }
+
+    // Puts back the task of a fiber that has started this child, and queues it. The child's number, which
+    // it answers, is held from then on.
+    fn hand_over<'b, 'a, R: Wait>(
+        &self,
+        rt: &R,
+        queues: &mut Queues<'_>,
+        berth: &mut Berth<'b, 'a>,
+        parent: FiberTask<'a>,
+        child: &FiberTask<'a>,
+    ) -> Result<u16, RunError>
+        requires named { IsNamed berth.old.named parent }
+        ensures same { berth.new ≡ berth.old }
+    {
+        let number = parent.number();
+        berth.put(rt, parent, true)?;
+        self.queue(queues, number)?;
+        Ok(child.number())
     }
 
     // Puts a new fiber's task into its slot, and queues it.
