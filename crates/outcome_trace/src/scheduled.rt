@@ -91,6 +91,10 @@ fn entries(
 }
 
 // An entry: the move of the fiber of this number, if it is born and has a move.
+//
+// What most entries call is inlined into the loop over them: a result that holds fields goes through
+// memory where its function isn't. What few call stands apart, so that the loop keeps its registers.
+#[inline(always)]
 fn entry(
     fibers: &mut Vec<Config>,
     registry: &mut PlainRegistry,
@@ -115,6 +119,8 @@ fn entry(
 }
 
 // One more fiber, with the next number.
+#[cold]
+#[inline(never)]
 fn add(fibers: &mut Vec<Config>, child: Config) -> Result<(), AllocError>
     ensures { OnOk result (fibers.new.items ≡ fibers.old.items ++ child ∷ []) }
 {
@@ -123,6 +129,7 @@ fn add(fibers: &mut Vec<Config>, child: Config) -> Result<(), AllocError>
 }
 
 // The next move of a fiber, if it has one; the child that it starts, if it does.
+#[inline(always)]
 fn make_move(
     config: &mut Config,
     registry: &mut PlainRegistry,
@@ -144,6 +151,7 @@ fn make_move(
 }
 
 // The reply under which a fiber makes its next move, or none where it has none.
+#[inline(always)]
 fn reply(
     config: &Config,
     registry: &mut PlainRegistry,
@@ -172,6 +180,7 @@ fn reply(
 }
 
 // The registry's answer to a call of a fiber.
+#[inline(always)]
 fn answer(registry: &mut PlainRegistry, by: u16, call: Call) -> Result<Reply, CellError>
     requires { IsInRange call → MayCall registry.old by call }
     ensures { MatchResult result (λ reply. IsMade registry.old registry.new by call reply)
@@ -209,6 +218,8 @@ fn answer(registry: &mut PlainRegistry, by: u16, call: Call) -> Result<Reply, Ce
 }
 
 // The registry's answer to the end of a fiber.
+#[cold]
+#[inline(never)]
 fn finish(registry: &mut PlainRegistry, by: u16, outcome: Outcome) -> Result<Reply, CellError>
     requires { OutcomeFits outcome → MayCall registry.old by (Call.Finish outcome) }
     ensures { MatchResult result (λ reply. IsMade registry.old registry.new by (Call.Finish outcome) reply)
@@ -223,6 +234,8 @@ fn finish(registry: &mut PlainRegistry, by: u16, outcome: Outcome) -> Result<Rep
 }
 
 // The fault of a run in which this call of the fiber was refused.
+#[cold]
+#[inline(never)]
 fn fault(fiber: u16, error: CellError) -> RunError
     ensures { result ≡ fault_of fiber error }
 {

@@ -18,6 +18,7 @@ pub enum Wish {
 
 impl Wish {
     /// What a move that asks so wants.
+    #[inline(always)]
     pub fn of(ask: Ask) -> Wish
         ensures { result ≡ wish_of ask }
     {
