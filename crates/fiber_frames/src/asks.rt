@@ -3,11 +3,14 @@
 ghost use Rattle.std.specs.Prelude.{◌≡◌};
 ghost use Rattle.fiber_frames.specs.Table.{word_at};
 ghost use Rattle.fiber_frames.specs.Machine.{handle_at, act_ask, word_ask, root_ask, result_ask, leaf_ask, row_ask};
-ghost use Rattle.fiber_frames.specs.Machines.{state_of};
+ghost use Rattle.fiber_frames.specs.Machines.{fiber_in, state_of};
+ghost use Rattle.fiber_frames.specs.Frames.{Sound};
+ghost use Rattle.fiber_frames.specs.Fiber.{ask_of};
 
 use crate::ask::Ask;
 use crate::frame::{Frame, Leaf, Stage};
 use crate::machine::{Machine, handle, mask, undoes};
+use crate::move_case::MoveCase;
 use crate::operand::number;
 use crate::table::word;
 use crate::word::Word;
@@ -110,6 +113,18 @@ impl Machine {
             Stage::Drained(_) => Ask::Finish(Outcome::Canceled),
             Stage::Over(outcome) => Ask::Over(outcome),
             Stage::Broken => Ask::Broken,
+        }
+    }
+
+    // The shared call that the next move wants.
+    pub(crate) fn wanted(&self) -> Ask
+        requires { Sound (state_of self.now) }
+        ensures { result ≡ ask_of (fiber_in self.now) }
+    {
+        match self.next_case() {
+            MoveCase::Looks => Ask::Look,
+            MoveCase::Cuts => Ask::Cut,
+            MoveCase::Reduces | MoveCase::Rests => self.row_ask(),
         }
     }
 }
