@@ -32,41 +32,43 @@ impl<'g, 'f, G: Gate, C: FaultCell> Shared<'g, 'f, G, C> {
         let Some(mut task) = berth.take(rt, number) else {
             return Err(RunError::Lost(number));
         };
-        let mut number = number;
         let mut waited = None;
         for _ in rt.forever() {
             if self.first_fault.is_known() {
                 return Ok(None);
             }
-            self.gate.enter(worker, number);
+            self.gate.enter(worker, task.number());
             let before = waited;
             waited = None;
             match berth.turn(&mut task, self.budget)? {
-                Turn::Ended(_) => return self.end(rt, queues, berth, task, number),
+                Turn::Ended(_) => return self.end(rt, queues, berth, task),
                 Turn::Waits(topic) => {
                     if before == Some(topic) {
-                        return self.rest(rt, queues, berth, task, number);
+                        return self.rest(rt, queues, berth, task);
                     }
-                    berth.register(rt, topic, number)?;
+                    berth.register(rt, topic, task.number())?;
                     waited = Some(topic);
                     continue;
                 }
-                Turn::OutOfMoves => return self.rest(rt, queues, berth, task, number),
+                Turn::OutOfMoves => return self.rest(rt, queues, berth, task),
                 Turn::Cedes => {}
                 Turn::Started(child) => {
                     if let Some(next) = queues.own.take() {
-                        self.start(rt, queues, berth, child)?;
-                        return self.make_way(rt, queues, berth, task, number, next);
+                        self.put_ready(rt, queues, berth, child)?;
+                        return self.make_way(rt, queues, berth, task, next);
                     }
-                    number = self.hand_over(rt, queues, berth, task, &child)?;
+                    // The child is held in its parent's place.
+                    self.put_ready(rt, queues, berth, task)?;
                     task = child;
                     continue;
                 }
                 Turn::WakeFiber(other) => self.wake(rt, queues, berth, other)?,
-                Turn::WakeTopic(topic) => self.wake_all_of(rt, queues, berth, topic, number)?,
+                Turn::WakeTopic(topic) => {
+                    self.wake_all_of(rt, queues, berth, topic, task.number())?;
+                }
             }
             if let Some(next) = queues.own.take() {
-                return self.make_way(rt, queues, berth, task, number, next);
+                return self.make_way(rt, queues, berth, task, next);
             }
         }
         unreachable!()
@@ -81,12 +83,12 @@ impl<'g, 'f, G: Gate, C: FaultCell> Shared<'g, 'f, G, C> {
         queues: &mut Queues<'_>,
         berth: &mut Berth<'b, 'a>,
         task: FiberTask<'a>,
-        number: u16,
         next: u16,
     ) -> Result<Option<u16>, RunError>
         requires named { IsNamed berth.old.named task }
         ensures same { berth.new ≡ berth.old }
     {
+        let number = task.number();
         berth.put(rt, task, true)?;
         self.pass_on(queues, number)?;
         Ok(Some(next))
@@ -100,11 +102,11 @@ impl<'g, 'f, G: Gate, C: FaultCell> Shared<'g, 'f, G, C> {
         queues: &mut Queues<'_>,
         berth: &mut Berth<'b, 'a>,
         task: FiberTask<'a>,
-        number: u16,
     ) -> Result<Option<u16>, RunError>
         requires named { IsNamed berth.old.named task }
         ensures same { berth.new ≡ berth.old }
     {
+        let number = task.number();
         if berth.put(rt, task, false)? {
             self.pass_on(queues, number)?;
         } else {
@@ -121,11 +123,11 @@ impl<'g, 'f, G: Gate, C: FaultCell> Shared<'g, 'f, G, C> {
         queues: &mut Queues<'_>,
         berth: &mut Berth<'b, 'a>,
         task: FiberTask<'a>,
-        number: u16,
     ) -> Result<Option<u16>, RunError>
         requires named { IsNamed berth.old.named task }
         ensures same { berth.new ≡ berth.old }
     {
+        let number = task.number();
         let woken = berth.put(rt, task, false)?;
         self.wake_all_of(rt, queues, berth, Topic::Fiber(number), number)?;
         if woken {
@@ -136,38 +138,19 @@ impl<'g, 'f, G: Gate, C: FaultCell> Shared<'g, 'f, G, C> {
         Ok(None)
     }
 
-    // Puts back the task of a fiber that has started this child, and queues it. The child's number, which
-    // it answers, is held from then on.
-    fn hand_over<'b, 'a, R: Wait>(
+    // Puts the task of a fiber into its slot, and queues it beside the numbers that are queued or held.
+    fn put_ready<'b, 'a, R: Wait>(
         &self,
         rt: &R,
         queues: &mut Queues<'_>,
         berth: &mut Berth<'b, 'a>,
-        parent: FiberTask<'a>,
-        child: &FiberTask<'a>,
-    ) -> Result<u16, RunError>
-        requires named { IsNamed berth.old.named parent }
-        ensures same { berth.new ≡ berth.old }
-    {
-        let number = parent.number();
-        berth.put(rt, parent, true)?;
-        self.queue(queues, number)?;
-        Ok(child.number())
-    }
-
-    // Puts a new fiber's task into its slot, and queues it.
-    fn start<'b, 'a, R: Wait>(
-        &self,
-        rt: &R,
-        queues: &mut Queues<'_>,
-        berth: &mut Berth<'b, 'a>,
-        child: FiberTask<'a>,
+        task: FiberTask<'a>,
     ) -> Result<(), RunError>
-        requires named { IsNamed berth.old.named child }
+        requires named { IsNamed berth.old.named task }
         ensures same { berth.new ≡ berth.old }
     {
-        let number = child.number();
-        berth.put(rt, child, true)?;
+        let number = task.number();
+        berth.put(rt, task, true)?;
         self.queue(queues, number)
     }
 
