@@ -10,6 +10,7 @@
 #![tactic(auto)]
 
 mod answers;
+mod backwards;
 mod device;
 mod fault;
 mod fault_lines;

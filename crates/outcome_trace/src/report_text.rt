@@ -1,10 +1,13 @@
 //! The text of a report.
 
-ghost use Rattle.std.specs.Prelude.{◌≡◌, ◌++◌, false, IfOk, OnOk, IsErrOf, string_bytes};
+ghost use Rattle.std.specs.Prelude.{◌≡◌, ◌+◌, ◌*◌, ◌≤◌, ◌++◌, false, IfOk, OnOk, IsErrOf};
+ghost use Rattle.std.specs.Prelude.{codes, drop, length, string_bytes};
+ghost use Rattle.std.specs.Str.{IsAscii};
 ghost use Rattle.outcome_trace.specs.Text.{GoesOut, OnlyOutFaults, is_write_fault};
 ghost use Rattle.outcome_trace.specs.ReportText.{mark_text, later_marks_text, marks_text, outcome_text, fiber_line};
 ghost use Rattle.outcome_trace.specs.ReportText.{text_of_fibers};
 
+use crate::backwards::{put, put_number, put_signed};
 use crate::device::TextOut;
 use crate::fault::TextFault;
 use crate::report::{FiberReport, Report};
@@ -13,6 +16,16 @@ use effect_term::Outcome;
 use fiber_frames::Mark;
 use itoa::{Buffer, Integer};
 use std::alloc::{AllocError, Global};
+use std::str;
+
+/// How many bytes a mark may have: the longest word, a space, and the 20 digits of the greatest number.
+const LONGEST_MARK: usize = 30;
+
+/// How many marks are written at once.
+const MARKS_AT_ONCE: usize = 32;
+
+/// How many bytes they may have, each with the comma before it.
+const ROOM: usize = MARKS_AT_ONCE * (LONGEST_MARK + 2);
 
 /// A word and a number.
 fn push_number<I: Integer>(text: &mut String, word: &str, number: I) -> Result<(), AllocError>
@@ -23,43 +36,91 @@ fn push_number<I: Integer>(text: &mut String, word: &str, number: I) -> Result<(
     text.push_str(digits.format(number))
 }
 
-fn push_mark(text: &mut String, mark: Mark) -> Result<(), AllocError>
-    ensures { OnOk result (string_bytes text.new ≡ string_bytes text.old ++ mark_text mark) }
+/// A mark, written so that it ends at `end`. Gives where it starts.
+#[inline(always)]
+fn put_mark(room: &mut [u8], end: usize, mark: Mark) -> usize
+    requires start { LONGEST_MARK ≤ end }
+    requires end { end ≤ length room.old }
+    ensures text { drop result room.new ≡ mark_text mark ++ drop end room.old }
+    ensures start { end ≤ result + LONGEST_MARK }
+    ensures within { result ≤ end }
+    ensures ascii { IsAscii (mark_text mark) }
 {
     match mark {
-        Mark::Say(value) => push_number(text, "say ", value),
-        Mark::Enter(mask) => push_number(text, "enter ", mask),
-        Mark::Leave(mask) => push_number(text, "leave ", mask),
-        Mark::PollIn(mask) => push_number(text, "in ", mask),
-        Mark::PollOut(mask) => push_number(text, "out ", mask),
-        Mark::Cut => text.push_str("cut"),
-        Mark::Acquired(mask) => push_number(text, "acquired ", mask),
-        Mark::Releasing(mask) => push_number(text, "releasing ", mask),
-        Mark::Released(mask) => push_number(text, "released ", mask),
-        Mark::Dropped(code) => push_number(text, "dropped ", code),
+        Mark::Say(value) => put_signed(room, end, b"say ", value),
+        Mark::Enter(mask) => put_number(room, end, b"enter ", mask),
+        Mark::Leave(mask) => put_number(room, end, b"leave ", mask),
+        Mark::PollIn(mask) => put_number(room, end, b"in ", mask),
+        Mark::PollOut(mask) => put_number(room, end, b"out ", mask),
+        Mark::Cut => put(room, end, b"cut"),
+        Mark::Acquired(mask) => put_number(room, end, b"acquired ", mask),
+        Mark::Releasing(mask) => put_number(room, end, b"releasing ", mask),
+        Mark::Released(mask) => put_number(room, end, b"released ", mask),
+        Mark::Dropped(code) => put_signed(room, end, b"dropped ", code),
     }
 }
 
-/// Marks that stand behind another one.
-fn push_later_marks(text: &mut String, marks: &[Mark]) -> Result<(), AllocError>
+/// Marks that stand behind another one, written from the last one to the first so that they end where
+/// the room ends. Gives where they start.
+fn put_later_marks(room: &mut [u8], marks: &[Mark]) -> usize
+    requires { length marks.now * (LONGEST_MARK + 2) ≤ length room.old }
+    ensures text { drop result room.new ≡ later_marks_text marks.now }
+    ensures within { result ≤ length room.new }
+    ensures ascii { IsAscii (later_marks_text marks.now) }
+{
+    let mut start = room.len();
+    let mut left = marks.len();
+    while left > 0 {
+        left -= 1;
+        let word = put_mark(room, start, marks[left]);
+        start = put(room, word, b", ");
+    }
+    start
+}
+
+/// Bytes that are text. They are proved to be, so nobody looks.
+fn push_ascii(text: &mut String, bytes: &[u8]) -> Result<(), AllocError>
+    requires { IsAscii bytes.now }
+    ensures { OnOk result (string_bytes text.new ≡ string_bytes text.old ++ bytes.now) }
+{
+    text.push_str(unsafe { str::from_utf8_unchecked(bytes) })
+}
+
+/// Marks that stand behind another one, some at a time.
+fn push_later_marks(
+    text: &mut String,
+    room: &mut [u8; ROOM],
+    marks: &[Mark],
+) -> Result<(), AllocError>
     ensures { OnOk result (string_bytes text.new ≡ string_bytes text.old ++ later_marks_text marks.now) }
 {
-    for mark in marks {
-        text.push_str(", ")?;
-        push_mark(text, *mark)?;
+    let mut left = marks;
+    while !left.is_empty() {
+        let (now, later) = left.split_at(left.len().min(MARKS_AT_ONCE));
+        let start = put_later_marks(room, now);
+        push_ascii(text, &room[start..])?;
+        left = later;
     }
     Ok(())
 }
 
-fn push_marks(text: &mut String, marks: &[Mark]) -> Result<(), AllocError>
+/// A mark behind its colon.
+fn push_first_mark(text: &mut String, room: &mut [u8; ROOM], mark: Mark) -> Result<(), AllocError>
+    ensures { OnOk result (string_bytes text.new ≡ string_bytes text.old ++ (codes ": " ++ mark_text mark)) }
+{
+    let word = put_mark(room, ROOM, mark);
+    let start = put(room, word, b": ");
+    push_ascii(text, &room[start..])
+}
+
+fn push_marks(text: &mut String, room: &mut [u8; ROOM], marks: &[Mark]) -> Result<(), AllocError>
     ensures { OnOk result (string_bytes text.new ≡ string_bytes text.old ++ marks_text marks.now) }
 {
     let Some((first, later)) = marks.split_first() else {
         return Ok(());
     };
-    text.push_str(": ")?;
-    push_mark(text, *first)?;
-    push_later_marks(text, later)
+    push_first_mark(text, room, *first)?;
+    push_later_marks(text, room, later)
 }
 
 fn push_outcome(text: &mut String, outcome: Option<Outcome>) -> Result<(), AllocError>
@@ -73,13 +134,18 @@ fn push_outcome(text: &mut String, outcome: Option<Outcome>) -> Result<(), Alloc
     }
 }
 
-fn push_fiber(text: &mut String, number: usize, fiber: &FiberReport) -> Result<(), AllocError>
+fn push_fiber(
+    text: &mut String,
+    room: &mut [u8; ROOM],
+    number: usize,
+    fiber: &FiberReport,
+) -> Result<(), AllocError>
     ensures { OnOk result (string_bytes text.new ≡ string_bytes text.old ++ fiber_line number fiber.now) }
 {
     push_number(text, "fiber ", number)?;
     text.push_str(" ")?;
     push_outcome(text, fiber.outcome)?;
-    push_marks(text, fiber.marks.as_slice())?;
+    push_marks(text, room, fiber.marks.as_slice())?;
     text.push_str("\n")
 }
 
@@ -89,8 +155,9 @@ pub fn text_of_report(alloc: Global, report: &Report) -> Result<String, AllocErr
     ensures { IfOk result (λ text. string_bytes text ≡ text_of_fibers report.now.fibers) }
 {
     let mut text = String::new(alloc);
+    let mut room = [0; ROOM];
     for (number, fiber) in report.fibers.as_slice().iter().enumerate() {
-        push_fiber(&mut text, number, fiber)?;
+        push_fiber(&mut text, &mut room, number, fiber)?;
     }
     Ok(text)
 }

@@ -1,0 +1,23 @@
+-- The text of marks by its parts, and what a buffer has from an index on.
+use Rattle.std.proofs.Common.{◌≡◌, ℕ, ◌-◌, List, [], ◌∷◌, ◌++◌, codes, length, take, drop}
+use Rattle.std.proofs.Common.{refl, sym, ap, ◌∙◌, arith, append_assoc}
+use Rattle.std.specs.Str.{IsAscii}
+use Rattle.std.proofs.lemmas.List.{length-drop, take_all}
+use Rattle.std.proofs.lemmas.Str.Ascii.{IsAscii-cons}
+use Rattle.fiber_frames.specs.declared.mark.Mark.{Mark}
+use Rattle.outcome_trace.specs.ReportText.{mark_text, later_marks_text}
+
+pub later_marks_text-append : (xs ys : List Mark) →
+    later_marks_text (xs ++ ys) ≡ later_marks_text xs ++ later_marks_text ys
+later_marks_text-append [] ys = refl
+later_marks_text-append (m ∷ xs) ys =
+    ap (λ t. codes ", " ++ (mark_text m ++ t)) (later_marks_text-append xs ys)
+    ∙ ap (λ t. codes ", " ++ t) (sym (append_assoc (mark_text m) (later_marks_text xs) (later_marks_text ys)))
+
+pub first_mark-ascii : (m : Mark) → IsAscii (mark_text m) → IsAscii (codes ": " ++ mark_text m)
+first_mark-ascii m h =
+    IsAscii-cons 58 (32 ∷ mark_text m) (omega arith) (IsAscii-cons 32 (mark_text m) (omega arith) h)
+
+pub take-to_end : (n start : ℕ) (xs : List ℕ) → length xs ≡ n →
+    take (n - start) (drop start xs) ≡ drop start xs
+take-to_end n start xs long = take_all (n - start) (drop start xs) (omega (arith, length-drop start xs))

@@ -1,0 +1,56 @@
+//! Text that is written from its end to its front, into a buffer that has room for it. So a number needs
+//! no count of its digits, and nothing is moved.
+
+ghost use Rattle.std.specs.Prelude.{◌≡◌, ◌+◌, ◌≤◌, ◌++◌, length, drop};
+ghost use Rattle.std.specs.Fmt.{decimal, signed_decimal};
+ghost use Rattle.std.specs.Str.{IsAscii};
+
+use itoa::write_digits;
+
+// Each of these writes a text that ends at `end`, and gives where it starts. What stands from `end` on
+// stays.
+
+// These words.
+#[inline(always)]
+pub(crate) fn put(room: &mut [u8], end: usize, words: &[u8]) -> usize
+    requires start { length words.now ≤ end }
+    requires end { end ≤ length room.old }
+    ensures text { drop result room.new ≡ words.now ++ drop end room.old }
+    ensures start { result + length words.now ≡ end }
+{
+    let start = end - words.len();
+    room[start..end].copy_from_slice(words);
+    start
+}
+
+// These words, and then the number.
+#[inline(always)]
+pub(crate) fn put_number(room: &mut [u8], end: usize, words: &[u8], number: u64) -> usize
+    requires start { length words.now + 20 ≤ end }
+    requires end { end ≤ length room.old }
+    ensures text { drop result room.new ≡ (words.now ++ decimal number) ++ drop end room.old }
+    ensures start { end ≤ result + (length words.now + 20) }
+    ensures within { result ≤ end }
+    ensures ascii { IsAscii (decimal number) }
+{
+    let digits = write_digits(number, room, end);
+    put(room, digits, words)
+}
+
+// These words, and then the number with its sign.
+#[inline(always)]
+pub(crate) fn put_signed(room: &mut [u8], end: usize, words: &[u8], number: i32) -> usize
+    requires start { length words.now + 11 ≤ end }
+    requires end { end ≤ length room.old }
+    ensures text { drop result room.new ≡ (words.now ++ signed_decimal number) ++ drop end room.old }
+    ensures start { end ≤ result + (length words.now + 11) }
+    ensures within { result ≤ end }
+    ensures ascii { IsAscii (signed_decimal number) }
+{
+    let digits = write_digits(u64::from(number.unsigned_abs()), room, end);
+    if number < 0 {
+        let sign = put(room, digits, b"-");
+        return put(room, sign, words);
+    }
+    put(room, digits, words)
+}
