@@ -14,7 +14,7 @@ use Rattle.term_parse.specs.declared.form.Step.TheVariants as steps
 use Rattle.term_parse.specs.Atoms.{word, atoms_of}
 use Rattle.term_parse.specs.Language.{parts_of}
 use Rattle.term_parse.specs.Reading.{term, parts, with_front, reads_at, Fails}
-use Rattle.term_parse.specs.OpenForms.{OpenForm, innermost, outer, outers, begun_form, IsBegun, Growing}
+use Rattle.term_parse.specs.OpenForms.{innermost, outer, outers, begun_form, IsBegun, Growing}
 use Rattle.term_parse.specs.Forms.{Adds, Buildable, Closes, FailsAt, IsOpen, IsStack, IsWhole, Opens, Reads}
 use Rattle.term_parse.specs.Forms.{Shaped, Sound, Stepped, ends, sorts}
 use Rattle.term_parse.proofs.Words.{completed}

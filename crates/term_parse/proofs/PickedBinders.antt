@@ -1,5 +1,6 @@
 -- The binders that a part names.
-use Rattle.std.proofs.Common.{◌≡◌, ◌≤◌, ◌<◌, get_or, ℕ, suc, List, [], ◌∷◌, ◌++◌, length, Some, None, refl, ap, sym, subst, ◌∙◌, slice_get, take}
+use Rattle.std.proofs.Common.{◌≡◌, ◌≤◌, ◌<◌, get_or, ℕ, suc, List, [], ◌∷◌, ◌++◌, length, Some, None, refl, ap, sym}
+use Rattle.std.proofs.Common.{subst, ◌∙◌, slice_get, take}
 use Prim.Native.Nat.{zero}
 use Rattle.std.proofs.lemmas.Option.{slice_get-get_or, slice_get_past}
 use Rattle.std.proofs.lemmas.List.{take-take}

@@ -2,7 +2,6 @@
 use Rattle.std.proofs.Common.{◌≡◌, ◌≤◌, ◌<◌, ◌+◌, ℕ, suc, true, false, nat_lt, List, [], ◌∷◌, ◌++◌, length, drop, Result, Ok, Err, IfOk, IfErr, refl, ap, sym, subst, ◌∙◌, arith, append_assoc}
 use Rattle.std.proofs.lemmas.Bool.{lt-ltb, le-ltb}
 use Rattle.effect_term.specs.declared.term.Term as terms
-use Rattle.term_parse.specs.declared.table.Word.{Word}
 use Rattle.term_parse.specs.declared.error.ParseError.{ParseError}
 use Rattle.term_parse.specs.declared.error.ParseError.TheVariants as errors
 use Rattle.term_parse.specs.declared.token.Token.{Token}
@@ -10,19 +9,19 @@ use Rattle.term_parse.specs.declared.token.TokenKind.{TokenKind}
 use Rattle.term_parse.specs.declared.token.TokenKind.TheVariants as tokens
 use Rattle.term_parse.specs.declared.form.Piece.TheVariants as pieces
 use Rattle.term_parse.specs.OpenForms.{OpenForm}
-use Rattle.term_parse.specs.declared.form.Step.{Step}
-use Rattle.term_parse.specs.declared.form.Step.TheVariants as steps
 use Rattle.term_parse.specs.Atoms.{Atom, word, ended, atoms_of}
 use Rattle.term_parse.specs.Language.{parts_of}
 use Rattle.term_parse.specs.Lexemes.{lexemes_at}
-use Rattle.term_parse.specs.Reading.{Bound, Want, term, a_word, parts, want_step, open_of, with_front, reads, reads_at, reading, Fails}
+use Rattle.term_parse.specs.Reading.{Bound, Want, term, a_word, want_step, open_of, with_front, reads, reads_at}
+use Rattle.term_parse.specs.Reading.{reading, Fails}
 use Rattle.term_parse.specs.Seen.{seen_kind, IsNext, IsGood}
 use Rattle.std.specs.List.{slice_range}
-use Rattle.term_parse.specs.Forms.{Buildable, Stepped, sorts, ends, Completes, Shaped, Sound, Awaits, want_of, front_of, Adds, FailsAt, Reads, Opens, Closes, todo_onto, fronts, AllAwait, ScopesWithin, IsStack, IsWhole}
-use Rattle.term_parse.proofs.Words.{completed}
+use Rattle.term_parse.specs.Forms.{ends, Completes, Shaped, Awaits, want_of, front_of, Adds, FailsAt, Reads, Opens}
+use Rattle.term_parse.specs.Forms.{Closes, todo_onto, fronts, AllAwait, ScopesWithin, IsStack, IsWhole}
 use Rattle.term_parse.proofs.Steps.{read_step, read_fault, with_none, with_both, pieces_atoms-add, sorts-add}
 
-todo-add : (text : List ℕ) (around : List Want) (fs : List OpenForm) (f : OpenForm) → todo_onto text around (fs ++ f ∷ []) ≡ want_of text f ∷ todo_onto text around fs
+todo-add : (text : List ℕ) (around : List Want) (fs : List OpenForm) (f : OpenForm) →
+    todo_onto text around (fs ++ f ∷ []) ≡ want_of text f ∷ todo_onto text around fs
 todo-add text around [] f = refl
 todo-add text around (g ∷ fs) f = todo-add text (want_of text g ∷ around) fs f
 
@@ -34,16 +33,19 @@ fronts-add : (fs : List OpenForm) (f : OpenForm) → fronts (fs ++ f ∷ []) ≡
 fronts-add [] f = no_more (front_of f)
 fronts-add (g ∷ fs) f = ap (λ r. front_of g ++ r) (fronts-add fs f) ∙ sym (append_assoc (front_of g) (fronts fs) (front_of f))
 
-open_todo : (text : List ℕ) (around : List Want) (fs : List OpenForm) → open_of (todo_onto text around fs) ≡ length fs + open_of around
+open_todo : (text : List ℕ) (around : List Want) (fs : List OpenForm) →
+    open_of (todo_onto text around fs) ≡ length fs + open_of around
 open_todo text around [] = omega arith
 open_todo text around (f ∷ fs) =
     let i : open_of (todo_onto text (want_of text f ∷ around) fs) ≡ length fs + suc (open_of around) = open_todo text (want_of text f ∷ around) fs in
     omega (arith, i)
 
-depth_is : (text : List ℕ) (fs : List OpenForm) (depth : ℕ) → depth ≡ length fs + 1 → suc (open_of (todo_onto text [] fs)) ≡ depth
+depth_is : (text : List ℕ) (fs : List OpenForm) (depth : ℕ) → depth ≡ length fs + 1 →
+    suc (open_of (todo_onto text [] fs)) ≡ depth
 depth_is text fs depth e = let i : open_of (todo_onto text [] fs) ≡ length fs + 0 = open_todo text [] fs in omega (arith, i)
 
-await-add : (text : List ℕ) (fs : List OpenForm) (f : OpenForm) → AllAwait text fs → Awaits text f → AllAwait text (fs ++ f ∷ [])
+await-add : (text : List ℕ) (fs : List OpenForm) (f : OpenForm) → AllAwait text fs → Awaits text f →
+    AllAwait text (fs ++ f ∷ [])
 await-add text [] f a w = (w, tt)
 await-add text (g ∷ fs) f a w = (a.0, await-add text fs f a.1 w)
 
@@ -55,7 +57,8 @@ await-last : (text : List ℕ) (fs : List OpenForm) (f : OpenForm) → AllAwait 
 await-last text [] f a = a.0
 await-last text (g ∷ fs) f a = await-last text fs f a.1
 
-scopes-add : (n m : ℕ) (fs : List OpenForm) (f : OpenForm) → n ≤ m → ScopesWithin n fs → length f.scope ≤ m → ScopesWithin m (fs ++ f ∷ [])
+scopes-add : (n m : ℕ) (fs : List OpenForm) (f : OpenForm) → n ≤ m → ScopesWithin n fs → length f.scope ≤ m →
+    ScopesWithin m (fs ++ f ∷ [])
 scopes-add n m [] f l s h = (h, tt)
 scopes-add n m (g ∷ fs) f l s h = (omega (arith, s.0), scopes-add n m fs f l s.1 h)
 
@@ -75,7 +78,8 @@ length-add : (fs : List OpenForm) (f : OpenForm) → length (fs ++ f ∷ []) ≡
 length-add [] f = omega arith
 length-add (g ∷ fs) f = let i = length-add fs f in omega (arith, i)
 
-pub stack_reads : (text : List ℕ) (at next : ℕ) (f g : OpenForm) (fs : List OpenForm) → IsStack text at f fs → Reads text at f g next → at < next → next ≤ length text → IsStack text next g fs
+pub stack_reads : (text : List ℕ) (at next : ℕ) (f g : OpenForm) (fs : List OpenForm) → IsStack text at f fs →
+    Reads text at f g next → at < next → next ≤ length text → IsStack text next g fs
 stack_reads text at next f g fs s r l w =
     let todo = todo_onto text [] fs in
     record {
@@ -88,7 +92,9 @@ stack_reads text at next f g fs s r l w =
       forms = omega (arith, s.forms);
     }
 
-pub stack_opens : (text : List ℕ) (at next depth : ℕ) (f outer inner : OpenForm) (fs new : List OpenForm) → IsStack text at f fs → Opens text at depth f outer inner next → depth ≡ length fs + 1 → new ≡ fs ++ outer ∷ [] → at + 2 ≤ next → next ≤ length text → IsStack text next inner new
+pub stack_opens : (text : List ℕ) (at next depth : ℕ) (f outer inner : OpenForm) (fs new : List OpenForm) →
+    IsStack text at f fs → Opens text at depth f outer inner next → depth ≡ length fs + 1 → new ≡ fs ++ outer ∷ [] →
+    at + 2 ≤ next → next ≤ length text → IsStack text next inner new
 stack_opens text at next depth f outer inner fs new s o d n l w =
     let todo = todo_onto text [] fs in
     let fronts_are : fronts (fs ++ outer ∷ []) ++ front_of inner ≡ fronts fs ++ (front_of outer ++ front_of inner) = ap (λ x. x ++ front_of inner) (fronts-add fs outer) ∙ append_assoc (fronts fs) (front_of outer) (front_of inner) in
@@ -101,14 +107,18 @@ stack_opens text at next depth f outer inner fs new s o d n l w =
       sound = o.sound s.sound;
       awaits = await-add text fs outer s.awaits (o.awaits s.sound);
       few = omega (arith, s.few, o.deeper);
-      few_around = scopes-add at next fs outer (omega arith) s.few_around (omega (arith, s.few, ap length o.same_scope));
+      few_around = scopes-add at next fs outer (omega arith) s.few_around
+          (omega (arith, s.few, ap length o.same_scope));
       forms = omega (arith, s.forms, length-add fs outer);
     })
 
-pub stack_fails : (text : List ℕ) (at depth : ℕ) (f : OpenForm) (fs : List OpenForm) (e : ParseError) → IsStack text at f fs → depth ≡ length fs + 1 → FailsAt text at depth f e → Fails e (reads_at text 0 (term [] ∷ []))
+pub stack_fails : (text : List ℕ) (at depth : ℕ) (f : OpenForm) (fs : List OpenForm) (e : ParseError) →
+    IsStack text at f fs → depth ≡ length fs + 1 → FailsAt text at depth f e → Fails e (reads_at text 0 (term [] ∷ []))
 stack_fails text at depth f fs e s d h ne = sym s.left ∙ ap (with_front (fronts fs ++ front_of f)) (h (todo_onto text [] fs) (depth_is text fs depth d) ne)
 
-pub stack_ends : (text : List ℕ) (at next : ℕ) (f : OpenForm) (fs : List OpenForm) (t : terms.Term) → IsStack text at f fs → fs ≡ [] → Closes text at f next → atoms_of t ≡ word f.word ∷ ends f.pieces → next ≤ length text → IsWhole text t next
+pub stack_ends : (text : List ℕ) (at next : ℕ) (f : OpenForm) (fs : List OpenForm) (t : terms.Term) →
+    IsStack text at f fs → fs ≡ [] → Closes text at f next → atoms_of t ≡ word f.word ∷ ends f.pieces →
+    next ≤ length text → IsWhole text t next
 stack_ends text at next f fs t s n c a w =
     let s' : IsStack text at f [] = subst (IsStack text at f) n s in
     record {
@@ -116,7 +126,10 @@ stack_ends text at next f fs t s n c a w =
       left = sym s'.left ∙ ap (with_front (front_of f)) (c.goes_on []) ∙ with_both (front_of f) (ended ∷ []) (reads_at text next []) ∙ ap (λ x. with_front x (reads_at text next [])) (sym a);
     }
 
-pub stack_closes : (text : List ℕ) (at next : ℕ) (f outer g : OpenForm) (fs rest : List OpenForm) (t : terms.Term) → IsStack text at f fs → fs ≡ rest ++ outer ∷ [] → Closes text at f next → atoms_of t ≡ word f.word ∷ ends f.pieces → Adds outer (pieces.Term t) outer.next g → at < next → next ≤ length text → IsStack text next g rest
+pub stack_closes : (text : List ℕ) (at next : ℕ) (f outer g : OpenForm) (fs rest : List OpenForm) (t : terms.Term) →
+    IsStack text at f fs → fs ≡ rest ++ outer ∷ [] → Closes text at f next →
+    atoms_of t ≡ word f.word ∷ ends f.pieces → Adds outer (pieces.Term t) outer.next g → at < next →
+    next ≤ length text → IsStack text next g rest
 stack_closes text at next f outer g fs rest t s n c a d l w =
     let s' : IsStack text at f (rest ++ outer ∷ []) = subst (IsStack text at f) n s in
     let todo = todo_onto text [] rest in
@@ -127,7 +140,8 @@ stack_closes text at next f outer g fs rest t s n c a d l w =
     let bound : g.bound ≡ outer.bound = d.same_bound in
     let given : g.pieces ≡ outer.pieces ++ pieces.Term t ∷ [] = d.pieces_are in
     let want : want_of text g ≡ want_of text outer = rw (row, part, scope, bound) refl in
-    let front : front_of g ≡ front_of outer ++ atoms_of t = rw (row, given) (ap (λ y. word outer.word ∷ y) (pieces_atoms-add outer.pieces (pieces.Term t))) in
+    let front : front_of g ≡ front_of outer ++ atoms_of t =
+    rw (row, given) (ap (λ y. word outer.word ∷ y) (pieces_atoms-add outer.pieces (pieces.Term t))) in
     let completes : drop g.next (parts_of g.word) ≡ drop outer.next (parts_of outer.word) = rw (row, part) refl in
     let aw : Awaits text outer = await-last text rest outer s'.awaits in
     let r1 : reads_at text at (want_of text f ∷ todo_onto text [] (rest ++ outer ∷ [])) ≡ with_front (ended ∷ []) (reads_at text next (want_of text outer ∷ todo)) = c.goes_on (todo_onto text [] (rest ++ outer ∷ [])) ∙ ap (λ x. with_front (ended ∷ []) (reads_at text next x)) (todo-add text [] rest outer) in
@@ -136,7 +150,9 @@ stack_closes text at next f outer g fs rest t s n c a d l w =
       within = w;
       left = ap (λ x. with_front (fronts rest ++ front_of g) (reads_at text next (x ∷ todo))) want ∙ ap (λ x. with_front x (reads_at text next (want_of text outer ∷ todo))) (sym fronts_are) ∙ sym (with_both (all ++ front_of f) (ended ∷ []) (reads_at text next (want_of text outer ∷ todo))) ∙ ap (with_front (all ++ front_of f)) (sym r1) ∙ s'.left;
       sound = record {
-        shape = λ more h. rw (row, given) (subst (Shaped outer.word) (sym (sorts-add outer.pieces (pieces.Term t) more)) (aw.shape more (subst (λ y. Completes y more) completes h)));
+        shape = λ more h. rw (row, given)
+            (subst (Shaped outer.word) (sym (sorts-add outer.pieces (pieces.Term t) more))
+            (aw.shape more (subst (λ y. Completes y more) completes h)));
         scope = rw scope aw.scope;
         bound = rw bound aw.bound;
       };

@@ -38,6 +38,7 @@ pub(crate) fn hash_of(spelling: &[u8]) -> u32
 
 /// Whether this is how the binder is spelled. The spelling's hash is given.
 #[tactic(auto, using(crate::proofs::LastBinder::other_hash))]
+#[inline(always)]
 fn is_spelled(text: &[u8], binding: Binding, spelling: &[u8], hash: u32) -> bool
     requires within { (binding.start ≤ binding.end) × (binding.end ≤ length text.now) }
     requires hashed { binding.hash ≡ hash_of (slice_range text.now binding.start binding.end) }

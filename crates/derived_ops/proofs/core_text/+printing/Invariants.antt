@@ -22,4 +22,6 @@ decreases-push_sequence l = 4 * (weight (tree_of l.first.now) + weight (tree_of 
 
 abbrev pub invariant-push_sequence-loop-part : goal.invariant-push_sequence-loop-part
 invariant-push_sequence-loop-part l =
-    l.text.items ++ texts_behind (drop l.part-index l.more) ≡ l.fn.text.items ++ (codes "(seq " ++ (core_text (tree_of l.first) ++ (codes " " ++ (core_text (tree_of l.second) ++ texts_behind l.more))))
+    l.text.items ++ texts_behind (drop l.part-index l.more) ≡ l.fn.text.items ++
+    (codes "(seq " ++ (core_text (tree_of l.first) ++
+    (codes " " ++ (core_text (tree_of l.second) ++ texts_behind l.more))))

@@ -7,5 +7,7 @@ use Rattle.derived_ops.proofs.core_text.push_action.Goals as goal
 pub returns-in_ok-push_head-in-Complete : goal.returns-in_ok-push_head-in-Complete
 returns-in_ok-push_head-in-Complete c =
     on_ok_weaker c.push_word-in-Complete.result (λ h.
-    complete-pushed c.args.text.now.items c.push_head-in-Complete.new.text.items c.push_word-in-Complete.new.text.items (action_in_core c.args.action) c.in-Complete.slot (value_in_core c.in-Complete.v)
+    complete-pushed c.args.text.now.items c.push_head-in-Complete.new.text.items
+    c.push_word-in-Complete.new.text.items (action_in_core c.args.action) c.in-Complete.slot
+    (value_in_core c.in-Complete.v)
     c.in_ok-push_head-in-Complete.ensures h (ap action_in_core c.in-Complete.is)) c.push_word-in-Complete.ensures

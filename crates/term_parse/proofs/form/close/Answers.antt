@@ -10,4 +10,10 @@ returns-in_default c = record {
 }
 
 pub returns-clause-found : goal.returns-clause-found
-returns-clause-found c = λ s f i text at d n. (closes_last text at (innermost s f) c.args.token n c.in-Close.is i, refl, refl, omega (arith, n.later, n.some), n.within)
+returns-clause-found c = λ s f i text at d n. (
+  closes_last text at (innermost s f) c.args.token n c.in-Close.is i,
+  refl,
+  refl,
+  omega (arith, n.later, n.some),
+  n.within,
+)

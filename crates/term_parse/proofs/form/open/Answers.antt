@@ -1,4 +1,4 @@
-use Rattle.std.proofs.Common.{◌≡◌, ◌∙◌, refl, ap, sym, subst, length, take, arith, rules}
+use Rattle.std.proofs.Common.{◌≡◌, ◌∙◌, refl, ap, sym, subst, length, take, arith}
 use Rattle.std.proofs.lemmas.List.{length-take}
 use Rattle.term_parse.specs.Bindings.{InText, bounds}
 use Rattle.term_parse.specs.Reading.{entered}
@@ -7,7 +7,9 @@ use Rattle.term_parse.proofs.Steps.{fails_deep, fails_word, opens_form}
 use Rattle.term_parse.proofs.form.open.Goals as goal
 
 pub returns-then-depth-ge-MOST_OPEN-clause-fault : goal.returns-then-depth-ge-MOST_OPEN-clause-fault
-returns-then-depth-ge-MOST_OPEN-clause-fault c = λ at n. fails_deep c.args.text.now at c.args.depth (innermost c.args.scope.now.items c.args.form.now) c.args.token c.args.part n c.requires.opens c.requires.part c.requires.term (omega arith)
+returns-then-depth-ge-MOST_OPEN-clause-fault c =
+    λ at n. fails_deep c.args.text.now at c.args.depth (innermost c.args.scope.now.items c.args.form.now)
+    c.args.token c.args.part n c.requires.opens c.requires.part c.requires.term (omega arith)
 
 pub returns-in-Ok-clause-found : goal.returns-in-Ok-clause-found
 returns-in-Ok-clause-found c = λ at n.
@@ -34,4 +36,7 @@ returns-in-Ok-clause-found c = λ at n.
     )
 
 pub returns-in-Err-clause-fault : goal.returns-in-Err-clause-fault
-returns-in-Err-clause-fault c = λ at n. fails_word c.args.text.now at c.args.depth (innermost c.args.scope.now.items c.args.form.now) c.args.token c.args.part c.in-Err.error n c.requires.opens c.requires.part c.requires.term (omega arith) c.in-Err.ensures.fault
+returns-in-Err-clause-fault c =
+    λ at n. fails_word c.args.text.now at c.args.depth (innermost c.args.scope.now.items c.args.form.now)
+    c.args.token c.args.part c.in-Err.error n c.requires.opens c.requires.part c.requires.term (omega arith)
+    c.in-Err.ensures.fault

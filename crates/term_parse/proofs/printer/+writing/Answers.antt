@@ -17,7 +17,8 @@ pub write_parts-returns-in-More-clause-text : goal.write_parts-returns-in-More-c
 write_parts-returns-in-More-clause-text t c =
     on_ok_weaker c.write_more.result (λ h. h ∙ ap (λ x. c.args.out.now.items ++ x) (sym (more_text c.args.parts.now _ _ _ _ _ c.in-len1-up.len_at_least c.in-More.is))) c.write_more.ensures.text
 
-pub write_parts-returns-in_ok-write_binder-in-Bind-clause-text : goal.write_parts-returns-in_ok-write_binder-in-Bind-clause-text
+pub write_parts-returns-in_ok-write_binder-in-Bind-clause-text :
+    goal.write_parts-returns-in_ok-write_binder-in-Bind-clause-text
 write_parts-returns-in_ok-write_binder-in-Bind-clause-text t c =
     followed c.write_parts.result _ _ _ _ _ _ c.write_parts.ensures.text c.in_ok-write_binder-in-Bind.ensures.text
     (bind_text c.args.parts.now _ c.in-Bind.kind _ _ _ _ c.in-len1-up.len_at_least c.in-Bind.is)
