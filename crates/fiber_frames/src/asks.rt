@@ -19,6 +19,7 @@ use effect_term::Outcome;
 
 impl Machine {
     // The number of a fiber, ref or deferred that is bound below this level.
+    #[inline(always)]
     fn handle_number(&self, level: usize, slot: u32) -> u16
         ensures { result ≡ handle_at self.now.env.items level slot }
     {
@@ -26,6 +27,7 @@ impl Machine {
     }
 
     // The call of a word without parts.
+    #[inline(always)]
     fn act_ask(&self, level: usize, action: Action) -> Ask
         ensures { result ≡ act_ask (state_of self.now) level action }
     {
@@ -47,6 +49,7 @@ impl Machine {
     }
 
     // The call of a word at the leaf.
+    #[inline(always)]
     fn word_ask(&self, index: usize, level: usize) -> Ask
         ensures { result ≡ word_ask (state_of self.now) level (word_at self.now.words.value.items index) }
     {
@@ -72,6 +75,7 @@ impl Machine {
     }
 
     // The call of a result at the leaf, which would end the fiber so at the root.
+    #[inline(always)]
     fn result_ask(&self, outcome: Outcome) -> Ask
         ensures { result ≡ result_ask outcome self.now.stage (state_of self.now).frames }
     {
@@ -90,6 +94,7 @@ impl Machine {
     }
 
     // The call of the leaf.
+    #[inline(always)]
     fn leaf_ask(&self) -> Ask
         ensures { result ≡ leaf_ask (state_of self.now) self.now.leaf }
     {
@@ -105,6 +110,7 @@ impl Machine {
     }
 
     // The call of the row where the fiber goes on.
+    #[inline(always)]
     pub(crate) fn row_ask(&self) -> Ask
         ensures { result ≡ row_ask self.now.stage (state_of self.now) }
     {
@@ -117,6 +123,7 @@ impl Machine {
     }
 
     // The shared call that the next move wants.
+    #[inline(always)]
     pub(crate) fn wanted(&self) -> Ask
         requires { Sound (state_of self.now) }
         ensures { result ≡ ask_of (fiber_in self.now) }

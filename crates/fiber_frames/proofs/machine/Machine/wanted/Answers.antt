@@ -1,6 +1,6 @@
 use Rattle.std.proofs.Common.{◌≡◌, sym, ap, ◌∙◌, inl, inr}
 use Rattle.effect_term.specs.declared.reply.Reply.TheVariants.{Done}
-use Rattle.fiber_frames.specs.Fiber.{Fiber, Move_case, move_case, row_of, ask_in}
+use Rattle.fiber_frames.specs.Fiber.{Fiber, move_case, row_of, ask_in}
 use Rattle.fiber_frames.specs.Moves.{case_of}
 use Rattle.fiber_frames.specs.Machines.{fiber_in, state_of}
 use Rattle.fiber_frames.proofs.Asking.{ask_row, case_is}
