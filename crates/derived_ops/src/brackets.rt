@@ -21,6 +21,21 @@ pub(crate) struct Cases {
     pub(crate) on_value: Core,
 }
 
+// The body, and then the case of its error or value, which has this slot.
+fn ended(
+    alloc: Global,
+    slot: u32,
+    body: Core,
+    on_error: Core,
+    on_value: Core,
+) -> Result<Core, AllocError>
+    ensures { IfOk result (λ core. tree_of core
+        ≡ tree.Let (tree.Handled (tree_of body) slot (tree_of on_error)) slot (tree_of on_value)) }
+{
+    let handled = handled(alloc, body, slot, on_error)?;
+    bound(alloc, handled, slot, on_value)
+}
+
 // The body in the mask of this slot, and then the case of its outcome, whose code or value has the
 // slot `outcome`.
 fn concluded(
@@ -40,8 +55,7 @@ fn concluded(
         on_value,
     } = cases;
     let guarded = finalized(alloc, body, on_cancel)?;
-    let handled = handled(alloc, guarded, outcome, on_error)?;
-    let whole = bound(alloc, handled, outcome, on_value)?;
+    let whole = ended(alloc, outcome, guarded, on_error, on_value)?;
     masked(alloc, slot, whole)
 }
 
@@ -50,6 +64,35 @@ fn attempted(alloc: Global, term: Core, slot: u32) -> Result<Core, AllocError>
     ensures { IfOk result (λ core. tree_of core ≡ attempted (tree_of term) slot) }
 {
     handled(alloc, term, slot, nil())
+}
+
+// The finalizer of a guarantee after its body's error, which has this slot and goes on whatever the
+// finalizer gives.
+fn finalized_on_error(alloc: Global, finalizer: Core, slot: u32) -> Result<Core, AllocError>
+    requires { slot + 1 < 2 ^ 32 }
+    ensures { IfOk result (λ core. tree_of core
+        ≡ in_order (attempted (tree_of finalizer) (slot + 1)) (tree.Raise (tree.Slot slot))) }
+{
+    let attempted = attempted(alloc, finalizer, slot + 1)?;
+    in_order(alloc, attempted, Core::Raise(Value::Slot(slot)))
+}
+
+// What a guarantee does after its body's error, and after its value. Either has this slot.
+fn guarantee_ends(
+    alloc: Global,
+    slot: u32,
+    on_error: Core,
+    on_value: Core,
+) -> Result<(Core, Core), AllocError>
+    requires { slot + 1 < 2 ^ 32 }
+    ensures on_error { IfOk result (λ ends. tree_of ends.0
+        ≡ in_order (attempted (tree_of on_error) (slot + 1)) (tree.Raise (tree.Slot slot))) }
+    ensures on_value { IfOk result (λ ends. tree_of ends.1
+        ≡ in_order (tree_of on_value) (tree.Pure (tree.Slot slot))) }
+{
+    let on_error = finalized_on_error(alloc, on_error, slot)?;
+    let on_value = in_order(alloc, on_value, Core::Pure(Value::Slot(slot)))?;
+    Ok((on_error, on_value))
 }
 
 // What a guarantee does after each outcome of its body, by the finalizer for each.
@@ -66,9 +109,7 @@ fn guarantee_cases(alloc: Global, slot: u32, finalizers: Cases) -> Result<Cases,
         on_error,
         on_value,
     } = finalizers;
-    let attempted = attempted(alloc, on_error, slot + 2)?;
-    let on_error = in_order(alloc, attempted, Core::Raise(Value::Slot(slot + 1)))?;
-    let on_value = in_order(alloc, on_value, Core::Pure(Value::Slot(slot + 1)))?;
+    let (on_error, on_value) = guarantee_ends(alloc, slot + 1, on_error, on_value)?;
     Ok(Cases {
         on_cancel,
         on_error,
@@ -163,6 +204,24 @@ fn released_on_value(
     released_then(alloc, poll, release, Core::Pure(Value::Slot(value)))
 }
 
+// What a bracket does after its body's error, and after its value.
+fn bracket_ends(
+    alloc: Global,
+    poll: u32,
+    on_error: Core,
+    on_value: Core,
+) -> Result<(Core, Core), AllocError>
+    requires { poll + 4 < 2 ^ 32 }
+    ensures on_error { IfOk result (λ ends. tree_of ends.0
+        ≡ released_on_error (Named poll) (tree_of on_error) (poll + 3) (poll + 4)) }
+    ensures on_value { IfOk result (λ ends. tree_of ends.1
+        ≡ released_on_value (Named poll) (tree_of on_value) (poll + 3) (poll + 4)) }
+{
+    let on_error = released_on_error(alloc, poll, on_error, poll + 3, poll + 4)?;
+    let on_value = released_on_value(alloc, poll, on_value, poll + 3, poll + 4)?;
+    Ok((on_error, on_value))
+}
+
 // What a bracket does after each outcome of its body, by the release for each.
 fn bracket_cases(alloc: Global, poll: u32, releases: Cases) -> Result<Cases, AllocError>
     requires { poll + 4 < 2 ^ 32 }
@@ -178,9 +237,8 @@ fn bracket_cases(alloc: Global, poll: u32, releases: Cases) -> Result<Cases, All
         on_error,
         on_value,
     } = releases;
+    let (on_error, on_value) = bracket_ends(alloc, poll, on_error, on_value)?;
     let on_cancel = released_on_cancel(alloc, poll, on_cancel, poll + 3)?;
-    let on_error = released_on_error(alloc, poll, on_error, poll + 3, poll + 4)?;
-    let on_value = released_on_value(alloc, poll, on_value, poll + 3, poll + 4)?;
     Ok(Cases {
         on_cancel,
         on_error,

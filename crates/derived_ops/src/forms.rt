@@ -16,10 +16,21 @@ pub(crate) fn nil() -> Core
     Core::Pure(Value::Number(0))
 }
 
+// Two terms in boxes.
+fn boxed(alloc: Global, first: Core, second: Core) -> Result<(Box<Core>, Box<Core>), AllocError>
+    ensures first { IfOk result (λ boxes. boxes.0.value ≡ first) }
+    ensures second { IfOk result (λ boxes. boxes.1.value ≡ second) }
+{
+    let first = Box::new(alloc, first)?;
+    let second = Box::new(alloc, second)?;
+    Ok((first, second))
+}
+
 pub(crate) fn bound(alloc: Global, first: Core, slot: u32, next: Core) -> Result<Core, AllocError>
     ensures { IfOk result (λ core. tree_of core ≡ tree.Let (tree_of first) slot (tree_of next)) }
 {
-    Ok(Core::Let(Box::new(alloc, first)?, slot, Box::new(alloc, next)?))
+    let (first, next) = boxed(alloc, first, next)?;
+    Ok(Core::Let(first, slot, next))
 }
 
 /// A sequence of two parts and more.
@@ -32,7 +43,8 @@ pub(crate) fn sequence(
     ensures { IfOk result (λ core. tree_of core ≡ trees_in_order (tree_of first) (tree_of second)
         (map tree_of more.items)) }
 {
-    Ok(Core::Seq(Box::new(alloc, first)?, Box::new(alloc, second)?, more))
+    let (first, second) = boxed(alloc, first, second)?;
+    Ok(Core::Seq(first, second, more))
 }
 
 /// A sequence of two parts.
@@ -68,7 +80,8 @@ pub(crate) fn handled(
     ensures { IfOk result (λ core.
         tree_of core ≡ tree.Handled (tree_of body) slot (tree_of handler)) }
 {
-    Ok(Core::Handle(Box::new(alloc, body)?, slot, Box::new(alloc, handler)?))
+    let (body, handler) = boxed(alloc, body, handler)?;
+    Ok(Core::Handle(body, slot, handler))
 }
 
 pub(crate) fn chosen(
@@ -80,7 +93,8 @@ pub(crate) fn chosen(
     ensures { IfOk result (λ core.
         tree_of core ≡ tree.If0 (value_in_core value) (tree_of zero) (tree_of other)) }
 {
-    Ok(Core::If0(value, Box::new(alloc, zero)?, Box::new(alloc, other)?))
+    let (zero, other) = boxed(alloc, zero, other)?;
+    Ok(Core::If0(value, zero, other))
 }
 
 /// Waits for the fiber. The same slot binds its value and its code.
@@ -96,8 +110,7 @@ pub(crate) fn joined(
         tree_of core ≡ tree.Join (tree.Open_slot fiber) slot (tree_of succeeded) slot (tree_of errored)
         (tree_of canceled)) }
 {
-    let succeeded = Box::new(alloc, succeeded)?;
-    let errored = Box::new(alloc, errored)?;
+    let (succeeded, errored) = boxed(alloc, succeeded, errored)?;
     let canceled = Box::new(alloc, canceled)?;
     Ok(Core::Join(fiber, slot, succeeded, slot, errored, canceled))
 }
@@ -111,7 +124,8 @@ pub(crate) fn made(alloc: Global, maker: Maker, slot: u32, next: Core) -> Result
 pub(crate) fn started(alloc: Global, slot: u32, child: Core, next: Core) -> Result<Core, AllocError>
     ensures { IfOk result (λ core. tree_of core ≡ tree.Start slot (tree_of child) (tree_of next)) }
 {
-    Ok(Core::Start(slot, Box::new(alloc, child)?, Box::new(alloc, next)?))
+    let (child, next) = boxed(alloc, child, next)?;
+    Ok(Core::Start(slot, child, next))
 }
 
 pub(crate) fn repeated(alloc: Global, turns: Turns, body: Core) -> Result<Core, AllocError>
@@ -136,5 +150,6 @@ pub(crate) fn polled(alloc: Global, poll: u32, body: Core) -> Result<Core, Alloc
 pub(crate) fn finalized(alloc: Global, body: Core, finalizer: Core) -> Result<Core, AllocError>
     ensures { IfOk result (λ core. tree_of core ≡ tree.On_cancel (tree_of body) (tree_of finalizer)) }
 {
-    Ok(Core::OnCancel(Box::new(alloc, body)?, Box::new(alloc, finalizer)?))
+    let (body, finalizer) = boxed(alloc, body, finalizer)?;
+    Ok(Core::OnCancel(body, finalizer))
 }

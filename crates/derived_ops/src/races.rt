@@ -205,6 +205,14 @@ fn both_values(
     awaited(alloc, poll, slot, other, values, error)
 }
 
+// Cancels the fiber, and gives up.
+fn cancels_and_gives_up(alloc: Global, poll: u32, fiber: u32) -> Result<Core, AllocError>
+    ensures { IfOk result (λ core. tree_of core ≡ in_order (tree.Cancel (tree.Open_slot fiber)) (gives_up poll)) }
+{
+    let given_up = gives_up(alloc, poll)?;
+    in_order(alloc, Core::Cancel(fiber), given_up)
+}
+
 // What `both` gives where `early` has ended first: the value in the slot `first`, once the value in
 // the slot `second` is in the ref.
 fn both_side(
@@ -224,8 +232,7 @@ fn both_side(
     let succeeded = both_values(alloc, poll, kept, slot + 1, late, second, first)?;
     let error = Core::Raise(Value::Slot(slot));
     let errored = in_order(alloc, Core::Cancel(late), error)?;
-    let given_up = gives_up(alloc, poll)?;
-    let canceled = in_order(alloc, Core::Cancel(late), given_up)?;
+    let canceled = cancels_and_gives_up(alloc, poll, late)?;
     joined(alloc, early, slot, succeeded, errored, canceled)
 }
 
@@ -265,8 +272,8 @@ pub(crate) fn both(
     ensures { IfOk result (λ core.
         tree_of core ≡ both slot (tree_of a) (tree_of b) (tree_of next)) }
 {
-    let got = bound(alloc, Core::Act(Action::Get(slot)), slot + 2, next)?;
     let raced = both_raced(alloc, slot, a, b)?;
+    let got = bound(alloc, Core::Act(Action::Get(slot)), slot + 2, next)?;
     let values = bound(alloc, raced, slot + 1, got)?;
     made(alloc, Maker::Ref(Value::Number(0)), slot, values)
 }

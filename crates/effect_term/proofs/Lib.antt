@@ -1,4 +1,6 @@
+pub mod Caps
 pub mod Faults
 pub mod KindLaws
 pub mod ProgramLaws
 pub mod Rows
+pub mod UsesLaws

@@ -1,6 +1,7 @@
 -- What is counted over a row of terms, read at the items of its `Vec`.
-use Rattle.std.proofs.Common.{◌≡◌, ◌+◌, max, ◌||◌, ◌++◌, ap, refl}
-use Rattle.effect_term.specs.declared.term.Term.{Row_of-Term, end_of-Term, more_of-Term, items-the_row-Term}
+use Rattle.std.proofs.Common.{◌≡◌, ℕ, ◌+◌, ◌≤◌, ◌<◌, zero, suc, max, ◌||◌, List, [], ◌∷◌, ◌++◌, length, get_or}
+use Rattle.std.proofs.Common.{ap, refl, arith}
+use Rattle.effect_term.specs.declared.term.Term.{Term, Row_of-Term, end_of-Term, more_of-Term, items-the_row-Term}
 use Rattle.effect_term.specs.ExpansionSize.{expansion_size_of, expansion_sizes_of, total_expansion_size}
 use Rattle.effect_term.specs.Masks.{masks_of, most_masks_of, most_masks}
 use Rattle.effect_term.specs.Names.{uses_of, uses_of_row, uses_of_all}
@@ -33,3 +34,10 @@ pub uses_of_row-row : (around : _) (m : _) (row : Row_of-Term m) → uses_of_row
 uses_of_row-row around _ end_of-Term = refl
 uses_of_row-row around _ (more_of-Term t rest) =
     ap (λ us. uses_of around t ++ us) (uses_of_row-row around _ rest)
+
+-- one of some terms has no more words than they have together
+pub total_size-at : (ts : List Term) (i : ℕ) (t : Term) → i < length ts → t ≡ get_or ts i t →
+    size_of t ≤ total_size ts
+total_size-at [] i t l e = absurd (omega (arith, l))
+total_size-at (u ∷ ts) zero t l e = omega (arith, ap size_of e)
+total_size-at (u ∷ ts) (suc i) t l e = omega (arith, total_size-at ts i t (omega (arith, l)) e)

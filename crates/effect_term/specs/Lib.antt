@@ -5,3 +5,4 @@ pub mod Names
 pub mod Programs
 pub mod Sizes
 pub mod Starts
+pub mod Private

@@ -59,10 +59,10 @@ impl Term {
             Term::OnCancel(a, b) | Term::Start(a, b) => on_top(a.nest(), b.nest()),
             Term::Guarantee(a, b) | Term::Race(a, b) => on_top(a.nest(), b.nest()),
             Term::Join(_, a, b, c) | Term::Bracket(a, b, c) | Term::Both(a, b, c) => {
-                on_top(a.nest().max(b.nest()), c.nest())
+                on_top(a.nest(), b.nest().max(c.nest()))
             }
             Term::BracketCase(a, b, c, d, e) | Term::BracketFull(a, b, c, d, e) => {
-                on_top(a.nest().max(b.nest()).max(c.nest()).max(d.nest()), e.nest())
+                on_top(a.nest(), b.nest().max(c.nest().max(d.nest().max(e.nest()))))
             }
             Term::Seq(a, b, more) => {
                 let mut total = on_top(a.nest(), b.nest());

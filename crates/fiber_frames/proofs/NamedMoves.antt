@@ -1,14 +1,11 @@
 -- What a fiber names, over its moves.
-use Rattle.std.proofs.Common.{◌≡◌, ◌⊎◌, inl, inr, ℕ, ◌+◌, ◌<◌, ◌≤◌, List, [], ◌∷◌, ◌++◌, refl, sym, ap, ◌∙◌, subst, arith, replicate, length}
+use Rattle.std.proofs.Common.{◌≡◌, ℕ, ◌+◌, ◌≤◌, List, [], ◌∷◌, ◌++◌, refl, sym, ap, ◌∙◌, subst, arith, replicate, length}
 use Rattle.derived_ops.specs.Tree.{Act, Action, Add, Await, Cancel, Canceled, Cede, Complete, Ending, Get, Guarded, Handle, Handled, If0, Join, Known, Let, Loop, Make, Mask, Masked, Modify, Never, Note, On_cancel, Open_slot, Pair, Poll, Polled, Pure, Raise, Request, Say, Seq, Set, Start, Tree, Uncancelable}
-use Rattle.effect_term.specs.declared.reply.Outcome.{Outcome}
 use Rattle.effect_term.specs.declared.reply.Reply.{Reply}
 use Rattle.effect_term.specs.declared.reply.Reply.TheVariants as reply
-use Rattle.fiber_frames.specs.declared.ask.Ask.{Ask}
-use Rattle.fiber_frames.specs.declared.ask.Ask.TheVariants as ask
-use Rattle.fiber_frames.specs.Path.{At_final, At_term, Broken, Final, Over, Root, Running, Runs, focus}
-use Rattle.fiber_frames.specs.Rows.{Born, Ceded, Ended, Kind, Plain, Row, Waited, number_in, row_at, unit}
-use Rattle.fiber_frames.specs.Fiber.{Cuts, Fiber, Looks, Move_case, Reduces, Rests, ask_in, ask_of, begins, child, cut, kind_in, kind_of, looked, move, move_case, move_in, reduced, row_of, term_born}
+use Rattle.fiber_frames.specs.Path.{At_final, At_term, Broken, Final, Over, Running, Runs, focus}
+use Rattle.fiber_frames.specs.Rows.{Born, Ceded, Ended, Kind, Plain, Row, Waited, row_at}
+use Rattle.fiber_frames.specs.Fiber.{Cuts, Fiber, Looks, Move_case, Reduces, Rests, ask_in, ask_of, begins, child, cut, kind_in, kind_of, move, move_case, move_in, row_of, term_born}
 use Rattle.fiber_frames.proofs.Moving.{call_same}
 use Rattle.fiber_frames.proofs.Walk.{End, Gives, Throws, Works, active_root, end_of, finalizers_below, masks_below, root_row, row_root, walk}
 use Rattle.fiber_frames.proofs.Marks.Actions.{If_born}

@@ -1,18 +1,17 @@
 -- A move names only what its fiber named, and the number that it was answered.
-use Rattle.std.proofs.Common.{◌≡◌, ◌≢◌, ◌⊎◌, inl, inr, ℕ, zero, suc, ◌+◌, ◌<◌, ◌≤◌, Bool, true, false, if◌then◌else◌, nat_eq, List, [], ◌∷◌, ◌++◌, length, get_or, replicate, Option, Some, None, refl, sym, ap, ◌∙◌, subst, arith, append_assoc, length-append}
+use Rattle.std.proofs.Common.{◌≡◌, ◌≢◌, inl, inr, ℕ, zero, suc, ◌+◌, ◌<◌, Bool, true, false, if◌then◌else◌, nat_eq, List, [], ◌∷◌, ◌++◌, length, get_or, replicate, Option, Some, None, refl, sym, ap, ◌∙◌, subst, arith, append_assoc, length-append}
 use Rattle.std.specs.Prelude.{pos, ◌+ℤ◌, ℤ}
 use Rattle.std.proofs.lemmas.Bool.{eqb-true, eqb-false}
-use Rattle.std.proofs.lemmas.List.{replicate_more, length-replicate}
+use Rattle.std.proofs.lemmas.List.{replicate_more}
 use Rattle.derived_ops.specs.Put.{Put, Put_handle, Put_mask, Put_value, handle_at, put}
-use Rattle.derived_ops.specs.Tree.{Act, Action, Add, Always, Await, Cancel, Canceled, Cede, Complete, Ending, Get, Guarded, Handle, Handled, If0, Join, Known, Last, Let, Loop, Make, Maker, Mask, Masked, Modify, Never, New_deferred, New_ref, Note, Number, On_cancel, Open_slot, Pair, Poll, Polled, Pure, Raise, Request, Rest, Say, Seq, Set, Start, Times, Tree, Turns, Uncancelable, Value}
+use Rattle.derived_ops.specs.Tree.{Act, Action, Add, Always, Await, Cancel, Canceled, Cede, Complete, Ending, Get, Guarded, Handle, Handled, If0, Join, Known, Last, Let, Loop, Make, Maker, Mask, Masked, Modify, Never, New_deferred, New_ref, Note, Number, On_cancel, Open_slot, Pair, Poll, Polled, Pure, Raise, Request, Rest, Say, Seq, Set, Start, Times, Tree, Turns, Uncancelable}
 use Rattle.effect_term.specs.declared.reply.Outcome.{Outcome}
 use Rattle.effect_term.specs.declared.reply.Outcome.TheVariants as outcome
 use Rattle.effect_term.specs.declared.reply.Reply.{Reply}
-use Rattle.effect_term.specs.declared.reply.Reply.TheVariants as reply
 use Rattle.fiber_frames.specs.declared.ask.Ask.{Ask}
 use Rattle.fiber_frames.specs.declared.ask.Ask.TheVariants as ask
 use Rattle.fiber_frames.specs.Path.{In_guarded, In_handle, In_let, In_masked, In_polled, In_seq, undone}
-use Rattle.fiber_frames.specs.Rows.{Plain, Row, action_row, after_end, after_read, branch, fits, is_ended, is_positive, is_zero, looped, number_in, number_of, one_less, outcome_in, read_in, sum_or_raise, unit, wait}
+use Rattle.fiber_frames.specs.Rows.{Row, action_row, after_end, after_read, branch, fits, is_ended, is_positive, is_zero, looped, number_in, number_of, one_less, outcome_in, read_in, unit}
 use Rattle.fiber_frames.proofs.Walk.{End, Gives, Throws, Works, end_of, under, walk}
 use Rattle.fiber_frames.proofs.Marks.Actions.{If_born, none_born, wait_none}
 use Rattle.derived_ops.specs.Naming.{ActionFits, A_deferred, A_fiber, A_ref, Closed, Given, HandleFits, Named, No_handle, Place, given_of, made_by}

@@ -3,11 +3,14 @@
 ghost use Rattle.std.specs.Prelude.{◌≡◌};
 ghost use Rattle.fiber_frames.specs.Table.{word_at};
 ghost use Rattle.fiber_frames.specs.Machine.{handle_at, act_ask, word_ask, root_ask, result_ask, leaf_ask, row_ask};
-ghost use Rattle.fiber_frames.specs.Machines.{state_of};
+ghost use Rattle.fiber_frames.specs.Machines.{fiber_in, state_of};
+ghost use Rattle.fiber_frames.specs.Frames.{Sound};
+ghost use Rattle.fiber_frames.specs.Fiber.{ask_of};
 
 use crate::ask::Ask;
 use crate::frame::{Frame, Leaf, Stage};
 use crate::machine::{Machine, handle, mask, undoes};
+use crate::move_case::MoveCase;
 use crate::operand::number;
 use crate::table::word;
 use crate::word::Word;
@@ -16,6 +19,7 @@ use effect_term::Outcome;
 
 impl Machine {
     // The number of a fiber, ref or deferred that is bound below this level.
+    #[inline(always)]
     fn handle_number(&self, level: usize, slot: u32) -> u16
         ensures { result ≡ handle_at self.now.env.items level slot }
     {
@@ -23,6 +27,7 @@ impl Machine {
     }
 
     // The call of a word without parts.
+    #[inline(always)]
     fn act_ask(&self, level: usize, action: Action) -> Ask
         ensures { result ≡ act_ask (state_of self.now) level action }
     {
@@ -44,6 +49,7 @@ impl Machine {
     }
 
     // The call of a word at the leaf.
+    #[inline(always)]
     fn word_ask(&self, index: usize, level: usize) -> Ask
         ensures { result ≡ word_ask (state_of self.now) level (word_at self.now.words.value.items index) }
     {
@@ -69,6 +75,7 @@ impl Machine {
     }
 
     // The call of a result at the leaf, which would end the fiber so at the root.
+    #[inline(always)]
     fn result_ask(&self, outcome: Outcome) -> Ask
         ensures { result ≡ result_ask outcome self.now.stage (state_of self.now).frames }
     {
@@ -87,6 +94,7 @@ impl Machine {
     }
 
     // The call of the leaf.
+    #[inline(always)]
     fn leaf_ask(&self) -> Ask
         ensures { result ≡ leaf_ask (state_of self.now) self.now.leaf }
     {
@@ -102,6 +110,7 @@ impl Machine {
     }
 
     // The call of the row where the fiber goes on.
+    #[inline(always)]
     pub(crate) fn row_ask(&self) -> Ask
         ensures { result ≡ row_ask self.now.stage (state_of self.now) }
     {
@@ -110,6 +119,19 @@ impl Machine {
             Stage::Drained(_) => Ask::Finish(Outcome::Canceled),
             Stage::Over(outcome) => Ask::Over(outcome),
             Stage::Broken => Ask::Broken,
+        }
+    }
+
+    // The shared call that the next move wants.
+    #[inline(always)]
+    pub(crate) fn wanted(&self) -> Ask
+        requires { Sound (state_of self.now) }
+        ensures { result ≡ ask_of (fiber_in self.now) }
+    {
+        match self.next_case() {
+            MoveCase::Looks => Ask::Look,
+            MoveCase::Cuts => Ask::Cut,
+            MoveCase::Reduces | MoveCase::Rests => self.row_ask(),
         }
     }
 }

@@ -3,11 +3,13 @@
 ghost use Rattle.std.specs.Prelude.{◌≡◌, ◌≤◌, take, length, vec_len, IfOk, OnOk, OnErr};
 ghost use Rattle.fiber_frames.specs.Env.{env_of, bound};
 
+use crate::stack::push;
 use crate::word::Entry;
 use std::alloc::{AllocError, Global};
 
 /// Binds at a level, over what stands there, or `AllocError` where memory is refused.
 #[tactic(auto, using(crate::proofs::Closing::set_bound, crate::proofs::Closing::push_bound))]
+#[inline(always)]
 pub(crate) fn bind(env: &mut Vec<Entry>, level: usize, entry: Entry) -> Result<(), AllocError>
     requires { level ≤ vec_len env.old }
     ensures entries { OnOk result (env.new.items ≡ bound env.old.items level entry) }
@@ -16,12 +18,13 @@ pub(crate) fn bind(env: &mut Vec<Entry>, level: usize, entry: Entry) -> Result<(
     if level < env.len() {
         env[level] = entry;
     } else {
-        env.push(entry)?;
+        push(&mut *env, entry)?;
     }
     Ok(())
 }
 
 // What a slot below the level holds.
+#[inline(always)]
 pub(crate) fn entry(env: &[Entry], level: usize, slot: u32) -> Option<Entry>
     ensures { result ≡ env_of env.now level slot }
 {

@@ -23,6 +23,7 @@ mod reply_parts;
 mod results;
 mod row;
 mod rows;
+mod stack;
 mod table;
 mod word;
 

@@ -25,6 +25,7 @@ pub(crate) enum Mask {
 
 impl Handle {
     // The number, which a closed term has.
+    #[inline(always)]
     pub(crate) fn number(self) -> u16
         ensures { result ≡ handle_number (handle_of self) }
     {
@@ -37,6 +38,7 @@ impl Handle {
 
 impl Mask {
     // The mask's number, which a closed term has.
+    #[inline(always)]
     pub(crate) fn number(self) -> u64
         ensures { result ≡ mask_number (mask_of self) }
     {
@@ -48,6 +50,7 @@ impl Mask {
 }
 
 // The number of a value, which a closed term has.
+#[inline(always)]
 pub(crate) fn number(value: Value) -> i32
     ensures { result ≡ number_of (value_in_core value) }
 {

@@ -13,6 +13,7 @@ use crate::frame::{Frame, Leaf, Stage, Turn};
 use crate::machine::Machine;
 use crate::mark::Mark;
 use crate::operand::number;
+use crate::stack::push;
 use crate::word::Entry;
 use derived_ops::Value;
 use effect_term::Outcome;
@@ -20,6 +21,7 @@ use std::alloc::AllocError;
 
 impl Machine {
     // The fiber has ended so.
+    #[inline(always)]
     pub(crate) fn end(&mut self, outcome: Outcome)
         ensures { state_of self.new ≡ over (state_of self.old) outcome }
     {
@@ -28,6 +30,7 @@ impl Machine {
 
     // The result leaves a form that doesn't take it, whose frame is taken off.
     #[tactic(auto, using(crate::proofs::Reversing::reverse_push))]
+    #[inline(always)]
     fn pass(&mut self, end: Leaf, frame: Frame) -> Result<(), AllocError>
         ensures state { OnOk result (state_of self.new ≡ passed (state_of self.old) end frame) }
         ensures kept { OnErr result (Kept self.old self.new) }
@@ -38,7 +41,7 @@ impl Machine {
                 self.note(Mark::Leave(number))?;
             }
             Frame::Polled(number) => {
-                self.masks.push(number)?;
+                push(&mut self.masks, number)?;
                 self.note(Mark::PollOut(number))?;
             }
             Frame::Let(_, _) | Frame::Seq(_, _, _) | Frame::Again(_, _, _) => {}
@@ -49,6 +52,7 @@ impl Machine {
     }
 
     // The value goes on under this frame, which is taken off.
+    #[inline(always)]
     fn give_under(&mut self, value: Value, frame: Frame) -> Result<(), AllocError>
         requires level { Levels frame (length self.old.env.items) }
         ensures state { OnOk result (state_of self.new ≡ given (state_of self.old) value frame) }
@@ -69,6 +73,7 @@ impl Machine {
     }
 
     // The error goes on under this frame, which is taken off.
+    #[inline(always)]
     fn throw_under(&mut self, code: Value, frame: Frame) -> Result<(), AllocError>
         requires level { Levels frame (length self.old.env.items) }
         ensures state { OnOk result (state_of self.new ≡ thrown (state_of self.old) code frame) }
@@ -87,6 +92,7 @@ impl Machine {
 
     // The row of a value at the leaf.
     #[tactic(auto, using(crate::proofs::Reversing::reverse_push))]
+    #[inline(always)]
     pub(crate) fn value_row(&mut self, value: Value) -> Result<Turn, AllocError>
         requires under { Under (length self.old.env.items) (state_of self.old).frames }
         ensures state { OnOk result (state_of self.new ≡ value_row (state_of self.old) value
@@ -110,6 +116,7 @@ impl Machine {
 
     // The row of an error at the leaf.
     #[tactic(auto, using(crate::proofs::Reversing::reverse_push))]
+    #[inline(always)]
     pub(crate) fn error_row(&mut self, code: Value) -> Result<Turn, AllocError>
         requires under { Under (length self.old.env.items) (state_of self.old).frames }
         ensures state { OnOk result (state_of self.new ≡ error_row (state_of self.old) code

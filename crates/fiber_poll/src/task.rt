@@ -142,7 +142,8 @@ impl<'a> FiberTask<'a> {
         }
     }
 
-    // The moves of a fiber that goes on.
+    // The moves of a fiber that goes on. A move without a shared call, and a look, are most of them. They
+    // stand apart, since what is known of the ask saves the tests of its reply.
     #[inline(always)]
     fn go(&mut self, budget: u32) -> Result<Turn<'a>, RunError>
         requires going { IsGoing (way_of self.old.state.running) }
@@ -154,6 +155,14 @@ impl<'a> FiberTask<'a> {
                 return Ok(Turn::OutOfMoves);
             }
             match self.config.ask() {
+                Ask::Silent => match self.step(Ask::Silent)? {
+                    Step::Plain => {}
+                    step => return Ok(told(Ask::Silent, step)),
+                },
+                Ask::Look => match self.step(Ask::Look)? {
+                    Step::Plain => {}
+                    step => return Ok(told(Ask::Look, step)),
+                },
                 Ask::Start => return Ok(Turn::Started(self.start()?)),
                 ask => match self.step(ask)? {
                     Step::Plain => {}

@@ -11,9 +11,9 @@ use std::sync::Wait;
 use wait_bay::{Bay, BaySeat};
 
 /// A bay and one worker's seat at it, through which the worker takes tasks, moves them and puts them
-/// back. A number or a topic beyond the bay is `Lost`.
+/// back. A fiber or a topic beyond the bay is `Lost`.
 #[derive(Drop)]
-pub struct Berth<'b, 'a> {
+pub(crate) struct Berth<'b, 'a> {
     bay: &'b Bay<'a>,
     seat: BaySeat<'a>,
 }
@@ -35,30 +35,30 @@ impl<'b, 'a> Model for Berth<'b, 'a> {
 
 impl<'b, 'a> Berth<'b, 'a> {
     /// A place at this bay.
-    pub fn new(bay: &'b Bay<'a>, seat: BaySeat<'a>) -> Berth<'b, 'a>
+    pub(crate) fn new(bay: &'b Bay<'a>, seat: BaySeat<'a>) -> Berth<'b, 'a>
         requires here { IsSeatOf bay.now seat }
         ensures { result ≡ bay.now }
     {
         Berth { bay, seat }
     }
 
-    /// Takes the task of a fiber.
-    pub fn take(&mut self, rt: &impl Wait, number: u16) -> Result<FiberTask<'a>, RunError>
+    /// Takes the task of a fiber, if it is in its slot.
+    #[inline(always)]
+    pub(crate) fn take(&mut self, rt: &impl Wait, number: u16) -> Option<FiberTask<'a>>
         ensures same { self.new ≡ self.old }
-        ensures own { IfOk result (λ t. t.state.number ≡ number) }
-        ensures named { IfOk result (IsNamed self.old.named) }
+        ensures own { IfSome result (λ t. t.state.number ≡ number) }
+        ensures named { IfSome result (IsNamed self.old.named) }
     {
-        if number >= self.bay.fibers() {
-            return Err(RunError::Lost(number));
-        }
-        match self.bay.take(rt, &mut self.seat, number) {
-            Some(task) => Ok(task),
-            None => Err(RunError::Lost(number)),
+        if number < self.bay.fibers() {
+            self.bay.take(rt, &mut self.seat, number)
+        } else {
+            None
         }
     }
 
     /// Puts a task back. Answers whether its number is to be queued.
-    pub fn put(
+    #[inline(always)]
+    pub(crate) fn put(
         &mut self,
         rt: &impl Wait,
         task: FiberTask<'a>,
@@ -78,7 +78,8 @@ impl<'b, 'a> Berth<'b, 'a> {
     }
 
     /// Makes a turn of a task of this bay.
-    pub fn turn(&self, task: &mut FiberTask<'a>, budget: u32) -> Result<Turn<'a>, RunError>
+    #[inline(always)]
+    pub(crate) fn turn(&self, task: &mut FiberTask<'a>, budget: u32) -> Result<Turn<'a>, RunError>
         requires named { IsNamed self.now.named task.old }
         requires budget { 1 < budget }
         ensures named { IfOk result (λ _. IsNamed self.now.named task.new) }
@@ -88,7 +89,8 @@ impl<'b, 'a> Berth<'b, 'a> {
     }
 
     /// Wakes a fiber. Answers whether its number is to be queued.
-    pub fn wake(&self, rt: &impl Wait, number: u16) -> Result<bool, RunError> {
+    #[inline(always)]
+    pub(crate) fn wake(&self, rt: &impl Wait, number: u16) -> Result<bool, RunError> {
         if number >= self.bay.fibers() {
             return Err(RunError::Lost(number));
         }
@@ -96,7 +98,12 @@ impl<'b, 'a> Berth<'b, 'a> {
     }
 
     /// Notes that a fiber waits for a topic.
-    pub fn register(&self, rt: &impl Wait, topic: Topic, number: u16) -> Result<(), RunError> {
+    pub(crate) fn register(
+        &self,
+        rt: &impl Wait,
+        topic: Topic,
+        number: u16,
+    ) -> Result<(), RunError> {
         if !self.bay.has(topic) {
             return Err(RunError::Lost(number));
         }
@@ -105,7 +112,12 @@ impl<'b, 'a> Berth<'b, 'a> {
     }
 
     /// The fibers that wait for a topic of this fiber's turn. Nobody waits for it from then on.
-    pub fn drain(&self, rt: &impl Wait, topic: Topic, number: u16) -> Result<Vec<u16>, RunError> {
+    pub(crate) fn drain(
+        &self,
+        rt: &impl Wait,
+        topic: Topic,
+        number: u16,
+    ) -> Result<Vec<u16>, RunError> {
         if !self.bay.has(topic) {
             return Err(RunError::Lost(number));
         }

@@ -16,14 +16,14 @@ const ROOM: usize = 64;
 
 /// The workers before they start, and where they will sleep.
 #[derive(Drop)]
-pub struct Crew<'q, 'b, 'a> {
+pub(crate) struct Crew<'q, 'b, 'a> {
     pub workers: Vec<Worker<'q, 'b, 'a>>,
     pub idle: Idle,
 }
 
 impl<'q, 'b, 'a> Crew<'q, 'b, 'a> {
     /// So many workers of this bay, with a queue each, and this inlet.
-    pub fn new(
+    pub(crate) fn new(
         alloc: Global,
         bay: &'b Bay<'a>,
         seat: BaySeat<'a>,

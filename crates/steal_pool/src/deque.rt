@@ -40,6 +40,7 @@ impl ReadyDeque {
 
     /// Puts a number last. Where the queue can't grow, for want of memory or beyond a limit of the
     /// deque, the number comes back and nothing has changed.
+    #[inline(always)]
     pub fn push(&mut self, number: u16) -> Result<(), u16>
         ensures ok { OnOk result (PutLast self.old (number ∷ []) self.new) }
         ensures back { IfErr result (λ n. n ≡ number) }
@@ -50,6 +51,7 @@ impl ReadyDeque {
 
     /// Takes the first number. Answers `None` only where the queue was empty at a moment of the
     /// call.
+    #[inline(always)]
     pub fn take(&mut self) -> Option<u16>
         ensures { MatchOption result ((self.new ≡ self.old) × WasEmpty self.old)
             (λ n. TookFirst self.old (n ∷ []) self.new) }

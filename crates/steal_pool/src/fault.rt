@@ -9,7 +9,7 @@ use std::marker::{Brand, PhantomData};
 use std::thread::{JoinHandle, Threads};
 
 /// Names the cell of a run's first fault, so that a type can say that a note is of it.
-pub trait FaultCell {
+pub(crate) trait FaultCell {
     ghost name: { ℕ };
 }
 
@@ -19,7 +19,7 @@ impl FaultCell for Brand {
 
 /// The cell of a run's first fault.
 #[derive(Drop)]
-pub struct FirstFault<'r, C: FaultCell> {
+pub(crate) struct FirstFault<'r, C: FaultCell> {
     pub cell: &'r OnceBox<RunError>,
     of: PhantomData<C>,
     ghost named: { cell_name cell.now ≡ C.name },
@@ -27,7 +27,7 @@ pub struct FirstFault<'r, C: FaultCell> {
 
 impl<'r, C: FaultCell> FirstFault<'r, C> {
     /// The first fault that stands in this cell.
-    pub fn of(cell: &'r OnceBox<RunError>) -> FirstFault<'r, C>
+    pub(crate) fn of(cell: &'r OnceBox<RunError>) -> FirstFault<'r, C>
         requires { cell_name cell.now ≡ C.name }
         ensures { result.cell ≡ cell.entry }
     {
@@ -38,12 +38,12 @@ impl<'r, C: FaultCell> FirstFault<'r, C> {
     }
 
     /// Whether a worker met a fault.
-    pub fn is_known(&self) -> bool {
+    pub(crate) fn is_known(&self) -> bool {
         self.cell.get().is_some()
     }
 
     /// What a worker knows that has met this fault, or `None` where it met none.
-    pub fn learned(&self, met: Option<Box<RunError>>) -> Learned<C> {
+    pub(crate) fn learned(&self, met: Option<Box<RunError>>) -> Learned<C> {
         let mut note = self.cell.note();
         if let Some(fault) = met {
             let _ = self.cell.set_as(fault, &mut note);
@@ -56,7 +56,7 @@ impl<'r, C: FaultCell> FirstFault<'r, C> {
     }
 
     /// Waits for the workers to end, and answers the first fault that one of them met.
-    pub fn join_all<R: Threads>(
+    pub(crate) fn join_all<R: Threads>(
         &self,
         rt: &R,
         threads: Vec<JoinHandle<Learned<C>>>,
@@ -71,7 +71,7 @@ impl<'r, C: FaultCell> FirstFault<'r, C> {
 
 /// What a worker that has ended knows of the first fault.
 #[derive(Drop)]
-pub struct Learned<C: FaultCell> {
+pub(crate) struct Learned<C: FaultCell> {
     pub note: Note<RunError>,
     of: PhantomData<C>,
     ghost of_cell: { note.cell ≡ C.name },

@@ -108,11 +108,19 @@ fn lines(alloc: Global, configs: &[Config], born: u16) -> Result<Vec<FiberReport
     Ok(lines)
 }
 
-// The state of a fiber, where it is one of these.
+// The state of a fiber, where it is one of these. The tasks of a bay come in the order of their numbers,
+// and the last one was taken first: so fiber f mostly stands f places before the end.
 fn find(configs: &[Config], number: u16) -> Option<&Config>
     ensures found { IfSome result (λ it. IsIn it.now configs.now number) }
     ensures nowhere { IfNone result (IsNowhere configs.now number) }
 {
+    let behind = usize::from(number) + 1;
+    if behind <= configs.len() {
+        let likely = &configs[configs.len() - behind];
+        if likely.number() == number {
+            return Some(likely);
+        }
+    }
     for config in configs {
         if config.number() == number {
             return Some(config);

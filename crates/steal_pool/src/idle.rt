@@ -14,7 +14,7 @@ use std::sync::atomic::{AtomicBool, AtomicU64, Ordering};
 
 /// Where one worker sleeps.
 #[derive(Drop)]
-pub struct Bunk {
+pub(crate) struct Bunk {
     /// Whether the worker lies here, and nobody has called it up yet.
     taken: AtomicBool,
     unparker: Unparker,
@@ -22,7 +22,7 @@ pub struct Bunk {
 
 impl Bunk {
     /// An empty bunk of the worker that this wakes.
-    pub fn new(unparker: Unparker) -> Bunk {
+    pub(crate) fn new(unparker: Unparker) -> Bunk {
         Bunk {
             taken: AtomicBool::new(false),
             unparker,
@@ -32,7 +32,7 @@ impl Bunk {
 
 /// Who searches and who sleeps.
 #[derive(Drop)]
-pub struct Idle {
+pub(crate) struct Idle {
     searching: AtomicU64,
     sleeping: AtomicU64,
     bunks: Vec<Bunk>,
@@ -40,7 +40,7 @@ pub struct Idle {
 
 impl Idle {
     /// Nobody searches or sleeps. The bunks are in the order of the workers.
-    pub fn new(bunks: Vec<Bunk>) -> Idle {
+    pub(crate) fn new(bunks: Vec<Bunk>) -> Idle {
         Idle {
             searching: AtomicU64::new(0),
             sleeping: AtomicU64::new(0),
@@ -49,7 +49,7 @@ impl Idle {
     }
 
     /// A number was queued. Wakes a worker, where one sleeps and none searches.
-    pub fn wake_one(&self) {
+    pub(crate) fn wake_one(&self) {
         if self.sleeping.load(Ordering::SeqCst) == 0 || self.searching.load(Ordering::SeqCst) != 0 {
             return;
         }
@@ -62,26 +62,26 @@ impl Idle {
     }
 
     /// The run is over. Wakes all workers.
-    pub fn wake_all(&self) {
+    pub(crate) fn wake_all(&self) {
         for bunk in self.bunks.iter() {
             bunk.unparker.unpark();
         }
     }
 
     /// A worker searches from now on.
-    pub fn begin_search(&self) {
+    pub(crate) fn begin_search(&self) {
         self.searching.fetch_add(1, Ordering::SeqCst);
     }
 
     /// A worker found something. The last one to search leaves it to another to search on.
-    pub fn end_search(&self) {
+    pub(crate) fn end_search(&self) {
         if self.searching.fetch_sub(1, Ordering::SeqCst) == 1 {
             self.wake_one();
         }
     }
 
     /// A worker that searched lies down. It is to look at all queues once more before it sleeps.
-    pub fn lie_down(&self, worker: u8) {
+    pub(crate) fn lie_down(&self, worker: u8) {
         self.sleeping.fetch_add(1, Ordering::SeqCst);
         if let Some(bunk) = self.bunks.get(worker as usize) {
             bunk.taken.store(true, Ordering::SeqCst);
@@ -90,7 +90,7 @@ impl Idle {
     }
 
     /// A worker that lay searches again, whether somebody called it up or it woke by itself.
-    pub fn get_up(&self, worker: u8) {
+    pub(crate) fn get_up(&self, worker: u8) {
         if let Some(bunk) = self.bunks.get(worker as usize) {
             self.call_up(bunk);
         }

@@ -7,7 +7,7 @@ use std::sync::Wait;
 /// A worker's own queue, its ends of the others' queues, of which the next worker's stands first,
 /// and its end of the inlet.
 #[derive(Drop)]
-pub struct Queues<'q> {
+pub(crate) struct Queues<'q> {
     pub own: ReadyDeque,
     pub victims: Vec<Victim>,
     pub inlet: InletEnd<'q>,
@@ -16,7 +16,7 @@ pub struct Queues<'q> {
 impl<'q> Queues<'q> {
     /// A number of another worker's queue, or of the inlet. Answers `None` where it found each of
     /// them empty, one after the other.
-    pub fn steal<R: Wait>(&mut self, rt: &R) -> Option<u16> {
+    pub(crate) fn steal<R: Wait>(&mut self, rt: &R) -> Option<u16> {
         for victim in self.victims.iter_mut() {
             if let Some(number) = steal_from(rt, victim) {
                 return Some(number);

@@ -16,8 +16,10 @@ impl<'g, 'f, G: Gate, C: FaultCell> Shared<'g, 'f, G, C> {
     /// from its own queue meanwhile, and is to serve next.
     ///
     /// A fiber that could go on at once is put back only where another number is in the worker's
-    /// queue: that one is taken, and this one is put last. Else the worker goes on with it.
-    pub fn serve<'b, 'a, R: Wait>(
+    /// queue: that one is taken, and this one is put last. Else the worker goes on with it. Where it has
+    /// started a child, the child would be the other number: so this one is put back and queued, and the
+    /// worker goes on with the child, which has never been in the bay.
+    pub(crate) fn serve<'b, 'a, R: Wait>(
         &self,
         rt: &R,
         worker: u8,
@@ -27,38 +29,69 @@ impl<'g, 'f, G: Gate, C: FaultCell> Shared<'g, 'f, G, C> {
     ) -> Result<Option<u16>, RunError>
         ensures same { berth.new ≡ berth.old }
     {
-        let mut task = berth.take(rt, number)?;
+        let Some(mut task) = berth.take(rt, number) else {
+            return Err(RunError::Lost(number));
+        };
         let mut waited = None;
         for _ in rt.forever() {
             if self.first_fault.is_known() {
                 return Ok(None);
             }
-            self.gate.enter(worker, number);
+            self.gate.enter(worker, task.number());
             let before = waited;
             waited = None;
             match berth.turn(&mut task, self.budget)? {
-                Turn::Ended(_) => return self.end(rt, queues, berth, task, number),
+                Turn::Ended(_) => return self.end(rt, queues, berth, task),
                 Turn::Waits(topic) => {
                     if before == Some(topic) {
-                        return self.rest(rt, queues, berth, task, number);
+                        return self.rest(rt, queues, berth, task);
                     }
-                    berth.register(rt, topic, number)?;
+                    berth.register(rt, topic, task.number())?;
                     waited = Some(topic);
                     continue;
                 }
-                Turn::OutOfMoves => return self.rest(rt, queues, berth, task, number),
+                Turn::OutOfMoves => return self.rest(rt, queues, berth, task),
                 Turn::Cedes => {}
-                Turn::Started(child) => self.start(rt, queues, berth, child)?,
+                Turn::Started(child) => {
+                    if let Some(next) = queues.own.take() {
+                        self.put_ready(rt, queues, berth, child)?;
+                        return self.make_way(rt, queues, berth, task, next);
+                    }
+                    // The child is held in its parent's place.
+                    self.put_ready(rt, queues, berth, task)?;
+                    task = child;
+                    continue;
+                }
                 Turn::WakeFiber(other) => self.wake(rt, queues, berth, other)?,
-                Turn::WakeTopic(topic) => self.wake_all_of(rt, queues, berth, topic, number)?,
+                Turn::WakeTopic(topic) => {
+                    self.wake_all_of(rt, queues, berth, topic, task.number())?;
+                }
             }
             if let Some(next) = queues.own.take() {
-                berth.put(rt, task, true)?;
-                self.pass_on(queues, number)?;
-                return Ok(Some(next));
+                return self.make_way(rt, queues, berth, task, next);
             }
         }
         unreachable!()
+    }
+
+    // Puts back the task of a fiber that could go on, and queues it, since this number is to be served
+    // next.
+    #[inline(always)]
+    fn make_way<'b, 'a, R: Wait>(
+        &self,
+        rt: &R,
+        queues: &mut Queues<'_>,
+        berth: &mut Berth<'b, 'a>,
+        task: FiberTask<'a>,
+        next: u16,
+    ) -> Result<Option<u16>, RunError>
+        requires named { IsNamed berth.old.named task }
+        ensures same { berth.new ≡ berth.old }
+    {
+        let number = task.number();
+        berth.put(rt, task, true)?;
+        self.pass_on(queues, number)?;
+        Ok(Some(next))
     }
 
     // Puts back the task of a fiber that can't go on. It is queued again where it was woken
@@ -69,11 +102,11 @@ impl<'g, 'f, G: Gate, C: FaultCell> Shared<'g, 'f, G, C> {
         queues: &mut Queues<'_>,
         berth: &mut Berth<'b, 'a>,
         task: FiberTask<'a>,
-        number: u16,
     ) -> Result<Option<u16>, RunError>
         requires named { IsNamed berth.old.named task }
         ensures same { berth.new ≡ berth.old }
     {
+        let number = task.number();
         if berth.put(rt, task, false)? {
             self.pass_on(queues, number)?;
         } else {
@@ -90,11 +123,11 @@ impl<'g, 'f, G: Gate, C: FaultCell> Shared<'g, 'f, G, C> {
         queues: &mut Queues<'_>,
         berth: &mut Berth<'b, 'a>,
         task: FiberTask<'a>,
-        number: u16,
     ) -> Result<Option<u16>, RunError>
         requires named { IsNamed berth.old.named task }
         ensures same { berth.new ≡ berth.old }
     {
+        let number = task.number();
         let woken = berth.put(rt, task, false)?;
         self.wake_all_of(rt, queues, berth, Topic::Fiber(number), number)?;
         if woken {
@@ -105,19 +138,19 @@ impl<'g, 'f, G: Gate, C: FaultCell> Shared<'g, 'f, G, C> {
         Ok(None)
     }
 
-    // Puts a new fiber's task into its slot, and queues it.
-    fn start<'b, 'a, R: Wait>(
+    // Puts the task of a fiber into its slot, and queues it beside the numbers that are queued or held.
+    fn put_ready<'b, 'a, R: Wait>(
         &self,
         rt: &R,
         queues: &mut Queues<'_>,
         berth: &mut Berth<'b, 'a>,
-        child: FiberTask<'a>,
+        task: FiberTask<'a>,
     ) -> Result<(), RunError>
-        requires named { IsNamed berth.old.named child }
+        requires named { IsNamed berth.old.named task }
         ensures same { berth.new ≡ berth.old }
     {
-        let number = child.number();
-        berth.put(rt, child, true)?;
+        let number = task.number();
+        berth.put(rt, task, true)?;
         self.queue(queues, number)
     }
 

@@ -21,7 +21,7 @@ const LOOKS: u32 = 10;
 /// One worker: its queues, its place at the bay, where it sleeps, and room for the fault that it may
 /// meet.
 #[derive(Drop)]
-pub struct Worker<'q, 'b, 'a> {
+pub(crate) struct Worker<'q, 'b, 'a> {
     number: u8,
     queues: Queues<'q>,
     berth: Berth<'b, 'a>,
@@ -31,7 +31,7 @@ pub struct Worker<'q, 'b, 'a> {
 
 impl<'q, 'b, 'a> Worker<'q, 'b, 'a> {
     /// A worker, and its bunk. Answers `AllocError` where there is no memory for them.
-    pub fn new(
+    pub(crate) fn new(
         alloc: Global,
         number: u8,
         queues: Queues<'q>,
@@ -52,7 +52,7 @@ impl<'q, 'b, 'a> Worker<'q, 'b, 'a> {
 }
 
 /// What the workers share, beside the bay and the queues.
-pub struct Shared<'g, 'f, G: Gate, C: FaultCell> {
+pub(crate) struct Shared<'g, 'f, G: Gate, C: FaultCell> {
     pub gate: &'g G,
     pub budget: u32,
     /// How many numbers are queued or held.
@@ -85,7 +85,11 @@ enum Look {
 
 impl<'g, 'f, G: Gate, C: FaultCell> Shared<'g, 'f, G, C> {
     /// Works until the run is over, and answers what is known of the first fault then.
-    pub fn work<'q, 'b, 'a, R: Wait>(&self, rt: &R, worker: Worker<'q, 'b, 'a>) -> Learned<C> {
+    pub(crate) fn work<'q, 'b, 'a, R: Wait>(
+        &self,
+        rt: &R,
+        worker: Worker<'q, 'b, 'a>,
+    ) -> Learned<C> {
         let Worker {
             number: worker,
             mut queues,
@@ -113,6 +117,7 @@ impl<'g, 'f, G: Gate, C: FaultCell> Shared<'g, 'f, G, C> {
 
     // The number to serve next: the one that is in the hand, the first of the worker's own queue, or
     // one that it searches for. `None` once the run is over.
+    #[inline(always)]
     fn next<R: Wait>(
         &self,
         rt: &R,
@@ -187,13 +192,15 @@ impl<'g, 'f, G: Gate, C: FaultCell> Shared<'g, 'f, G, C> {
     }
 
     /// Queues a number that was neither queued nor held.
-    pub fn queue(&self, queues: &mut Queues<'_>, number: u16) -> Result<(), RunError> {
+    #[inline(always)]
+    pub(crate) fn queue(&self, queues: &mut Queues<'_>, number: u16) -> Result<(), RunError> {
         self.active.fetch_add(1, Ordering::SeqCst);
         self.pass_on(queues, number)
     }
 
     /// Queues a number that was held.
-    pub fn pass_on(&self, queues: &mut Queues<'_>, number: u16) -> Result<(), RunError> {
+    #[inline(always)]
+    pub(crate) fn pass_on(&self, queues: &mut Queues<'_>, number: u16) -> Result<(), RunError> {
         match queues.own.push(number) {
             Ok(()) => {
                 self.idle.wake_one();
@@ -204,7 +211,8 @@ impl<'g, 'f, G: Gate, C: FaultCell> Shared<'g, 'f, G, C> {
     }
 
     /// Gives up a number that was held. The run is over once none is queued or held.
-    pub fn release(&self) {
+    #[inline(always)]
+    pub(crate) fn release(&self) {
         if laws::was_last(self.active.fetch_sub(1, Ordering::SeqCst)) {
             self.idle.wake_all();
         }

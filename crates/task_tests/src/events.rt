@@ -1,10 +1,13 @@
 //! The events that a turn stops at, each told once and at its own move.
 
+ghost use Rattle.std.specs.Prelude.{◌<◌};
+
 use crate::programs::{ample, replayed};
 use crate::turning::{Told, Turns, expect_turns, turn_by_turn};
 use effect_term::Outcome;
 use fiber_poll::Topic;
 use std::alloc::{AllocError, Global};
+use std::process::Abort;
 use std::test::Fail;
 
 const ENDED: Told = Told::Ended(Outcome::Succeeded(0));
@@ -219,15 +222,24 @@ fn used_up_moves_are_told(rt: HostRuntime) -> Result<(), Fail> {
 
 const SAYING: &str = "(start f (seq (say 1) (say 2)) (seq (say 3) (say 4)))";
 
+// Turns where each fiber may make so many moves from the start on.
+fn shares_moves<R: Abort + AllocGlobal>(rt: &R, left: u32) -> Result<(), Fail>
+    requires { left < 99 }
+{
+    let turns = [(0, 64), (1, 64), (0, 64)];
+    let (told, report) = turn_by_turn(rt.alloc(), SAYING, ample(), left + 2, turns.as_slice())?;
+    let core = core_report(rt.alloc(), left)?;
+    let last = if left < 8 { Told::OutOfMoves } else { ENDED };
+    assert_eq!(rt; told.as_slice(), [Told::Started(1), last, last].as_slice());
+    assert_eq!(rt; report, core, "{left}");
+    Ok(())
+}
+
 /// Both fibers need eight moves from the start on.
 #[test]
 fn a_child_begins_with_the_moves_that_are_left(rt: HostRuntime) -> Result<(), Fail> {
     for left in 1..11u32 {
-        let turns = [(0, 64), (1, 64), (0, 64)];
-        let (told, report) = turn_by_turn(rt.alloc(), SAYING, ample(), left + 2, turns.as_slice())?;
-        let last = if left < 8 { Told::OutOfMoves } else { ENDED };
-        assert_eq!(rt; told.as_slice(), [Told::Started(1), last, last].as_slice());
-        assert_eq!(rt; report, core_report(rt.alloc(), left)?, "{left}");
+        shares_moves(&rt, left)?;
     }
     Ok(())
 }

@@ -1,9 +1,11 @@
-//! Tests of the public calls of `fiber_poll` and `wait_bay`, with answers worked by hand.
+//! Tests of the public calls of `fiber_poll` and `wait_bay`, and of `gather` over tasks that are turned
+//! by hand, with answers worked by hand.
 //!
-//! Both crates promise what their calls answer, so these tests show what no proof does: that the calls
+//! These crates promise what their calls answer, so these tests show what no proof does: that the calls
 //! succeed where memory is ample, which event a turn tells first, that fibers which are turned in any
-//! order come to the report of that order, and that a wake isn't lost. The crate has nothing but its
-//! tests. They stand apart from the libraries so that a library is proved without them.
+//! order and then gathered come to the report of that order, that a fiber's pass goes on after a
+//! refusal, and that a wake isn't lost. The crate has nothing but its tests. They stand apart from the
+//! libraries so that a library is proved without them.
 #![tactic(auto)]
 
 #[cfg(test)]

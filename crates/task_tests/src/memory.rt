@@ -1,14 +1,19 @@
 //! Calls that take memory. Each of these tests holds whichever request for memory is refused.
 
-use crate::programs::code;
-use crate::turning::{Told, turned};
-use cell_registry::{Registry, RunError};
+ghost use Rattle.std.specs.Prelude.{◌≡◌, ◌<◌};
+ghost use Rattle.wait_bay.specs.Bays.{IsSeatOf};
+
+use crate::programs::{few, opened};
+use crate::turning::{Told, answered};
+use cell_registry::RunError;
 use effect_term::Outcome;
 use fiber_frames::Mark;
-use fiber_poll::{Topic, alone, first};
+use fiber_poll::{FiberTask, Topic, alone, first};
 use outcome_trace::read_program;
-use std::alloc::AllocError;
-use wait_bay::Bay;
+use std::alloc::{AllocError, AllocGlobal};
+use std::process::Abort;
+use std::sync::Wait;
+use wait_bay::{Bay, BaySeat};
 
 /// Three brackets, which are cut in the innermost body.
 const NESTED: &str =
@@ -42,32 +47,53 @@ const NESTED_MARKS: [Mark; 25] = [
     Mark::Released(0),
 ];
 
+// A turn of a task that lacked memory says so again, and makes no move.
+fn is_broken<R: Abort>(rt: &R, task: &mut FiberTask<'_>) {
+    let made = task.trace().len();
+    for _ in 0..3 {
+        assert!(rt; answered(task.turn(999)).is_err());
+        assert_eq!(rt; task.trace().len(), made);
+        assert_eq!(rt; task.outcome(), None);
+    }
+}
+
+// One turn, which ends the fiber so and with these marks, or meets want of memory.
+fn ends<R: Abort>(rt: &R, task: &mut FiberTask<'_>, outcome: Outcome, marks: &[Mark]) {
+    match answered(task.turn(999)) {
+        Ok((told, _)) => {
+            assert_eq!(rt; told, Told::Ended(outcome));
+            assert_eq!(rt; task.trace(), marks);
+        }
+        Err(AllocError) => {
+            assert!(rt; marks.starts_with(task.trace()));
+            is_broken(rt, task);
+        }
+    }
+}
+
 /// What a turn answers and the marks from then on, or that memory ran out, which each later turn
 /// answers, too.
 #[test]
 fn a_turn_ends_the_fiber_or_memory_ran_out(rt: HostRuntime) {
-    let Ok(code) = code(rt.alloc(), NESTED) else {
-        return;
-    };
-    let Ok((registry, pass)) = Registry::new(rt.alloc(), 1, 1, 1, 99) else {
+    let Ok((code, registry, pass)) = opened(rt.alloc(), NESTED, few(1, 99)) else {
         return;
     };
     let Ok(mut task) = first(rt.alloc(), &registry, pass, &code, 999) else {
         return;
     };
-    match turned(&mut task, 999) {
-        Ok((told, _)) => {
-            assert_eq!(rt; told, Told::Ended(Outcome::Canceled));
-            assert_eq!(rt; task.trace(), NESTED_MARKS.as_slice());
+    ends(&rt, &mut task, Outcome::Canceled, NESTED_MARKS.as_slice());
+}
+
+// One turn, which starts a fiber that then ends, or meets want of memory.
+fn starts<R: Abort>(rt: &R, parent: &mut FiberTask<'_>) {
+    match answered(parent.turn(999)) {
+        Ok((told, Some(mut child))) => {
+            assert_eq!(rt; told, Told::Started(1));
+            let marks = [Mark::Say(8)];
+            ends(rt, &mut child, Outcome::Succeeded(0), marks.as_slice());
         }
-        Err(AllocError) => {
-            let made = task.trace().len();
-            assert!(&rt; NESTED_MARKS.as_slice().starts_with(task.trace()));
-            for _ in 0..3 {
-                assert!(&rt; turned(&mut task, 999).is_err());
-                assert_eq!(rt; (task.trace().len(), task.outcome()), (made, None));
-            }
-        }
+        Ok((_, None)) => panic!(rt; "no fiber was started"),
+        Err(AllocError) => is_broken(rt, parent),
     }
 }
 
@@ -76,29 +102,13 @@ fn a_turn_ends_the_fiber_or_memory_ran_out(rt: HostRuntime) {
 fn a_turn_starts_a_fiber_or_memory_ran_out(rt: HostRuntime) {
     let text =
         "(let x (pure 7) (let y (pure 8) (start f (say y) (join f z (say z) e (pure 0) (pure 0)))))";
-    let Ok(code) = code(rt.alloc(), text) else {
-        return;
-    };
-    let Ok((registry, pass)) = Registry::new(rt.alloc(), 2, 1, 1, 99) else {
+    let Ok((code, registry, pass)) = opened(rt.alloc(), text, few(2, 99)) else {
         return;
     };
     let Ok(mut parent) = first(rt.alloc(), &registry, pass, &code, 999) else {
         return;
     };
-    match turned(&mut parent, 999) {
-        Ok((told, Some(mut child))) => {
-            assert_eq!(rt; told, Told::Started(1));
-            match turned(&mut child, 999) {
-                Ok((told, _)) => {
-                    assert_eq!(rt; told, Told::Ended(Outcome::Succeeded(0)));
-                    assert_eq!(rt; child.trace(), [Mark::Say(8)].as_slice());
-                }
-                Err(AllocError) => assert!(&rt; turned(&mut child, 999).is_err()),
-            }
-        }
-        Ok((_, None)) => panic!(rt; "no fiber was started"),
-        Err(AllocError) => assert!(&rt; turned(&mut parent, 999).is_err()),
-    }
+    starts(&rt, &mut parent);
 }
 
 /// The future's queue asks for memory, too: where it is refused, the thread can't wait.
@@ -114,29 +124,50 @@ fn a_program_ends_alone_or_memory_ran_out(rt: HostRuntime) {
     }
 }
 
-#[test]
-fn a_bay_keeps_what_it_took_or_memory_ran_out(rt: HostRuntime) {
-    let Ok(code) = code(rt.alloc(), "(pure 7)") else {
-        return;
-    };
-    let Ok((registry, pass)) = Registry::new(rt.alloc(), 1, 1, 1, 9) else {
-        return;
-    };
-    let Ok(task) = first(rt.alloc(), &registry, pass, &code, 9) else {
-        return;
-    };
-    let Ok((bay, mut seat)) = Bay::new(rt.alloc(), 3, 2, None) else {
-        return;
-    };
-    assert_eq!(rt; bay.put(&rt, &mut seat, 0, task, true).ok(), Some(true));
+// Notes who waits, where there is memory for it.
+fn notes<R: Abort + Wait>(rt: &R, bay: &Bay<'_>)
+    requires { 1 < bay.now.deferreds }
+{
     let topic = Topic::Deferred(1);
-    let noted = match bay.register(&rt, topic, 2) {
+    let noted = match bay.register(rt, topic, 2) {
         Ok(()) => [2u16].as_slice(),
         Err(AllocError) => [].as_slice(),
     };
-    assert_eq!(rt; bay.drain_topic(&rt, topic).as_slice(), noted);
+    assert_eq!(rt; bay.drain_topic(rt, topic).as_slice(), noted);
+}
+
+// The task of fiber 0 goes into its slot, and is to be queued.
+fn takes_in<'a, R: Abort + Wait>(rt: &R, bay: &Bay<'a>, seat: &mut BaySeat<'a>, task: FiberTask<'a>)
+    requires here { IsSeatOf bay.now seat.old }
+    requires some { 0 < bay.now.fibers }
+    requires nameless { bay.now.named ≡ None }
+    ensures { seat.new ≡ seat.old }
+{
+    match bay.put(rt, seat, 0, task, true) {
+        Ok(queued) => assert_eq!(rt; queued, true),
+        Err(_) => panic!(rt; "the task was refused"),
+    }
+}
+
+// A bay that takes this task in, and gives it back at its end where there is memory for it.
+fn keeps<'a, R: Abort + AllocGlobal + Wait>(rt: &R, task: FiberTask<'a>) {
+    let Ok((bay, mut seat)) = Bay::new(rt.alloc(), 3, 2, None) else {
+        return;
+    };
+    takes_in(rt, &bay, &mut seat, task);
+    notes(rt, &bay);
     match bay.empty() {
         Ok(tasks) => assert_eq!(rt; tasks.len(), 1),
         Err(AllocError) => {}
+    }
+}
+
+#[test]
+fn a_bay_keeps_what_it_took_or_memory_ran_out(rt: HostRuntime) {
+    let Ok((code, registry, pass)) = opened(rt.alloc(), "(pure 7)", few(1, 9)) else {
+        return;
+    };
+    if let Ok(task) = first(rt.alloc(), &registry, pass, &code, 9) {
+        keeps(&rt, task);
     }
 }

@@ -1,4 +1,9 @@
 //! Programs whose fibers are turned in several orders, each with a schedule that is worked out by hand.
+//!
+//! A turn stands in the schedule as so many entries of its fiber as it made moves. Outside masks and
+//! finalizers each word costs two, a look and its own, and so does the end of a fiber; below a mask it
+//! costs one. A turn makes its budget of moves, or ends with the move that has an event: so `(0, 2)` is
+//! `0*2`, and the turn that starts a fiber, waits or ends is counted up to the move that does.
 
 use crate::programs::ample;
 use crate::turning::{Told, Turns, expect_turns};

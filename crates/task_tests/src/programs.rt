@@ -1,10 +1,11 @@
 //! Programs of texts, and what the core makes of them.
 
-ghost use Rattle.std.specs.Prelude.{◌≡◌, IfOk, false};
+ghost use Rattle.std.specs.Prelude.{◌≡◌, ◌<◌, ◌≤◌, ◌^◌, IfOk, false};
 ghost use Rattle.cell_registry.specs.Cells.{AreLimits};
+ghost use Rattle.cell_registry.specs.Passes.{first_pass};
 ghost use Rattle.effect_term.specs.Starts.{starts_fiber};
 
-use cell_registry::{Limits, RunError};
+use cell_registry::{Limits, Pass, Registry, RunError};
 use derived_ops::{Code, expand};
 use effect_term::Program;
 use outcome_trace::{Refused, read_program, read_schedule, replay, text_of_report};
@@ -22,12 +23,46 @@ pub fn quiet_program(alloc: Global, text: &str) -> Result<Program, Fail>
     Ok(program)
 }
 
-/// The code of the program that a text spells.
-pub fn code(alloc: Global, text: &str) -> Result<Code, Refused> {
+// The code of the program that a text spells.
+fn code(alloc: Global, text: &str) -> Result<Code, Refused> {
     let program = read_program(alloc, text.as_bytes())?;
     match expand(alloc, &program) {
         Ok(code) => Ok(code),
         Err(_) => Err(Refused::Run(RunError::NoMemory)),
+    }
+}
+
+/// The code of the program that a text spells, a registry of these limits, and fiber 0's pass.
+pub fn opened(alloc: Global, text: &str, limits: Limits) -> Result<(Code, Registry, Pass), Refused>
+    requires { AreLimits limits }
+    ensures limits { IfOk result (λ it. it.1.limits ≡ limits) }
+    ensures pass { IfOk result (λ it. it.2 ≡ first_pass it.1) }
+{
+    let Limits {
+        fibers,
+        refs,
+        deferreds,
+        count,
+    } = limits;
+    let code = code(alloc, text)?;
+    match Registry::new(alloc, fibers, refs, deferreds, count) {
+        Ok((registry, pass)) => Ok((code, registry, pass)),
+        Err(_) => Err(Refused::Run(RunError::NoMemory)),
+    }
+}
+
+/// Limits of so many fibers, one ref and one deferred, and so many changes, each at least 1.
+pub const fn few(fibers: u16, count: u32) -> Limits
+    requires fibers { (0 < fibers) × (fibers ≤ 1000) }
+    requires count { (0 < count) × (count < 2 ^ 18) }
+    ensures limits { AreLimits result }
+    ensures fibers { result.fibers ≡ fibers }
+{
+    Limits {
+        fibers,
+        refs: 1,
+        deferreds: 1,
+        count,
     }
 }
 

@@ -2,8 +2,8 @@
 
 ghost use Rattle.std.specs.Prelude.{◌≡◌, ◌<◌};
 
-use crate::programs::{code, quiet_program};
-use cell_registry::{Band, Limits, Registry, RunError};
+use crate::programs::{few, opened, quiet_program};
+use cell_registry::{Band, Limits, RunError};
 use effect_term::Outcome;
 use fiber_poll::{FiberFuture, alone, first};
 use futures::executor::block_on;
@@ -100,8 +100,7 @@ fn comes<R: Wait + RandomSource + AllocGlobal>(
     text: &str,
     moves: u32,
 ) -> Result<Result<Option<Outcome>, RunError>, Fail> {
-    let code = code(rt.alloc(), text)?;
-    let (registry, pass) = Registry::new(rt.alloc(), 1, 1, 1, 2)?;
+    let (code, registry, pass) = opened(rt.alloc(), text, few(1, 2))?;
     let task = first(rt.alloc(), &registry, pass, &code, moves)?;
     Ok(block_on(rt, FiberFuture { task, budget: 2 })?)
 }

@@ -1,16 +1,20 @@
-//! Tasks that are turned by hand, and what they have come to.
+//! Tasks that are turned by hand, and what is gathered from them.
 
-ghost use Rattle.std.specs.Prelude.{◌<◌, length};
+ghost use Rattle.std.specs.Prelude.{◌≡◌, ◌≢◌, ◌<◌, All, IfOk, IfSome, length, Ok as GoesWell, Err as Fails};
 ghost use Rattle.cell_registry.specs.Cells.{AreLimits};
+ghost use Rattle.cell_registry.specs.Passes.{first_pass};
+ghost use Rattle.fiber_poll.specs.Tasks.{IsTaskOf};
 
-use crate::programs::{code, replayed};
-use cell_registry::{Band, Limits, Registry, RunError};
+use crate::programs::{opened, replayed};
+use cell_registry::{Band, Limits, Pass, Registry, RunError};
+use derived_ops::Code;
 use effect_term::Outcome;
 use fiber_poll::{FiberTask, Topic, Turn, first};
 use outcome_trace::{FiberReport, FiberReports, Marks, Report, text_of_report};
 use std::alloc::{AllocError, Global};
 use std::process::Abort;
 use std::test::Fail;
+use steal_pool::gather;
 
 /// What a turn answered, with the number of a started fiber in place of its task.
 #[derive(Clone, Copy, PartialEq, Eq, Debug)]
@@ -26,39 +30,83 @@ pub enum Told {
     Spent(u16),
 }
 
-/// Makes a turn. Gives what it told, and the task of the fiber that it started. `AllocError` where
-/// memory ran out.
-pub fn turned<'a>(
-    task: &mut FiberTask<'a>,
-    budget: u32,
-) -> Result<(Told, Option<FiberTask<'a>>), AllocError>
-    requires { 1 < budget }
+// What a turn told that met no fault, and the task of the fiber that it started.
+fn told_by<'a>(turn: Turn<'a>) -> (Told, Option<FiberTask<'a>>)
+    ensures { IfSome result.1 (λ child. turn.entry ≡ Turn.Started child) }
 {
-    match task.turn(budget) {
-        Ok(Turn::Ended(outcome)) => Ok((Told::Ended(outcome), None)),
-        Ok(Turn::Waits(topic)) => Ok((Told::Waits(topic), None)),
-        Ok(Turn::Cedes) => Ok((Told::Cedes, None)),
-        Ok(Turn::Started(child)) => Ok((Told::Started(child.number()), Some(child))),
-        Ok(Turn::WakeFiber(fiber)) => Ok((Told::WakeFiber(fiber), None)),
-        Ok(Turn::WakeTopic(topic)) => Ok((Told::WakeTopic(topic), None)),
-        Ok(Turn::OutOfMoves) => Ok((Told::OutOfMoves, None)),
+    match turn {
+        Turn::Ended(outcome) => (Told::Ended(outcome), None),
+        Turn::Waits(topic) => (Told::Waits(topic), None),
+        Turn::Cedes => (Told::Cedes, None),
+        Turn::Started(child) => (Told::Started(child.number()), Some(child)),
+        Turn::WakeFiber(fiber) => (Told::WakeFiber(fiber), None),
+        Turn::WakeTopic(topic) => (Told::WakeTopic(topic), None),
+        Turn::OutOfMoves => (Told::OutOfMoves, None),
+    }
+}
+
+/// What a turn told, and the task of the fiber that it started. `AllocError` where memory ran out.
+pub fn answered<'a>(
+    answer: Result<Turn<'a>, RunError>,
+) -> Result<(Told, Option<FiberTask<'a>>), AllocError>
+    ensures child { IfOk result (λ it. IfSome it.1 (λ child. answer.entry ≡ GoesWell (Turn.Started child))) }
+    ensures memory { IfOk result (λ _. answer.entry ≢ Fails RunError.NoMemory) }
+{
+    match answer {
+        Ok(turn) => Ok(told_by(turn)),
         Err(RunError::Full(band, limit)) => Ok((Told::Full(band, limit), None)),
         Err(RunError::Spent(fiber)) => Ok((Told::Spent(fiber), None)),
         // No turn answers another fault.
-        Err(RunError::NoMemory | RunError::Lost(_) | RunError::NoWorker) => Err(AllocError),
+        Err(_) => Err(AllocError),
+    }
+}
+
+/// Makes a turn of a task of this registry and code, which it still is, and so is the task of the
+/// fiber that it started. `AllocError` where memory ran out.
+pub fn turned<'a>(
+    registry: &Registry,
+    code: &Code,
+    task: &mut FiberTask<'a>,
+    budget: u32,
+) -> Result<(Told, Option<FiberTask<'a>>), AllocError>
+    requires budget { 1 < budget }
+    requires own { IsTaskOf registry.now code.now task.old }
+    ensures own { IfOk result (λ _. IsTaskOf registry.now code.now task.new) }
+    ensures child { IfOk result (λ it. IfSome it.1 (IsTaskOf registry.now code.now)) }
+{
+    answered(task.turn(budget))
+}
+
+/// The task of the fiber that the next turn of this one starts.
+pub fn child_of<'a>(
+    registry: &Registry,
+    code: &Code,
+    task: &mut FiberTask<'a>,
+) -> Result<FiberTask<'a>, Fail>
+    requires { IsTaskOf registry.now code.now task.old }
+    ensures parent { IfOk result (λ _. IsTaskOf registry.now code.now task.new) }
+    ensures child { IfOk result (IsTaskOf registry.now code.now) }
+{
+    match turned(registry, code, task, 64)? {
+        (_, Some(child)) => Ok(child),
+        (_, None) => Err(Fail::new("no fiber was started")),
     }
 }
 
 // Makes a turn of the fiber of this number. A started fiber's task goes to the end, which is its place.
 fn turn_of<'a>(
+    registry: &Registry,
+    code: &Code,
     tasks: &mut Vec<FiberTask<'a>>,
     number: usize,
     budget: u32,
 ) -> Result<Told, AllocError>
     requires there { number < length tasks.old.items }
     requires budget { 1 < budget }
+    requires own { All (IsTaskOf registry.now code.now) tasks.old.items }
+    ensures own { IfOk result (λ _. All (IsTaskOf registry.now code.now) tasks.new.items) }
 {
-    let (told, child) = turned(&mut tasks[number], budget)?;
+    let (told, child) = turned(registry, code, &mut tasks[number], budget)?;
     if let Some(child) = child {
         tasks.push(child)?;
     }
@@ -68,15 +116,20 @@ fn turn_of<'a>(
 // Makes these turns, each of the fiber of this number and by this budget.
 fn all_turns<'a>(
     alloc: Global,
+    registry: &Registry,
+    code: &Code,
     tasks: &mut Vec<FiberTask<'a>>,
     turns: &[(usize, u32)],
-) -> Result<Vec<Told>, Fail> {
+) -> Result<Vec<Told>, Fail>
+    requires { All (IsTaskOf registry.now code.now) tasks.old.items }
+    ensures { IfOk result (λ _. All (IsTaskOf registry.now code.now) tasks.new.items) }
+{
     let mut told = Vec::new(alloc);
     for (number, budget) in turns {
         if *number >= tasks.len() || *budget < 2 {
             return Err(Fail::new("there is no such turn"));
         }
-        told.push(turn_of(tasks, *number, *budget)?)?;
+        told.push(turn_of(registry, code, tasks, *number, *budget)?)?;
     }
     Ok(told)
 }
@@ -90,7 +143,7 @@ fn line_of(alloc: Global, task: &FiberTask<'_>) -> Result<FiberReport, AllocErro
     })
 }
 
-// The text of the report of what the fibers of these tasks have come to.
+// The text of the report of what these tasks tell that their fibers have come to.
 fn report_of(alloc: Global, tasks: &[FiberTask<'_>]) -> Result<String, Fail> {
     let mut lines = Vec::new(alloc);
     for task in tasks {
@@ -102,8 +155,42 @@ fn report_of(alloc: Global, tasks: &[FiberTask<'_>]) -> Result<String, Fail> {
     Ok(text_of_report(alloc, &report)?)
 }
 
+// The text of the report that is gathered from these tasks. It is what they tell themselves.
+fn gathered<'a>(
+    alloc: Global,
+    registry: &Registry,
+    code: &Code,
+    tasks: Vec<FiberTask<'a>>,
+) -> Result<String, Fail>
+    requires { All (IsTaskOf registry.now code.now) tasks.items }
+{
+    let told = report_of(alloc, tasks.as_slice())?;
+    let report = gather(alloc, registry, code, tasks)?;
+    let gathered = text_of_report(alloc, &report)?;
+    if gathered.as_str() != told.as_str() {
+        return Err(Fail::new("what was gathered isn't what the tasks tell"));
+    }
+    Ok(gathered)
+}
+
+// Fiber 0's task, which may make so many moves, as the only one.
+fn only_first<'a>(
+    alloc: Global,
+    registry: &'a Registry,
+    pass: Pass,
+    code: &Code,
+    moves: u32,
+) -> Result<Vec<FiberTask<'a>>, AllocError>
+    requires { pass ≡ first_pass registry.now }
+    ensures { IfOk result (λ tasks. All (IsTaskOf registry.now code.now) tasks.items) }
+{
+    let mut tasks = Vec::new(alloc);
+    tasks.push(first(alloc, registry, pass, code, moves)?)?;
+    Ok(tasks)
+}
+
 /// Makes these turns of a program's fibers, each of the fiber of this number and by this budget. Gives
-/// what the turns told, and the text of the report of what the fibers have come to.
+/// what the turns told, and the text of the report that is then gathered from all tasks.
 pub fn turn_by_turn(
     alloc: Global,
     text: &str,
@@ -113,19 +200,11 @@ pub fn turn_by_turn(
 ) -> Result<(Vec<Told>, String), Fail>
     requires { AreLimits limits }
 {
-    let code = code(alloc, text)?;
-    let (registry, pass) = Registry::new(
-        alloc,
-        limits.fibers,
-        limits.refs,
-        limits.deferreds,
-        limits.count,
-    )?;
-    let task = first(alloc, &registry, pass, &code, moves)?;
-    let mut tasks = Vec::new(alloc);
-    tasks.push(task)?;
-    let told = all_turns(alloc, &mut tasks, turns)?;
-    Ok((told, report_of(alloc, tasks.as_slice())?))
+    let (code, registry, pass) = opened(alloc, text, limits)?;
+    let mut tasks = only_first(alloc, &registry, pass, &code, moves)?;
+    let told = all_turns(alloc, &registry, &code, &mut tasks, turns)?;
+    let report = gathered(alloc, &registry, &code, tasks)?;
+    Ok((told, report))
 }
 
 /// Turns of a program's fibers that are made by hand, and what comes of them.
@@ -140,13 +219,14 @@ pub struct Turns<'a> {
     pub turns: &'a [(usize, u32)],
     /// What each of them tells.
     pub told: &'a [Told],
-    /// A schedule that has the moves of the turns, in their order.
+    /// A schedule that has the moves of the turns, in their order: a turn that made n moves of fiber f
+    /// stands in it as n entries of f. The refused move of a turn is no entry.
     pub schedule: &'a str,
-    /// The report of what the fibers have come to, which is the core's under the schedule.
+    /// The report that is gathered from the tasks, which is the core's under the schedule.
     pub report: &'a str,
 }
 
-/// Makes the turns of each case, and compares what they tell and both reports.
+/// Makes the turns of each case, and compares what they tell, and the gathered and the core's report.
 pub fn expect_turns<R: Abort + AllocGlobal>(
     rt: &R,
     limits: Limits,
@@ -154,13 +234,20 @@ pub fn expect_turns<R: Abort + AllocGlobal>(
 ) -> Result<(), Fail>
     requires { AreLimits limits }
 {
-    let alloc = rt.alloc();
     for case in cases {
-        let (told, report) = turn_by_turn(alloc, case.program, limits, case.moves, case.turns)?;
-        assert_eq!(rt; told.as_slice(), case.told, "{}", case.rule);
-        assert_eq!(rt; report.as_str(), case.report, "{}", case.rule);
-        let core = replayed(alloc, case.program, limits, case.schedule)?;
-        assert_eq!(rt; core.as_str(), case.report, "{}", case.rule);
+        expect(rt, limits, *case)?;
     }
+    Ok(())
+}
+
+fn expect<R: Abort + AllocGlobal>(rt: &R, limits: Limits, case: Turns<'_>) -> Result<(), Fail>
+    requires { AreLimits limits }
+{
+    let alloc = rt.alloc();
+    let (told, report) = turn_by_turn(alloc, case.program, limits, case.moves, case.turns)?;
+    let core = replayed(alloc, case.program, limits, case.schedule)?;
+    assert_eq!(rt; told.as_slice(), case.told, "{}", case.rule);
+    assert_eq!(rt; report.as_str(), case.report, "{}", case.rule);
+    assert_eq!(rt; core.as_str(), case.report, "{}", case.rule);
     Ok(())
 }

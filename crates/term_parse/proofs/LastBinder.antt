@@ -6,16 +6,16 @@ use Rattle.std.proofs.lemmas.Slice.Eq.{bytes_eq-Decides}
 use Rattle.effect_term.specs.declared.term.Name.{Name}
 use Rattle.term_parse.specs.declared.scope.Binding.{Binding}
 use Rattle.term_parse.specs.Reading.{Bound, find_from}
-use Rattle.term_parse.specs.Bindings.{bounds, bound_of, InText}
+use Rattle.term_parse.specs.Bindings.{bounds, bound_of, hash_of, InText}
 use Rattle.term_parse.proofs.ScopeLaws.{find-from_innermost}
 use Rattle.term_parse.proofs.Steps.{bounds-append}
 
-no_length : (x y : List ℕ) (b : Bool) → bytes_eq x y ≡ b → (length x ≡ length y → ⊥) → b ≡ false
-no_length x y true e h = absurd (h (ap (λ z. length z) ((bytes_eq-Decides x y).0 e)))
-no_length x y false e h = refl
+other_result : (x y : List ℕ) (b : Bool) → bytes_eq x y ≡ b → (hash_of x ≡ hash_of y → ⊥) → b ≡ false
+other_result x y true e h = absurd (h (ap hash_of ((bytes_eq-Decides x y).0 e)))
+other_result x y false e h = refl
 
-pub other_length : (x y : List ℕ) → (length x ≡ length y → ⊥) → bytes_eq x y ≡ false
-other_length x y h = no_length x y (bytes_eq x y) refl h
+pub other_hash : (x y : List ℕ) (h k : ℕ) → h ≡ hash_of x → k ≡ hash_of y → (h ≡ k → ⊥) → bytes_eq x y ≡ false
+other_hash x y h k e f n = other_result x y (bytes_eq x y) refl (λ s. n (e ∙ s ∙ sym f))
 
 bounds-length : (text : List ℕ) (bs : List Binding) → length (bounds text bs) ≡ length bs
 bounds-length text [] = refl
@@ -44,17 +44,26 @@ found_around text scope around b x s e =
 
 around_within : (text : List ℕ) (around : List Binding) (b : Binding) → InText text (around ++ b ∷ []) → InText text around
 around_within text [] b h = tt
-around_within text (c ∷ around) b h = (h.0, h.1, around_within text around b h.2)
+around_within text (c ∷ around) b h = (h.0, h.1, h.2, around_within text around b h.3)
 
 last_within : (text : List ℕ) (around : List Binding) (b : Binding) → InText text (around ++ b ∷ []) → (b.start ≤ b.end) × (b.end ≤ length text)
 last_within text [] b h = (h.0, h.1)
-last_within text (c ∷ around) b h = last_within text around b h.2
+last_within text (c ∷ around) b h = last_within text around b h.3
 
 pub around_in_text : (text : List ℕ) (scope around : List Binding) (b : Binding) → scope ≡ around ++ b ∷ [] → InText text scope → InText text around
 around_in_text text scope around b s h = around_within text around b (subst (InText text) s h)
 
 pub last_in_text : (text : List ℕ) (scope around : List Binding) (b : Binding) → scope ≡ around ++ b ∷ [] → InText text scope → (b.start ≤ b.end) × (b.end ≤ length text)
 last_in_text text scope around b s h = last_within text around b (subst (InText text) s h)
+
+last_hash : (text : List ℕ) (around : List Binding) (b : Binding) → InText text (around ++ b ∷ []) →
+    b.hash ≡ hash_of (slice_range text b.start b.end)
+last_hash text [] b h = h.2
+last_hash text (c ∷ around) b h = last_hash text around b h.3
+
+pub last_hashed : (text : List ℕ) (scope around : List Binding) (b : Binding) → scope ≡ around ++ b ∷ [] →
+    InText text scope → b.hash ≡ hash_of (slice_range text b.start b.end)
+last_hashed text scope around b s h = last_hash text around b (subst (InText text) s h)
 
 pub found_none : (text : List ℕ) (scope : List Binding) (x : List ℕ) → length scope ≡ 0 → find_from 0 (bounds text scope) x ≡ None
 unfolding find_from

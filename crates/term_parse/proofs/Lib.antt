@@ -20,6 +20,8 @@ pub mod Steps
 pub mod Words
 pub mod PickedBinders
 pub mod Stacks
+pub mod OpenStacks
+pub mod Spellings
 pub mod Builds
 pub mod ShapeLaws
 pub mod ParseLaws

@@ -1,5 +1,7 @@
 -- A word is found among those that begin with its letter.
-use Rattle.std.proofs.Common.{◌≡◌, Bool, true, false, if◌then◌else◌, ℕ, List, [], ◌∷◌, Option, Some, None, length, refl, sym, subst, find, bytes_eq, arith}
+use Rattle.std.proofs.Common.{◌≡◌, Bool, true, false, if◌then◌else◌, ℕ, List, [], ◌∷◌, Option, Some, None, length}
+use Rattle.std.proofs.Common.{refl, sym, subst, find, bytes_eq, arith, drop, get_or, ap, ◌∙◌, ◌+◌, ◌<◌, ◌≤◌}
+use Rattle.std.proofs.lemmas.List.{at_drop_more, at_drop_all}
 use Rattle.std.proofs.lemmas.Slice.Eq.{bytes_eq-Decides}
 use Rattle.term_parse.specs.declared.table.Word.{Word}
 use Rattle.term_parse.specs.declared.table.Word.TheVariants as words
@@ -78,3 +80,35 @@ near_word x first rest s = subst (λ y. find (λ w. bytes_eq (word_spelling w) y
 pub no_word : (x : List ℕ) → length x ≡ 0 → word_of x ≡ None
 no_word [] h = sym (near_all [])
 no_word (first ∷ rest) h = absurd (omega arith)
+
+-- the words from here on, as the loop goes on over them
+abbrev spelled_in : List ℕ → List Word → Option Word
+spelled_in x ws = find (λ w. bytes_eq (word_spelling w) x) ws
+
+chosen : (o : Option Word) (w : Word) (b c : Bool) → b ≡ c → c ≡ true → (if b then Some w else o) ≡ Some w
+chosen o w true c e t = refl
+chosen o w false c e t = cc
+
+passed : (o : Option Word) (w : Word) (b c : Bool) → b ≡ c → c ≡ false → (if b then Some w else o) ≡ o
+passed o w true c e t = cc
+passed o w false c e t = refl
+
+pub word_here : (x : List ℕ) (ws : List Word) (i : ℕ) (d : Word) (s : List ℕ) (b : Bool) → i < length ws →
+    s ≡ word_spelling (get_or ws i d) → b ≡ bytes_eq s x → b ≡ true →
+    find (λ w. bytes_eq (word_spelling w) x) (drop i ws) ≡ Some (get_or ws i d)
+word_here x ws i d s b l e q t =
+    at_drop_more (spelled_in x) ws i d l ∙
+    chosen (spelled_in x (drop (i + 1) ws)) (get_or ws i d) (bytes_eq (word_spelling (get_or ws i d)) x) b
+    (ap (λ y. bytes_eq y x) (sym e) ∙ sym q) t
+
+pub word_later : (x : List ℕ) (ws : List Word) (i : ℕ) (d : Word) (s : List ℕ) (b : Bool) → i < length ws →
+    s ≡ word_spelling (get_or ws i d) → b ≡ bytes_eq s x → b ≡ false →
+    find (λ w. bytes_eq (word_spelling w) x) (drop i ws) ≡ find (λ w. bytes_eq (word_spelling w) x) (drop (i + 1) ws)
+word_later x ws i d s b l e q t =
+    at_drop_more (spelled_in x) ws i d l ∙
+    passed (spelled_in x (drop (i + 1) ws)) (get_or ws i d) (bytes_eq (word_spelling (get_or ws i d)) x) b
+    (ap (λ y. bytes_eq y x) (sym e) ∙ sym q) t
+
+pub no_more_words : (x : List ℕ) (ws : List Word) (i : ℕ) → length ws ≤ i →
+    find (λ w. bytes_eq (word_spelling w) x) (drop i ws) ≡ None
+no_more_words x ws i l = at_drop_all (spelled_in x) ws i l

@@ -30,14 +30,22 @@ unfolding parts_spelling
 more_text [] d a b q m l e = absurd (omega arith)
 more_text (p ∷ ps) d a b q m l e = ap (λ x. parts_spelling a b (x ∷ ps) q m) e
 
-pub bind_text : (parts : List Part) (d : Part) (k : Kind) (a b o : ℕ) (q : List spelled.Piece) (m : List (ℕ → List ℕ)) → 1 ≤ length parts → get_or parts 0 d ≡ Bind k → o ≡ outer_binders b (take (length parts - 1) (drop 1 parts)) → parts_spelling a b parts q m ≡ 32 ∷ (name_spelling k (a + o) ++ parts_spelling a (b + 1) (take (length parts - 1) (drop 1 parts)) q m)
+-- a text and a further text
+pub followed : {A E : Type 0} (r : Result A E) (old one new text more all : List ℕ) → OnOk r (new ≡ one ++ more) →
+    one ≡ old ++ text → all ≡ text ++ more → OnOk r (new ≡ old ++ all)
+followed r old one new text more all h e g =
+    on_ok_weaker r (λ k. k ∙ ap (λ x. x ++ more) e ∙ append_assoc old text more ∙ ap (λ x. old ++ x) (sym g)) h
+
+pub bind_text : (parts : List Part) (d : Part) (k : Kind) (a b : ℕ) (q : List spelled.Piece) (m : List (ℕ → List ℕ)) →
+    1 ≤ length parts → get_or parts 0 d ≡ Bind k → parts_spelling a b parts q m ≡
+    (32 ∷ name_spelling k (a + outer_binders b (take (length parts - 1) (drop 1 parts)))) ++
+    parts_spelling a (b + 1) (take (length parts - 1) (drop 1 parts)) q m
 unfolding parts_spelling
-bind_text [] d k a b o q m l e f = absurd (omega arith)
-bind_text (p ∷ ps) d k a b o q m l e f =
+bind_text [] d k a b q m l e = absurd (omega arith)
+bind_text (p ∷ ps) d k a b q m l e =
     let rest : take (length (p ∷ ps) - 1) (drop 1 (p ∷ ps)) ≡ ps = rest_is p ps in
     ap (λ x. parts_spelling a b (x ∷ ps) q m) e
     ∙ ap (λ x. 32 ∷ (name_spelling k (a + outer_binders b x) ++ parts_spelling a (b + 1) x q m)) (sym rest)
-    ∙ ap (λ x. 32 ∷ (name_spelling k (a + x) ++ parts_spelling a (b + 1) (take (length (p ∷ ps) - 1) (drop 1 (p ∷ ps))) q m)) (sym f)
 
 -- a part that is none of those
 piece_front : (p : Part) (ps : List Part) (x : spelled.Piece) (a b : ℕ) (q : List spelled.Piece) (m : List (ℕ → List ℕ)) → ((k : Kind) → p ≡ Bind k → ⊥) → (p ≡ More → ⊥) → (p ≡ Close → ⊥) → parts_spelling a b (p ∷ ps) (x ∷ q) m ≡ 32 ∷ (piece_spelling a p x ++ parts_spelling a b ps q m)

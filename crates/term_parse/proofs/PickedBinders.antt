@@ -1,7 +1,9 @@
 -- The binders that a part names.
-use Rattle.std.proofs.Common.{◌≡◌, ◌≤◌, ◌<◌, get_or, ℕ, suc, List, [], ◌∷◌, ◌++◌, length, Some, None, refl, ap, sym, subst, ◌∙◌, slice_get}
+use Rattle.std.proofs.Common.{◌≡◌, ◌≤◌, ◌<◌, get_or, ℕ, suc, List, [], ◌∷◌, ◌++◌, length, Some, None, refl, ap, sym}
+use Rattle.std.proofs.Common.{subst, ◌∙◌, slice_get, take}
 use Prim.Native.Nat.{zero}
 use Rattle.std.proofs.lemmas.Option.{slice_get-get_or, slice_get_past}
+use Rattle.std.proofs.lemmas.List.{take-take}
 use Rattle.term_parse.specs.declared.scope.Binding.{Binding}
 use Rattle.term_parse.specs.Reading.{Bound, picked}
 use Rattle.term_parse.specs.Bindings.{bounds, bound_of, InText}
@@ -19,8 +21,8 @@ bounds-get_none text (x ∷ xs) (suc i) e = bounds-get_none text xs i e
 
 in_text-get : (text : List ℕ) (xs : List Binding) (i : ℕ) (b : Binding) → slice_get xs i ≡ Some b → InText text xs → InText text (b ∷ [])
 in_text-get text [] i b e h = cc
-in_text-get text (x ∷ xs) zero b e h = let i : x ≡ b = cc in subst (λ y. InText text (y ∷ [])) i (h.0, h.1, tt)
-in_text-get text (x ∷ xs) (suc i) b e h = in_text-get text xs i b e h.2
+in_text-get text (x ∷ xs) zero b e h = let i : x ≡ b = cc in subst (λ y. InText text (y ∷ [])) i (h.0, h.1, h.2, tt)
+in_text-get text (x ∷ xs) (suc i) b e h = in_text-get text xs i b e h.3
 
 append_none : (xs : List Bound) → xs ++ [] ≡ xs
 append_none [] = refl
@@ -40,3 +42,8 @@ pub picked_within : (text : List ℕ) (scope bound new : List Binding) (i : ℕ)
 picked_within text scope bound new i b l e n s h =
     let g : slice_get bound i ≡ Some b = slice_get-get_or bound i b l ∙ ap (λ y. Some y) (sym e) in
     rw n (in_text-append text scope (b ∷ []) s (in_text-get text bound i b g h))
+
+-- what stands in front stays in front
+pub kept_twice : (s t u : List Binding) → take (length s) t ≡ s → take (length t) u ≡ t → length s ≤ length t →
+    take (length s) u ≡ s
+kept_twice s t u e f l = sym (take-take (length s) (length t) u l) ∙ ap (take (length s)) f ∙ e

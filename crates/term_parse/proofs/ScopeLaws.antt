@@ -8,7 +8,8 @@ use Rattle.effect_term.specs.declared.term.Kind.TheVariants as kinds
 use Rattle.effect_term.specs.declared.term.Name.{Name}
 use Rattle.term_parse.specs.declared.error.ParseError.{ParseError}
 use Rattle.term_parse.specs.declared.error.ParseError.TheVariants as errors
-use Rattle.term_parse.specs.Reading.{Bound, find_from, same_kind, meaning}
+use Rattle.effect_term.specs.Names.{same_kind}
+use Rattle.term_parse.specs.Reading.{Bound, find_from, meaning}
 use Rattle.term_parse.specs.Innermost.{Unspelled, IsInnermost}
 
 -- the innermost binder, where the scope's first has this slot

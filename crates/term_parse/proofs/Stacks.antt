@@ -2,27 +2,26 @@
 use Rattle.std.proofs.Common.{◌≡◌, ◌≤◌, ◌<◌, ◌+◌, ℕ, suc, true, false, nat_lt, List, [], ◌∷◌, ◌++◌, length, drop, Result, Ok, Err, IfOk, IfErr, refl, ap, sym, subst, ◌∙◌, arith, append_assoc}
 use Rattle.std.proofs.lemmas.Bool.{lt-ltb, le-ltb}
 use Rattle.effect_term.specs.declared.term.Term as terms
-use Rattle.term_parse.specs.declared.table.Word.{Word}
 use Rattle.term_parse.specs.declared.error.ParseError.{ParseError}
 use Rattle.term_parse.specs.declared.error.ParseError.TheVariants as errors
 use Rattle.term_parse.specs.declared.token.Token.{Token}
 use Rattle.term_parse.specs.declared.token.TokenKind.{TokenKind}
 use Rattle.term_parse.specs.declared.token.TokenKind.TheVariants as tokens
 use Rattle.term_parse.specs.declared.form.Piece.TheVariants as pieces
-use Rattle.term_parse.specs.declared.form.Form.{Form}
-use Rattle.term_parse.specs.declared.form.Step.{Step}
-use Rattle.term_parse.specs.declared.form.Step.TheVariants as steps
+use Rattle.term_parse.specs.OpenForms.{OpenForm}
 use Rattle.term_parse.specs.Atoms.{Atom, word, ended, atoms_of}
 use Rattle.term_parse.specs.Language.{parts_of}
 use Rattle.term_parse.specs.Lexemes.{lexemes_at}
-use Rattle.term_parse.specs.Reading.{Bound, Want, term, a_word, parts, want_step, open_of, with_front, reads, reads_at, reading, Fails}
+use Rattle.term_parse.specs.Reading.{Bound, Want, term, a_word, want_step, open_of, with_front, reads, reads_at}
+use Rattle.term_parse.specs.Reading.{reading, Fails}
 use Rattle.term_parse.specs.Seen.{seen_kind, IsNext, IsGood}
 use Rattle.std.specs.List.{slice_range}
-use Rattle.term_parse.specs.Forms.{Buildable, Stepped, sorts, ends, Completes, Shaped, Sound, Awaits, want_of, front_of, Adds, FailsAt, Reads, Opens, Closes, todo_onto, fronts, AllAwait, ScopesWithin, IsStack, IsWhole}
-use Rattle.term_parse.proofs.Words.{completed}
+use Rattle.term_parse.specs.Forms.{ends, Completes, Shaped, Awaits, want_of, front_of, Adds, FailsAt, Reads, Opens}
+use Rattle.term_parse.specs.Forms.{Closes, todo_onto, fronts, AllAwait, ScopesWithin, IsStack, IsWhole}
 use Rattle.term_parse.proofs.Steps.{read_step, read_fault, with_none, with_both, pieces_atoms-add, sorts-add}
 
-todo-add : (text : List ℕ) (around : List Want) (fs : List Form) (f : Form) → todo_onto text around (fs ++ f ∷ []) ≡ want_of text f ∷ todo_onto text around fs
+todo-add : (text : List ℕ) (around : List Want) (fs : List OpenForm) (f : OpenForm) →
+    todo_onto text around (fs ++ f ∷ []) ≡ want_of text f ∷ todo_onto text around fs
 todo-add text around [] f = refl
 todo-add text around (g ∷ fs) f = todo-add text (want_of text g ∷ around) fs f
 
@@ -30,52 +29,57 @@ no_more : (xs : List Atom) → xs ++ [] ≡ xs
 no_more [] = refl
 no_more (x ∷ xs) = ap (λ r. x ∷ r) (no_more xs)
 
-fronts-add : (fs : List Form) (f : Form) → fronts (fs ++ f ∷ []) ≡ fronts fs ++ front_of f
+fronts-add : (fs : List OpenForm) (f : OpenForm) → fronts (fs ++ f ∷ []) ≡ fronts fs ++ front_of f
 fronts-add [] f = no_more (front_of f)
 fronts-add (g ∷ fs) f = ap (λ r. front_of g ++ r) (fronts-add fs f) ∙ sym (append_assoc (front_of g) (fronts fs) (front_of f))
 
-open_todo : (text : List ℕ) (around : List Want) (fs : List Form) → open_of (todo_onto text around fs) ≡ length fs + open_of around
+open_todo : (text : List ℕ) (around : List Want) (fs : List OpenForm) →
+    open_of (todo_onto text around fs) ≡ length fs + open_of around
 open_todo text around [] = omega arith
 open_todo text around (f ∷ fs) =
     let i : open_of (todo_onto text (want_of text f ∷ around) fs) ≡ length fs + suc (open_of around) = open_todo text (want_of text f ∷ around) fs in
     omega (arith, i)
 
-depth_is : (text : List ℕ) (fs : List Form) (depth : ℕ) → depth ≡ length fs + 1 → suc (open_of (todo_onto text [] fs)) ≡ depth
+depth_is : (text : List ℕ) (fs : List OpenForm) (depth : ℕ) → depth ≡ length fs + 1 →
+    suc (open_of (todo_onto text [] fs)) ≡ depth
 depth_is text fs depth e = let i : open_of (todo_onto text [] fs) ≡ length fs + 0 = open_todo text [] fs in omega (arith, i)
 
-await-add : (text : List ℕ) (fs : List Form) (f : Form) → AllAwait text fs → Awaits text f → AllAwait text (fs ++ f ∷ [])
+await-add : (text : List ℕ) (fs : List OpenForm) (f : OpenForm) → AllAwait text fs → Awaits text f →
+    AllAwait text (fs ++ f ∷ [])
 await-add text [] f a w = (w, tt)
 await-add text (g ∷ fs) f a w = (a.0, await-add text fs f a.1 w)
 
-await-front : (text : List ℕ) (fs : List Form) (f : Form) → AllAwait text (fs ++ f ∷ []) → AllAwait text fs
+await-front : (text : List ℕ) (fs : List OpenForm) (f : OpenForm) → AllAwait text (fs ++ f ∷ []) → AllAwait text fs
 await-front text [] f a = tt
 await-front text (g ∷ fs) f a = (a.0, await-front text fs f a.1)
 
-await-last : (text : List ℕ) (fs : List Form) (f : Form) → AllAwait text (fs ++ f ∷ []) → Awaits text f
+await-last : (text : List ℕ) (fs : List OpenForm) (f : OpenForm) → AllAwait text (fs ++ f ∷ []) → Awaits text f
 await-last text [] f a = a.0
 await-last text (g ∷ fs) f a = await-last text fs f a.1
 
-scopes-add : (n m : ℕ) (fs : List Form) (f : Form) → n ≤ m → ScopesWithin n fs → length f.scope.items ≤ m → ScopesWithin m (fs ++ f ∷ [])
+scopes-add : (n m : ℕ) (fs : List OpenForm) (f : OpenForm) → n ≤ m → ScopesWithin n fs → length f.scope ≤ m →
+    ScopesWithin m (fs ++ f ∷ [])
 scopes-add n m [] f l s h = (h, tt)
 scopes-add n m (g ∷ fs) f l s h = (omega (arith, s.0), scopes-add n m fs f l s.1 h)
 
-scopes-front : (n m : ℕ) (fs : List Form) (f : Form) → n ≤ m → ScopesWithin n (fs ++ f ∷ []) → ScopesWithin m fs
+scopes-front : (n m : ℕ) (fs : List OpenForm) (f : OpenForm) → n ≤ m → ScopesWithin n (fs ++ f ∷ []) → ScopesWithin m fs
 scopes-front n m [] f l s = tt
 scopes-front n m (g ∷ fs) f l s = (omega (arith, s.0), scopes-front n m fs f l s.1)
 
-scopes-last : (n : ℕ) (fs : List Form) (f : Form) → ScopesWithin n (fs ++ f ∷ []) → length f.scope.items ≤ n
+scopes-last : (n : ℕ) (fs : List OpenForm) (f : OpenForm) → ScopesWithin n (fs ++ f ∷ []) → length f.scope ≤ n
 scopes-last n [] f s = s.0
 scopes-last n (g ∷ fs) f s = scopes-last n fs f s.1
 
-scopes-later : (n m : ℕ) (fs : List Form) → n ≤ m → ScopesWithin n fs → ScopesWithin m fs
+scopes-later : (n m : ℕ) (fs : List OpenForm) → n ≤ m → ScopesWithin n fs → ScopesWithin m fs
 scopes-later n m [] l s = tt
 scopes-later n m (g ∷ fs) l s = (omega (arith, s.0), scopes-later n m fs l s.1)
 
-length-add : (fs : List Form) (f : Form) → length (fs ++ f ∷ []) ≡ length fs + 1
+length-add : (fs : List OpenForm) (f : OpenForm) → length (fs ++ f ∷ []) ≡ length fs + 1
 length-add [] f = omega arith
 length-add (g ∷ fs) f = let i = length-add fs f in omega (arith, i)
 
-pub stack_reads : (text : List ℕ) (at next : ℕ) (f g : Form) (fs : List Form) → IsStack text at f fs → Reads text at f g next → at < next → next ≤ length text → IsStack text next g fs
+pub stack_reads : (text : List ℕ) (at next : ℕ) (f g : OpenForm) (fs : List OpenForm) → IsStack text at f fs →
+    Reads text at f g next → at < next → next ≤ length text → IsStack text next g fs
 stack_reads text at next f g fs s r l w =
     let todo = todo_onto text [] fs in
     record {
@@ -83,12 +87,14 @@ stack_reads text at next f g fs s r l w =
       left = sym (with_both (fronts fs) (front_of g) (reads_at text next (want_of text g ∷ todo))) ∙ ap (with_front (fronts fs)) (sym (r.goes_on todo)) ∙ with_both (fronts fs) (front_of f) (reads_at text at (want_of text f ∷ todo)) ∙ s.left;
       sound = r.sound s.sound;
       awaits = s.awaits;
-      few = omega (arith, s.few, r.same_scope);
+      few = omega (arith, s.few, ap length r.same_scope);
       few_around = scopes-later at next fs (omega arith) s.few_around;
       forms = omega (arith, s.forms);
     }
 
-pub stack_opens : (text : List ℕ) (at next depth : ℕ) (f outer inner : Form) (fs new : List Form) → IsStack text at f fs → Opens text at depth f outer inner next → depth ≡ length fs + 1 → new ≡ fs ++ outer ∷ [] → at + 2 ≤ next → next ≤ length text → IsStack text next inner new
+pub stack_opens : (text : List ℕ) (at next depth : ℕ) (f outer inner : OpenForm) (fs new : List OpenForm) →
+    IsStack text at f fs → Opens text at depth f outer inner next → depth ≡ length fs + 1 → new ≡ fs ++ outer ∷ [] →
+    at + 2 ≤ next → next ≤ length text → IsStack text next inner new
 stack_opens text at next depth f outer inner fs new s o d n l w =
     let todo = todo_onto text [] fs in
     let fronts_are : fronts (fs ++ outer ∷ []) ++ front_of inner ≡ fronts fs ++ (front_of outer ++ front_of inner) = ap (λ x. x ++ front_of inner) (fronts-add fs outer) ∙ append_assoc (fronts fs) (front_of outer) (front_of inner) in
@@ -101,14 +107,18 @@ stack_opens text at next depth f outer inner fs new s o d n l w =
       sound = o.sound s.sound;
       awaits = await-add text fs outer s.awaits (o.awaits s.sound);
       few = omega (arith, s.few, o.deeper);
-      few_around = scopes-add at next fs outer (omega arith) s.few_around (omega (arith, s.few, o.same_scope));
+      few_around = scopes-add at next fs outer (omega arith) s.few_around
+          (omega (arith, s.few, ap length o.same_scope));
       forms = omega (arith, s.forms, length-add fs outer);
     })
 
-pub stack_fails : (text : List ℕ) (at depth : ℕ) (f : Form) (fs : List Form) (e : ParseError) → IsStack text at f fs → depth ≡ length fs + 1 → FailsAt text at depth f e → Fails e (reads_at text 0 (term [] ∷ []))
+pub stack_fails : (text : List ℕ) (at depth : ℕ) (f : OpenForm) (fs : List OpenForm) (e : ParseError) →
+    IsStack text at f fs → depth ≡ length fs + 1 → FailsAt text at depth f e → Fails e (reads_at text 0 (term [] ∷ []))
 stack_fails text at depth f fs e s d h ne = sym s.left ∙ ap (with_front (fronts fs ++ front_of f)) (h (todo_onto text [] fs) (depth_is text fs depth d) ne)
 
-pub stack_ends : (text : List ℕ) (at next : ℕ) (f : Form) (fs : List Form) (t : terms.Term) → IsStack text at f fs → fs ≡ [] → Closes text at f next → atoms_of t ≡ word f.word ∷ ends f.pieces.items → next ≤ length text → IsWhole text t next
+pub stack_ends : (text : List ℕ) (at next : ℕ) (f : OpenForm) (fs : List OpenForm) (t : terms.Term) →
+    IsStack text at f fs → fs ≡ [] → Closes text at f next → atoms_of t ≡ word f.word ∷ ends f.pieces →
+    next ≤ length text → IsWhole text t next
 stack_ends text at next f fs t s n c a w =
     let s' : IsStack text at f [] = subst (IsStack text at f) n s in
     record {
@@ -116,7 +126,10 @@ stack_ends text at next f fs t s n c a w =
       left = sym s'.left ∙ ap (with_front (front_of f)) (c.goes_on []) ∙ with_both (front_of f) (ended ∷ []) (reads_at text next []) ∙ ap (λ x. with_front x (reads_at text next [])) (sym a);
     }
 
-pub stack_closes : (text : List ℕ) (at next : ℕ) (f outer g : Form) (fs rest : List Form) (t : terms.Term) → IsStack text at f fs → fs ≡ rest ++ outer ∷ [] → Closes text at f next → atoms_of t ≡ word f.word ∷ ends f.pieces.items → Adds outer (pieces.Term t) outer.next g → at < next → next ≤ length text → IsStack text next g rest
+pub stack_closes : (text : List ℕ) (at next : ℕ) (f outer g : OpenForm) (fs rest : List OpenForm) (t : terms.Term) →
+    IsStack text at f fs → fs ≡ rest ++ outer ∷ [] → Closes text at f next →
+    atoms_of t ≡ word f.word ∷ ends f.pieces → Adds outer (pieces.Term t) outer.next g → at < next →
+    next ≤ length text → IsStack text next g rest
 stack_closes text at next f outer g fs rest t s n c a d l w =
     let s' : IsStack text at f (rest ++ outer ∷ []) = subst (IsStack text at f) n s in
     let todo = todo_onto text [] rest in
@@ -125,9 +138,10 @@ stack_closes text at next f outer g fs rest t s n c a d l w =
     let part : g.next ≡ outer.next = d.next_is in
     let scope : g.scope ≡ outer.scope = d.same_scope in
     let bound : g.bound ≡ outer.bound = d.same_bound in
-    let given : g.pieces.items ≡ outer.pieces.items ++ pieces.Term t ∷ [] = d.pieces_are in
+    let given : g.pieces ≡ outer.pieces ++ pieces.Term t ∷ [] = d.pieces_are in
     let want : want_of text g ≡ want_of text outer = rw (row, part, scope, bound) refl in
-    let front : front_of g ≡ front_of outer ++ atoms_of t = rw (row, given) (ap (λ y. word outer.word ∷ y) (pieces_atoms-add outer.pieces.items (pieces.Term t))) in
+    let front : front_of g ≡ front_of outer ++ atoms_of t =
+    rw (row, given) (ap (λ y. word outer.word ∷ y) (pieces_atoms-add outer.pieces (pieces.Term t))) in
     let completes : drop g.next (parts_of g.word) ≡ drop outer.next (parts_of outer.word) = rw (row, part) refl in
     let aw : Awaits text outer = await-last text rest outer s'.awaits in
     let r1 : reads_at text at (want_of text f ∷ todo_onto text [] (rest ++ outer ∷ [])) ≡ with_front (ended ∷ []) (reads_at text next (want_of text outer ∷ todo)) = c.goes_on (todo_onto text [] (rest ++ outer ∷ [])) ∙ ap (λ x. with_front (ended ∷ []) (reads_at text next x)) (todo-add text [] rest outer) in
@@ -136,12 +150,14 @@ stack_closes text at next f outer g fs rest t s n c a d l w =
       within = w;
       left = ap (λ x. with_front (fronts rest ++ front_of g) (reads_at text next (x ∷ todo))) want ∙ ap (λ x. with_front x (reads_at text next (want_of text outer ∷ todo))) (sym fronts_are) ∙ sym (with_both (all ++ front_of f) (ended ∷ []) (reads_at text next (want_of text outer ∷ todo))) ∙ ap (with_front (all ++ front_of f)) (sym r1) ∙ s'.left;
       sound = record {
-        shape = λ more h. rw (row, given) (subst (Shaped outer.word) (sym (sorts-add outer.pieces.items (pieces.Term t) more)) (aw.shape more (subst (λ y. Completes y more) completes h)));
+        shape = λ more h. rw (row, given)
+            (subst (Shaped outer.word) (sym (sorts-add outer.pieces (pieces.Term t) more))
+            (aw.shape more (subst (λ y. Completes y more) completes h)));
         scope = rw scope aw.scope;
         bound = rw bound aw.bound;
       };
       awaits = await-front text rest outer s'.awaits;
-      few = let h : length outer.scope.items ≤ at = scopes-last at rest outer s'.few_around in rw scope (omega arith);
+      few = let h : length outer.scope ≤ at = scopes-last at rest outer s'.few_around in rw scope (omega arith);
       few_around = scopes-front at next rest outer (omega arith) s'.few_around;
       forms = omega (arith, s'.forms, length-add rest outer);
     }
@@ -162,25 +178,6 @@ no_opening text at t n g h = read_fault text at t (term []) [] (errors.Arity t.s
 pub first_opening : (text : List ℕ) (at : ℕ) (t : Token) → IsNext text at t → t.kind ≡ tokens.Open → reads_at text at (term [] ∷ []) ≡ reads_at text t.end (a_word [] ∷ [])
 unfolding want_step
 first_opening text at t n k = read_step text at t (term []) [] (record { atoms = []; wants = a_word [] ∷ [] }) n (ap (λ y. want_step 0 (term []) (seen_kind (slice_range text t.start t.end) y) t.start) k) ∙ with_none _
-
-pub first_stack : (text : List ℕ) (at next : ℕ) (t : Token) (f : Form) (r : Word) → IsNext text at t → at ≡ 0 → t.kind ≡ tokens.Open → f.word ≡ r → f.next ≡ 0 → f.scope.items ≡ [] → f.bound.items ≡ [] → f.pieces.items ≡ [] → ((s : List Bound) (todo : List Want) → reads_at text t.end (a_word s ∷ todo) ≡ with_front (word r ∷ []) (reads_at text next (parts s [] (parts_of r) ∷ todo))) → next ≤ length text → IsStack text next f []
-first_stack text at next t f r n z k row part scope bound pieces found w =
-    let want : want_of text f ≡ parts [] [] (parts_of r) = rw (row, part, scope, bound) refl in
-    let front : front_of f ≡ word r ∷ [] = rw (row, pieces) refl in
-    let completes : drop f.next (parts_of f.word) ≡ (parts_of r) = rw (row, part) refl in
-    record {
-      within = w;
-      left = ap (λ x. with_front (front_of f) (reads_at text next (x ∷ []))) want ∙ ap (λ x. with_front x (reads_at text next (parts [] [] (parts_of r) ∷ []))) front ∙ sym (found [] []) ∙ sym (first_opening text at t n k) ∙ ap (λ x. reads_at text x (term [] ∷ [])) z;
-      sound = record {
-        shape = λ more c. rw (row, pieces) (completed r more (subst (λ y. Completes y more) completes c));
-        scope = rw scope tt;
-        bound = rw bound tt;
-      };
-      awaits = tt;
-      few = rw scope (omega arith);
-      few_around = tt;
-      forms = omega arith;
-    }
 
 -- the whole text
 pub reading_long : (text : List ℕ) → 65536 < length text → reading text ≡ Err (errors.TooLong 65536)
@@ -203,12 +200,7 @@ reading_trails text t end k l w n =
     let more : reads_at text end [] ≡ Err (errors.Trailing k.start) = rw (n.tokens) refl in
     reading_short text l ∙ w.left ∙ ap (with_front (atoms_of t)) more
 
-pub buildable : (text : List ℕ) (at depth : ℕ) (f g : Form) (step : Step) → Sound text f → Stepped text at depth f g step → Buildable g step
-buildable text at depth f g (steps.Read next) s h = tt
-buildable text at depth f g (steps.Opened inner next) s h = tt
-buildable text at depth f g (steps.Closed next) s h = subst (λ x. Shaped x.word (sorts x.pieces.items)) (sym h.1) (h.0.shaped s)
-
-pub none_left : (fs : List Form) → length fs ≡ 0 → fs ≡ []
+pub none_left : {A : Type 0} (fs : List A) → length fs ≡ 0 → fs ≡ []
 none_left [] h = refl
 none_left (f ∷ fs) h = absurd (omega arith)
 

@@ -19,13 +19,13 @@ use Rattle.term_parse.specs.declared.token.TokenKind.TheVariants as tokens
 use Rattle.term_parse.specs.declared.scope.Binding.{Binding}
 use Rattle.term_parse.specs.declared.form.Piece.{Piece}
 use Rattle.term_parse.specs.declared.form.Piece.TheVariants as pieces
-use Rattle.term_parse.specs.declared.form.Form.{Form}
+use Rattle.term_parse.specs.OpenForms.{OpenForm}
 use Rattle.term_parse.specs.Atoms.{Atom, word, value, name, ended}
 use Rattle.term_parse.specs.Language.{parts_of, word_of}
 use Rattle.term_parse.specs.Lexemes.{opens, closes, called, bad_number, bad_byte, lexemes_at}
 use Rattle.term_parse.specs.Reading.{Bound, Want, a_word, parts, Step, want_step, part_step, begun, used, opening, entered, meaning, open_of, with_front, reads, reads_at}
 use Rattle.term_parse.specs.Seen.{seen, seen_kind, IsNext, IsGood}
-use Rattle.term_parse.specs.Bindings.{bounds, bound_of, InText}
+use Rattle.term_parse.specs.Bindings.{bounds, bound_of, hash_of, InText}
 use Rattle.term_parse.proofs.Words.{completed}
 use Rattle.term_parse.specs.Forms.{Sort, a_term, sorts, sort_of, pieces_atoms, piece_atoms, Completes, Shaped, want_of, front_of, NextIs, Adds, IsTermPart, IsOneTerm, after, FailsAt, Reads, Opens, Closes}
 
@@ -86,15 +86,25 @@ pub read_not_a_word : (text : List ℕ) (at : ℕ) (t : Token) → IsNext text a
 read_not_a_word text at t n g h s todo = read_fault text at t (a_word s) todo (errors.UnknownWord t.start) n (word_misfit (suc (open_of todo)) s (slice_range text t.start t.end) t.kind t.start g h)
 
 -- what is wanted of a form whose next part is this
-at_part : (text : List ℕ) (at : ℕ) (f : Form) (p : Part) → NextIs f p → (todo : List Want) → reads_at text at (want_of text f ∷ todo) ≡ reads_at text at (parts (bounds text f.scope.items) (bounds text f.bound.items) (p ∷ drop (f.next + 1) (parts_of f.word)) ∷ todo)
-at_part text at f p i todo = ap (λ ps. reads_at text at (parts (bounds text f.scope.items) (bounds text f.bound.items) ps ∷ todo)) i.part_is
+at_part : (text : List ℕ) (at : ℕ) (f : OpenForm) (p : Part) → NextIs f.word f.next p → (todo : List Want) →
+    reads_at text at (want_of text f ∷ todo) ≡ reads_at text at
+    (parts (bounds text f.scope) (bounds text f.bound) (p ∷ drop (f.next + 1) (parts_of f.word)) ∷ todo)
+at_part text at f p i todo =
+    ap (λ ps. reads_at text at (parts (bounds text f.scope) (bounds text f.bound) ps ∷ todo)) i.part_is
 
-complete_at : (f : Form) (p : Part) (more : List Sort) → NextIs f p → Completes (p ∷ drop (f.next + 1) (parts_of f.word)) more → Completes (drop f.next (parts_of f.word)) more
+complete_at : (f : OpenForm) (p : Part) (more : List Sort) → NextIs f.word f.next p →
+    Completes (p ∷ drop (f.next + 1) (parts_of f.word)) more → Completes (drop f.next (parts_of f.word)) more
 complete_at f p more i c = subst (λ ps. Completes ps more) (sym i.part_is) c
 
 -- the token doesn't fit the part
-pub fails_part : (text : List ℕ) (at : ℕ) (f : Form) (p : Part) (t : Token) (e : ParseError) → IsNext text at t → NextIs f p → ((d : ℕ) (b : List Bound) (ps : List Part) → want_step d (parts (bounds text f.scope.items) b (p ∷ ps)) (seen text t) t.start ≡ Err e) → (depth : ℕ) → FailsAt text at depth f e
-fails_part text at f p t e n i h depth todo o ne = at_part text at f p i todo ∙ read_fault text at t (parts (bounds text f.scope.items) (bounds text f.bound.items) (p ∷ drop (f.next + 1) (parts_of f.word))) todo e n (h (suc (open_of todo)) (bounds text f.bound.items) (drop (f.next + 1) (parts_of f.word)))
+pub fails_part : (text : List ℕ) (at : ℕ) (f : OpenForm) (p : Part) (t : Token) (e : ParseError) → IsNext text at t →
+    NextIs f.word f.next p →
+    ((d : ℕ) (b : List Bound) (ps : List Part) → want_step d (parts (bounds text f.scope) b (p ∷ ps)) (seen text t)
+    t.start ≡ Err e) → (depth : ℕ) → FailsAt text at depth f e
+fails_part text at f p t e n i h depth todo o ne = at_part text at f p i todo ∙
+    read_fault text at t (parts (bounds text f.scope) (bounds text f.bound)
+    (p ∷ drop (f.next + 1) (parts_of f.word))) todo e n
+    (h (suc (open_of todo)) (bounds text f.bound) (drop (f.next + 1) (parts_of f.word)))
 
 bind_misfit : (d : ℕ) (s b : List Bound) (q : Kind) (ps : List Part) (run : List ℕ) (k : TokenKind) (at : ℕ) → IsGood k → (k ≡ tokens.Called → ⊥) → want_step d (parts s b (Bind q ∷ ps)) (seen_kind run k) at ≡ Err (errors.Arity at)
 unfolding want_step part_step
@@ -178,23 +188,47 @@ term_misfit d s b Value ps run k at o g h = absurd o
 term_misfit d s b Close ps run k at o g h = absurd o
 term_misfit d s b More ps run k at o g h = absurd o
 
-pub fails_bind : (text : List ℕ) (at : ℕ) (f : Form) (q : Kind) (t : Token) → IsNext text at t → IsGood t.kind → NextIs f (Bind q) → (t.kind ≡ tokens.Called → ⊥) → (depth : ℕ) → FailsAt text at depth f (errors.Arity t.start)
-fails_bind text at f q t n g i h = fails_part text at f (Bind q) t (errors.Arity t.start) n i (λ d b ps. bind_misfit d (bounds text f.scope.items) b q ps (slice_range text t.start t.end) t.kind t.start g h)
+pub fails_bind : (text : List ℕ) (at : ℕ) (f : OpenForm) (q : Kind) (t : Token) → IsNext text at t → IsGood t.kind →
+    NextIs f.word f.next (Bind q) → (t.kind ≡ tokens.Called → ⊥) → (depth : ℕ) →
+    FailsAt text at depth f (errors.Arity t.start)
+fails_bind text at f q t n g i h =
+    fails_part text at f (Bind q) t (errors.Arity t.start) n i
+    (λ d b ps. bind_misfit d (bounds text f.scope) b q ps (slice_range text t.start t.end) t.kind t.start g h)
 
-pub fails_use : (text : List ℕ) (at : ℕ) (f : Form) (q : Kind) (t : Token) → IsNext text at t → IsGood t.kind → NextIs f (Use q) → (t.kind ≡ tokens.Called → ⊥) → (depth : ℕ) → FailsAt text at depth f (errors.Arity t.start)
-fails_use text at f q t n g i h = fails_part text at f (Use q) t (errors.Arity t.start) n i (λ d b ps. use_misfit d (bounds text f.scope.items) b q ps (slice_range text t.start t.end) t.kind t.start g h)
+pub fails_use : (text : List ℕ) (at : ℕ) (f : OpenForm) (q : Kind) (t : Token) → IsNext text at t → IsGood t.kind →
+    NextIs f.word f.next (Use q) → (t.kind ≡ tokens.Called → ⊥) → (depth : ℕ) →
+    FailsAt text at depth f (errors.Arity t.start)
+fails_use text at f q t n g i h =
+    fails_part text at f (Use q) t (errors.Arity t.start) n i
+    (λ d b ps. use_misfit d (bounds text f.scope) b q ps (slice_range text t.start t.end) t.kind t.start g h)
 
-pub fails_value : (text : List ℕ) (at : ℕ) (f : Form) (t : Token) → IsNext text at t → IsGood t.kind → NextIs f Value → (t.kind ≡ tokens.Called → ⊥) → ((n : ℤ) → t.kind ≡ tokens.Number n → ⊥) → (depth : ℕ) → FailsAt text at depth f (errors.Arity t.start)
-fails_value text at f t n g i h j = fails_part text at f Value t (errors.Arity t.start) n i (λ d b ps. value_misfit d (bounds text f.scope.items) b ps (slice_range text t.start t.end) t.kind t.start g h j)
+pub fails_value : (text : List ℕ) (at : ℕ) (f : OpenForm) (t : Token) → IsNext text at t → IsGood t.kind →
+    NextIs f.word f.next Value → (t.kind ≡ tokens.Called → ⊥) → ((n : ℤ) → t.kind ≡ tokens.Number n → ⊥) →
+    (depth : ℕ) → FailsAt text at depth f (errors.Arity t.start)
+fails_value text at f t n g i h j =
+    fails_part text at f Value t (errors.Arity t.start) n i
+    (λ d b ps. value_misfit d (bounds text f.scope) b ps (slice_range text t.start t.end) t.kind t.start g h j)
 
-pub fails_close : (text : List ℕ) (at : ℕ) (f : Form) (t : Token) → IsNext text at t → IsGood t.kind → NextIs f Close → (t.kind ≡ tokens.Close → ⊥) → (depth : ℕ) → FailsAt text at depth f (errors.Arity t.start)
-fails_close text at f t n g i h = fails_part text at f Close t (errors.Arity t.start) n i (λ d b ps. close_misfit d (bounds text f.scope.items) b ps (slice_range text t.start t.end) t.kind t.start g h)
+pub fails_close : (text : List ℕ) (at : ℕ) (f : OpenForm) (t : Token) → IsNext text at t → IsGood t.kind →
+    NextIs f.word f.next Close → (t.kind ≡ tokens.Close → ⊥) → (depth : ℕ) →
+    FailsAt text at depth f (errors.Arity t.start)
+fails_close text at f t n g i h =
+    fails_part text at f Close t (errors.Arity t.start) n i
+    (λ d b ps. close_misfit d (bounds text f.scope) b ps (slice_range text t.start t.end) t.kind t.start g h)
 
-pub fails_more : (text : List ℕ) (at : ℕ) (f : Form) (t : Token) → IsNext text at t → IsGood t.kind → NextIs f More → (t.kind ≡ tokens.Open → ⊥) → (t.kind ≡ tokens.Close → ⊥) → (depth : ℕ) → FailsAt text at depth f (errors.Arity t.start)
-fails_more text at f t n g i h j = fails_part text at f More t (errors.Arity t.start) n i (λ d b ps. more_misfit d (bounds text f.scope.items) b ps (slice_range text t.start t.end) t.kind t.start g h j)
+pub fails_more : (text : List ℕ) (at : ℕ) (f : OpenForm) (t : Token) → IsNext text at t → IsGood t.kind →
+    NextIs f.word f.next More → (t.kind ≡ tokens.Open → ⊥) → (t.kind ≡ tokens.Close → ⊥) → (depth : ℕ) →
+    FailsAt text at depth f (errors.Arity t.start)
+fails_more text at f t n g i h j =
+    fails_part text at f More t (errors.Arity t.start) n i
+    (λ d b ps. more_misfit d (bounds text f.scope) b ps (slice_range text t.start t.end) t.kind t.start g h j)
 
-pub fails_term : (text : List ℕ) (at : ℕ) (f : Form) (p : Part) (t : Token) → IsNext text at t → IsGood t.kind → NextIs f p → IsOneTerm p → (t.kind ≡ tokens.Open → ⊥) → (depth : ℕ) → FailsAt text at depth f (errors.Arity t.start)
-fails_term text at f p t n g i o h = fails_part text at f p t (errors.Arity t.start) n i (λ d b ps. term_misfit d (bounds text f.scope.items) b p ps (slice_range text t.start t.end) t.kind t.start o g h)
+pub fails_term : (text : List ℕ) (at : ℕ) (f : OpenForm) (p : Part) (t : Token) → IsNext text at t → IsGood t.kind →
+    NextIs f.word f.next p → IsOneTerm p → (t.kind ≡ tokens.Open → ⊥) → (depth : ℕ) →
+    FailsAt text at depth f (errors.Arity t.start)
+fails_term text at f p t n g i o h =
+    fails_part text at f p t (errors.Arity t.start) n i
+    (λ d b ps. term_misfit d (bounds text f.scope) b p ps (slice_range text t.start t.end) t.kind t.start o g h)
 
 over_misfit : (d : ℕ) (s b : List Bound) (run : List ℕ) (k : TokenKind) (at : ℕ) → IsGood k → want_step d (parts s b []) (seen_kind run k) at ≡ Err (errors.Arity at)
 unfolding want_step
@@ -205,8 +239,13 @@ over_misfit d s b run (tokens.Number n) at g = refl
 over_misfit d s b run tokens.BadNumber at g = absurd g
 over_misfit d s b run tokens.BadByte at g = absurd g
 
-pub fails_over : (text : List ℕ) (at : ℕ) (f : Form) (t : Token) → IsNext text at t → IsGood t.kind → drop f.next (parts_of f.word) ≡ [] → (depth : ℕ) → FailsAt text at depth f (errors.Arity t.start)
-fails_over text at f t n g h depth todo o ne = ap (λ ps. reads_at text at (parts (bounds text f.scope.items) (bounds text f.bound.items) ps ∷ todo)) h ∙ read_fault text at t (parts (bounds text f.scope.items) (bounds text f.bound.items) []) todo (errors.Arity t.start) n (over_misfit (suc (open_of todo)) (bounds text f.scope.items) (bounds text f.bound.items) (slice_range text t.start t.end) t.kind t.start g)
+pub fails_over : (text : List ℕ) (at : ℕ) (f : OpenForm) (t : Token) → IsNext text at t → IsGood t.kind →
+    drop f.next (parts_of f.word) ≡ [] → (depth : ℕ) → FailsAt text at depth f (errors.Arity t.start)
+fails_over text at f t n g h depth todo o ne =
+    ap (λ ps. reads_at text at (parts (bounds text f.scope) (bounds text f.bound) ps ∷ todo)) h ∙
+    read_fault text at t (parts (bounds text f.scope) (bounds text f.bound) []) todo (errors.Arity t.start) n
+    (over_misfit (suc (open_of todo)) (bounds text f.scope) (bounds text f.bound) (slice_range text t.start t.end)
+    t.kind t.start g)
 
 -- a use whose name has no such meaning
 misused : (d : ℕ) (s b : List Bound) (q : Kind) (ps : List Part) (x : List ℕ) (at : ℕ) (e : ParseError) → meaning s q x at ≡ Err e → want_step d (parts s b (Use q ∷ ps)) (called x) at ≡ Err e
@@ -217,11 +256,25 @@ misvalued : (d : ℕ) (s b : List Bound) (ps : List Part) (x : List ℕ) (at : �
 unfolding want_step part_step
 misvalued d s b ps x at e h = ap (λ r. used r (λ n. value (Named n)) (parts s b ps)) h
 
-pub fails_name : (text : List ℕ) (at : ℕ) (f : Form) (q : Kind) (t : Token) (e : ParseError) → IsNext text at t → t.kind ≡ tokens.Called → NextIs f (Use q) → meaning (bounds text f.scope.items) q (slice_range text t.start t.end) t.start ≡ Err e → (depth : ℕ) → FailsAt text at depth f e
-fails_name text at f q t e n k i h = fails_part text at f (Use q) t e n i (λ d b ps. ap (λ x. want_step d (parts (bounds text f.scope.items) b (Use q ∷ ps)) (seen_kind (slice_range text t.start t.end) x) t.start) k ∙ misused d (bounds text f.scope.items) b q ps (slice_range text t.start t.end) t.start e h)
+pub fails_name : (text : List ℕ) (at : ℕ) (f : OpenForm) (q : Kind) (t : Token) (e : ParseError) → IsNext text at t →
+    t.kind ≡ tokens.Called → NextIs f.word f.next (Use q) →
+    meaning (bounds text f.scope) q (slice_range text t.start t.end) t.start ≡ Err e → (depth : ℕ) →
+    FailsAt text at depth f e
+fails_name text at f q t e n k i h =
+    fails_part text at f (Use q) t e n i
+    (λ d b ps. ap (λ x. want_step d (parts (bounds text f.scope) b (Use q ∷ ps))
+    (seen_kind (slice_range text t.start t.end) x) t.start) k ∙
+    misused d (bounds text f.scope) b q ps (slice_range text t.start t.end) t.start e h)
 
-pub fails_named_value : (text : List ℕ) (at : ℕ) (f : Form) (t : Token) (e : ParseError) → IsNext text at t → t.kind ≡ tokens.Called → NextIs f Value → meaning (bounds text f.scope.items) kinds.Value (slice_range text t.start t.end) t.start ≡ Err e → (depth : ℕ) → FailsAt text at depth f e
-fails_named_value text at f t e n k i h = fails_part text at f Value t e n i (λ d b ps. ap (λ x. want_step d (parts (bounds text f.scope.items) b (Value ∷ ps)) (seen_kind (slice_range text t.start t.end) x) t.start) k ∙ misvalued d (bounds text f.scope.items) b ps (slice_range text t.start t.end) t.start e h)
+pub fails_named_value : (text : List ℕ) (at : ℕ) (f : OpenForm) (t : Token) (e : ParseError) → IsNext text at t →
+    t.kind ≡ tokens.Called → NextIs f.word f.next Value →
+    meaning (bounds text f.scope) kinds.Value (slice_range text t.start t.end) t.start ≡ Err e → (depth : ℕ) →
+    FailsAt text at depth f e
+fails_named_value text at f t e n k i h =
+    fails_part text at f Value t e n i
+    (λ d b ps. ap (λ x. want_step d (parts (bounds text f.scope) b (Value ∷ ps))
+    (seen_kind (slice_range text t.start t.end) x) t.start) k ∙
+    misvalued d (bounds text f.scope) b ps (slice_range text t.start t.end) t.start e h)
 
 -- lists of binders and of pieces
 pub bounds-append : (text : List ℕ) (xs ys : List Binding) → bounds text (xs ++ ys) ≡ bounds text xs ++ bounds text ys
@@ -230,7 +283,7 @@ bounds-append text (x ∷ xs) ys = ap (λ r. bound_of text x ∷ r) (bounds-appe
 
 pub in_text-append : (text : List ℕ) (xs ys : List Binding) → InText text xs → InText text ys → InText text (xs ++ ys)
 in_text-append text [] ys a b = b
-in_text-append text (x ∷ xs) ys a b = (a.0, a.1, in_text-append text xs ys a.2 b)
+in_text-append text (x ∷ xs) ys a b = (a.0, a.1, a.2, in_text-append text xs ys a.3 b)
 
 append_none : (xs : List Atom) → xs ++ [] ≡ xs
 append_none [] = refl
@@ -245,16 +298,26 @@ sorts-add [] p more = refl
 sorts-add (q ∷ ps) p more = ap (λ r. sort_of q ∷ r) (sorts-add ps p more)
 
 -- a binder is read
-pub reads_bind : (text : List ℕ) (at : ℕ) (f g : Form) (t : Token) (q : Kind) → IsNext text at t → t.kind ≡ tokens.Called → NextIs f (Bind q) → g.word ≡ f.word → g.next ≡ f.next + 1 → g.scope ≡ f.scope → g.bound.items ≡ f.bound.items ++ record { start = t.start; end = t.end; kind = q } ∷ [] → g.pieces ≡ f.pieces → Reads text at f g t.end
+pub reads_bind : (text : List ℕ) (at : ℕ) (f g : OpenForm) (t : Token) (q : Kind) → IsNext text at t →
+    t.kind ≡ tokens.Called → NextIs f.word f.next (Bind q) → g.word ≡ f.word → g.next ≡ f.next + 1 →
+    g.scope ≡ f.scope → g.bound ≡ f.bound ++ record {
+      start = t.start;
+      end = t.end;
+      kind = q;
+      hash =
+          hash_of (slice_range text t.start t.end);
+    } ∷ [] → g.pieces ≡ f.pieces → Reads text at f g t.end
 unfolding want_step part_step
 reads_bind text at f g t q n k i row next scope bound pieces =
-    let ss = bounds text f.scope.items in
-    let bs = bounds text f.bound.items in
+    let ss = bounds text f.scope in
+    let bs = bounds text f.bound in
     let ps = drop (f.next + 1) (parts_of f.word) in
     let x = slice_range text t.start t.end in
-    let added : List Binding = record { start = t.start; end = t.end; kind = q } ∷ [] in
+    let added : List Binding =
+    record { start = t.start; end = t.end; kind = q; hash = hash_of (slice_range text t.start t.end) } ∷ [] in
     let s : Step = record { atoms = []; wants = parts ss (bs ++ record { spelling = x; kind = q } ∷ []) ps ∷ [] } in
-    let want : want_of text g ≡ parts ss (bs ++ record { spelling = x; kind = q } ∷ []) ps = rw (row, next, scope, bound, bounds-append text f.bound.items added) refl in
+    let want : want_of text g ≡ parts ss (bs ++ record { spelling = x; kind = q } ∷ []) ps =
+    rw (row, next, scope, bound, bounds-append text f.bound added) refl in
     let front : front_of g ≡ front_of f = rw (row, pieces) refl in
     let left : drop g.next (parts_of g.word) ≡ ps = rw (row, next) refl in
     record {
@@ -264,70 +327,109 @@ reads_bind text at f g t q n k i row next scope bound pieces =
       sound = λ h. record {
         shape = λ more c. rw (row, pieces) (h.shape more (complete_at f (Bind q) more i (subst (λ y. Completes y more) left c)));
         scope = rw scope h.scope;
-        bound = rw bound (in_text-append text f.bound.items added h.bound (omega (arith, n.later, n.some), n.within, tt));
+        bound = rw bound (in_text-append text f.bound added h.bound (
+          omega (arith, n.later, n.some),
+          n.within,
+          refl,
+          tt,
+        ));
       };
-      same_scope = rw scope refl;
+      same_scope = scope;
     }
 
 -- a name or a value is read
-pub reads_piece : (text : List ℕ) (at : ℕ) (f g : Form) (t : Token) (p : Part) (piece : Piece) → IsNext text at t → NextIs f p → Adds f piece (f.next + 1) g → ((d : ℕ) (b : List Bound) (ps : List Part) → want_step d (parts (bounds text f.scope.items) b (p ∷ ps)) (seen text t) t.start ≡ Ok (record { atoms = piece_atoms piece; wants = parts (bounds text f.scope.items) b ps ∷ [] })) → ((ps : List Part) (more : List Sort) → Completes ps more → Completes (p ∷ ps) (sort_of piece ∷ more)) → Reads text at f g t.end
+pub reads_piece : (text : List ℕ) (at : ℕ) (f g : OpenForm) (t : Token) (p : Part) (piece : Piece) →
+    IsNext text at t → NextIs f.word f.next p → Adds f piece (f.next + 1) g →
+    ((d : ℕ) (b : List Bound) (ps : List Part) → want_step d (parts (bounds text f.scope) b (p ∷ ps)) (seen text t)
+    t.start ≡ Ok (record { atoms = piece_atoms piece; wants = parts (bounds text f.scope) b ps ∷ [] })) →
+    ((ps : List Part) (more : List Sort) → Completes ps more → Completes (p ∷ ps) (sort_of piece ∷ more)) →
+    Reads text at f g t.end
 reads_piece text at f g t p piece n i a fits completes =
-    let ss = bounds text f.scope.items in
-    let bs = bounds text f.bound.items in
+    let ss = bounds text f.scope in
+    let bs = bounds text f.bound in
     let ps = drop (f.next + 1) (parts_of f.word) in
     let s : Step = record { atoms = piece_atoms piece; wants = parts ss bs ps ∷ [] } in
     let row : g.word ≡ f.word = a.same_word in
     let next : g.next ≡ f.next + 1 = a.next_is in
     let scope : g.scope ≡ f.scope = a.same_scope in
     let bound : g.bound ≡ f.bound = a.same_bound in
-    let pieces : g.pieces.items ≡ f.pieces.items ++ piece ∷ [] = a.pieces_are in
+    let pieces : g.pieces ≡ f.pieces ++ piece ∷ [] = a.pieces_are in
     let want : want_of text g ≡ parts ss bs ps = rw (row, next, scope, bound) refl in
-    let front : front_of g ≡ front_of f ++ piece_atoms piece = rw (row, pieces) (ap (λ y. word f.word ∷ y) (pieces_atoms-add f.pieces.items piece)) in
+    let front : front_of g ≡ front_of f ++ piece_atoms piece =
+    rw (row, pieces) (ap (λ y. word f.word ∷ y) (pieces_atoms-add f.pieces piece)) in
     let left : drop g.next (parts_of g.word) ≡ ps = rw (row, next) refl in
     record {
       goes_on = λ todo.
           let step : reads_at text at (want_of text f ∷ todo) ≡ with_front (piece_atoms piece) (reads_at text t.end (parts ss bs ps ∷ todo)) = at_part text at f p i todo ∙ read_step text at t (parts ss bs (p ∷ ps)) todo s n (fits (suc (open_of todo)) bs ps) in
           ap (with_front (front_of f)) step ∙ with_both (front_of f) (piece_atoms piece) (reads_at text t.end (parts ss bs ps ∷ todo)) ∙ ap (λ w. with_front (front_of f ++ piece_atoms piece) (reads_at text t.end (w ∷ todo))) (sym want) ∙ ap (λ y. with_front y (reads_at text t.end (want_of text g ∷ todo))) (sym front);
       sound = λ h. record {
-        shape = λ more c. rw (row, pieces) (subst (Shaped f.word) (sym (sorts-add f.pieces.items piece more)) (h.shape (sort_of piece ∷ more) (complete_at f p (sort_of piece ∷ more) i (completes ps more (subst (λ y. Completes y more) left c)))));
+        shape = λ more c. rw (row, pieces)
+            (subst (Shaped f.word) (sym (sorts-add f.pieces piece more))
+            (h.shape (sort_of piece ∷ more)
+            (complete_at f p (sort_of piece ∷ more) i (completes ps more (subst (λ y. Completes y more) left c)))));
         scope = rw scope h.scope;
         bound = rw bound h.bound;
       };
-      same_scope = rw scope refl;
+      same_scope = scope;
     }
 
-pub reads_name : (text : List ℕ) (at : ℕ) (f g : Form) (q : Kind) (t : Token) (m : Name) → IsNext text at t → t.kind ≡ tokens.Called → NextIs f (Use q) → meaning (bounds text f.scope.items) q (slice_range text t.start t.end) t.start ≡ Ok m → Adds f (pieces.Name m) (f.next + 1) g → Reads text at f g t.end
+pub reads_name : (text : List ℕ) (at : ℕ) (f g : OpenForm) (q : Kind) (t : Token) (m : Name) → IsNext text at t →
+    t.kind ≡ tokens.Called → NextIs f.word f.next (Use q) →
+    meaning (bounds text f.scope) q (slice_range text t.start t.end) t.start ≡ Ok m →
+    Adds f (pieces.Name m) (f.next + 1) g → Reads text at f g t.end
 unfolding want_step part_step
-reads_name text at f g q t m n k i h a = reads_piece text at f g t (Use q) (pieces.Name m) n i a (λ d b ps. ap (λ x. want_step d (parts (bounds text f.scope.items) b (Use q ∷ ps)) (seen_kind (slice_range text t.start t.end) x) t.start) k ∙ ap (λ r. used r (λ y. name y) (parts (bounds text f.scope.items) b ps)) h) (λ ps more c. (more, refl, c))
+reads_name text at f g q t m n k i h a =
+    reads_piece text at f g t (Use q) (pieces.Name m) n i a
+    (λ d b ps. ap (λ x. want_step d (parts (bounds text f.scope) b (Use q ∷ ps))
+    (seen_kind (slice_range text t.start t.end) x) t.start) k ∙
+    ap (λ r. used r (λ y. name y) (parts (bounds text f.scope) b ps)) h) (λ ps more c. (more, refl, c))
 
-pub reads_named_value : (text : List ℕ) (at : ℕ) (f g : Form) (t : Token) (m : Name) → IsNext text at t → t.kind ≡ tokens.Called → NextIs f Value → meaning (bounds text f.scope.items) kinds.Value (slice_range text t.start t.end) t.start ≡ Ok m → Adds f (pieces.Value (Named m)) (f.next + 1) g → Reads text at f g t.end
+pub reads_named_value : (text : List ℕ) (at : ℕ) (f g : OpenForm) (t : Token) (m : Name) → IsNext text at t →
+    t.kind ≡ tokens.Called → NextIs f.word f.next Value →
+    meaning (bounds text f.scope) kinds.Value (slice_range text t.start t.end) t.start ≡ Ok m →
+    Adds f (pieces.Value (Named m)) (f.next + 1) g → Reads text at f g t.end
 unfolding want_step part_step
-reads_named_value text at f g t m n k i h a = reads_piece text at f g t Value (pieces.Value (Named m)) n i a (λ d b ps. ap (λ x. want_step d (parts (bounds text f.scope.items) b (Value ∷ ps)) (seen_kind (slice_range text t.start t.end) x) t.start) k ∙ ap (λ r. used r (λ y. value (Named y)) (parts (bounds text f.scope.items) b ps)) h) (λ ps more c. (more, refl, c))
+reads_named_value text at f g t m n k i h a = reads_piece text at f g t Value (pieces.Value (Named m)) n i a
+    (λ d b ps. ap (λ x. want_step d (parts (bounds text f.scope) b (Value ∷ ps))
+    (seen_kind (slice_range text t.start t.end) x) t.start) k ∙
+    ap (λ r. used r (λ y. value (Named y)) (parts (bounds text f.scope) b ps)) h) (λ ps more c. (more, refl, c))
 
-pub reads_number : (text : List ℕ) (at : ℕ) (f g : Form) (t : Token) (m : ℤ) (v : Operand) → IsNext text at t → t.kind ≡ tokens.Number m → NextIs f Value → v ≡ Number m → Adds f (pieces.Value v) (f.next + 1) g → Reads text at f g t.end
+pub reads_number : (text : List ℕ) (at : ℕ) (f g : OpenForm) (t : Token) (m : ℤ) (v : Operand) → IsNext text at t →
+    t.kind ≡ tokens.Number m → NextIs f.word f.next Value → v ≡ Number m → Adds f (pieces.Value v) (f.next + 1) g →
+    Reads text at f g t.end
 unfolding want_step part_step
-reads_number text at f g t m v n k i e a = reads_piece text at f g t Value (pieces.Value (Number m)) n i (subst (λ y. Adds f (pieces.Value y) (f.next + 1) g) e a) (λ d b ps. ap (λ x. want_step d (parts (bounds text f.scope.items) b (Value ∷ ps)) (seen_kind (slice_range text t.start t.end) x) t.start) k) (λ ps more c. (more, refl, c))
+reads_number text at f g t m v n k i e a = reads_piece text at f g t Value (pieces.Value (Number m)) n i
+    (subst (λ y. Adds f (pieces.Value y) (f.next + 1) g) e a)
+    (λ d b ps. ap (λ x. want_step d (parts (bounds text f.scope) b (Value ∷ ps))
+    (seen_kind (slice_range text t.start t.end) x) t.start) k) (λ ps more c. (more, refl, c))
 
 sorts_none : (xs : List Sort) → xs ++ [] ≡ xs
 sorts_none [] = refl
 sorts_none (x ∷ xs) = ap (λ r. x ∷ r) (sorts_none xs)
 
 -- the closing bracket
-closes_form : (text : List ℕ) (at : ℕ) (f : Form) (t : Token) (p : Part) → IsNext text at t → t.kind ≡ tokens.Close → NextIs f p → ((d : ℕ) (s b : List Bound) (ps : List Part) → want_step d (parts s b (p ∷ ps)) closes t.start ≡ Ok (record { atoms = ended ∷ []; wants = [] })) → ((ps : List Part) → Completes (p ∷ ps) []) → Closes text at f t.end
+closes_form : (text : List ℕ) (at : ℕ) (f : OpenForm) (t : Token) (p : Part) → IsNext text at t →
+    t.kind ≡ tokens.Close → NextIs f.word f.next p →
+    ((d : ℕ) (s b : List Bound) (ps : List Part) →
+    want_step d (parts s b (p ∷ ps)) closes t.start ≡ Ok (record { atoms = ended ∷ []; wants = [] })) →
+    ((ps : List Part) → Completes (p ∷ ps) []) → Closes text at f t.end
 closes_form text at f t p n k i fits completes =
-    let ss = bounds text f.scope.items in
-    let bs = bounds text f.bound.items in
+    let ss = bounds text f.scope in
+    let bs = bounds text f.bound in
     let ps = drop (f.next + 1) (parts_of f.word) in
     record {
       goes_on = λ todo. at_part text at f p i todo ∙ read_step text at t (parts ss bs (p ∷ ps)) todo (record { atoms = ended ∷ []; wants = [] }) n (ap (λ y. want_step (suc (open_of todo)) (parts ss bs (p ∷ ps)) (seen_kind (slice_range text t.start t.end) y) t.start) k ∙ fits (suc (open_of todo)) ss bs ps);
-      shaped = λ h. subst (Shaped f.word) (sorts_none (sorts f.pieces.items)) (h.shape [] (complete_at f p [] i (completes ps)));
+      shaped = λ h. subst (Shaped f.word) (sorts_none (sorts f.pieces))
+          (h.shape [] (complete_at f p [] i (completes ps)));
     }
 
-pub closes_last : (text : List ℕ) (at : ℕ) (f : Form) (t : Token) → IsNext text at t → t.kind ≡ tokens.Close → NextIs f Close → Closes text at f t.end
+pub closes_last : (text : List ℕ) (at : ℕ) (f : OpenForm) (t : Token) → IsNext text at t → t.kind ≡ tokens.Close →
+    NextIs f.word f.next Close → Closes text at f t.end
 unfolding want_step part_step
 closes_last text at f t n k i = closes_form text at f t Close n k i (λ d s b ps. refl) (λ ps. refl)
 
-pub closes_more : (text : List ℕ) (at : ℕ) (f : Form) (t : Token) → IsNext text at t → t.kind ≡ tokens.Close → NextIs f More → Closes text at f t.end
+pub closes_more : (text : List ℕ) (at : ℕ) (f : OpenForm) (t : Token) → IsNext text at t → t.kind ≡ tokens.Close →
+    NextIs f.word f.next More → Closes text at f t.end
 unfolding want_step part_step
 closes_more text at f t n k i = closes_form text at f t More n k i (λ d s b ps. refl) (λ ps. tt)
 
@@ -359,29 +461,56 @@ opening_low d at ws l = let t : nat_lt d 100 ≡ true = lt-ltb d 100 l in rw t r
 opening_high : (d at : ℕ) (ws : List Want) → 100 ≤ d → opening d at ws ≡ Err (errors.TooDeep at)
 opening_high d at ws l = let t : nat_lt d 100 ≡ false = le-ltb d 100 l in rw t refl
 
-opened : (text : List ℕ) (at : ℕ) (f : Form) (t : Token) (p : Part) → t.kind ≡ tokens.Open → IsTermPart p → (d : ℕ) → want_step d (parts (bounds text f.scope.items) (bounds text f.bound.items) (p ∷ drop (f.next + 1) (parts_of f.word))) (seen text t) t.start ≡ opening d t.start (a_word (entered (bounds text f.scope.items) (bounds text f.bound.items) p) ∷ parts (bounds text f.scope.items) (bounds text f.bound.items) (after p (drop (f.next + 1) (parts_of f.word))) ∷ [])
-opened text at f t p k h d = ap (λ y. want_step d (parts (bounds text f.scope.items) (bounds text f.bound.items) (p ∷ drop (f.next + 1) (parts_of f.word))) (seen_kind (slice_range text t.start t.end) y) t.start) k ∙ term_opens d (bounds text f.scope.items) (bounds text f.bound.items) p (drop (f.next + 1) (parts_of f.word)) t.start h
+opened : (text : List ℕ) (at : ℕ) (f : OpenForm) (t : Token) (p : Part) → t.kind ≡ tokens.Open → IsTermPart p →
+    (d : ℕ) → want_step d
+    (parts (bounds text f.scope) (bounds text f.bound) (p ∷ drop (f.next + 1) (parts_of f.word))) (seen text t)
+    t.start ≡ opening d t.start
+    (a_word (entered (bounds text f.scope) (bounds text f.bound) p) ∷ parts (bounds text f.scope)
+    (bounds text f.bound) (after p (drop (f.next + 1) (parts_of f.word))) ∷ [])
+opened text at f t p k h d =
+    ap (λ y. want_step d (parts (bounds text f.scope) (bounds text f.bound)
+    (p ∷ drop (f.next + 1) (parts_of f.word))) (seen_kind (slice_range text t.start t.end) y) t.start) k ∙
+    term_opens d (bounds text f.scope) (bounds text f.bound) p (drop (f.next + 1) (parts_of f.word)) t.start h
 
-pub fails_deep : (text : List ℕ) (at depth : ℕ) (f : Form) (t : Token) (p : Part) → IsNext text at t → t.kind ≡ tokens.Open → NextIs f p → IsTermPart p → 100 ≤ depth → FailsAt text at depth f (errors.TooDeep t.start)
-fails_deep text at depth f t p n k i h l todo o ne = at_part text at f p i todo ∙ read_fault text at t (parts (bounds text f.scope.items) (bounds text f.bound.items) (p ∷ drop (f.next + 1) (parts_of f.word))) todo (errors.TooDeep t.start) n (opened text at f t p k h (suc (open_of todo)) ∙ opening_high (suc (open_of todo)) t.start _ (omega arith))
+pub fails_deep : (text : List ℕ) (at depth : ℕ) (f : OpenForm) (t : Token) (p : Part) → IsNext text at t →
+    t.kind ≡ tokens.Open → NextIs f.word f.next p → IsTermPart p → 100 ≤ depth →
+    FailsAt text at depth f (errors.TooDeep t.start)
+fails_deep text at depth f t p n k i h l todo o ne = at_part text at f p i todo ∙
+    read_fault text at t (parts (bounds text f.scope) (bounds text f.bound)
+    (p ∷ drop (f.next + 1) (parts_of f.word))) todo (errors.TooDeep t.start) n
+    (opened text at f t p k h (suc (open_of todo)) ∙ opening_high (suc (open_of todo)) t.start _ (omega arith))
 
 -- a form's opening bracket is read
-pub reads_opening : (text : List ℕ) (at depth : ℕ) (f : Form) (t : Token) (p : Part) → IsNext text at t → t.kind ≡ tokens.Open → NextIs f p → IsTermPart p → depth < 100 → (todo : List Want) → suc (open_of todo) ≡ depth → reads_at text at (want_of text f ∷ todo) ≡ reads_at text t.end (a_word (entered (bounds text f.scope.items) (bounds text f.bound.items) p) ∷ parts (bounds text f.scope.items) (bounds text f.bound.items) (after p (drop (f.next + 1) (parts_of f.word))) ∷ todo)
+pub reads_opening : (text : List ℕ) (at depth : ℕ) (f : OpenForm) (t : Token) (p : Part) → IsNext text at t →
+    t.kind ≡ tokens.Open → NextIs f.word f.next p → IsTermPart p → depth < 100 → (todo : List Want) →
+    suc (open_of todo) ≡ depth → reads_at text at (want_of text f ∷ todo) ≡ reads_at text t.end
+    (a_word (entered (bounds text f.scope) (bounds text f.bound) p) ∷ parts (bounds text f.scope)
+    (bounds text f.bound) (after p (drop (f.next + 1) (parts_of f.word))) ∷ todo)
 reads_opening text at depth f t p n k i h l todo o =
-    let ss = bounds text f.scope.items in
-    let bs = bounds text f.bound.items in
+    let ss = bounds text f.scope in
+    let bs = bounds text f.bound in
     let ps = drop (f.next + 1) (parts_of f.word) in
     let ws : List Want = a_word (entered ss bs p) ∷ parts ss bs (after p ps) ∷ [] in
     at_part text at f p i todo ∙ read_step text at t (parts ss bs (p ∷ ps)) todo (record { atoms = []; wants = ws }) n (opened text at f t p k h (suc (open_of todo)) ∙ opening_low (suc (open_of todo)) t.start ws (omega arith)) ∙ with_none _
 
-pub fails_word : (text : List ℕ) (at depth : ℕ) (f : Form) (t : Token) (p : Part) (e : ParseError) → IsNext text at t → t.kind ≡ tokens.Open → NextIs f p → IsTermPart p → depth < 100 → ((s : List Bound) (todo : List Want) → reads_at text t.end (a_word s ∷ todo) ≡ Err e) → FailsAt text at depth f e
+pub fails_word : (text : List ℕ) (at depth : ℕ) (f : OpenForm) (t : Token) (p : Part) (e : ParseError) →
+    IsNext text at t → t.kind ≡ tokens.Open → NextIs f.word f.next p → IsTermPart p → depth < 100 →
+    ((s : List Bound) (todo : List Want) → reads_at text t.end (a_word s ∷ todo) ≡ Err e) → FailsAt text at depth f e
 fails_word text at depth f t p e n k i h l fault todo o ne = reads_opening text at depth f t p n k i h l todo o ∙ fault _ _
 
 -- a form is opened, of this row
-pub opens_form : (text : List ℕ) (at depth : ℕ) (f outer inner : Form) (t : Token) (p : Part) (r : Word) (rest next : ℕ) → IsNext text at t → t.kind ≡ tokens.Open → NextIs f p → IsTermPart p → depth < 100 → drop rest (parts_of f.word) ≡ after p (drop (f.next + 1) (parts_of f.word)) → outer.word ≡ f.word → outer.next ≡ rest → outer.scope ≡ f.scope → outer.bound ≡ f.bound → outer.pieces ≡ f.pieces → inner.word ≡ r → inner.next ≡ 0 → inner.bound.items ≡ [] → inner.pieces.items ≡ [] → bounds text inner.scope.items ≡ entered (bounds text f.scope.items) (bounds text f.bound.items) p → (InText text f.scope.items → InText text f.bound.items → InText text inner.scope.items) → length inner.scope.items ≤ length f.scope.items + 2 → ((s : List Bound) (todo : List Want) → reads_at text t.end (a_word s ∷ todo) ≡ with_front (word r ∷ []) (reads_at text next (parts s [] (parts_of r) ∷ todo))) → Opens text at depth f outer inner next
+pub opens_form : (text : List ℕ) (at depth : ℕ) (f outer inner : OpenForm) (t : Token) (p : Part) (r : Word)
+    (rest next : ℕ) → IsNext text at t → t.kind ≡ tokens.Open → NextIs f.word f.next p → IsTermPart p → depth < 100 →
+    drop rest (parts_of f.word) ≡ after p (drop (f.next + 1) (parts_of f.word)) → outer.word ≡ f.word →
+    outer.next ≡ rest → outer.scope ≡ f.scope → outer.bound ≡ f.bound → outer.pieces ≡ f.pieces → inner.word ≡ r →
+    inner.next ≡ 0 → inner.bound ≡ [] → inner.pieces ≡ [] →
+    bounds text inner.scope ≡ entered (bounds text f.scope) (bounds text f.bound) p →
+    (InText text f.scope → InText text f.bound → InText text inner.scope) → length inner.scope ≤ length f.scope + 2 →
+    ((s : List Bound) (todo : List Want) → reads_at text t.end (a_word s ∷ todo) ≡ with_front (word r ∷ [])
+    (reads_at text next (parts s [] (parts_of r) ∷ todo))) → Opens text at depth f outer inner next
 opens_form text at depth f outer inner t p r rest next n k i h l left row part scope bound pieces irow inext ibound ipieces iscope within few found =
-    let ss = bounds text f.scope.items in
-    let bs = bounds text f.bound.items in
+    let ss = bounds text f.scope in
+    let bs = bounds text f.bound in
     let ps = drop (f.next + 1) (parts_of f.word) in
     let outer_left : drop outer.next (parts_of outer.word) ≡ after p ps = rw (row, part) left in
     let outer_want : want_of text outer ≡ parts ss bs (after p ps) = rw (scope, bound, outer_left) refl in
@@ -405,7 +534,7 @@ opens_form text at depth f outer inner t p r rest next n k i h l left row part s
         scope = within s.scope s.bound;
         bound = rw ibound tt;
       };
-      same_scope = rw scope refl;
+      same_scope = scope;
       deeper = few;
     }
 

@@ -1,5 +1,5 @@
 -- What an open form stands for, and which pieces its word wants.
-use Rattle.std.specs.Prelude.{◌≡◌, ◌≤◌, ◌<◌, ◌+◌, ℕ, suc, List, [], ◌∷◌, ◌++◌, length, drop}
+use Rattle.std.specs.Prelude.{◌≡◌, ◌≤◌, ◌<◌, ◌+◌, ℕ, suc, List, [], ◌∷◌, ◌++◌, length, drop, Box}
 use Rattle.effect_term.specs.declared.term.Term as terms
 use Rattle.term_parse.specs.declared.table.Word.{Word}
 use Rattle.term_parse.specs.declared.table.Word.TheVariants as words
@@ -9,8 +9,12 @@ use Rattle.term_parse.specs.declared.error.ParseError.{ParseError}
 use Rattle.term_parse.specs.declared.form.Piece.{Piece}
 use Rattle.term_parse.specs.declared.form.Piece.TheVariants as pieces
 use Rattle.term_parse.specs.declared.form.Form.{Form}
+use Rattle.term_parse.specs.declared.scope.Binding.{Binding}
+use Rattle.std.specs.declared.alloc.Global.{Global}
+use Rattle.term_parse.specs.OpenForms.{OpenForm, innermost, outer, outers, begun_form, Growing}
 use Rattle.term_parse.specs.declared.form.Step.{Step}
 use Rattle.term_parse.specs.declared.form.Step.TheVariants as steps
+use Rattle.term_parse.specs.declared.reader.Open.{Open}
 use Rattle.term_parse.specs.declared.reader.Turn.{Turn}
 use Rattle.term_parse.specs.declared.reader.Turn.TheVariants as turns
 use Rattle.term_parse.specs.Atoms.{Atom, word, value, name, ended, atoms_of}
@@ -120,31 +124,31 @@ NotTwo w = (w ≡ words.Let → ⊥) × (w ≡ words.Handle → ⊥) × (w ≡ w
     (w ≡ words.Start → ⊥) × (w ≡ words.Guarantee → ⊥) × (w ≡ words.Race → ⊥)
 
 -- what the parts that are left give completes the form, and its binders stand within the text
-pub record Sound (text : List ℕ) (f : Form) : Type 0 where
+pub record Sound (text : List ℕ) (f : OpenForm) : Type 0 where
   pub shape : (more : List Sort) → Completes (drop f.next (parts_of f.word)) more →
-      Shaped f.word (sorts f.pieces.items ++ more)
-  pub scope : InText text f.scope.items
-  pub bound : InText text f.bound.items
+      Shaped f.word (sorts f.pieces ++ more)
+  pub scope : InText text f.scope
+  pub bound : InText text f.bound
 
 -- the same, once a term has been added
-pub record Awaits (text : List ℕ) (f : Form) : Type 0 where
+pub record Awaits (text : List ℕ) (f : OpenForm) : Type 0 where
   pub shape : (more : List Sort) → Completes (drop f.next (parts_of f.word)) more →
-      Shaped f.word (sorts f.pieces.items ++ (a_term ∷ more))
-  pub scope : InText text f.scope.items
-  pub bound : InText text f.bound.items
+      Shaped f.word (sorts f.pieces ++ (a_term ∷ more))
+  pub scope : InText text f.scope
+  pub bound : InText text f.bound
 
 -- what is wanted of a form
-abbrev pub want_of : List ℕ → Form → Want
-want_of text f = parts (bounds text f.scope.items) (bounds text f.bound.items) (drop f.next (parts_of f.word))
+abbrev pub want_of : List ℕ → OpenForm → Want
+want_of text f = parts (bounds text f.scope) (bounds text f.bound) (drop f.next (parts_of f.word))
 
 -- what has been read of a form
-abbrev pub front_of : Form → List Atom
-front_of f = word f.word ∷ pieces_atoms f.pieces.items
+abbrev pub front_of : OpenForm → List Atom
+front_of f = word f.word ∷ pieces_atoms f.pieces
 
--- the part that is wanted next
-pub record NextIs (f : Form) (p : Part) : Type 0 where
-  pub below : f.next < 10
-  pub part_is : drop f.next (parts_of f.word) ≡ p ∷ drop (f.next + 1) (parts_of f.word)
+-- the part of a word's form that is wanted next
+pub record NextIs (w : Word) (next : ℕ) (p : Part) : Type 0 where
+  pub below : next < 10
+  pub part_is : drop next (parts_of w) ≡ p ∷ drop (next + 1) (parts_of w)
 
 abbrev pub IsTermPart : Part → Type 0
 IsTermPart (Bind k) = ⊥
@@ -163,75 +167,79 @@ after More ps = More ∷ ps
 after p ps = ps
 
 -- g is f with this piece added, and this part wanted next
-pub record Adds (f : Form) (p : Piece) (next : ℕ) (g : Form) : Type 0 where
+pub record Adds (f : OpenForm) (p : Piece) (next : ℕ) (g : OpenForm) : Type 0 where
   pub same_word : g.word ≡ f.word
   pub next_is : g.next ≡ next
   pub same_scope : g.scope ≡ f.scope
   pub same_bound : g.bound ≡ f.bound
-  pub pieces_are : g.pieces.items ≡ f.pieces.items ++ p ∷ []
+  pub pieces_are : g.pieces ≡ f.pieces ++ p ∷ []
 
 -- whatever is wanted around this form, with so many brackets open, the reading from here on fails so
-abbrev pub FailsAt : List ℕ → ℕ → ℕ → Form → ParseError → Type 0
+abbrev pub FailsAt : List ℕ → ℕ → ℕ → OpenForm → ParseError → Type 0
 FailsAt text at depth f e =
     (todo : List Want) → suc (open_of todo) ≡ depth → Fails e (reads_at text at (want_of text f ∷ todo))
 
 -- a part of the form was read
-pub record Reads (text : List ℕ) (at : ℕ) (f g : Form) (next : ℕ) : Type 0 where
+pub record Reads (text : List ℕ) (at : ℕ) (f g : OpenForm) (next : ℕ) : Type 0 where
   pub goes_on : (todo : List Want) → with_front (front_of f) (reads_at text at (want_of text f ∷ todo)) ≡ with_front
       (front_of g) (reads_at text next (want_of text g ∷ todo))
   pub sound : Sound text f → Sound text g
-  pub same_scope : length g.scope.items ≡ length f.scope.items
+  pub same_scope : g.scope ≡ f.scope
 
 -- a form inside this one was opened
-pub record Opens (text : List ℕ) (at depth : ℕ) (f outer inner : Form) (next : ℕ) : Type 0 where
+pub record Opens (text : List ℕ) (at depth : ℕ) (f outer inner : OpenForm) (next : ℕ) : Type 0 where
   pub goes_on : (todo : List Want) → suc (open_of todo) ≡ depth →
       with_front (front_of f) (reads_at text at (want_of text f ∷ todo)) ≡ with_front (front_of outer ++
       front_of inner) (reads_at text next (want_of text inner ∷ want_of text outer ∷ todo))
   pub awaits : Sound text f → Awaits text outer
   pub sound : Sound text f → Sound text inner
-  pub same_scope : length outer.scope.items ≡ length f.scope.items
-  pub deeper : length inner.scope.items ≤ length f.scope.items + 2
+  pub same_scope : outer.scope ≡ f.scope
+  pub deeper : length inner.scope ≤ length f.scope + 2
 
 -- the form was closed
-pub record Closes (text : List ℕ) (at : ℕ) (f : Form) (next : ℕ) : Type 0 where
+pub record Closes (text : List ℕ) (at : ℕ) (f : OpenForm) (next : ℕ) : Type 0 where
   pub goes_on : (todo : List Want) → reads_at text at (want_of text f ∷ todo) ≡ with_front (ended ∷ [])
       (reads_at text next todo)
-  pub shaped : Sound text f → Shaped f.word (sorts f.pieces.items)
+  pub shaped : Sound text f → Shaped f.word (sorts f.pieces)
 
--- what a token did to this form, which became g, and under which so many brackets are open
-abbrev pub Stepped : List ℕ → ℕ → ℕ → Form → Form → Step → Type 0
-Stepped text at depth f g (steps.Read next) = Reads text at f g next × (at < next) × (next ≤ length text)
-Stepped text at depth f g (steps.Opened inner next) =
-    Opens text at depth f g inner next × (at + 2 ≤ next) × (next ≤ length text)
-Stepped text at depth f g (steps.Closed next) = Closes text at f next × (g ≡ f) × (at < next) × (next ≤ length text)
+-- what a token did to this form and the binders around the innermost, which became g and t, and under which so many
+-- brackets are open
+abbrev pub Stepped : List ℕ → ℕ → ℕ → List Binding → Form → List Binding → Form → Step → Type 0
+Stepped text at depth s f t g (steps.Read next) =
+    Reads text at (innermost s f) (innermost t g) next × (at < next) × (next ≤ length text)
+Stepped text at depth s f t g (steps.Opened w next) =
+    Opens text at depth (innermost s f) (outer t g) (begun_form w t) next × (g.scope ≡ length s) ×
+    (length s ≤ length t) × (at + 2 ≤ next) × (next ≤ length text)
+Stepped text at depth s f t g (steps.Closed next) =
+    Closes text at (innermost s f) next × (g ≡ f) × (t ≡ s) × (at < next) × (next ≤ length text)
 
 -- what is wanted of the forms around, the innermost first, which stand with the outermost first
-abbrev pub todo_onto : List ℕ → List Want → List Form → List Want
+abbrev pub todo_onto : List ℕ → List Want → List OpenForm → List Want
 todo_onto text around [] = around
 todo_onto text around (f ∷ fs) = todo_onto text (want_of text f ∷ around) fs
 
 -- what has been read of these forms
-abbrev pub fronts : List Form → List Atom
+abbrev pub fronts : List OpenForm → List Atom
 fronts [] = []
 fronts (f ∷ fs) = front_of f ++ fronts fs
 
-abbrev pub AllAwait : List ℕ → List Form → Type 0
+abbrev pub AllAwait : List ℕ → List OpenForm → Type 0
 AllAwait text [] = Unit {0}
 AllAwait text (f ∷ fs) = Awaits text f × AllAwait text fs
 
-abbrev pub ScopesWithin : ℕ → List Form → Type 0
+abbrev pub ScopesWithin : ℕ → List OpenForm → Type 0
 ScopesWithin n [] = Unit {0}
-ScopesWithin n (f ∷ fs) = (length f.scope.items ≤ n) × ScopesWithin n fs
+ScopesWithin n (f ∷ fs) = (length f.scope ≤ n) × ScopesWithin n fs
 
 -- these forms are open, the first inside the others, and what was read of them and is left of the text is the whole
 -- text
-pub record IsStack (text : List ℕ) (at : ℕ) (f : Form) (fs : List Form) : Type 0 where
+pub record IsStack (text : List ℕ) (at : ℕ) (f : OpenForm) (fs : List OpenForm) : Type 0 where
   pub within : at ≤ length text
   pub left : with_front (fronts fs ++ front_of f) (reads_at text at (want_of text f ∷ todo_onto text [] fs)) ≡
       reads_at text 0 (term [] ∷ [])
   pub sound : Sound text f
   pub awaits : AllAwait text fs
-  pub few : length f.scope.items ≤ at
+  pub few : length f.scope ≤ at
   pub few_around : ScopesWithin at fs
   pub forms : length fs ≤ at
 
@@ -240,13 +248,21 @@ pub record IsWhole (text : List ℕ) (t : terms.Term) (end : ℕ) : Type 0 where
   pub within : end ≤ length text
   pub left : reads_at text 0 (term [] ∷ []) ≡ with_front (atoms_of t) (reads_at text end [])
 
+-- this form is the innermost, under these binders, and those around it are open
+pub record IsOpen (text : List ℕ) (at : ℕ) (s : List Binding) (f : Form) (fs : List (Box Form Global)) : Type 0 where
+  pub stack : IsStack text at (innermost s f) (outers s fs)
+  pub growing : Growing 0 fs (length s)
+
+abbrev pub AreOpen : List ℕ → ℕ → Open → Type 0
+AreOpen text at o = IsOpen text at o.scope.items o.form.value o.around.items
+
 -- what one token did: these forms are open now, or the whole term was read
-abbrev pub Turned : List ℕ → ℕ → Form → List Form → Turn → Type 0
-Turned text at f fs (turns.More next) = IsStack text next f fs × (at < next)
-Turned text at f fs (turns.Done t end) = IsWhole text t end
+abbrev pub Turned : List ℕ → ℕ → Open → Turn → Type 0
+Turned text at o (turns.More next) = AreOpen text next o × (at < next)
+Turned text at o (turns.Done t end) = IsWhole text t end
 
 -- a form that was closed has the pieces that its word wants
 abbrev pub Buildable : Form → Step → Type 0
 Buildable f (steps.Read next) = Unit {0}
-Buildable f (steps.Opened inner next) = Unit {0}
+Buildable f (steps.Opened w next) = Unit {0}
 Buildable f (steps.Closed next) = Shaped f.word (sorts f.pieces.items)

@@ -5,6 +5,7 @@ pub mod Lexemes
 pub mod Reading
 pub mod Seen
 pub mod Bindings
+pub mod OpenForms
 pub mod Forms
 pub mod Faults
 pub mod Grammar

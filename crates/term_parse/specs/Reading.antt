@@ -1,10 +1,11 @@
 -- What the forms want, token by token, and the first fault of a text.
-use Rattle.std.specs.Prelude.{◌≡◌, ℕ, suc, Bool, true, false, nat_lt, List, [], ◌∷◌, ◌++◌, length, Option, Some, None}
+use Rattle.std.specs.Prelude.{◌≡◌, ℕ, suc, nat_lt, List, [], ◌∷◌, ◌++◌, length, Option, Some, None}
 use Rattle.std.specs.Prelude.{Result, Ok, Err, if◌then◌else◌, slice_get}
 use Rattle.std.specs.Str.{bytes_eq}
 use Rattle.effect_term.specs.declared.term.Kind.{Kind}
 use Rattle.effect_term.specs.declared.term.Kind.TheVariants as kinds
 use Rattle.effect_term.specs.declared.term.Name.{Name}
+use Rattle.effect_term.specs.Names.{same_kind}
 use Rattle.effect_term.specs.declared.term.Operand.TheVariants.{Number, Named}
 use Rattle.term_parse.specs.declared.table.Word.{Word}
 use Rattle.term_parse.specs.declared.table.Part.{Part}
@@ -27,14 +28,6 @@ find_from n (b ∷ bs) x = elim (find_from (suc n) bs x) [
   | Some found ↦ Some found
   | None ↦ if bytes_eq b.spelling x then Some (record { slot = n; kind = b.kind }) else None
 ]
-
-abbrev pub same_kind : Kind → Kind → Bool
-same_kind kinds.Value kinds.Value = true
-same_kind kinds.Poll kinds.Poll = true
-same_kind kinds.Fiber kinds.Fiber = true
-same_kind kinds.Ref kinds.Ref = true
-same_kind kinds.Deferred kinds.Deferred = true
-same_kind a b = false
 
 -- what a use of this kind at this place means: the innermost binder of its spelling, whatever its kind
 unfoldable pub meaning : List Bound → Kind → List ℕ → ℕ → Result Name ParseError

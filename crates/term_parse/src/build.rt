@@ -68,158 +68,158 @@ fn boxed(alloc: Global, pieces: &mut VecDeque<Piece>) -> Result<Box<Term>, Alloc
 }
 
 /// A value alone.
-fn one_value(mut pieces: VecDeque<Piece>) -> Operand
-    requires { sorts pieces.items ≡ a_value ∷ [] }
-    ensures { ends pieces.items ≡ value_atom result ∷ ended ∷ [] }
+fn one_value(pieces: &mut VecDeque<Piece>) -> Operand
+    requires { sorts pieces.old.items ≡ a_value ∷ [] }
+    ensures { ends pieces.old.items ≡ value_atom result ∷ ended ∷ [] }
 {
-    let value = value(&mut pieces);
+    let value = value(pieces);
     value
 }
 
 /// Two values.
-fn two_values(mut pieces: VecDeque<Piece>) -> (Operand, Operand)
-    requires { sorts pieces.items ≡ a_value ∷ a_value ∷ [] }
-    ensures { ends pieces.items ≡ value_atom result.0 ∷ value_atom result.1 ∷ ended ∷ [] }
+fn two_values(pieces: &mut VecDeque<Piece>) -> (Operand, Operand)
+    requires { sorts pieces.old.items ≡ a_value ∷ a_value ∷ [] }
+    ensures { ends pieces.old.items ≡ value_atom result.0 ∷ value_atom result.1 ∷ ended ∷ [] }
 {
-    let first = value(&mut pieces);
-    let second = value(&mut pieces);
+    let first = value(pieces);
+    let second = value(pieces);
     (first, second)
 }
 
 /// A name alone.
-fn one_name(mut pieces: VecDeque<Piece>) -> Name
-    requires { sorts pieces.items ≡ a_name ∷ [] }
-    ensures { ends pieces.items ≡ name_atom result ∷ ended ∷ [] }
+fn one_name(pieces: &mut VecDeque<Piece>) -> Name
+    requires { sorts pieces.old.items ≡ a_name ∷ [] }
+    ensures { ends pieces.old.items ≡ name_atom result ∷ ended ∷ [] }
 {
-    let name = name(&mut pieces);
+    let name = name(pieces);
     name
 }
 
 /// A name and a value.
-fn name_and_value(mut pieces: VecDeque<Piece>) -> (Name, Operand)
-    requires { sorts pieces.items ≡ a_name ∷ a_value ∷ [] }
-    ensures { ends pieces.items ≡ name_atom result.0 ∷ value_atom result.1 ∷ ended ∷ [] }
+fn name_and_value(pieces: &mut VecDeque<Piece>) -> (Name, Operand)
+    requires { sorts pieces.old.items ≡ a_name ∷ a_value ∷ [] }
+    ensures { ends pieces.old.items ≡ name_atom result.0 ∷ value_atom result.1 ∷ ended ∷ [] }
 {
-    let name = name(&mut pieces);
-    let value = value(&mut pieces);
+    let name = name(pieces);
+    let value = value(pieces);
     (name, value)
 }
 
 /// A term alone.
-fn one_term(alloc: Global, mut pieces: VecDeque<Piece>) -> Result<Box<Term>, AllocError>
-    requires { sorts pieces.items ≡ a_term ∷ [] }
-    ensures { IfOk result (λ r. ends pieces.items ≡ atoms_of r.value ++ ended ∷ []) }
+fn one_term(alloc: Global, pieces: &mut VecDeque<Piece>) -> Result<Box<Term>, AllocError>
+    requires { sorts pieces.old.items ≡ a_term ∷ [] }
+    ensures { IfOk result (λ r. ends pieces.old.items ≡ atoms_of r.value ++ ended ∷ []) }
 {
-    let term = boxed(alloc, &mut pieces)?;
+    let term = boxed(alloc, pieces)?;
     Ok(term)
 }
 
 /// A name and a term.
 fn name_and_term(
     alloc: Global,
-    mut pieces: VecDeque<Piece>,
+    pieces: &mut VecDeque<Piece>,
 ) -> Result<(Name, Box<Term>), AllocError>
-    requires { sorts pieces.items ≡ a_name ∷ a_term ∷ [] }
-    ensures { IfOk result (λ r. ends pieces.items ≡ name_atom r.0 ∷ (atoms_of r.1.value ++ ended ∷ [])) }
+    requires { sorts pieces.old.items ≡ a_name ∷ a_term ∷ [] }
+    ensures { IfOk result (λ r. ends pieces.old.items ≡ name_atom r.0 ∷ (atoms_of r.1.value ++ ended ∷ [])) }
 {
-    let name = name(&mut pieces);
-    let term = boxed(alloc, &mut pieces)?;
+    let name = name(pieces);
+    let term = boxed(alloc, pieces)?;
     Ok((name, term))
 }
 
 /// A value and a term.
 fn value_and_term(
     alloc: Global,
-    mut pieces: VecDeque<Piece>,
+    pieces: &mut VecDeque<Piece>,
 ) -> Result<(Operand, Box<Term>), AllocError>
-    requires { sorts pieces.items ≡ a_value ∷ a_term ∷ [] }
-    ensures { IfOk result (λ r. ends pieces.items ≡ value_atom r.0 ∷ (atoms_of r.1.value ++ ended ∷ [])) }
+    requires { sorts pieces.old.items ≡ a_value ∷ a_term ∷ [] }
+    ensures { IfOk result (λ r. ends pieces.old.items ≡ value_atom r.0 ∷ (atoms_of r.1.value ++ ended ∷ [])) }
 {
-    let value = value(&mut pieces);
-    let term = boxed(alloc, &mut pieces)?;
+    let value = value(pieces);
+    let term = boxed(alloc, pieces)?;
     Ok((value, term))
 }
 
 /// Two terms.
 fn two_terms(
     alloc: Global,
-    mut pieces: VecDeque<Piece>,
+    pieces: &mut VecDeque<Piece>,
 ) -> Result<(Box<Term>, Box<Term>), AllocError>
-    requires { sorts pieces.items ≡ a_term ∷ a_term ∷ [] }
-    ensures { IfOk result (λ r. ends pieces.items ≡ atoms_of r.0.value ++ (atoms_of r.1.value ++ ended ∷ [])) }
+    requires { sorts pieces.old.items ≡ a_term ∷ a_term ∷ [] }
+    ensures { IfOk result (λ r. ends pieces.old.items ≡ atoms_of r.0.value ++ (atoms_of r.1.value ++ ended ∷ [])) }
 {
-    let first = boxed(alloc, &mut pieces)?;
-    let second = boxed(alloc, &mut pieces)?;
+    let first = boxed(alloc, pieces)?;
+    let second = boxed(alloc, pieces)?;
     Ok((first, second))
 }
 
 /// A value and two terms.
 fn value_and_two_terms(
     alloc: Global,
-    mut pieces: VecDeque<Piece>,
+    pieces: &mut VecDeque<Piece>,
 ) -> Result<(Operand, Box<Term>, Box<Term>), AllocError>
-    requires { sorts pieces.items ≡ a_value ∷ a_term ∷ a_term ∷ [] }
-    ensures { IfOk result (λ r. ends pieces.items ≡ value_atom r.0 ∷
+    requires { sorts pieces.old.items ≡ a_value ∷ a_term ∷ a_term ∷ [] }
+    ensures { IfOk result (λ r. ends pieces.old.items ≡ value_atom r.0 ∷
         (atoms_of r.1.value ++ (atoms_of r.2.value ++ ended ∷ []))) }
 {
-    let value = value(&mut pieces);
-    let first = boxed(alloc, &mut pieces)?;
-    let second = boxed(alloc, &mut pieces)?;
+    let value = value(pieces);
+    let first = boxed(alloc, pieces)?;
+    let second = boxed(alloc, pieces)?;
     Ok((value, first, second))
 }
 
 /// Three terms.
 fn three_terms(
     alloc: Global,
-    mut pieces: VecDeque<Piece>,
+    pieces: &mut VecDeque<Piece>,
 ) -> Result<(Box<Term>, Box<Term>, Box<Term>), AllocError>
-    requires { sorts pieces.items ≡ a_term ∷ a_term ∷ a_term ∷ [] }
-    ensures { IfOk result (λ r. ends pieces.items ≡ atoms_of r.0.value ++
+    requires { sorts pieces.old.items ≡ a_term ∷ a_term ∷ a_term ∷ [] }
+    ensures { IfOk result (λ r. ends pieces.old.items ≡ atoms_of r.0.value ++
         (atoms_of r.1.value ++ (atoms_of r.2.value ++ ended ∷ []))) }
 {
-    let first = boxed(alloc, &mut pieces)?;
-    let second = boxed(alloc, &mut pieces)?;
-    let third = boxed(alloc, &mut pieces)?;
+    let first = boxed(alloc, pieces)?;
+    let second = boxed(alloc, pieces)?;
+    let third = boxed(alloc, pieces)?;
     Ok((first, second, third))
 }
 
 /// A name and three terms.
 fn name_and_three_terms(
     alloc: Global,
-    mut pieces: VecDeque<Piece>,
+    pieces: &mut VecDeque<Piece>,
 ) -> Result<(Name, Box<Term>, Box<Term>, Box<Term>), AllocError>
-    requires { sorts pieces.items ≡ a_name ∷ a_term ∷ a_term ∷ a_term ∷ [] }
-    ensures { IfOk result (λ r. ends pieces.items ≡ name_atom r.0 ∷
+    requires { sorts pieces.old.items ≡ a_name ∷ a_term ∷ a_term ∷ a_term ∷ [] }
+    ensures { IfOk result (λ r. ends pieces.old.items ≡ name_atom r.0 ∷
         (atoms_of r.1.value ++ (atoms_of r.2.value ++ (atoms_of r.3.value ++ ended ∷ [])))) }
 {
-    let name = name(&mut pieces);
-    let first = boxed(alloc, &mut pieces)?;
-    let second = boxed(alloc, &mut pieces)?;
-    let third = boxed(alloc, &mut pieces)?;
+    let name = name(pieces);
+    let first = boxed(alloc, pieces)?;
+    let second = boxed(alloc, pieces)?;
+    let third = boxed(alloc, pieces)?;
     Ok((name, first, second, third))
 }
 
 /// Five terms.
 fn five_terms(
     alloc: Global,
-    mut pieces: VecDeque<Piece>,
+    pieces: &mut VecDeque<Piece>,
 ) -> Result<(Box<Term>, Box<Term>, Box<Term>, Box<Term>, Box<Term>), AllocError>
-    requires { sorts pieces.items ≡ a_term ∷ a_term ∷ a_term ∷ a_term ∷ a_term ∷ [] }
-    ensures { IfOk result (λ r. ends pieces.items ≡ atoms_of r.0.value ++
+    requires { sorts pieces.old.items ≡ a_term ∷ a_term ∷ a_term ∷ a_term ∷ a_term ∷ [] }
+    ensures { IfOk result (λ r. ends pieces.old.items ≡ atoms_of r.0.value ++
         (atoms_of r.1.value ++ (atoms_of r.2.value ++ (atoms_of r.3.value ++ (atoms_of r.4.value ++ ended ∷ []))))) }
 {
-    let first = boxed(alloc, &mut pieces)?;
-    let second = boxed(alloc, &mut pieces)?;
-    let third = boxed(alloc, &mut pieces)?;
-    let fourth = boxed(alloc, &mut pieces)?;
-    let fifth = boxed(alloc, &mut pieces)?;
+    let first = boxed(alloc, pieces)?;
+    let second = boxed(alloc, pieces)?;
+    let third = boxed(alloc, pieces)?;
+    let fourth = boxed(alloc, pieces)?;
+    let fifth = boxed(alloc, pieces)?;
     Ok((first, second, third, fourth, fifth))
 }
 
 /// The terms that are left.
-fn rest_of(alloc: Global, mut pieces: VecDeque<Piece>) -> Result<Vec<Term>, AllocError>
-    requires { AllTerms (sorts pieces.items) }
-    ensures { IfOk result (λ r. ends pieces.items ≡ terms_atoms r.items ++ ended ∷ []) }
+fn rest_of(alloc: Global, pieces: &mut VecDeque<Piece>) -> Result<Vec<Term>, AllocError>
+    requires { AllTerms (sorts pieces.old.items) }
+    ensures { IfOk result (λ r. ends pieces.old.items ≡ terms_atoms r.items ++ ended ∷ []) }
 {
     let mut terms = Vec::new(alloc);
     while let Some(piece) = pieces.pop_front() {
@@ -234,22 +234,26 @@ fn rest_of(alloc: Global, mut pieces: VecDeque<Piece>) -> Result<Vec<Term>, Allo
 /// Two terms or more.
 fn terms_of_seq(
     alloc: Global,
-    mut pieces: VecDeque<Piece>,
+    pieces: &mut VecDeque<Piece>,
 ) -> Result<(Box<Term>, Box<Term>, Vec<Term>), AllocError>
-    requires { Shaped Word.Seq (sorts pieces.items) }
-    ensures { IfOk result (λ r. ends pieces.items ≡ atoms_of r.0.value ++
+    requires { Shaped Word.Seq (sorts pieces.old.items) }
+    ensures { IfOk result (λ r. ends pieces.old.items ≡ atoms_of r.0.value ++
         (atoms_of r.1.value ++ (terms_atoms r.2.items ++ ended ∷ []))) }
 {
-    let first = boxed(alloc, &mut pieces)?;
-    let second = boxed(alloc, &mut pieces)?;
+    let first = boxed(alloc, pieces)?;
+    let second = boxed(alloc, pieces)?;
     let rest = rest_of(alloc, pieces)?;
     Ok((first, second, rest))
 }
 
 /// The term of this word and these pieces, which are as the word wants them.
-pub(crate) fn build(alloc: Global, word: Word, pieces: VecDeque<Piece>) -> Result<Term, AllocError>
-    requires { Shaped word (sorts pieces.items) }
-    ensures { IfOk result (λ t. atoms_of t ≡ word_atom word ∷ ends pieces.items) }
+pub(crate) fn build(
+    alloc: Global,
+    word: Word,
+    pieces: &mut VecDeque<Piece>,
+) -> Result<Term, AllocError>
+    requires { Shaped word (sorts pieces.old.items) }
+    ensures { IfOk result (λ t. atoms_of t ≡ word_atom word ∷ ends pieces.old.items) }
 {
     match word {
         Word::Pure => Ok(Term::Pure(one_value(pieces))),
@@ -282,10 +286,14 @@ pub(crate) fn build(alloc: Global, word: Word, pieces: VecDeque<Piece>) -> Resul
 }
 
 /// The same where the word has a term in it.
-fn build_with_one(alloc: Global, word: Word, pieces: VecDeque<Piece>) -> Result<Term, AllocError>
-    requires shaped { Shaped word (sorts pieces.items) }
+fn build_with_one(
+    alloc: Global,
+    word: Word,
+    pieces: &mut VecDeque<Piece>,
+) -> Result<Term, AllocError>
+    requires shaped { Shaped word (sorts pieces.old.items) }
     requires not_plain { NotPlain word }
-    ensures { IfOk result (λ t. atoms_of t ≡ word_atom word ∷ ends pieces.items) }
+    ensures { IfOk result (λ t. atoms_of t ≡ word_atom word ∷ ends pieces.old.items) }
 {
     match word {
         Word::Uncancelable => {
@@ -317,11 +325,15 @@ fn build_with_one(alloc: Global, word: Word, pieces: VecDeque<Piece>) -> Result<
 }
 
 /// The same where the word has two terms or more in it.
-fn build_with_two(alloc: Global, word: Word, pieces: VecDeque<Piece>) -> Result<Term, AllocError>
-    requires shaped { Shaped word (sorts pieces.items) }
+fn build_with_two(
+    alloc: Global,
+    word: Word,
+    pieces: &mut VecDeque<Piece>,
+) -> Result<Term, AllocError>
+    requires shaped { Shaped word (sorts pieces.old.items) }
     requires not_plain { NotPlain word }
     requires not_one { NotOne word }
-    ensures { IfOk result (λ t. atoms_of t ≡ word_atom word ∷ ends pieces.items) }
+    ensures { IfOk result (λ t. atoms_of t ≡ word_atom word ∷ ends pieces.old.items) }
 {
     match word {
         Word::Let => {
@@ -357,12 +369,16 @@ fn build_with_two(alloc: Global, word: Word, pieces: VecDeque<Piece>) -> Result<
 }
 
 /// The same where the word has three terms or more in it, or any number.
-fn build_with_more(alloc: Global, word: Word, pieces: VecDeque<Piece>) -> Result<Term, AllocError>
-    requires shaped { Shaped word (sorts pieces.items) }
+fn build_with_more(
+    alloc: Global,
+    word: Word,
+    pieces: &mut VecDeque<Piece>,
+) -> Result<Term, AllocError>
+    requires shaped { Shaped word (sorts pieces.old.items) }
     requires not_plain { NotPlain word }
     requires not_one { NotOne word }
     requires not_two { NotTwo word }
-    ensures { IfOk result (λ t. atoms_of t ≡ word_atom word ∷ ends pieces.items) }
+    ensures { IfOk result (λ t. atoms_of t ≡ word_atom word ∷ ends pieces.old.items) }
 {
     match word {
         Word::Seq => {

@@ -7,13 +7,15 @@ ghost use Rattle.term_parse.specs.Language.{parts_of};
 ghost use Rattle.term_parse.specs.Reading.{Bound, Want, a_word, parts, open_of, with_front, reads_at};
 ghost use Rattle.term_parse.specs.Seen.{IsNext, IsGood};
 ghost use Rattle.term_parse.specs.Forms.{Sound, NextIs, Adds, IsTermPart, IsOneTerm, after, FailsAt, Stepped};
+ghost use Rattle.term_parse.specs.OpenForms.{innermost};
+ghost use Rattle.term_parse.specs.declared.scope.Binding.{Binding};
 
 use crate::error::ParseError;
-use crate::scope::{Binding, entered, meaning};
+use crate::scope::{Binding, enter, hash_of, meaning};
 use crate::table::{Part, Word, parts_of, word_of};
 use crate::token::{Token, TokenKind, token_at};
 use effect_term::{Kind, Operand, Term};
-use std::alloc::{AllocError, Global};
+use std::alloc::AllocError;
 use std::collections::VecDeque;
 
 /// A part of a form that has been read, apart from binders.
@@ -31,20 +33,20 @@ pub(crate) struct Form {
     pub word: Word,
     /// How many of its parts have been read.
     pub next: usize,
-    /// The binders around it, the innermost last.
-    pub scope: Vec<Binding>,
+    /// How many binders stood around it when a form was last opened inside it.
+    pub scope: usize,
     /// Its own binders so far.
     pub bound: Vec<Binding>,
     /// What its parts gave so far.
     pub pieces: VecDeque<Piece>,
 }
 
-/// What a token did to a form: it read a part of it, opened this form inside it, or closed it. The
-/// number is where the text goes on.
-#[derive(Drop)]
+/// What a token did to a form: it read a part of it, opened a form of this word inside it, or closed
+/// it. The number is where the text goes on.
+#[derive(Clone, Copy)]
 pub(crate) enum Step {
     Read(usize),
-    Opened(Form, usize),
+    Opened(Word, usize),
     Closed(usize),
 }
 
@@ -89,13 +91,14 @@ pub(crate) fn word(text: &[u8], at: usize) -> Result<(Word, usize), ParseError>
 }
 
 /// Reads a binder.
-fn bind(form: &mut Form, token: Token, kind: Kind) -> Result<Step, ParseError>
+fn bind(text: &[u8], form: &mut Form, token: Token, kind: Kind) -> Result<Step, ParseError>
+    requires within { (token.start ≤ token.end) × (token.end ≤ length text.now) }
     requires good { IsGood token.kind }
-    requires part { NextIs form.old (Part.Bind kind) }
-    ensures found { (text : List ℕ) (at depth : ℕ) → IsNext text at token →
-        IfOk result (Stepped text at depth form.old form.new) }
-    ensures fault { (text : List ℕ) (at depth : ℕ) → IsNext text at token →
-        IfErr result (FailsAt text at depth form.old) }
+    requires part { NextIs form.old.word form.old.next (Part.Bind kind) }
+    ensures found { (scope : List Binding) (at depth : ℕ) → IsNext text.now at token →
+        IfOk result (Stepped text.now at depth scope form.old scope form.new) }
+    ensures fault { (scope : List Binding) (at depth : ℕ) → IsNext text.now at token →
+        IfErr result (FailsAt text.now at depth (innermost scope form.old)) }
 {
     let TokenKind::Called = token.kind else {
         return Err(ParseError::Arity(token.start));
@@ -104,6 +107,7 @@ fn bind(form: &mut Form, token: Token, kind: Kind) -> Result<Step, ParseError>
         start: token.start,
         end: token.end,
         kind,
+        hash: hash_of(&text[token.start..token.end]),
     })?;
     form.next += 1;
     Ok(Step::Read(token.end))
@@ -111,7 +115,8 @@ fn bind(form: &mut Form, token: Token, kind: Kind) -> Result<Step, ParseError>
 
 /// Adds a piece to the form, of which this part is wanted next.
 pub(crate) fn with_piece(form: &mut Form, piece: Piece, next: usize) -> Result<(), AllocError>
-    ensures { IfOk result (λ _. Adds form.old piece next form.new) }
+    ensures { (scope : List Binding) →
+        IfOk result (λ _. Adds (innermost scope form.old) piece next (innermost scope form.new)) }
 {
     form.pieces.push_back(piece)?;
     form.next = next;
@@ -119,21 +124,28 @@ pub(crate) fn with_piece(form: &mut Form, piece: Piece, next: usize) -> Result<(
 }
 
 /// Reads a use of a name.
-fn use_name(text: &[u8], form: &mut Form, token: Token, kind: Kind) -> Result<Step, ParseError>
+fn use_name(
+    text: &[u8],
+    scope: &[Binding],
+    form: &mut Form,
+    token: Token,
+    kind: Kind,
+) -> Result<Step, ParseError>
     requires within { (token.start ≤ token.end) × (token.end ≤ length text.now) }
     requires good { IsGood token.kind }
-    requires part { NextIs form.old (Part.Use kind) }
-    requires sound { Sound text.now form.old }
-    requires few { length form.old.scope.items < 2 ^ 32 }
+    requires part { NextIs form.old.word form.old.next (Part.Use kind) }
+    requires sound { Sound text.now (innermost scope.now form.old) }
+    requires few { length scope.now < 2 ^ 32 }
     ensures found { (at depth : ℕ) → IsNext text.now at token →
-        IfOk result (Stepped text.now at depth form.old form.new) }
-    ensures fault { (at depth : ℕ) → IsNext text.now at token → IfErr result (FailsAt text.now at depth form.old) }
+        IfOk result (Stepped text.now at depth scope.now form.old scope.now form.new) }
+    ensures fault { (at depth : ℕ) → IsNext text.now at token →
+        IfErr result (FailsAt text.now at depth (innermost scope.now form.old)) }
 {
     let TokenKind::Called = token.kind else {
         return Err(ParseError::Arity(token.start));
     };
     let spelling = &text[token.start..token.end];
-    match meaning(text, &form.scope, kind, spelling, token.start) {
+    match meaning(text, scope, kind, spelling, token.start) {
         Ok(name) => {
             let next = form.next + 1;
             with_piece(form, Piece::Name(name), next)?;
@@ -150,15 +162,16 @@ fn number(n: i32) -> Operand
 }
 
 /// Reads a number or a use of a value's name.
-fn value(text: &[u8], form: &mut Form, token: Token) -> Result<Step, ParseError>
+fn value(text: &[u8], scope: &[Binding], form: &mut Form, token: Token) -> Result<Step, ParseError>
     requires within { (token.start ≤ token.end) × (token.end ≤ length text.now) }
     requires good { IsGood token.kind }
-    requires part { NextIs form.old Part.Value }
-    requires sound { Sound text.now form.old }
-    requires few { length form.old.scope.items < 2 ^ 32 }
+    requires part { NextIs form.old.word form.old.next Part.Value }
+    requires sound { Sound text.now (innermost scope.now form.old) }
+    requires few { length scope.now < 2 ^ 32 }
     ensures found { (at depth : ℕ) → IsNext text.now at token →
-        IfOk result (Stepped text.now at depth form.old form.new) }
-    ensures fault { (at depth : ℕ) → IsNext text.now at token → IfErr result (FailsAt text.now at depth form.old) }
+        IfOk result (Stepped text.now at depth scope.now form.old scope.now form.new) }
+    ensures fault { (at depth : ℕ) → IsNext text.now at token →
+        IfErr result (FailsAt text.now at depth (innermost scope.now form.old)) }
 {
     match token.kind {
         TokenKind::Number(n) => {
@@ -166,24 +179,30 @@ fn value(text: &[u8], form: &mut Form, token: Token) -> Result<Step, ParseError>
             with_piece(form, Piece::Value(number(n)), next)?;
             Ok(Step::Read(token.end))
         }
-        TokenKind::Called => named_value(text, form, token),
+        TokenKind::Called => named_value(text, scope, form, token),
         _ => Err(ParseError::Arity(token.start)),
     }
 }
 
 /// Reads a use of a value's name.
-fn named_value(text: &[u8], form: &mut Form, token: Token) -> Result<Step, ParseError>
+fn named_value(
+    text: &[u8],
+    scope: &[Binding],
+    form: &mut Form,
+    token: Token,
+) -> Result<Step, ParseError>
     requires within { (token.start ≤ token.end) × (token.end ≤ length text.now) }
     requires called { token.kind ≡ TokenKind.Called }
-    requires part { NextIs form.old Part.Value }
-    requires sound { Sound text.now form.old }
-    requires few { length form.old.scope.items < 2 ^ 32 }
+    requires part { NextIs form.old.word form.old.next Part.Value }
+    requires sound { Sound text.now (innermost scope.now form.old) }
+    requires few { length scope.now < 2 ^ 32 }
     ensures found { (at depth : ℕ) → IsNext text.now at token →
-        IfOk result (Stepped text.now at depth form.old form.new) }
-    ensures fault { (at depth : ℕ) → IsNext text.now at token → IfErr result (FailsAt text.now at depth form.old) }
+        IfOk result (Stepped text.now at depth scope.now form.old scope.now form.new) }
+    ensures fault { (at depth : ℕ) → IsNext text.now at token →
+        IfErr result (FailsAt text.now at depth (innermost scope.now form.old)) }
 {
     let spelling = &text[token.start..token.end];
-    match meaning(text, &form.scope, Kind::Value, spelling, token.start) {
+    match meaning(text, scope, Kind::Value, spelling, token.start) {
         Ok(name) => {
             let next = form.next + 1;
             with_piece(form, Piece::Value(Operand::Named(name)), next)?;
@@ -195,8 +214,8 @@ fn named_value(text: &[u8], form: &mut Form, token: Token) -> Result<Step, Parse
 
 /// Opens a form inside this one, of which this part is wanted once the other has closed.
 fn open(
-    alloc: Global,
     text: &[u8],
+    scope: &mut Vec<Binding>,
     form: &mut Form,
     token: Token,
     part: Part,
@@ -205,28 +224,24 @@ fn open(
 ) -> Result<Step, ParseError>
     requires within { token.end ≤ length text.now }
     requires opens { token.kind ≡ TokenKind.Open }
-    requires part { NextIs form.old part }
+    requires part { NextIs form.old.word form.old.next part }
     requires term { IsTermPart part }
     requires rest { drop rest (parts_of form.old.word) ≡ after part
         (drop (form.old.next + 1) (parts_of form.old.word)) }
-    ensures found { (at : ℕ) → IsNext text.now at token → IfOk result (Stepped text.now at depth form.old form.new) }
-    ensures fault { (at : ℕ) → IsNext text.now at token → IfErr result (FailsAt text.now at depth form.old) }
+    ensures found { (at : ℕ) → IsNext text.now at token →
+        IfOk result (Stepped text.now at depth scope.old.items form.old scope.new.items form.new) }
+    ensures fault { (at : ℕ) → IsNext text.now at token →
+        IfErr result (FailsAt text.now at depth (innermost scope.old.items form.old)) }
 {
     if depth >= MOST_OPEN {
         return Err(ParseError::TooDeep(token.start));
     }
-    let scope = entered(alloc, &form.scope, &form.bound, part)?;
+    form.scope = scope.len();
+    enter(scope, &form.bound, part)?;
     match word(text, token.end) {
         Ok((word, next)) => {
             form.next = rest;
-            let inner = Form {
-                word,
-                next: 0,
-                scope,
-                bound: Vec::new(alloc),
-                pieces: VecDeque::new(alloc),
-            };
-            Ok(Step::Opened(inner, next))
+            Ok(Step::Opened(word, next))
         }
         Err(error) => Err(error),
     }
@@ -234,8 +249,8 @@ fn open(
 
 /// Reads the opening bracket of the one term that is wanted.
 fn one_term(
-    alloc: Global,
     text: &[u8],
+    scope: &mut Vec<Binding>,
     form: &mut Form,
     token: Token,
     part: Part,
@@ -243,36 +258,40 @@ fn one_term(
 ) -> Result<Step, ParseError>
     requires within { token.end ≤ length text.now }
     requires good { IsGood token.kind }
-    requires part { NextIs form.old part }
+    requires part { NextIs form.old.word form.old.next part }
     requires term { IsOneTerm part }
-    ensures found { (at : ℕ) → IsNext text.now at token → IfOk result (Stepped text.now at depth form.old form.new) }
-    ensures fault { (at : ℕ) → IsNext text.now at token → IfErr result (FailsAt text.now at depth form.old) }
+    ensures found { (at : ℕ) → IsNext text.now at token →
+        IfOk result (Stepped text.now at depth scope.old.items form.old scope.new.items form.new) }
+    ensures fault { (at : ℕ) → IsNext text.now at token →
+        IfErr result (FailsAt text.now at depth (innermost scope.old.items form.old)) }
 {
     let TokenKind::Open = token.kind else {
         return Err(ParseError::Arity(token.start));
     };
     let rest = form.next + 1;
-    open(alloc, text, form, token, part, rest, depth)
+    open(text, scope, form, token, part, rest, depth)
 }
 
 /// Reads one more term's opening bracket, or the closing bracket.
 fn more_terms(
-    alloc: Global,
     text: &[u8],
+    scope: &mut Vec<Binding>,
     form: &mut Form,
     token: Token,
     depth: usize,
 ) -> Result<Step, ParseError>
     requires within { token.end ≤ length text.now }
     requires good { IsGood token.kind }
-    requires part { NextIs form.old Part.More }
-    ensures found { (at : ℕ) → IsNext text.now at token → IfOk result (Stepped text.now at depth form.old form.new) }
-    ensures fault { (at : ℕ) → IsNext text.now at token → IfErr result (FailsAt text.now at depth form.old) }
+    requires part { NextIs form.old.word form.old.next Part.More }
+    ensures found { (at : ℕ) → IsNext text.now at token →
+        IfOk result (Stepped text.now at depth scope.old.items form.old scope.new.items form.new) }
+    ensures fault { (at : ℕ) → IsNext text.now at token →
+        IfErr result (FailsAt text.now at depth (innermost scope.old.items form.old)) }
 {
     match token.kind {
         TokenKind::Open => {
             let rest = form.next;
-            open(alloc, text, form, token, Part::More, rest, depth)
+            open(text, scope, form, token, Part::More, rest, depth)
         }
         TokenKind::Close => Ok(Step::Closed(token.end)),
         _ => Err(ParseError::Arity(token.start)),
@@ -280,13 +299,14 @@ fn more_terms(
 }
 
 /// Reads the closing bracket.
-fn close(form: &mut Form, token: Token) -> Result<Step, ParseError>
-    requires good { IsGood token.kind }
-    requires part { NextIs form.old Part.Close }
-    ensures found { (text : List ℕ) (at depth : ℕ) → IsNext text at token →
-        IfOk result (Stepped text at depth form.old form.new) }
-    ensures fault { (text : List ℕ) (at depth : ℕ) → IsNext text at token →
-        IfErr result (FailsAt text at depth form.old) }
+fn close(token: Token) -> Result<Step, ParseError>
+    requires { IsGood token.kind }
+    ensures found { (scope : List Binding) (form : Form) → NextIs form.word form.next Part.Close →
+        (text : List ℕ) (at depth : ℕ) → IsNext text at token →
+        IfOk result (Stepped text at depth scope form scope form) }
+    ensures fault { (scope : List Binding) (form : Form) → NextIs form.word form.next Part.Close →
+        (text : List ℕ) (at depth : ℕ) → IsNext text at token →
+        IfErr result (FailsAt text at depth (innermost scope form)) }
 {
     let TokenKind::Close = token.kind else {
         return Err(ParseError::Arity(token.start));
@@ -296,30 +316,30 @@ fn close(form: &mut Form, token: Token) -> Result<Step, ParseError>
 
 /// What the next token does to the innermost form, under which so many brackets are open.
 pub(crate) fn advance(
-    alloc: Global,
     text: &[u8],
     at: usize,
+    scope: &mut Vec<Binding>,
     form: &mut Form,
     depth: usize,
 ) -> Result<Step, ParseError>
     requires at { at ≤ length text.now }
-    requires sound { Sound text.now form.old }
-    requires few { length form.old.scope.items < 2 ^ 32 }
-    ensures found { IfOk result (Stepped text.now at depth form.old form.new) }
-    ensures fault { IfErr result (FailsAt text.now at depth form.old) }
+    requires sound { Sound text.now (innermost scope.old.items form.old) }
+    requires few { length scope.old.items < 2 ^ 32 }
+    ensures found { IfOk result (Stepped text.now at depth scope.old.items form.old scope.new.items form.new) }
+    ensures fault { IfErr result (FailsAt text.now at depth (innermost scope.old.items form.old)) }
 {
     let token = wanted(text, at)?;
     let Some(part) = parts_of(form.word).get(form.next) else {
         return Err(ParseError::Arity(token.start));
     };
     match *part {
-        Part::Bind(kind) => bind(form, token, kind),
-        Part::Use(kind) => use_name(text, form, token, kind),
-        Part::Value => value(text, form, token),
-        Part::Term => one_term(alloc, text, form, token, Part::Term, depth),
-        Part::Under(i) => one_term(alloc, text, form, token, Part::Under(i), depth),
-        Part::UnderBoth(i, j) => one_term(alloc, text, form, token, Part::UnderBoth(i, j), depth),
-        Part::More => more_terms(alloc, text, form, token, depth),
-        Part::Close => close(form, token),
+        Part::Bind(kind) => bind(text, form, token, kind),
+        Part::Use(kind) => use_name(text, scope, form, token, kind),
+        Part::Value => value(text, scope, form, token),
+        Part::Term => one_term(text, scope, form, token, Part::Term, depth),
+        Part::Under(i) => one_term(text, scope, form, token, Part::Under(i), depth),
+        Part::UnderBoth(i, j) => one_term(text, scope, form, token, Part::UnderBoth(i, j), depth),
+        Part::More => more_terms(text, scope, form, token, depth),
+        Part::Close => close(token),
     }
 }

@@ -14,6 +14,7 @@ mod form;
 mod printer;
 mod reader;
 mod scope;
+mod spelling;
 mod table;
 mod token;
 

@@ -184,23 +184,34 @@ fn outer_binders(index: usize, parts: &[Part]) -> usize
     ensures value { result ≡ outer_binders index parts.now }
     ensures few { result ≤ 1 }
 {
-    let [part, rest @ ..] = parts else {
-        return 0;
-    };
-    match part {
-        Part::UnderBoth(_, second) => if *second == index {
-            1
-        } else {
-            outer_binders(index, rest)
-        },
-        Part::Bind(_)
-        | Part::Use(_)
-        | Part::Value
-        | Part::Term
-        | Part::Under(_)
-        | Part::More
-        | Part::Close => outer_binders(index, rest),
+    for part in parts {
+        if let Part::UnderBoth(_, second) = *part {
+            if second == index {
+                return 1;
+            }
+        }
     }
+    0
+}
+
+// Writes a space and a binder of a form, before which so many of its own binders stand, and behind it
+// these parts.
+fn write_binder(
+    out: &mut Vec<u8>,
+    kind: Kind,
+    around: usize,
+    bound: usize,
+    behind: &[Part],
+) -> Result<(), AllocError>
+    requires { around + 2 ≤ vec_len out.old }
+    ensures text { OnOk result (out.new.items ≡
+        out.old.items ++ 32 ∷ name_spelling kind (around + outer_binders bound behind.now)) }
+    ensures longer { OnOk result (vec_len out.old ≤ vec_len out.new) }
+{
+    out.push(b' ')?;
+    let room = out.len();
+    prove!(around < room - 1);
+    write_name(out, kind, around + outer_binders(bound, behind))
 }
 
 // Writes a term, which so many binders enclose.
@@ -248,10 +259,7 @@ fn write_parts(
         }
         Part::More => write_more(out, more, around),
         Part::Bind(kind) => {
-            out.push(b' ')?;
-            let room = out.len();
-            prove!(around < room - 1);
-            write_name(out, kind, around + outer_binders(bound, rest))?;
+            write_binder(out, kind, around, bound, rest)?;
             write_parts(out, rest, pieces, more, around, bound + 1)
         }
         _ => {

@@ -6,15 +6,20 @@ ghost use Rattle.effect_term.specs.declared.term.Term as terms;
 ghost use Rattle.term_parse.specs.declared.error.ParseError.{ParseError};
 ghost use Rattle.term_parse.specs.Atoms.{Atom, word, atoms_of};
 ghost use Rattle.term_parse.specs.declared.form.Form.{Form};
+ghost use Rattle.term_parse.specs.declared.scope.Binding.{Binding};
+ghost use Rattle.term_parse.specs.Language.{parts_of};
 ghost use Rattle.term_parse.specs.Faults.{IsFaultOf};
 ghost use Rattle.term_parse.specs.Grammar.{Spells};
-ghost use Rattle.term_parse.specs.Reading.{reads_at, reading, term, Fails};
+ghost use Rattle.term_parse.specs.Reading.{reads_at, reading, term, parts, with_front, Fails};
 ghost use Rattle.term_parse.specs.Shapes.{shape_of};
-ghost use Rattle.term_parse.specs.Forms.{Buildable, Shaped, sorts, ends, Closes, IsStack, IsWhole, Stepped, Turned};
+ghost use Rattle.term_parse.specs.Forms.{AreOpen, Buildable, Closes, IsOpen, IsWhole, Shaped, Stepped, Turned, sorts};
+ghost use Rattle.term_parse.specs.OpenForms.{IsBegun, innermost};
 
 use crate::build::build;
 use crate::error::ParseError;
 use crate::form::{Form, Piece, Step, advance, wanted, with_piece, word};
+use crate::scope::Binding;
+use crate::table::Word;
 use crate::token::{TokenKind, token_at};
 use effect_term::Term;
 use std::alloc::{AllocError, Global};
@@ -31,9 +36,24 @@ pub(crate) enum Turn {
     Done(Term, usize),
 }
 
-/// The whole term's form, once its word has been read, and where the text goes on.
-fn first_form(alloc: Global, text: &[u8]) -> Result<(Form, usize), ParseError>
-    ensures found { IfOk result (λ r. IsStack text.now r.1 r.0 []) }
+/// The forms that are open.
+#[derive(Drop)]
+pub(crate) struct Open {
+    /// The innermost.
+    pub form: Box<Form>,
+    /// Those around it, the innermost of them last.
+    pub around: Vec<Box<Form>>,
+    /// The binders around the innermost, the innermost last.
+    pub scope: Vec<Binding>,
+    /// Forms that have closed, whose room the next ones take.
+    pub closed: Vec<Box<Form>>,
+}
+
+/// The whole term's word, and where the text goes on.
+fn first_word(text: &[u8]) -> Result<(Word, usize), ParseError>
+    ensures within { IfOk result (λ r. r.1 ≤ length text.now) }
+    ensures found { IfOk result (λ r. reads_at text.now 0 (term [] ∷ []) ≡
+        with_front (word r.0 ∷ []) (reads_at text.now r.1 (parts [] [] (parts_of r.0) ∷ []))) }
     ensures fault { IfErr result (λ e. Fails e (reads_at text.now 0 (term [] ∷ []))) }
 {
     let token = wanted(text, 0)?;
@@ -41,91 +61,112 @@ fn first_form(alloc: Global, text: &[u8]) -> Result<(Form, usize), ParseError>
         return Err(ParseError::Arity(token.start));
     };
     match word(text, token.end) {
-        Ok((word, next)) => {
-            let scope = Vec::new(alloc);
-            let bound = Vec::new(alloc);
-            let form = Form {
-                word,
-                next: 0,
-                scope,
-                bound,
-                pieces: VecDeque::new(alloc),
-            };
-            Ok((form, next))
-        }
+        Ok((word, next)) => Ok((word, next)),
         Err(error) => Err(error),
     }
 }
 
-/// The term of a form that has closed, whose pieces it takes.
-fn term_of(alloc: Global, form: &mut Form) -> Result<Term, AllocError>
-    requires { Shaped form.old.word (sorts form.old.pieces.items) }
-    ensures { IfOk result (λ t. atoms_of t ≡ word form.old.word ∷ ends form.old.pieces.items) }
+/// A form of this word, of which nothing else has been read.
+fn new_form(alloc: Global, word: Word) -> Result<Box<Form>, AllocError>
+    ensures { IfOk result (λ f. IsBegun word f.value) }
 {
-    let pieces = mem::replace(&mut form.pieces, VecDeque::new(alloc));
-    build(alloc, form.word, pieces)
+    let form = Form {
+        word,
+        next: 0,
+        scope: 0,
+        bound: Vec::new(alloc),
+        pieces: VecDeque::new(alloc),
+    };
+    let form = Box::new(alloc, form)?;
+    Ok(form)
+}
+
+/// The same, in the room of a form that has closed, if there is one.
+fn next_form(
+    alloc: Global,
+    word: Word,
+    closed: &mut Vec<Box<Form>>,
+) -> Result<Box<Form>, AllocError>
+    ensures { IfOk result (λ f. IsBegun word f.value) }
+{
+    match closed.pop() {
+        Some(mut form) => {
+            form.word = word;
+            form.next = 0;
+            form.bound.clear();
+            form.pieces.clear();
+            Ok(form)
+        }
+        None => new_form(alloc, word),
+    }
+}
+
+/// The whole term's form alone.
+fn opened(alloc: Global, word: Word) -> Result<Open, AllocError>
+    ensures form { IfOk result (λ o. IsBegun word o.form.value) }
+    ensures around { IfOk result (λ o. o.around.items ≡ []) }
+    ensures scope { IfOk result (λ o. o.scope.items ≡ []) }
+{
+    let form = new_form(alloc, word)?;
+    Ok(Open {
+        form,
+        around: Vec::new(alloc),
+        scope: Vec::new(alloc),
+        closed: Vec::new(alloc),
+    })
 }
 
 /// Goes on in the form around one that has closed, if there is one.
-fn resume(
-    alloc: Global,
-    form: &mut Form,
-    around: &mut Vec<Form>,
-    next: usize,
-) -> Result<Turn, AllocError>
-    requires { Shaped form.old.word (sorts form.old.pieces.items) }
-    ensures { (text : List ℕ) (at : ℕ) → IsStack text at form.old around.old.items → Closes text at form.old next →
-        at < next → next ≤ length text → IfOk result (Turned text at form.new around.new.items) }
+fn resume(alloc: Global, open: &mut Open, next: usize) -> Result<Turn, AllocError>
+    requires { Shaped open.old.form.value.word (sorts open.old.form.value.pieces.items) }
+    ensures { (text : List ℕ) (at : ℕ) → AreOpen text at open.old →
+        Closes text at (innermost open.old.scope.items open.old.form.value) next → at < next →
+        next ≤ length text → IfOk result (Turned text at open.new) }
 {
-    let term = term_of(alloc, form)?;
-    let Some(outer) = around.pop() else {
+    let word = open.form.word;
+    let term = build(alloc, word, &mut open.form.pieces)?;
+    let Some(outer) = open.around.pop() else {
         return Ok(Turn::Done(term, next));
     };
     let part = outer.next;
-    *form = outer;
-    with_piece(form, Piece::Term(term), part)?;
+    open.scope.truncate(outer.scope);
+    let form = mem::replace(&mut open.form, outer);
+    // Where there is no room to keep it, it is let go.
+    let _ = open.closed.push(form);
+    with_piece(&mut open.form, Piece::Term(term), part)?;
     Ok(Turn::More(next))
 }
 
 /// Goes on after a step of the innermost form.
-fn apply(
-    alloc: Global,
-    step: Step,
-    form: &mut Form,
-    around: &mut Vec<Form>,
-) -> Result<Turn, AllocError>
-    requires { Buildable form.old step }
-    ensures { (text : List ℕ) (at depth : ℕ) (before : Form) → IsStack text at before around.old.items →
-        depth ≡ length around.old.items + 1 → Stepped text at depth before form.old step →
-        IfOk result (Turned text at form.new around.new.items) }
+fn apply(alloc: Global, step: Step, open: &mut Open) -> Result<Turn, AllocError>
+    requires { Buildable open.old.form.value step }
+    ensures { (text : List ℕ) (at depth : ℕ) (scope : List Binding) (form : Form) →
+        IsOpen text at scope form open.old.around.items → depth ≡ length open.old.around.items + 1 →
+        Stepped text at depth scope form open.old.scope.items open.old.form.value step →
+        IfOk result (Turned text at open.new) }
 {
     match step {
         Step::Read(next) => Ok(Turn::More(next)),
-        Step::Opened(inner, next) => {
-            let outer = mem::replace(form, inner);
-            around.push(outer)?;
+        Step::Opened(word, next) => {
+            let inner = next_form(alloc, word, &mut open.closed)?;
+            let outer = mem::replace(&mut open.form, inner);
+            open.around.push(outer)?;
             Ok(Turn::More(next))
         }
-        Step::Closed(next) => resume(alloc, form, around, next),
+        Step::Closed(next) => resume(alloc, open, next),
     }
 }
 
 /// Reads one token, or the two that open a form.
-fn read_token(
-    alloc: Global,
-    text: &[u8],
-    at: usize,
-    form: &mut Form,
-    around: &mut Vec<Form>,
-) -> Result<Turn, ParseError>
-    requires stack { IsStack text.now at form.old around.old.items }
+fn read_token(alloc: Global, text: &[u8], at: usize, open: &mut Open) -> Result<Turn, ParseError>
+    requires forms { AreOpen text.now at open.old }
     requires short { length text.now ≤ 65536 }
-    ensures found { IfOk result (Turned text.now at form.new around.new.items) }
+    ensures found { IfOk result (Turned text.now at open.new) }
     ensures fault { IfErr result (λ e. Fails e (reads_at text.now 0 (term [] ∷ []))) }
 {
-    let depth = around.len() + 1;
-    match advance(alloc, text, at, form, depth) {
-        Ok(step) => Ok(apply(alloc, step, form, around)?),
+    let depth = open.around.len() + 1;
+    match advance(text, at, &mut open.scope, &mut open.form, depth) {
+        Ok(step) => Ok(apply(alloc, step, open)?),
         Err(error) => Err(error),
     }
 }
@@ -136,10 +177,10 @@ fn whole(alloc: Global, text: &[u8]) -> Result<(Term, usize), ParseError>
     ensures found { IfOk result (λ r. IsWhole text.now r.0 r.1) }
     ensures fault { IfErr result (λ e. Fails e (reads_at text.now 0 (term [] ∷ []))) }
 {
-    let (mut form, mut at) = first_form(alloc, text)?;
-    let mut around = Vec::new(alloc);
+    let (word, mut at) = first_word(text)?;
+    let mut open = opened(alloc, word)?;
     'tokens: loop {
-        match read_token(alloc, text, at, &mut form, &mut around) {
+        match read_token(alloc, text, at, &mut open) {
             Ok(Turn::More(next)) => at = next,
             Ok(Turn::Done(term, end)) => return Ok((term, end)),
             Err(error) => return Err(error),

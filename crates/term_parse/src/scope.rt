@@ -1,17 +1,19 @@
 //! The binders in scope.
 
 ghost use Rattle.std.specs.Prelude.{◌≡◌, ◌≢◌, ◌↔◌, ◌≤◌, ◌+◌, ◌<◌, ◌^◌, ℕ, List, Ok, Err, IfOk, IfSome, IfNone, ◌++◌};
-ghost use Rattle.std.specs.Prelude.{length, slice_range};
+ghost use Rattle.std.specs.Prelude.{length, slice_range, take};
 ghost use Rattle.std.specs.Str.{bytes_eq};
 ghost use Rattle.effect_term.specs.declared.term.Name as names;
 ghost use Rattle.term_parse.specs.Innermost.{Unspelled, IsInnermost};
-ghost use Rattle.term_parse.specs.Reading.{find_from, same_kind, meaning, entered, picked};
-ghost use Rattle.term_parse.specs.Bindings.{bounds, InText};
+ghost use Rattle.effect_term.specs.Names.{same_kind};
+ghost use Rattle.term_parse.specs.Reading.{find_from, meaning, entered, picked};
+ghost use Rattle.term_parse.specs.Bindings.{bounds, hash_of, InText};
 
 use crate::error::ParseError;
+use crate::spelling::is_same;
 use crate::table::Part;
 use effect_term::{Kind, Name};
-use std::alloc::{AllocError, Global};
+use std::alloc::AllocError;
 
 /// A binder: where its spelling stands in the text, and what it binds.
 #[derive(Clone, Copy, Debug)]
@@ -19,28 +21,44 @@ pub(crate) struct Binding {
     pub start: usize,
     pub end: usize,
     pub kind: Kind,
+    /// The hash of its spelling.
+    pub hash: u32,
 }
 
-/// Whether this is how the binder is spelled.
-#[tactic(auto, using(crate::proofs::LastBinder::other_length))]
-fn is_spelled(text: &[u8], binding: Binding, spelling: &[u8]) -> bool
-    requires { (binding.start ≤ binding.end) × (binding.end ≤ length text.now) }
+/// A number for a spelling, which few others have.
+#[tactic(auto, unfolding(crate::specs::Bindings::hash_of))]
+pub(crate) fn hash_of(spelling: &[u8]) -> u32
+    ensures { result ≡ hash_of spelling.now }
+{
+    spelling.iter().fold(
+        0u32,
+        |hash, byte| hash.wrapping_mul(31).wrapping_add(u32::from(*byte)),
+    )
+}
+
+/// Whether this is how the binder is spelled. The spelling's hash is given.
+#[tactic(auto, using(crate::proofs::LastBinder::other_hash))]
+#[inline(always)]
+fn is_spelled(text: &[u8], binding: Binding, spelling: &[u8], hash: u32) -> bool
+    requires within { (binding.start ≤ binding.end) × (binding.end ≤ length text.now) }
+    requires hashed { binding.hash ≡ hash_of (slice_range text.now binding.start binding.end) }
+    requires hash { hash ≡ hash_of spelling.now }
     ensures { result ≡ bytes_eq (slice_range text.now binding.start binding.end) spelling.now }
 {
-    let bytes = &text[binding.start..binding.end];
-    bytes.len() == spelling.len() && bytes == spelling
+    binding.hash == hash && is_same(&text[binding.start..binding.end], spelling)
 }
 
 /// The innermost binder of a spelling, which is the last one.
-#[tactic(auto, using(crate::proofs::LastBinder::found_last, crate::proofs::LastBinder::found_around, crate::proofs::LastBinder::around_in_text, crate::proofs::LastBinder::last_in_text, crate::proofs::LastBinder::found_none))]
+#[tactic(auto, using(crate::proofs::LastBinder::found_last, crate::proofs::LastBinder::found_around, crate::proofs::LastBinder::around_in_text, crate::proofs::LastBinder::last_in_text, crate::proofs::LastBinder::last_hashed, crate::proofs::LastBinder::found_none))]
 fn innermost(text: &[u8], scope: &[Binding], spelling: &[u8]) -> Option<Name>
     requires few { length scope.now < 2 ^ 32 }
     requires within { InText text.now scope.now }
     ensures { result ≡ find_from 0 (bounds text.now scope.now) spelling.now }
 {
+    let hash = hash_of(spelling);
     let mut left = scope;
     while let Some((binding, around)) = left.split_last() {
-        if is_spelled(text, *binding, spelling) {
+        if is_spelled(text, *binding, spelling, hash) {
             return Some(Name {
                 slot: around.len() as u32,
                 kind: binding.kind,
@@ -95,61 +113,47 @@ pub(crate) fn meaning(
     }
 }
 
-/// The scope, and the binder of this index where there is one.
+/// Adds the binder of this index to the scope, where there is one.
 #[tactic(auto, unfolding(crate::specs::Reading::picked))]
-fn picked(
-    mut scope: Vec<Binding>,
-    bound: &[Binding],
-    index: usize,
-) -> Result<Vec<Binding>, AllocError>
-    ensures few { IfOk result (λ v. length v.items ≤ length scope.items + 1) }
-    ensures within { (text : List ℕ) → InText text scope.items → InText text bound.now →
-        IfOk result (λ v. InText text v.items) }
-    ensures picked { (text : List ℕ) → IfOk result (λ v. bounds text v.items ≡ bounds text scope.items ++
-        picked (bounds text bound.now) index) }
+fn pick(scope: &mut Vec<Binding>, bound: &[Binding], index: usize) -> Result<(), AllocError>
+    ensures few { IfOk result (λ _. length scope.new.items ≤ length scope.old.items + 1) }
+    ensures kept { IfOk result (λ _. take (length scope.old.items) scope.new.items ≡ scope.old.items) }
+    ensures longer { IfOk result (λ _. length scope.old.items ≤ length scope.new.items) }
+    ensures within { (text : List ℕ) → InText text scope.old.items → InText text bound.now →
+        IfOk result (λ _. InText text scope.new.items) }
+    ensures picked { (text : List ℕ) → IfOk result (λ _. bounds text scope.new.items ≡
+        bounds text scope.old.items ++ picked (bounds text bound.now) index) }
 {
     match bound.get(index) {
         Some(binding) => {
             scope.push(*binding)?;
-            Ok(scope)
+            Ok(())
         }
-        None => Ok(scope),
+        None => Ok(()),
     }
 }
 
-/// The scope again, with room for the two binders that a part may add.
-fn with_room(alloc: Global, scope: &[Binding]) -> Result<Vec<Binding>, AllocError>
-    ensures items { IfOk result (λ v. v.items ≡ scope.now) }
-{
-    if scope.is_empty() {
-        return Ok(Vec::new(alloc));
-    }
-    let mut inner = Vec::with_capacity(alloc, scope.len().saturating_add(2))?;
-    inner.extend_from_slice(scope)?;
-    Ok(inner)
-}
-
-/// The binders that enclose a term: those around its form, and of the form's own those that the part names.
-#[tactic(auto, unfolding(crate::specs::Reading::entered))]
-pub(crate) fn entered(
-    alloc: Global,
-    scope: &[Binding],
+/// Adds the binders that enclose a term, apart from those around its form: of the form's own those that
+/// the part names.
+#[tactic(auto, unfolding(crate::specs::Reading::entered), using(crate::proofs::PickedBinders::kept_twice))]
+pub(crate) fn enter(
+    scope: &mut Vec<Binding>,
     bound: &[Binding],
     part: Part,
-) -> Result<Vec<Binding>, AllocError>
-    ensures few { IfOk result (λ v. length v.items ≤ length scope.now + 2) }
-    ensures within { (text : List ℕ) → InText text scope.now → InText text bound.now →
-        IfOk result (λ v. InText text v.items) }
-    ensures entered { (text : List ℕ) → IfOk result (λ v. bounds text v.items ≡ entered (bounds text scope.now)
-        (bounds text bound.now) part) }
+) -> Result<(), AllocError>
+    ensures few { IfOk result (λ _. length scope.new.items ≤ length scope.old.items + 2) }
+    ensures kept { IfOk result (λ _. take (length scope.old.items) scope.new.items ≡ scope.old.items) }
+    ensures within { (text : List ℕ) → InText text scope.old.items → InText text bound.now →
+        IfOk result (λ _. InText text scope.new.items) }
+    ensures entered { (text : List ℕ) → IfOk result (λ _. bounds text scope.new.items ≡
+        entered (bounds text scope.old.items) (bounds text bound.now) part) }
 {
-    let inner = with_room(alloc, scope)?;
     match part {
-        Part::Under(i) => picked(inner, bound, i),
+        Part::Under(i) => pick(scope, bound, i),
         Part::UnderBoth(i, j) => {
-            let inner = picked(inner, bound, i)?;
-            picked(inner, bound, j)
+            pick(scope, bound, i)?;
+            pick(scope, bound, j)
         }
-        _ => Ok(inner),
+        _ => Ok(()),
     }
 }

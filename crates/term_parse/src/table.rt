@@ -6,9 +6,10 @@
 
 ghost use Rattle.std.specs.Prelude.{◌≡◌, ◌<◌, ◌≤◌, ℕ, suc, length, find};
 ghost use Rattle.std.specs.Str.{bytes_eq};
-ghost use Rattle.term_parse.specs.Language.{every_word, word_spelling, parts_of, word_of};
+ghost use Rattle.term_parse.specs.Language.{word_spelling, parts_of, word_of};
 ghost use Rattle.term_parse.specs.Lookup.{words_from};
 
+use crate::spelling::is_same;
 use effect_term::Kind;
 
 /// The 32 words of the language. Each variant is the word of its own name in small letters.
@@ -244,10 +245,12 @@ fn words_from(first: u8) -> &'static [Word]
 fn spelled_so(words: &[Word], spelling: &[u8]) -> Option<Word>
     ensures { result ≡ find (λ w. bytes_eq (word_spelling w) spelling.now) words.now }
 {
-    words
-        .iter()
-        .copied()
-        .find(|word| spelling_of(*word) == spelling)
+    for word in words {
+        if is_same(spelling_of(*word), spelling) {
+            return Some(*word);
+        }
+    }
+    None
 }
 
 /// The word that is spelled so, if there is one.

@@ -151,6 +151,7 @@ fn number(run: &[u8]) -> Option<i32>
 
 /// What the token is that begins with this byte and, if it is an identifier or a number, has these.
 #[tactic(auto, unfolding(crate::specs::Seen::lexeme_as, crate::specs::Lexemes::numbered))]
+#[inline(always)]
 fn kind_of(first: u8, run: &[u8]) -> TokenKind
     ensures { seen_kind run.now result ≡ lexeme_as first run.now }
 {
@@ -171,6 +172,7 @@ fn kind_of(first: u8, run: &[u8]) -> TokenKind
 }
 
 /// The token of these bytes.
+#[inline(always)]
 fn token_of(text: &[u8], start: usize, end: usize) -> Token
     requires within { (start < end) × (end ≤ length text.now) }
     ensures place { result ≡ record { kind = result.kind; start = start; end = end } }

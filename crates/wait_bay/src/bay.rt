@@ -86,6 +86,7 @@ impl<'a> Bay<'a> {
     }
 
     /// How many fibers the bay has slots for.
+    #[inline(always)]
     pub fn fibers(&self) -> u16
         ensures { result ≡ self.now.fibers }
     {
@@ -93,6 +94,7 @@ impl<'a> Bay<'a> {
     }
 
     /// Whether the bay has a list for the topic. `Never` needs none.
+    #[inline(always)]
     pub fn has(&self, topic: Topic) -> bool
         ensures { IsTrue result ↔ IsWithin self.now topic }
     {

@@ -31,6 +31,7 @@ impl Slot {
 
     /// Takes in a task, and answers whether its number is to be queued: where it is `ready`, or a
     /// wake came since it was taken. Refuses where a task is here already.
+    #[inline(always)]
     pub fn put(&mut self, ready: bool) -> Result<bool, IsFull>
         ensures refused { IsErr result ↔ IsTrue self.old.full }
         ensures unchanged { OnErr result (self.new ≡ self.old) }
@@ -47,6 +48,7 @@ impl Slot {
 
     /// Lets the task go, and with it the wakes so far. Answers whether one was here, and changes
     /// nothing where none was.
+    #[inline(always)]
     pub fn take(&mut self) -> bool
         ensures value { result ≡ self.old.full }
         ensures taken { IsTrue result → self.new ≡ record { full = false; woken = false } }
@@ -62,6 +64,7 @@ impl Slot {
 
     /// Notes a wake, and answers whether the number is to be queued: where the task is here and no
     /// wake came before. A wake of a task that a worker has is told by the next `put`.
+    #[inline(always)]
     pub fn wake(&mut self) -> bool
         ensures slot { self.new ≡ record self.old { woken = true } }
         ensures value { IsTrue result ↔ ((self.old.woken ≡ false) × IsTrue self.old.full) }

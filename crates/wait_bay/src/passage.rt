@@ -19,6 +19,7 @@ impl<'a> Bay<'a> {
     /// A refused task comes back, and its slot is as it was: `WrongSlot` where the task is another
     /// fiber's, else `Occupied` where a task is in the slot, or the slot is with somebody else. Takes
     /// no memory.
+    #[inline(always)]
     pub fn put(
         &self,
         rt: &impl Wait,
@@ -63,6 +64,7 @@ impl<'a> Bay<'a> {
 
     /// Takes the task of a fiber, and with it the wakes so far. Answers `None` where no task is in
     /// the slot, or the slot is with somebody else. Takes no memory.
+    #[inline(always)]
     pub fn take(&self, rt: &impl Wait, seat: &mut BaySeat<'a>, f: u16) -> Option<FiberTask<'a>>
         requires here { IsSeatOf self.now seat.old }
         requires within { f < self.now.fibers }
@@ -87,6 +89,7 @@ impl<'a> Bay<'a> {
     /// Wakes a fiber, and answers whether the caller is to queue its number: where its task is in
     /// its slot and no wake came before. Where a worker has the task, its next `put` tells of the
     /// wake. Takes no memory.
+    #[inline(always)]
     pub fn wake(&self, rt: &impl Wait, f: u16) -> bool
         requires within { f < self.now.fibers }
     {
@@ -95,6 +98,7 @@ impl<'a> Bay<'a> {
 
     // Lays a task into its slot, if the slot is at home and empty. Else the task comes back, and the
     // slot has what it had.
+    #[inline(always)]
     fn lay(&self, seat: &mut BaySeat<'a>, f: u16, task: FiberTask<'a>) -> Option<FiberTask<'a>>
         requires here { IsSeatOf self.now seat.old }
         requires within { f < self.now.fibers }
@@ -121,6 +125,7 @@ impl<'a> Bay<'a> {
     }
 
     // Takes a slot out, if it is at home. It is tried once: who has it is putting or taking.
+    #[inline(always)]
     fn take_out(&self, seat: &mut Seat<Option<FiberTask<'a>>, Knowledge>, f: u16) -> bool
         requires here { seat.old.table_id ≡ self.now.table }
         requires free { seat.old.me.1 ≡ [] }
@@ -139,6 +144,7 @@ impl<'a> Bay<'a> {
     }
 
     // Gives a slot back, with what may lie there.
+    #[inline(always)]
     fn give_back(&self, seat: &mut Seat<Option<FiberTask<'a>>, Knowledge>, f: u16)
         requires here { seat.old.table_id ≡ self.now.table }
         requires out { (y : Option TaskView) × (seat.old.me.1 ≡ (f, y) ∷ []) × MayLie seat.old.me.0.named f y }

@@ -1,4 +1,4 @@
-use Rattle.std.proofs.Common.{◌≡◌, ◌∙◌, ◌++◌, ap, map, OnOk, codes, string_bytes, rules, arith}
+use Rattle.std.proofs.Common.{◌≡◌, ◌∙◌, ap, map, rules, arith}
 use Rattle.std.proofs.lemmas.Result.{on_ok_weaker}
 use Rattle.derived_ops.specs.declared.core_term.Core.TheViews.{the_lemmas}
 use Rattle.derived_ops.specs.Cores.{maker_in_core, tree_of}
@@ -13,7 +13,8 @@ pub push_core-returns-in-Uncancelable : goal.push_core-returns-in-Uncancelable
 push_core-returns-in-Uncancelable t c =
     let part_is : c.in-Uncancelable.e.value ≡ c.deref-in-Uncancelable.result.now = cc in
     on_ok_weaker c.push_one-in-Uncancelable.result (λ h.
-    uncancelable-pushed (string_bytes c.args.text.now) (string_bytes c.push_one-in-Uncancelable.new.text) (tree_of c.args.core.now) (tree_of c.deref-in-Uncancelable.result.now) c.in-Uncancelable.p
+    uncancelable-pushed c.args.text.now.items c.push_one-in-Uncancelable.new.text.items (tree_of c.args.core.now)
+    (tree_of c.deref-in-Uncancelable.result.now) c.in-Uncancelable.p
     h (ap tree_of c.in-Uncancelable.is ∙ ap (λ k. Uncancelable c.in-Uncancelable.p (tree_of k)) part_is)) c.push_one-in-Uncancelable.ensures
 
 pub push_core-returns-in_ok-push_maker-in-Make : goal.push_core-returns-in_ok-push_maker-in-Make
@@ -21,7 +22,8 @@ push_core-returns-in_ok-push_maker-in-Make t c =
     let k = c.deref-in-Make.result.now in
     let is : tree_of c.args.core.now ≡ Make (maker_in_core c.in-Make.maker) c.in-Make.slot (tree_of k) = rw c.deref-in-Make.ensures (ap tree_of c.in-Make.is) in
     on_ok_weaker c.push_one-in-Make.result (λ h.
-    made-pushed (string_bytes c.args.text.now) (string_bytes c.push_maker.new.text) (string_bytes c.push_one-in-Make.new.text) (tree_of c.args.core.now) (tree_of k) (maker_in_core c.in-Make.maker) c.in-Make.slot
+    made-pushed c.args.text.now.items c.push_maker.new.text.items c.push_one-in-Make.new.text.items
+    (tree_of c.args.core.now) (tree_of k) (maker_in_core c.in-Make.maker) c.in-Make.slot
     c.in_ok-push_maker-in-Make.ensures h is) c.push_one-in-Make.ensures
 
 pub push_core-push_sequence-requires : goal.push_core-push_sequence-requires
@@ -46,7 +48,6 @@ push_sequence-push_part-requires-in-loop-part t c =
 
 pub push_sequence-returns : goal.push_sequence-returns
 push_sequence-returns t c =
-    let closed : OnOk c.push_str.result (string_bytes c.push_str.new.self ≡ string_bytes c.loop-part.text ++ codes ")") = search rules in
-    on_ok_weaker c.push_str.result (λ h.
-    sequence-pushed (string_bytes c.args.text.now) (string_bytes c.loop-part.text) (string_bytes c.push_str.new.self) (tree_of c.args.first.now) (tree_of c.args.second.now) c.args.more.now c.loop-part.part-index
-    c.loop-part-test.false c.loop-part.invariant h) closed
+    sequence-pushed c.args.text.now.items c.loop-part.text.items c.push.new.self.items (tree_of c.args.first.now)
+    (tree_of c.args.second.now) c.args.more.now c.loop-part.part-index
+    c.loop-part-test.false c.loop-part.invariant c.in_ok-push.ensures.items

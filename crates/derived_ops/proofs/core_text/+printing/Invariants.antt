@@ -1,4 +1,4 @@
-use Rattle.std.proofs.Common.{◌≡◌, ◌+◌, ◌*◌, ◌++◌, map, drop, codes, string_bytes}
+use Rattle.std.proofs.Common.{◌≡◌, ◌+◌, ◌*◌, ◌++◌, map, drop, codes}
 use Rattle.derived_ops.specs.Cores.{tree_of}
 use Rattle.derived_ops.specs.CoreText.{core_text}
 use Rattle.derived_ops.specs.Private.Sequences.{texts_behind}
@@ -22,4 +22,6 @@ decreases-push_sequence l = 4 * (weight (tree_of l.first.now) + weight (tree_of 
 
 abbrev pub invariant-push_sequence-loop-part : goal.invariant-push_sequence-loop-part
 invariant-push_sequence-loop-part l =
-    string_bytes l.text ++ texts_behind (drop l.part-index l.more) ≡ string_bytes l.fn.text ++ (codes "(seq " ++ (core_text (tree_of l.first) ++ (codes " " ++ (core_text (tree_of l.second) ++ texts_behind l.more))))
+    l.text.items ++ texts_behind (drop l.part-index l.more) ≡ l.fn.text.items ++
+    (codes "(seq " ++ (core_text (tree_of l.first) ++
+    (codes " " ++ (core_text (tree_of l.second) ++ texts_behind l.more))))

@@ -1,4 +1,4 @@
-use Rattle.std.proofs.Common.{ap, string_bytes}
+use Rattle.std.proofs.Common.{ap}
 use Rattle.std.proofs.lemmas.Result.{on_ok_weaker}
 use Rattle.derived_ops.specs.Cores.{action_in_core, value_in_core}
 use Rattle.derived_ops.proofs.Texts.{complete-pushed}
@@ -7,5 +7,7 @@ use Rattle.derived_ops.proofs.core_text.push_action.Goals as goal
 pub returns-in_ok-push_head-in-Complete : goal.returns-in_ok-push_head-in-Complete
 returns-in_ok-push_head-in-Complete c =
     on_ok_weaker c.push_word-in-Complete.result (λ h.
-    complete-pushed (string_bytes c.args.text.now) (string_bytes c.push_head-in-Complete.new.text) (string_bytes c.push_word-in-Complete.new.text) (action_in_core c.args.action) c.in-Complete.slot (value_in_core c.in-Complete.v)
+    complete-pushed c.args.text.now.items c.push_head-in-Complete.new.text.items
+    c.push_word-in-Complete.new.text.items (action_in_core c.args.action) c.in-Complete.slot
+    (value_in_core c.in-Complete.v)
     c.in_ok-push_head-in-Complete.ensures h (ap action_in_core c.in-Complete.is)) c.push_word-in-Complete.ensures

@@ -1,7 +1,7 @@
 use Rattle.std.proofs.Common.{◌++◌, ◌∙◌, ap, sym, subst, arith}
 use Rattle.std.proofs.lemmas.Result.{on_ok_weaker}
 use Rattle.term_parse.specs.Pieces.{Suffice}
-use Rattle.term_parse.proofs.Parts.{appended, close_text, more_text, bind_text, piece_text, form_text}
+use Rattle.term_parse.proofs.Parts.{appended, followed, close_text, more_text, bind_text, piece_text, form_text}
 use Rattle.term_parse.specs.Spelling.{spelling}
 use Rattle.term_parse.proofs.MoreTerms.{weight_at, next_text, next_numbers}
 use Rattle.term_parse.proofs.PrintedNumbers.{close_numbers, more_numbers, piece_numbers}
@@ -17,10 +17,11 @@ pub write_parts-returns-in-More-clause-text : goal.write_parts-returns-in-More-c
 write_parts-returns-in-More-clause-text t c =
     on_ok_weaker c.write_more.result (λ h. h ∙ ap (λ x. c.args.out.now.items ++ x) (sym (more_text c.args.parts.now _ _ _ _ _ c.in-len1-up.len_at_least c.in-More.is))) c.write_more.ensures.text
 
-pub write_parts-returns-in_ok-write_name-in-Bind-clause-text : goal.write_parts-returns-in_ok-write_name-in-Bind-clause-text
-write_parts-returns-in_ok-write_name-in-Bind-clause-text t c =
-    appended c.write_parts.result 32 _ _ _ _ _ _ _ c.write_parts.ensures.text c.in_ok-write_name-in-Bind.ensures c.in_ok-push-in-Bind.ensures.items
-    (bind_text c.args.parts.now _ c.in-Bind.kind _ _ _ _ _ c.in-len1-up.len_at_least c.in-Bind.is c.outer_binders.ensures.value)
+pub write_parts-returns-in_ok-write_binder-in-Bind-clause-text :
+    goal.write_parts-returns-in_ok-write_binder-in-Bind-clause-text
+write_parts-returns-in_ok-write_binder-in-Bind-clause-text t c =
+    followed c.write_parts.result _ _ _ _ _ _ c.write_parts.ensures.text c.in_ok-write_binder-in-Bind.ensures.text
+    (bind_text c.args.parts.now _ c.in-Bind.kind _ _ _ _ c.in-len1-up.len_at_least c.in-Bind.is)
 
 pub write_parts-returns-in_ok-write_piece-in_default-part : goal.write_parts-returns-in_ok-write_piece-in_default-part
 write_parts-returns-in_ok-write_piece-in_default-part t c = record {

@@ -1,11 +1,24 @@
-use Rattle.std.proofs.Common.{◌≡◌, length, arith}
-use Rattle.term_parse.proofs.Stacks.{stack_ends, stack_closes, none_left}
+use Rattle.std.proofs.Common.{◌≡◌, subst, rules}
+use Rattle.term_parse.specs.declared.form.Piece.TheVariants as pieces
+use Rattle.term_parse.specs.Forms.{Adds}
+use Rattle.term_parse.specs.OpenForms.{innermost}
+use Rattle.term_parse.proofs.OpenStacks.{open_closes}
 use Rattle.term_parse.proofs.reader.resume.Goals as goal
 
-pub returns-in_default : goal.returns-in_default
-returns-in_default c = λ text at s h l w.
-    let n : length c.args.around.now.items ≡ 0 = omega (arith, c.args.around.now.ok.0, c.in_default.ensures.cases.0) in
-    stack_ends text at c.args.next c.args.form.now c.args.around.now.items c.in_ok-term.term s (none_left c.args.around.now.items n) h c.in_ok-term.ensures w
-
 pub returns : goal.returns
-returns c = λ text at s h l w. (stack_closes text at c.args.next c.args.form.now c.in-Some.outer c.with_piece.new.form c.args.around.now.items c.pop.new.self.items c.in_ok-term.term s c.in-Some.ensures.items h c.in_ok-term.ensures c.in_ok-with_piece.ensures l w, l)
+returns c = λ text at o h l w.
+    let t = c.truncate.new.self.items in
+    let b = c.in-Some.outer in
+    let g = c.with_piece.new.form in
+    let same : c.deref_mut-2.result.now ≡ b.value = search rules in
+    let part : c.deref-2.result.now.next ≡ b.value.next = search rules in
+    let added = subst (λ n. Adds (innermost t c.deref_mut-2.result.now) (pieces.Term c.in_ok-term.term) n
+    (innermost t g)) part
+    (c.in_ok-with_piece.ensures t) in (
+      open_closes text at c.args.next c.args.open.now.scope.items t c.args.open.now.form.value g b
+          c.args.open.now.around.items c.pop.new.self.items c.in_ok-term.term o c.in-Some.ensures.items h (search rules)
+          (search rules) (subst (λ x. Adds (innermost t x) (pieces.Term c.in_ok-term.term) b.value.next
+          (innermost t g)) same added)
+          l w,
+      l,
+    )

@@ -1,5 +1,6 @@
 use Rattle.std.proofs.Common.{rules, arith, ap, ◌≡◌, ◌≤◌, ℕ, List, drop, length}
 use Rattle.std.proofs.lemmas.List.{drop_all}
+use Rattle.effect_term.proofs.Caps.{max_capped, one_above_capped}
 use Rattle.effect_term.proofs.Rows.{nests_of-row}
 use Rattle.effect_term.specs.Sizes.{deepest}
 use Rattle.effect_term.specs.declared.term.Term.{Term}
@@ -14,3 +15,18 @@ loop-t-init t c = search (rules, the_lemmas, nests_of-row)
 
 pub returns-after-loop-t : goal.returns-after-loop-t
 returns-after-loop-t t c = grind (arith, none_left c.loop-t.t-index c.deref-t-items.result.now)
+
+pub returns-in-BracketCase : goal.returns-in-BracketCase
+returns-in-BracketCase t c = grind (arith, max_capped, one_above_capped)
+
+pub returns-in-Join : goal.returns-in-Join
+returns-in-Join t c = grind (arith, max_capped, one_above_capped)
+
+pub returns-in-Guarantee : goal.returns-in-Guarantee
+returns-in-Guarantee t c = grind (arith, max_capped, one_above_capped)
+
+pub returns-in-OnCancel : goal.returns-in-OnCancel
+returns-in-OnCancel t c = grind (arith, max_capped, one_above_capped)
+
+pub returns-in-Let : goal.returns-in-Let
+returns-in-Let t c = grind (arith, max_capped, one_above_capped)

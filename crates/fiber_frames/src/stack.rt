@@ -1,0 +1,28 @@
+//! Pushes that look for room first, so that one with room is short.
+
+ghost use Rattle.std.specs.Prelude.{◌≡◌, ◌<◌, ◌++◌, ◌∷◌, [], vec_len, vec_capacity, OnOk, OnErr};
+
+use std::alloc::AllocError;
+
+/// Puts a value on a stack, or `AllocError` where memory is refused.
+#[inline(always)]
+pub(crate) fn push<T: Drop>(stack: &mut Vec<T>, value: T) -> Result<(), AllocError>
+    ensures items { OnOk result (stack.new.items ≡ stack.old.items ++ value ∷ []) }
+    ensures err { OnErr result (stack.new.items ≡ stack.old.items) }
+{
+    if stack.len() >= stack.capacity() {
+        grow(&mut *stack)?;
+    }
+    stack.push_reserved(value);
+    Ok(())
+}
+
+// Makes room for one more value.
+#[cold]
+#[inline(never)]
+fn grow<T: Drop>(stack: &mut Vec<T>) -> Result<(), AllocError>
+    ensures items { stack.new.items ≡ stack.old.items }
+    ensures room { OnOk result (vec_len stack.new < vec_capacity stack.new) }
+{
+    stack.reserve(1)
+}

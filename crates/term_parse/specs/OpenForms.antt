@@ -1,0 +1,45 @@
+-- The forms that are open. The binders around the innermost stand in one list, and those around an outer form are the
+-- first of them.
+use Rattle.std.specs.Prelude.{◌≡◌, ◌≤◌, ℕ, List, [], ◌∷◌, take, Box}
+use Rattle.std.specs.declared.alloc.Global.{Global}
+use Rattle.term_parse.specs.declared.table.Word.{Word}
+use Rattle.term_parse.specs.declared.scope.Binding.{Binding}
+use Rattle.term_parse.specs.declared.form.Piece.{Piece}
+use Rattle.term_parse.specs.declared.form.Form.{Form}
+
+-- a form whose closing bracket hasn't come: its word, the part that is wanted next, the binders around it and its own,
+-- and what its parts gave
+pub record OpenForm : Type 0 where
+  pub word : Word
+  pub next : ℕ
+  pub scope : List Binding
+  pub bound : List Binding
+  pub pieces : List Piece
+
+-- the innermost form
+abbrev pub innermost : List Binding → Form → OpenForm
+innermost scope f =
+    record { word = f.word; next = f.next; scope = scope; bound = f.bound.items; pieces = f.pieces.items }
+
+-- a form around it
+abbrev pub outer : List Binding → Form → OpenForm
+outer scope f = innermost (take f.scope scope) f
+
+abbrev pub outers : List Binding → List (Box Form Global) → List OpenForm
+outers scope [] = []
+outers scope (f ∷ fs) = outer scope f.value ∷ outers scope fs
+
+-- a form of which only the word has been read
+abbrev pub begun_form : Word → List Binding → OpenForm
+begun_form w scope = record { word = w; next = 0; scope = scope; bound = []; pieces = [] }
+
+pub record IsBegun (w : Word) (f : Form) : Type 0 where
+  pub word_is : f.word ≡ w
+  pub next_is : f.next ≡ 0
+  pub bound_is : f.bound.items ≡ []
+  pub pieces_are : f.pieces.items ≡ []
+
+-- the binders around these forms grow more from each to the next, from so many on up to so many
+abbrev pub Growing : ℕ → List (Box Form Global) → ℕ → Type 0
+Growing low [] high = low ≤ high
+Growing low (f ∷ fs) high = (low ≤ f.value.scope) × Growing f.value.scope fs high
