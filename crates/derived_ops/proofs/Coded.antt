@@ -1,12 +1,12 @@
 -- The expansion of a closed, well-kinded program names no fiber, ref or deferred but by the slot of a binder of its kind.
-use Rattle.std.proofs.Common.{◌≡◌, ◌≢◌, ℕ, zero, suc, ◌+◌, ◌≤◌, ◌<◌, List, [], ◌∷◌, ◌++◌, length, get_or, Option, Some, None, refl, sym, ap, ◌∙◌, subst, arith, slice_get, append_assoc, length-append}
+use Rattle.std.proofs.Common.{◌≡◌, ℕ, zero, suc, ◌+◌, List, [], ◌∷◌, ◌++◌, length, get_or, Some, refl, sym, subst, arith, slice_get, append_assoc, length-append}
 use Rattle.std.specs.Prelude.{pos}
 use Rattle.derived_ops.specs.Codes.{IsCode}
-use Rattle.derived_ops.specs.Expansion.{awaits, both, both_side, bracket_case, cancels_both, code_of, ended, expansion, gives_up, guarantee, nil, pair_race, race, race_side, runs_side, slot_at}
+use Rattle.derived_ops.specs.Expansion.{awaits, both_side, bracket_case, cancels_both, ended, expansion, guarantee, pair_race, race_side, runs_side, slot_at}
 use Rattle.derived_ops.specs.Reading.{seq_of, source_of}
 use Rattle.derived_ops.specs.Source.{Source}
 use Rattle.derived_ops.specs.Source as word
-use Rattle.derived_ops.specs.Tree.{Act, Complete, If0, Let, New_deferred, Number, Open_slot, Slot, Tree}
+use Rattle.derived_ops.specs.Tree.{Act, Complete, If0, Number, Open_slot, Slot, Tree}
 use Rattle.effect_term.specs.Kinds.{AllWellKinded, WellKinded}
 use Rattle.effect_term.specs.declared.term.Kind.{Kind}
 use Rattle.effect_term.specs.declared.term.Kind.TheVariants as kind

@@ -5,7 +5,6 @@ use Rattle.effect_term.specs.declared.term.Term.{Term, Row_of-Term, end_of-Term,
 use Rattle.effect_term.specs.declared.term.Term.TheVariants as term
 use Rattle.effect_term.specs.ExpansionSize.{expansion_size_of, expansion_sizes_of}
 use Rattle.effect_term.specs.Masks.{masks_of, most_masks_of}
-use Rattle.effect_term.specs.Programs.{IsProgram}
 use Rattle.derived_ops.specs.Tree.{Tree}
 use Rattle.derived_ops.specs.Source.{Source}
 use Rattle.derived_ops.specs.Reading.{source_of, seq_of}

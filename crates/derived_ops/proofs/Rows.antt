@@ -2,7 +2,7 @@
 use Rattle.std.proofs.Common.{◌≡◌, ℕ, ◌+◌, ◌≤◌, ◌<◌, zero, suc, List, [], ◌∷◌, map, length, get_or, ap, refl, arith}
 use Rattle.effect_term.specs.declared.term.Term.{Term, Row_of-Term, end_of-Term, more_of-Term, items-the_row-Term}
 use Rattle.effect_term.specs.ExpansionSize.{expansion_size_of, expansion_sizes_of, total_expansion_size}
-use Rattle.derived_ops.specs.declared.core_term.Core.{Core, Row_of-Core, end_of-Core, more_of-Core, items-the_row-Core}
+use Rattle.derived_ops.specs.declared.core_term.Core.{Row_of-Core, end_of-Core, more_of-Core, items-the_row-Core}
 use Rattle.derived_ops.specs.Cores.{tree_of, sequence_of}
 use Rattle.derived_ops.specs.Expansion.{expansion}
 use Rattle.derived_ops.specs.Private.Sequences.{sources_in_order, trees_in_order}

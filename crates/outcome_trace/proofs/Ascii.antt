@@ -1,5 +1,5 @@
 -- Numbers with their signs are text of single bytes, and short.
-use Rattle.std.proofs.Common.{◌^◌, ◌<◌, ℤ, pos, negsuc, FitsSigned, arith}
+use Rattle.std.proofs.Common.{ℤ, pos, negsuc, FitsSigned, arith}
 use Rattle.std.specs.Int.{w32}
 use Rattle.std.specs.Fmt.{signed_decimal}
 use Rattle.std.specs.Str.{IsAscii}

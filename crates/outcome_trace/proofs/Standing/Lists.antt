@@ -1,8 +1,7 @@
 -- Lists, one element longer or changed.
-use Rattle.std.proofs.Common.{◌≡◌, ◌≢◌, ℕ, zero, suc, ◌+◌, ◌<◌, ◌≤◌, Bool, true, false, List, [], ◌∷◌, ◌++◌, length, set, refl, sym, ap, ◌∙◌, subst, arith, append_assoc, append-nil}
-use Rattle.std.specs.Prelude.{Option, Some, None}
+use Rattle.std.proofs.Common.{◌≡◌, ℕ, zero, suc, List, [], ◌∷◌, ◌++◌, length, set, refl, sym, ap, subst, arith, append_assoc, append-nil}
+use Rattle.std.specs.Prelude.{Some}
 use Rattle.std.specs.List.{slice_get}
-use mathlib.Core.List.{IsPrefix}
 
 pub put_back : {A : Type 0} (xs : List A) (f : ℕ) (a : A) → slice_get xs f ≡ Some a → set xs f a ≡ xs
 put_back [] f a e = refl

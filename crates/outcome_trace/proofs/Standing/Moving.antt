@@ -1,5 +1,5 @@
 -- Where a fiber stands after a turn.
-use Rattle.std.proofs.Common.{◌≡◌, ◌≢◌, ℕ, zero, suc, ◌+◌, ◌<◌, ◌≤◌, Bool, true, false, List, [], ◌∷◌, ◌++◌, refl, sym, ap, ◌∙◌, subst, arith, append_assoc, append-nil, eqb, eq-eqb, ne_eqb}
+use Rattle.std.proofs.Common.{◌≡◌, ℕ, zero, suc, Bool, List, [], ◌∷◌, ◌++◌, refl, sym, ap, ◌∙◌, subst, append_assoc, append-nil, eqb, eq-eqb, ne_eqb}
 use Rattle.std.specs.Prelude.{cond}
 use Rattle.std.proofs.lemmas.List.{append_cancel_left}
 use Rattle.std.proofs.lemmas.List.Elements.{filter-append}
@@ -8,15 +8,12 @@ use mathlib.Core.Logic.{dite}
 use native.Mathlib.Decide.{ℕ_discrete}
 use Rattle.cell_registry.specs.declared.call.Entry.{Entry}
 use Rattle.cell_registry.specs.declared.call.Call.TheVariants.{Start}
-use Rattle.effect_term.specs.declared.reply.Reply.{Reply}
 use Rattle.effect_term.specs.declared.reply.Reply.TheVariants.{Done, Number}
 use Rattle.cell_registry.specs.Histories.{calls_by}
 use Rattle.derived_ops.specs.Tree.{Tree}
-use Rattle.fiber_frames.specs.Fiber.{Fiber, begins, child, move}
-use Rattle.fiber_frames.specs.Rows.{number_in}
-use Rattle.outcome_trace.specs.declared.wish.Wish.{Wish}
-use Rattle.outcome_trace.specs.declared.wish.Wish.TheVariants.{Shared, Alone, Nothing}
-use Rattle.outcome_trace.specs.Stands.{Alone_on, Begins, Calls, Opens, Rests, Stands, wish}
+use Rattle.fiber_frames.specs.Fiber.{Fiber, move}
+use Rattle.outcome_trace.specs.declared.wish.Wish.TheVariants.{Shared, Alone}
+use Rattle.outcome_trace.specs.Stands.{Alone_on, Begins, Calls, Rests, Stands, wish}
 use Rattle.outcome_trace.proofs.Standing.Led.{Bore, Later, Led, Reaches}
 use Rattle.outcome_trace.proofs.Standing.Places.{later-push, later-join}
 

@@ -1,18 +1,15 @@
 -- Where fibers can stand.
-use Rattle.std.proofs.Common.{◌≡◌, ◌≢◌, ℕ, zero, suc, ◌+◌, ◌<◌, ◌≤◌, List, [], ◌∷◌, ◌++◌, refl, sym, ap, ◌∙◌, subst, arith}
+use Rattle.std.proofs.Common.{◌≡◌, ◌≢◌, ℕ, zero, suc, ◌<◌, List, [], ◌∷◌, ◌++◌, refl, sym, ap, ◌∙◌, subst, arith}
 use Rattle.cell_registry.specs.declared.limits.Limits.{Limits}
 use Rattle.cell_registry.specs.declared.call.Entry.{Entry}
 use Rattle.cell_registry.specs.declared.call.Call.{Call}
 use Rattle.cell_registry.specs.declared.call.Call.TheVariants.{Start}
-use Rattle.effect_term.specs.declared.reply.Reply.{Reply}
 use Rattle.effect_term.specs.declared.reply.Reply.TheVariants.{Done, Number}
-use Rattle.cell_registry.specs.Cells.{Cells, after, reply_of}
-use Rattle.cell_registry.specs.Histories.{MayFollow, left, IsLegal}
+use Rattle.cell_registry.specs.Cells.{Cells, reply_of}
+use Rattle.cell_registry.specs.Histories.{MayFollow, left}
 use Rattle.derived_ops.specs.Tree.{Tree}
 use Rattle.fiber_frames.specs.Fiber.{Fiber, begins, child, move}
-use Rattle.fiber_frames.specs.Rows.{number_in}
-use Rattle.outcome_trace.specs.declared.wish.Wish.{Wish}
-use Rattle.outcome_trace.specs.declared.wish.Wish.TheVariants.{Shared, Alone, Nothing}
+use Rattle.outcome_trace.specs.declared.wish.Wish.TheVariants.{Shared, Alone}
 use Rattle.outcome_trace.specs.Stands.{Alone_on, Begins, Calls, Opens, Rests, Stands, wish}
 use Rattle.outcome_trace.proofs.Standing.Led.{Later}
 use Rattle.outcome_trace.proofs.Standing.Lists.{end_left, end_right, end_none}

@@ -1,8 +1,8 @@
 -- Every report is some schedule's.
-use Rattle.std.proofs.Common.{◌≡◌, ◌≢◌, ℕ, zero, suc, ◌+◌, ◌<◌, ◌≤◌, List, [], ◌∷◌, ◌++◌, length, set, get_or, replicate, refl, sym, ap, ◌∙◌, subst, arith, length-set, append_assoc, append-nil}
+use Rattle.std.proofs.Common.{◌≡◌, ◌≢◌, ℕ, zero, suc, ◌+◌, ◌<◌, List, [], ◌∷◌, ◌++◌, length, set, get_or, replicate, refl, sym, ap, ◌∙◌, subst, arith, length-set, append_assoc}
 use Rattle.std.proofs.lemmas.List.{set-set, length-append}
 use Rattle.std.proofs.lemmas.Option.{same_Some, slice_get-get_or}
-use Rattle.std.specs.Prelude.{Option, Some, None, Result, Ok}
+use Rattle.std.specs.Prelude.{Some, None, Result, Ok}
 use Rattle.std.specs.List.{fold, slice_get}
 use Rattle.cell_registry.specs.declared.limits.Limits.{Limits}
 use Rattle.cell_registry.specs.declared.call.Entry.{Entry}
@@ -15,8 +15,7 @@ use Rattle.cell_registry.specs.Histories.{MayFollow, left, IsLegal}
 use Rattle.derived_ops.specs.Tree.{Tree}
 use Rattle.fiber_frames.specs.Fiber.{Fiber, begins, child, move}
 use Rattle.fiber_frames.specs.Rows.{number_in}
-use Rattle.outcome_trace.specs.declared.wish.Wish.{Wish}
-use Rattle.outcome_trace.specs.declared.wish.Wish.TheVariants.{Shared, Alone, Nothing}
+use Rattle.outcome_trace.specs.declared.wish.Wish.TheVariants.{Shared, Alone}
 use Rattle.outcome_trace.specs.Core.{World, answered, born, entered, first_world, turned, wished}
 use Rattle.cell_registry.specs.declared.limits.RunError.{RunError}
 use Rattle.outcome_trace.specs.Stands.{Stands, wish}
@@ -25,7 +24,7 @@ use Rattle.outcome_trace.proofs.Lists.{slice_get-set_same, slice_get-set_other}
 use Rattle.outcome_trace.proofs.Standing.Lists.{put_back, get_early, get_last, put_seam, get_seam, by_ends}
 use Rattle.outcome_trace.proofs.Standing.Histories.{legal-pop, next-after}
 use Rattle.cell_registry.proofs.Legal.{left-push}
-use Rattle.outcome_trace.proofs.Standing.Places.{later-same, later-join, just_after, at_first, AllStand, stood, is_next, Fresh, Made, Stayed, Came}
+use Rattle.outcome_trace.proofs.Standing.Places.{later-same, later-join, just_after, at_first, AllStand, stood, is_next, Made, Stayed, Came}
 
 -- how a schedule goes: on to a world, or to a fault
 abbrev pub Course : Type 0

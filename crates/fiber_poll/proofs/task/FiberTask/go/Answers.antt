@@ -14,8 +14,8 @@ loop-made-init c = loop_begins c.args.self.now c.requires.going
 pub returns-in-Start-clause-turned : goal.returns-in-Start-clause-turned
 returns-in-Start-clause-turned c =
     loop_bears c.args.self.now c.loop-made.self c.start.new.self c.loop-made.made c.args.budget
-        c.loop-made.invariant c.loop-made-test.true c.in_ok-start-in-Start.field-0
-        c.in_ok-start-in-Start.ensures.born
+    c.loop-made.invariant c.loop-made-test.true c.in_ok-start-in-Start.field-0
+    c.in_ok-start-in-Start.ensures.born
 
 pub step-requires-clause-asked : goal.step-requires-clause-asked
 step-requires-clause-asked c =
