@@ -1,7 +1,8 @@
 //! Fibers that are alone, answered as their registry would. Asks and marks are worked from the rules.
 
-ghost use Rattle.std.specs.Prelude.{◌≡◌, IfOk, IfSome};
+ghost use Rattle.std.specs.Prelude.{◌≡◌, ◌<◌, ◌≤◌, ◌+◌, ◌^◌, IfOk, IfSome};
 ghost use Rattle.fiber_frames.specs.Answers.{Answers};
+ghost use Rattle.fiber_frames.specs.Fiber.{ask_of};
 
 use derived_ops::expand;
 use effect_term::{CancelReply, JoinReply, Kind, Name, Operand, Outcome, Program, Reply, Term};
@@ -78,6 +79,23 @@ struct Run {
     child: Option<Config>,
 }
 
+// Makes a move. Gives how it ended the fiber, if it did, and the child that it started, if it did.
+fn stepped(
+    config: &mut Config,
+    reply: Reply,
+) -> Result<(Option<Outcome>, Option<Config>), AllocError>
+    requires fits { Answers config.old.number (ask_of config.old) reply }
+    requires in_range { config.old.next < 2 ^ 63 }
+    ensures next { IfOk result (λ _. config.new.next ≤ config.old.next + 1) }
+    ensures child { IfOk result (λ it. IfSome it.1 (λ child. child.next ≡ 0)) }
+{
+    match config.resume(reply)? {
+        Moved::Ended(outcome) => Ok((Some(outcome), None)),
+        Moved::Born(born) => Ok((None, Some(born))),
+        Moved::Plain | Moved::Waited | Moved::Ceded => Ok((None, None)),
+    }
+}
+
 fn run_to_end(alloc: Global, config: Config) -> Result<Run, Fail>
     requires { config.next ≡ 0 }
     ensures { IfOk result (λ it. IfSome it.child (λ child. child.next ≡ 0)) }
@@ -94,10 +112,10 @@ fn run_to_end(alloc: Global, config: Config) -> Result<Run, Fail>
             break;
         };
         requested = requested || matches!(ask, Ask::Cancel(_));
-        match config.resume(reply)? {
-            Moved::Ended(outcome) => ended = Some(outcome),
-            Moved::Born(born) => child = Some(born),
-            Moved::Plain | Moved::Waited | Moved::Ceded => {}
+        let (over, born) = stepped(&mut config, reply)?;
+        ended = over;
+        if born.is_some() {
+            child = born;
         }
     }
     let marks = config.trace().to_vec(alloc)?;
