@@ -1,13 +1,13 @@
 -- What each call leaves of a registry.
-use Rattle.std.proofs.Common.{◌≡◌, ◌≢◌, ◌⊎◌, inl, inr, ℕ, ◌+◌, ◌<◌, ◌≤◌, Bool, true, false, refl, sym, ap, ◌∙◌, subst, arith, eqb, eq-eqb, ne_eqb, length-set, get_or-set_other, FitsSigned, pos, ℤ, ◌+ℤ◌}
+use Rattle.std.proofs.Common.{◌≡◌, ◌≢◌, ◌⊎◌, inl, inr, ℕ, ◌+◌, ◌<◌, ◌≤◌, Bool, true, false, refl, sym, ap, ◌∙◌, subst, arith, eqb, eq-eqb, ne_eqb, length-set, get_or-set_other, pos, ℤ, ◌+ℤ◌}
 use mathlib.Core.Logic.{dite}
 use native.Mathlib.Decide.{ℕ_discrete}
 use Rattle.std.specs.Prelude.{cond, Option, Some, None}
-use Rattle.std.specs.Int.{w32}
-use Rattle.std.proofs.lemmas.Int.{SFits-int_wrap}
 use Rattle.std.proofs.lemmas.List.{length-replicate}
 use Rattle.effect_term.specs.declared.reply.Outcome.{Outcome}
 use Rattle.effect_term.specs.declared.reply.Outcome.TheVariants.{Succeeded, Errored, Canceled}
+use Rattle.effect_term.specs.Values.{IsValue}
+use Rattle.effect_term.proofs.ValueLaws.{wrapped_is_value}
 use Rattle.cell_registry.specs.declared.limits.Limits.{Limits}
 use Rattle.cell_registry.specs.declared.limits.Band.{Band}
 use Rattle.cell_registry.specs.declared.limits.Band.TheVariants.{Fibers, Refs, Deferreds}
@@ -127,7 +127,7 @@ opening-sound k l = let many = l.some_fiber in record {
   next_ref = omega arith;
   next_deferred = omega arith;
   each_cell = λ f. subst (IsCell k) (sym (get_or-replicate_default fresh k.fibers f)) record { count = omega arith; depth = omega arith; stage = tt };
-  each_ref = λ r. subst (FitsSigned w32) (sym (get_or-replicate_default (pos 0) k.refs r)) record { sfits = omega arith };
+  each_ref = λ r. subst (IsValue) (sym (get_or-replicate_default (pos 0) k.refs r)) (omega arith);
   each_deferred = λ d. subst ValueFits (sym (get_or-replicate_default None k.deferreds d)) tt;
 }
 
@@ -159,7 +159,7 @@ with_cell-sound k s f c h i = record {
   each_deferred = h.each_deferred;
 }
 
-with_ref-sound : (k : Limits) (s : Cells) (r : ℕ) (v : ℤ) → IsSound k s → FitsSigned w32 v → IsSound k (with_ref s r v)
+with_ref-sound : (k : Limits) (s : Cells) (r : ℕ) (v : ℤ) → IsSound k s → IsValue v → IsSound k (with_ref s r v)
 with_ref-sound k s r v h i = record {
   fibers = h.fibers;
   refs = length-set s.refs r v ∙ h.refs;
@@ -169,7 +169,7 @@ with_ref-sound k s r v h i = record {
   next_ref = h.next_ref;
   next_deferred = h.next_deferred;
   each_cell = h.each_cell;
-  each_ref = All-set (FitsSigned w32) s.refs r v (pos 0) i h.each_ref;
+  each_ref = All-set (IsValue) s.refs r v (pos 0) i h.each_ref;
   each_deferred = h.each_deferred;
 }
 
@@ -187,7 +187,7 @@ with_deferred-sound k s d v h i = record {
   each_deferred = All-set ValueFits s.deferreds d v None i h.each_deferred;
 }
 
-filled-fits : (o : Option ℤ) (v : ℤ) → ValueFits o → FitsSigned w32 v → ValueFits (filled o v)
+filled-fits : (o : Option ℤ) (v : ℤ) → ValueFits o → IsValue v → ValueFits (filled o v)
 filled-fits None v h i = i
 filled-fits (Some w) v h i = h
 
@@ -219,6 +219,6 @@ after-sound k s by NewRef h a = let apart = full-room _ s.next_ref k.refs a.room
 after-sound k s by NewDeferred h a = let apart = full-room _ s.next_deferred k.deferreds a.room in let below = h.next_deferred in with_next-sound k s s.next_fiber s.next_ref (s.next_deferred + 1) h h.some_fiber h.next_fiber h.next_ref (omega arith)
 after-sound k s by (Get r) h a = h
 after-sound k s by (Set r v) h a = with_ref-sound k s r v h a.allowed.1
-after-sound k s by (Modify r v) h a = with_ref-sound k s r _ h (SFits-int_wrap w32 (ref_of s r +ℤ v))
+after-sound k s by (Modify r v) h a = with_ref-sound k s r _ h (wrapped_is_value (ref_of s r +ℤ v))
 after-sound k s by (Complete d v) h a = with_deferred-sound k s d _ h (filled-fits (deferred_of s d) v (h.each_deferred d) a.allowed.1)
 after-sound k s by (Read d) h a = h

@@ -3,10 +3,13 @@ use Rattle.std.proofs.Common.{◌≡◌, ℕ, ◌+◌, ◌<◌, List, [], ◌∷
 use Rattle.std.specs.Prelude.{bit_or}
 use lib.Seq.{set-get_or}
 use Rattle.atomic_table.specs.Table.{Me, Allows}
+use Rattle.effect_term.specs.declared.reply.Outcome.{Outcome}
 use Rattle.effect_term.specs.declared.reply.Reply.TheVariants as reply
-use Rattle.control_word.specs.Word.{InRange}
+use Rattle.effect_term.specs.Values.{value_bits}
+use Rattle.control_word.specs.Word.{InRange, value_of}
 use Rattle.control_word.proofs.Fields.{or_cancel, or_waited}
 use Rattle.cell_registry.specs.declared.limits.Limits.{Limits}
+use Rattle.cell_registry.specs.declared.cell.Stage.TheVariants.{Ended}
 use Rattle.cell_registry.specs.declared.cell.Cell.{Cell}
 use Rattle.cell_registry.specs.declared.call.Call.{Call}
 use Rattle.cell_registry.specs.declared.call.Call.TheVariants.{Cancel, Join, Look}
@@ -14,12 +17,12 @@ use Rattle.cell_registry.specs.declared.call.Entry.{Entry}
 use Rattle.cell_registry.specs.declared.knowledge.Knowledge.{Knowledge}
 use Rattle.cell_registry.specs.Cells.{AreLimits, fresh, requested, awaited, owned, cancel_reply, join_reply, IsOpen, Cells, cell_of, with_cell, after, reply_of, IsAllowed, refusal, IsAccepted}
 use Rattle.cell_registry.specs.Histories.{left, IsLegal}
-use Rattle.cell_registry.specs.Words.{control, cell_word, Leaves}
-use Rattle.cell_registry.specs.Rule.{Has, seen_cell, Fits, WordsAreAHistory}
+use Rattle.cell_registry.specs.Words.{control, cell_word, value_place, Leaves}
+use Rattle.cell_registry.specs.Rule.{Has, seen_cell, Fits, StoredLast, WordsAreAHistory}
 use Rattle.cell_registry.specs.Steps.{entry, Called, IsSame, AtCell, Cancelled, Joined, SawRequest}
 use Rattle.cell_registry.proofs.Lists.{get_or-set_kept}
 use Rattle.cell_registry.proofs.Legal.{left-push, sound}
-use Rattle.cell_registry.proofs.TableWords.{in_range, word_at, put_word}
+use Rattle.cell_registry.proofs.TableWords.{in_range, value_in, word_at, put_word}
 use Rattle.cell_registry.proofs.Turns.{Turn, turns}
 
 -- what a pass knows after an entry that adds no fiber to it
@@ -27,26 +30,27 @@ abbrev pub advanced : Knowledge → List Entry → Entry → Knowledge
 advanced v h e = record v { seen = h ++ e ∷ []; guests = []; heard = [] }
 
 -- what a call that changes one cell has to show, where h is the history before it
-pub record CellTurn (k : Limits) (v : Knowledge) (f : ℕ) (φ : ℕ → ℕ) (then : ℕ → Knowledge → Type 0) (h : List Entry) : Type 0 where
+pub record CellTurn (k : Limits) (v : Knowledge) (f : ℕ) (φ : ℕ → ℕ) (then : ℕ → Knowledge → Type 0) (h : List Entry) (words : List ℕ) : Type 0 where
   pub call : Call
   pub changed : Cell
   pub accepted : IsAccepted k (left k h) v.number call
   pub leaves : after (left k h) v.number call ≡ with_cell (left k h) f changed
   pub packs : φ (cell_word (cell_of (left k h) f)) ≡ cell_word changed
+  pub ends : (o : Outcome) → changed.stage ≡ Ended o → ((cell_of (left k h) f).stage ≡ Ended o) ⊎ (get_or words (value_place k f) 0 ≡ value_bits (value_of o))
   pub told : let w = advanced v h (entry v.number call (reply_of (left k h) v.number call)) in
-      Called v call (reply_of (left k h) v.number call) w → seen_cell w v.number ≡ cell_of (with_cell (left k h) f changed) v.number → then (cell_word (cell_of (left k h) f)) w
+      Called v call (reply_of (left k h) v.number call) w → ((g : ℕ) → seen_cell w g ≡ cell_of (with_cell (left k h) f changed) g) → then (cell_word (cell_of (left k h) f)) w
 
 module _ {S : Type 0} where
   pub cell_turns : (k : Limits) (id : ℕ) (me : Me S Knowledge) (i f slots : ℕ) (φ : ℕ → ℕ) (then : ℕ → Knowledge → Type 0) → me.1 ≡ [] → Has me.0.fibers me.0.number → (f < k.fibers) ⊎ (f ≡ me.0.number) → i ≡ f + 3
-      → ((h : List Entry) → AreLimits k → f < length (left k h).cells → Fits k h me.0 → InRange (control (cell_of (left k h) f)) → CellTurn k me.0 f φ then h)
+      → ((h : List Entry) (words : List ℕ) → AreLimits k → f < length (left k h).cells → Fits k h me.0 → StoredLast k words h me.0 → InRange (control (cell_of (left k h) f)) → CellTurn k me.0 f φ then h words)
       → Allows (WordsAreAHistory k) slots id me i φ (λ n now. (now.1 ≡ []) × then n now.0)
   cell_turns k id me i f slots φ then none_out has within is makes = turns k id me i φ then slots none_out has go
     where
       v : Knowledge
       v = me.0
 
-      go : (h : List Entry) (words : List ℕ) → AreLimits k → IsLegal k h → Leaves words (left k h) → Fits k h v → Turn k v i (φ (get_or words i 0)) then h words
-      go h words limited legal leaves mine =
+      go : (h : List Entry) (words : List ℕ) → AreLimits k → IsLegal k h → Leaves words (left k h) → Fits k h v → StoredLast k words h v → Turn k v i (φ (get_or words i 0)) then h words
+      go h words limited legal leaves mine last =
           let s : Cells = left k h in
           let good = sound k h limited legal in
           let long = good.fibers in
@@ -54,16 +58,23 @@ module _ {S : Type 0} where
           let born = (mine.own v.number has).born in
           let there : f < length s.cells = ⊎_elim (λ (a : f < k.fibers). let b : f < length s.cells = omega arith in b) (λ (a : f ≡ v.number). let b : f < length s.cells = omega arith in b) within in
           let at = word_at words s f i leaves is there in
-          let t = makes h limited there mine (in_range k (cell_of s f) limited (good.each_cell f)) in
+          let refs = good.refs in
+          let deferreds = good.deferreds in
+          let t = makes h words limited there mine last (in_range k (cell_of s f) limited (good.each_cell f)) in
           let e : Entry = entry v.number t.call (reply_of s v.number t.call) in
           let w : Knowledge = advanced v h e in
-          let now : seen_cell w v.number ≡ cell_of (with_cell s f t.changed) v.number = (λ j. cell_of (left (mine.limits v.number has j) (h ++ e ∷ [])) v.number) ∙ ap (λ (x : Cells). cell_of x v.number) (left-push k h e ∙ t.leaves) in
+          let now = λ (g : ℕ). (λ j. cell_of (left (mine.limits v.number has j) (h ++ e ∷ [])) g) ∙ ap (λ (x : Cells). cell_of x g) (left-push k h e ∙ t.leaves) in
+          let values : value_in s f ≡ value_place k f = omega arith in
+          let ends = λ (o : Outcome) (q : t.changed.stage ≡ Ended o). subst (λ (m : ℕ). ((cell_of s f).stage ≡ Ended o) ⊎ (get_or words m 0 ≡ value_bits (value_of o))) (sym values) (t.ends o q) in
           record {
             call = t.call;
             accepted = t.accepted;
-            word = subst (Leaves (set words i (φ (get_or words i 0)))) (sym t.leaves) (put_word words s f i t.changed _ leaves is there (ap φ at ∙ t.packs));
+            word = subst (Leaves (set words i (φ (get_or words i 0)))) (sym t.leaves) (put_word words s f i t.changed _ leaves is there (ap φ at ∙ t.packs) ends);
+            place = omega arith;
             view = w;
             limits = refl;
+            number = refl;
+            stored = refl;
             seen = refl;
             guests = refl;
             heard = refl;
@@ -95,9 +106,9 @@ at_cell i f P is p = λ g ig. let e : f ≡ g = omega arith in subst P e p
 
 module _ {S : Type 0} where
   pub cancels : (k : Limits) (id : ℕ) (me : Me S Knowledge) (i f slots : ℕ) → me.1 ≡ [] → Has me.0.fibers me.0.number → f < k.fibers → i ≡ f + 3
-      → Allows (WordsAreAHistory k) slots id me i (λ n. bit_or n 1073741824) (λ n now. (now.1 ≡ []) × AtCell i (λ g. Cancelled g me.0 n now.0))
+      → Allows (WordsAreAHistory k) slots id me i (λ n. bit_or n 4503599627370496) (λ n now. (now.1 ≡ []) × AtCell i (λ g. Cancelled g me.0 n now.0))
   unfolding after reply_of IsAllowed refusal control
-  cancels k id me i f slots none_out has within is = let v : Knowledge = me.0 in cell_turns k id me i f slots (λ n. bit_or n 1073741824) (λ n w. AtCell i (λ g. Cancelled g v n w)) none_out has (inl within) is (λ h limits there mine range.
+  cancels k id me i f slots none_out has within is = let v : Knowledge = me.0 in cell_turns k id me i f slots (λ n. bit_or n 4503599627370496) (λ n w. AtCell i (λ g. Cancelled g v n w)) none_out has (inl within) is (λ h words limits there mine last range.
       let s : Cells = left k h in
       let c : Cell = cell_of s f in
       record {
@@ -106,14 +117,15 @@ module _ {S : Type 0} where
         accepted = record { allowed = within; room = refl };
         leaves = refl;
         packs = or_cancel (control c) range;
+        ends = λ o e. inl e;
         told = λ made now. at_cell i f (λ g. Cancelled g v (cell_word c) (advanced v h (entry v.number (Cancel f) (reply.Cancel (cancel_reply c.stage c.request))))) is
-            (c, range, refl, (made, same_knowledge k h v _ (with_cell s f (requested c)) has mine refl refl refl (ap owned now) (get_or-set_kept owned s.cells f (requested c) fresh refl v.number)));
+            (c, range, refl, (made, same_knowledge k h v _ (with_cell s f (requested c)) has mine refl refl refl (ap owned (now v.number)) (get_or-set_kept owned s.cells f (requested c) fresh refl v.number)));
       })
 
   pub joins : (k : Limits) (id : ℕ) (me : Me S Knowledge) (i f slots : ℕ) → me.1 ≡ [] → Has me.0.fibers me.0.number → f < k.fibers → i ≡ f + 3
-      → Allows (WordsAreAHistory k) slots id me i (λ n. bit_or n 2147483648) (λ n now. (now.1 ≡ []) × AtCell i (λ g. Joined g me.0 n now.0))
+      → Allows (WordsAreAHistory k) slots id me i (λ n. bit_or n 9007199254740992) (λ n now. (now.1 ≡ []) × AtCell i (λ g. Joined g me.0 n now.0))
   unfolding after reply_of IsAllowed refusal control
-  joins k id me i f slots none_out has within is = let v : Knowledge = me.0 in cell_turns k id me i f slots (λ n. bit_or n 2147483648) (λ n w. AtCell i (λ g. Joined g v n w)) none_out has (inl within) is (λ h limits there mine range.
+  joins k id me i f slots none_out has within is = let v : Knowledge = me.0 in cell_turns k id me i f slots (λ n. bit_or n 9007199254740992) (λ n w. AtCell i (λ g. Joined g v n w)) none_out has (inl within) is (λ h words limits there mine last range.
       let s : Cells = left k h in
       let c : Cell = cell_of s f in
       record {
@@ -122,15 +134,16 @@ module _ {S : Type 0} where
         accepted = record { allowed = within; room = refl };
         leaves = refl;
         packs = or_waited (control c) range;
+        ends = λ o e. inl e;
         told = λ made now. at_cell i f (λ g. Joined g v (cell_word c) (advanced v h (entry v.number (Join f) (reply.Join (join_reply c.stage))))) is
-            (c, range, refl, (made, same_knowledge k h v _ (with_cell s f (awaited c)) has mine refl refl refl (ap owned now) (get_or-set_kept owned s.cells f (awaited c) fresh refl v.number)));
+            (c, range, refl, (made, same_knowledge k h v _ (with_cell s f (awaited c)) has mine refl refl refl (ap owned (now v.number)) (get_or-set_kept owned s.cells f (awaited c) fresh refl v.number), ap (λ (x : Cell). x.stage) (now f ∙ get_or-set_same s.cells f (awaited c) fresh there)));
       })
 
   -- ---- calls on the caller's own cell
   pub sees : (k : Limits) (id : ℕ) (me : Me S Knowledge) (i slots : ℕ) → me.1 ≡ [] → Has me.0.fibers me.0.number → i ≡ me.0.number + 3 → IsOpen (seen_cell me.0 me.0.number).stage → (seen_cell me.0 me.0.number).depth ≡ 0
       → Allows (WordsAreAHistory k) slots id me i (λ n. n) (λ n now. (now.1 ≡ []) × SawRequest me.0 n now.0)
   unfolding after reply_of IsAllowed refusal
-  sees k id me i slots none_out has is opened depth = let v : Knowledge = me.0 in cell_turns k id me i v.number slots (λ n. n) (SawRequest v) none_out has (inr refl) is (λ h limits there mine range.
+  sees k id me i slots none_out has is opened depth = let v : Knowledge = me.0 in cell_turns k id me i v.number slots (λ n. n) (SawRequest v) none_out has (inr refl) is (λ h words limits there mine last range.
       let s : Cells = left k h in
       let c : Cell = cell_of s v.number in
       record {
@@ -139,14 +152,15 @@ module _ {S : Type 0} where
         accepted = record { allowed = (subst IsOpen (sym (own_stage k h v has mine)) opened, own_depth k h v has mine ∙ depth); room = refl };
         leaves = λ j. record s { cells = sym (set-get_or s.cells v.number fresh) j };
         packs = refl;
+        ends = λ o e. inl e;
         told = λ made now. (
           c,
           range,
           refl,
           (
             made,
-            same_knowledge k h v _ (with_cell s v.number c) has mine refl refl refl (ap owned now) (get_or-set_kept owned s.cells v.number c fresh refl v.number),
-            ap (λ (x : Cell). x.request) (now ∙ get_or-set_same s.cells v.number c fresh there),
+            same_knowledge k h v _ (with_cell s v.number c) has mine refl refl refl (ap owned (now v.number)) (get_or-set_kept owned s.cells v.number c fresh refl v.number),
+            ap (λ (x : Cell). x.request) (now v.number ∙ get_or-set_same s.cells v.number c fresh there),
           ),
         );
       })

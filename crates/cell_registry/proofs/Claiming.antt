@@ -48,6 +48,11 @@ band_word-one Refs Deferreds e = absurd (omega arith)
 band_word-one Deferreds Fibers e = absurd (omega arith)
 band_word-one Deferreds Refs e = absurd (omega arith)
 
+band_word-low : (b : Band) → band_word b < 3
+band_word-low Fibers = omega arith
+band_word-low Refs = omega arith
+band_word-low Deferreds = omega arith
+
 at_band : (b : Band) (P : Band → Type 0) → P b → AtBand (band_word b) P
 at_band b P p = λ c is. subst P (band_word-one b c is) p
 
@@ -71,11 +76,14 @@ saw_next b k h words v has legal leaves mine = (
 )
 
 -- a step at the word i that only looks
-pub sees_all : (k : Limits) (h : List Entry) (words : List ℕ) (v : Knowledge) (i : ℕ) (then : ℕ → Knowledge → Type 0) → Leaves words (left k h) → then (get_or words i 0) (up_to v h) → Look k v i (get_or words i 0) then h words
-sees_all k h words v i then leaves told = record {
+pub sees_all : (k : Limits) (h : List Entry) (words : List ℕ) (v : Knowledge) (i : ℕ) (then : ℕ → Knowledge → Type 0) → i < 3 → Leaves words (left k h) → then (get_or words i 0) (up_to v h) → Look k v i (get_or words i 0) then h words
+sees_all k h words v i then claim leaves told = record {
   view = up_to v h;
   word = same_words words (left k h) i leaves;
+  place = omega arith;
   limits = refl;
+  number = refl;
+  stored = refl;
   seen = refl;
   guests = refl;
   heard = refl;
@@ -86,7 +94,7 @@ sees_all k h words v i then leaves told = record {
 module _ {S : Type 0} where
   pub sees_next : (b : Band) (k : Limits) (id : ℕ) (me : Me S Knowledge) (slots : ℕ) → me.1 ≡ [] → Has me.0.fibers me.0.number → Allows (WordsAreAHistory k) slots id me (band_word b) (λ n. n) (Tells (λ n w. AtBand (band_word b) (λ c. SawNext c me.0 n w)))
   sees_next b k id me slots none_out has = looks k id me (band_word b) (λ n w. AtBand (band_word b) (λ c. SawNext c me.0 n w)) slots none_out has (λ h words legal leaves mine.
-      sees_all k h words me.0 (band_word b) (λ n w. AtBand (band_word b) (λ c. SawNext c me.0 n w)) leaves (at_band b (λ c. SawNext c me.0 (get_or words (band_word b) 0) (up_to me.0 h)) (saw_next b k h words me.0 has legal leaves mine)))
+      sees_all k h words me.0 (band_word b) (λ n w. AtBand (band_word b) (λ c. SawNext c me.0 n w)) (band_word-low b) leaves (at_band b (λ c. SawNext c me.0 (get_or words (band_word b) 0) (up_to me.0 h)) (saw_next b k h words me.0 has legal leaves mine)))
 
 -- ---- a claim
 -- what the pass knows once the next number is claimed
@@ -120,12 +128,16 @@ claim b k h words v old leaves has legal mine may is within =
     let w : Knowledge = claimed b v h n in
     let replied = reply-claim b s v.number in
     let limits : v.limits ≡ k = mine.limits v.number has in
+    let low = band_word-low b in
     let now : left v.limits w.seen ≡ after s v.number (claim_of b) = (λ j. left (limits j) (h ++ e ∷ [])) ∙ left-push k h e in record {
       call = claim_of b;
       accepted = accepts-claim b k s v.number (subst (MayClaim b) (sym (own_stage k h v has mine)) may) (λ q. omega arith);
       word = put_next b words s v.number (old + 1) leaves (omega arith);
+      place = omega arith;
       view = w;
       limits = refl;
+      number = refl;
+      stored = refl;
       seen = λ j. h ++ entry v.number (claim_of b) (sym replied j) ∷ [];
       guests = refl;
       heard = refl;
@@ -158,7 +170,7 @@ module _ {S : Type 0} where
       exchanged (get_or s.words i 0) old (old + 1) (λ x. Goes k s i x id me (Tells then))
       (λ hit. turn_at k id me i (old + 1) then none_out has s kept at (claim b k h s.words v old r.words_are has r.legal mine may (sym found ∙ hit) within))
       (λ miss. look_at k id me i (get_or s.words i 0) then none_out has s kept at
-      (sees_all k h s.words v i then r.words_are (at_band b (λ c. Tried c old v (get_or s.words i 0) (up_to v h)) (inr (miss, saw_next b k h s.words v has r.legal r.words_are mine)))))
+      (sees_all k h s.words v i then (band_word-low b) r.words_are (at_band b (λ c. Tried c old v (get_or s.words i 0) (up_to v h)) (inr (miss, saw_next b k h s.words v has r.legal r.words_are mine)))))
 
 -- ---- looks before a claim
 pub looked_twice : (u v w : Knowledge) → Looked u v → IsSame u v → Looked v w → Looked u w

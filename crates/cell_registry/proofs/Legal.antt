@@ -30,7 +30,7 @@ pub IsLegal-push : (k : Limits) (h : List Entry) (e : Entry) → IsLegal k h →
 unfolding left IsLegal
 IsLegal-push k h e l m = IsLegalFrom-push k (opening k) h e l m
 
-IsLegalFrom-append : (k : Limits) (s : Cells) (g h : List Entry) → IsLegalFrom k s (g ++ h) → IsLegalFrom k s g × IsLegalFrom k (left_from s g) h
+pub IsLegalFrom-append : (k : Limits) (s : Cells) (g h : List Entry) → IsLegalFrom k s (g ++ h) → IsLegalFrom k s g × IsLegalFrom k (left_from s g) h
 IsLegalFrom-append k s [] h l = (tt, l)
 IsLegalFrom-append k s (e ∷ g) h l = let rest = IsLegalFrom-append k (after s e.by e.call) g h l.1 in ((l.0, rest.0), rest.1)
 

@@ -1,10 +1,11 @@
 -- The steps by which a fiber changes its own cell.
-use Rattle.std.proofs.Common.{◌≡◌, ℕ, ◌+◌, ◌-◌, ◌%◌, ◌<◌, Bool, true, false, List, [], inr, refl, sym, ap, ◌∙◌, subst, arith, get_or-set_same}
-use Rattle.std.specs.Prelude.{None}
-use Rattle.atomic_table.specs.Table.{Me, Allows}
+use Rattle.std.proofs.Common.{◌≡◌, ℕ, ◌+◌, ◌-◌, ◌%◌, ◌<◌, Bool, true, false, List, [], ◌⊎◌, inl, inr, get_or, refl, sym, ap, ◌∙◌, subst, arith, get_or-set_same, get_or-set_other, set, ◌≢◌}
+use Rattle.std.specs.Prelude.{None, Some}
+use Rattle.atomic_table.specs.Table.{Me, keeps, Allows}
 use Rattle.effect_term.specs.declared.reply.Outcome.{Outcome}
 use Rattle.effect_term.specs.declared.reply.Reply.{Reply}
 use Rattle.effect_term.specs.declared.reply.Reply.TheVariants as reply
+use Rattle.effect_term.specs.Values.{value_bits}
 use Rattle.control_word.specs.Word as word
 use Rattle.control_word.proofs.Sums.{finish_one}
 use Rattle.cell_registry.specs.declared.limits.Limits.{Limits}
@@ -15,14 +16,17 @@ use Rattle.cell_registry.specs.declared.call.Call.{Call}
 use Rattle.cell_registry.specs.declared.call.Call.TheVariants.{Mask, Unmask, Cut, Finish}
 use Rattle.cell_registry.specs.declared.call.Entry.{Entry}
 use Rattle.cell_registry.specs.declared.knowledge.Knowledge.{Knowledge}
-use Rattle.cell_registry.specs.Cells.{AreLimits, fresh, masked, unmasked, cut, finished, owned, IsOpen, MayUnmask, MayFinish, Cells, cell_of, with_cell, after, reply_of, IsAllowed, spent, refusal, IsAccepted}
+use Rattle.cell_registry.specs.Cells.{AreLimits, fresh, masked, unmasked, cut, finished, owned, IsOpen, MayUnmask, MayFinish, Cells, cell_of, with_cell, after, reply_of, IsAllowed, spent, refusal, IsAccepted, StageInRange}
 use Rattle.cell_registry.specs.Histories.{left}
-use Rattle.cell_registry.specs.Words.{phase_at, control, cell_word}
-use Rattle.cell_registry.specs.Rule.{Has, seen_cell, Fits, WordsAreAHistory}
-use Rattle.cell_registry.specs.Steps.{entry, Called, Changed, Masked, Unmasked, WasCut, Finished}
+use Rattle.cell_registry.specs.Words.{phase_at, control, cell_word, value_place}
+use Rattle.cell_registry.specs.Rule.{Has, seen_cell, Fits, StoredLast, Owns, IsHistory, WordsAreAHistory}
+use Rattle.cell_registry.specs.Steps.{entry, Called, Changed, Masked, Unmasked, WasCut, Finished, WasStored, FoundValue}
 use Rattle.cell_registry.proofs.Calls.{spent-none, outcome-fits}
 use Rattle.cell_registry.proofs.Requests.{request-prefix}
-use Rattle.cell_registry.proofs.TableWords.{no_outcome}
+use Rattle.cell_registry.proofs.TableWords.{no_outcome, value_in, value_at, put_value, put_value-at}
+use Rattle.cell_registry.proofs.Legal.{sound}
+use Rattle.cell_registry.proofs.Told.{ended_since}
+use Rattle.cell_registry.proofs.Turns.{each_view, apart_still, stays}
 use Rattle.cell_registry.proofs.CellTurns.{cell_turns, own_same, own_stage, own_depth, own_count, advanced}
 
 -- ---- what a stage allows
@@ -85,6 +89,9 @@ bit_one false false e = refl
 bit_one true false e = absurd (omega arith)
 bit_one false true e = absurd (omega arith)
 
+some-one : {x y : ℕ} → Some x ≡ Some y → x ≡ y
+some-one e = cc
+
 module _ {S : Type 0} where
   -- a call of the owner's that changes its cell by φ, and the word by ψ
   changes : (k : Limits) (id : ℕ) (me : Me S Knowledge) (i slots : ℕ) (c : Call) (φ : Cell → Cell) (ψ : ℕ → ℕ) (then : Knowledge → Type 0) → me.1 ≡ [] → Has me.0.fibers me.0.number → i ≡ me.0.number + 3 → (seen_cell me.0 me.0.number).count < k.count
@@ -93,9 +100,10 @@ module _ {S : Type 0} where
       → ((a b : Cell) → owned a ≡ owned b → owned (φ a) ≡ owned (φ b))
       → ((h : List Entry) → Fits k h me.0 → Own k me.0 h → IsAccepted k (left k h) me.0.number c)
       → ((h : List Entry) → Fits k h me.0 → Own k me.0 h → word.InRange (control (cell_of (left k h) me.0.number)) → ψ (cell_word (cell_of (left k h) me.0.number)) ≡ cell_word (φ (cell_of (left k h) me.0.number)))
+      → ((h : List Entry) (words : List ℕ) → Fits k h me.0 → StoredLast k words h me.0 → (o : Outcome) → (φ (cell_of (left k h) me.0.number)).stage ≡ Ended o → ((cell_of (left k h) me.0.number).stage ≡ Ended o) ⊎ (get_or words (value_place k me.0.number) 0 ≡ value_bits (word.value_of o)))
       → ((w : Knowledge) → Changed me.0 c φ w → then w)
       → Allows (WordsAreAHistory k) slots id me i ψ (λ n now. (now.1 ≡ []) × then now.0)
-  changes k id me i slots c φ ψ then none_out has is below leaves replies owns accepts packs tells = let v : Knowledge = me.0 in cell_turns k id me i v.number slots ψ (λ _ w. then w) none_out has (inr refl) is (λ h limits there mine range.
+  changes k id me i slots c φ ψ then none_out has is below leaves replies owns accepts packs ends tells = let v : Knowledge = me.0 in cell_turns k id me i v.number slots ψ (λ _ w. then w) none_out has (inr refl) is (λ h words limits there mine last range.
       let s : Cells = left k h in
       let a : Cell = cell_of s v.number in
       let o = own k v h limits has mine below in
@@ -105,9 +113,10 @@ module _ {S : Type 0} where
         accepted = accepts h mine o;
         leaves = leaves s;
         packs = packs h mine o range;
+        ends = ends h words mine last;
         told = λ made now. let w : Knowledge = advanced v h (entry v.number c (reply_of s v.number c)) in tells w (
           subst (λ (r : Reply). Called v c r w) (replies s) made,
-          record { limits = refl; number = refl; fibers = refl; cell = ap owned (now ∙ get_or-set_same s.cells v.number (φ a) fresh there) ∙ owns a (seen_cell v v.number) o.same },
+          record { limits = refl; number = refl; fibers = refl; cell = ap owned (now v.number ∙ get_or-set_same s.cells v.number (φ a) fresh there) ∙ owns a (seen_cell v v.number) o.same },
         );
       })
 
@@ -118,6 +127,7 @@ module _ {S : Type 0} where
   masks_as k id me i amount slots none_out has is below opened depth law = let v : Knowledge = me.0 in changes k id me i slots Mask masked (λ n. (n + amount) % 18446744073709551616) (Masked v) none_out has is below (λ s. refl) (λ s. refl) owned-masked
       (λ h mine o. let d = own_depth k h v has mine in record { allowed = (subst IsOpen (sym (own_stage k h v has mine)) opened, omega arith); room = o.room })
       (λ h mine o range. let d = own_depth k h v has mine in law (control (cell_of (left k h) v.number)) range (no_outcome _ (subst IsOpen (sym (own_stage k h v has mine)) opened)) o.small (omega arith))
+      (λ h words mine last p e. inl e)
       (λ w told. told)
 
   pub unmasks_as : (k : Limits) (id : ℕ) (me : Me S Knowledge) (i amount slots : ℕ) → me.1 ≡ [] → Has me.0.fibers me.0.number → i ≡ me.0.number + 3 → (seen_cell me.0 me.0.number).count < k.count
@@ -129,6 +139,7 @@ module _ {S : Type 0} where
       (λ h mine o range.
       let m = unmask-open _ _ (subst (λ (x : Stage × ℕ × ℕ). MayUnmask x.0 x.1) (sym o.same) may) in
       law (control (cell_of (left k h) v.number)) range (no_outcome _ m.0) o.small m.1)
+      (λ h words mine last p e. inl e)
       (λ w told. told)
 
   pub cuts_as : (k : Limits) (id : ℕ) (me : Me S Knowledge) (i amount slots : ℕ) → me.1 ≡ [] → Has me.0.fibers me.0.number → i ≡ me.0.number + 3 → (seen_cell me.0 me.0.number).count < k.count
@@ -140,16 +151,72 @@ module _ {S : Type 0} where
       let asked : (cell_of (left k v.seen) v.number).request ≡ true = (λ j. (cell_of (left (sym (mine.limits v.number has) j) v.seen) v.number).request) ∙ request in
       record { allowed = (own_stage k h v has mine ∙ running, own_depth k h v has mine ∙ depth, request-prefix k v.seen h v.number mine.seen asked); room = o.room })
       (λ h mine o range. cut_word k h v amount (own_stage k h v has mine ∙ running) (own_depth k h v has mine ∙ depth) o.small law range)
+      (λ h words mine last p e. cc)
       (λ w told. told)
 
   pub finishes_as : (k : Limits) (id : ℕ) (me : Me S Knowledge) (i amount slots : ℕ) (b : Bool) (o : Outcome) → me.1 ≡ [] → Has me.0.fibers me.0.number → i ≡ me.0.number + 3 → (seen_cell me.0 me.0.number).count < k.count
-      → MayFinish (seen_cell me.0 me.0.number).stage (seen_cell me.0 me.0.number).depth o → phase_at (seen_cell me.0 me.0.number).stage ≡ word.bit b → word.Finishes b o amount → amount ≡ word.finish_sum b o
+      → MayFinish (seen_cell me.0 me.0.number).stage (seen_cell me.0 me.0.number).depth o → phase_at (seen_cell me.0 me.0.number).stage ≡ word.bit b → word.Finishes b o amount → amount ≡ word.finish_sum b o → me.0.stored ≡ Some (value_bits (word.value_of o))
       → Allows (WordsAreAHistory k) slots id me i (λ n. (n + amount) % 18446744073709551616) (λ n now. (now.1 ≡ []) × Finished amount me.0 now.0)
   unfolding after reply_of IsAllowed refusal control
-  finishes_as k id me i amount slots b o none_out has is below may phase law sum = let v : Knowledge = me.0 in changes k id me i slots (Finish o) (finished o) (λ n. (n + amount) % 18446744073709551616) (Finished amount v) none_out has is below (λ s. refl) (λ s. refl) (owned-finished o)
+  finishes_as k id me i amount slots b o none_out has is below may phase law sum stored = let v : Knowledge = me.0 in changes k id me i slots (Finish o) (finished o) (λ n. (n + amount) % 18446744073709551616) (Finished amount v) none_out has is below (λ s. refl) (λ s. refl) (owned-finished o)
       (λ h mine own. record { allowed = subst (λ (x : Stage × ℕ × ℕ). MayFinish x.0 x.1 o) (sym own.same) may; room = own.room })
       (λ h mine own range. law (control (cell_of (left k h) v.number)) range (no_outcome _ (finish-open _ _ o (subst (λ (x : Stage × ℕ × ℕ). MayFinish x.0 x.1 o) (sym own.same) may))) own.small (ap phase_at (own_stage k h v has mine) ∙ phase))
-      (λ w told b' p ph fits e.
+      (λ h words mine last p e.
+      let same : o ≡ p = cc in
+      let opened : IsOpen (cell_of (left k h) v.number).stage = subst IsOpen (sym (own_stage k h v has mine)) (finish-open _ _ o may) in
+      inr (last (value_bits (word.value_of o)) stored has opened ∙ ap (λ (x : Outcome). value_bits (word.value_of x)) same))
+      (λ w told b' p ph fits kept e.
       let bs : b' ≡ b = bit_one b' b (sym ph ∙ phase) in
-      let same : o ≡ p = finish_one b o p (outcome-fits _ _ o may) fits (sym sum ∙ e ∙ ap (λ x. word.finish_sum x p) bs) in
+      let same : o ≡ p = finish_one b o p (outcome-fits _ _ o may) fits (sym sum ∙ e ∙ ap (λ x. word.finish_sum x p) bs) (some-one (sym stored ∙ kept)) in
       subst (λ (x : Outcome). Changed v (Finish x) (finished x) w) same told)
+
+  -- the store before an end
+  pub stores_as : (k : Limits) (id : ℕ) (me : Me S Knowledge) (i n slots : ℕ) → me.1 ≡ [] → Has me.0.fibers me.0.number → i ≡ value_place k me.0.number → IsOpen (seen_cell me.0 me.0.number).stage
+      → Allows (WordsAreAHistory k) slots id me i (λ _. n) (λ _ now. (now.1 ≡ []) × WasStored n me.0 now.0)
+  stores_as k id me i n slots none_out has is opened s kept len at small =
+      let v : Knowledge = me.0 in
+      let w : Knowledge = record v { stored = Some n } in
+      let h = kept.0 in let r = kept.1 in
+      let mine : Fits k h v = r.fits id v at in
+      let c : Cells = left k h in
+      let good = sound k h r.limits r.legal in
+      let fibers = good.fibers in let refs = good.refs in let deferreds = good.deferreds in
+      let next = good.next_fiber in
+      let born = (mine.own v.number has).born in
+      let here : i ≡ value_in c v.number = omega arith in
+      let now : IsOpen (cell_of c v.number).stage = subst IsOpen (sym (own_stage k h v has mine)) opened in
+      let leaves = put_value s.words c v.number i n r.words_are here now in
+      let many = r.words_are.many in
+      let holds : get_or (set s.words i n) i 0 ≡ n = put_value-at s.words c v.number i n r.words_are here (omega arith) in
+      let fits_w : Fits k h w = record { limits = mine.limits; seen = mine.seen; heard = mine.heard; own = mine.own; guest = mine.guest; apart = mine.apart } in
+      let kept' : IsHistory k (set s.words i n) (set s.views id w) h = record {
+        limits = r.limits;
+        legal = r.legal;
+        words_are = leaves;
+        fits = each_view (λ j u. Fits k h u) s.views id w (λ j u other atj. r.fits j u atj) fits_w;
+        stored = each_view (λ j u. StoredLast k (set s.words i n) h u) s.views id w
+            (λ j u other atj m e hasu openu.
+            let apart : u.number ≢ v.number = λ (q : u.number ≡ v.number). r.apart id j v u at atj other v.number (inl has) (subst (Owns u) q (inl hasu)) in
+            get_or-set_other s.words i (value_place k u.number) n 0 (λ q. apart (omega arith)) ∙ r.stored j u atj m e hasu openu)
+            (λ m e hasw openw. ap (λ (j : ℕ). get_or (set s.words i n) j 0) (sym is) ∙ holds ∙ some-one e);
+        apart = apart_still s.views id w r.apart (λ j u other atj g ownw hasu. r.apart id j v u at atj other g ownw hasu);
+      } in
+      (w, keeps, tt, (h, kept'), (none_out, refl))
+
+  -- the load after a join that found an end
+  pub finds_as : (k : Limits) (id : ℕ) (me : Me S Knowledge) (i f slots : ℕ) → me.1 ≡ [] → Has me.0.fibers me.0.number → i ≡ value_place k f
+      → Allows (WordsAreAHistory k) slots id me i (λ n. n) (λ n now. (now.1 ≡ []) × FoundValue i me.0 n now.0)
+  finds_as k id me i f slots none_out has is = stays k id me i (FoundValue i me.0) slots none_out (λ h words limited legal leaves mine. (
+    refl,
+    λ g ig o knows.
+        let v : Knowledge = me.0 in
+        let c : Cells = left k h in
+        let same = mine.limits v.number has in
+        let good = sound k h limited legal in
+        let fibers = good.fibers in let refs = good.refs in let deferreds = good.deferreds in
+        let here : i ≡ value_place k g = ig ∙ ap (λ (x : Limits). value_place x g) same in
+        let place : i ≡ value_in c g = here ∙ omega arith in
+        let seen : (cell_of (left k v.seen) g).stage ≡ Ended o = (λ j. (cell_of (left (sym same j) v.seen) g).stage) ∙ knows in
+        let ended : (cell_of c g).stage ≡ Ended o = ended_since k v.seen h g o mine.seen legal seen in
+        (subst StageInRange ended (good.each_cell g).stage, value_at words c g i leaves place ∙ leaves.ended g o ended),
+  ))

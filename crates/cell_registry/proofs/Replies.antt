@@ -1,18 +1,19 @@
 -- What the word of a fiber tells.
 use Rattle.std.proofs.Common.{◌≡◌, Bool, true, false, refl, sym, ap, ◌∙◌, arith}
-use Rattle.std.proofs.Common.{ℤ}
-use Rattle.std.specs.Int.{w32, cast_signed, cast_unsigned}
-use Rattle.std.proofs.lemmas.Int.{to_z-of_z}
+use Rattle.std.proofs.Common.{ℤ, pos, ℕ, eqb, ◌%◌, ◌^◌}
+use Rattle.effect_term.specs.declared.reply.Outcome.{Outcome}
 use Rattle.effect_term.specs.declared.reply.Outcome.TheVariants.{Succeeded, Errored, Canceled}
 use Rattle.effect_term.specs.declared.reply.CancelReply.TheVariants as canceled
+use Rattle.effect_term.specs.Values.{IsValue, value_bits, bits_value}
+use Rattle.effect_term.proofs.ValueLaws.{bits_lt, back}
 use Rattle.effect_term.specs.declared.reply.JoinReply.TheVariants as joined
 use Rattle.control_word.specs.declared.control.Control.{Control}
-use Rattle.control_word.specs.Word.{InRange}
+use Rattle.control_word.specs.Word.{kind_of, value_of}
 use Rattle.cell_registry.specs.declared.cell.Stage.{Stage}
 use Rattle.cell_registry.specs.declared.cell.Stage.TheVariants.{Running, Finalizing, Ended}
 use Rattle.cell_registry.specs.declared.cell.Cell.{Cell}
 use Rattle.cell_registry.specs.Cells.{cancel_reply, join_reply}
-use Rattle.cell_registry.specs.Words.{control, phase_at, kind_at, value_at}
+use Rattle.cell_registry.specs.Words.{control, phase_at, kind_at, has_ended, HoldsOutcome}
 
 pub ended_reply : (g : Stage) (b : Bool) → phase_at g ≡ 2 → canceled.Ended ≡ cancel_reply g b
 ended_reply Running b e = absurd (omega arith)
@@ -37,45 +38,52 @@ pub control-cancel : (r : Control) (c : Cell) → r ≡ control c → c.request 
 unfolding control
 control-cancel r c e = sym (ap (λ (x : Control). x.cancel) e)
 
-pub waits_reply : (g : Stage) → (phase_at g ≡ 2 → ⊥) → joined.Waits ≡ join_reply g
-waits_reply Running n = refl
-waits_reply Finalizing n = refl
-waits_reply (Ended o) n = absurd (n refl)
-
-pub succeeded_reply : (g : Stage) (v : ℤ) → phase_at g ≡ 2 → kind_at g ≡ 1 → v ≡ value_at g → joined.Ended (Succeeded v) ≡ join_reply g
-succeeded_reply Running v e k i = absurd (omega arith)
-succeeded_reply Finalizing v e k i = absurd (omega arith)
-succeeded_reply (Ended (Succeeded x)) v e k i = ap (λ (z : ℤ). joined.Ended (Succeeded z)) i
-succeeded_reply (Ended (Errored x)) v e k i = absurd (omega arith)
-succeeded_reply (Ended Canceled) v e k i = absurd (omega arith)
-
-pub errored_reply : (g : Stage) (v : ℤ) → phase_at g ≡ 2 → kind_at g ≡ 2 → v ≡ value_at g → joined.Ended (Errored v) ≡ join_reply g
-errored_reply Running v e k i = absurd (omega arith)
-errored_reply Finalizing v e k i = absurd (omega arith)
-errored_reply (Ended (Errored x)) v e k i = ap (λ (z : ℤ). joined.Ended (Errored z)) i
-errored_reply (Ended (Succeeded x)) v e k i = absurd (omega arith)
-errored_reply (Ended Canceled) v e k i = absurd (omega arith)
-
-pub canceled_reply : (g : Stage) → phase_at g ≡ 2 → kind_at g ≡ 3 → joined.Ended Canceled ≡ join_reply g
-canceled_reply Running e k = absurd (omega arith)
-canceled_reply Finalizing e k = absurd (omega arith)
-canceled_reply (Ended (Errored x)) e k = absurd (omega arith)
-canceled_reply (Ended (Succeeded x)) e k = absurd (omega arith)
-canceled_reply (Ended Canceled) e k = refl
-
--- a fiber that has ended has an outcome
-pub no_other_reply : (g : Stage) → phase_at g ≡ 2 → (kind_at g ≡ 1 → ⊥) → (kind_at g ≡ 2 → ⊥) → (kind_at g ≡ 3 → ⊥) → ⊥
-no_other_reply Running e k i c = omega arith
-no_other_reply Finalizing e k i c = omega arith
-no_other_reply (Ended (Succeeded x)) e k i c = k refl
-no_other_reply (Ended (Errored x)) e k i c = i refl
-no_other_reply (Ended Canceled) e k i c = c refl
-
 pub control-kind : (r : Control) (c : Cell) → r ≡ control c → kind_at c.stage ≡ r.kind
 unfolding control
 control-kind r c e = sym (ap (λ (x : Control). x.kind) e)
 
--- a value that was read back from its bits
-pub control-value : (r : Control) (c : Cell) → r ≡ control c → InRange (control c) → cast_signed w32 (cast_unsigned w32 r.value) ≡ value_at c.stage
-unfolding control
-control-value r c e h = ap (λ (x : Control). cast_signed w32 (cast_unsigned w32 x.value)) e ∙ to_z-of_z w32 (value_at c.stage) h.value
+-- ---- the stage of a fiber that has ended, and of one that hasn't
+pub ended_phase : (g : Stage) → eqb (phase_at g) 2 ≡ has_ended g
+ended_phase Running = refl
+ended_phase Finalizing = refl
+ended_phase (Ended o) = refl
+
+pub waits_reply : (g : Stage) → has_ended g ≡ false → joined.Waits ≡ join_reply g
+waits_reply Running n = refl
+waits_reply Finalizing n = refl
+waits_reply (Ended o) n = cc
+
+-- the outcome of a fiber that has ended
+pub outcome_of : (g : Stage) → has_ended g ≡ true → (o : Outcome) × (g ≡ Ended o)
+outcome_of Running e = cc
+outcome_of Finalizing e = cc
+outcome_of (Ended o) e = (o, refl)
+
+-- ---- the outcome that two words tell
+pub succeeded_of : (o : Outcome) (z : ℤ) → kind_of o ≡ 1 → z ≡ value_of o → Succeeded z ≡ o
+succeeded_of (Succeeded v) z k e = ap Succeeded e
+succeeded_of (Errored v) z k e = absurd (omega arith)
+succeeded_of Canceled z k e = absurd (omega arith)
+
+pub errored_of : (o : Outcome) (z : ℤ) → kind_of o ≡ 2 → z ≡ value_of o → Errored z ≡ o
+errored_of (Succeeded v) z k e = absurd (omega arith)
+errored_of (Errored v) z k e = ap Errored e
+errored_of Canceled z k e = absurd (omega arith)
+
+pub canceled_of : (o : Outcome) → (kind_of o ≡ 1 → ⊥) → (kind_of o ≡ 2 → ⊥) → Canceled ≡ o
+canceled_of (Succeeded v) s e = absurd (s refl)
+canceled_of (Errored v) s e = absurd (e refl)
+canceled_of Canceled s e = refl
+
+-- the value of a word whose 63 bits are a value's
+pub told : (m : ℕ) (v : ℤ) → IsValue v → m % 2 ^ 63 ≡ value_bits v → bits_value (m % 2 ^ 63) ≡ v
+told m v h e = ap bits_value e ∙ back v h
+
+low : (m : ℕ) (v : ℤ) → m ≡ value_bits v → m % 2 ^ 63 ≡ value_bits v
+low m v e = let small = bits_lt v in omega arith
+
+-- the number of an outcome is told by its value word
+pub value_is : (m : ℕ) (o : Outcome) → HoldsOutcome m o → bits_value (m % 2 ^ 63) ≡ value_of o
+value_is m (Succeeded v) h = told m v h.0 (low m v h.1)
+value_is m (Errored v) h = told m v h.0 (low m v h.1)
+value_is m Canceled h = told m (pos 0) (omega arith) (low m (pos 0) h.1)

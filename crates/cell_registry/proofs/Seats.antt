@@ -10,14 +10,17 @@ use Rattle.cell_registry.specs.declared.limits.Limits.{Limits}
 use Rattle.cell_registry.specs.declared.knowledge.Knowledge.{Knowledge}
 use Rattle.cell_registry.specs.Cells.{AreLimits}
 use Rattle.cell_registry.specs.Histories.{left, IsLegal}
-use Rattle.cell_registry.specs.Rule.{Has, Fits, Owns, Apart, WordsAreAHistory, first_knowledge}
+use Rattle.cell_registry.specs.Rule.{Has, Fits, StoredLast, Owns, Apart, WordsAreAHistory, first_knowledge}
 use Rattle.cell_registry.specs.Steps.{parent, child, hosting, nothing, Met}
 use Rattle.cell_registry.specs.Passes.{IsLeftWord}
 use Rattle.cell_registry.proofs.Legal.{sound}
 use Rattle.cell_registry.proofs.TableWords.{same_words, word_at, opening_words}
 use Rattle.cell_registry.proofs.Turns.{Tells, looks, each_view, apart_still}
 use Rattle.cell_registry.proofs.Claiming.{same_now}
-use Rattle.std.specs.Prelude.{replicate}
+use Rattle.std.specs.Prelude.{replicate, Some, None}
+
+none-some : (n : ℕ) → None ≡ Some n → ⊥
+none-some n e = cc
 
 -- ---- a seat for a new fiber
 at_push : (l : List Knowledge) (a b : Knowledge) (j : ℕ) → get_elem? (l ++ a ∷ []) j ≡ some b → (get_elem? l j ≡ some b) ⊎ ((j ≡ length l) × (a ≡ b))
@@ -38,6 +41,8 @@ module _ {S : Type 0} where
       let fits_p : Fits k h p = record { limits = λ f a. mine.limits f (inr a); seen = mine.seen; heard = (h, refl); own = λ f a. mine.own f (inr a); guest = λ f a. absurd a; apart = λ f _ b. absurd b } in
       let own_c = λ (f : ℕ) (a : Has (n ∷ []) f). let b : n ≡ f = ⊎_elim (λ (x : n ≡ f). x) (λ x. absurd x) a in mine.own f (inl b) in
       let fits_c : Fits k h c = record { limits = λ f a. mine.limits n (inl refl); seen = mine.seen; heard = (h, refl); own = own_c; guest = λ f a. absurd a; apart = λ f _ b. absurd b } in
+      let stored_p : StoredLast k s.words h p = λ m is has opened. r.stored id v at m is (inr has) opened in
+      let stored_c : StoredLast k s.words h c = λ m is has opened. absurd (none-some m is) in
       let of_child : (f : ℕ) → Owns c f → n ≡ f = λ f a. ⊎_elim (λ (b : Has (n ∷ []) f). ⊎_elim (λ (x : n ≡ f). x) (λ x. absurd x) b) (λ (b : Has [] f). absurd b) a in
       let of_parent : (f : ℕ) → Owns p f → Has fs f = λ f a. ⊎_elim (λ (b : Has fs f). b) (λ (b : Has [] f). absurd b) a in
       let with_child : (j : ℕ) (x : Knowledge) → get_elem? (set s.views id p) j ≡ some x → Apart x c = each_view (λ j x. Apart x c) s.views id p
@@ -50,6 +55,7 @@ module _ {S : Type 0} where
           legal = r.legal;
           words_are = r.words_are;
           fits = λ j x e. ⊎_elim (λ old. each_view (λ j x. Fits k h x) s.views id p (λ j x other atj. r.fits j x atj) fits_p j x old) (λ (t : (j ≡ length (set s.views id p)) × (c ≡ x)). subst (Fits k h) t.1 fits_c) (at_push (set s.views id p) c x j e);
+          stored = λ j x e. ⊎_elim (λ old. each_view (λ j x. StoredLast k s.words h x) s.views id p (λ j x other atj. r.stored j x atj) stored_p j x old) (λ (t : (j ≡ length (set s.views id p)) × (c ≡ x)). subst (StoredLast k s.words h) t.1 stored_c) (at_push (set s.views id p) c x j e);
           apart = λ i j x y ei ej ne. ⊎_elim
               (λ oldi. ⊎_elim
               (λ oldj. apart_set i j x y oldi oldj ne)
@@ -120,6 +126,7 @@ module _ {S : Type 0} where
           legal = r.legal;
           words_are = r.words_are;
           fits = each_view (λ j u. Fits k h u) (set s.views id (hosting v w)) other nothing (λ j u _ atj. each_view (λ j u. Fits k h u) s.views id (hosting v w) (λ j u _ atj. r.fits j u atj) both j u atj) gone;
+          stored = each_view (λ j u. StoredLast k s.words h u) (set s.views id (hosting v w)) other nothing (λ j u _ atj. each_view (λ j u. StoredLast k s.words h u) s.views id (hosting v w) (λ j u _ atj. r.stored j u atj) (λ m is has opened. r.stored id v at m is has opened) j u atj) (λ m is has opened. absurd has);
           apart = λ i j x y ei ej ij f a b. one_place s.views id other i j f r.apart apart ij (comes s.views id other v w at apart there i x ei f a) (comes s.views id other v w at apart there j y ej f b);
         },
       )
@@ -129,7 +136,10 @@ module _ {S : Type 0} where
       let w : Knowledge = record v { seen = h; fibers = v.fibers ++ v.guests; guests = []; heard = [] } in record {
         view = w;
         word = same_words words (left k h) 0 leaves;
+        place = omega arith;
         limits = refl;
+        number = refl;
+        stored = refl;
         seen = refl;
         guests = refl;
         heard = refl;
@@ -149,7 +159,7 @@ module _ {S : Type 0} where
       })
 
 -- ---- the table at the start
-pub begins : (S : Type 0) (k : Limits) (words : List ℕ) → AreLimits k → words ≡ set (replicate (k.fibers + k.refs + k.deferreds + 3) 0) 0 1 → WordsAreAHistory {S = S} k record { words = words; homes = []; views = first_knowledge k ∷ [] }
+pub begins : (S : Type 0) (k : Limits) (words : List ℕ) → AreLimits k → words ≡ set (replicate (k.fibers + k.refs + k.deferreds + k.fibers + 3) 0) 0 1 → WordsAreAHistory {S = S} k record { words = words; homes = []; views = first_knowledge k ∷ [] }
 unfolding left IsLegal
 begins S k words limits is = (
   [],
@@ -158,6 +168,7 @@ begins S k words limits is = (
     legal = tt;
     words_are = opening_words k words is;
     fits = one;
+    stored = nothing_yet;
     apart = two;
   },
 )
@@ -168,6 +179,10 @@ begins S k words limits is = (
     one : (i : ℕ) (v : Knowledge) → get_elem? (first_knowledge k ∷ []) i ≡ some v → Fits k [] v
     one zero v e = subst (Fits k []) (some-injective (first_knowledge k) v e) fits
     one (suc i) v e = absurd (some-ne-none v (sym e))
+
+    nothing_yet : (i : ℕ) (v : Knowledge) → get_elem? (first_knowledge k ∷ []) i ≡ some v → StoredLast k words [] v
+    nothing_yet zero v e = subst (StoredLast k words []) (some-injective (first_knowledge k) v e) (λ m is has opened. absurd (none-some m is))
+    nothing_yet (suc i) v e = absurd (some-ne-none v (sym e))
 
     two : (i j : ℕ) (v w : Knowledge) → get_elem? (first_knowledge k ∷ []) i ≡ some v → get_elem? (first_knowledge k ∷ []) j ≡ some w → j ≢ i → Apart v w
     two zero zero v w a b ne = absurd (ne refl)

@@ -79,6 +79,27 @@ seated_still v w t u n g d c b s more legal i =
     let now : b ≡ true → (cell_of (left v.limits w.seen) v.number).request ≡ true = λ e. request-prefix v.limits v.seen w.seen v.number more (before e) in
     seated_looked v w t u n g d c b b s more legal (λ e. (λ j. (cell_of (left (s.limits j) w.seen) v.number).request) ∙ now e) i
 
+-- a pass that has stored a number in its fiber's value word
+pub seated_stored : (v w : Knowledge) (t u : TableId) (n m : ℕ) (g : Stage) (d c : ℕ) (b : Bool) → w ≡ record v { stored = Some m } → IsSeated v (pass_of t v n g d c b) → IsSeated w (pass_of u w n g d c b)
+seated_stored v w t u n m g d c b is i = subst (λ (x : Knowledge). IsSeated x (pass_of u x n g d c b)) (sym is) record {
+  number_is = i.number_is;
+  pass = record {
+    limits = i.pass.limits;
+    legal = i.pass.legal;
+    own = i.pass.own;
+    within = i.pass.within;
+    cell = i.pass.cell;
+    count = i.pass.count;
+    request = i.pass.request;
+    born = i.pass.born;
+    told = i.pass.told;
+  };
+}
+
+-- its registry is the same
+pub stored_registry : (v w : Knowledge) (t u : TableId) (n m : ℕ) (g : Stage) (d c : ℕ) (b : Bool) (r : RegistryView) → w ≡ record v { stored = Some m } → u ≡ t → (pass_of t v n g d c b).registry ≡ r → (pass_of u w n g d c b).registry ≡ r
+stored_registry v w t u n m g d c b r is table of = (λ j. record { table = table j; limits = (is j).limits }) ∙ of
+
 -- a pass whose own part of the cell has changed
 pub seated_changed : (v w : Knowledge) (t u : TableId) (n : ℕ) (g g' : Stage) (d d' c c' : ℕ) (b : Bool) (own : Stage × ℕ × ℕ) → own ≡ (g', d', c') → IsChanged v w own → IsPrefix v.seen w.seen → IsLegal v.limits w.seen → IsSeated v (pass_of t v n g d c b) → IsSeated w (pass_of u w n g' d' c' b)
 seated_changed v w t u n g g' d d' c c' b own is s more legal i = record {

@@ -1,6 +1,7 @@
 -- What every legal history tells.
 use Rattle.std.proofs.Common.{◌≡◌, ℕ, List, [], ◌∷◌, inl, inr, refl, sym, ap, ◌∙◌, subst, arith}
 use mathlib.Core.Logic.{dite}
+use mathlib.Core.List.{IsPrefix}
 use native.Mathlib.Decide.{ℕ_discrete}
 use Rattle.effect_term.specs.declared.reply.Outcome.{Outcome}
 use Rattle.effect_term.specs.declared.reply.JoinReply.TheVariants as joined
@@ -18,7 +19,7 @@ use Rattle.cell_registry.specs.Bands.{next_of}
 use Rattle.cell_registry.specs.Told.{WasToldEnd, JoinsAgree, IsTold}
 use Rattle.cell_registry.proofs.Lists.{get_or-set_kept}
 use Rattle.cell_registry.proofs.Calls.{owned-after}
-use Rattle.cell_registry.proofs.Legal.{IsLegal-at}
+use Rattle.cell_registry.proofs.Legal.{left_from-append, IsLegalFrom-append, IsLegal-at}
 use Rattle.cell_registry.proofs.Giving.{reply-claim, WasGiven-next, next_of-most, WasBorn-next, next-WasBorn}
 use Rattle.cell_registry.proofs.Requests.{legal-cuts}
 
@@ -42,7 +43,7 @@ ended-own k s f (Modify r v) o a e = e
 ended-own k s f (Complete d v) o a e = e
 ended-own k s f (Read d) o a e = e
 
-ended-after : (k : Limits) (s : Cells) (by : ℕ) (c : Call) (f : ℕ) (o : Outcome) → IsAllowed k s by c → (cell_of s f).stage ≡ Ended o → (cell_of (after s by c) f).stage ≡ Ended o
+pub ended-after : (k : Limits) (s : Cells) (by : ℕ) (c : Call) (f : ℕ) (o : Outcome) → IsAllowed k s by c → (cell_of s f).stage ≡ Ended o → (cell_of (after s by c) f).stage ≡ Ended o
 ended-after k s by c f o a e = dite (ℕ_discrete by f)
     (λ (is : by ≡ f). subst (λ (b : ℕ). (cell_of (after s b c) f).stage ≡ Ended o) (sym is) (ended-own k s f c o (subst (λ (b : ℕ). IsAllowed k s b c) is a) e))
     (λ apart. ap (λ (x : Stage × ℕ × ℕ). x.0) (owned-after s by c f apart) ∙ e)
@@ -50,6 +51,23 @@ ended-after k s by c f o a e = dite (ℕ_discrete by f)
 ended-left_from : (k : Limits) (s : Cells) (h : List Entry) (f : ℕ) (o : Outcome) → IsLegalFrom k s h → (cell_of s f).stage ≡ Ended o → (cell_of (left_from s h) f).stage ≡ Ended o
 ended-left_from k s [] f o l e = e
 ended-left_from k s (x ∷ h) f o l e = ended-left_from k (after s x.by x.call) h f o l.1 (ended-after k s x.by x.call f o l.0.accepted.allowed e)
+
+-- so it does in every legal history that goes on
+pub ended_since : (k : Limits) (g h : List Entry) (f : ℕ) (o : Outcome) → IsPrefix g h → IsLegal k h → (cell_of (left k g) f).stage ≡ Ended o → (cell_of (left k h) f).stage ≡ Ended o
+unfolding left IsLegal
+ended_since k g h f o p legal e =
+    let parts = IsLegalFrom-append k (opening k) g p.0 (subst (λ (x : List Entry). IsLegalFrom k (opening k) x) (sym p.1) legal) in
+    let later = ended-left_from k (left_from (opening k) g) p.0 f o parts.1 e in
+    subst (λ (x : List Entry). (cell_of (left_from (opening k) x) f).stage ≡ Ended o) p.1 (subst (λ (s : Cells). (cell_of s f).stage ≡ Ended o) (sym (left_from-append (opening k) g p.0)) later)
+
+-- and a fiber that hasn't ended after a call had not before it
+pub open_before : (k : Limits) (s : Cells) (by : ℕ) (c : Call) (f : ℕ) → IsAllowed k s by c → IsOpen (cell_of (after s by c) f).stage → IsOpen (cell_of s f).stage
+open_before k s by c f a opened = go (cell_of s f).stage refl
+  where
+    go : (g : Stage) → (cell_of s f).stage ≡ g → IsOpen g
+    go Running e = tt
+    go Finalizing e = tt
+    go (Ended o) e = subst IsOpen (ended-after k s by c f o a e) opened
 
 -- ---- the outcome that a join tells is the fiber's
 join_reply-ended : (g : Stage) (o : Outcome) → join_reply g ≡ joined.Ended o → g ≡ Ended o

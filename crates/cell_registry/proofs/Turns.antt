@@ -1,21 +1,23 @@
 -- One step of one pass keeps the rule: proved once, for every call.
-use Rattle.std.proofs.Common.{◌≡◌, ◌≢◌, ℕ, ◌<◌, ◌≤◌, List, [], ◌∷◌, ◌++◌, set, get_or, ◌⊎◌, inl, inr, ⊎_elim, refl, sym, ap, ◌∙◌, subst, arith, append_assoc, append-nil}
+use Rattle.std.proofs.Common.{◌≡◌, ◌≢◌, ℕ, ◌+◌, ◌<◌, ◌≤◌, List, [], ◌∷◌, ◌++◌, set, get_or, ◌⊎◌, inl, inr, ⊎_elim, refl, sym, ap, ◌∙◌, subst, arith, append_assoc, append-nil, get_or-set_other}
 use mathlib.Core.Option.{some}
 use mathlib.Core.List.{IsPrefix}
 use lib.ListN.{get_elem?}
 use Rattle.atomic_table.specs.Table.{State, Me, Act, keeps, Valid, stepped, carried_after, Allows}
-use Rattle.atomic_table.proofs.Lists.{at_set}
+use lib.Seq.{set-get_or}
+use Rattle.atomic_table.proofs.Lists.{at_set, set_again}
 use Rattle.cell_registry.specs.declared.limits.Limits.{Limits}
 use Rattle.cell_registry.specs.declared.call.Call.{Call}
 use Rattle.cell_registry.specs.declared.call.Entry.{Entry}
 use Rattle.cell_registry.specs.declared.knowledge.Knowledge.{Knowledge}
-use Rattle.cell_registry.specs.Cells.{AreLimits, owned, Cells, cell_of, after, reply_of, IsAccepted}
+use Rattle.cell_registry.specs.Cells.{AreLimits, owned, IsOpen, Cells, cell_of, after, reply_of, IsAccepted}
 use Rattle.cell_registry.specs.Histories.{left, IsLegal, calls_by}
-use Rattle.cell_registry.specs.Words.{Leaves}
-use Rattle.cell_registry.specs.Rule.{Has, IsQuietSince, Fits, Owns, Apart, IsHistory, WordsAreAHistory}
+use Rattle.cell_registry.specs.Words.{Leaves, value_place}
+use Rattle.cell_registry.specs.Rule.{Has, IsQuietSince, Fits, StoredLast, Owns, Apart, IsHistory, WordsAreAHistory}
 use Rattle.cell_registry.specs.Steps.{entry, Called}
 use Rattle.cell_registry.proofs.Calls.{next_fiber-rises, owned-after}
 use Rattle.cell_registry.proofs.Legal.{left-push, IsLegal-push, calls_by-push, calls_by-other}
+use Rattle.cell_registry.proofs.Told.{open_before}
 
 longer : (v h : List Entry) (e : Entry) → IsPrefix v h → IsPrefix v (h ++ e ∷ [])
 longer v h e p = (p.0 ++ e ∷ [], sym (append_assoc v p.0 (e ∷ [])) ∙ ap (λ (l : List Entry). l ++ e ∷ []) p.1)
@@ -74,13 +76,38 @@ apart_still views id w before mine =
     (each_view (λ j y. j ≢ id → Apart w y) views id w (λ j y other atj ne. mine j y other atj) (λ ne. absurd (ne refl)))
     i x ei j y ej ne
 
+-- ---- the value words
+-- a step at a word of another kind leaves them
+value_kept : (k : Limits) (words : List ℕ) (i x f : ℕ) → i < 3 + k.fibers + k.refs + k.deferreds → get_or (set words i x) (value_place k f) 0 ≡ get_or words (value_place k f) 0
+value_kept k words i x f below = get_or-set_other words i (value_place k f) x 0 (λ q. omega arith)
+
+-- another pass, after an entry that is not of its fibers
+stored_still : (k : Limits) (words : List ℕ) (i x : ℕ) (h : List Entry) (e : Entry) (u : Knowledge) → i < 3 + k.fibers + k.refs + k.deferreds → ((f : ℕ) → Owns u f → e.by ≢ f) → StoredLast k words h u → StoredLast k (set words i x) (h ++ e ∷ []) u
+stored_still k words i x h e u below apart s n is has opened =
+    let same : owned (cell_of (left k (h ++ e ∷ [])) u.number) ≡ owned (cell_of (left k h) u.number) = ap (λ (t : Cells). owned (cell_of t u.number)) (left-push k h e) ∙ owned-after (left k h) e.by e.call u.number (apart u.number (inl has)) in
+    value_kept k words i x u.number below ∙ s n is has (subst IsOpen (ap (λ o. o.0) same) opened)
+
+-- a pass, where the history stays
+stored_kept : (k : Limits) (words : List ℕ) (i x : ℕ) (h : List Entry) (u : Knowledge) → i < 3 + k.fibers + k.refs + k.deferreds → StoredLast k words h u → StoredLast k (set words i x) h u
+stored_kept k words i x h u below s n is has opened = value_kept k words i x u.number below ∙ s n is has opened
+
+-- the same pass, where its fiber has not ended since
+stored_as : (k : Limits) (words ws : List ℕ) (g h : List Entry) (v w : Knowledge) → w.number ≡ v.number → w.stored ≡ v.stored → Has v.fibers v.number
+    → (IsOpen (cell_of (left k h) v.number).stage → IsOpen (cell_of (left k g) v.number).stage)
+    → get_or ws (value_place k v.number) 0 ≡ get_or words (value_place k v.number) 0 → StoredLast k words g v → StoredLast k ws h w
+stored_as k words ws g h v w number stored has before same s n is _ opened =
+    ap (λ (f : ℕ). get_or ws (value_place k f) 0) number ∙ same ∙ s n (sym stored ∙ is) has (before (subst (λ (f : ℕ). IsOpen (cell_of (left k h) f).stage) number opened))
+
 -- what one call has to show, where h is the history before it
 pub record Turn (k : Limits) (v : Knowledge) (i x : ℕ) (then : ℕ → Knowledge → Type 0) (h : List Entry) (words : List ℕ) : Type 0 where
   pub call : Call
   pub accepted : IsAccepted k (left k h) v.number call
   pub word : Leaves (set words i x) (after (left k h) v.number call)
+  pub place : i < 3 + k.fibers + k.refs + k.deferreds
   pub view : Knowledge
   pub limits : view.limits ≡ v.limits
+  pub number : view.number ≡ v.number
+  pub stored : view.stored ≡ v.stored
   pub seen : view.seen ≡ h ++ entry v.number call (reply_of (left k h) v.number call) ∷ []
   pub guests : view.guests ≡ []
   pub heard : view.heard ≡ []
@@ -91,7 +118,10 @@ pub record Turn (k : Limits) (v : Knowledge) (i x : ℕ) (then : ℕ → Knowled
 pub record Look (k : Limits) (v : Knowledge) (i x : ℕ) (then : ℕ → Knowledge → Type 0) (h : List Entry) (words : List ℕ) : Type 0 where
   pub view : Knowledge
   pub word : Leaves (set words i x) (left k h)
+  pub place : i < 3 + k.fibers + k.refs + k.deferreds
   pub limits : view.limits ≡ v.limits
+  pub number : view.number ≡ v.number
+  pub stored : view.stored ≡ v.stored
   pub seen : view.seen ≡ h
   pub guests : view.guests ≡ []
   pub heard : view.heard ≡ []
@@ -126,6 +156,11 @@ module _ {S : Type 0} where
             (λ j u other atj. fits_still k h e u (λ g hasu is. r.apart id j v u at atj other g (subst (Owns v) is (inl has)) hasu) (r.fits j u atj))
             (fits_now k (h ++ e ∷ []) w (t.limits ∙ limits) t.seen t.guests t.heard
             (λ g hasw. rw push (⊎_elim (λ (a : Has v.fibers g). let b = (mine.own g a).born in let c : g < (after (left k h) v.number t.call).next_fiber = omega arith in c) (λ b. b.1) (t.fibers g hasw))));
+        stored = each_view (λ j u. StoredLast k (set s.words i x) (h ++ e ∷ []) u) s.views id w
+            (λ j u other atj. stored_still k s.words i x h e u t.place (λ g hasu is. r.apart id j v u at atj other g (subst (Owns v) is (inl has)) hasu) (r.stored j u atj))
+            (stored_as k s.words (set s.words i x) h (h ++ e ∷ []) v w t.number t.stored has
+            (λ opened. open_before k (left k h) v.number t.call v.number t.accepted.allowed (subst (λ (c : Cells). IsOpen (cell_of c v.number).stage) push opened))
+            (value_kept k s.words i x v.number t.place) (r.stored id v at));
         apart = apart_still s.views id w r.apart
             (λ j u other atj g ownw hasu. ⊎_elim
             (λ (hasw : Has w.fibers g). ⊎_elim (λ (a : Has v.fibers g). r.apart id j v u at atj other g (inl a) hasu)
@@ -143,12 +178,12 @@ module _ {S : Type 0} where
       (w, keeps, tt, (h ++ e ∷ [], kept'), (none_out, t.told made))
 
   pub turns : (k : Limits) (id : ℕ) (me : Me S Knowledge) (i : ℕ) (f : ℕ → ℕ) (then : ℕ → Knowledge → Type 0) (slots : ℕ) → me.1 ≡ [] → Has me.0.fibers me.0.number
-      → ((h : List Entry) (words : List ℕ) → AreLimits k → IsLegal k h → Leaves words (left k h) → Fits k h me.0 → Turn k me.0 i (f (get_or words i 0)) then h words)
+      → ((h : List Entry) (words : List ℕ) → AreLimits k → IsLegal k h → Leaves words (left k h) → Fits k h me.0 → StoredLast k words h me.0 → Turn k me.0 i (f (get_or words i 0)) then h words)
       → Allows (WordsAreAHistory k) slots id me i f (Tells then)
   turns k id me i f then slots none_out has makes s kept len at small =
       let r = kept.1 in
       turn_at k id me i (f (get_or s.words i 0)) then none_out has s kept at
-      (makes kept.0 s.words r.limits r.legal r.words_are (r.fits id me.0 at))
+      (makes kept.0 s.words r.limits r.legal r.words_are (r.fits id me.0 at) (r.stored id me.0 at))
 
   pub look_at : (k : Limits) (id : ℕ) (me : Me S Knowledge) (i x : ℕ) (then : ℕ → Knowledge → Type 0) → me.1 ≡ [] → Has me.0.fibers me.0.number
       → (s : State S Knowledge) (kept : WordsAreAHistory k s) → get_elem? s.views id ≡ some me.0 → Look k me.0 i x then kept.0 s.words → Goes k s i x id me (Tells then)
@@ -162,6 +197,8 @@ module _ {S : Type 0} where
         legal = r.legal;
         words_are = t.word;
         fits = each_view (λ j u. Fits k h u) s.views id w (λ j u other atj. r.fits j u atj) (fits_now k h w (t.limits ∙ mine.limits v.number has) t.seen t.guests t.heard (λ g hasw. owner_born k h v g mine (t.fibers g hasw)));
+        stored = each_view (λ j u. StoredLast k (set s.words i x) h u) s.views id w (λ j u other atj. stored_kept k s.words i x h u t.place (r.stored j u atj))
+            (stored_as k s.words (set s.words i x) h h v w t.number t.stored has (λ opened. opened) (value_kept k s.words i x v.number t.place) (r.stored id v at));
         apart = apart_still s.views id w r.apart (λ j u other atj g ownw hasu. ⊎_elim (λ (hasw : Has w.fibers g). r.apart id j v u at atj other g (t.fibers g hasw) hasu) (λ (no : Has w.guests g). absurd (subst (λ (fs : List ℕ). Has fs g) t.guests no)) ownw);
       } in
       (w, keeps, tt, (h, kept'), (none_out, t.told))
@@ -173,3 +210,12 @@ module _ {S : Type 0} where
       let r = kept.1 in
       look_at k id me i (get_or s.words i 0) then none_out has s kept at
       (makes kept.0 s.words r.legal r.words_are (r.fits id me.0 at))
+
+  -- a step that leaves the word and the pass as they are
+  pub stays : (k : Limits) (id : ℕ) (me : Me S Knowledge) (i : ℕ) (then : ℕ → Knowledge → Type 0) (slots : ℕ) → me.1 ≡ []
+      → ((h : List Entry) (words : List ℕ) → AreLimits k → IsLegal k h → Leaves words (left k h) → Fits k h me.0 → then (get_or words i 0) me.0)
+      → Allows (WordsAreAHistory k) slots id me i (λ n. n) (Tells then)
+  stays k id me i then slots none_out tells s kept len at small =
+      let r = kept.1 in
+      let same : stepped s i (get_or s.words i 0) id me.1 me.0 keeps ≡ s = λ j. record { words = set-get_or s.words i 0 j; homes = s.homes; views = set_again s.views id me.0 at j } in
+      (me.0, keeps, tt, subst (WordsAreAHistory k) (sym same) kept, (none_out, tells kept.0 s.words r.limits r.legal r.words_are (r.fits id me.0 at)))

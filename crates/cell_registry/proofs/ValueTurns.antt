@@ -1,13 +1,13 @@
 -- The steps on the word of a ref or a deferred.
-use Rattle.std.proofs.Common.{◌≡◌, ℕ, zero, suc, ◌+◌, ◌-◌, ◌%◌, ◌^◌, ◌<◌, Bool, List, [], ◌∷◌, ◌++◌, length, map, set, get_or, inl, refl, sym, ap, ◌∙◌, subst, arith, eqb, ne_eqb, length-set, FitsSigned, ℤ, pos, ◌+ℤ◌}
+use Rattle.std.proofs.Common.{◌≡◌, ℕ, zero, suc, ◌+◌, ◌-◌, ◌%◌, ◌^◌, ◌<◌, Bool, List, [], ◌∷◌, ◌++◌, length, map, set, get_or, inl, refl, sym, ap, ◌∙◌, subst, arith, eqb, ne_eqb, length-set, ℤ, pos, ◌+ℤ◌}
 use Rattle.std.specs.Prelude.{Option, Some, None, is_none}
-use Rattle.std.specs.Int.{w32, int_wrap, cast_unsigned, cast_signed}
-use Rattle.std.proofs.lemmas.Int.{ints, wrapping_add-bits, of_z-to_z, to_z-of_z}
 use Rattle.std.proofs.Math.ListN.{get_or-append}
 use Rattle.std.proofs.lemmas.List.{set-append_left, set-append_right, get_or-append_right, length-map, map-set, get_or-map}
 use prog.Atomic.{either}
 use Rattle.atomic_table.specs.Table.{Me, Allows}
 use Rattle.effect_term.specs.declared.reply.Reply.TheVariants as reply
+use Rattle.effect_term.specs.Values.{IsValue, value_bits, bits_value, wrapped}
+use Rattle.effect_term.proofs.ValueLaws.{bits_lt, back, forth, one, sum_bits}
 use Rattle.cell_registry.specs.declared.limits.Limits.{Limits}
 use Rattle.cell_registry.specs.declared.cell.Cell.{Cell}
 use Rattle.cell_registry.specs.declared.call.Call.{Call}
@@ -31,8 +31,9 @@ ref_at words s r i l is within =
     let long = length-map s.cells cell_word in
     let refs = l.long in
     let back : (length s.cells + r) - length s.cells ≡ r = omega arith in
-    let others : List ℕ = l.raw ++ map deferred_word s.deferreds in
-    rw (l.words_are, e) (get_or-append_right (map cell_word s.cells) others (length s.cells) (length s.cells + r) 0 long (omega arith) ∙ ap (λ m. get_or others m 0) back ∙ get_or-append l.raw (map deferred_word s.deferreds) 0 r (omega arith))
+    let behind : List ℕ = map deferred_word s.deferreds ++ l.values in
+    let others : List ℕ = l.raw ++ behind in
+    rw (l.words_are, e) (get_or-append_right (map cell_word s.cells) others (length s.cells) (length s.cells + r) 0 long (omega arith) ∙ ap (λ m. get_or others m 0) back ∙ get_or-append l.raw behind 0 r (omega arith))
 
 put_both : (P : ℕ → ℤ → Type 0) (xs : List ℕ) (ys : List ℤ) (i x : ℕ) (y : ℤ) → length xs ≡ length ys → P x y → ((j : ℕ) → P (get_or xs j 0) (get_or ys j (pos 0))) → (j : ℕ) → P (get_or (set xs i x) j 0) (get_or (set ys i y) j (pos 0))
 put_both P [] [] i x y e p h j = h j
@@ -43,18 +44,18 @@ put_both P (a ∷ xs) (b ∷ ys) zero x y e p h (suc j) = h (suc j)
 put_both P (a ∷ xs) (b ∷ ys) (suc i) x y e p h zero = h zero
 put_both P (a ∷ xs) (b ∷ ys) (suc i) x y e p h (suc j) = put_both P xs ys i x y (omega arith) p (λ m. h (suc m)) j
 
-put_ref : (words : List ℕ) (s : Cells) (r i n : ℕ) (v : ℤ) → Leaves words s → i ≡ r + (3 + length s.cells) → r < length s.refs → n % 2 ^ 32 ≡ cast_unsigned w32 v → Leaves (set words i n) (with_ref s r v)
+put_ref : (words : List ℕ) (s : Cells) (r i n : ℕ) (v : ℤ) → Leaves words s → i ≡ r + (3 + length s.cells) → r < length s.refs → n % 2 ^ 63 ≡ value_bits v → Leaves (set words i n) (with_ref s r v)
 put_ref words s r i n v l is within e =
     let j : i ≡ suc (suc (suc (length s.cells + r))) = omega arith in
     let long = length-map s.cells cell_word in
     let refs = l.long in
     let back : (length s.cells + r) - length s.cells ≡ r = omega arith in
-    let last : List ℕ = map deferred_word s.deferreds in
+    let last : List ℕ = map deferred_word s.deferreds ++ l.values in
     let rest : set (map cell_word s.cells ++ (l.raw ++ last)) (length s.cells + r) n ≡ map cell_word s.cells ++ (set l.raw r n ++ last) =
     set-append_right (map cell_word s.cells) (l.raw ++ last) (length s.cells) (length s.cells + r) n long (omega arith)
     ∙ ap (λ m. map cell_word s.cells ++ set (l.raw ++ last) m n) back
     ∙ ap (λ (x : List ℕ). map cell_word s.cells ++ x) (set-append_left l.raw last r n (omega arith)) in
-    record { raw = set l.raw r n; words_are = rw (l.words_are, j) (λ t. s.next_fiber ∷ s.next_ref ∷ s.next_deferred ∷ rest t); long = length-set l.raw r n ∙ l.long ∙ sym (length-set s.refs r v); refs = put_both (λ a b. a % 2 ^ 32 ≡ cast_unsigned w32 b) l.raw s.refs r n v l.long e l.refs }
+    record { raw = set l.raw r n; values = l.values; words_are = rw (l.words_are, j) (λ t. s.next_fiber ∷ s.next_ref ∷ s.next_deferred ∷ rest t); long = length-set l.raw r n ∙ l.long ∙ sym (length-set s.refs r v); refs = put_both (λ a b. a % 2 ^ 63 ≡ value_bits b) l.raw s.refs r n v l.long e l.refs; many = l.many; ended = l.ended }
 
 -- ---- a word for each deferred, behind the refs'
 deferred_at : (words : List ℕ) (s : Cells) (d i : ℕ) → Leaves words s → i ≡ d + (3 + length s.cells + length s.refs) → d < length s.deferreds → get_or words i 0 ≡ deferred_word (deferred_of s d)
@@ -64,43 +65,45 @@ deferred_at words s d i l is within =
     let long = length-map s.cells cell_word in
     let back : (length s.cells + (length s.refs + d)) - length s.cells ≡ length s.refs + d = omega arith in
     let again : (length s.refs + d) - length s.refs ≡ d = omega arith in
-    let last : List ℕ = map deferred_word s.deferreds in
+    let long_last = length-map s.deferreds deferred_word in
+    let last : List ℕ = map deferred_word s.deferreds ++ l.values in
     rw (l.words_are, e) (
     get_or-append_right (map cell_word s.cells) (l.raw ++ last) (length s.cells) (length s.cells + (length s.refs + d)) 0 long (omega arith)
     ∙ ap (λ x. get_or (l.raw ++ last) x 0) back
     ∙ get_or-append_right l.raw last (length s.refs) (length s.refs + d) 0 l.long (omega arith)
     ∙ ap (λ x. get_or last x 0) again
+    ∙ get_or-append (map deferred_word s.deferreds) l.values 0 d (omega arith)
     ∙ get_or-map deferred_word s.deferreds d None 0 within)
 
-put_deferred : (words : List ℕ) (s : Cells) (d i n : ℕ) (o : Option ℤ) → Leaves words s → i ≡ d + (3 + length s.cells + length s.refs) → n ≡ deferred_word o → Leaves (set words i n) (with_deferred s d o)
-put_deferred words s d i n o l is e =
+put_deferred : (words : List ℕ) (s : Cells) (d i n : ℕ) (o : Option ℤ) → Leaves words s → i ≡ d + (3 + length s.cells + length s.refs) → d < length s.deferreds → n ≡ deferred_word o → Leaves (set words i n) (with_deferred s d o)
+put_deferred words s d i n o l is within e =
     let j : i ≡ suc (suc (suc (length s.cells + (length s.refs + d)))) = omega arith in
     let long = length-map s.cells cell_word in
     let back : (length s.cells + (length s.refs + d)) - length s.cells ≡ length s.refs + d = omega arith in
     let again : (length s.refs + d) - length s.refs ≡ d = omega arith in
     let cells : List ℕ = map cell_word s.cells in
-    let last : List ℕ = map deferred_word s.deferreds in
-    let rest : set (cells ++ (l.raw ++ last)) (length s.cells + (length s.refs + d)) n ≡ cells ++ (l.raw ++ map deferred_word (set s.deferreds d o)) =
+    let long_last = length-map s.deferreds deferred_word in
+    let inner : List ℕ = map deferred_word s.deferreds in
+    let last : List ℕ = inner ++ l.values in
+    let rest : set (cells ++ (l.raw ++ last)) (length s.cells + (length s.refs + d)) n ≡ cells ++ (l.raw ++ (map deferred_word (set s.deferreds d o) ++ l.values)) =
     set-append_right cells (l.raw ++ last) (length s.cells) (length s.cells + (length s.refs + d)) n long (omega arith)
     ∙ ap (λ m. cells ++ set (l.raw ++ last) m n) back
     ∙ ap (λ (x : List ℕ). cells ++ x) (set-append_right l.raw last (length s.refs) (length s.refs + d) n l.long (omega arith) ∙ ap (λ m. l.raw ++ set last m n) again)
-    ∙ ap (λ x. cells ++ (l.raw ++ set last d x)) e
-    ∙ ap (λ (x : List ℕ). cells ++ (l.raw ++ x)) (sym (map-set deferred_word s.deferreds d o)) in
-    record { raw = l.raw; words_are = rw (l.words_are, j) (λ t. s.next_fiber ∷ s.next_ref ∷ s.next_deferred ∷ rest t); long = l.long; refs = l.refs }
+    ∙ ap (λ (x : List ℕ). cells ++ (l.raw ++ x)) (set-append_left inner l.values d n (omega arith))
+    ∙ ap (λ x. cells ++ (l.raw ++ (set inner d x ++ l.values))) e
+    ∙ ap (λ (x : List ℕ). cells ++ (l.raw ++ (x ++ l.values))) (sym (map-set deferred_word s.deferreds d o)) in
+    record { raw = l.raw; values = l.values; words_are = rw (l.words_are, j) (λ t. s.next_fiber ∷ s.next_ref ∷ s.next_deferred ∷ rest t); long = l.long; refs = l.refs; many = l.many; ended = l.ended }
 
 -- ---- bits
-bits-lt : (x : ℤ) → FitsSigned w32 x → cast_unsigned w32 x < 2 ^ 32
-bits-lt x f = omega (arith, ints)
-
 -- adding the bits of x to the word of y
-adds_bits : (n : ℕ) (x y : ℤ) → FitsSigned w32 x → FitsSigned w32 y → n % 2 ^ 32 ≡ cast_unsigned w32 y → (n + cast_unsigned w32 x) % 2 ^ 64 % 2 ^ 32 ≡ cast_unsigned w32 (int_wrap w32 (y +ℤ x))
+adds_bits : (n : ℕ) (x y : ℤ) → IsValue x → IsValue y → n % 2 ^ 63 ≡ value_bits y → (n + value_bits x) % 2 ^ 64 % 2 ^ 63 ≡ value_bits (wrapped (y +ℤ x))
+unfolding wrapped
 adds_bits n x y f g e =
-    let m : (n + cast_unsigned w32 x) % 2 ^ 64 % 2 ^ 32 ≡ (cast_unsigned w32 y + cast_unsigned w32 x) % 2 ^ 32 = rw (sym e) (omega arith) in
-    let w = wrapping_add-bits w32 (cast_unsigned w32 y) (cast_unsigned w32 x) (bits-lt y g) (bits-lt x f) in
-    m ∙ sym (of_z-to_z w32 ((cast_unsigned w32 y + cast_unsigned w32 x) % 2 ^ 32) (omega arith)) ∙ ap (cast_unsigned w32) (w ∙ (λ j. int_wrap w32 (to_z-of_z w32 y g j +ℤ to_z-of_z w32 x f j)))
+    let m : (n + value_bits x) % 2 ^ 64 % 2 ^ 63 ≡ (value_bits y + value_bits x) % 2 ^ 63 = rw (sym e) (omega arith) in
+    m ∙ sum_bits y x g f ∙ sym (forth (value_bits (y +ℤ x)) (bits_lt (y +ℤ x)))
 
 bits_one : (n : ℕ) (x y : ℤ) → HasBits n x → HasBits n y → x ≡ y
-bits_one n x y a b = sym (to_z-of_z w32 x a.0) ∙ ap (cast_signed w32) (sym a.1 ∙ b.1) ∙ to_z-of_z w32 y b.0
+bits_one n x y a b = one x y a.0 b.0 (sym a.1 ∙ b.1)
 
 -- the exchange for an empty deferred's word
 filled_word : (o : Option ℤ) (x : ℤ) (n : ℕ) → n ≡ deferred_word (Some x) → either (eqb (deferred_word o) 0) n (deferred_word o) ≡ deferred_word (filled o x)
@@ -116,8 +119,8 @@ deferred_word-one None None f g e = refl
 deferred_word-one None (Some y) f g e = absurd (omega arith)
 deferred_word-one (Some x) None f g e = absurd (omega arith)
 deferred_word-one (Some x) (Some y) f g e =
-    let bits : cast_unsigned w32 x ≡ cast_unsigned w32 y = omega arith in
-    ap Some (sym (to_z-of_z w32 x f) ∙ ap (cast_signed w32) bits ∙ to_z-of_z w32 y g)
+    let bits : value_bits x ≡ value_bits y = omega arith in
+    ap Some (one x y f g bits)
 
 some-one : {x y : ℤ} → Some x ≡ Some y → x ≡ y
 some-one {x} e = ap (λ (o : Option ℤ). value_or x o) e
@@ -127,10 +130,10 @@ some-one {x} e = ap (λ (o : Option ℤ). value_or x o) e
     value_or a (Some b) = b
 
 -- ---- a call that changes no cell
-value_turn : (k : Limits) (h : List Entry) (words : List ℕ) (v : Knowledge) (i x : ℕ) (then : ℕ → Knowledge → Type 0) (c : Call) → Has v.fibers v.number → Fits k h v → IsAccepted k (left k h) v.number c
+value_turn : (k : Limits) (h : List Entry) (words : List ℕ) (v : Knowledge) (i x : ℕ) (then : ℕ → Knowledge → Type 0) (c : Call) → Has v.fibers v.number → Fits k h v → i < 3 + k.fibers + k.refs + k.deferreds → IsAccepted k (left k h) v.number c
     → (after (left k h) v.number c).cells ≡ (left k h).cells → Leaves (set words i x) (after (left k h) v.number c)
     → ((w : Knowledge) → Called v c (reply_of (left k h) v.number c) w → IsSame v w → then (get_or words i 0) w) → Turn k v i x then h words
-value_turn k h words v i x then c has mine accepted cells word told =
+value_turn k h words v i x then c has mine place accepted cells word told =
     let s : Cells = left k h in
     let e : Entry = entry v.number c (reply_of s v.number c) in
     let w : Knowledge = advanced v h e in
@@ -139,8 +142,11 @@ value_turn k h words v i x then c has mine accepted cells word told =
       call = c;
       accepted = accepted;
       word = word;
+      place = place;
       view = w;
       limits = refl;
+      number = refl;
+      stored = refl;
       seen = refl;
       guests = refl;
       heard = refl;
@@ -152,15 +158,15 @@ module _ {S : Type 0} where
   pub gets : (k : Limits) (id : ℕ) (me : Me S Knowledge) (i slots r : ℕ) → me.1 ≡ [] → Has me.0.fibers me.0.number → r < k.refs → i ≡ r + (3 + k.fibers)
       → Allows (WordsAreAHistory k) slots id me i (λ n. n) (Tells (Got i me.0))
   unfolding after reply_of IsAllowed refusal
-  gets k id me i slots r none_out has within is = turns k id me i (λ n. n) (Got i me.0) slots none_out has (λ h words limited legal leaves mine.
+  gets k id me i slots r none_out has within is = turns k id me i (λ n. n) (Got i me.0) slots none_out has (λ h words limited legal leaves mine last.
       let v : Knowledge = me.0 in
       let s : Cells = left k h in
       let good = sound k h limited legal in
       let fibers = good.fibers in let refs = good.refs in
       let place : i ≡ r + (3 + length s.cells) = omega arith in
       let at = ref_at words s r i leaves place (omega arith) in
-      let found : ref_of s r ≡ ref_value (get_or words i 0) = sym (to_z-of_z w32 (ref_of s r) (good.each_ref r)) ∙ ap (cast_signed w32) (sym (ap (λ n. n % 2 ^ 32) at ∙ leaves.refs r)) in
-      value_turn k h words v i (get_or words i 0) (Got i v) (Get r) has mine record { allowed = within; room = refl } refl (same_words words s i leaves)
+      let found : ref_of s r ≡ ref_value (get_or words i 0) = sym (back (ref_of s r) (good.each_ref r)) ∙ ap bits_value (sym (ap (λ n. n % 2 ^ 63) at ∙ leaves.refs r)) in
+      value_turn k h words v i (get_or words i 0) (Got i v) (Get r) has mine (omega arith) record { allowed = within; room = refl } refl (same_words words s i leaves)
       (λ w made same q iq.
       let limits = ap (λ (l : Limits). l.fibers) (mine.limits v.number has) in
       let one : r ≡ q = omega arith in
@@ -169,15 +175,15 @@ module _ {S : Type 0} where
   pub sets : (k : Limits) (id : ℕ) (me : Me S Knowledge) (i n slots r : ℕ) (x : ℤ) → me.1 ≡ [] → Has me.0.fibers me.0.number → r < k.refs → i ≡ r + (3 + k.fibers) → HasBits n x
       → Allows (WordsAreAHistory k) slots id me i (λ _. n) (λ _ now. (now.1 ≡ []) × WasSet i n me.0 now.0)
   unfolding after reply_of IsAllowed refusal
-  sets k id me i n slots r x none_out has within is bits = turns k id me i (λ _. n) (λ _ w. WasSet i n me.0 w) slots none_out has (λ h words limited legal leaves mine.
+  sets k id me i n slots r x none_out has within is bits = turns k id me i (λ _. n) (λ _ w. WasSet i n me.0 w) slots none_out has (λ h words limited legal leaves mine last.
       let v : Knowledge = me.0 in
       let s : Cells = left k h in
       let good = sound k h limited legal in
       let fibers = good.fibers in let refs = good.refs in
       let place : i ≡ r + (3 + length s.cells) = omega arith in
-      let small = bits-lt x bits.0 in
-      let low : n % 2 ^ 32 ≡ cast_unsigned w32 x = let e = bits.1 in omega arith in
-      value_turn k h words v i n (λ _ w. WasSet i n v w) (Set r x) has mine record { allowed = (within, bits.0); room = refl } refl (put_ref words s r i n x leaves place (omega arith) low)
+      let small = bits_lt x in
+      let low : n % 2 ^ 63 ≡ value_bits x = let e = bits.1 in omega arith in
+      value_turn k h words v i n (λ _ w. WasSet i n v w) (Set r x) has mine (omega arith) record { allowed = (within, bits.0); room = refl } refl (put_ref words s r i n x leaves place (omega arith) low)
       (λ w made same q iq z hz.
       let limits = ap (λ (l : Limits). l.fibers) (mine.limits v.number has) in
       let one : r ≡ q = omega arith in
@@ -186,7 +192,7 @@ module _ {S : Type 0} where
   pub modifies : (k : Limits) (id : ℕ) (me : Me S Knowledge) (i n slots r : ℕ) (x : ℤ) → me.1 ≡ [] → Has me.0.fibers me.0.number → r < k.refs → i ≡ r + (3 + k.fibers) → HasBits n x
       → Allows (WordsAreAHistory k) slots id me i (λ a. (a + n) % 18446744073709551616) (Tells (Modified i n me.0))
   unfolding after reply_of IsAllowed refusal
-  modifies k id me i n slots r x none_out has within is bits = turns k id me i (λ a. (a + n) % 18446744073709551616) (Modified i n me.0) slots none_out has (λ h words limited legal leaves mine.
+  modifies k id me i n slots r x none_out has within is bits = turns k id me i (λ a. (a + n) % 18446744073709551616) (Modified i n me.0) slots none_out has (λ h words limited legal leaves mine last.
       let v : Knowledge = me.0 in
       let s : Cells = left k h in
       let good = sound k h limited legal in
@@ -194,19 +200,19 @@ module _ {S : Type 0} where
       let place : i ≡ r + (3 + length s.cells) = omega arith in
       let at = ref_at words s r i leaves place (omega arith) in
       let y : ℤ = ref_of s r in
-      let low = ap (λ m. m % 2 ^ 32) at ∙ leaves.refs r in
-      let law : (get_or words i 0 + n) % 2 ^ 64 % 2 ^ 32 ≡ cast_unsigned w32 (int_wrap w32 (y +ℤ x)) = ap (λ m. (get_or words i 0 + m) % 2 ^ 64 % 2 ^ 32) bits.1 ∙ adds_bits (get_or words i 0) x y bits.0 (good.each_ref r) low in
-      let found : y ≡ ref_value (get_or words i 0) = sym (to_z-of_z w32 y (good.each_ref r)) ∙ ap (cast_signed w32) (sym low) in
-      value_turn k h words v i ((get_or words i 0 + n) % 18446744073709551616) (Modified i n v) (Modify r x) has mine record { allowed = (within, bits.0); room = refl } refl (put_ref words s r i _ _ leaves place (omega arith) law)
+      let low = ap (λ m. m % 2 ^ 63) at ∙ leaves.refs r in
+      let law : (get_or words i 0 + n) % 2 ^ 64 % 2 ^ 63 ≡ value_bits (wrapped (y +ℤ x)) = ap (λ m. (get_or words i 0 + m) % 2 ^ 64 % 2 ^ 63) bits.1 ∙ adds_bits (get_or words i 0) x y bits.0 (good.each_ref r) low in
+      let found : y ≡ ref_value (get_or words i 0) = sym (back y (good.each_ref r)) ∙ ap bits_value (sym low) in
+      value_turn k h words v i ((get_or words i 0 + n) % 18446744073709551616) (Modified i n v) (Modify r x) has mine (omega arith) record { allowed = (within, bits.0); room = refl } refl (put_ref words s r i _ _ leaves place (omega arith) law)
       (λ w made same q iq z hz.
       let limits = ap (λ (l : Limits). l.fibers) (mine.limits v.number has) in
       let one : r ≡ q = omega arith in
       (subst (λ (t : ℕ × ℤ × ℤ). Called v (Modify t.0 t.1) (reply.Value t.2) w) (λ j. (one j, bits_one n x z bits hz j, found j)) made, same)))
 
-  pub completes : (k : Limits) (id : ℕ) (me : Me S Knowledge) (i n slots d : ℕ) (x : ℤ) → me.1 ≡ [] → Has me.0.fibers me.0.number → d < k.deferreds → i ≡ d + (3 + k.fibers + k.refs) → FitsSigned w32 x → n ≡ deferred_word (Some x)
+  pub completes : (k : Limits) (id : ℕ) (me : Me S Knowledge) (i n slots d : ℕ) (x : ℤ) → me.1 ≡ [] → Has me.0.fibers me.0.number → d < k.deferreds → i ≡ d + (3 + k.fibers + k.refs) → IsValue x → n ≡ deferred_word (Some x)
       → Allows (WordsAreAHistory k) slots id me i (λ a. either (eqb a 0) n a) (Tells (Completed i n me.0))
   unfolding after reply_of IsAllowed refusal
-  completes k id me i n slots d x none_out has within is fits bits = turns k id me i (λ a. either (eqb a 0) n a) (Completed i n me.0) slots none_out has (λ h words limited legal leaves mine.
+  completes k id me i n slots d x none_out has within is fits bits = turns k id me i (λ a. either (eqb a 0) n a) (Completed i n me.0) slots none_out has (λ h words limited legal leaves mine last.
       let v : Knowledge = me.0 in
       let s : Cells = left k h in
       let good = sound k h limited legal in
@@ -216,7 +222,7 @@ module _ {S : Type 0} where
       let at : get_or words i 0 ≡ deferred_word o = deferred_at words s d i leaves place (omega arith) in
       let law : either (eqb (get_or words i 0) 0) n (get_or words i 0) ≡ deferred_word (filled o x) = ap (λ a. either (eqb a 0) n a) at ∙ filled_word o x n bits in
       let did : is_none o ≡ eqb (get_or words i 0) 0 = empty_word o ∙ ap (λ a. eqb a 0) (sym at) in
-      value_turn k h words v i (either (eqb (get_or words i 0) 0) n (get_or words i 0)) (Completed i n v) (Complete d x) has mine record { allowed = (within, fits); room = refl } refl (put_deferred words s d i _ (filled o x) leaves place law)
+      value_turn k h words v i (either (eqb (get_or words i 0) 0) n (get_or words i 0)) (Completed i n v) (Complete d x) has mine (omega arith) record { allowed = (within, fits); room = refl } refl (put_deferred words s d i _ (filled o x) leaves place (omega arith) law)
       (λ w made same q iq z fz ez.
       let fs = ap (λ (l : Limits). l.fibers) (mine.limits v.number has) in
       let rs = ap (λ (l : Limits). l.refs) (mine.limits v.number has) in
@@ -227,7 +233,7 @@ module _ {S : Type 0} where
   pub reads : (k : Limits) (id : ℕ) (me : Me S Knowledge) (i slots d : ℕ) → me.1 ≡ [] → Has me.0.fibers me.0.number → d < k.deferreds → i ≡ d + (3 + k.fibers + k.refs)
       → Allows (WordsAreAHistory k) slots id me i (λ n. n) (Tells (WasRead i me.0))
   unfolding after reply_of IsAllowed refusal
-  reads k id me i slots d none_out has within is = turns k id me i (λ n. n) (WasRead i me.0) slots none_out has (λ h words limited legal leaves mine.
+  reads k id me i slots d none_out has within is = turns k id me i (λ n. n) (WasRead i me.0) slots none_out has (λ h words limited legal leaves mine last.
       let v : Knowledge = me.0 in
       let s : Cells = left k h in
       let good = sound k h limited legal in
@@ -235,7 +241,7 @@ module _ {S : Type 0} where
       let place : i ≡ d + (3 + length s.cells + length s.refs) = omega arith in
       let o : Option ℤ = deferred_of s d in
       let at : get_or words i 0 ≡ deferred_word o = deferred_at words s d i leaves place (omega arith) in
-      value_turn k h words v i (get_or words i 0) (WasRead i v) (Read d) has mine record { allowed = within; room = refl } refl (same_words words s i leaves)
+      value_turn k h words v i (get_or words i 0) (WasRead i v) (Read d) has mine (omega arith) record { allowed = within; room = refl } refl (same_words words s i leaves)
       (λ w made same q iq.
       let fs = ap (λ (l : Limits). l.fibers) (mine.limits v.number has) in
       let rs = ap (λ (l : Limits). l.refs) (mine.limits v.number has) in

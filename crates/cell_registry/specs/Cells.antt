@@ -1,8 +1,6 @@
 -- A registry as one thread would keep it: plain records, and what each call does to them.
 use Rattle.std.specs.Prelude.{◌≡◌, ℕ, ◌+◌, ◌-◌, ◌^◌, ◌<◌, ◌≤◌, Bool, true, false, ◌==◌, List, length, Option, Some}
 use Rattle.std.specs.Prelude.{None, cond, is_none, replicate, slice_index_or, slice_set, ℤ, pos, ◌+ℤ◌}
-use Rattle.std.specs.Int.{w32, int_wrap}
-use Rattle.std.specs.Int.RustNames.{FitsSigned}
 use Rattle.effect_term.specs.declared.reply.Outcome.{Outcome}
 use Rattle.effect_term.specs.declared.reply.Outcome.TheVariants.{Succeeded, Errored, Canceled}
 use Rattle.effect_term.specs.declared.reply.CancelReply.{CancelReply}
@@ -11,7 +9,8 @@ use Rattle.effect_term.specs.declared.reply.JoinReply.{JoinReply}
 use Rattle.effect_term.specs.declared.reply.JoinReply.TheVariants as joined
 use Rattle.effect_term.specs.declared.reply.Reply.{Reply}
 use Rattle.effect_term.specs.declared.reply.Reply.TheVariants as reply
-pub use Rattle.control_word.specs.Word.{OutcomeFits}
+pub use Rattle.effect_term.specs.Outcomes.{OutcomeFits}
+use Rattle.effect_term.specs.Values.{IsValue, wrapped}
 use Rattle.cell_registry.specs.declared.limits.Limits.{Limits}
 use Rattle.cell_registry.specs.declared.limits.Band.{Band}
 use Rattle.cell_registry.specs.declared.limits.Band.TheVariants.{Fibers, Refs, Deferreds}
@@ -33,7 +32,7 @@ pub record AreLimits (k : Limits) : Type 0 where
   pub some_deferred : 0 < k.deferreds
   pub deferreds : k.deferreds ≤ 1000
   pub some_count : 0 < k.count
-  pub count : k.count < 2 ^ 18
+  pub count : k.count < 2 ^ 40
 
 -- ---- the cell of one fiber
 -- a cell at the opening
@@ -93,8 +92,8 @@ MayUnmask (Ended o) depth = ⊥
 -- the fiber may end with this outcome: a running one unmasked and not as canceled, and one that runs its finalizers
 -- as canceled, under the mask of the cut alone
 abbrev pub MayFinish : Stage → ℕ → Outcome → Type 0
-MayFinish Running depth (Succeeded v) = (depth ≡ 0) × FitsSigned w32 v
-MayFinish Running depth (Errored c) = (depth ≡ 0) × FitsSigned w32 c
+MayFinish Running depth (Succeeded v) = (depth ≡ 0) × IsValue v
+MayFinish Running depth (Errored c) = (depth ≡ 0) × IsValue c
 MayFinish Running depth Canceled = ⊥
 MayFinish Finalizing depth (Succeeded v) = ⊥
 MayFinish Finalizing depth (Errored c) = ⊥
@@ -160,7 +159,7 @@ after s by NewRef = record s { next_ref = s.next_ref + 1 }
 after s by NewDeferred = record s { next_deferred = s.next_deferred + 1 }
 after s by (Get r) = s
 after s by (Set r v) = with_ref s r v
-after s by (Modify r v) = with_ref s r (int_wrap w32 (ref_of s r +ℤ v))
+after s by (Modify r v) = with_ref s r (wrapped (ref_of s r +ℤ v))
 after s by (Complete d v) = with_deferred s d (filled (deferred_of s d) v)
 after s by (Read d) = s
 
@@ -195,9 +194,9 @@ IsAllowed k s by (Finish o) = MayFinish (cell_of s by).stage (cell_of s by).dept
 IsAllowed k s by NewRef = Unit {0}
 IsAllowed k s by NewDeferred = Unit {0}
 IsAllowed k s by (Get r) = r < k.refs
-IsAllowed k s by (Set r v) = (r < k.refs) × FitsSigned w32 v
-IsAllowed k s by (Modify r v) = (r < k.refs) × FitsSigned w32 v
-IsAllowed k s by (Complete d v) = (d < k.deferreds) × FitsSigned w32 v
+IsAllowed k s by (Set r v) = (r < k.refs) × IsValue v
+IsAllowed k s by (Modify r v) = (r < k.refs) × IsValue v
+IsAllowed k s by (Complete d v) = (d < k.deferreds) × IsValue v
 IsAllowed k s by (Read d) = d < k.deferreds
 
 -- all numbers of the band are given
@@ -240,7 +239,7 @@ StageInRange (Ended o) = OutcomeFits o
 
 abbrev pub ValueFits : Option ℤ → Type 0
 ValueFits None = Unit {0}
-ValueFits (Some v) = FitsSigned w32 v
+ValueFits (Some v) = IsValue v
 
 -- a cell within its limits
 pub record IsCell (k : Limits) (c : Cell) : Type 0 where
@@ -258,5 +257,5 @@ pub record IsSound (k : Limits) (s : Cells) : Type 0 where
   pub next_ref : s.next_ref ≤ k.refs
   pub next_deferred : s.next_deferred ≤ k.deferreds
   pub each_cell : (f : ℕ) → IsCell k (cell_of s f)
-  pub each_ref : (r : ℕ) → FitsSigned w32 (ref_of s r)
+  pub each_ref : (r : ℕ) → IsValue (ref_of s r)
   pub each_deferred : (d : ℕ) → ValueFits (deferred_of s d)

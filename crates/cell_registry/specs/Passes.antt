@@ -29,11 +29,12 @@ pub record RegistryView : Type 0 where
   pub table : TableId
   pub limits : Limits
 
--- the table is for these limits, and has a word for each band, fiber, ref and deferred, and no slot
+-- the table is for these limits, and has a word for each band, two for each fiber, one for each ref and deferred, and
+-- no slot
 pub record IsRegistry (key : Limits) (r : RegistryView) : Type 0 where
   pub key_is : key ≡ r.limits
   pub limits : AreLimits r.limits
-  pub words : r.table.words ≡ r.limits.fibers + r.limits.refs + r.limits.deferreds + 3
+  pub words : r.table.words ≡ r.limits.fibers + r.limits.refs + r.limits.deferreds + r.limits.fibers + 3
   pub slots : r.table.slots ≡ 0
 
 -- ---- a pass

@@ -1,17 +1,16 @@
 -- What each step tells the pass that makes it.
-use Rattle.std.specs.Prelude.{◌≡◌, ◌≢◌, ℕ, ◌+◌, ◌<◌, Bool, ◌==◌, List, [], ◌∷◌, ◌++◌, ◌⊎◌, Option, Some, ℤ}
-use Rattle.std.specs.Int.{w32, cast_unsigned}
-use Rattle.std.specs.Int.RustNames.{FitsSigned}
+use Rattle.std.specs.Prelude.{◌≡◌, ◌≢◌, ℕ, ◌+◌, ◌<◌, Bool, ◌==◌, List, [], ◌∷◌, ◌++◌, ◌⊎◌, Option, Some, None, ℤ}
 use mathlib.Core.List.{IsPrefix}
 use Rattle.effect_term.specs.declared.reply.Outcome.{Outcome}
 use Rattle.effect_term.specs.declared.reply.Reply.{Reply}
 use Rattle.effect_term.specs.declared.reply.Reply.TheVariants as reply
-use Rattle.control_word.specs.Word.{InRange, bit, finish_sum}
+use Rattle.effect_term.specs.Values.{IsValue, value_bits}
+use Rattle.control_word.specs.Word.{InRange, bit, finish_sum, value_of}
 use Rattle.cell_registry.specs.declared.limits.Limits.{Limits}
 use Rattle.cell_registry.specs.declared.limits.Band.{Band}
 use Rattle.cell_registry.specs.declared.limits.Band.TheVariants.{Fibers, Refs, Deferreds}
 use Rattle.cell_registry.specs.declared.cell.Stage.{Stage}
-use Rattle.cell_registry.specs.declared.cell.Stage.TheVariants.{Running}
+use Rattle.cell_registry.specs.declared.cell.Stage.TheVariants.{Running, Ended}
 use Rattle.cell_registry.specs.declared.cell.Cell.{Cell}
 use Rattle.cell_registry.specs.declared.call.Call.{Call}
 use Rattle.cell_registry.specs.declared.call.Call.TheVariants.{Cancel, Join, Look, Mask, Unmask, Cut, Finish, Get}
@@ -22,7 +21,7 @@ use Rattle.cell_registry.specs.Cells.{masked, unmasked, cut, finished, owned, re
 use Rattle.cell_registry.specs.Cells.{join_reply, OutcomeFits, ValueFits}
 use Rattle.cell_registry.specs.Histories.{left, IsLegal, calls_by}
 use Rattle.cell_registry.specs.Bands.{next_of, limit_of, claim_of, AreAllGiven}
-use Rattle.cell_registry.specs.Words.{phase_at, control, cell_word, deferred_word, ref_value}
+use Rattle.cell_registry.specs.Words.{phase_at, control, cell_word, deferred_word, ref_value, value_place, HoldsOutcome}
 use Rattle.cell_registry.specs.Rule.{Has, seen_cell}
 
 -- ---- calls and looks
@@ -75,8 +74,10 @@ abbrev pub Cancelled : ℕ → Knowledge → ℕ → Knowledge → Type 0
 Cancelled f v found w =
     FoundCell found (λ c. Called v (Cancel f) (reply.Cancel (cancel_reply c.stage c.request)) w × IsSame v w)
 
+-- the stage that was found stands in what was seen
 abbrev pub Joined : ℕ → Knowledge → ℕ → Knowledge → Type 0
-Joined f v found w = FoundCell found (λ c. Called v (Join f) (reply.Join (join_reply c.stage)) w × IsSame v w)
+Joined f v found w = FoundCell found (λ c. Called v (Join f) (reply.Join (join_reply c.stage)) w × IsSame v w ×
+    ((seen_cell w f).stage ≡ c.stage))
 
 -- the request that was found stands in what was seen
 abbrev pub SawRequest : Knowledge → ℕ → Knowledge → Type 0
@@ -104,10 +105,24 @@ Unmasked v w = Changed v Unmask unmasked w
 abbrev pub WasCut : Knowledge → Knowledge → Type 0
 WasCut v w = Changed v Cut cut w
 
--- the owner added k, which tells the outcome
+-- the owner added k, which tells the outcome with what the pass had stored last
 abbrev pub Finished : ℕ → Knowledge → Knowledge → Type 0
 Finished k v w = (b : Bool) (o : Outcome) → phase_at (seen_cell v v.number).stage ≡ bit b → OutcomeFits o →
-    k ≡ finish_sum b o → Changed v (Finish o) (finished o) w
+    v.stored ≡ Some (value_bits (value_of o)) → k ≡ finish_sum b o → Changed v (Finish o) (finished o) w
+
+-- ---- steps on value words, which make no call and see nothing more
+-- the number n was stored in the value word of the pass's fiber
+abbrev pub WasStored : ℕ → Knowledge → Knowledge → Type 0
+WasStored n v w = w ≡ record v { stored = Some n }
+
+-- the step was at the value word of the fiber f
+abbrev pub AtValue : ℕ → Limits → (ℕ → Type 0) → Type 0
+AtValue i k P = (f : ℕ) → i ≡ value_place k f → P f
+
+-- the word that was found is that of the outcome that stands in what the pass has seen, if one does
+abbrev pub FoundValue : ℕ → Knowledge → ℕ → Knowledge → Type 0
+FoundValue i v found w = (w ≡ v) ×
+    AtValue i v.limits (λ f. (o : Outcome) → (seen_cell v f).stage ≡ Ended o → HoldsOutcome found o)
 
 -- ---- steps on the word of a ref or a deferred
 -- the word i is that of the ref r
@@ -118,9 +133,9 @@ AtRef i k P = (r : ℕ) → i ≡ r + (3 + k.fibers) → P r
 abbrev pub AtDeferred : ℕ → Limits → (ℕ → Type 0) → Type 0
 AtDeferred i k P = (d : ℕ) → i ≡ d + (3 + k.fibers + k.refs) → P d
 
--- n has the 32 bits of v
+-- n has the 63 bits of v
 abbrev pub HasBits : ℕ → ℤ → Type 0
-HasBits n v = FitsSigned w32 v × (n ≡ cast_unsigned w32 v)
+HasBits n v = IsValue v × (n ≡ value_bits v)
 
 abbrev pub Got : ℕ → Knowledge → ℕ → Knowledge → Type 0
 Got i v found w = AtRef i v.limits (λ r. Called v (Get r) (reply.Value (ref_value found)) w × IsSame v w)
@@ -136,7 +151,7 @@ Modified i n v found w = AtRef i v.limits (λ r. (x : ℤ) → HasBits n x →
 
 -- n was exchanged for an empty deferred's word
 abbrev pub Completed : ℕ → ℕ → Knowledge → ℕ → Knowledge → Type 0
-Completed i n v found w = AtDeferred i v.limits (λ d. (x : ℤ) → FitsSigned w32 x → n ≡ deferred_word (Some x) →
+Completed i n v found w = AtDeferred i v.limits (λ d. (x : ℤ) → IsValue x → n ≡ deferred_word (Some x) →
     Called v (Complete d x) (reply.Completed (found == 0)) w × IsSame v w)
 
 -- the word that was found is that of the value
@@ -213,7 +228,7 @@ abbrev pub parent : Knowledge → Knowledge
 parent v = record v { fibers = without_newest v.fibers; guests = []; heard = [] }
 
 abbrev pub child : Knowledge → Knowledge
-child v = record v { number = newest v.fibers; fibers = newest v.fibers ∷ []; guests = []; heard = [] }
+child v = record v { number = newest v.fibers; fibers = newest v.fibers ∷ []; guests = []; heard = []; stored = None }
 
 -- one pass takes in the fibers of another, which is spent
 abbrev pub hosting : Knowledge → Knowledge → Knowledge
@@ -227,6 +242,7 @@ nothing = record {
   seen = [];
   guests = [];
   heard = [];
+  stored = None;
 }
 
 -- the guests became fibers of the pass, which has seen the history so far

@@ -1,5 +1,5 @@
 //! The calls that fibers share.
-use effect_term::{Outcome, Reply};
+use effect_term::{Outcome, Reply, Value};
 
 /// One shared call.
 #[derive(Clone, Copy, PartialEq, Eq, Debug)]
@@ -27,11 +27,11 @@ pub enum Call {
     /// Asks for the value of a ref.
     Get(u16),
     /// Sets the value of a ref.
-    Set(u16, i32),
-    /// Adds to a ref modulo 2^32, and asks for its old value.
-    Modify(u16, i32),
+    Set(u16, Value),
+    /// Adds to a ref modulo 2^63, and asks for its old value.
+    Modify(u16, Value),
     /// Fills a deferred, unless it is filled.
-    Complete(u16, i32),
+    Complete(u16, Value),
     /// Asks for the value of a deferred.
     Read(u16),
 }

@@ -24,5 +24,5 @@ pub struct Cell {
     /// Whether somebody has joined it.
     pub waited: bool,
     /// How many changes its owner has made.
-    pub count: u32,
+    pub count: u64,
 }

@@ -18,4 +18,8 @@ pub struct Knowledge {
     pub guests: LinkedList<u16>,
     /// While another pass is met: the history that it had seen, until the next step.
     pub heard: LinkedList<Entry>,
+    /// What the pass stored last in its fiber's value word: `None` as long as it has stored nothing,
+    /// so from the start of the fiber until it ends. Nothing is known of the word before that, and
+    /// nobody needs to know it.
+    pub stored: Option<u64>,
 }

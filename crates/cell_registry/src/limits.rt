@@ -5,7 +5,7 @@ ghost use Rattle.cell_registry.specs.declared.limits.RunError.TheVariants.{NoMem
 use std::alloc::AllocError;
 
 /// How many numbers each band of a registry has, each from 1 to 1000, and how often the owner of a
-/// fiber may change its cell, from 1 to 262,143.
+/// fiber may change its cell, from 1 to 1,099,511,627,775.
 #[derive(Clone, Copy, PartialEq, Eq, Debug)]
 pub struct Limits {
     /// How many fibers, the first one included.
@@ -15,7 +15,7 @@ pub struct Limits {
     /// How many deferreds.
     pub deferreds: u16,
     /// How many owner's changes each fiber may make.
-    pub count: u32,
+    pub count: u64,
 }
 
 /// The kinds of numbers that a registry gives.
@@ -37,7 +37,7 @@ pub enum CellError {
     /// All numbers of the band are given. It has so many.
     Full(Band, u16),
     /// The caller has made as many changes of its cell as the limit allows, which is this number.
-    Spent(u32),
+    Spent(u64),
 }
 
 /// Why a run of a whole program ends without a report.

@@ -14,12 +14,12 @@ use crate::limits::CellError;
 use crate::pass::Pass;
 use crate::registry::Registry;
 use crate::rule;
-use crate::words::cell_place;
+use crate::words::{cell_place, outcome_word, value_place};
 use control_word::{cut_amount, finish_amount, mask_amount, unmask_amount};
 use effect_term::Outcome;
 
 // Refuses where the count of changes is used up.
-fn refuse_if_spent(count: u32, limit: u32) -> Result<(), CellError>
+fn refuse_if_spent(count: u64, limit: u64) -> Result<(), CellError>
     ensures room { IfOk result (λ _. count ≢ limit) }
     ensures spent { IfErr result (λ e. (e ≡ Spent count) × (count ≡ limit)) }
 {
@@ -104,7 +104,8 @@ impl Registry {
     }
 
     /// Ends the fiber. A running one is under no mask and doesn't end as canceled; one that
-    /// finalizes is under the mask of its cut alone, and does.
+    /// finalizes is under the mask of its cut alone, and does. The outcome's number is stored in the
+    /// fiber's value word first, which no other fiber reads before the end.
     pub fn finish(&self, pass: &mut Pass, outcome: Outcome) -> Result<(), CellError>
         requires own { IsOf self.now pass.old }
         requires may { MayFinish pass.old.stage pass.old.depth outcome }
@@ -114,7 +115,12 @@ impl Registry {
         ensures spent { IfErr result (λ e. IsSpent pass.old e pass.new) }
     {
         refuse_if_spent(pass.count, self.limits.count)?;
+        let place = value_place(self.limits, pass.number);
         let amount = finish_amount(is_finalizing(pass.stage), outcome);
+        let value = outcome_word(&outcome);
+        self.table
+            .shared
+            .store::<rule::Stores>(&mut pass.seat, place, value);
         self.table
             .shared
             .fetch_add::<rule::Finishes>(&mut pass.seat, cell_place(pass.number), amount);

@@ -18,7 +18,7 @@ pub struct Pass {
     pub(crate) number: u16,
     pub(crate) stage: Stage,
     pub(crate) depth: u8,
-    pub(crate) count: u32,
+    pub(crate) count: u64,
     pub(crate) saw: bool,
 }
 
@@ -58,7 +58,7 @@ impl Pass {
     }
 
     /// How often the fiber changed its own cell.
-    pub fn count(&self) -> u32
+    pub fn count(&self) -> u64
         ensures count { result ≡ self.now.count }
     {
         self.count

@@ -6,7 +6,8 @@ ghost use Rattle.cell_registry.specs.Plain.{new_plain, IsPlain, MayCall, IsMade,
 use crate::call::Call;
 use crate::cell::{Cell, Stage};
 use crate::limits::{Band, CellError, Limits};
-use effect_term::{CancelReply, JoinReply, Outcome, Reply};
+use control_word::{value_word, word_value};
+use effect_term::{CancelReply, JoinReply, Outcome, Reply, Value};
 use std::alloc::{AllocError, Global};
 use std::marker::Model;
 
@@ -23,8 +24,8 @@ pub struct PlainRegistry {
     next_ref: u16,
     next_deferred: u16,
     cells: Vec<Cell>,
-    refs: Vec<i32>,
-    deferreds: Vec<Option<i32>>,
+    refs: Vec<Value>,
+    deferreds: Vec<Option<Value>>,
 }
 
 impl Model for PlainRegistry {
@@ -74,7 +75,7 @@ impl PlainRegistry {
         fibers: u16,
         refs: u16,
         deferreds: u16,
-        limit: u32,
+        limit: u64,
     ) -> Result<PlainRegistry, AllocError>
         requires limits { AreLimits record { fibers = fibers; refs = refs; deferreds = deferreds; count = limit } }
         ensures opening { IfOk result (λ r. r ≡ new_plain record {
@@ -96,7 +97,7 @@ impl PlainRegistry {
             next_ref: 0,
             next_deferred: 0,
             cells: vec![in alloc; FRESH; usize::from(fibers)]?,
-            refs: vec![in alloc; 0; usize::from(refs)]?,
+            refs: vec![in alloc; Value::from_i32(0); usize::from(refs)]?,
             deferreds: vec![in alloc; None; usize::from(deferreds)]?,
         })
     }
@@ -272,7 +273,7 @@ impl PlainRegistry {
     }
 
     /// The value of a ref (`Ref::get`), whose number is below the limit.
-    pub fn get(&mut self, by: u16, number: u16) -> i32
+    pub fn get(&mut self, by: u16, number: u16) -> Value
         requires may { MayCall self.old by (Call.Get number) }
         ensures lawful { IsPlain self.new }
         ensures made { IsMade self.old self.new by (Call.Get number) (Reply.Value result) }
@@ -281,7 +282,7 @@ impl PlainRegistry {
     }
 
     /// Sets the value of a ref (`Ref::set`), whose number is below the limit.
-    pub fn set(&mut self, by: u16, number: u16, value: i32)
+    pub fn set(&mut self, by: u16, number: u16, value: Value)
         requires may { MayCall self.old by (Call.Set number value) }
         ensures lawful { IsPlain self.new }
         ensures made { IsMade self.old self.new by (Call.Set number value) Reply.Done }
@@ -289,21 +290,22 @@ impl PlainRegistry {
         self.refs[usize::from(number)] = value;
     }
 
-    /// Adds to a ref, whose number is below the limit, modulo 2^32, and gives its old value.
-    pub fn modify(&mut self, by: u16, number: u16, value: i32) -> i32
+    /// Adds to a ref, whose number is below the limit, modulo 2^63, and gives its old value.
+    pub fn modify(&mut self, by: u16, number: u16, value: Value) -> Value
         requires may { MayCall self.old by (Call.Modify number value) }
         ensures lawful { IsPlain self.new }
         ensures made { IsMade self.old self.new by (Call.Modify number value) (Reply.Value result) }
     {
         let place = usize::from(number);
         let old = self.refs[place];
-        self.refs[place] = old.wrapping_add(value);
+        let sum = value_word(old).wrapping_add(value_word(value));
+        self.refs[place] = word_value(sum);
         old
     }
 
     /// Fills a deferred (`Deferred::complete`), whose number is below the limit, unless it is filled.
     /// Whether this did it.
-    pub fn complete(&mut self, by: u16, number: u16, value: i32) -> bool
+    pub fn complete(&mut self, by: u16, number: u16, value: Value) -> bool
         requires may { MayCall self.old by (Call.Complete number value) }
         ensures lawful { IsPlain self.new }
         ensures made { IsMade self.old self.new by (Call.Complete number value) (Reply.Completed result) }
@@ -317,7 +319,7 @@ impl PlainRegistry {
     }
 
     /// The value of a deferred (`Deferred::tryGet`), whose number is below the limit, if it is filled.
-    pub fn read(&mut self, by: u16, number: u16) -> Option<i32>
+    pub fn read(&mut self, by: u16, number: u16) -> Option<Value>
         requires may { MayCall self.old by (Call.Read number) }
         ensures lawful { IsPlain self.new }
         ensures made { IsMade self.old self.new by (Call.Read number) (Reply.Read result) }
@@ -327,7 +329,7 @@ impl PlainRegistry {
 }
 
 // The cell with one more change of its owner's, unless these are used up.
-fn counted(cell: Cell, limit: u32) -> Result<Cell, CellError>
+fn counted(cell: Cell, limit: u64) -> Result<Cell, CellError>
     requires within { cell.count ≤ limit }
     ensures room { IfOk result (λ _. spent cell.count limit ≡ None) }
     ensures counted { IfOk result (λ c. c ≡ record cell { count = cell.count + 1 }) }

@@ -16,7 +16,8 @@ use crate::limits::{Band, CellError, Limits};
 use crate::pass::Pass;
 use crate::rule::{self, Rule};
 use crate::words::{
-    CANCEL, CLAIM_WORDS, WAITED, cancel_answer, cell_place, claim_place, join_answer, look_answer,
+    CANCEL, CLAIM_WORDS, WAITED, cancel_answer, cell_place, claim_place, has_ended, look_answer,
+    outcome_answer, value_place,
 };
 use atomic_table::Table;
 use effect_term::{CancelReply, JoinReply};
@@ -26,11 +27,12 @@ use std::marker::Model;
 /// The cells of all fibers, refs and deferreds, which fibers on any threads share.
 ///
 /// Each call takes effect in one atomic step on one word. A call that takes a number loads the word
-/// first, and tries again where somebody else took that number in between. Every step is `SeqCst`,
-/// the only ordering that `atomic_table` has: so all steps on all words stand in one order, and the
-/// history lists in that order those that made a call. It is a history that one thread could have
-/// made, and each pass has seen a beginning of it. No call locks or waits, and none but `new` takes
-/// memory.
+/// first, and tries again where somebody else took that number in between. The value or code that a
+/// fiber ends with has a word of its own: an end stores it before its step, and a join that finds an
+/// end loads it after its step. Every step is `SeqCst`, the only ordering that `atomic_table` has: so
+/// all steps on all words stand in one order, and the history lists in that order those that made a
+/// call. It is a history that one thread could have made, and each pass has seen a beginning of it.
+/// No call locks or waits, and none but `new` takes memory.
 ///
 /// The cells of all numbers below the limits exist from the start: a fiber's is running, under no
 /// mask, with no request, a ref holds 0 and a deferred is empty. So a call may name a number that no
@@ -48,19 +50,20 @@ impl Model for Registry {
 
     ghost view = { λ r. record { table = r.table.shared.table_id; limits = r.limits } };
 
-    ghost invariant = { λ r. IsRegistry r.table.shared.key record { table = r.table.shared.table_id; limits = r.limits } };
+    ghost invariant = { λ r. IsRegistry r.table.shared.key
+        record { table = r.table.shared.table_id; limits = r.limits } };
 }
 
 impl Registry {
     /// A registry for so many fibers, refs and deferreds, each from 1 to 1000, in which each fiber
-    /// may change its own cell `limit` times, from 1 to 262,143. The pass is fiber 0's, which is
-    /// born and running. Answers `AllocError` where there is no memory for the words.
+    /// may change its own cell `limit` times, from 1 to 1,099,511,627,775. The pass is fiber 0's,
+    /// which is born and running. Answers `AllocError` where there is no memory for the words.
     pub fn new(
         alloc: Global,
         fibers: u16,
         refs: u16,
         deferreds: u16,
-        limit: u32,
+        limit: u64,
     ) -> Result<(Registry, Pass), AllocError>
         requires limits { AreLimits record { fibers = fibers; refs = refs; deferreds = deferreds; count = limit } }
         ensures limits { IfOk result (λ r. r.0.limits ≡ record {
@@ -78,8 +81,9 @@ impl Registry {
             deferreds,
             count: limit,
         };
+        let values = usize::from(fibers);
         let cells = usize::from(fibers) + usize::from(refs) + usize::from(deferreds);
-        let mut words = Vec::from_elem(alloc, 0u64, cells + CLAIM_WORDS)?;
+        let mut words = Vec::from_elem(alloc, 0u64, cells + values + CLAIM_WORDS)?;
         words[claim_place(Band::Fibers)] = 1;
         let (table, seat) = Table::of_words(alloc, words.as_slice(), &limits)?;
         let pass = Pass {
@@ -183,11 +187,16 @@ impl Registry {
         ensures lawful { IsPass pass.new }
         ensures call { Calls pass.old (call.Join fiber) (reply.Join result) pass.new }
     {
+        let place = value_place(self.limits, fiber);
         let found = self
             .table
             .shared
             .fetch_or::<rule::Joins>(&mut pass.seat, cell_place(fiber), WAITED);
-        join_answer(found)
+        if !has_ended(found) {
+            return JoinReply::Waits;
+        }
+        let value = self.table.shared.load::<rule::Finds>(&mut pass.seat, place);
+        JoinReply::Ended(outcome_answer(found, value))
     }
 
     /// Looks whether the caller's own cancellation is requested. The fiber hasn't ended, and is

@@ -1,16 +1,17 @@
 //! What holds of the table between any two steps, and what each step tells.
 ghost use Rattle.std.specs.Prelude.{◌≡◌, []};
 ghost use Rattle.cell_registry.specs.Rule.{WordsAreAHistory, first_knowledge};
-ghost use Rattle.cell_registry.specs.Steps.{AtBand, AtCell, Cancelled, Completed, Finished, Got, Joined, Masked, Met};
-ghost use Rattle.cell_registry.specs.Steps.{Modified, SawNext, SawRequest, Tried, Unmasked, WasCut, WasRead, WasSet};
-ghost use Rattle.cell_registry.specs.Steps.{child, hosting, nothing, parent};
+ghost use Rattle.cell_registry.specs.Steps.{AtBand, AtCell, Cancelled, Completed, Finished, FoundValue, Got, Joined};
+ghost use Rattle.cell_registry.specs.Steps.{Masked, Met, Modified, SawNext, SawRequest, Tried, Unmasked, WasCut};
+ghost use Rattle.cell_registry.specs.Steps.{WasRead, WasSet, WasStored, child, hosting, nothing, parent};
 
 use crate::knowledge::Knowledge;
 use crate::limits::Limits;
 use atomic_table::{Join, Play, Split, TableRule};
 
 /// The rule of a registry's table: some legal history leaves exactly its words, and each pass knows
-/// how that history begins and all calls of its own fibers in it.
+/// how that history begins and all calls of its own fibers in it. Of the words of a fiber that
+/// hasn't ended, the history doesn't tell the value word: that is what the fiber's pass stored last.
 pub struct Rule;
 
 impl TableRule<u8, Knowledge, Limits> for Rule {
@@ -29,6 +30,13 @@ pub(crate) struct Joins;
 
 impl Play<u8, Knowledge> for Joins {
     ghost then = { λ step before found now. (now.1 ≡ []) × AtCell step.word (λ f. Joined f before.0 found now.0) };
+}
+
+// The load after a join that found an end.
+pub(crate) struct Finds;
+
+impl Play<u8, Knowledge> for Finds {
+    ghost then = { λ step before found now. (now.1 ≡ []) × FoundValue step.word before.0 found now.0 };
 }
 
 pub(crate) struct Looks;
@@ -53,6 +61,13 @@ pub(crate) struct Cuts;
 
 impl Play<u8, Knowledge> for Cuts {
     ghost then = { λ step before found now. (now.1 ≡ []) × WasCut before.0 now.0 };
+}
+
+// The store before an end.
+pub(crate) struct Stores;
+
+impl Play<u8, Knowledge> for Stores {
+    ghost then = { λ step before found now. (now.1 ≡ []) × WasStored step.first before.0 now.0 };
 }
 
 pub(crate) struct Finishes;

@@ -10,12 +10,14 @@ ghost use Rattle.cell_registry.specs.Passes.{Calls, IsOf, IsPass, OnlySees};
 use crate::pass::Pass;
 use crate::registry::Registry;
 use crate::rule;
-use crate::words::{FILLED, deferred_place, read_answer, ref_place, value_bits, word_value};
+use crate::words::{FILLED, deferred_place, read_answer, ref_place};
+use control_word::{value_word, word_value};
+use effect_term::Value;
 
 impl Registry {
     /// The value of a ref, as `Ref::get` gives it. The number is below the limit of refs; the cell of
     /// each such number exists from the start, and holds 0.
-    pub fn get(&self, pass: &mut Pass, number: u16) -> i32
+    pub fn get(&self, pass: &mut Pass, number: u16) -> Value
         requires own { IsOf self.now pass.old }
         requires within { number < self.now.limits.refs }
         ensures same { OnlySees pass.old pass.new }
@@ -29,7 +31,7 @@ impl Registry {
 
     /// Sets a ref, as `Ref::set` does. The number is below the limit of refs; the cell of each such
     /// number exists from the start.
-    pub fn set(&self, pass: &mut Pass, number: u16, value: i32)
+    pub fn set(&self, pass: &mut Pass, number: u16, value: Value)
         requires own { IsOf self.now pass.old }
         requires within { number < self.now.limits.refs }
         ensures same { OnlySees pass.old pass.new }
@@ -37,15 +39,15 @@ impl Registry {
         ensures call { Calls pass.old (call.Set number value) reply.Done pass.new }
     {
         let place = ref_place(self.limits, number);
-        let bits = value_bits(value);
+        let bits = value_word(value);
         self.table
             .shared
             .store::<rule::Sets>(&mut pass.seat, place, bits);
     }
 
-    /// Adds to a ref modulo 2^32, and gives its old value, as `Ref::getAndUpdate` with a sum does. The
+    /// Adds to a ref modulo 2^63, and gives its old value, as `Ref::getAndUpdate` with a sum does. The
     /// number is below the limit of refs; the cell of each such number exists from the start.
-    pub fn modify(&self, pass: &mut Pass, number: u16, value: i32) -> i32
+    pub fn modify(&self, pass: &mut Pass, number: u16, value: Value) -> Value
         requires own { IsOf self.now pass.old }
         requires within { number < self.now.limits.refs }
         ensures same { OnlySees pass.old pass.new }
@@ -53,7 +55,7 @@ impl Registry {
         ensures call { Calls pass.old (call.Modify number value) (reply.Value result) pass.new }
     {
         let place = ref_place(self.limits, number);
-        let bits = value_bits(value);
+        let bits = value_word(value);
         let found = self
             .table
             .shared
@@ -64,7 +66,7 @@ impl Registry {
     /// Completes a deferred, as `Deferred::complete` does. Answers whether this call did it: a
     /// deferred is completed at most once. The number is below the limit of deferreds; the cell of
     /// each such number exists from the start, and is empty.
-    pub fn complete(&self, pass: &mut Pass, number: u16, value: i32) -> bool
+    pub fn complete(&self, pass: &mut Pass, number: u16, value: Value) -> bool
         requires own { IsOf self.now pass.old }
         requires within { number < self.now.limits.deferreds }
         ensures same { OnlySees pass.old pass.new }
@@ -72,7 +74,7 @@ impl Registry {
         ensures call { Calls pass.old (call.Complete number value) (reply.Completed result) pass.new }
     {
         let place = deferred_place(self.limits, number);
-        let filled = FILLED + value_bits(value);
+        let filled = FILLED + value_word(value);
         let found = self
             .table
             .shared
@@ -82,7 +84,7 @@ impl Registry {
 
     /// The value of a deferred, if it was completed, as `Deferred::tryGet` gives it. The number is
     /// below the limit of deferreds; the cell of each such number exists from the start.
-    pub fn read(&self, pass: &mut Pass, number: u16) -> Option<i32>
+    pub fn read(&self, pass: &mut Pass, number: u16) -> Option<Value>
         requires own { IsOf self.now pass.old }
         requires within { number < self.now.limits.deferreds }
         ensures same { OnlySees pass.old pass.new }

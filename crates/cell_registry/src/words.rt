@@ -1,24 +1,25 @@
 //! Where the words of the table lie, and what the word of a fiber answers.
-ghost use Rattle.std.specs.Prelude.{◌≡◌, ◌+◌, ◌^◌, ◌<◌};
-ghost use Rattle.std.specs.Int.{w32, cast_unsigned};
+ghost use Rattle.std.specs.Prelude.{◌≡◌, ◌+◌};
+ghost use Rattle.effect_term.specs.Values.{value_bits};
+ghost use Rattle.control_word.specs.Word.{value_of};
 ghost use Rattle.cell_registry.specs.Steps.{band_word};
-ghost use Rattle.cell_registry.specs.Words.{TellsCancel, TellsJoin, TellsLook, TellsRead, ref_value};
+ghost use Rattle.cell_registry.specs.Words.{TellsCancel, TellsEnd, TellsLook, TellsOutcome, TellsRead, value_place};
 
 use crate::limits::{Band, Limits};
-use control_word::unpack;
-use effect_term::{CancelReply, JoinReply, Outcome};
+use control_word::{unpack, value_word, word_value};
+use effect_term::{CancelReply, Outcome, Value};
 
 /// How many claim words stand before the fibers' words.
 pub(crate) const CLAIM_WORDS: usize = 3;
 
 /// The bit by which a cancellation is requested.
-pub(crate) const CANCEL: u64 = 1 << 30;
+pub(crate) const CANCEL: u64 = 1 << 52;
 
 /// The bit by which a joiner says that it waits.
-pub(crate) const WAITED: u64 = 1 << 31;
+pub(crate) const WAITED: u64 = 1 << 53;
 
 /// The bit that the word of a completed deferred has above its value.
-pub(crate) const FILLED: u64 = 1 << 32;
+pub(crate) const FILLED: u64 = 1 << 63;
 
 // The phase of a fiber that has ended, as its word has it.
 const ENDED: u8 = 2;
@@ -27,8 +28,6 @@ const ENDED: u8 = 2;
 const SUCCEEDED: u8 = 1;
 
 const ERRORED: u8 = 2;
-
-const CANCELED: u8 = 3;
 
 /// The place of the band's claim word, which holds the next number.
 pub(crate) fn claim_place(band: Band) -> usize
@@ -62,23 +61,29 @@ pub(crate) fn deferred_place(limits: Limits, number: u16) -> usize
     usize::from(number) + (CLAIM_WORDS + usize::from(limits.fibers) + usize::from(limits.refs))
 }
 
-/// The 32 bits of a value.
-pub(crate) fn value_bits(value: i32) -> u64
-    ensures bits { result ≡ cast_unsigned w32 value }
-    ensures small { result < 2 ^ 32 }
+/// The place of a fiber's value word, behind all words of the other kinds.
+pub(crate) fn value_place(limits: Limits, fiber: u16) -> usize
+    ensures { result ≡ value_place limits fiber }
 {
-    u64::from(value.cast_unsigned())
+    let numbers = usize::from(limits.fibers)
+        + usize::from(limits.refs)
+        + usize::from(limits.deferreds);
+    usize::from(fiber) + (CLAIM_WORDS + numbers)
 }
 
-/// The value of a ref with this word: its low 32 bits.
-pub(crate) fn word_value(word: u64) -> i32
-    ensures { result ≡ ref_value word }
+/// The value word of a fiber that ends with this outcome.
+pub(crate) fn outcome_word(outcome: &Outcome) -> u64
+    ensures { result ≡ value_bits (value_of outcome.now) }
 {
-    ((word & 0xffff_ffff) as u32).cast_signed()
+    match *outcome {
+        Outcome::Succeeded(value) => value_word(value),
+        Outcome::Errored(code) => value_word(code),
+        Outcome::Canceled => 0,
+    }
 }
 
 /// What a read is answered by the word of a deferred.
-pub(crate) fn read_answer(word: u64) -> Option<i32>
+pub(crate) fn read_answer(word: u64) -> Option<Value>
     ensures { TellsRead word result }
 {
     if word == 0 {
@@ -102,22 +107,24 @@ pub(crate) fn cancel_answer(word: u64) -> CancelReply
     }
 }
 
-/// What a join is answered by the word that it found.
-pub(crate) fn join_answer(word: u64) -> JoinReply
-    ensures { TellsJoin word result }
+/// Whether the fiber whose word was found has ended.
+pub(crate) fn has_ended(word: u64) -> bool
+    ensures { TellsEnd word result }
+{
+    unpack(word).phase == ENDED
+}
+
+/// How the fiber ended whose word was found, and whose value word is `value`.
+pub(crate) fn outcome_answer(word: u64, value: u64) -> Outcome
+    ensures { TellsOutcome word value result }
 {
     let control = unpack(word);
-    if control.phase != ENDED {
-        JoinReply::Waits
-    } else if control.kind == SUCCEEDED {
-        JoinReply::Ended(Outcome::Succeeded(control.value))
+    if control.kind == SUCCEEDED {
+        Outcome::Succeeded(word_value(value))
     } else if control.kind == ERRORED {
-        JoinReply::Ended(Outcome::Errored(control.value))
-    } else if control.kind == CANCELED {
-        JoinReply::Ended(Outcome::Canceled)
+        Outcome::Errored(word_value(value))
     } else {
-        // No fiber's word is one that has ended without an outcome.
-        JoinReply::Waits
+        Outcome::Canceled
     }
 }
 

@@ -1,10 +1,9 @@
 -- The control word of a fiber, as a sum of its fields times powers of two.
 use Rattle.std.specs.Prelude.{◌≡◌, ℕ, ◌+◌, ◌*◌, ◌/◌, ◌%◌, ◌^◌, ◌-◌, ◌<◌, Bool, true, false, ◌==◌, ℤ, pos}
-use Rattle.std.specs.Int.{w32, cast_unsigned, cast_signed}
-use Rattle.std.specs.Int.RustNames.{FitsSigned}
 use Rattle.control_word.specs.declared.control.Control.{Control}
 use Rattle.effect_term.specs.declared.reply.Outcome.{Outcome}
 use Rattle.effect_term.specs.declared.reply.Outcome.TheVariants.{Succeeded, Errored, Canceled}
+use Rattle.effect_term.specs.Values.{IsValue, value_bits}
 
 abbrev pub bit : Bool → ℕ
 bit true = 1
@@ -12,27 +11,25 @@ bit false = 0
 
 -- each field fits its place
 pub record InRange (c : Control) : Type 0 where
-  pub count : c.count < 2 ^ 18
+  pub count : c.count < 2 ^ 40
   pub depth : c.depth < 2 ^ 8
   pub phase : c.phase < 2 ^ 2
   pub kind : c.kind < 2 ^ 2
-  pub value : FitsSigned w32 c.value
 
 -- the packed word
 unfoldable pub word_of : Control → ℕ
-word_of c = c.count + 2 ^ 18 * c.depth + 2 ^ 26 * c.phase + 2 ^ 28 * c.kind + 2 ^ 30 * bit c.cancel +
-    2 ^ 31 * bit c.waited + 2 ^ 32 * cast_unsigned w32 c.value
+word_of c = c.count + 2 ^ 40 * c.depth + 2 ^ 48 * c.phase + 2 ^ 50 * c.kind + 2 ^ 52 * bit c.cancel +
+    2 ^ 53 * bit c.waited
 
 -- the digits of a number at the places of the fields
 unfoldable pub control_of : ℕ → Control
 control_of n = record {
-  count = n / 2 ^ 0 % 2 ^ 18;
-  depth = n / 2 ^ 18 % 2 ^ 8;
-  phase = n / 2 ^ 26 % 2 ^ 2;
-  kind = n / 2 ^ 28 % 2 ^ 2;
-  cancel = n / 2 ^ 30 % 2 ^ 1 == 1;
-  waited = n / 2 ^ 31 % 2 ^ 1 == 1;
-  value = cast_signed w32 (n / 2 ^ 32 % 2 ^ 32);
+  count = n / 2 ^ 0 % 2 ^ 40;
+  depth = n / 2 ^ 40 % 2 ^ 8;
+  phase = n / 2 ^ 48 % 2 ^ 2;
+  kind = n / 2 ^ 50 % 2 ^ 2;
+  cancel = n / 2 ^ 52 % 2 ^ 1 == 1;
+  waited = n / 2 ^ 53 % 2 ^ 1 == 1;
 }
 
 -- if the number n is a packed word, it was packed from r
@@ -42,11 +39,10 @@ IsPackedFrom n r = (c : Control) → InRange c → word_of c ≡ n → r ≡ c
 -- no outcome is set
 pub record HasNoOutcome (c : Control) : Type 0 where
   pub kind : c.kind ≡ 0
-  pub value : c.value ≡ pos 0
 
 -- the greatest limit of a fiber's changes
 abbrev pub greatest_count : ℕ
-greatest_count = 262143
+greatest_count = 1099511627775
 
 -- the phases
 abbrev pub running : ℕ
@@ -73,13 +69,14 @@ kind_of (Succeeded v) = 1
 kind_of (Errored v) = 2
 kind_of Canceled = 3
 
+-- the number of an outcome, which stands in a word of its own
 abbrev pub value_of : Outcome → ℤ
 value_of (Succeeded v) = v
 value_of (Errored v) = v
 value_of Canceled = pos 0
 
 abbrev pub finished : Outcome → Control → Control
-finished o c = record c { count = c.count + 1; phase = ended; kind = kind_of o; value = value_of o }
+finished o c = record c { count = c.count + 1; phase = ended; kind = kind_of o }
 
 -- ---- the amounts: whatever the cancel and the waited bit are, the word plus (for a mask that is left, minus) the
 -- amount is the word with the fields changed
@@ -99,12 +96,11 @@ abbrev pub Finishes : Bool → Outcome → ℕ → Type 0
 Finishes b o k = (c : Control) → InRange c → HasNoOutcome c → c.count < greatest_count → c.phase ≡ bit b →
     (word_of c + k) % 2 ^ 64 ≡ word_of (finished o c)
 
--- the amount of an end, as a sum: the step to the phase ended, and the outcome's kind and value
+-- the amount of an end, as a sum: one change, the step to the phase ended, and the outcome's kind
 abbrev pub finish_sum : Bool → Outcome → ℕ
-finish_sum b o = 1 + 2 ^ 26 * (ended - bit b) + 2 ^ 28 * kind_of o + 2 ^ 32 * cast_unsigned w32 (value_of o)
+finish_sum b o = 1 + 2 ^ 48 * (ended - bit b) + 2 ^ 50 * kind_of o
 
--- the value or code of an outcome is one of 32 bits
-abbrev pub OutcomeFits : Outcome → Type 0
-OutcomeFits (Succeeded v) = FitsSigned w32 v
-OutcomeFits (Errored c) = FitsSigned w32 c
-OutcomeFits Canceled = Unit {0}
+-- ---- the word of a value: the value modulo 2 ^ 63
+-- if the number n is the word of a value, it is the word of z
+abbrev pub IsWordOf : ℕ → ℤ → Type 0
+IsWordOf n z = (v : ℤ) → IsValue v → value_bits v ≡ n → z ≡ v

@@ -2,9 +2,9 @@
 //! leaves the request and the waited bit as they stand, so one `fetch_add` is the whole call.
 
 ghost use Rattle.std.specs.Prelude.{◌≡◌};
-ghost use Rattle.control_word.specs.Word.{Cuts, Finishes, Masks, Unmasks, finish_sum, kind_of, value_of};
+ghost use Rattle.control_word.specs.Word.{Cuts, Finishes, Masks, Unmasks, finish_sum, kind_of};
 
-use crate::control::{bit_of, bits_of, joined};
+use crate::control::{bit_of, joined};
 use effect_term::Outcome;
 
 /// The amount whose sum with a word is the word one mask deeper, with one change more. It holds of
@@ -12,7 +12,7 @@ use effect_term::Outcome;
 pub fn mask_amount() -> u64
     ensures law { Masks result }
 {
-    262_145
+    1_099_511_627_777
 }
 
 /// The amount whose difference from a word is the word one mask less deep, with one change more. It
@@ -20,7 +20,7 @@ pub fn mask_amount() -> u64
 pub fn unmask_amount() -> u64
     ensures law { Unmasks result }
 {
-    262_143
+    1_099_511_627_775
 }
 
 /// The amount whose sum with a word is the word of the fiber as it begins to finalize: one mask
@@ -29,21 +29,19 @@ pub fn unmask_amount() -> u64
 pub fn cut_amount() -> u64
     ensures law { Cuts result }
 {
-    67_371_009
+    282_574_488_338_433
 }
 
 /// The amount whose sum with a word is the word of the fiber ended with this outcome, with one
 /// change more. It holds of a fiber that is finalizing or not, as `finalizing` says, and hasn't
-/// ended, at a count below the greatest. It is
-/// `1 + 2^26 (2 - phase) + 2^28 kind + 2^32 value`.
+/// ended, at a count below the greatest. It is `1 + 2^48 (2 - phase) + 2^50 kind`: the outcome's
+/// value stands in a word of its own, which no amount changes.
 pub fn finish_amount(finalizing: bool, outcome: Outcome) -> u64
     ensures law { Finishes finalizing outcome result }
     ensures sum { result ≡ finish_sum finalizing outcome }
 {
-    let value = value_or_zero(outcome);
-    let word = joined(bits_of(value), 4, kind_number(outcome));
-    let word = joined(word, 2, 2 - bit_of(finalizing));
-    joined(word, 26, 1)
+    let word = joined(kind_number(outcome), 2, 2 - bit_of(finalizing));
+    joined(word, 48, 1)
 }
 
 fn kind_number(outcome: Outcome) -> u64
@@ -53,15 +51,5 @@ fn kind_number(outcome: Outcome) -> u64
         Outcome::Succeeded(_) => 1,
         Outcome::Errored(_) => 2,
         Outcome::Canceled => 3,
-    }
-}
-
-fn value_or_zero(outcome: Outcome) -> i32
-    ensures { result ≡ value_of outcome }
-{
-    match outcome {
-        Outcome::Succeeded(value) => value,
-        Outcome::Errored(code) => code,
-        Outcome::Canceled => 0,
     }
 }

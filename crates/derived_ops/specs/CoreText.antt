@@ -3,7 +3,7 @@
 -- words that aren't words of a program.
 use Rattle.std.specs.Prelude.{ℕ, List, [], ◌∷◌, ◌++◌, codes}
 use Rattle.std.specs.Fmt.{decimal, signed_decimal}
-use Rattle.derived_ops.specs.Tree.{Value, Number, Slot, Handle, Known, Open_slot, Mask, Named, Pair, Action, Add, Say}
+use Rattle.derived_ops.specs.Tree.{Operand, Number, Slot, Handle, Known, Open_slot, Mask, Named, Pair, Action, Add, Say}
 use Rattle.derived_ops.specs.Tree.{Cede, Never, Canceled, Request, Ending, Get, Set, Modify, Complete, Await}
 use Rattle.derived_ops.specs.Tree.{Bracket_mark, Acquired, Releasing, Released, New_ref, New_deferred, Times, Always}
 use Rattle.derived_ops.specs.Tree.{Rest, Last, More, Tree, Pure, Raise, Act, Note, Cancel, Let, Seq, Handled, If0}
@@ -19,7 +19,7 @@ spaced (a ∷ b ∷ parts) = a ++ (codes " " ++ spaced (b ∷ parts))
 abbrev pub form : List (List ℕ) → List ℕ
 form parts = codes "(" ++ (spaced parts ++ codes ")")
 
-abbrev pub value_text : Value → List ℕ
+abbrev pub value_text : Operand → List ℕ
 value_text (Number z) = signed_decimal z
 value_text (Slot s) = codes "v" ++ decimal s
 

@@ -1,7 +1,7 @@
 -- What the words of a program stand for. A derived word takes the slot d of its first new binder; its parts stand above
 -- the slots that are bound around them.
 use Rattle.std.specs.Prelude.{ℕ, zero, suc, ◌+◌, pos, List, [], ◌∷◌, ◌++◌}
-use Rattle.derived_ops.specs.Tree.{Value, Number, Slot, Open_slot, Mask, Named, Add, Say, Cede, Never, Canceled, Get}
+use Rattle.derived_ops.specs.Tree.{Operand, Number, Slot, Open_slot, Mask, Named, Add, Say, Cede, Never, Canceled, Get}
 use Rattle.derived_ops.specs.Tree.{Set, Modify, Complete, Await, Acquired, Releasing, Released, New_ref, New_deferred}
 use Rattle.derived_ops.specs.Tree.{Times, Always, Last, More, Tree, Pure, Raise, Act, Note, Cancel, Let, Seq, Handled}
 use Rattle.derived_ops.specs.Tree.{If0, Join, Make, Start, Loop, Uncancelable, Poll, On_cancel}
@@ -153,7 +153,7 @@ slot_at [] v = 0
 slot_at (c ∷ cs) zero = c
 slot_at (c ∷ cs) (suc v) = slot_at cs v
 
-abbrev pub value_in : List ℕ → Value → Value
+abbrev pub value_in : List ℕ → Operand → Operand
 value_in m (Number z) = Number z
 value_in m (Slot v) = Slot (slot_at m v)
 

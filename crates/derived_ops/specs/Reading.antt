@@ -3,11 +3,12 @@ use Rattle.effect_term.specs.declared.term.Operand.{Operand}
 use Rattle.effect_term.specs.declared.term.Operand.TheVariants as operand
 use Rattle.effect_term.specs.declared.term.Term.{Term, Row_of-Term, end_of-Term, more_of-Term}
 use Rattle.effect_term.specs.declared.term.Term.TheVariants as term
-use Rattle.derived_ops.specs.Tree.{Value, Number, Slot, Last, More}
+use Rattle.derived_ops.specs.Tree as tree
+use Rattle.derived_ops.specs.Tree.{Number, Slot, Last, More}
 use Rattle.derived_ops.specs.Source as word
 use Rattle.derived_ops.specs.Source.{Source}
 
-abbrev pub value_of : Operand → Value
+abbrev pub value_of : Operand → tree.Operand
 value_of (operand.Number z) = Number z
 value_of (operand.Named n) = Slot n.slot
 

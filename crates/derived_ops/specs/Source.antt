@@ -1,17 +1,17 @@
 -- The terms of a program, in all 32 words, without pointers. A name is the slot of its binder, which is the number of
 -- binders around that one. The parts stand in the order in which they are written.
 use Rattle.std.specs.Prelude.{ℕ}
-use Rattle.derived_ops.specs.Tree.{Value, Rest}
+use Rattle.derived_ops.specs.Tree.{Operand, Rest}
 
 pub data Source : Type 0 where
-  Pure : Value → Source
-  Raise : Value → Source
+  Pure : Operand → Source
+  Raise : Operand → Source
   Let : (e k : Source) → Source
   Seq : Rest → (e k : Source) → Source
   Handle : (e h : Source) → Source
-  If0 : Value → (s e : Source) → Source
-  Add : Value → Value → Source
-  Say : Value → Source
+  If0 : Operand → (s e : Source) → Source
+  Add : Operand → Operand → Source
+  Say : Operand → Source
   Cede : Source
   Never : Source
   Canceled : Source
@@ -21,14 +21,14 @@ pub data Source : Type 0 where
   Start : (e k : Source) → Source
   Join : ℕ → (s e c : Source) → Source
   Cancel : ℕ → Source
-  Ref : Value → Source → Source
+  Ref : Operand → Source → Source
   Get : ℕ → Source
-  Set : ℕ → Value → Source
-  Modify : ℕ → Value → Source
+  Set : ℕ → Operand → Source
+  Modify : ℕ → Operand → Source
   Deferred : Source → Source
-  Complete : ℕ → Value → Source
+  Complete : ℕ → Operand → Source
   Await : ℕ → Source
-  Repeat : Value → Source → Source
+  Repeat : Operand → Source → Source
   Forever : Source → Source
   Guarantee : (e fin : Source) → Source
   Bracket : (acq body rel : Source) → Source

@@ -2,25 +2,25 @@
 use Rattle.std.specs.Prelude.{ℕ, zero, suc, ℤ, ◌⊎◌, refl, List, [], ◌∷◌}
 use Rattle.std.specs.Coded.{Coded, code_by, coded_ℕ, coded_ℤ, coded_list, coded×, coded⊎}
 use Rattle.std.proofs.Common.{◌≡◌, ap, ◌∙◌, inl, inr}
-use Rattle.derived_ops.specs.Tree.{Value, Number, Slot, Handle, Known, Open_slot, Mask, Named, Pair, Add, Say, Cede}
+use Rattle.derived_ops.specs.Tree.{Operand, Number, Slot, Handle, Known, Open_slot, Mask, Named, Pair, Add, Say, Cede}
 use Rattle.derived_ops.specs.Tree.{Never, Canceled, Request, Ending, Get, Set, Modify, Complete, Await, Acquired}
 use Rattle.derived_ops.specs.Tree.{Releasing, Released, New_ref, New_deferred, Times, Always, Last, More, Tree, Pure}
 use Rattle.derived_ops.specs.Tree.{Raise, Act, Note, Cancel, Let, Seq, Handled, If0, Join, Make, Start, Loop}
 use Rattle.derived_ops.specs.Tree.{Uncancelable, Poll, On_cancel, Masked, Polled, Guarded}
 
-abbrev value_stored : Value → ℤ ⊎ ℕ
+abbrev value_stored : Operand → ℤ ⊎ ℕ
 value_stored (Number z) = inl z
 value_stored (Slot s) = inr s
 
-abbrev value_read : ℤ ⊎ ℕ → Value
+abbrev value_read : ℤ ⊎ ℕ → Operand
 value_read (inl z) = Number z
 value_read (inr s) = Slot s
 
-pub value_again : (v : Value) → value_read (value_stored v) ≡ v
+pub value_again : (v : Operand) → value_read (value_stored v) ≡ v
 value_again (Number z) = refl
 value_again (Slot s) = refl
 
-abbrev pub value_code : Coded Value
+abbrev pub value_code : Coded Operand
 value_code = code_by (ℤ ⊎ ℕ) (coded⊎ coded_ℤ coded_ℕ) value_stored value_read value_again
 
 abbrev handle_stored : Handle → ℕ ⊎ ℕ
@@ -56,8 +56,8 @@ mask_code = code_by (ℕ ⊎ (ℕ × ℕ)) (coded⊎ coded_ℕ (coded× coded_�
 -- a piece of a term: which word, with its operands and the slots that it binds
 pub record Piece : Type 0 where
   pub word : ℕ
-  pub value : Value
-  pub other : Value
+  pub value : Operand
+  pub other : Operand
   pub handle : Handle
   pub mask : Mask
   pub slot : ℕ
@@ -65,7 +65,7 @@ pub record Piece : Type 0 where
 
 abbrev piece_code : Coded Piece
 piece_code =
-    code_by (ℕ × ((Value × Value) × ((Handle × Mask) × (ℕ × ℕ))))
+    code_by (ℕ × ((Operand × Operand) × ((Handle × Mask) × (ℕ × ℕ))))
     (coded× coded_ℕ (coded× (coded× value_code value_code) (coded× (coded× handle_code mask_code)
     (coded× coded_ℕ coded_ℕ)))) (λ p. (p.word, ((p.value, p.other), ((p.handle, p.mask), (p.slot, p.second)))))
     (λ p. record {
@@ -82,10 +82,10 @@ piece_code =
 abbrev bare : ℕ → ℕ → Piece
 bare n s = record { word = n; value = Slot 0; other = Slot 0; handle = Known 0; mask = Named 0; slot = s; second = 0 }
 
-abbrev with_values : ℕ → Value → Value → Piece
+abbrev with_values : ℕ → Operand → Operand → Piece
 with_values n v w = record { word = n; value = v; other = w; handle = Known 0; mask = Named 0; slot = 0; second = 0 }
 
-abbrev with_handle : ℕ → Handle → Value → Piece
+abbrev with_handle : ℕ → Handle → Operand → Piece
 with_handle n h v = record { word = n; value = v; other = Slot 0; handle = h; mask = Named 0; slot = 0; second = 0 }
 
 abbrev with_mask : ℕ → Mask → Piece

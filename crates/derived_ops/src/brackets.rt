@@ -9,7 +9,7 @@ ghost use Rattle.derived_ops.specs.Tree as tree;
 ghost use Rattle.derived_ops.specs.Tree.{Named};
 
 use crate::core_term::BracketMark::{Acquired, Released, Releasing};
-use crate::core_term::{Core, Value};
+use crate::core_term::{Core, Operand};
 use crate::forms::{bound, finalized, handled, in_four, in_order, in_three, masked, nil, polled};
 use std::alloc::{AllocError, Global};
 
@@ -74,7 +74,7 @@ fn finalized_on_error(alloc: Global, finalizer: Core, slot: u32) -> Result<Core,
         ≡ in_order (attempted (tree_of finalizer) (slot + 1)) (tree.Raise (tree.Slot slot))) }
 {
     let attempted = attempted(alloc, finalizer, slot + 1)?;
-    in_order(alloc, attempted, Core::Raise(Value::Slot(slot)))
+    in_order(alloc, attempted, Core::Raise(Operand::Slot(slot)))
 }
 
 // What a guarantee does after its body's error, and after its value. Either has this slot.
@@ -91,7 +91,7 @@ fn guarantee_ends(
         ≡ in_order (tree_of on_value) (tree.Pure (tree.Slot slot))) }
 {
     let on_error = finalized_on_error(alloc, on_error, slot)?;
-    let on_value = in_order(alloc, on_value, Core::Pure(Value::Slot(slot)))?;
+    let on_value = in_order(alloc, on_value, Core::Pure(Operand::Slot(slot)))?;
     Ok((on_error, on_value))
 }
 
@@ -145,7 +145,7 @@ fn released_then_raised(
         tree_of core ≡ released_then_raised (Named poll) (tree_of release) slot) }
 {
     let released = Core::Note(Released, poll);
-    let raised = in_order(alloc, released, Core::Raise(Value::Slot(slot)))?;
+    let raised = in_order(alloc, released, Core::Raise(Operand::Slot(slot)))?;
     handled(alloc, release, slot, raised)
 }
 
@@ -186,7 +186,7 @@ fn released_on_error(
         tree_of core ≡ released_on_error (Named poll) (tree_of release) error slot) }
 {
     let release = attempted(alloc, release, slot)?;
-    released_then(alloc, poll, release, Core::Raise(Value::Slot(error)))
+    released_then(alloc, poll, release, Core::Raise(Operand::Slot(error)))
 }
 
 // The release of a bracket after its body's value, which goes on unless the release fails.
@@ -201,7 +201,7 @@ fn released_on_value(
         tree_of core ≡ released_on_value (Named poll) (tree_of release) value slot) }
 {
     let release = released_then_raised(alloc, poll, release, slot)?;
-    released_then(alloc, poll, release, Core::Pure(Value::Slot(value)))
+    released_then(alloc, poll, release, Core::Pure(Operand::Slot(value)))
 }
 
 // What a bracket does after its body's error, and after its value.

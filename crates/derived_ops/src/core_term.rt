@@ -1,10 +1,12 @@
 //! Core terms.
 
+use effect_term::Value;
+
 /// An operand: a value or an error code, known or bound.
 #[derive(Clone, Copy, PartialEq, Eq, Debug)]
-pub enum Value {
-    /// The number itself, which has 32 bits with sign.
-    Number(i32),
+pub enum Operand {
+    /// The number itself, which has 63 bits with sign.
+    Number(Value),
     /// The value that the binder of this slot binds. A slot is the number of binders around its own
     /// binder, in the whole term.
     Slot(u32),
@@ -14,9 +16,9 @@ pub enum Value {
 #[derive(Clone, Copy, PartialEq, Eq, Debug)]
 pub enum Action {
     /// The sum, or raises 1001 where it is out of range.
-    Add(Value, Value),
+    Add(Operand, Operand),
     /// Notes the value, and gives 0.
-    Say(Value),
+    Say(Operand),
     /// Yields, and gives 0.
     Cede,
     /// Waits without end.
@@ -26,11 +28,11 @@ pub enum Action {
     /// Gives the ref's value.
     Get(u32),
     /// Sets the ref, and gives 0.
-    Set(u32, Value),
-    /// Adds to the ref modulo 2^32, and gives the old value.
-    Modify(u32, Value),
+    Set(u32, Operand),
+    /// Adds to the ref modulo 2^63, and gives the old value.
+    Modify(u32, Operand),
     /// Completes the deferred. Gives 1 if this did it, else 0.
-    Complete(u32, Value),
+    Complete(u32, Operand),
     /// Waits until the deferred is completed, and gives its value.
     Await(u32),
 }
@@ -50,7 +52,7 @@ pub enum BracketMark {
 #[derive(Clone, Copy, PartialEq, Eq, Debug)]
 pub enum Maker {
     /// A ref that holds the value.
-    Ref(Value),
+    Ref(Operand),
     /// An empty deferred.
     Deferred,
 }
@@ -59,7 +61,7 @@ pub enum Maker {
 #[derive(Clone, Copy, PartialEq, Eq, Debug)]
 pub enum Turns {
     /// So many, none where the number is below 1.
-    Times(Value),
+    Times(Operand),
     /// No end of them.
     Always,
 }
@@ -71,9 +73,9 @@ pub enum Turns {
 #[derive(Drop)]
 pub enum Core {
     /// Gives the value.
-    Pure(Value),
+    Pure(Operand),
     /// Raises the code.
-    Raise(Value),
+    Raise(Operand),
     /// A word without parts.
     Act(Action),
     /// Notes the mark, with the number of the mask whose poll has this slot, and gives 0.
@@ -87,7 +89,7 @@ pub enum Core {
     /// The term, and where it raises the handler, which binds the code.
     Handle(Box<Core>, u32, Box<Core>),
     /// The first term where the value is 0, else the second.
-    If0(Value, Box<Core>, Box<Core>),
+    If0(Operand, Box<Core>, Box<Core>),
     /// Waits for the fiber, and goes on by its outcome: the first term binds the value, the second
     /// the code, and the third is for a fiber that was canceled.
     Join(u32, u32, Box<Core>, u32, Box<Core>, Box<Core>),

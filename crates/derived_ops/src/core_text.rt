@@ -10,16 +10,16 @@ ghost use Rattle.derived_ops.specs.Private.Sequences.{trees_in_order};
 ghost use Rattle.derived_ops.specs.Tree as tree;
 
 use crate::code::Code;
-use crate::core_term::{Action, BracketMark, Core, Maker, Turns, Value};
+use crate::core_term::{Action, BracketMark, Core, Maker, Operand, Turns};
 use itoa::Buffer;
 use std::alloc::{AllocError, Global};
 
-/// What stands in a form before its parts: text that ends in a slot or a value, or in neither.
+/// What a form has behind its first text, before its parts: a slot, a value, or neither.
 #[derive(Clone, Copy)]
-enum Head {
-    Plain(&'static [u8]),
-    Named(&'static [u8], u32),
-    Valued(&'static [u8], Value),
+enum Tail {
+    Plain,
+    Named(u32),
+    Valued(Operand),
 }
 
 // Writes the number of a slot, most of which have one digit.
@@ -36,15 +36,15 @@ fn push_slot(text: &mut Vec<u8>, slot: u32) -> Result<(), AllocError>
 }
 
 #[inline(always)]
-fn push_value(text: &mut Vec<u8>, value: Value) -> Result<(), AllocError>
+fn push_value(text: &mut Vec<u8>, value: Operand) -> Result<(), AllocError>
     ensures { OnOk result (text.new.items ≡ text.old.items ++ value_text (value_in_core value)) }
 {
     match value {
-        Value::Number(number) => {
+        Operand::Number(number) => {
             let mut buffer = Buffer::new();
-            text.extend_from_slice(buffer.format(number).as_bytes())
+            text.extend_from_slice(buffer.format(number.get()).as_bytes())
         }
-        Value::Slot(slot) => {
+        Operand::Slot(slot) => {
             text.push(b'v')?;
             push_slot(text, slot)
         }
@@ -52,28 +52,23 @@ fn push_value(text: &mut Vec<u8>, value: Value) -> Result<(), AllocError>
 }
 
 #[inline(always)]
-fn push_head(text: &mut Vec<u8>, head: Head) -> Result<(), AllocError>
-    ensures { OnOk result (text.new.items ≡ text.old.items ++ head_text head) }
+fn push_head(text: &mut Vec<u8>, front: &[u8], tail: Tail) -> Result<(), AllocError>
+    ensures { OnOk result (text.new.items ≡ text.old.items ++ head_text front.now tail) }
 {
-    match head {
-        Head::Plain(front) => text.extend_from_slice(front),
-        Head::Named(front, slot) => {
-            text.extend_from_slice(front)?;
-            push_slot(text, slot)
-        }
-        Head::Valued(front, value) => {
-            text.extend_from_slice(front)?;
-            push_value(text, value)
-        }
+    text.extend_from_slice(front)?;
+    match tail {
+        Tail::Plain => Ok(()),
+        Tail::Named(slot) => push_slot(text, slot),
+        Tail::Valued(value) => push_value(text, value),
     }
 }
 
 // Writes a form that has no parts behind its head.
 #[inline(always)]
-fn push_word(text: &mut Vec<u8>, head: Head) -> Result<(), AllocError>
-    ensures { OnOk result (text.new.items ≡ text.old.items ++ (head_text head ++ codes ")")) }
+fn push_word(text: &mut Vec<u8>, front: &[u8], tail: Tail) -> Result<(), AllocError>
+    ensures { OnOk result (text.new.items ≡ text.old.items ++ (head_text front.now tail ++ codes ")")) }
 {
-    push_head(text, head)?;
+    push_head(text, front, tail)?;
     text.push(b')')?;
     Ok(())
 }
@@ -83,27 +78,27 @@ fn push_action(text: &mut Vec<u8>, action: Action) -> Result<(), AllocError>
 {
     match action {
         Action::Add(v, w) => {
-            push_head(text, Head::Valued(b"(add ", v))?;
-            push_word(text, Head::Valued(b" ", w))
+            push_head(text, b"(add ", Tail::Valued(v))?;
+            push_word(text, b" ", Tail::Valued(w))
         }
-        Action::Say(v) => push_word(text, Head::Valued(b"(say ", v)),
+        Action::Say(v) => push_word(text, b"(say ", Tail::Valued(v)),
         Action::Cede => text.extend_from_slice(b"(cede)"),
         Action::Never => text.extend_from_slice(b"(never)"),
         Action::Canceled => text.extend_from_slice(b"(canceled)"),
-        Action::Get(slot) => push_word(text, Head::Named(b"(get r", slot)),
+        Action::Get(slot) => push_word(text, b"(get r", Tail::Named(slot)),
         Action::Set(slot, v) => {
-            push_head(text, Head::Named(b"(set r", slot))?;
-            push_word(text, Head::Valued(b" ", v))
+            push_head(text, b"(set r", Tail::Named(slot))?;
+            push_word(text, b" ", Tail::Valued(v))
         }
         Action::Modify(slot, v) => {
-            push_head(text, Head::Named(b"(modify r", slot))?;
-            push_word(text, Head::Valued(b" ", v))
+            push_head(text, b"(modify r", Tail::Named(slot))?;
+            push_word(text, b" ", Tail::Valued(v))
         }
         Action::Complete(slot, v) => {
-            push_head(text, Head::Named(b"(complete d", slot))?;
-            push_word(text, Head::Valued(b" ", v))
+            push_head(text, b"(complete d", Tail::Named(slot))?;
+            push_word(text, b" ", Tail::Valued(v))
         }
-        Action::Await(slot) => push_word(text, Head::Named(b"(await d", slot)),
+        Action::Await(slot) => push_word(text, b"(await d", Tail::Named(slot)),
     }
 }
 
@@ -112,9 +107,9 @@ fn push_mark(text: &mut Vec<u8>, mark: BracketMark, poll: u32) -> Result<(), All
         poll_text (tree.Named poll) ∷ [])) }
 {
     match mark {
-        BracketMark::Acquired => push_word(text, Head::Named(b"(acquired p", poll)),
-        BracketMark::Releasing => push_word(text, Head::Named(b"(releasing p", poll)),
-        BracketMark::Released => push_word(text, Head::Named(b"(released p", poll)),
+        BracketMark::Acquired => push_word(text, b"(acquired p", Tail::Named(poll)),
+        BracketMark::Releasing => push_word(text, b"(releasing p", Tail::Named(poll)),
+        BracketMark::Released => push_word(text, b"(released p", Tail::Named(poll)),
     }
 }
 
@@ -124,10 +119,10 @@ fn push_maker(text: &mut Vec<u8>, maker: Maker, slot: u32) -> Result<(), AllocEr
 {
     match maker {
         Maker::Ref(value) => {
-            push_head(text, Head::Named(b"(ref r", slot))?;
-            push_head(text, Head::Valued(b" ", value))
+            push_head(text, b"(ref r", Tail::Named(slot))?;
+            push_head(text, b" ", Tail::Valued(value))
         }
-        Maker::Deferred => push_head(text, Head::Named(b"(deferred d", slot)),
+        Maker::Deferred => push_head(text, b"(deferred d", Tail::Named(slot)),
     }
 }
 
@@ -136,8 +131,8 @@ fn push_turns(text: &mut Vec<u8>, turns: Turns) -> Result<(), AllocError>
     ensures { OnOk result (text.new.items ≡ text.old.items ++ turns_text (turns_in_core turns)) }
 {
     match turns {
-        Turns::Times(value) => push_head(text, Head::Valued(b"(repeat ", value)),
-        Turns::Always => push_head(text, Head::Plain(b"(forever")),
+        Turns::Times(value) => push_head(text, b"(repeat ", Tail::Valued(value)),
+        Turns::Always => push_head(text, b"(forever", Tail::Plain),
     }
 }
 
@@ -147,35 +142,35 @@ fn push_core(text: &mut Vec<u8>, core: &Core) -> Result<(), AllocError>
     ensures { OnOk result (text.new.items ≡ text.old.items ++ core_text (tree_of core.now)) }
 {
     match core {
-        Core::Pure(v) => push_word(text, Head::Valued(b"(pure ", *v)),
-        Core::Raise(v) => push_word(text, Head::Valued(b"(raise ", *v)),
+        Core::Pure(v) => push_word(text, b"(pure ", Tail::Valued(*v)),
+        Core::Raise(v) => push_word(text, b"(raise ", Tail::Valued(*v)),
         Core::Act(action) => push_action(text, *action),
         Core::Note(mark, p) => push_mark(text, *mark, *p),
-        Core::Cancel(f) => push_word(text, Head::Named(b"(cancel f", *f)),
-        Core::Let(e, x, k) => push_two(text, Head::Named(b"(let v", *x), e, k),
+        Core::Cancel(f) => push_word(text, b"(cancel f", Tail::Named(*f)),
+        Core::Let(e, x, k) => push_two(text, b"(let v", Tail::Named(*x), e, k),
         Core::Seq(a, b, more) => push_sequence(text, a, b, more),
         Core::Handle(e, x, h) => {
-            push_part(text, Head::Plain(b"(handle"), e)?;
-            push_one(text, Head::Named(b" v", *x), h)
+            push_part(text, b"(handle", Tail::Plain, e)?;
+            push_one(text, b" v", Tail::Named(*x), h)
         }
-        Core::If0(v, s, e) => push_two(text, Head::Valued(b"(if0 ", *v), s, e),
+        Core::If0(v, s, e) => push_two(text, b"(if0 ", Tail::Valued(*v), s, e),
         Core::Join(f, x, s, y, e, c) => {
-            push_head(text, Head::Named(b"(join f", *f))?;
-            push_part(text, Head::Named(b" v", *x), s)?;
-            push_two(text, Head::Named(b" v", *y), e, c)
+            push_head(text, b"(join f", Tail::Named(*f))?;
+            push_part(text, b" v", Tail::Named(*x), s)?;
+            push_two(text, b" v", Tail::Named(*y), e, c)
         }
         Core::Make(maker, slot, k) => {
             push_maker(text, *maker, *slot)?;
-            push_one(text, Head::Plain(b""), k)
+            push_one(text, b"", Tail::Plain, k)
         }
-        Core::Start(f, e, k) => push_two(text, Head::Named(b"(start f", *f), e, k),
+        Core::Start(f, e, k) => push_two(text, b"(start f", Tail::Named(*f), e, k),
         Core::Loop(turns, e) => {
             push_turns(text, *turns)?;
-            push_one(text, Head::Plain(b""), e)
+            push_one(text, b"", Tail::Plain, e)
         }
-        Core::Uncancelable(p, e) => push_one(text, Head::Named(b"(uncancelable p", *p), e),
-        Core::Poll(p, e) => push_one(text, Head::Named(b"(poll p", *p), e),
-        Core::OnCancel(e, fin) => push_two(text, Head::Plain(b"(oncancel"), e, fin),
+        Core::Uncancelable(p, e) => push_one(text, b"(uncancelable p", Tail::Named(*p), e),
+        Core::Poll(p, e) => push_one(text, b"(poll p", Tail::Named(*p), e),
+        Core::OnCancel(e, fin) => push_two(text, b"(oncancel", Tail::Plain, e, fin),
     }
 }
 
@@ -190,10 +185,10 @@ fn push_sequence(
     ensures { OnOk result (text.new.items ≡ text.old.items ++
         core_text (trees_in_order (tree_of first.now) (tree_of second.now) (map tree_of more.now))) }
 {
-    push_part(text, Head::Plain(b"(seq"), first)?;
-    push_part(text, Head::Plain(b""), second)?;
+    push_part(text, b"(seq", Tail::Plain, first)?;
+    push_part(text, b"", Tail::Plain, second)?;
     for part in more {
-        push_part(text, Head::Plain(b""), part)?;
+        push_part(text, b"", Tail::Plain, part)?;
     }
     text.push(b')')?;
     Ok(())
@@ -201,35 +196,41 @@ fn push_sequence(
 
 // Writes a head, and a part behind it.
 #[cycle(printing)]
-fn push_part(text: &mut Vec<u8>, head: Head, part: &Core) -> Result<(), AllocError>
+fn push_part(text: &mut Vec<u8>, front: &[u8], tail: Tail, part: &Core) -> Result<(), AllocError>
     ensures { OnOk result (text.new.items ≡ text.old.items ++
-        (head_text head ++ (codes " " ++ core_text (tree_of part.now)))) }
+        (head_text front.now tail ++ (codes " " ++ core_text (tree_of part.now)))) }
 {
-    push_head(text, head)?;
+    push_head(text, front, tail)?;
     text.push(b' ')?;
     push_core(text, part)
 }
 
 // Writes a head and the last part of a form.
 #[cycle(printing)]
-fn push_one(text: &mut Vec<u8>, head: Head, part: &Core) -> Result<(), AllocError>
+fn push_one(text: &mut Vec<u8>, front: &[u8], tail: Tail, part: &Core) -> Result<(), AllocError>
     ensures { OnOk result (text.new.items ≡ text.old.items ++
-        (head_text head ++ (codes " " ++ (core_text (tree_of part.now) ++ codes ")")))) }
+        (head_text front.now tail ++ (codes " " ++ (core_text (tree_of part.now) ++ codes ")")))) }
 {
-    push_part(text, head, part)?;
+    push_part(text, front, tail, part)?;
     text.push(b')')?;
     Ok(())
 }
 
 // Writes a head and the last two parts of a form.
 #[cycle(printing)]
-fn push_two(text: &mut Vec<u8>, head: Head, first: &Core, last: &Core) -> Result<(), AllocError>
+fn push_two(
+    text: &mut Vec<u8>,
+    front: &[u8],
+    tail: Tail,
+    first: &Core,
+    last: &Core,
+) -> Result<(), AllocError>
     ensures { OnOk result (text.new.items ≡ text.old.items ++
-        (head_text head ++ (codes " " ++
+        (head_text front.now tail ++ (codes " " ++
         (core_text (tree_of first.now) ++ (codes " " ++ (core_text (tree_of last.now) ++ codes ")")))))) }
 {
-    push_part(text, head, first)?;
-    push_one(text, Head::Plain(b""), last)
+    push_part(text, front, tail, first)?;
+    push_one(text, b"", Tail::Plain, last)
 }
 
 /// The text of a code, or `AllocError` where memory is refused.

@@ -9,12 +9,12 @@ ghost use Rattle.derived_ops.specs.Reading.{source_of, value_of};
 ghost use Rattle.derived_ops.specs.Source as word;
 
 use crate::brackets::{Cases, bracket_case, guarantee};
-use crate::core_term::{Action, Core, Maker, Turns, Value};
+use crate::core_term::{Action, Core, Maker, Operand, Turns};
 use crate::forms::{
     bound, chosen, finalized, handled, joined, made, masked, polled, repeated, sequence, started,
 };
 use crate::races::{both, race};
-use effect_term::{Name, Operand, Term};
+use effect_term::{Name, Term};
 use std::alloc::{AllocError, Global};
 
 /// The binders of a program that are around a term: the new slot of each, outermost first.
@@ -46,12 +46,12 @@ impl Scope {
         }
     }
 
-    fn value(&self, operand: Operand) -> Value
+    fn value(&self, operand: effect_term::Operand) -> Operand
         ensures { value_in_core result ≡ value_in self.now.slots.items (value_of operand) }
     {
         match operand {
-            Operand::Number(number) => Value::Number(number),
-            Operand::Named(name) => Value::Slot(self.slot(name)),
+            effect_term::Operand::Number(number) => Operand::Number(number),
+            effect_term::Operand::Named(name) => Operand::Slot(self.slot(name)),
         }
     }
 

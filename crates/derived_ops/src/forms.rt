@@ -6,14 +6,15 @@ ghost use Rattle.derived_ops.specs.Expansion.{nil, in_order, in_three, in_four};
 ghost use Rattle.derived_ops.specs.Private.Sequences.{trees_in_order};
 ghost use Rattle.derived_ops.specs.Tree as tree;
 
-use crate::core_term::{Core, Maker, Turns, Value};
+use crate::core_term::{Core, Maker, Operand, Turns};
+use effect_term::Value;
 use std::alloc::{AllocError, Global};
 
 /// Gives 0.
 pub(crate) fn nil() -> Core
     ensures { tree_of result ≡ nil }
 {
-    Core::Pure(Value::Number(0))
+    Core::Pure(Operand::Number(Value::ZERO))
 }
 
 // Two terms in boxes.
@@ -86,7 +87,7 @@ pub(crate) fn handled(
 
 pub(crate) fn chosen(
     alloc: Global,
-    value: Value,
+    value: Operand,
     zero: Core,
     other: Core,
 ) -> Result<Core, AllocError>

@@ -18,6 +18,6 @@ mod program;
 mod races;
 
 pub use code::{Code, expand};
-pub use core_term::{Action, BracketMark, Core, Maker, Turns, Value};
+pub use core_term::{Action, BracketMark, Core, Maker, Operand, Turns};
 pub use core_text::print_core;
 pub use program::program_of;

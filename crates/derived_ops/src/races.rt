@@ -1,6 +1,6 @@
 //! What the words that run two fibers stand for: `race` and `both`.
 
-ghost use Rattle.std.specs.Prelude.{◌≡◌, ◌+◌, ◌<◌, ◌^◌, IfOk};
+ghost use Rattle.std.specs.Prelude.{◌≡◌, ◌+◌, ◌<◌, ◌^◌, pos, IfOk};
 ghost use Rattle.derived_ops.specs.Cores.{tree_of};
 ghost use Rattle.derived_ops.specs.Expansion.{awaits, both, both_outcome, both_side, both_values, cancels_both};
 ghost use Rattle.derived_ops.specs.Expansion.{ended, gives_up, in_order, pair_race, race, race_outcome, race_side};
@@ -8,10 +8,11 @@ ghost use Rattle.derived_ops.specs.Expansion.{race_winner, runs_side, starts_sid
 ghost use Rattle.derived_ops.specs.Tree as tree;
 
 use crate::brackets::{Cases, guarantee};
-use crate::core_term::{Action, Core, Maker, Value};
+use crate::core_term::{Action, Core, Maker, Operand};
 use crate::forms::{
     bound, chosen, finalized, in_order, joined, made, masked, nil, polled, started,
 };
+use effect_term::Value;
 use std::alloc::{AllocError, Global};
 
 // Waits for the end of the fiber, whatever it is.
@@ -29,6 +30,14 @@ fn gives_up(alloc: Global, poll: u32) -> Result<Core, AllocError>
     in_order(alloc, observed, Core::Act(Action::Never))
 }
 
+// Completes the deferred with the number of a side.
+fn completes(deferred: u32, side: u8) -> Core
+    ensures { tree_of result ≡ tree.Act (tree.Complete (tree.Open_slot deferred) (tree.Number (pos side))) }
+{
+    let number = Operand::Number(Value::from_i32(i32::from(side)));
+    Core::Act(Action::Complete(deferred, number))
+}
+
 // A side of the race, which completes the deferred with its number after every outcome.
 fn runs_side(
     alloc: Global,
@@ -40,11 +49,10 @@ fn runs_side(
     requires { slot + 2 < 2 ^ 32 }
     ensures { IfOk result (λ core. tree_of core ≡ runs_side slot deferred side (tree_of body)) }
 {
-    let done = Action::Complete(deferred, Value::Number(i32::from(side)));
     let finalizers = Cases {
-        on_cancel: Core::Act(done),
-        on_error: Core::Act(done),
-        on_value: Core::Act(done),
+        on_cancel: completes(deferred, side),
+        on_error: completes(deferred, side),
+        on_value: completes(deferred, side),
     };
     guarantee(alloc, slot, body, finalizers)
 }
@@ -155,12 +163,12 @@ fn race_side(
 ) -> Result<Core, AllocError>
     ensures { IfOk result (λ core. tree_of core ≡ race_side poll slot winner loser) }
 {
-    let value = Core::Pure(Value::Slot(slot));
-    let error = Core::Raise(Value::Slot(slot));
+    let value = Core::Pure(Operand::Slot(slot));
+    let error = Core::Raise(Operand::Slot(slot));
     let canceled = awaited(alloc, poll, slot, loser, value, error)?;
-    let value = Core::Pure(Value::Slot(slot));
+    let value = Core::Pure(Operand::Slot(slot));
     let succeeded = in_order(alloc, Core::Cancel(loser), value)?;
-    let error = Core::Raise(Value::Slot(slot));
+    let error = Core::Raise(Operand::Slot(slot));
     let errored = in_order(alloc, Core::Cancel(loser), error)?;
     joined(alloc, winner, slot, succeeded, errored, canceled)
 }
@@ -172,7 +180,7 @@ fn race_outcome(alloc: Global, poll: u32) -> Result<Core, AllocError>
 {
     let first = race_side(alloc, poll, poll + 5, poll + 2, poll + 3)?;
     let second = race_side(alloc, poll, poll + 5, poll + 3, poll + 2)?;
-    chosen(alloc, Value::Slot(poll + 4), first, second)
+    chosen(alloc, Operand::Slot(poll + 4), first, second)
 }
 
 /// The outcome of the side that ends first, and of the other one where that was canceled.
@@ -199,9 +207,9 @@ fn both_values(
     ensures { IfOk result (λ core.
         tree_of core ≡ both_values poll kept slot other second first) }
 {
-    let set = Core::Act(Action::Set(kept, Value::Slot(second)));
-    let values = in_order(alloc, set, Core::Pure(Value::Slot(first)))?;
-    let error = Core::Raise(Value::Slot(slot));
+    let set = Core::Act(Action::Set(kept, Operand::Slot(second)));
+    let values = in_order(alloc, set, Core::Pure(Operand::Slot(first)))?;
+    let error = Core::Raise(Operand::Slot(slot));
     awaited(alloc, poll, slot, other, values, error)
 }
 
@@ -230,7 +238,7 @@ fn both_side(
         tree_of core ≡ both_side poll kept slot early late second first) }
 {
     let succeeded = both_values(alloc, poll, kept, slot + 1, late, second, first)?;
-    let error = Core::Raise(Value::Slot(slot));
+    let error = Core::Raise(Operand::Slot(slot));
     let errored = in_order(alloc, Core::Cancel(late), error)?;
     let canceled = cancels_and_gives_up(alloc, poll, late)?;
     joined(alloc, early, slot, succeeded, errored, canceled)
@@ -245,7 +253,7 @@ fn both_outcome(alloc: Global, poll: u32, kept: u32) -> Result<Core, AllocError>
     let (own, other) = (poll + 5, poll + 6);
     let first = both_side(alloc, poll, kept, own, a, b, other, own)?;
     let second = both_side(alloc, poll, kept, own, b, a, own, other)?;
-    chosen(alloc, Value::Slot(poll + 4), first, second)
+    chosen(alloc, Operand::Slot(poll + 4), first, second)
 }
 
 // Runs both sides. The ref, whose slot is the first, then holds the second value.
@@ -275,5 +283,10 @@ pub(crate) fn both(
     let raced = both_raced(alloc, slot, a, b)?;
     let got = bound(alloc, Core::Act(Action::Get(slot)), slot + 2, next)?;
     let values = bound(alloc, raced, slot + 1, got)?;
-    made(alloc, Maker::Ref(Value::Number(0)), slot, values)
+    made(
+        alloc,
+        Maker::Ref(Operand::Number(Value::ZERO)),
+        slot,
+        values,
+    )
 }

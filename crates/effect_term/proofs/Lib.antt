@@ -4,3 +4,4 @@ pub mod KindLaws
 pub mod ProgramLaws
 pub mod Rows
 pub mod UsesLaws
+pub mod ValueLaws

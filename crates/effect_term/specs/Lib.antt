@@ -2,7 +2,9 @@ pub mod ExpansionSize
 pub mod Kinds
 pub mod Masks
 pub mod Names
+pub mod Outcomes
 pub mod Programs
 pub mod Sizes
 pub mod Starts
+pub mod Values
 pub mod Private

@@ -12,8 +12,10 @@ mod program;
 mod refusal;
 mod reply;
 mod term;
+mod value;
 
 pub use program::Program;
 pub use refusal::TermError;
 pub use reply::{CancelReply, JoinReply, Outcome, Reply};
 pub use term::{Kind, Name, Operand, Term};
+pub use value::Value;

@@ -1,12 +1,13 @@
 //! How a fiber ends, and what the calls that fibers share answer.
+use crate::value::Value;
 
 /// How a fiber ended.
 #[derive(Clone, Copy, PartialEq, Eq, Debug)]
 pub enum Outcome {
     /// It gave this value.
-    Succeeded(i32),
+    Succeeded(Value),
     /// It raised this error code.
-    Errored(i32),
+    Errored(Value),
     /// It observed a request for its cancellation, and its finalizers have run.
     Canceled,
 }
@@ -45,9 +46,9 @@ pub enum Reply {
     /// The number of the new fiber, ref or deferred.
     Number(u16),
     /// The value of a ref.
-    Value(i32),
+    Value(Value),
     /// Whether this call completed the deferred.
     Completed(bool),
     /// The value of a deferred, if it was completed.
-    Read(Option<i32>),
+    Read(Option<Value>),
 }

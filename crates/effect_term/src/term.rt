@@ -3,10 +3,12 @@
 //! The words are those of Cats Effect 3's `MonadCancel`, `GenSpawn` and `GenConcurrent`, with terms in
 //! the place of functions and whole numbers in the place of values.
 
+use crate::value::Value;
+
 /// What a name stands for.
 #[derive(Clone, Copy, PartialEq, Eq, Debug)]
 pub enum Kind {
-    /// A whole number of 32 bits with sign.
+    /// A whole number of 63 bits with sign.
     Value,
     /// The poll of a mask.
     Poll,
@@ -31,7 +33,7 @@ pub struct Name {
 #[derive(Clone, Copy, PartialEq, Eq, Debug)]
 pub enum Operand {
     /// This number.
-    Number(i32),
+    Number(Value),
     /// The value that this name stands for.
     Named(Name),
 }
@@ -82,7 +84,7 @@ pub enum Term {
     Get(Name),
     /// Sets the ref, and gives 0.
     Set(Name, Operand),
-    /// Adds to the ref modulo 2^32, and gives the old value.
+    /// Adds to the ref modulo 2^63, and gives the old value.
     Modify(Name, Operand),
     /// Makes an empty deferred, and binds it.
     Deferred(Box<Term>),

@@ -98,6 +98,14 @@ fn core_words_are_expanded_part_by_part(rt: HostRuntime) -> Result<(), Fail> {
     Ok(())
 }
 
+#[test]
+fn numbers_keep_their_63_bits(rt: HostRuntime) -> Result<(), Fail> {
+    let text: &[u8] = b"(seq (add 4611686018427387903 -4611686018427387904) (say 2147483648) \
+        (raise -2147483649))";
+    assert_eq!(rt; expanded(rt.alloc(), text)?.as_slice(), text);
+    Ok(())
+}
+
 // Programs of derived words, each with the text of its expansion.
 const DERIVED_WORDS: [(&[u8], &[u8]); 6] = [
     (b"(guarantee (say 1) (say 2))", GUARANTEE),

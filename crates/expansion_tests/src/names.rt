@@ -95,10 +95,11 @@ fn a_child_has_no_name_of_itself(rt: HostRuntime) -> Result<(), AllocError> {
 #[test]
 fn the_first_fault_in_reading_order(rt: HostRuntime) -> Result<(), AllocError> {
     let alloc = rt.alloc();
-    let (unbound, other_kind) = (named(5, Kind::Value), named(0, Kind::Value));
-    let term = masked(alloc, Term::Add(unbound, other_kind))?;
+    let unbound_first = Term::Add(named(5, Kind::Value), named(0, Kind::Value));
+    let term = masked(alloc, unbound_first)?;
     assert_eq!(rt; refusal(alloc, term), Some(TermError::Unbound(5)));
-    let term = masked(alloc, Term::Add(other_kind, unbound))?;
+    let other_kind_first = Term::Add(named(0, Kind::Value), named(5, Kind::Value));
+    let term = masked(alloc, other_kind_first)?;
     assert_eq!(rt; refusal(alloc, term), Some(TermError::WrongKind(0)));
     Ok(())
 }

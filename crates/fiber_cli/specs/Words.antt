@@ -13,7 +13,7 @@ band_range = record { least = 1; most = 1000; usual = 1000 }
 
 -- of changes that a fiber makes of its own state
 abbrev pub count_range : NumberRange
-count_range = record { least = 1; most = 262143; usual = 262143 }
+count_range = record { least = 1; most = 1099511627775; usual = 1099511627775 }
 
 abbrev pub workers_range : NumberRange
 workers_range = record { least = 1; most = 16; usual = 4 }

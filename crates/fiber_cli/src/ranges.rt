@@ -4,9 +4,9 @@
 /// option isn't given.
 #[derive(Clone, Copy)]
 pub struct NumberRange {
-    pub least: u32,
-    pub most: u32,
-    pub usual: u32,
+    pub least: u64,
+    pub most: u64,
+    pub usual: u64,
 }
 
 /// How many fibers, refs or deferreds there may be.
@@ -19,8 +19,8 @@ pub const BAND: NumberRange = NumberRange {
 /// How often a fiber may change its own state.
 pub const COUNT: NumberRange = NumberRange {
     least: 1,
-    most: 262_143,
-    usual: 262_143,
+    most: 1_099_511_627_775,
+    usual: 1_099_511_627_775,
 };
 
 /// How many workers a run has.

@@ -31,18 +31,18 @@ fn text_of<'a>(matches: &ArgMatches<'a>, name: &str) -> Option<&'a str>
 }
 
 /// The number of the range that a text spells.
-fn number(text: &str, range: NumberRange) -> Option<u32>
+fn number(text: &str, range: NumberRange) -> Option<u64>
     ensures spelled { IfSome result (SaysNumber range (Some text.now)) }
     ensures none { IfNone result (IsNumberOf range text.now → ⊥) }
 {
-    match text.parse::<u32>() {
+    match text.parse::<u64>() {
         Ok(number) if range.least <= number && number <= range.most => Some(number),
         _ => None,
     }
 }
 
 /// The number that an option says, which is the usual one where the option isn't given.
-fn number_of(matches: &ArgMatches<'_>, name: &str, range: NumberRange) -> Option<u32>
+fn number_of(matches: &ArgMatches<'_>, name: &str, range: NumberRange) -> Option<u64>
     requires { (range.least ≤ range.usual) × (range.usual ≤ range.most) }
     ensures said { IfSome result (SaysNumber range (first_of name.now (rows_of (found_of matches.now)))) }
     ensures none { IfNone result ((n : ℕ) → SaysNumber range (first_of name.now (rows_of (found_of matches.now))) n →
@@ -91,8 +91,8 @@ fn run_options(run: &ArgMatches<'_>) -> Option<Options>
         refs: limits.refs,
         deferreds: limits.deferreds,
         count: limits.count,
-        budget,
-        moves,
+        budget: budget as u32,
+        moves: moves as u32,
     })
 }
 

@@ -1,6 +1,6 @@
 //! What the words of a command line may be.
 
-ghost use Rattle.std.specs.Prelude.{◌≡◌, false, IfOk};
+ghost use Rattle.std.specs.Prelude.{◌≡◌, ◌<◌, ◌^◌, false, IfOk};
 ghost use Rattle.clap.specs.Words.{app_of, new_app, rule_of};
 ghost use Rattle.clap.specs.declared.builder.command.Command.TheViews.{out-Command};
 ghost use Rattle.fiber_cli.specs.Words.{number_option, program, replay_command, run_command, schedule_option};
@@ -33,6 +33,8 @@ fn new_command<'a>(alloc: Global, name: &'a str, about: &'a str) -> Command<'a>
 
 /// An option that takes a whole number of this range.
 fn number_option<'a>(alloc: Global, name: &'a str, help: &'a str, range: NumberRange) -> Arg<'a>
+    requires least { range.least < 2 ^ 63 }
+    requires most { range.most < 2 ^ 63 }
     ensures rule { rule_of result ≡ number_option name.entry.now range }
     ensures local { result.global ≡ false }
 {
@@ -53,7 +55,8 @@ fn schedule_option<'a>(alloc: Global) -> Arg<'a>
         .long("schedule")
         .value_name("TEXT")
         .help(
-            "Whose move is next: items F or F*K (K moves of fiber F) with one space between, as in \"0*2 1*9\". F is 0 to 999, K is 1 to 100000",
+            "Whose move is next: items F or F*K (K moves of fiber F) with one space between, as in \"0*2 1*9\". F is \
+            0 to 999, K is 1 to 100000",
         )
         .required(true)
         .action(ArgAction::Set)
@@ -85,7 +88,7 @@ fn with_limits<'a>(alloc: Global, command: Command<'a>) -> Result<Command<'a>, A
     let count = number_option(
         alloc,
         "count",
-        "How often a fiber may change its own state: 1 to 262143, 262143 if not given",
+        "How often a fiber may change its own state: 1 to 1099511627775, 1099511627775 if not given",
         COUNT,
     );
     command.arg(fibers)?.arg(refs)?.arg(deferreds)?.arg(count)
@@ -113,13 +116,15 @@ fn run_command<'a>(alloc: Global) -> Result<Command<'a>, AllocError>
     let budget = number_option(
         alloc,
         "budget",
-        "How many moves a worker makes of a fiber in one turn at most, after which another that is ready has its turn: 2 to 10000, 64 if not given",
+        "How many moves a worker makes of a fiber in one turn at most, after which another that is ready has its \
+        turn: 2 to 10000, 64 if not given",
         BUDGET,
     );
     let moves = number_option(
         alloc,
         "moves",
-        "How many moves fiber 0 may make, and each other fiber with those of its parent before it: 1 to 1000000, 100000 if not given. A fiber that has made them is reported as unended",
+        "How many moves fiber 0 may make, and each other fiber with those of its parent before it: 1 to 1000000, \
+        100000 if not given. A fiber that has made them is reported as unended",
         MOVES,
     );
     let about = "Runs the program on work-stealing threads, and prints its report";

@@ -1,3 +1,5 @@
+pub mod Reading
+pub mod Sums
 pub mod Walk
 pub mod Marks
 pub mod Reversing

@@ -2,8 +2,8 @@
 
 use crate::operand::{Handle, Mask};
 use crate::word::Rest;
-use derived_ops::Value;
-use effect_term::Outcome;
+use derived_ops::Operand;
+use effect_term::{Outcome, Value};
 
 /// What is left to do with the result of what stands inside. A place in the table comes with its level,
 /// the number of binders around it; of `let` and `handle` it is the level of the form.
@@ -14,7 +14,7 @@ pub(crate) enum Frame {
     /// The next part of a sequence.
     Seq(Rest, usize, usize),
     /// The body of a loop that has so many turns left.
-    Again(i32, usize, usize),
+    Again(Value, usize, usize),
     /// The word that an error goes on to, which binds its code.
     Handle(usize, usize),
     /// The finalizer of what stands inside.
@@ -40,17 +40,17 @@ pub(crate) enum Leaf {
     /// A word of the table, and its level.
     At(usize, usize),
     /// A value.
-    Value(Value),
+    Value(Operand),
     /// An error of this code.
-    Error(Value),
+    Error(Operand),
     /// The request of a `cancel`.
     Request(Handle),
     /// The wait of a `cancel`.
     Ending(Handle),
     /// A ref's first value.
-    Store(u16, Value),
+    Store(u16, Operand),
     /// A loop that has so many turns left, with its body.
-    Turns(i32, usize, usize),
+    Turns(Value, usize, usize),
 }
 
 /// How far a fiber is.

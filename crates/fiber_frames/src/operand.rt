@@ -2,11 +2,12 @@
 
 ghost use Rattle.std.specs.Prelude.{◌≡◌};
 ghost use Rattle.fiber_frames.specs.Path.{same_mask};
-ghost use Rattle.fiber_frames.specs.Rows.{number_of, handle_number, mask_number};
+ghost use Rattle.fiber_frames.specs.Rows.{number_of, handle_number, is_zero, mask_number};
 ghost use Rattle.derived_ops.specs.Cores.{value_in_core};
 ghost use Rattle.fiber_frames.specs.Frames.{handle_of, mask_of};
 
-use derived_ops::Value;
+use derived_ops::Operand;
+use effect_term::Value;
 
 /// A fiber, a ref or a deferred: its number, or the slot of its binder where nothing is bound there.
 #[derive(Clone, Copy)]
@@ -51,11 +52,22 @@ impl Mask {
 
 // The number of a value, which a closed term has.
 #[inline(always)]
-pub(crate) fn number(value: Value) -> i32
+pub(crate) fn number(value: Operand) -> Value
     ensures { result ≡ number_of (value_in_core value) }
 {
     match value {
-        Value::Number(number) => number,
-        Value::Slot(_) => 0,
+        Operand::Number(number) => number,
+        Operand::Slot(_) => Value::ZERO,
+    }
+}
+
+// The value is the number 0.
+#[inline(always)]
+pub(crate) fn is_zero(value: Operand) -> bool
+    ensures { result ≡ is_zero (value_in_core value) }
+{
+    match value {
+        Operand::Number(number) => number.get() == 0,
+        Operand::Slot(_) => false,
     }
 }

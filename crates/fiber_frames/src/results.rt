@@ -15,7 +15,7 @@ use crate::mark::Mark;
 use crate::operand::number;
 use crate::stack::push;
 use crate::word::Entry;
-use derived_ops::Value;
+use derived_ops::Operand;
 use effect_term::Outcome;
 use std::alloc::AllocError;
 
@@ -53,7 +53,7 @@ impl Machine {
 
     // The value goes on under this frame, which is taken off.
     #[inline(always)]
-    fn give_under(&mut self, value: Value, frame: Frame) -> Result<(), AllocError>
+    fn give_under(&mut self, value: Operand, frame: Frame) -> Result<(), AllocError>
         requires level { Levels frame (length self.old.env.items) }
         ensures state { OnOk result (state_of self.new ≡ given (state_of self.old) value frame) }
         ensures kept { OnErr result (Kept self.old self.new) }
@@ -74,7 +74,7 @@ impl Machine {
 
     // The error goes on under this frame, which is taken off.
     #[inline(always)]
-    fn throw_under(&mut self, code: Value, frame: Frame) -> Result<(), AllocError>
+    fn throw_under(&mut self, code: Operand, frame: Frame) -> Result<(), AllocError>
         requires level { Levels frame (length self.old.env.items) }
         ensures state { OnOk result (state_of self.new ≡ thrown (state_of self.old) code frame) }
         ensures kept { OnErr result (Kept self.old self.new) }
@@ -93,7 +93,7 @@ impl Machine {
     // The row of a value at the leaf.
     #[tactic(auto, using(crate::proofs::Reversing::reverse_push))]
     #[inline(always)]
-    pub(crate) fn value_row(&mut self, value: Value) -> Result<Turn, AllocError>
+    pub(crate) fn value_row(&mut self, value: Operand) -> Result<Turn, AllocError>
         requires under { Under (length self.old.env.items) (state_of self.old).frames }
         ensures state { OnOk result (state_of self.new ≡ value_row (state_of self.old) value
             (state_of self.old).frames) }
@@ -109,15 +109,15 @@ impl Machine {
             self.begin_finalizer(mask)?;
             return Ok(Turn::Plain);
         }
-        let outcome = Outcome::Succeeded(number(value));
-        self.end(outcome);
-        Ok(Turn::Ended(outcome))
+        let number = number(value);
+        self.end(Outcome::Succeeded(number));
+        Ok(Turn::Ended(Outcome::Succeeded(number)))
     }
 
     // The row of an error at the leaf.
     #[tactic(auto, using(crate::proofs::Reversing::reverse_push))]
     #[inline(always)]
-    pub(crate) fn error_row(&mut self, code: Value) -> Result<Turn, AllocError>
+    pub(crate) fn error_row(&mut self, code: Operand) -> Result<Turn, AllocError>
         requires under { Under (length self.old.env.items) (state_of self.old).frames }
         ensures state { OnOk result (state_of self.new ≡ error_row (state_of self.old) code
             (state_of self.old).frames) }
@@ -134,8 +134,8 @@ impl Machine {
             self.note(Mark::Dropped(number(code)))?;
             return Ok(Turn::Plain);
         }
-        let outcome = Outcome::Errored(number(code));
-        self.end(outcome);
-        Ok(Turn::Ended(outcome))
+        let number = number(code);
+        self.end(Outcome::Errored(number));
+        Ok(Turn::Ended(Outcome::Errored(number)))
     }
 }

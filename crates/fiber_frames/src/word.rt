@@ -1,6 +1,7 @@
 //! The words of a code, in a table.
 
-use derived_ops::{Action, BracketMark, Maker, Turns, Value};
+use derived_ops::{Action, BracketMark, Maker, Operand, Turns};
+use effect_term::Value;
 
 /// What stands after the first part of a sequence.
 #[derive(Clone, Copy)]
@@ -17,15 +18,15 @@ pub(crate) enum Rest {
 /// A binder's slot isn't stored: it is the number of binders around it.
 #[derive(Clone, Copy)]
 pub(crate) enum Word {
-    Pure(Value),
-    Raise(Value),
+    Pure(Operand),
+    Raise(Operand),
     Act(Action),
     Note(BracketMark, u32),
     Cancel(u32),
     Let(u32),
     Seq(Rest, u32),
     Handle(u32),
-    If0(Value, u32),
+    If0(Operand, u32),
     Join(u32, u32, u32),
     Make(Maker),
     Start(u32),
@@ -39,7 +40,7 @@ pub(crate) enum Word {
 #[derive(Clone, Copy)]
 pub(crate) enum Entry {
     /// A value or a code.
-    Value(i32),
+    Value(Value),
     /// The number of a fiber, a ref or a deferred.
     Handle(u16),
     /// The number of a fiber, and of a mask in it.

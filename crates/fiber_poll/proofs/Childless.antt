@@ -5,7 +5,7 @@ use Rattle.effect_term.specs.declared.reply.Outcome.{Outcome}
 use Rattle.effect_term.specs.declared.reply.Outcome.TheVariants as outcome
 use Rattle.effect_term.specs.declared.reply.Reply.{Reply}
 use Rattle.effect_term.specs.declared.reply.Reply.TheVariants as reply
-use Rattle.derived_ops.specs.Tree.{Act, Action, Add, Always, Await, Cancel, Canceled, Cede, Complete, Ending, Get, Guarded, Handle, Handled, If0, Join, Let, Loop, Make, Mask, Masked, Modify, Never, New_deferred, New_ref, Note, Number, On_cancel, Pair, Poll, Polled, Pure, Raise, Request, Rest, Say, Seq, Set, Start, Times, Tree, Turns, Uncancelable, Value}
+use Rattle.derived_ops.specs.Tree.{Act, Action, Add, Always, Await, Cancel, Canceled, Cede, Complete, Ending, Get, Guarded, Handle, Handled, If0, Join, Let, Loop, Make, Mask, Masked, Modify, Never, New_deferred, New_ref, Note, Number, On_cancel, Pair, Poll, Polled, Pure, Raise, Request, Rest, Say, Seq, Set, Start, Times, Tree, Turns, Uncancelable, Operand}
 use Rattle.derived_ops.specs.Put.{Put, Put_handle, Put_mask, Put_value, put}
 use Rattle.fiber_frames.specs.declared.ask.Ask.{Ask}
 use Rattle.fiber_frames.specs.declared.ask.Ask.TheVariants as ask

@@ -56,4 +56,4 @@ first_result (Err e) = Err e
 
 -- the limits of a run, where none are given
 abbrev pub default_limits : Limits
-default_limits = record { fibers = 1000; refs = 1000; deferreds = 1000; count = 262143 }
+default_limits = record { fibers = 1000; refs = 1000; deferreds = 1000; count = 1099511627775 }

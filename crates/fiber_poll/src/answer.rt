@@ -1,7 +1,7 @@
 //! The registry's answer to what a fiber asks.
 ghost use Rattle.std.specs.Prelude.{◌≡◌, IfOk, IfErr};
 ghost use Rattle.cell_registry.specs.Passes.{IsOf, IsPass};
-ghost use Rattle.cell_registry.specs.Cells.{OutcomeFits};
+ghost use Rattle.effect_term.specs.Outcomes.{OutcomeFits};
 ghost use Rattle.outcome_trace.specs.Core.{wish_of, fault_of};
 ghost use Rattle.outcome_trace.specs.Permits.{Makes, MayMake, RefusedBy};
 ghost use Rattle.fiber_poll.specs.Private.Making.{MayAnswer, Refuses, Replies};
@@ -11,15 +11,16 @@ use cell_registry::{Call, CellError, Outcome, Pass, Registry, Reply, RunError};
 use fiber_frames::Ask;
 
 // The reply under which a fiber makes the move that asks so, and that starts nobody: the registry's,
-// or `Done` where the move needs no shared call. Or the registry's refusal.
+// or `Done` where the move needs no shared call. Or the registry's refusal. That a value is in range is known of
+// what is read of it.
 #[inline(always)]
-pub(crate) fn answer(registry: &Registry, pass: &mut Pass, ask: Ask) -> Result<Reply, CellError>
+pub(crate) fn answer(registry: &Registry, pass: &mut Pass, ask: &Ask) -> Result<Reply, CellError>
     requires own { IsOf registry.now pass.old }
-    requires may { MayAnswer pass.old (wish_of ask) }
-    requires step { IsStep ask }
+    requires may { MayAnswer pass.old (wish_of ask.now) }
+    requires step { IsStep ask.now }
     ensures lawful { IsPass pass.new }
-    ensures made { IfOk result (λ reply. Replies pass.old (wish_of ask) reply pass.new) }
-    ensures refused { IfErr result (λ error. Refuses pass.old (wish_of ask) error pass.new) }
+    ensures made { IfOk result (λ reply. Replies pass.old (wish_of ask.now) reply pass.new) }
+    ensures refused { IfErr result (λ error. Refuses pass.old (wish_of ask.now) error pass.new) }
 {
     match ask {
         Ask::Silent => {
@@ -40,35 +41,46 @@ pub(crate) fn answer(registry: &Registry, pass: &mut Pass, ask: Ask) -> Result<R
             Ok(Reply::Done)
         }
         Ask::Finish(outcome) => finish(registry, pass, outcome),
-        Ask::Cancel(fiber) => Ok(Reply::Cancel(registry.cancel(pass, fiber))),
-        Ask::Join(fiber) => Ok(Reply::Join(registry.join(pass, fiber))),
+        Ask::Cancel(fiber) => Ok(Reply::Cancel(registry.cancel(pass, *fiber))),
+        Ask::Join(fiber) => Ok(Reply::Join(registry.join(pass, *fiber))),
         Ask::NewRef => Ok(Reply::Number(registry.new_ref(pass)?)),
-        Ask::Get(number) => Ok(Reply::Value(registry.get(pass, number))),
+        Ask::Get(number) => Ok(Reply::Value(registry.get(pass, *number))),
         Ask::Set(number, value) => {
-            registry.set(pass, number, value);
+            let _ = value.get();
+            registry.set(pass, *number, *value);
             Ok(Reply::Done)
         }
-        Ask::Modify(number, value) => Ok(Reply::Value(registry.modify(pass, number, value))),
+        Ask::Modify(number, value) => {
+            let _ = value.get();
+            Ok(Reply::Value(registry.modify(pass, *number, *value)))
+        }
         Ask::NewDeferred => Ok(Reply::Number(registry.new_deferred(pass)?)),
         Ask::Complete(number, value) => {
-            Ok(Reply::Completed(registry.complete(pass, number, value)))
+            let _ = value.get();
+            Ok(Reply::Completed(registry.complete(pass, *number, *value)))
         }
-        Ask::Read(number) => Ok(Reply::Read(registry.read(pass, number))),
+        Ask::Read(number) => Ok(Reply::Read(registry.read(pass, *number))),
         Ask::Start | Ask::Over(_) | Ask::Broken => unreachable!(),
     }
 }
 
-// The end of the fiber, whose value is one of 32 bits.
-fn finish(registry: &Registry, pass: &mut Pass, outcome: Outcome) -> Result<Reply, CellError>
+// The end of the fiber, whose number is in range.
+fn finish(registry: &Registry, pass: &mut Pass, outcome: &Outcome) -> Result<Reply, CellError>
     requires own { IsOf registry.now pass.old }
-    requires may { OutcomeFits outcome → MayMake pass.old (Call.Finish outcome) }
+    requires may { OutcomeFits outcome.now → MayMake pass.old (Call.Finish outcome.now) }
     ensures lawful { IsPass pass.new }
-    ensures made { IfOk result (λ reply. Makes pass.old (Call.Finish outcome) reply pass.new) }
-    ensures refused { IfErr result (λ error. RefusedBy pass.old (Call.Finish outcome) error pass.new) }
+    ensures made { IfOk result (λ reply. Makes pass.old (Call.Finish outcome.now) reply pass.new) }
+    ensures refused { IfErr result (λ error. RefusedBy pass.old (Call.Finish outcome.now) error pass.new) }
 {
     match outcome {
-        Outcome::Succeeded(value) => registry.finish(pass, Outcome::Succeeded(value))?,
-        Outcome::Errored(code) => registry.finish(pass, Outcome::Errored(code))?,
+        Outcome::Succeeded(value) => {
+            let _ = value.get();
+            registry.finish(pass, Outcome::Succeeded(*value))?
+        }
+        Outcome::Errored(code) => {
+            let _ = code.get();
+            registry.finish(pass, Outcome::Errored(*code))?
+        }
         Outcome::Canceled => registry.finish(pass, Outcome::Canceled)?,
     }
     Ok(Reply::Done)

@@ -20,7 +20,7 @@ use std::sync::Wait;
 const NUMBERS: u16 = 1000;
 
 /// The most changes of its cell that a fiber may make.
-const COUNT: u32 = 262_143;
+const COUNT: u64 = 1_099_511_627_775;
 
 /// The moves that a poll makes at most.
 const BUDGET: u32 = 64;

@@ -1,5 +1,5 @@
 //! One move of a turn, as its loop sees it.
-ghost use Rattle.std.specs.Prelude.{◌≡◌, ◌≢◌, if◌then◌else◌};
+ghost use Rattle.std.specs.Prelude.{◌≡◌, ◌≢◌, ℕ, if◌then◌else◌};
 ghost use Rattle.fiber_poll.specs.Turns.{awaited, woken};
 ghost use Rattle.fiber_poll.specs.Private.Told.{Follows, IsLast, Tells, event_at, event_in, event_told};
 
@@ -24,21 +24,18 @@ pub(crate) enum Step {
     Ended,
 }
 
-// What a move of the fiber of this number was, which asked so and was answered so.
+// What a move was that asked so. Where it was plain, it woke somebody or not, as `woke` says.
 #[inline(always)]
-pub(crate) fn step_of(number: u16, ask: Ask, reply: Reply, moved: &Moved) -> Step
-    requires { Follows ask moved.now }
-    ensures event { event_at ask result ≡ event_in number ask reply moved.now }
-    ensures tells { Tells ask result }
+pub(crate) fn step_of(ask: &Ask, woke: bool, moved: &Moved) -> Step
+    requires follows { Follows ask.now moved.now }
+    requires tells { Tells ask.now (if woke then Step.Woke else Step.Plain) }
+    ensures event { (number : ℕ) (reply : Reply) →
+        event_at ask.now (if woke then Step.Woke else Step.Plain) ≡ woken number ask.now reply →
+        event_at ask.now result ≡ event_in number ask.now reply moved.now }
+    ensures tells { Tells ask.now result }
 {
     match moved {
-        Moved::Plain => {
-            if wakes(number, ask, reply) {
-                Step::Woke
-            } else {
-                Step::Plain
-            }
-        }
+        Moved::Plain => { if woke { Step::Woke } else { Step::Plain } }
         Moved::Waited => Step::Waited,
         Moved::Ceded => Step::Ceded,
         Moved::Ended(_) => Step::Ended,
@@ -46,15 +43,16 @@ pub(crate) fn step_of(number: u16, ask: Ask, reply: Reply, moved: &Moved) -> Ste
     }
 }
 
-// Whether a plain move of the fiber of this number may have woken somebody.
+// Whether a plain move of the fiber of this number, which asked so and was answered so, may have woken
+// somebody.
 #[inline(always)]
-fn wakes(number: u16, ask: Ask, reply: Reply) -> bool
-    ensures event { event_at ask (if result then Step.Woke else Step.Plain) ≡ woken number ask reply }
-    ensures tells { Tells ask (if result then Step.Woke else Step.Plain) }
+pub(crate) fn wakes(number: u16, ask: &Ask, reply: &Reply) -> bool
+    ensures event { event_at ask.now (if result then Step.Woke else Step.Plain) ≡ woken number ask.now reply.now }
+    ensures tells { Tells ask.now (if result then Step.Woke else Step.Plain) }
 {
     match ask {
         Ask::Cancel(fiber) => match reply {
-            Reply::Cancel(CancelReply::Asked) => fiber != number,
+            Reply::Cancel(CancelReply::Asked) => *fiber != number,
             _ => false,
         },
         Ask::Complete(_, _) => match reply {

@@ -11,7 +11,7 @@ ghost use Rattle.fiber_poll.specs.Stepping.{Failed};
 ghost use Rattle.fiber_poll.specs.Private.Told.{Bears, IsAsked, Made};
 
 use crate::answer::{answer, fault};
-use crate::step::{Step, step_of, told};
+use crate::step::{Step, step_of, told, wakes};
 use crate::turn::Turn;
 use cell_registry::{Outcome, Pass, Registry, RunError};
 use effect_term::Reply;
@@ -155,16 +155,16 @@ impl<'a> FiberTask<'a> {
                 return Ok(Turn::OutOfMoves);
             }
             match self.config.ask() {
-                Ask::Silent => match self.step(Ask::Silent)? {
+                Ask::Silent => match self.step(&Ask::Silent)? {
                     Step::Plain => {}
                     step => return Ok(told(Ask::Silent, step)),
                 },
-                Ask::Look => match self.step(Ask::Look)? {
+                Ask::Look => match self.step(&Ask::Look)? {
                     Step::Plain => {}
                     step => return Ok(told(Ask::Look, step)),
                 },
                 Ask::Start => return Ok(Turn::Started(self.start()?)),
-                ask => match self.step(ask)? {
+                ask => match self.step(&ask)? {
                     Step::Plain => {}
                     step => return Ok(told(ask, step)),
                 },
@@ -175,14 +175,14 @@ impl<'a> FiberTask<'a> {
 
     // A move that asks so, and that starts nobody.
     #[inline(always)]
-    fn step(&mut self, ask: Ask) -> Result<Step, RunError>
-        requires ask { ask ≡ ask_of self.old.state }
-        requires asked { IsAsked self.old.state ask }
+    fn step(&mut self, ask: &Ask) -> Result<Step, RunError>
+        requires ask { ask.now ≡ ask_of self.old.state }
+        requires asked { IsAsked self.old.state ask.now }
         requires going { IsGoing (way_of self.old.state.running) }
-        requires other { ask ≢ Ask.Start }
+        requires other { ask.now ≢ Ask.Start }
         requires left { 0 < self.old.moves }
         ensures lawful { IsTask self.old }
-        ensures made { IfOk result (λ step. Made self.old ask step self.new) }
+        ensures made { IfOk result (λ step. Made self.old ask.now step self.new) }
         ensures failed { IfErr result (λ error. Failed self.old error self.new) }
     {
         let number = self.config.number();
@@ -190,12 +190,13 @@ impl<'a> FiberTask<'a> {
             Ok(reply) => reply,
             Err(error) => return Err(fault(number, error)),
         };
+        let woke = wakes(number, ask, &reply);
         // The result is large, since a child stands in it: it is looked at where it is.
         let resumed = self.config.resume(reply);
         match &resumed {
             Ok(moved) => {
                 self.moves -= 1;
-                Ok(step_of(number, ask, reply, moved))
+                Ok(step_of(ask, woke, moved))
             }
             Err(_) => Err(RunError::NoMemory),
         }

@@ -2,7 +2,7 @@
 ghost use Rattle.cell_registry.specs.Cells.{AreLimits};
 
 use cell_registry::{Limits, RunError};
-use effect_term::{Kind, Name, Operand, Program, Term};
+use effect_term::{Kind, Name, Operand, Program, Term, Value};
 use outcome_trace::{replay, text_of_report};
 use std::alloc::{AllocError, Global};
 use std::test::Fail;
@@ -22,14 +22,17 @@ fn request_before_a_poll(alloc: Global) -> Result<Term, AllocError> {
         slot: 0,
         kind: Kind::Poll,
     };
-    let polled = Term::Poll(poll, boxed(alloc, Term::Say(Operand::Number(2)))?);
-    let first = boxed(alloc, Term::Say(Operand::Number(1)))?;
+    let polled = Term::Poll(
+        poll,
+        boxed(alloc, Term::Say(Operand::Number(Value::from_i32(2))))?,
+    );
+    let first = boxed(alloc, Term::Say(Operand::Number(Value::from_i32(1))))?;
     let then = Term::Let(first, boxed(alloc, polled)?);
     let body = Term::Let(boxed(alloc, Term::Canceled)?, boxed(alloc, then)?);
     Ok(Term::Uncancelable(boxed(alloc, body)?))
 }
 
-fn limits(count: u32) -> Limits
+fn limits(count: u64) -> Limits
     requires { AreLimits record { fibers = 1000; refs = 1000; deferreds = 1000; count = count } }
     ensures { AreLimits result }
 {
@@ -62,7 +65,7 @@ fn a_value_is_the_outcome_after_its_end(rt: HostRuntime) -> Result<(), Fail> {
     let alloc = rt.alloc();
     for (entries, want) in [(2, "fiber 0 succeeded 7\n"), (1, "fiber 0 unended\n")] {
         let schedule = vec![in alloc; 0; entries]?;
-        let term = Term::Pure(Operand::Number(7));
+        let term = Term::Pure(Operand::Number(Value::from_i32(7)));
         let text = run(alloc, term, schedule.as_slice(), limits(10))?;
         assert!(&rt; matches!(&text, Ok(text) if text.as_str() == want));
     }
@@ -103,7 +106,7 @@ fn a_request_is_seen_in_a_poll(rt: HostRuntime) -> Result<(), Fail> {
 #[test]
 fn entries_of_unborn_fibers_change_nothing(rt: HostRuntime) -> Result<(), Fail> {
     let alloc = rt.alloc();
-    let term = Term::Say(Operand::Number(1));
+    let term = Term::Say(Operand::Number(Value::from_i32(1)));
     let text = run(alloc, term, &[5, 0, 1, 0, 999, 0, 0], limits(10))?;
     assert!(&rt; matches!(&text, Ok(text) if text.as_str() == "fiber 0 succeeded 0: say 1\n"));
     Ok(())

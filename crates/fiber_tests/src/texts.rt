@@ -1,7 +1,7 @@
 //! Devices that fail, schedules' texts, reports and lines.
 
 use cell_registry::{Band, RunError};
-use effect_term::{Outcome, TermError};
+use effect_term::{Outcome, TermError, Value};
 use fiber_frames::Mark;
 use outcome_trace::{
     FiberReport, FiberReports, FromRead, Marks, Refused, Report, ScheduleError, ShowOrder, Status,
@@ -214,12 +214,12 @@ fn some_report(alloc: Global) -> Result<Report, AllocError> {
         Mark::Acquired(0),
         Mark::Enter(1),
         Mark::PollIn(1),
-        Mark::Say(-2147483648),
+        Mark::Say(Value::MIN),
         Mark::PollOut(1),
         Mark::Leave(18446744073709551615),
         Mark::Cut,
         Mark::Releasing(0),
-        Mark::Dropped(8),
+        Mark::Dropped(Value::from_i32(8)),
         Mark::Released(0),
     ];
     let mut fibers = Vec::new(alloc);
@@ -228,8 +228,8 @@ fn some_report(alloc: Global) -> Result<Report, AllocError> {
         marks: Marks::new(Vec::from_slice(alloc, marks.as_slice())?),
     })?;
     for outcome in [
-        Some(Outcome::Succeeded(7)),
-        Some(Outcome::Errored(-1)),
+        Some(Outcome::Succeeded(Value::from_i32(7))),
+        Some(Outcome::Errored(Value::from_i32(-1))),
         None,
     ] {
         fibers.push(FiberReport {
@@ -245,7 +245,11 @@ fn some_report(alloc: Global) -> Result<Report, AllocError> {
 #[test]
 fn prints_reports(rt: HostRuntime) -> Result<(), Fail> {
     let want =
-        "fiber 0 canceled: enter 0, acquired 0, enter 1, in 1, say -2147483648, out 1, leave 18446744073709551615, cut, releasing 0, dropped 8, released 0\nfiber 1 succeeded 7\nfiber 2 errored -1\nfiber 3 unended\n";
+        "fiber 0 canceled: enter 0, acquired 0, enter 1, in 1, say -4611686018427387904, out 1, leave 18446744073709551615, \
+        cut, releasing 0, dropped 8, released 0\n\
+        fiber 1 succeeded 7\n\
+        fiber 2 errored -1\n\
+        fiber 3 unended\n";
     let report = some_report(rt.alloc())?;
     let mut out = Vec::new(rt.alloc());
     print_report(rt.alloc(), &report, &mut ToWrite::new(&mut out))?;
@@ -287,7 +291,7 @@ fn a_report_is_printed_or_memory_ran_out(rt: HostRuntime) {
         let mut counts = Counts { taken: 0 };
         let printed = print_report(rt.alloc(), &report, &mut ToWrite::new(&mut counts));
         match printed {
-            Ok(()) => assert_eq!(rt; counts.taken, 201),
+            Ok(()) => assert_eq!(rt; counts.taken, 210),
             Err(fault) => assert_eq!(rt; (fault, counts.taken), (TextFault::NoMemory, 0)),
         }
     }
@@ -309,7 +313,8 @@ fn a_line_is_told_or_memory_ran_out(rt: HostRuntime) {
 const SHOWN: [(&str, &str, Status); 2] = [
     (
         "(guarantee (say 1) (say 2))",
-        "(uncancelable p0 (let v1 (handle (oncancel (poll p0 (say 1)) (say 2)) v1 (seq (handle (say 2) v2 (pure 0)) (raise v1))) (seq (say 2) (pure v1))))\n",
+        "(uncancelable p0 (let v1 (handle (oncancel (poll p0 (say 1)) (say 2)) v1 (seq (handle (say 2) v2 (pure 0)) \
+        (raise v1))) (seq (say 2) (pure v1))))\n",
         Status::Succeeded,
     ),
     (

@@ -1,9 +1,9 @@
 -- The core of some programs of many fibers, with reports worked by hand.
 use Rattle.std.proofs.Common.{◌≡◌, ℕ, pos, negsuc, List, [], ◌∷◌, ◌++◌, replicate, refl, Ok, Err}
 use Rattle.std.specs.Prelude.{Some, None, Result}
-use Rattle.std.specs.Int.{int_wrap}
+use Rattle.effect_term.specs.Values.{wrapped}
 use Rattle.effect_term.specs.declared.reply.Outcome.TheVariants.{Succeeded, Errored, Canceled}
-use Rattle.derived_ops.specs.Tree.{Value, Number, Slot, Last, More}
+use Rattle.derived_ops.specs.Tree.{Operand, Number, Slot, Last, More}
 use Rattle.derived_ops.specs.Source as word
 use Rattle.derived_ops.specs.Source.{Source}
 use Rattle.derived_ops.specs.Expansion.{code_of}
@@ -119,7 +119,7 @@ released_with_an_error : report_of few (word.Bracket (word.Pure (Number (pos 1))
 unfolding core after reply_of refusal
 released_with_an_error = refl
 
-abbrev num : ℕ → Value
+abbrev num : ℕ → Operand
 num n = Number (pos n)
 
 -- `(pure -1)`
@@ -202,11 +202,11 @@ one_side_fails : report_of few (word.Both (word.Raise (num 5)) word.Never (word.
 unfolding core after reply_of refusal
 one_side_fails = refl
 
--- `(ref r 2147483647 (let a (modify r 1) (let b (get r) (seq (say a) (say b) (pure 0)))))`
-modified_modulo : report_of few (word.Ref (num 2147483647) (word.Let (word.Modify 0 (num 1)) (word.Let (word.Get 0) (word.Seq More (word.Say (Slot 1)) (word.Seq Last (word.Say (Slot 2)) (word.Pure (num 0))))))) (replicate 99 0) ≡ Ok record {
-  fibers = record { outcome = Some (Succeeded (pos 0)); marks = Say (pos 2147483647) ∷ Say (negsuc 2147483647) ∷ [] } ∷ [];
+-- `(ref r 4611686018427387903 (let a (modify r 1) (let b (get r) (seq (say a) (say b) (pure 0)))))`
+modified_modulo : report_of few (word.Ref (num 4611686018427387903) (word.Let (word.Modify 0 (num 1)) (word.Let (word.Get 0) (word.Seq More (word.Say (Slot 1)) (word.Seq Last (word.Say (Slot 2)) (word.Pure (num 0))))))) (replicate 99 0) ≡ Ok record {
+  fibers = record { outcome = Some (Succeeded (pos 0)); marks = Say (pos 4611686018427387903) ∷ Say (negsuc 4611686018427387903) ∷ [] } ∷ [];
 }
-unfolding core after reply_of refusal int_wrap
+unfolding core after reply_of refusal wrapped
 modified_modulo = refl
 
 -- `(deferred d (let a (complete d 5) (let b (complete d 6) (let c (await d) (seq (say a) (say b) (pure c))))))`

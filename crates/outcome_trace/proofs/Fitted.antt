@@ -15,7 +15,8 @@ use Rattle.cell_registry.specs.declared.limits.Band.TheVariants.{Fibers, Refs, D
 use Rattle.cell_registry.specs.declared.cell.Stage.{Stage}
 use Rattle.cell_registry.specs.declared.cell.Stage.TheVariants as at
 use Rattle.cell_registry.specs.declared.call.Call.{Call}
-use Rattle.cell_registry.specs.Cells.{IsOpen, MayFinish, MayUnmask, OutcomeFits}
+use Rattle.effect_term.specs.Outcomes.{OutcomeFits}
+use Rattle.cell_registry.specs.Cells.{IsOpen, MayFinish, MayUnmask}
 use Rattle.cell_registry.specs.Passes.{PassView, IsPass}
 use Rattle.cell_registry.proofs.Giving.{next_of-most}
 use Rattle.outcome_trace.specs.declared.wish.Wish.{Wish}

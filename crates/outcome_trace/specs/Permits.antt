@@ -6,9 +6,9 @@ use Rattle.cell_registry.specs.declared.cell.Stage.{Stage}
 use Rattle.cell_registry.specs.declared.cell.Stage.TheVariants as at
 use Rattle.cell_registry.specs.declared.call.Call.{Call}
 use Rattle.cell_registry.specs.declared.call.Call.TheVariants as call
-use Rattle.std.specs.Int.{w32}
-use Rattle.std.specs.Int.RustNames.{FitsSigned}
-use Rattle.cell_registry.specs.Cells.{IsOpen, MayUnmask, MayFinish, OutcomeFits}
+use Rattle.effect_term.specs.Outcomes.{OutcomeFits}
+use Rattle.effect_term.specs.Values.{IsValue}
+use Rattle.cell_registry.specs.Cells.{IsOpen, MayUnmask, MayFinish}
 use Rattle.derived_ops.specs.Naming.{Given}
 use Rattle.cell_registry.specs.declared.limits.CellError.{CellError}
 use Rattle.cell_registry.specs.declared.limits.CellError.TheVariants as error
@@ -17,12 +17,12 @@ use Rattle.cell_registry.specs.Bands.{claim_of, limit_of}
 use Rattle.outcome_trace.specs.Fitting.{Registered, pass_registered}
 use Rattle.cell_registry.specs.Passes.{PassView, Calls, OnlySees, SeesAllGiven}
 
--- the values of a call are of 32 bits, as each value of the code is
+-- the values of a call are in range, as each value of the code is
 abbrev pub IsInRange : Call → Type 0
 IsInRange (call.Finish o) = OutcomeFits o
-IsInRange (call.Set r v) = FitsSigned w32 v
-IsInRange (call.Modify r v) = FitsSigned w32 v
-IsInRange (call.Complete d v) = FitsSigned w32 v
+IsInRange (call.Set r v) = IsValue v
+IsInRange (call.Modify r v) = IsValue v
+IsInRange (call.Complete d v) = IsValue v
 IsInRange _ = Unit {0}
 
 -- the condition of a call by a fiber of which this is registered

@@ -5,6 +5,7 @@ ghost use Rattle.std.specs.Prelude.{◌≡◌, ◌+◌, ◌≤◌, ◌++◌, len
 ghost use Rattle.std.specs.Fmt.{decimal, signed_decimal};
 ghost use Rattle.std.specs.Str.{IsAscii};
 
+use effect_term::Value;
 use itoa::write_digits;
 
 // Each of these writes a text that ends at `end`, and gives where it starts. What stands from `end` on
@@ -37,17 +38,18 @@ pub(crate) fn put_number(room: &mut [u8], end: usize, words: &[u8], number: u64)
     put(room, digits, words)
 }
 
-// These words, and then the number with its sign.
+// These words, and then the value with its sign.
 #[inline(always)]
-pub(crate) fn put_signed(room: &mut [u8], end: usize, words: &[u8], number: i32) -> usize
-    requires start { length words.now + 11 ≤ end }
+pub(crate) fn put_signed(room: &mut [u8], end: usize, words: &[u8], value: Value) -> usize
+    requires start { length words.now + 20 ≤ end }
     requires end { end ≤ length room.old }
-    ensures text { drop result room.new ≡ (words.now ++ signed_decimal number) ++ drop end room.old }
-    ensures start { end ≤ result + (length words.now + 11) }
+    ensures text { drop result room.new ≡ (words.now ++ signed_decimal value) ++ drop end room.old }
+    ensures start { end ≤ result + (length words.now + 20) }
     ensures within { result ≤ end }
-    ensures ascii { IsAscii (signed_decimal number) }
+    ensures ascii { IsAscii (signed_decimal value) }
 {
-    let digits = write_digits(u64::from(number.unsigned_abs()), room, end);
+    let number = value.get();
+    let digits = write_digits(number.unsigned_abs(), room, end);
     if number < 0 {
         let sign = put(room, digits, b"-");
         return put(room, sign, words);

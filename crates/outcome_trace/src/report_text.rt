@@ -126,11 +126,13 @@ fn push_marks(text: &mut String, room: &mut [u8; ROOM], marks: &[Mark]) -> Resul
 fn push_outcome(text: &mut String, outcome: Option<Outcome>) -> Result<(), AllocError>
     ensures { OnOk result (string_bytes text.new ≡ string_bytes text.old ++ outcome_text outcome) }
 {
-    match outcome {
-        Some(Outcome::Succeeded(value)) => push_number(text, "succeeded ", value),
-        Some(Outcome::Errored(code)) => push_number(text, "errored ", code),
-        Some(Outcome::Canceled) => text.push_str("canceled"),
-        None => text.push_str("unended"),
+    let Some(ended) = outcome else {
+        return text.push_str("unended");
+    };
+    match ended {
+        Outcome::Succeeded(value) => push_number(text, "succeeded ", value.get()),
+        Outcome::Errored(code) => push_number(text, "errored ", code.get()),
+        Outcome::Canceled => text.push_str("canceled"),
     }
 }
 

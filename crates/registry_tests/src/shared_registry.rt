@@ -3,7 +3,9 @@
 ghost use Rattle.std.specs.Prelude.{◌≡◌, IfOk, IfSome};
 ghost use Rattle.cell_registry.specs.Passes.{IsOf};
 
+use crate::values::numbered;
 use cell_registry::{Band, CancelReply, CellError, JoinReply, Outcome, Pass, Registry, Stage};
+use effect_term::Value;
 use std::alloc::{AllocError, Global};
 
 /// Holds whichever allocation is refused.
@@ -75,7 +77,7 @@ fn a_cut_leaves_one_word(rt: HostRuntime) -> Result<(), AllocError> {
         panic!(rt; "the request was not seen");
     }
     assert_eq!(rt; registry.cut(&mut child), Ok(()));
-    assert_eq!(rt; registry.last_word(child, 1), 1_141_112_833);
+    assert_eq!(rt; registry.last_word(child, 1), 4_786_174_115_708_929);
     Ok(())
 }
 
@@ -109,7 +111,7 @@ fn a_canceled_fiber_ends_in_one_word(rt: HostRuntime) -> Result<(), AllocError> 
     assert_eq!(rt; child.phase(), Stage::Ended(Outcome::Canceled));
     assert_eq!(rt; child.depth(), 1);
     assert_eq!(rt; child.count(), 2);
-    assert_eq!(rt; registry.last_word(child, 1), 2_013_528_066);
+    assert_eq!(rt; registry.last_word(child, 1), 8_445_348_812_947_458);
     Ok(())
 }
 
@@ -126,7 +128,10 @@ fn the_end_of_a_canceled_fiber_is_told_to_all(rt: HostRuntime) -> Result<(), All
     assert_eq!(rt; met.number(), 0);
     assert_eq!(rt; registry.join(&mut met, 1), ended);
     // The joins have noted that somebody waits.
-    assert_eq!(rt; registry.last_word(met, 1), 2_013_528_066 + (1 << 31));
+    assert_eq!(rt;
+        registry.last_word(met, 1),
+        8_445_348_812_947_458 + (1 << 53)
+    );
     Ok(())
 }
 
@@ -141,20 +146,40 @@ fn a_count_runs_out_at_the_limit(rt: HostRuntime) -> Result<(), AllocError> {
     };
     assert_eq!(rt; registry.mask(&mut pass), Err(CellError::Spent(2)));
     assert_eq!(rt; registry.cancel(&mut pass, 0), CancelReply::Asked);
-    assert_eq!(rt; registry.last_word(pass, 0), 0x4000_0002);
+    assert_eq!(rt; registry.last_word(pass, 0), 0x10_0000_0000_0002);
     Ok(())
 }
 
 #[test]
 fn refs_wrap_and_deferreds_fill_once(rt: HostRuntime) -> Result<(), AllocError> {
+    let greatest = numbered(4_611_686_018_427_387_903);
+    let least = numbered(-4_611_686_018_427_387_904);
     let (registry, mut pass) = Registry::new(rt.alloc(), 1, 1, 1, 1)?;
-    assert_eq!(rt; registry.get(&mut pass, 0), 0);
-    registry.set(&mut pass, 0, i32::MAX);
-    assert_eq!(rt; registry.modify(&mut pass, 0, 1), i32::MAX);
-    assert_eq!(rt; registry.get(&mut pass, 0), i32::MIN);
+    assert_eq!(rt; registry.get(&mut pass, 0), Value::from_i32(0));
+    registry.set(&mut pass, 0, greatest);
+    assert_eq!(rt; registry.modify(&mut pass, 0, Value::from_i32(1)), greatest);
+    assert_eq!(rt; registry.get(&mut pass, 0), least);
     assert_eq!(rt; registry.read(&mut pass, 0), None);
-    assert_eq!(rt; registry.complete(&mut pass, 0, -1), true);
-    assert_eq!(rt; registry.complete(&mut pass, 0, 7), false);
-    assert_eq!(rt; registry.read(&mut pass, 0), Some(-1));
+    assert_eq!(rt; registry.complete(&mut pass, 0, least), true);
+    assert_eq!(rt; registry.complete(&mut pass, 0, greatest), false);
+    assert_eq!(rt; registry.read(&mut pass, 0), Some(least));
+    Ok(())
+}
+
+#[test]
+fn an_end_with_either_extreme_is_told_to_joins(rt: HostRuntime) -> Result<(), AllocError> {
+    let (registry, mut pass) = Registry::new(rt.alloc(), 2, 1, 1, 1_099_511_627_775)?;
+    let Ok(mut child) = registry.start(&mut pass) else {
+        panic!(rt; "no fiber was started");
+    };
+    assert_eq!(rt; registry.join(&mut pass, 1), JoinReply::Waits);
+    let least = Outcome::Errored(numbered(-4_611_686_018_427_387_904));
+    assert_eq!(rt; registry.finish(&mut child, least), Ok(()));
+    let told = Outcome::Errored(numbered(-4_611_686_018_427_387_904));
+    assert_eq!(rt; registry.join(&mut pass, 1), JoinReply::Ended(told));
+    let greatest = Outcome::Succeeded(numbered(4_611_686_018_427_387_903));
+    assert_eq!(rt; registry.finish(&mut pass, greatest), Ok(()));
+    let told = Outcome::Succeeded(numbered(4_611_686_018_427_387_903));
+    assert_eq!(rt; registry.join(&mut child, 0), JoinReply::Ended(told));
     Ok(())
 }

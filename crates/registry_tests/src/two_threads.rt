@@ -5,6 +5,7 @@ ghost use Rattle.cell_registry.specs.Cells.{IsOpen};
 ghost use Rattle.cell_registry.specs.Passes.{IsOf, OnlySees};
 
 use cell_registry::{Band, CancelReply, CellError, Pass, Registry};
+use effect_term::Value;
 use std::alloc::{AllocError, Global};
 use std::thread;
 
@@ -68,7 +69,7 @@ fn two_threads_start_and_cancel_at_once(rt: HostRuntime) -> Result<(), AllocErro
 }
 
 // Adds 1 to ref 0 a thousand times. Gives the old values.
-fn add_often(alloc: Global, registry: &Registry, pass: Pass) -> Result<(Pass, Vec<i32>), AllocError>
+fn add_often(alloc: Global, registry: &Registry, pass: Pass) -> Result<(Pass, Vec<i64>), AllocError>
     requires own { IsOf registry.now pass }
     requires some_ref { 0 < registry.now.limits.refs }
     ensures { IfOk result (λ r. IsOf registry.now r.0) }
@@ -76,7 +77,7 @@ fn add_often(alloc: Global, registry: &Registry, pass: Pass) -> Result<(Pass, Ve
     let mut pass = pass;
     let mut olds = Vec::new(alloc);
     for _ in 0..1000 {
-        olds.push(registry.modify(&mut pass, 0, 1))?;
+        olds.push(registry.modify(&mut pass, 0, Value::from_i32(1)).get())?;
     }
     Ok((pass, olds))
 }
@@ -92,11 +93,11 @@ fn two_threads_lose_no_update(rt: HostRuntime) -> Result<(), AllocError> {
     let shared = &registry;
     let (first, second) = thread::join(
         &rt,
-        move || -> Result<(Pass, Vec<i32>), AllocError>
+        move || -> Result<(Pass, Vec<i64>), AllocError>
             requires { IsOf shared.now parent × (0 < shared.now.limits.refs) }
             ensures { IfOk result (λ r. IsOf shared.entry.now r.0) }
         { add_often(alloc, shared, parent) },
-        move || -> Result<(Pass, Vec<i32>), AllocError>
+        move || -> Result<(Pass, Vec<i64>), AllocError>
             requires { IsOf shared.now child × (0 < shared.now.limits.refs) }
             ensures { IfOk result (λ r. IsOf shared.entry.now r.0) }
         { add_often(alloc, shared, child) },
@@ -112,6 +113,6 @@ fn two_threads_lose_no_update(rt: HostRuntime) -> Result<(), AllocError> {
         assert_eq!(rt; *old, wanted);
     }
     let mut met = registry.meet(first, second);
-    assert_eq!(rt; registry.get(&mut met, 0), 2000);
+    assert_eq!(rt; registry.get(&mut met, 0), Value::from_i32(2000));
     Ok(())
 }

@@ -33,7 +33,7 @@ pub fn widest() -> Limits
         fibers: 1000,
         refs: 1000,
         deferreds: 1000,
-        count: 262_143,
+        count: 1_099_511_627_775,
     }
 }
 

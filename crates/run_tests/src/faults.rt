@@ -107,7 +107,8 @@ impl Gate for Turns {
 #[test]
 fn a_fault_ends_all_workers(rt: HostRuntime) -> Result<(), Fail> {
     let text =
-        "(start f (forever (uncancelable p (pure 0))) (seq (repeat 500 (start g (forever (cede)) (pure 0))) (forever (cede))))";
+        "(start f (forever (uncancelable p (pure 0))) (seq (repeat 500 (start g (forever (cede)) (pure 0))) (forever \
+        (cede))))";
     for workers in [1, 2, 4, 16] {
         let gate = Turns {
             made: AtomicU64::new(0),

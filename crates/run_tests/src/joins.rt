@@ -61,7 +61,8 @@ fn the_children_are_summed(rt: HostRuntime) -> Result<(), Fail> {
 fn children_count_while_their_parent_starts_others(rt: HostRuntime) -> Result<(), Fail> {
     let alloc = rt.alloc();
     let text =
-        "(ref r 0 (deferred d (seq (repeat 100 (start f (let x (modify r 1) (let y (add x -99) (if0 y (complete d 7) (pure 1)))) (pure 0))) (await d))))";
+        "(ref r 0 (deferred d (seq (repeat 100 (start f (let x (modify r 1) (let y (add x -99) (if0 y (complete d 7) \
+        (pure 1)))) (pure 0))) (await d))))";
     let want = report(alloc, "succeeded 7", STARTS, "succeeded 1")?;
     gives(&rt, alloc, text, want.as_str())
 }

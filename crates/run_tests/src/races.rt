@@ -157,7 +157,8 @@ fn either_first(lead: u16, then: [(u16, u16); 4]) -> [Blocks; 2] {
 #[test]
 fn two_fibers_update_a_ref(rt: HostRuntime) -> Result<(), Fail> {
     let text =
-        "(ref r 0 (start f (modify r 1) (start g (modify r 2) (join f x (join g y (add x y) e (raise e) (pure -1)) e (raise e) (pure -1)))))";
+        "(ref r 0 (start f (modify r 1) (start g (modify r 2) (join f x (join g y (add x y) e (raise e) (pure -1)) e \
+        (raise e) (pure -1)))))";
     let wanted = [
         "fiber 0 succeeded 1\nfiber 1 succeeded 0\nfiber 2 succeeded 1\n",
         "fiber 0 succeeded 2\nfiber 1 succeeded 2\nfiber 2 succeeded 0\n",
@@ -174,7 +175,8 @@ fn two_fibers_update_a_ref(rt: HostRuntime) -> Result<(), Fail> {
 #[test]
 fn a_get_and_a_set_apart_lose_an_update(rt: HostRuntime) -> Result<(), Fail> {
     let text =
-        "(ref r 0 (start f (let x (get r) (let y (add x 1) (set r y))) (start g (let x (get r) (let y (add x 10) (set r y))) (seq (join f x (pure x) e (raise e) (pure -1)) (join g x (pure x) e (raise e) (pure -1)) (get r)))))";
+        "(ref r 0 (start f (let x (get r) (let y (add x 1) (set r y))) (start g (let x (get r) (let y (add x 10) (set \
+        r y))) (seq (join f x (pure x) e (raise e) (pure -1)) (join g x (pure x) e (raise e) (pure -1)) (get r)))))";
     let wanted = [
         "fiber 0 succeeded 11\nfiber 1 succeeded 0\nfiber 2 succeeded 0\n",
         "fiber 0 succeeded 10\nfiber 1 succeeded 0\nfiber 2 succeeded 0\n",
@@ -212,8 +214,10 @@ fn a_request_is_observed_in_the_poll_or_outside_the_mask(rt: HostRuntime) -> Res
         "fiber 0 succeeded 0: enter 0, leave 0\nfiber 1 canceled: cut\n",
         "fiber 0 succeeded 0: enter 0, leave 0\nfiber 1 canceled: enter 0, say 1, in 0, cut\n",
         "fiber 0 succeeded 0: enter 0, leave 0\nfiber 1 canceled: enter 0, say 1, in 0, say 2, cut\n",
-        "fiber 0 succeeded 0: enter 0, leave 0\nfiber 1 canceled: enter 0, say 1, in 0, say 2, out 0, say 3, leave 0, cut\n",
-        "fiber 0 succeeded 0: enter 0, leave 0\nfiber 1 succeeded 0: enter 0, say 1, in 0, say 2, out 0, say 3, leave 0\n",
+        "fiber 0 succeeded 0: enter 0, leave 0\n\
+        fiber 1 canceled: enter 0, say 1, in 0, say 2, out 0, say 3, leave 0, cut\n",
+        "fiber 0 succeeded 0: enter 0, leave 0\n\
+        fiber 1 succeeded 0: enter 0, say 1, in 0, say 2, out 0, say 3, leave 0\n",
     ];
     gives_one_of(
         &rt,
@@ -230,13 +234,20 @@ fn a_request_is_observed_in_the_poll_or_outside_the_mask(rt: HostRuntime) -> Res
 #[test]
 fn a_request_is_observed_where_each_mask_is_undone(rt: HostRuntime) -> Result<(), Fail> {
     let text =
-        "(start f (uncancelable p (uncancelable q (seq (say 1) (poll q (say 2)) (poll q (poll p (say 3))) (say 4)))) (cancel f))";
+        "(start f (uncancelable p (uncancelable q (seq (say 1) (poll q (say 2)) (poll q (poll p (say 3))) (say 4)))) \
+        (cancel f))";
     let wanted = [
         "fiber 0 succeeded 0: enter 0, leave 0\nfiber 1 canceled: cut\n",
-        "fiber 0 succeeded 0: enter 0, leave 0\nfiber 1 canceled: enter 0, enter 1, say 1, in 1, say 2, out 1, in 1, in 0, cut\n",
-        "fiber 0 succeeded 0: enter 0, leave 0\nfiber 1 canceled: enter 0, enter 1, say 1, in 1, say 2, out 1, in 1, in 0, say 3, cut\n",
-        "fiber 0 succeeded 0: enter 0, leave 0\nfiber 1 canceled: enter 0, enter 1, say 1, in 1, say 2, out 1, in 1, in 0, say 3, out 0, out 1, say 4, leave 1, leave 0, cut\n",
-        "fiber 0 succeeded 0: enter 0, leave 0\nfiber 1 succeeded 0: enter 0, enter 1, say 1, in 1, say 2, out 1, in 1, in 0, say 3, out 0, out 1, say 4, leave 1, leave 0\n",
+        "fiber 0 succeeded 0: enter 0, leave 0\n\
+        fiber 1 canceled: enter 0, enter 1, say 1, in 1, say 2, out 1, in 1, in 0, cut\n",
+        "fiber 0 succeeded 0: enter 0, leave 0\n\
+        fiber 1 canceled: enter 0, enter 1, say 1, in 1, say 2, out 1, in 1, in 0, say 3, cut\n",
+        "fiber 0 succeeded 0: enter 0, leave 0\n\
+        fiber 1 canceled: enter 0, enter 1, say 1, in 1, say 2, out 1, in 1, in 0, say 3, out 0, out 1, say 4, leave \
+        1, leave 0, cut\n",
+        "fiber 0 succeeded 0: enter 0, leave 0\n\
+        fiber 1 succeeded 0: enter 0, enter 1, say 1, in 1, say 2, out 1, in 1, in 0, say 3, out 0, out 1, say 4, \
+        leave 1, leave 0\n",
     ];
     gives_one_of(
         &rt,
@@ -255,10 +266,17 @@ fn what_is_acquired_is_released(rt: HostRuntime) -> Result<(), Fail> {
     let text = "(start f (bracket x (say 1) (say 2) (say 3)) (cancel f))";
     let wanted = [
         "fiber 0 succeeded 0: enter 0, leave 0\nfiber 1 canceled: cut\n",
-        "fiber 0 succeeded 0: enter 0, leave 0\nfiber 1 canceled: enter 0, say 1, acquired 0, enter 1, in 1, in 0, cut, releasing 0, say 3, released 0\n",
-        "fiber 0 succeeded 0: enter 0, leave 0\nfiber 1 canceled: enter 0, say 1, acquired 0, enter 1, in 1, in 0, say 2, cut, releasing 0, say 3, released 0\n",
-        "fiber 0 succeeded 0: enter 0, leave 0\nfiber 1 canceled: enter 0, say 1, acquired 0, enter 1, in 1, in 0, say 2, out 0, out 1, releasing 0, say 3, released 0, leave 1, leave 0, cut\n",
-        "fiber 0 succeeded 0: enter 0, leave 0\nfiber 1 succeeded 0: enter 0, say 1, acquired 0, enter 1, in 1, in 0, say 2, out 0, out 1, releasing 0, say 3, released 0, leave 1, leave 0\n",
+        "fiber 0 succeeded 0: enter 0, leave 0\n\
+        fiber 1 canceled: enter 0, say 1, acquired 0, enter 1, in 1, in 0, cut, releasing 0, say 3, released 0\n",
+        "fiber 0 succeeded 0: enter 0, leave 0\n\
+        fiber 1 canceled: enter 0, say 1, acquired 0, enter 1, in 1, in 0, say 2, cut, releasing 0, say 3, released \
+        0\n",
+        "fiber 0 succeeded 0: enter 0, leave 0\n\
+        fiber 1 canceled: enter 0, say 1, acquired 0, enter 1, in 1, in 0, say 2, out 0, out 1, releasing 0, say 3, \
+        released 0, leave 1, leave 0, cut\n",
+        "fiber 0 succeeded 0: enter 0, leave 0\n\
+        fiber 1 succeeded 0: enter 0, say 1, acquired 0, enter 1, in 1, in 0, say 2, out 0, out 1, releasing 0, say \
+        3, released 0, leave 1, leave 0\n",
     ];
     gives_one_of(
         &rt,
@@ -340,7 +358,9 @@ fn a_fiber_that_cancels_is_canceled(rt: HostRuntime) -> Result<(), Fail> {
         "fiber 0 succeeded 0: enter 0, leave 0\nfiber 1 succeeded 0: say 1\nfiber 2 canceled: cut\n",
         "fiber 0 succeeded 0: enter 0, leave 0\nfiber 1 canceled: cut\nfiber 2 canceled: enter 0, leave 0, cut\n",
         "fiber 0 succeeded 0: enter 0, leave 0\nfiber 1 canceled: cut\nfiber 2 succeeded 0: enter 0, leave 0\n",
-        "fiber 0 succeeded 0: enter 0, leave 0\nfiber 1 canceled: say 1, cut\nfiber 2 canceled: enter 0, leave 0, cut\n",
+        "fiber 0 succeeded 0: enter 0, leave 0\n\
+        fiber 1 canceled: say 1, cut\n\
+        fiber 2 canceled: enter 0, leave 0, cut\n",
         "fiber 0 succeeded 0: enter 0, leave 0\nfiber 1 canceled: say 1, cut\nfiber 2 succeeded 0: enter 0, leave 0\n",
         "fiber 0 succeeded 0: enter 0, leave 0\nfiber 1 succeeded 0: say 1\nfiber 2 canceled: enter 0, leave 0, cut\n",
         "fiber 0 succeeded 0: enter 0, leave 0\nfiber 1 succeeded 0: say 1\nfiber 2 succeeded 0: enter 0, leave 0\n",
@@ -367,14 +387,30 @@ fn a_fiber_that_cancels_is_canceled(rt: HostRuntime) -> Result<(), Fail> {
 fn either_side_wins_a_race(rt: HostRuntime) -> Result<(), Fail> {
     let text = "(race (pure 4) (pure 5))";
     let wanted = [
-        "fiber 0 succeeded 4: enter 0, in 0, out 0, enter 1, leave 1, leave 0\nfiber 1 succeeded 4: enter 0, in 0, out 0, leave 0\nfiber 2 canceled: cut\n",
-        "fiber 0 succeeded 4: enter 0, in 0, out 0, enter 1, leave 1, leave 0\nfiber 1 succeeded 4: enter 0, in 0, out 0, leave 0\nfiber 2 canceled: enter 0, in 0, cut\n",
-        "fiber 0 succeeded 4: enter 0, in 0, out 0, enter 1, leave 1, leave 0\nfiber 1 succeeded 4: enter 0, in 0, out 0, leave 0\nfiber 2 canceled: enter 0, in 0, out 0, leave 0, cut\n",
-        "fiber 0 succeeded 4: enter 0, in 0, out 0, enter 1, leave 1, leave 0\nfiber 1 succeeded 4: enter 0, in 0, out 0, leave 0\nfiber 2 succeeded 5: enter 0, in 0, out 0, leave 0\n",
-        "fiber 0 succeeded 5: enter 0, in 0, out 0, enter 1, leave 1, leave 0\nfiber 1 canceled: cut\nfiber 2 succeeded 5: enter 0, in 0, out 0, leave 0\n",
-        "fiber 0 succeeded 5: enter 0, in 0, out 0, enter 1, leave 1, leave 0\nfiber 1 canceled: enter 0, in 0, cut\nfiber 2 succeeded 5: enter 0, in 0, out 0, leave 0\n",
-        "fiber 0 succeeded 5: enter 0, in 0, out 0, enter 1, leave 1, leave 0\nfiber 1 canceled: enter 0, in 0, out 0, leave 0, cut\nfiber 2 succeeded 5: enter 0, in 0, out 0, leave 0\n",
-        "fiber 0 succeeded 5: enter 0, in 0, out 0, enter 1, leave 1, leave 0\nfiber 1 succeeded 4: enter 0, in 0, out 0, leave 0\nfiber 2 succeeded 5: enter 0, in 0, out 0, leave 0\n",
+        "fiber 0 succeeded 4: enter 0, in 0, out 0, enter 1, leave 1, leave 0\n\
+        fiber 1 succeeded 4: enter 0, in 0, out 0, leave 0\n\
+        fiber 2 canceled: cut\n",
+        "fiber 0 succeeded 4: enter 0, in 0, out 0, enter 1, leave 1, leave 0\n\
+        fiber 1 succeeded 4: enter 0, in 0, out 0, leave 0\n\
+        fiber 2 canceled: enter 0, in 0, cut\n",
+        "fiber 0 succeeded 4: enter 0, in 0, out 0, enter 1, leave 1, leave 0\n\
+        fiber 1 succeeded 4: enter 0, in 0, out 0, leave 0\n\
+        fiber 2 canceled: enter 0, in 0, out 0, leave 0, cut\n",
+        "fiber 0 succeeded 4: enter 0, in 0, out 0, enter 1, leave 1, leave 0\n\
+        fiber 1 succeeded 4: enter 0, in 0, out 0, leave 0\n\
+        fiber 2 succeeded 5: enter 0, in 0, out 0, leave 0\n",
+        "fiber 0 succeeded 5: enter 0, in 0, out 0, enter 1, leave 1, leave 0\n\
+        fiber 1 canceled: cut\n\
+        fiber 2 succeeded 5: enter 0, in 0, out 0, leave 0\n",
+        "fiber 0 succeeded 5: enter 0, in 0, out 0, enter 1, leave 1, leave 0\n\
+        fiber 1 canceled: enter 0, in 0, cut\n\
+        fiber 2 succeeded 5: enter 0, in 0, out 0, leave 0\n",
+        "fiber 0 succeeded 5: enter 0, in 0, out 0, enter 1, leave 1, leave 0\n\
+        fiber 1 canceled: enter 0, in 0, out 0, leave 0, cut\n\
+        fiber 2 succeeded 5: enter 0, in 0, out 0, leave 0\n",
+        "fiber 0 succeeded 5: enter 0, in 0, out 0, enter 1, leave 1, leave 0\n\
+        fiber 1 succeeded 4: enter 0, in 0, out 0, leave 0\n\
+        fiber 2 succeeded 5: enter 0, in 0, out 0, leave 0\n",
     ];
     gives_one_of(
         &rt,
@@ -389,14 +425,30 @@ fn either_side_wins_a_race(rt: HostRuntime) -> Result<(), Fail> {
 fn either_side_fails_first(rt: HostRuntime) -> Result<(), Fail> {
     let text = "(both (raise 5) (raise 6) x y (pure 0))";
     let wanted = [
-        "fiber 0 errored 5: enter 0, in 0, out 0, enter 1, leave 1, leave 0\nfiber 1 errored 5: enter 0, in 0, out 0, leave 0\nfiber 2 canceled: cut\n",
-        "fiber 0 errored 5: enter 0, in 0, out 0, enter 1, leave 1, leave 0\nfiber 1 errored 5: enter 0, in 0, out 0, leave 0\nfiber 2 canceled: enter 0, in 0, cut\n",
-        "fiber 0 errored 5: enter 0, in 0, out 0, enter 1, leave 1, leave 0\nfiber 1 errored 5: enter 0, in 0, out 0, leave 0\nfiber 2 canceled: enter 0, in 0, out 0, leave 0, cut\n",
-        "fiber 0 errored 5: enter 0, in 0, out 0, enter 1, leave 1, leave 0\nfiber 1 errored 5: enter 0, in 0, out 0, leave 0\nfiber 2 errored 6: enter 0, in 0, out 0, leave 0\n",
-        "fiber 0 errored 6: enter 0, in 0, out 0, enter 1, leave 1, leave 0\nfiber 1 canceled: cut\nfiber 2 errored 6: enter 0, in 0, out 0, leave 0\n",
-        "fiber 0 errored 6: enter 0, in 0, out 0, enter 1, leave 1, leave 0\nfiber 1 canceled: enter 0, in 0, cut\nfiber 2 errored 6: enter 0, in 0, out 0, leave 0\n",
-        "fiber 0 errored 6: enter 0, in 0, out 0, enter 1, leave 1, leave 0\nfiber 1 canceled: enter 0, in 0, out 0, leave 0, cut\nfiber 2 errored 6: enter 0, in 0, out 0, leave 0\n",
-        "fiber 0 errored 6: enter 0, in 0, out 0, enter 1, leave 1, leave 0\nfiber 1 errored 5: enter 0, in 0, out 0, leave 0\nfiber 2 errored 6: enter 0, in 0, out 0, leave 0\n",
+        "fiber 0 errored 5: enter 0, in 0, out 0, enter 1, leave 1, leave 0\n\
+        fiber 1 errored 5: enter 0, in 0, out 0, leave 0\n\
+        fiber 2 canceled: cut\n",
+        "fiber 0 errored 5: enter 0, in 0, out 0, enter 1, leave 1, leave 0\n\
+        fiber 1 errored 5: enter 0, in 0, out 0, leave 0\n\
+        fiber 2 canceled: enter 0, in 0, cut\n",
+        "fiber 0 errored 5: enter 0, in 0, out 0, enter 1, leave 1, leave 0\n\
+        fiber 1 errored 5: enter 0, in 0, out 0, leave 0\n\
+        fiber 2 canceled: enter 0, in 0, out 0, leave 0, cut\n",
+        "fiber 0 errored 5: enter 0, in 0, out 0, enter 1, leave 1, leave 0\n\
+        fiber 1 errored 5: enter 0, in 0, out 0, leave 0\n\
+        fiber 2 errored 6: enter 0, in 0, out 0, leave 0\n",
+        "fiber 0 errored 6: enter 0, in 0, out 0, enter 1, leave 1, leave 0\n\
+        fiber 1 canceled: cut\n\
+        fiber 2 errored 6: enter 0, in 0, out 0, leave 0\n",
+        "fiber 0 errored 6: enter 0, in 0, out 0, enter 1, leave 1, leave 0\n\
+        fiber 1 canceled: enter 0, in 0, cut\n\
+        fiber 2 errored 6: enter 0, in 0, out 0, leave 0\n",
+        "fiber 0 errored 6: enter 0, in 0, out 0, enter 1, leave 1, leave 0\n\
+        fiber 1 canceled: enter 0, in 0, out 0, leave 0, cut\n\
+        fiber 2 errored 6: enter 0, in 0, out 0, leave 0\n",
+        "fiber 0 errored 6: enter 0, in 0, out 0, enter 1, leave 1, leave 0\n\
+        fiber 1 errored 5: enter 0, in 0, out 0, leave 0\n\
+        fiber 2 errored 6: enter 0, in 0, out 0, leave 0\n",
     ];
     gives_one_of(
         &rt,
@@ -411,8 +463,12 @@ fn either_side_fails_first(rt: HostRuntime) -> Result<(), Fail> {
 fn the_side_that_never_ends_loses(rt: HostRuntime) -> Result<(), Fail> {
     let text = "(race (never) (pure 5))";
     let wanted = [
-        "fiber 0 succeeded 5: enter 0, in 0, out 0, enter 1, leave 1, leave 0\nfiber 1 canceled: cut\nfiber 2 succeeded 5: enter 0, in 0, out 0, leave 0\n",
-        "fiber 0 succeeded 5: enter 0, in 0, out 0, enter 1, leave 1, leave 0\nfiber 1 canceled: enter 0, in 0, cut\nfiber 2 succeeded 5: enter 0, in 0, out 0, leave 0\n",
+        "fiber 0 succeeded 5: enter 0, in 0, out 0, enter 1, leave 1, leave 0\n\
+        fiber 1 canceled: cut\n\
+        fiber 2 succeeded 5: enter 0, in 0, out 0, leave 0\n",
+        "fiber 0 succeeded 5: enter 0, in 0, out 0, enter 1, leave 1, leave 0\n\
+        fiber 1 canceled: enter 0, in 0, cut\n\
+        fiber 2 succeeded 5: enter 0, in 0, out 0, leave 0\n",
     ];
     gives_one_of(
         &rt,

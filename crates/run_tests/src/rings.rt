@@ -25,7 +25,8 @@ const TIMES: u32 = 25;
 fn member(alloc: Global, at: u32, then: &str) -> Result<String, AllocError> {
     let before = at.wrapping_add(RING - 1) % RING;
     format!(in alloc;
-        "(start f{at} (let u (seq (complete a{before} {at}) (cede) (await a{at})) (let v (seq (complete b{before} u) (cede) (await b{at})) (let w (seq (complete c{before} v) (cede) (await c{at})) {then}))) "
+        "(start f{at} (let u (seq (complete a{before} {at}) (cede) (await a{at})) (let v (seq (complete b{before} u) \
+        (cede) (await b{at})) (let w (seq (complete c{before} v) (cede) (await c{at})) {then}))) "
     )
 }
 

@@ -75,7 +75,8 @@ fn a_join_tells_how_the_fiber_ended(rt: HostRuntime) -> Result<(), Fail> {
             "fiber 0 succeeded -1: enter 0, leave 0\nfiber 1 canceled: cut\n",
         ),
         (
-            "(start f (pure 5) (start g (join f x (pure x) e (raise e) (pure -1)) (seq (join f x (say x) e (pure 0) (pure 0)) (join f x (say x) e (pure 0) (pure 0)) (join g x (pure x) e (raise e) (pure -1)))))",
+            "(start f (pure 5) (start g (join f x (pure x) e (raise e) (pure -1)) (seq (join f x (say x) e (pure 0) \
+            (pure 0)) (join f x (say x) e (pure 0) (pure 0)) (join g x (pure x) e (raise e) (pure -1)))))",
             "fiber 0 succeeded 5: say 5, say 5\nfiber 1 succeeded 5\nfiber 2 succeeded 5\n",
         ),
     ] {
@@ -87,7 +88,8 @@ fn a_join_tells_how_the_fiber_ended(rt: HostRuntime) -> Result<(), Fail> {
 #[test]
 fn a_poll_is_of_its_own_fiber(rt: HostRuntime) -> Result<(), Fail> {
     let text =
-        "(uncancelable p (start f (uncancelable q (seq (canceled) (poll p (say 1)))) (join f x (pure 1) e (pure 2) (pure 3))))";
+        "(uncancelable p (start f (uncancelable q (seq (canceled) (poll p (say 1)))) (join f x (pure 1) e (pure 2) \
+        (pure 3))))";
     let want =
         "fiber 0 succeeded 3: enter 0, leave 0\nfiber 1 canceled: enter 0, say 1, leave 0, cut\n";
     gives(&rt, rt.alloc(), text, want)
@@ -97,7 +99,8 @@ fn a_poll_is_of_its_own_fiber(rt: HostRuntime) -> Result<(), Fail> {
 fn a_cancel_waits_for_the_end(rt: HostRuntime) -> Result<(), Fail> {
     for (text, want) in [
         (
-            "(start f (pure 5) (seq (join f x (pure x) e (pure 0) (pure 0)) (cancel f) (cancel f) (join f x (pure x) e (raise e) (pure -1))))",
+            "(start f (pure 5) (seq (join f x (pure x) e (pure 0) (pure 0)) (cancel f) (cancel f) (join f x (pure x) \
+            e (raise e) (pure -1))))",
             "fiber 0 succeeded 5: enter 0, leave 0, enter 1, leave 1\nfiber 1 succeeded 5\n",
         ),
         (
@@ -105,7 +108,8 @@ fn a_cancel_waits_for_the_end(rt: HostRuntime) -> Result<(), Fail> {
             "fiber 0 succeeded 0: enter 0, leave 0\nfiber 1 canceled: cut\nfiber 2 succeeded 0: enter 0, leave 0\n",
         ),
         (
-            "(ref r 0 (deferred d (start f (oncancel (seq (complete d 1) (never)) (seq (say 1) (set r 6) (raise 8))) (seq (await d) (cancel f) (get r)))))",
+            "(ref r 0 (deferred d (start f (oncancel (seq (complete d 1) (never)) (seq (say 1) (set r 6) (raise 8))) \
+            (seq (await d) (cancel f) (get r)))))",
             "fiber 0 succeeded 6: enter 0, leave 0\nfiber 1 canceled: cut, say 1, dropped 8\n",
         ),
     ] {
@@ -122,7 +126,8 @@ fn fibers_that_wait_for_ever_are_unended(rt: HostRuntime) -> Result<(), Fail> {
             "fiber 0 succeeded 1\nfiber 1 unended\n",
         ),
         (
-            "(deferred d (start f (await d) (start g (join f x (pure 1) e (pure 2) (pure 3)) (uncancelable p (never)))))",
+            "(deferred d (start f (await d) (start g (join f x (pure 1) e (pure 2) (pure 3)) (uncancelable p \
+            (never)))))",
             "fiber 0 unended: enter 0\nfiber 1 unended\nfiber 2 unended\n",
         ),
     ] {
@@ -134,7 +139,8 @@ fn fibers_that_wait_for_ever_are_unended(rt: HostRuntime) -> Result<(), Fail> {
 #[test]
 fn deferreds_hand_values_over(rt: HostRuntime) -> Result<(), Fail> {
     let text =
-        "(deferred a (deferred b (start f (let x (await a) (seq (complete b 2) (pure x))) (seq (complete a 1) (await b)))))";
+        "(deferred a (deferred b (start f (let x (await a) (seq (complete b 2) (pure x))) (seq (complete a 1) (await \
+        b)))))";
     gives(
         &rt,
         rt.alloc(),
@@ -146,15 +152,17 @@ fn deferreds_hand_values_over(rt: HostRuntime) -> Result<(), Fail> {
 #[test]
 fn both_sides_are_awaited(rt: HostRuntime) -> Result<(), Fail> {
     let text = "(both (seq (cede) (pure 3)) (pure 4) x y (add x y))";
-    let want =
-        "fiber 0 succeeded 7: enter 0, in 0, out 0, in 0, out 0, leave 0\nfiber 1 succeeded 3: enter 0, in 0, out 0, leave 0\nfiber 2 succeeded 4: enter 0, in 0, out 0, leave 0\n";
+    let want = "fiber 0 succeeded 7: enter 0, in 0, out 0, in 0, out 0, leave 0\n\
+        fiber 1 succeeded 3: enter 0, in 0, out 0, leave 0\n\
+        fiber 2 succeeded 4: enter 0, in 0, out 0, leave 0\n";
     gives(&rt, rt.alloc(), text, want)
 }
 
 #[test]
 fn no_update_of_a_ref_is_lost(rt: HostRuntime) -> Result<(), Fail> {
     let text =
-        "(ref r 0 (start f (repeat 10 (modify r 1)) (start g (repeat 10 (modify r 2)) (seq (join f x (pure 0) e (pure 0) (pure 0)) (join g x (pure 0) e (pure 0) (pure 0)) (get r)))))";
+        "(ref r 0 (start f (repeat 10 (modify r 1)) (start g (repeat 10 (modify r 2)) (seq (join f x (pure 0) e (pure \
+        0) (pure 0)) (join g x (pure 0) e (pure 0) (pure 0)) (get r)))))";
     let want = "fiber 0 succeeded 30\nfiber 1 succeeded 0\nfiber 2 succeeded 0\n";
     gives(&rt, rt.alloc(), text, want)
 }

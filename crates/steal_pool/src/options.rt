@@ -12,9 +12,9 @@ pub struct Options {
     pub refs: u16,
     /// How many deferreds there may be: from 1 to 1000, the default.
     pub deferreds: u16,
-    /// How often a fiber may change its own cell (mask, unmask, cut and end): from 1 to 262,143,
-    /// the default.
-    pub count: u32,
+    /// How often a fiber may change its own cell (mask, unmask, cut and end): from 1 to
+    /// 1,099,511,627,775, the default.
+    pub count: u64,
     /// How many moves a turn has at most: from 2 to 10,000, by default 64.
     pub budget: u32,
     /// How many moves fiber 0 may make, and each other fiber with its parent's before it: from 1 to
@@ -30,7 +30,7 @@ impl Options {
           fibers = 1000;
           refs = 1000;
           deferreds = 1000;
-          count = 262143;
+          count = 1099511627775;
           budget = 64;
           moves = 100000;
         } }
@@ -40,7 +40,7 @@ impl Options {
             fibers: 1000,
             refs: 1000,
             deferreds: 1000,
-            count: 262_143,
+            count: 1_099_511_627_775,
             budget: 64,
             moves: 100_000,
         }

@@ -8,7 +8,7 @@ use crate::programs::{few, opened};
 use crate::turning::{answered, child_of};
 use cell_registry::{Pass, Registry};
 use derived_ops::Code;
-use effect_term::Outcome;
+use effect_term::{Outcome, Value};
 use fiber_poll::{FiberTask, Topic, first};
 use std::alloc::{AllocError, AllocGlobal, Global};
 use std::process::Abort;
@@ -153,7 +153,7 @@ fn gives_one<'a, R: Abort + Wait>(rt: &R, bay: &Bay<'a>, seat: &mut BaySeat<'a>)
     requires three { 2 < bay.now.fibers }
 {
     assert_eq!(rt; bay.wake(rt, 1), true);
-    let ended = Some(Some(Outcome::Succeeded(0)));
+    let ended = Some(Some(Outcome::Succeeded(Value::ZERO)));
     assert_eq!(rt; taken_outcome(rt, bay, seat, 1), ended);
     assert_eq!(rt; taken_outcome(rt, bay, seat, 1), None);
     assert_eq!(rt; taken_outcome(rt, bay, seat, 2), None);

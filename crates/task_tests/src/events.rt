@@ -4,15 +4,12 @@ ghost use Rattle.std.specs.Prelude.{◌<◌};
 
 use crate::programs::{ample, replayed};
 use crate::turning::{Told, Turns, expect_turns, turn_by_turn};
-use effect_term::Outcome;
 use fiber_poll::Topic;
 use std::alloc::{AllocError, Global};
 use std::process::Abort;
 use std::test::Fail;
 
-const ENDED: Told = Told::Ended(Outcome::Succeeded(0));
-
-const CANCELED: Told = Told::Ended(Outcome::Canceled);
+const ENDED: Told = Told::Succeeded(0);
 
 const ENDS: &[Turns<'static>] = &[
     Turns {
@@ -20,11 +17,7 @@ const ENDS: &[Turns<'static>] = &[
         program: "(pure 7)",
         moves: 2,
         turns: &[(0, 64), (0, 2), (0, 64)],
-        told: &[
-            Told::Ended(Outcome::Succeeded(7)),
-            Told::Ended(Outcome::Succeeded(7)),
-            Told::Ended(Outcome::Succeeded(7)),
-        ],
+        told: &[Told::Succeeded(7), Told::Succeeded(7), Told::Succeeded(7)],
         schedule: "0*2",
         report: "fiber 0 succeeded 7\n",
     },
@@ -33,10 +26,7 @@ const ENDS: &[Turns<'static>] = &[
         program: "(raise 9)",
         moves: 99,
         turns: &[(0, 64), (0, 64)],
-        told: &[
-            Told::Ended(Outcome::Errored(9)),
-            Told::Ended(Outcome::Errored(9)),
-        ],
+        told: &[Told::Errored(9), Told::Errored(9)],
         schedule: "0*2",
         report: "fiber 0 errored 9\n",
     },
@@ -45,7 +35,7 @@ const ENDS: &[Turns<'static>] = &[
         program: "(uncancelable p (canceled))",
         moves: 99,
         turns: &[(0, 64), (0, 64)],
-        told: &[CANCELED, CANCELED],
+        told: &[Told::Canceled, Told::Canceled],
         schedule: "0*7",
         report: "fiber 0 canceled: enter 0, leave 0, cut\n",
     },
@@ -141,7 +131,7 @@ const WAKES: &[Turns<'static>] = &[
             Told::WakeFiber(1),
             Told::Waits(Topic::Fiber(1)),
             Told::Waits(Topic::Fiber(1)),
-            CANCELED,
+            Told::Canceled,
             ENDED,
             ENDED,
         ],
@@ -158,7 +148,7 @@ const WAKES: &[Turns<'static>] = &[
             Told::Waits(Topic::Deferred(0)),
             Told::WakeTopic(Topic::Deferred(0)),
             ENDED,
-            Told::Ended(Outcome::Succeeded(5)),
+            Told::Succeeded(5),
         ],
         schedule: "0*4 1*2 0*8 1*4",
         report: "fiber 0 succeeded 0\nfiber 1 succeeded 5\n",

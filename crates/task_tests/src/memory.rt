@@ -4,9 +4,9 @@ ghost use Rattle.std.specs.Prelude.{◌≡◌, ◌<◌};
 ghost use Rattle.wait_bay.specs.Bays.{IsSeatOf};
 
 use crate::programs::{few, opened};
-use crate::turning::{Told, answered};
+use crate::turning::{Told, answered, end_of};
 use cell_registry::RunError;
-use effect_term::Outcome;
+use effect_term::{Outcome, Value};
 use fiber_frames::Mark;
 use fiber_poll::{FiberTask, Topic, alone, first};
 use outcome_trace::read_program;
@@ -19,33 +19,40 @@ use wait_bay::{Bay, BaySeat};
 const NESTED: &str =
     "(bracket a (pure 1) (bracket b (pure 2) (bracket c (pure 3) (canceled) (say c)) (say b)) (say a))";
 
-const NESTED_MARKS: [Mark; 25] = [
-    Mark::Enter(0),
-    Mark::Acquired(0),
-    Mark::Enter(1),
-    Mark::PollIn(1),
-    Mark::PollIn(0),
-    Mark::Enter(2),
-    Mark::Acquired(2),
-    Mark::Enter(3),
-    Mark::PollIn(3),
-    Mark::PollIn(2),
-    Mark::Enter(4),
-    Mark::Acquired(4),
-    Mark::Enter(5),
-    Mark::PollIn(5),
-    Mark::PollIn(4),
-    Mark::Cut,
-    Mark::Releasing(4),
-    Mark::Say(3),
-    Mark::Released(4),
-    Mark::Releasing(2),
-    Mark::Say(2),
-    Mark::Released(2),
-    Mark::Releasing(0),
-    Mark::Say(1),
-    Mark::Released(0),
-];
+fn say(number: i32) -> Mark {
+    Mark::Say(Value::from_i32(number))
+}
+
+// What they mark.
+fn nested_marks() -> [Mark; 25] {
+    [
+        Mark::Enter(0),
+        Mark::Acquired(0),
+        Mark::Enter(1),
+        Mark::PollIn(1),
+        Mark::PollIn(0),
+        Mark::Enter(2),
+        Mark::Acquired(2),
+        Mark::Enter(3),
+        Mark::PollIn(3),
+        Mark::PollIn(2),
+        Mark::Enter(4),
+        Mark::Acquired(4),
+        Mark::Enter(5),
+        Mark::PollIn(5),
+        Mark::PollIn(4),
+        Mark::Cut,
+        Mark::Releasing(4),
+        say(3),
+        Mark::Released(4),
+        Mark::Releasing(2),
+        say(2),
+        Mark::Released(2),
+        Mark::Releasing(0),
+        say(1),
+        Mark::Released(0),
+    ]
+}
 
 // A turn of a task that lacked memory says so again, and makes no move.
 fn is_broken<R: Abort>(rt: &R, task: &mut FiberTask<'_>) {
@@ -61,7 +68,7 @@ fn is_broken<R: Abort>(rt: &R, task: &mut FiberTask<'_>) {
 fn ends<R: Abort>(rt: &R, task: &mut FiberTask<'_>, outcome: Outcome, marks: &[Mark]) {
     match answered(task.turn(999)) {
         Ok((told, _)) => {
-            assert_eq!(rt; told, Told::Ended(outcome));
+            assert_eq!(rt; told, end_of(outcome));
             assert_eq!(rt; task.trace(), marks);
         }
         Err(AllocError) => {
@@ -81,7 +88,7 @@ fn a_turn_ends_the_fiber_or_memory_ran_out(rt: HostRuntime) {
     let Ok(mut task) = first(rt.alloc(), &registry, pass, &code, 999) else {
         return;
     };
-    ends(&rt, &mut task, Outcome::Canceled, NESTED_MARKS.as_slice());
+    ends(&rt, &mut task, Outcome::Canceled, nested_marks().as_slice());
 }
 
 // One turn, which starts a fiber that then ends, or meets want of memory.
@@ -89,8 +96,13 @@ fn starts<R: Abort>(rt: &R, parent: &mut FiberTask<'_>) {
     match answered(parent.turn(999)) {
         Ok((told, Some(mut child))) => {
             assert_eq!(rt; told, Told::Started(1));
-            let marks = [Mark::Say(8)];
-            ends(rt, &mut child, Outcome::Succeeded(0), marks.as_slice());
+            let marks = [say(8)];
+            ends(
+                rt,
+                &mut child,
+                Outcome::Succeeded(Value::ZERO),
+                marks.as_slice(),
+            );
         }
         Ok((_, None)) => panic!(rt; "no fiber was started"),
         Err(AllocError) => is_broken(rt, parent),

@@ -7,11 +7,10 @@
 
 use crate::programs::ample;
 use crate::turning::{Told, Turns, expect_turns};
-use effect_term::Outcome;
 use fiber_poll::Topic;
 use std::test::Fail;
 
-const ENDED: Told = Told::Ended(Outcome::Succeeded(0));
+const ENDED: Told = Told::Succeeded(0);
 
 /// The parent joins the child, and says its value.
 const JOINING: &str = "(start f (say 1) (join f x (say x) e (raise e) (pure -1)))";
@@ -75,7 +74,7 @@ const ADD_ORDERS: &[Turns<'static>] = &[
         program: ADDING,
         moves: 99,
         turns: &[(0, 64), (0, 64), (1, 64)],
-        told: &[Told::Started(1), ENDED, Told::Ended(Outcome::Succeeded(6))],
+        told: &[Told::Started(1), ENDED, Told::Succeeded(6)],
         schedule: "0*24 1*4",
         report: "fiber 0 succeeded 0: say 0, say 2\nfiber 1 succeeded 6\n",
     },
@@ -89,7 +88,7 @@ const ADD_ORDERS: &[Turns<'static>] = &[
             Told::Cedes,
             Told::Cedes,
             Told::Cedes,
-            Told::Ended(Outcome::Succeeded(2)),
+            Told::Succeeded(2),
             Told::Cedes,
             ENDED,
         ],
@@ -110,7 +109,8 @@ const CANCEL_ORDERS: &[Turns<'static>] = &[
         turns: &[(0, 64), (1, 64), (0, 64)],
         told: &[Told::Started(1), ENDED, ENDED],
         schedule: "0*2 1*14 0*6",
-        report: "fiber 0 succeeded 0: enter 0, leave 0\nfiber 1 succeeded 0: enter 0, say 1, in 0, say 2, out 0, say 3, leave 0\n",
+        report: "fiber 0 succeeded 0: enter 0, leave 0\n\
+            fiber 1 succeeded 0: enter 0, say 1, in 0, say 2, out 0, say 3, leave 0\n",
     },
     Turns {
         rule: "the parent first",
@@ -121,7 +121,7 @@ const CANCEL_ORDERS: &[Turns<'static>] = &[
             Told::Started(1),
             Told::WakeFiber(1),
             Told::Waits(Topic::Fiber(1)),
-            Told::Ended(Outcome::Canceled),
+            Told::Canceled,
             ENDED,
         ],
         schedule: "0*6 1*3 0*4",
@@ -151,7 +151,7 @@ const CANCEL_ORDERS: &[Turns<'static>] = &[
             Told::WakeFiber(1),
             Told::Cedes,
             Told::Waits(Topic::Fiber(1)),
-            Told::Ended(Outcome::Canceled),
+            Told::Canceled,
             Told::Cedes,
             ENDED,
         ],

@@ -52,9 +52,9 @@ pub fn opened(alloc: Global, text: &str, limits: Limits) -> Result<(Code, Regist
 }
 
 /// Limits of so many fibers, one ref and one deferred, and so many changes, each at least 1.
-pub const fn few(fibers: u16, count: u32) -> Limits
+pub const fn few(fibers: u16, count: u64) -> Limits
     requires fibers { (0 < fibers) × (fibers ≤ 1000) }
-    requires count { (0 < count) × (count < 2 ^ 18) }
+    requires count { (0 < count) × (count < 2 ^ 40) }
     ensures limits { AreLimits result }
     ensures fibers { result.fibers ≡ fibers }
 {

@@ -9,7 +9,7 @@ use crate::programs::{few, opened};
 use crate::turning::{Told, Turns, answered, child_of, expect_turns, turned};
 use cell_registry::{Band, Limits, Pass, Registry};
 use derived_ops::Code;
-use effect_term::{CancelReply, JoinReply, Outcome};
+use effect_term::{CancelReply, JoinReply, Outcome, Value};
 use fiber_frames::{Ask, Mark};
 use fiber_poll::{FiberTask, first};
 use std::alloc::{AllocError, Global};
@@ -70,7 +70,7 @@ const TWO_FIBERS: &[Turns<'static>] = &[Turns {
         NO_MORE,
         Told::Cedes,
         NO_MORE,
-        Told::Ended(Outcome::Succeeded(0)),
+        Told::Succeeded(0),
         NO_MORE,
     ],
     schedule: "0*2 0*1 1*2 1*2",
@@ -117,7 +117,7 @@ const TWO_CHANGES: &[Turns<'static>] = &[
             Told::Started(1),
             CHILD_SPENT,
             CHILD_SPENT,
-            Told::Ended(Outcome::Succeeded(0)),
+            Told::Succeeded(0),
             CHILD_SPENT,
         ],
         schedule: "0*2 1*6 0*4",
@@ -141,6 +141,14 @@ fn the_task_stands_before_a_change_that_is_not_made(rt: HostRuntime) -> Result<(
     expect_turns(&rt, few(3, 2), TWO_CHANGES)
 }
 
+/// What a fiber asks next.
+#[derive(Clone, Copy, PartialEq, Eq, Debug)]
+enum Wanted {
+    Start,
+    Unmask,
+    Other,
+}
+
 /// A program whose fiber comes to a move that is refused.
 #[derive(Clone, Copy, Drop)]
 struct Refused<'a> {
@@ -148,9 +156,9 @@ struct Refused<'a> {
     /// What each turn tells.
     told: Told,
     marks: &'a [Mark],
-    ask: Ask,
+    wanted: Wanted,
     /// The fiber's changes of its cell.
-    count: u32,
+    count: u64,
     /// Its active masks.
     depth: u8,
 }
@@ -176,12 +184,17 @@ fn refused_thrice<R: Abort>(
 }
 
 // A task's pass, and what its fiber asks.
-fn parts_of(registry: &Registry, code: &Code, task: FiberTask<'_>) -> (Pass, Ask)
+fn parts_of(registry: &Registry, code: &Code, task: FiberTask<'_>) -> (Pass, Wanted)
     requires { IsTaskOf registry.now code.now task }
     ensures { IsOf registry.now result.0 }
 {
     let (pass, config) = task.into_parts();
-    (pass, config.ask())
+    let wanted = match config.ask() {
+        Ask::Start => Wanted::Start,
+        Ask::Unmask => Wanted::Unmask,
+        _ => Wanted::Other,
+    };
+    (pass, wanted)
 }
 
 // Calls that the pass of fiber 0 makes, of which each is answered.
@@ -189,15 +202,16 @@ fn makes_calls<R: Abort>(rt: &R, registry: &Registry, pass: &mut Pass)
     requires own { IsOf registry.now pass.old }
     requires limits { AreLimits registry.now.limits }
 {
+    let (five, six) = (Value::from_i32(5), Value::from_i32(6));
     assert_eq!(rt; registry.cancel(pass, 0), CancelReply::Asked);
     assert_eq!(rt; registry.cancel(pass, 0), CancelReply::Already);
     assert_eq!(rt; registry.join(pass, 0), JoinReply::Waits);
     assert_eq!(rt; registry.new_ref(pass), Ok(0));
-    assert_eq!(rt; registry.modify(pass, 0, 5), 0);
-    assert_eq!(rt; registry.get(pass, 0), 5);
+    assert_eq!(rt; registry.modify(pass, 0, five), Value::ZERO);
+    assert_eq!(rt; registry.get(pass, 0), five);
     assert_eq!(rt; registry.new_deferred(pass), Ok(0));
-    assert_eq!(rt; registry.complete(pass, 0, 6), true);
-    assert_eq!(rt; registry.read(pass, 0), Some(6));
+    assert_eq!(rt; registry.complete(pass, 0, six), true);
+    assert_eq!(rt; registry.read(pass, 0), Some(six));
 }
 
 // Three refused turns of fiber 0, and then calls by its pass.
@@ -207,8 +221,8 @@ fn goes_on<R: Abort + AllocGlobal>(rt: &R, limits: Limits, case: Refused<'_>) ->
     let (code, registry, pass) = opened(rt.alloc(), case.program, limits)?;
     let mut task = first(rt.alloc(), &registry, pass, &code, 99)?;
     refused_thrice(rt, &registry, &code, &mut task, case)?;
-    let (mut pass, ask) = parts_of(&registry, &code, task);
-    assert_eq!(rt; ask, case.ask);
+    let (mut pass, wanted) = parts_of(&registry, &code, task);
+    assert_eq!(rt; wanted, case.wanted);
     assert_eq!(rt; pass.count(), case.count);
     assert_eq!(rt; pass.depth(), case.depth);
     makes_calls(rt, &registry, &mut pass);
@@ -217,11 +231,12 @@ fn goes_on<R: Abort + AllocGlobal>(rt: &R, limits: Limits, case: Refused<'_>) ->
 
 #[test]
 fn the_pass_goes_on_after_a_full_band(rt: HostRuntime) -> Result<(), Fail> {
+    let marks = [Mark::Say(Value::from_i32(1))];
     let case = Refused {
         program: "(seq (say 1) (start f (pure 1) (pure 2)))",
         told: NO_FIBER,
-        marks: &[Mark::Say(1)],
-        ask: Ask::Start,
+        marks: marks.as_slice(),
+        wanted: Wanted::Start,
         count: 0,
         depth: 0,
     };
@@ -230,11 +245,12 @@ fn the_pass_goes_on_after_a_full_band(rt: HostRuntime) -> Result<(), Fail> {
 
 #[test]
 fn the_pass_goes_on_after_a_used_up_count(rt: HostRuntime) -> Result<(), Fail> {
+    let marks = [Mark::Enter(0), Mark::Say(Value::from_i32(1))];
     let case = Refused {
         program: "(uncancelable p (say 1))",
         told: SPENT,
-        marks: &[Mark::Enter(0), Mark::Say(1)],
-        ask: Ask::Unmask,
+        marks: marks.as_slice(),
+        wanted: Wanted::Unmask,
         count: 1,
         depth: 1,
     };
@@ -270,7 +286,7 @@ fn cancels_the_other<R: Abort>(
     assert_eq!(rt; registry.cancel(pass, 1), CancelReply::Asked);
     assert_eq!(rt; registry.join(pass, 1), JoinReply::Waits);
     let (told, _) = answered(other.turn(64))?;
-    assert_eq!(rt; told, Told::Ended(Outcome::Canceled));
+    assert_eq!(rt; told, Told::Canceled);
     assert_eq!(rt; registry.join(pass, 1), JoinReply::Ended(Outcome::Canceled));
     Ok(())
 }

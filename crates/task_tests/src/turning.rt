@@ -19,7 +19,9 @@ use steal_pool::gather;
 /// What a turn answered, with the number of a started fiber in place of its task.
 #[derive(Clone, Copy, PartialEq, Eq, Debug)]
 pub enum Told {
-    Ended(Outcome),
+    Succeeded(i64),
+    Errored(i64),
+    Canceled,
     Waits(Topic),
     Cedes,
     Started(u16),
@@ -30,12 +32,21 @@ pub enum Told {
     Spent(u16),
 }
 
+/// What the end of a fiber is told as.
+pub fn end_of(outcome: Outcome) -> Told {
+    match outcome {
+        Outcome::Succeeded(value) => Told::Succeeded(value.get()),
+        Outcome::Errored(code) => Told::Errored(code.get()),
+        Outcome::Canceled => Told::Canceled,
+    }
+}
+
 // What a turn told that met no fault, and the task of the fiber that it started.
 fn told_by<'a>(turn: Turn<'a>) -> (Told, Option<FiberTask<'a>>)
     ensures { IfSome result.1 (λ child. turn.entry ≡ Turn.Started child) }
 {
     match turn {
-        Turn::Ended(outcome) => (Told::Ended(outcome), None),
+        Turn::Ended(outcome) => (end_of(outcome), None),
         Turn::Waits(topic) => (Told::Waits(topic), None),
         Turn::Cedes => (Told::Cedes, None),
         Turn::Started(child) => (Told::Started(child.number()), Some(child)),

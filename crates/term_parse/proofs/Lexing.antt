@@ -1,6 +1,6 @@
 -- One byte of a text, as the tokens see it.
 use Prim.Native.Nat.{zero}
-use Rattle.std.proofs.Common.{◌≡◌, ◌≤◌, ◌<◌, ◌+◌, ◌-◌, ◌*◌, ◌==◌, ◌||◌, ◌&&◌, ℕ, suc, Bool, true, false, nat_lt, nat_le, List, [], ◌∷◌, ◌++◌, length, get_or, take, drop, refl, ap, sym, ◌∙◌, arith, rules, length-drop, append_assoc, drop-cons, add-one, None}
+use Rattle.std.proofs.Common.{◌≡◌, ◌≤◌, ◌<◌, ◌+◌, ◌-◌, ◌*◌, ◌/◌, ◌^◌, ◌==◌, ◌||◌, ◌&&◌, ℕ, suc, Bool, true, false, nat_lt, nat_le, List, [], ◌∷◌, ◌++◌, length, get_or, take, drop, refl, ap, sym, ◌∙◌, arith, rules, length-drop, append_assoc, drop-cons, add-one, pos, neg_ℤ, None}
 use Rattle.std.specs.List.{slice_range}
 use Rattle.std.specs.Char.{digit_value}
 use Rattle.std.specs.Str.Parse.{digits_value}
@@ -8,6 +8,7 @@ use Rattle.std.proofs.Math.Seq.{take-suc}
 use Rattle.std.proofs.lemmas.List.{get_or-drop}
 use Rattle.std.proofs.lemmas.Bool.Decides.{nat_tests}
 use Rattle.std.proofs.lemmas.Grind.{common_steps}
+use Rattle.effect_term.specs.Values.{IsValue}
 use Rattle.term_parse.specs.Lexemes.{is_space, is_digit, is_letter, is_run, run_of, all_digits, is_plain, lexeme_of, lexemes, lexemes_at}
 use Rattle.term_parse.specs.Seen.{lexeme_as, plain_value, seen_kind, IsNext}
 use Rattle.std.proofs.lemmas.Int.Digits.{digits_value_more}
@@ -171,16 +172,25 @@ unfolding plain_value
 plain_none [] h = refl
 plain_none (b ∷ bs) h = rw (and_fails (nat_lt 48 b) (all_digits (b ∷ bs)) h) refl
 
-pub plain_large : (ds : List ℕ) → 2147483648 < digits_value 10 ds → None ≡ plain_value ds
+pub plain_large : (ds : List ℕ) → 2 ^ 62 < digits_value 10 ds → None ≡ plain_value ds
 unfolding plain_value
 plain_large ds h =
-    let n : nat_le (digits_value 10 ds) 2147483648 ≡ false = grind (arith, nat_tests) in
-    rw (and_fails (is_plain ds) (nat_le (digits_value 10 ds) 2147483648) n) refl
+    let n : nat_le (digits_value 10 ds) (2 ^ 62) ≡ false = grind (arith, nat_tests) in
+    rw (and_fails (is_plain ds) (nat_le (digits_value 10 ds) (2 ^ 62)) n) refl
 
 pub value_more : (ds : List ℕ) (i v r : ℕ) → i < length ds → is_digit (get_or ds i 0) ≡ true → r ≡ get_or ds i 0 - 48 → v ≡ digits_value 10 (take i ds) → v * 10 + r ≡ digits_value 10 (take (i + 1) ds)
 value_more ds i v r h d e value =
     let worth : digit_value (get_or ds i 0) ≡ get_or ds i 0 - 48 = grind (arith, nat_tests) in
     rw (digits_value_more 10 ds i h, worth, value, e) refl
 
-pub value_large : (ds : List ℕ) (i v : ℕ) → v ≡ digits_value 10 (take i ds) → 2147483648 < v → None ≡ plain_value ds
-value_large ds i v value h = plain_large ds (omega (arith, digits_value-take-le 10 ds i (omega arith)))
+-- one more digit makes a value too large that is more than a tenth of the largest
+pub value_over : (ds : List ℕ) (i v : ℕ) → i < length ds → v ≡ digits_value 10 (take i ds) → 2 ^ 62 / 10 < v →
+    None ≡ plain_value ds
+value_over ds i v h value l =
+    let more = digits_value_more 10 ds i h in
+    plain_large ds (omega (arith, digits_value-take-le 10 ds (i + 1) (omega arith), more))
+
+-- a number behind a minus sign
+pub below_zero : (n : ℕ) → n ≤ 2 ^ 62 → IsValue (neg_ℤ (pos n))
+below_zero zero h = omega arith
+below_zero (suc n) h = omega arith

@@ -1,4 +1,4 @@
--- The numbers of what is written fit an `i32`.
+-- The numbers of what is written are in the range of values.
 use Rattle.std.proofs.Common.{◌≡◌, ◌-◌, ◌≤◌, List, [], ◌∷◌, ◌++◌, length, get_or, take, drop, Option, Some, None, sym, subst, arith}
 use Rattle.std.proofs.Math.Seq.{take_all}
 use Rattle.effect_term.specs.declared.term.Operand.TheVariants.{Number, Named}

@@ -1,10 +1,11 @@
 -- The tokens of what the printer writes.
-use Rattle.std.proofs.Common.{◌≡◌, ◌^◌, ◌<◌, ◌≤◌, ◌==◌, ◌&&◌, ◌||◌, ℕ, suc, ℤ, pos, negsuc, neg_ℤ, Bool, true, false, cond, nat_lt, nat_le, List, [], ◌∷◌, ◌++◌, length, get_or, Option, Some, refl, ap, ◌∙◌, arith, rules, zero, w32, FitsSigned, decimal}
+use Rattle.std.proofs.Common.{◌≡◌, ◌^◌, ◌<◌, ◌≤◌, ◌==◌, ◌&&◌, ◌||◌, ℕ, suc, ℤ, pos, negsuc, neg_ℤ, Bool, true, false, cond, nat_lt, nat_le, List, [], ◌∷◌, ◌++◌, length, get_or, Option, Some, refl, ap, ◌∙◌, arith, rules, zero, decimal}
 use Rattle.std.specs.Fmt.{signed_decimal}
 use Rattle.std.specs.Str.Parse.{digits_value}
 use Rattle.std.proofs.lemmas.Bool.{and_parts, lt-ltb, leb-true, le-leb, lt-leb, ne_eqb}
 use Rattle.std.proofs.lemmas.Fmt.{digits_decimal, decimal_digit, decimal_is_IsNumeral, first_decimal, decimal_nonempty}
 use Rattle.std.proofs.lemmas.Str.Parse.{IsNumeralModel, numerals_by_value}
+use Rattle.effect_term.specs.Values.{IsValue}
 use Rattle.effect_term.specs.declared.term.Kind.{Kind}
 use Rattle.effect_term.specs.declared.term.Kind.TheVariants as kinds
 use Rattle.term_parse.specs.declared.table.Word.{Word}
@@ -132,36 +133,36 @@ minus_chosen : (p t : Bool) (y z : Option ℤ) → p ≡ true → t ≡ true →
 minus_chosen true true y z i j = refl
 minus_chosen p t y z i j = cc
 
-number_of-plain : (ds : List ℕ) (n : ℕ) → all_digits ds ≡ true → digits_value 10 ds ≡ n → 48 < get_or ds 0 0 → n < 2147483648 → number_of ds ≡ Some (pos n)
+number_of-plain : (ds : List ℕ) (n : ℕ) → all_digits ds ≡ true → digits_value 10 ds ≡ n → 48 < get_or ds 0 0 → n < 2 ^ 62 → number_of ds ≡ Some (pos n)
 unfolding number_of
 number_of-plain [] n h v l s = absurd (omega arith)
 number_of-plain (b ∷ bs) n h v l s =
     let a : (b == 48) ≡ false = ne_eqb b 48 (λ e. omega arith) in
     let p : is_plain (b ∷ bs) ≡ true = plain_from b bs h l in
-    let t : nat_lt (digits_value 10 (b ∷ bs)) 2147483648 ≡ true = lt-ltb (digits_value 10 (b ∷ bs)) 2147483648 (omega (arith, v)) in
-    number_chosen (b == 48) (is_plain (b ∷ bs)) (nat_lt (digits_value 10 (b ∷ bs)) 2147483648) _ _ _ _ a p t ∙ ap (λ k. Some (pos k)) v
+    let t : nat_lt (digits_value 10 (b ∷ bs)) (2 ^ 62) ≡ true = lt-ltb (digits_value 10 (b ∷ bs)) (2 ^ 62) (omega (arith, v)) in
+    number_chosen (b == 48) (is_plain (b ∷ bs)) (nat_lt (digits_value 10 (b ∷ bs)) (2 ^ 62)) _ _ _ _ a p t ∙ ap (λ k. Some (pos k)) v
 
-number_of-minus : (ds : List ℕ) (n : ℕ) → all_digits ds ≡ true → digits_value 10 ds ≡ suc n → 48 < get_or ds 0 0 → n < 2147483648 → number_of (45 ∷ ds) ≡ Some (negsuc n)
+number_of-minus : (ds : List ℕ) (n : ℕ) → all_digits ds ≡ true → digits_value 10 ds ≡ suc n → 48 < get_or ds 0 0 → n < 2 ^ 62 → number_of (45 ∷ ds) ≡ Some (negsuc n)
 unfolding number_of
 number_of-minus [] n h v l s = absurd (omega arith)
 number_of-minus (b ∷ bs) n h v l s =
     let p : is_plain (b ∷ bs) ≡ true = plain_from b bs h l in
-    let t : nat_le (digits_value 10 (b ∷ bs)) 2147483648 ≡ true = le-leb (digits_value 10 (b ∷ bs)) 2147483648 (omega (arith, v)) in
-    minus_chosen (is_plain (b ∷ bs)) (nat_le (digits_value 10 (b ∷ bs)) 2147483648) _ _ p t ∙ ap (λ k. Some (neg_ℤ (pos k))) v
+    let t : nat_le (digits_value 10 (b ∷ bs)) (2 ^ 62) ≡ true = le-leb (digits_value 10 (b ∷ bs)) (2 ^ 62) (omega (arith, v)) in
+    minus_chosen (is_plain (b ∷ bs)) (nat_le (digits_value 10 (b ∷ bs)) (2 ^ 62)) _ _ p t ∙ ap (λ k. Some (neg_ℤ (pos k))) v
 
-number_of-decimal : (n : ℕ) → n < 2147483648 → number_of (decimal n) ≡ Some (pos n)
+number_of-decimal : (n : ℕ) → n < 2 ^ 62 → number_of (decimal n) ≡ Some (pos n)
 unfolding number_of
 number_of-decimal zero l = ap number_of (decimal_digit 0 (omega arith))
 number_of-decimal (suc n) l =
     number_of-plain (decimal (suc n)) (suc n) (decimal-digits (suc n) (omega arith)) (decimal_is_IsNumeral (suc n) (omega arith)).1 (first_decimal (suc n) (omega arith) (omega arith)) l
 
-pub number_token : (z : ℤ) (at : ℕ) (rest : List ℕ) → FitsSigned w32 z → Ends rest → (next : ℕ) × (lexemes false at (signed_decimal z ++ rest) ≡ record { lexeme = number z; place = at } ∷ lexemes false next rest)
+pub number_token : (z : ℤ) (at : ℕ) (rest : List ℕ) → IsValue z → Ends rest → (next : ℕ) × (lexemes false at (signed_decimal z ++ rest) ≡ record { lexeme = number z; place = at } ∷ lexemes false next rest)
 unfolding numbered
 number_token (pos n) at rest f e =
-    let l : n < 2147483648 = f.sfits in
+    let l : n < 2 ^ 62 = f in
     digits_token (decimal n) (pos n) at rest (decimal-digits n (omega arith)) (decimal_nonempty n (omega arith)) (number_of-decimal n l) e
 number_token (negsuc n) at rest f e =
-    let l : n < 2147483648 = f.sfits in
+    let l : n < 2 ^ 62 = f in
     let ds = decimal-digits (suc n) (omega arith) in
     let run = all_run-digits (decimal (suc n)) ds in
     let more = lexemes-run (suc at) (decimal (suc n)) rest run e in (

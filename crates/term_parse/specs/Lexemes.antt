@@ -1,5 +1,5 @@
 -- The tokens of a text, each with its place.
-use Rattle.std.specs.Prelude.{◌==◌, ◌&&◌, ◌||◌, ℕ, suc, ℤ, pos, Bool, true, false, nat_lt, nat_le, List, [], ◌∷◌}
+use Rattle.std.specs.Prelude.{◌==◌, ◌&&◌, ◌||◌, ◌^◌, ℕ, suc, ℤ, pos, Bool, true, false, nat_lt, nat_le, List, [], ◌∷◌}
 use Rattle.std.specs.Prelude.{length, drop, Option, Some, None, if◌then◌else◌, neg_ℤ}
 use Rattle.std.specs.Str.Parse.{digits_value}
 
@@ -45,13 +45,13 @@ abbrev pub is_plain : List ℕ → Bool
 is_plain [] = false
 is_plain (b ∷ bs) = nat_lt 48 b && all_digits (b ∷ bs)
 
--- 0, or digits that do not begin with 0, after a minus sign or not, within 32 bits with sign
+-- 0, or digits that do not begin with 0, after a minus sign or not, within 63 bits with sign
 unfoldable pub number_of : List ℕ → Option ℤ
 number_of [] = None
 number_of (b ∷ bs) =
     if (b == 48) && (length bs == 0) then Some (pos 0)
-    else if is_plain (b ∷ bs) && nat_lt (digits_value 10 (b ∷ bs)) 2147483648 then Some (pos (digits_value 10 (b ∷ bs)))
-    else if (b == 45) && is_plain bs && nat_le (digits_value 10 bs) 2147483648 then
+    else if is_plain (b ∷ bs) && nat_lt (digits_value 10 (b ∷ bs)) (2 ^ 62) then Some (pos (digits_value 10 (b ∷ bs)))
+    else if (b == 45) && is_plain bs && nat_le (digits_value 10 bs) (2 ^ 62) then
     Some (neg_ℤ (pos (digits_value 10 bs)))
     else None
 

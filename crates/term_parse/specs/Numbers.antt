@@ -1,13 +1,13 @@
--- Numbers that an `i32` holds.
-use Rattle.std.specs.Prelude.{List, [], ◌∷◌, FitsSigned}
-use Rattle.std.specs.Int.{w32}
+-- Numbers in the range of values.
+use Rattle.std.specs.Prelude.{List, [], ◌∷◌}
 use Rattle.effect_term.specs.declared.term.Operand.TheVariants.{Number, Named}
+use Rattle.effect_term.specs.Values.{IsValue}
 use Rattle.term_parse.specs.Atoms.{Atom, word, value, name, ended}
 
--- each number among these atoms is in the range of an `i32`, as each number of a term that a program holds is
+-- each number among these atoms is in the range of values, as each number of a term that a program holds is
 abbrev pub NumbersFit : List Atom → Type 0
 NumbersFit [] = Unit {0}
-NumbersFit (value (Number n) ∷ xs) = FitsSigned w32 n × NumbersFit xs
+NumbersFit (value (Number n) ∷ xs) = IsValue n × NumbersFit xs
 NumbersFit (value (Named n) ∷ xs) = NumbersFit xs
 NumbersFit (name n ∷ xs) = NumbersFit xs
 NumbersFit (word w ∷ xs) = NumbersFit xs

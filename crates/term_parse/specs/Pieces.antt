@@ -10,7 +10,7 @@ use Rattle.term_parse.specs.Spelling as spelled
 
 -- a piece as it is spelled
 abbrev pub piece_of : Piece → spelled.Piece
-piece_of (held.Value v) = spelled.value v
+piece_of (held.Value v) = spelled.value v.now
 piece_of (held.Name n) = spelled.name n
 piece_of (held.Term t) = spelled.inner (spelled.spelling t.now)
 
@@ -29,7 +29,7 @@ terms_atoms [] end = end
 terms_atoms (t ∷ ts) end = atoms_of t ++ terms_atoms ts end
 
 abbrev pub piece_atoms : Piece → List Atom
-piece_atoms (held.Value v) = value v ∷ []
+piece_atoms (held.Value v) = value v.now ∷ []
 piece_atoms (held.Name n) = name n ∷ []
 piece_atoms (held.Term t) = atoms_of t.now
 

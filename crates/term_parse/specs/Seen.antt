@@ -1,6 +1,6 @@
 -- What the parser's values stand for.
-use Rattle.std.specs.Prelude.{◌≡◌, ◌≤◌, ◌<◌, ◌==◌, ◌&&◌, ◌||◌, ℕ, List, ◌∷◌, length, slice_range, nat_le, Option}
-use Rattle.std.specs.Prelude.{Some, None, if◌then◌else◌}
+use Rattle.std.specs.Prelude.{◌≡◌, ◌≤◌, ◌<◌, ◌==◌, ◌&&◌, ◌||◌, ◌^◌, ℕ, List, ◌∷◌, length, slice_range, nat_le}
+use Rattle.std.specs.Prelude.{Option, Some, None, if◌then◌else◌}
 use Rattle.std.specs.Str.Parse.{digits_value}
 use Rattle.term_parse.specs.Lexemes.{Lexeme, opens, closes, called, number, bad_number, bad_byte, is_letter, is_digit}
 use Rattle.term_parse.specs.Lexemes.{is_plain, number_of, numbered, lexemes_at}
@@ -10,7 +10,7 @@ use Rattle.term_parse.specs.declared.token.TokenKind.TheVariants as tokens
 
 -- the value of digits that do not begin with 0, where a minus sign may stand before it
 unfoldable pub plain_value : List ℕ → Option ℕ
-plain_value ds = if is_plain ds && nat_le (digits_value 10 ds) 2147483648 then Some (digits_value 10 ds) else None
+plain_value ds = if is_plain ds && nat_le (digits_value 10 ds) (2 ^ 62) then Some (digits_value 10 ds) else None
 
 -- the token of this first byte and these bytes
 unfoldable pub lexeme_as : ℕ → List ℕ → Lexeme

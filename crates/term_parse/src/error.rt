@@ -25,7 +25,7 @@ pub enum ParseError {
     /// The form wants a token of another kind.
     #[error("another kind of token is wanted at byte {0}")]
     Arity(usize),
-    /// The number isn't well formed, or is out of the range of an `i32`.
+    /// The number isn't well formed, or is out of the range of a value.
     #[error("the number at byte {0} is bad")]
     BadNumber(usize),
     /// No binder of the name encloses it.

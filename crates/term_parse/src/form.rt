@@ -14,7 +14,7 @@ use crate::error::ParseError;
 use crate::scope::{Binding, enter, hash_of, meaning};
 use crate::table::{Part, Word, parts_of, word_of};
 use crate::token::{Token, TokenKind, token_at};
-use effect_term::{Kind, Operand, Term};
+use effect_term::{Kind, Operand, Term, Value};
 use std::alloc::AllocError;
 use std::collections::VecDeque;
 
@@ -155,7 +155,7 @@ fn use_name(
     }
 }
 
-fn number(n: i32) -> Operand
+fn number(n: Value) -> Operand
     ensures { result ≡ Operand.Number n }
 {
     Operand::Number(n)
@@ -173,7 +173,8 @@ fn value(text: &[u8], scope: &[Binding], form: &mut Form, token: Token) -> Resul
     ensures fault { (at depth : ℕ) → IsNext text.now at token →
         IfErr result (FailsAt text.now at depth (innermost scope.now form.old)) }
 {
-    match token.kind {
+    let kind = token.kind;
+    match kind {
         TokenKind::Number(n) => {
             let next = form.next + 1;
             with_piece(form, Piece::Value(number(n)), next)?;
@@ -328,7 +329,10 @@ pub(crate) fn advance(
     ensures found { IfOk result (Stepped text.now at depth scope.old.items form.old scope.new.items form.new) }
     ensures fault { IfErr result (FailsAt text.now at depth (innermost scope.old.items form.old)) }
 {
-    let token = wanted(text, at)?;
+    let token = match wanted(text, at) {
+        Ok(token) => token,
+        Err(error) => return Err(error),
+    };
     let Some(part) = parts_of(form.word).get(form.next) else {
         return Err(ParseError::Arity(token.start));
     };

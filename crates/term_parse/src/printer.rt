@@ -24,7 +24,7 @@ use std::alloc::{AllocError, Global};
 /// What stands in a form beside its binders.
 #[derive(Clone, Copy)]
 enum Piece<'a> {
-    Value(Operand),
+    Value(&'a Operand),
     Name(Name),
     Term(&'a Term),
 }
@@ -68,8 +68,8 @@ fn form_of(term: &Term) -> Form<'_>
     ensures enough { Suffice (parts_of result.word) result.pieces result.more.now }
 {
     match term {
-        Term::Pure(v) => form_with!(Pure, Piece::Value(*v)),
-        Term::Raise(v) => form_with!(Raise, Piece::Value(*v)),
+        Term::Pure(v) => form_with!(Pure, Piece::Value(v)),
+        Term::Raise(v) => form_with!(Raise, Piece::Value(v)),
         Term::Let(e, k) => form_with!(Let, Piece::Term(e), Piece::Term(k)),
         Term::Seq(a, b, more) => Form {
             word: Word::Seq,
@@ -77,9 +77,9 @@ fn form_of(term: &Term) -> Form<'_>
             more,
         },
         Term::Handle(e, h) => form_with!(Handle, Piece::Term(e), Piece::Term(h)),
-        Term::If0(v, s, e) => form_with!(If0, Piece::Value(*v), Piece::Term(s), Piece::Term(e)),
-        Term::Add(v, w) => form_with!(Add, Piece::Value(*v), Piece::Value(*w)),
-        Term::Say(v) => form_with!(Say, Piece::Value(*v)),
+        Term::If0(v, s, e) => form_with!(If0, Piece::Value(v), Piece::Term(s), Piece::Term(e)),
+        Term::Add(v, w) => form_with!(Add, Piece::Value(v), Piece::Value(w)),
+        Term::Say(v) => form_with!(Say, Piece::Value(v)),
         Term::Cede => form_with!(Cede),
         Term::Never => form_with!(Never),
         Term::Canceled => form_with!(Canceled),
@@ -95,14 +95,14 @@ fn form_of(term: &Term) -> Form<'_>
             Piece::Term(c)
         ),
         Term::Cancel(f) => form_with!(Cancel, Piece::Name(*f)),
-        Term::Ref(v, k) => form_with!(Ref, Piece::Value(*v), Piece::Term(k)),
+        Term::Ref(v, k) => form_with!(Ref, Piece::Value(v), Piece::Term(k)),
         Term::Get(r) => form_with!(Get, Piece::Name(*r)),
-        Term::Set(r, v) => form_with!(Set, Piece::Name(*r), Piece::Value(*v)),
-        Term::Modify(r, v) => form_with!(Modify, Piece::Name(*r), Piece::Value(*v)),
+        Term::Set(r, v) => form_with!(Set, Piece::Name(*r), Piece::Value(v)),
+        Term::Modify(r, v) => form_with!(Modify, Piece::Name(*r), Piece::Value(v)),
         Term::Deferred(k) => form_with!(Deferred, Piece::Term(k)),
-        Term::Complete(d, v) => form_with!(Complete, Piece::Name(*d), Piece::Value(*v)),
+        Term::Complete(d, v) => form_with!(Complete, Piece::Name(*d), Piece::Value(v)),
         Term::Await(d) => form_with!(Await, Piece::Name(*d)),
-        Term::Repeat(v, e) => form_with!(Repeat, Piece::Value(*v), Piece::Term(e)),
+        Term::Repeat(v, e) => form_with!(Repeat, Piece::Value(v), Piece::Term(e)),
         Term::Forever(e) => form_with!(Forever, Piece::Term(e)),
         Term::Guarantee(e, fin) => form_with!(Guarantee, Piece::Term(e), Piece::Term(fin)),
         Term::Bracket(a, b, rel) => form_with!(
@@ -161,7 +161,7 @@ fn write_operand(out: &mut Vec<u8>, operand: Operand) -> Result<(), AllocError>
     match operand {
         Operand::Number(n) => {
             let mut buffer = Buffer::new();
-            out.extend_from_slice(buffer.format(n).as_bytes())
+            out.extend_from_slice(buffer.format(n.get()).as_bytes())
         }
         Operand::Named(name) => write_name(out, name.kind, name.slot as usize),
     }
@@ -291,7 +291,7 @@ fn write_piece(
     ensures longer { OnOk result (vec_len out.old ≤ vec_len out.new) }
 {
     match piece {
-        Piece::Value(operand) => write_operand(out, operand),
+        Piece::Value(operand) => write_operand(out, *operand),
         Piece::Name(name) => write_name(out, name.kind, name.slot as usize),
         Piece::Term(term) => {
             let room = out.len();

@@ -117,56 +117,56 @@ fn opened(alloc: Global, word: Word) -> Result<Open, AllocError>
 }
 
 /// Goes on in the form around one that has closed, if there is one.
-fn resume(alloc: Global, open: &mut Open, next: usize) -> Result<Turn, AllocError>
-    requires { Shaped open.old.form.value.word (sorts open.old.form.value.pieces.items) }
-    ensures { (text : List ℕ) (at : ℕ) → AreOpen text at open.old →
-        Closes text at (innermost open.old.scope.items open.old.form.value) next → at < next →
-        next ≤ length text → IfOk result (Turned text at open.new) }
+fn resume(alloc: Global, stack: &mut Open, next: usize) -> Result<Turn, AllocError>
+    requires { Shaped stack.old.form.value.word (sorts stack.old.form.value.pieces.items) }
+    ensures { (text : List ℕ) (at : ℕ) → AreOpen text at stack.old →
+        Closes text at (innermost stack.old.scope.items stack.old.form.value) next → at < next →
+        next ≤ length text → IfOk result (Turned text at stack.new) }
 {
-    let word = open.form.word;
-    let term = build(alloc, word, &mut open.form.pieces)?;
-    let Some(outer) = open.around.pop() else {
+    let word = stack.form.word;
+    let term = build(alloc, word, &mut stack.form.pieces)?;
+    let Some(outer) = stack.around.pop() else {
         return Ok(Turn::Done(term, next));
     };
     let part = outer.next;
-    open.scope.truncate(outer.scope);
-    let form = mem::replace(&mut open.form, outer);
+    stack.scope.truncate(outer.scope);
+    let form = mem::replace(&mut stack.form, outer);
     // Where there is no room to keep it, it is let go.
-    let _ = open.closed.push(form);
-    with_piece(&mut open.form, Piece::Term(term), part)?;
+    let _ = stack.closed.push(form);
+    with_piece(&mut stack.form, Piece::Term(term), part)?;
     Ok(Turn::More(next))
 }
 
 /// Goes on after a step of the innermost form.
-fn apply(alloc: Global, step: Step, open: &mut Open) -> Result<Turn, AllocError>
-    requires { Buildable open.old.form.value step }
+fn apply(alloc: Global, step: Step, stack: &mut Open) -> Result<Turn, AllocError>
+    requires { Buildable stack.old.form.value step }
     ensures { (text : List ℕ) (at depth : ℕ) (scope : List Binding) (form : Form) →
-        IsOpen text at scope form open.old.around.items → depth ≡ length open.old.around.items + 1 →
-        Stepped text at depth scope form open.old.scope.items open.old.form.value step →
-        IfOk result (Turned text at open.new) }
+        IsOpen text at scope form stack.old.around.items → depth ≡ length stack.old.around.items + 1 →
+        Stepped text at depth scope form stack.old.scope.items stack.old.form.value step →
+        IfOk result (Turned text at stack.new) }
 {
     match step {
         Step::Read(next) => Ok(Turn::More(next)),
         Step::Opened(word, next) => {
-            let inner = next_form(alloc, word, &mut open.closed)?;
-            let outer = mem::replace(&mut open.form, inner);
-            open.around.push(outer)?;
+            let inner = next_form(alloc, word, &mut stack.closed)?;
+            let outer = mem::replace(&mut stack.form, inner);
+            stack.around.push(outer)?;
             Ok(Turn::More(next))
         }
-        Step::Closed(next) => resume(alloc, open, next),
+        Step::Closed(next) => resume(alloc, stack, next),
     }
 }
 
 /// Reads one token, or the two that open a form.
-fn read_token(alloc: Global, text: &[u8], at: usize, open: &mut Open) -> Result<Turn, ParseError>
-    requires forms { AreOpen text.now at open.old }
+fn read_token(alloc: Global, text: &[u8], at: usize, stack: &mut Open) -> Result<Turn, ParseError>
+    requires forms { AreOpen text.now at stack.old }
     requires short { length text.now ≤ 65536 }
-    ensures found { IfOk result (Turned text.now at open.new) }
+    ensures found { IfOk result (Turned text.now at stack.new) }
     ensures fault { IfErr result (λ e. Fails e (reads_at text.now 0 (term [] ∷ []))) }
 {
-    let depth = open.around.len() + 1;
-    match advance(text, at, &mut open.scope, &mut open.form, depth) {
-        Ok(step) => Ok(apply(alloc, step, open)?),
+    let depth = stack.around.len() + 1;
+    match advance(text, at, &mut stack.scope, &mut stack.form, depth) {
+        Ok(step) => Ok(apply(alloc, step, stack)?),
         Err(error) => Err(error),
     }
 }
@@ -178,9 +178,9 @@ fn whole(alloc: Global, text: &[u8]) -> Result<(Term, usize), ParseError>
     ensures fault { IfErr result (λ e. Fails e (reads_at text.now 0 (term [] ∷ []))) }
 {
     let (word, mut at) = first_word(text)?;
-    let mut open = opened(alloc, word)?;
+    let mut stack = opened(alloc, word)?;
     'tokens: loop {
-        match read_token(alloc, text, at, &mut open) {
+        match read_token(alloc, text, at, &mut stack) {
             Ok(Turn::More(next)) => at = next,
             Ok(Turn::Done(term, end)) => return Ok((term, end)),
             Err(error) => return Err(error),

@@ -1,10 +1,12 @@
 //! The tokens of a text, one after another.
 
 ghost use Rattle.std.specs.Prelude.{◌≡◌, ◌≤◌, ◌<◌, ◌+◌, ◌||◌, ◌==◌, false, true, ℕ, List, [], IfSome, IfNone, length};
-ghost use Rattle.std.specs.Prelude.{neg_ℤ, pos, slice_index, slice_range, drop};
+ghost use Rattle.std.specs.Prelude.{◌^◌, neg_ℤ, pos, slice_index, slice_range, drop};
 ghost use Rattle.term_parse.specs.Lexemes.{is_space, is_digit, is_letter, is_run, run_of, lexemes, lexemes_at};
 ghost use Rattle.term_parse.specs.Lexemes.{number_of};
 ghost use Rattle.term_parse.specs.Seen.{IsNext, lexeme_as, plain_value, seen_kind};
+
+use effect_term::Value;
 
 /// What a token is.
 #[derive(Clone, Copy, PartialEq, Eq, Debug)]
@@ -12,7 +14,7 @@ pub(crate) enum TokenKind {
     Open,
     Close,
     Called,
-    Number(i32),
+    Number(Value),
     BadNumber,
     BadByte,
 }
@@ -26,7 +28,7 @@ pub(crate) struct Token {
 }
 
 /// The greatest number that may stand behind a minus sign.
-const LARGEST: u64 = 2147483648;
+const LARGEST: u64 = 4_611_686_018_427_387_904;
 
 fn is_letter(byte: u8) -> bool
     ensures { result ≡ is_letter byte }
@@ -111,42 +113,45 @@ fn plain_value(digits: &[u8]) -> Option<u64>
         if !is_digit(digit) {
             return None;
         }
-        value = value * 10 + u64::from(digit - b'0');
-        if value > LARGEST {
+        if value > LARGEST / 10 {
             return None;
         }
+        value = value * 10 + u64::from(digit - b'0');
+    }
+    if value > LARGEST {
+        return None;
     }
     Some(value)
 }
 
-fn negated(value: u64) -> i32
-    requires { value ≤ 2147483648 }
+#[tactic(auto, using(crate::proofs::Lexing::below_zero))]
+fn negated(value: u64) -> Value
+    requires { value ≤ 2 ^ 62 }
     ensures { result ≡ neg_ℤ (pos value) }
 {
-    (0 - value as i64) as i32
+    let Some(value) = Value::of(0 - value as i64) else {
+        unreachable!();
+    };
+    value
 }
 
 /// The number that a run is, if it is one.
 #[tactic(auto, unfolding(crate::specs::Seen::plain_value, crate::specs::Lexemes::number_of))]
-fn number(run: &[u8]) -> Option<i32>
+fn number(run: &[u8]) -> Option<Value>
     ensures { result ≡ number_of run.now }
 {
     let [first, digits @ ..] = run else {
         return None;
     };
     if *first == b'0' && digits.is_empty() {
-        return Some(0);
+        return Some(Value::ZERO);
     }
     if *first == b'-' {
         let value = plain_value(digits)?;
         return Some(negated(value));
     }
     let value = plain_value(run)?;
-    if value < LARGEST {
-        Some(value as i32)
-    } else {
-        None
-    }
+    Value::of(value as i64)
 }
 
 /// What the token is that begins with this byte and, if it is an identifier or a number, has these.

@@ -1,7 +1,7 @@
 //! Texts and terms as large and as deep as they may be. Each text is made piece by piece here, and
 //! compared whole.
 
-use effect_term::{Kind, Name, Operand, Term};
+use effect_term::{Kind, Name, Operand, Term, Value};
 use std::alloc::{AllocError, Global};
 use std::test::Fail;
 use term_parse::{parse, print};
@@ -68,13 +68,17 @@ fn seq_text(
     Ok(text)
 }
 
+const fn say_one() -> Term {
+    Term::Say(Operand::Number(Value::from_i32(1)))
+}
+
 /// So many `say` and then so many `cede`, of which two stand apart.
 fn seq(alloc: Global, says: usize, cedes: usize) -> Result<Term, AllocError> {
-    let first = Box::new(alloc, Term::Say(Operand::Number(1)))?;
-    let second = Box::new(alloc, Term::Say(Operand::Number(1)))?;
+    let first = Box::new(alloc, say_one())?;
+    let second = Box::new(alloc, say_one())?;
     let mut more = Vec::new(alloc);
     for _ in 2..says {
-        more.push(Term::Say(Operand::Number(1)))?;
+        more.push(say_one())?;
     }
     for _ in 0..cedes {
         more.push(Term::Cede)?;

@@ -8,8 +8,14 @@ use term_parse::{parse, print};
 #[test]
 fn each_form_is_read_and_printed(rt: HostRuntime) -> Result<(), Fail> {
     let table: [(&[u8], &[u8]); 34] = [
-        (b" ( pure\t-2147483648\r\n) ", b"(pure -2147483648)"),
-        (b"(raise 2147483647)", b"(raise 2147483647)"),
+        (
+            b" ( pure\t-4611686018427387904\r\n) ",
+            b"(pure -4611686018427387904)",
+        ),
+        (
+            b"(raise 4611686018427387903)",
+            b"(raise 4611686018427387903)",
+        ),
         (b"(let x(cede)(pure x))", b"(let v0 (cede) (pure v0))"),
         (b"(seq (cede) (never))", b"(seq (cede) (never))"),
         (
@@ -98,7 +104,10 @@ fn each_form_is_read_and_printed(rt: HostRuntime) -> Result<(), Fail> {
 /// Canonical texts, which printing gives back.
 #[test]
 fn canonical_texts_stay_as_they_are(rt: HostRuntime) -> Result<(), Fail> {
-    let table: [&[u8]; 9] = [
+    let table: [&[u8]; 12] = [
+        b"(pure 2147483648)",
+        b"(add 4611686018427387903 -4611686018427387904)",
+        b"(add 4611686018427387900 -4611686018427387899)",
         b"(let v0 (pure 1) (pure v0))",
         b"(let v0 (cede) (handle (if0 v0 (repeat 3 (cede)) (forever (cede))) v1 (add v0 v1)))",
         b"(uncancelable p0 (poll p0 (oncancel (cede) (canceled))))",
@@ -106,7 +115,8 @@ fn canonical_texts_stay_as_they_are(rt: HostRuntime) -> Result<(), Fail> {
         b"(ref r0 5 (deferred d1 (seq (get r0) (set r0 1) (modify r0 2) (complete d1 3) (await d1))))",
         b"(bracketcase v0 (pure 1) (say v0) v1 (add v0 v1) v1 (raise v1) (guarantee (cede) (say v0)))",
         b"(bracketcase v0 (pure 1) (say v0) v1 (cede) v1 (never) (bracket v1 (cede) (say v1) (say v0)))",
-        b"(let v0 (cede) (bracketfull p1 v1 (uncancelable p2 (poll p2 (poll p1 (say v0)))) (say v1) v2 (say v2) v2 (cede) (never)))",
+        b"(let v0 (cede) (bracketfull p1 v1 (uncancelable p2 (poll p2 (poll p1 (say v0)))) (say v1) v2 (say v2) v2 \
+        (cede) (never)))",
         b"(both (race (cede) (never)) (pure 2) v0 v1 (add v0 v1))",
     ];
     for text in table {

@@ -19,12 +19,17 @@ const ANSWERS: &[Answers<'static>] = &[
         cases: &[
             (
                 "greatest value",
-                "(pure 2147483647)",
+                "(pure 4611686018427387903)",
                 "ok size 1 nest 1 masks 0\n",
             ),
             (
                 "least value",
-                "(pure -2147483648)",
+                "(pure -4611686018427387904)",
+                "ok size 1 nest 1 masks 0\n",
+            ),
+            (
+                "value of more than 32 bits",
+                "(pure 2147483648)",
                 "ok size 1 nest 1 masks 0\n",
             ),
             (
@@ -61,7 +66,17 @@ const ANSWERS: &[Answers<'static>] = &[
             ),
             (
                 "value above the greatest",
-                "(pure 2147483648)",
+                "(pure 4611686018427387904)",
+                "refused 8 BadNumber at 6\n",
+            ),
+            (
+                "value below the least",
+                "(pure -4611686018427387905)",
+                "refused 8 BadNumber at 6\n",
+            ),
+            (
+                "value of more digits than a word holds",
+                "(pure 18446744073709551617)",
                 "refused 8 BadNumber at 6\n",
             ),
             ("no such word", "(foo 1)", "refused 6 UnknownWord at 1\n"),
@@ -182,7 +197,8 @@ const ANSWERS: &[Answers<'static>] = &[
             (
                 "the expansion of a guarantee",
                 "(guarantee (say 1) (say 2))",
-                "(uncancelable p0 (let v1 (handle (oncancel (poll p0 (say 1)) (say 2)) v1 (seq (handle (say 2) v2 (pure 0)) (raise v1))) (seq (say 2) (pure v1))))\n",
+                "(uncancelable p0 (let v1 (handle (oncancel (poll p0 (say 1)) (say 2)) v1 (seq (handle (say 2) v2 \
+                (pure 0)) (raise v1))) (seq (say 2) (pure v1))))\n",
             ),
             (
                 "core words are expanded part by part",

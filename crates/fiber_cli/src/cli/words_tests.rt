@@ -35,12 +35,20 @@ const WRONG: &[(&str, &[&str], &str)] = &[
     (
         "a schedule is required",
         &["fiber_cli", "replay"],
-        "error: the following required arguments were not provided:\n  --schedule <TEXT>\n\nUsage: fiber_cli replay --schedule <TEXT>\n\nFor more information, try '--help'.\n",
+        "error: the following required arguments were not provided:\
+        \n  --schedule <TEXT>\
+        \n\nUsage: fiber_cli replay --schedule <TEXT>\
+        \n\nFor more information, try '--help'.\
+        \n",
     ),
     (
         "a subcommand is required",
         &["fiber_cli"],
-        "error: 'fiber_cli' requires a subcommand but one was not provided\n  [subcommands: check, show, replay, run, help]\n\nUsage: fiber_cli <COMMAND>\n\nFor more information, try '--help'.\n",
+        "error: 'fiber_cli' requires a subcommand but one was not provided\
+        \n  [subcommands: check, show, replay, run, help]\
+        \n\nUsage: fiber_cli <COMMAND>\
+        \n\nFor more information, try '--help'.\
+        \n",
     ),
     (
         "no such subcommand",
@@ -50,22 +58,34 @@ const WRONG: &[(&str, &[&str], &str)] = &[
     (
         "check takes no option",
         &["fiber_cli", "check", "--schedule", "0"],
-        "error: unexpected argument '--schedule' found\n\nUsage: fiber_cli check\n\nFor more information, try '--help'.\n",
+        "error: unexpected argument '--schedule' found\
+        \n\nUsage: fiber_cli check\
+        \n\nFor more information, try '--help'.\
+        \n",
     ),
     (
         "run takes no schedule",
         &["fiber_cli", "run", "--schedule", "0"],
-        "error: unexpected argument '--schedule' found\n\nUsage: fiber_cli run [OPTIONS]\n\nFor more information, try '--help'.\n",
+        "error: unexpected argument '--schedule' found\
+        \n\nUsage: fiber_cli run [OPTIONS]\
+        \n\nFor more information, try '--help'.\
+        \n",
     ),
     (
         "replay has no workers",
         &["fiber_cli", "replay", "--workers", "2", "--schedule", "0"],
-        "error: unexpected argument '--workers' found\n\nUsage: fiber_cli replay [OPTIONS] --schedule <TEXT>\n\nFor more information, try '--help'.\n",
+        "error: unexpected argument '--workers' found\
+        \n\nUsage: fiber_cli replay [OPTIONS] --schedule <TEXT>\
+        \n\nFor more information, try '--help'.\
+        \n",
     ),
     (
         "an option of run twice",
         &["fiber_cli", "run", "--workers", "2", "--workers", "2"],
-        "error: the argument '--workers <N>' cannot be used multiple times\n\nUsage: fiber_cli run [OPTIONS]\n\nFor more information, try '--help'.\n",
+        "error: the argument '--workers <N>' cannot be used multiple times\
+        \n\nUsage: fiber_cli run [OPTIONS]\
+        \n\nFor more information, try '--help'.\
+        \n",
     ),
     (
         "an option without its number",
@@ -75,7 +95,10 @@ const WRONG: &[(&str, &[&str], &str)] = &[
     (
         "an option twice",
         &["fiber_cli", "replay", "--schedule", "0", "--schedule", "0"],
-        "error: the argument '--schedule <TEXT>' cannot be used multiple times\n\nUsage: fiber_cli replay [OPTIONS] --schedule <TEXT>\n\nFor more information, try '--help'.\n",
+        "error: the argument '--schedule <TEXT>' cannot be used multiple times\
+        \n\nUsage: fiber_cli replay [OPTIONS] --schedule <TEXT>\
+        \n\nFor more information, try '--help'.\
+        \n",
     ),
 ];
 
@@ -83,23 +106,108 @@ const WRONG: &[(&str, &[&str], &str)] = &[
 const HELP: &[(&[&str], &str)] = &[
     (
         &["fiber_cli", "--help"],
-        "Runs effect programs on fibers. The program's text is read from standard input\n\nUsage: fiber_cli <COMMAND>\n\nCommands:\n  check   Tells whether the text is a program\n  show    Prints the expansion of the program\n  replay  Runs the program under a schedule, and prints its report\n  run     Runs the program on work-stealing threads, and prints its report\n  help    Print this message or the help of the given subcommand(s)\n\nOptions:\n  -h, --help     Print help\n  -V, --version  Print version\n\nExit status:\n   0  fiber 0 succeeded, the text was checked or shown, or help was asked for\n   1  fiber 0 errored\n   2  fiber 0 was canceled\n   3  fiber 0 has not ended\n  64  the words or the schedule are wrong\n  65  the text is refused\n  70  a run or a device failed, or memory ran out\n",
+        "Runs effect programs on fibers. The program's text is read from standard input\
+        \n\nUsage: fiber_cli <COMMAND>\
+        \n\nCommands:\
+        \n  check   Tells whether the text is a program\
+        \n  show    Prints the expansion of the program\
+        \n  replay  Runs the program under a schedule, and prints its report\
+        \n  run     Runs the program on work-stealing threads, and prints its report\
+        \n  help    Print this message or the help of the given subcommand(s)\
+        \n\nOptions:\
+        \n  -h, --help     Print help\
+        \n  -V, --version  Print version\
+        \n\nExit status:\
+        \n   0  fiber 0 succeeded, the text was checked or shown, or help was asked for\
+        \n   1  fiber 0 errored\
+        \n   2  fiber 0 was canceled\
+        \n   3  fiber 0 has not ended\
+        \n  64  the words or the schedule are wrong\
+        \n  65  the text is refused\
+        \n  70  a run or a device failed, or memory ran out\
+        \n",
     ),
     (
         &["fiber_cli", "check", "--help"],
-        "Tells whether the text is a program\n\nUsage: fiber_cli check\n\nOptions:\n  -h, --help  Print help\n\nExit status:\n   0  fiber 0 succeeded, the text was checked or shown, or help was asked for\n   1  fiber 0 errored\n   2  fiber 0 was canceled\n   3  fiber 0 has not ended\n  64  the words or the schedule are wrong\n  65  the text is refused\n  70  a run or a device failed, or memory ran out\n",
+        "Tells whether the text is a program\
+        \n\nUsage: fiber_cli check\
+        \n\nOptions:\
+        \n  -h, --help  Print help\
+        \n\nExit status:\
+        \n   0  fiber 0 succeeded, the text was checked or shown, or help was asked for\
+        \n   1  fiber 0 errored\
+        \n   2  fiber 0 was canceled\
+        \n   3  fiber 0 has not ended\
+        \n  64  the words or the schedule are wrong\
+        \n  65  the text is refused\
+        \n  70  a run or a device failed, or memory ran out\
+        \n",
     ),
     (
         &["fiber_cli", "show", "--help"],
-        "Prints the expansion of the program\n\nUsage: fiber_cli show\n\nOptions:\n  -h, --help  Print help\n\nExit status:\n   0  fiber 0 succeeded, the text was checked or shown, or help was asked for\n   1  fiber 0 errored\n   2  fiber 0 was canceled\n   3  fiber 0 has not ended\n  64  the words or the schedule are wrong\n  65  the text is refused\n  70  a run or a device failed, or memory ran out\n",
+        "Prints the expansion of the program\
+        \n\nUsage: fiber_cli show\
+        \n\nOptions:\
+        \n  -h, --help  Print help\
+        \n\nExit status:\
+        \n   0  fiber 0 succeeded, the text was checked or shown, or help was asked for\
+        \n   1  fiber 0 errored\
+        \n   2  fiber 0 was canceled\
+        \n   3  fiber 0 has not ended\
+        \n  64  the words or the schedule are wrong\
+        \n  65  the text is refused\
+        \n  70  a run or a device failed, or memory ran out\
+        \n",
     ),
     (
         &["fiber_cli", "replay", "--help"],
-        "Runs the program under a schedule, and prints its report\n\nUsage: fiber_cli replay [OPTIONS] --schedule <TEXT>\n\nOptions:\n      --schedule <TEXT>  Whose move is next: items F or F*K (K moves of fiber F) with one space between, as in \"0*2 1*9\". F is 0 to 999, K is 1 to 100000\n      --fibers <N>       How many fibers there may be: 1 to 1000, 1000 if not given\n      --refs <N>         How many refs there may be: 1 to 1000, 1000 if not given\n      --deferreds <N>    How many deferreds there may be: 1 to 1000, 1000 if not given\n      --count <N>        How often a fiber may change its own state: 1 to 262143, 262143 if not given\n  -h, --help             Print help\n\nExit status:\n   0  fiber 0 succeeded, the text was checked or shown, or help was asked for\n   1  fiber 0 errored\n   2  fiber 0 was canceled\n   3  fiber 0 has not ended\n  64  the words or the schedule are wrong\n  65  the text is refused\n  70  a run or a device failed, or memory ran out\n",
+        "Runs the program under a schedule, and prints its report\
+        \n\nUsage: fiber_cli replay [OPTIONS] --schedule <TEXT>\
+        \n\nOptions:\
+        \n      --schedule <TEXT>  Whose move is next: items F or F*K (K moves of fiber F) with one space between, as \
+        in \"0*2 1*9\". F is 0 to 999, K is 1 to 100000\
+        \n      --fibers <N>       How many fibers there may be: 1 to 1000, 1000 if not given\
+        \n      --refs <N>         How many refs there may be: 1 to 1000, 1000 if not given\
+        \n      --deferreds <N>    How many deferreds there may be: 1 to 1000, 1000 if not given\
+        \n      --count <N>        How often a fiber may change its own state: 1 to 1099511627775, 1099511627775 if \
+        not given\
+        \n  -h, --help             Print help\
+        \n\nExit status:\
+        \n   0  fiber 0 succeeded, the text was checked or shown, or help was asked for\
+        \n   1  fiber 0 errored\
+        \n   2  fiber 0 was canceled\
+        \n   3  fiber 0 has not ended\
+        \n  64  the words or the schedule are wrong\
+        \n  65  the text is refused\
+        \n  70  a run or a device failed, or memory ran out\
+        \n",
     ),
     (
         &["fiber_cli", "run", "--help"],
-        "Runs the program on work-stealing threads, and prints its report\n\nUsage: fiber_cli run [OPTIONS]\n\nOptions:\n      --workers <N>    How many workers there are, threads that move fibers and steal them from one another: 1 to 16, 4 if not given\n      --fibers <N>     How many fibers there may be: 1 to 1000, 1000 if not given\n      --refs <N>       How many refs there may be: 1 to 1000, 1000 if not given\n      --deferreds <N>  How many deferreds there may be: 1 to 1000, 1000 if not given\n      --count <N>      How often a fiber may change its own state: 1 to 262143, 262143 if not given\n      --budget <N>     How many moves a worker makes of a fiber in one turn at most, after which another that is ready has its turn: 2 to 10000, 64 if not given\n      --moves <N>      How many moves fiber 0 may make, and each other fiber with those of its parent before it: 1 to 1000000, 100000 if not given. A fiber that has made them is reported as unended\n  -h, --help           Print help\n\nExit status:\n   0  fiber 0 succeeded, the text was checked or shown, or help was asked for\n   1  fiber 0 errored\n   2  fiber 0 was canceled\n   3  fiber 0 has not ended\n  64  the words or the schedule are wrong\n  65  the text is refused\n  70  a run or a device failed, or memory ran out\n",
+        "Runs the program on work-stealing threads, and prints its report\
+        \n\nUsage: fiber_cli run [OPTIONS]\
+        \n\nOptions:\
+        \n      --workers <N>    How many workers there are, threads that move fibers and steal them from one \
+        another: 1 to 16, 4 if not given\
+        \n      --fibers <N>     How many fibers there may be: 1 to 1000, 1000 if not given\
+        \n      --refs <N>       How many refs there may be: 1 to 1000, 1000 if not given\
+        \n      --deferreds <N>  How many deferreds there may be: 1 to 1000, 1000 if not given\
+        \n      --count <N>      How often a fiber may change its own state: 1 to 1099511627775, 1099511627775 if not \
+        given\
+        \n      --budget <N>     How many moves a worker makes of a fiber in one turn at most, after which another \
+        that is ready has its turn: 2 to 10000, 64 if not given\
+        \n      --moves <N>      How many moves fiber 0 may make, and each other fiber with those of its parent \
+        before it: 1 to 1000000, 100000 if not given. A fiber that has made them is reported as unended\
+        \n  -h, --help           Print help\
+        \n\nExit status:\
+        \n   0  fiber 0 succeeded, the text was checked or shown, or help was asked for\
+        \n   1  fiber 0 errored\
+        \n   2  fiber 0 was canceled\
+        \n   3  fiber 0 has not ended\
+        \n  64  the words or the schedule are wrong\
+        \n  65  the text is refused\
+        \n  70  a run or a device failed, or memory ran out\
+        \n",
     ),
 ];
 
@@ -138,9 +246,9 @@ const LIMITS: [Numbers; 4] = [
     },
     Numbers {
         name: "count",
-        taken: ["1", "01", "+1", "262143"],
-        refused: ["0", "262144", "4294967297"],
-        range: "1..=262143",
+        taken: ["1", "01", "+1", "1099511627775"],
+        refused: ["0", "1099511627776", "18446744073709551615"],
+        range: "1..=1099511627775",
     },
 ];
 
@@ -338,8 +446,10 @@ fn refuses_words_that_are_no_text(rt: HostRuntime) {
         "invalid UTF-8 was detected in one or more arguments",
         &mut ToWrite::new(&mut told),
     );
-    let text =
-        "error: invalid UTF-8 was detected in one or more arguments\n\nUsage: fiber_cli <COMMAND>\n\nFor more information, try '--help'.\n";
+    let text = "error: invalid UTF-8 was detected in one or more arguments\
+        \n\nUsage: fiber_cli <COMMAND>\
+        \n\nFor more information, try '--help'.\
+        \n";
     assert_eq!(rt; told.as_slice(), text.as_bytes());
     assert_eq!(rt; status.code(), 64);
 }

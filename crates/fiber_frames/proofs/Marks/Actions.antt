@@ -1,7 +1,7 @@
 -- What a row of a word without parts makes: a value, an error or such a word, no child, and no mark but that of `say`.
 use Rattle.std.proofs.Common.{ℕ, true, false, if◌then◌else◌, List, [], ◌∷◌, Option, Some, None}
 use Rattle.std.specs.Prelude.{ℤ, pos, ◌+ℤ◌}
-use Rattle.derived_ops.specs.Tree.{Act, Action, Add, Await, Canceled, Cede, Complete, Ending, Get, Handle, Modify, Never, Number, Pure, Raise, Request, Say, Set, Tree, Value}
+use Rattle.derived_ops.specs.Tree.{Act, Action, Add, Await, Canceled, Cede, Complete, Ending, Get, Handle, Modify, Never, Number, Pure, Raise, Request, Say, Set, Tree, Operand}
 use Rattle.effect_term.specs.declared.reply.Outcome.{Outcome}
 use Rattle.effect_term.specs.declared.reply.Reply.{Reply}
 use Rattle.fiber_frames.specs.Rows.{Born, Ceded, Ended, Kind, Plain, Row, Waited, action_row, after_end, after_read, fits, is_ended, number_of, outcome_in, read_in, sum_or_raise, unit, wait}
@@ -11,8 +11,8 @@ use Rattle.fiber_frames.specs.declared.mark.Mark.TheVariants as mark
 
 -- a value, an error, or a word without parts
 pub data Simple : Tree → Type 0 where
-  a_value : (v : Value) → Simple (Pure v)
-  an_error : (v : Value) → Simple (Raise v)
+  a_value : (v : Operand) → Simple (Pure v)
+  an_error : (v : Operand) → Simple (Raise v)
   an_action : (c : Action) → Simple (Act c)
 
 -- no mark, or that of `say`
@@ -40,7 +40,7 @@ pub wait_none : {T : Type 0} (o : Option T) → NoBirth (wait o)
 wait_none None = tt
 wait_none (Some x) = tt
 
-pub simple_case : (P : Tree → Type 0) → ((v : Value) → P (Pure v)) → ((v : Value) → P (Raise v)) → ((c : Action) → P (Act c)) → (t : Tree) → Simple t → P t
+pub simple_case : (P : Tree → Type 0) → ((v : Operand) → P (Pure v)) → ((v : Operand) → P (Raise v)) → ((c : Action) → P (Act c)) → (t : Tree) → Simple t → P t
 simple_case P f h g _ (a_value v) = f v
 simple_case P f h g _ (an_error v) = h v
 simple_case P f h g _ (an_action c) = g c

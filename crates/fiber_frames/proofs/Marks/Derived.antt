@@ -2,7 +2,7 @@
 use Rattle.std.proofs.Common.{◌≡◌, ◌≢◌, ℕ, ◌+◌, ◌≤◌, ◌⊎◌, inl, inr, pos, if◌then◌else◌, List, [], ◌∷◌, Option, Some, None, refl, sym, ap, subst, arith}
 use Rattle.std.proofs.lemmas.Bool.{eq-eqb}
 use Rattle.derived_ops.specs.Expansion.{bracket_case, in_order}
-use Rattle.derived_ops.specs.Tree.{Handled, Last, Mask, More, Named, Note, Number, On_cancel, Pair, Poll, Pure, Raise, Released, Releasing, Rest, Seq, Slot, Tree, Value}
+use Rattle.derived_ops.specs.Tree.{Handled, Last, Mask, More, Named, Note, Number, On_cancel, Pair, Poll, Pure, Raise, Released, Releasing, Rest, Seq, Slot, Tree, Operand}
 use Rattle.fiber_frames.proofs.Marks.Cutting.{Active}
 use Rattle.fiber_frames.proofs.Marks.Opened.{Freeing, Held}
 use Rattle.fiber_frames.proofs.Marks.Typed.{Fine, If_ends, In, Leads, Masks, Stack, Typed, with_slot}
@@ -59,10 +59,10 @@ module _ (i : ℕ) (P : Masks) (a : Mask) (up : List Mask) (k : Option Stack) (s
   abbrev H : Stack
   H = Held p ∷ s
 
-  free_raise : (n : Option Stack) (v : Value) → Typed i P (a ∷ up) k F n (Some s) (freed_and p (Raise v))
+  free_raise : (n : Option Stack) (v : Operand) → Typed i P (a ∷ up) k F n (Some s) (freed_and p (Raise v))
   free_raise n v = (Some s, known, (tt, here, s, refl, refl, tt), (tt, refl))
 
-  free_pure : (x : Option Stack) (v : Value) → Typed i P (a ∷ up) k F (Some s) x (freed_and p (Pure v))
+  free_pure : (x : Option Stack) (v : Operand) → Typed i P (a ∷ up) k F (Some s) x (freed_and p (Pure v))
   free_pure x v = (Some s, known, (tt, here, s, refl, refl, tt), (tt, refl))
 
   release_typed : (o : Rest) (n x : Option Stack) (e : Tree) (w : ℕ) (h rest : Tree) → Typed i P (a ∷ up) None F (Some F) (Some F) e → Typed i P (a ∷ up) k F (Some F) x h → Typed i P (a ∷ up) k F n x rest → Typed i P (a ∷ up) k H n x (released_by o p e w h rest)

@@ -2,7 +2,7 @@
 use Rattle.std.proofs.Common.{◌≡◌, ◌≢◌, ℕ, ◌+◌, ◌≤◌, ◌<◌, inl, inr, Bool, true, false, if◌then◌else◌, List, [], ◌∷◌, Some, None, refl, sym, ap, ◌∙◌, subst, arith}
 use Rattle.std.proofs.lemmas.Bool.{ne_eqb}
 use Rattle.derived_ops.specs.Expansion.{bracket_case}
-use Rattle.derived_ops.specs.Tree.{Act, Action, Cancel, Handle, Handled, If0, Join, Let, Loop, Make, Maker, Mask, Named, On_cancel, Pair, Poll, Pure, Raise, Rest, Seq, Start, Tree, Turns, Uncancelable, Value}
+use Rattle.derived_ops.specs.Tree.{Act, Action, Cancel, Handle, Handled, If0, Join, Let, Loop, Make, Maker, Mask, Named, On_cancel, Pair, Poll, Pure, Raise, Rest, Seq, Start, Tree, Turns, Uncancelable, Operand}
 use Rattle.fiber_frames.proofs.Marks.Cutting.{Active, Static, only, spends}
 use Rattle.fiber_frames.proofs.Marks.Derived.{Neutral, Safe, bracket_neutral, named_ne, pair_named, safe_at, safe_fine}
 use Rattle.fiber_frames.proofs.Marks.Regions.{same_true}
@@ -42,10 +42,10 @@ part_down V d c t l h =
     }
 
 module _ (V : Masks) (d : ℕ) where
-  pub part_pure : (v : Value) → Part V d (Pure v)
+  pub part_pure : (v : Operand) → Part V d (Pure v)
   part_pure v = record { neutral = λ i P up k s vp fresh known safe. (safe_fine V d up k s safe, refl); static = tt; unspent = λ q b. refl }
 
-  pub part_raise : (v : Value) → Part V d (Raise v)
+  pub part_raise : (v : Operand) → Part V d (Raise v)
   part_raise v = record { neutral = λ i P up k s vp fresh known safe. (safe_fine V d up k s safe, refl); static = tt; unspent = λ q b. refl }
 
   pub part_act : (a : Action) → Part V d (Act a)
@@ -78,7 +78,7 @@ module _ (V : Masks) (d : ℕ) where
         unspent = λ q l. omega (arith, he.unspent q l, hb.unspent q l);
       }
 
-  pub part_if0 : (v : Value) (e b : Tree) → Part V d e → Part V d b → Part V d (If0 v e b)
+  pub part_if0 : (v : Operand) (e b : Tree) → Part V d e → Part V d b → Part V d (If0 v e b)
   part_if0 v e b he hb =
       record {
         neutral = λ i P up k s vp fresh known safe. (safe_fine V d up k s safe, he.neutral i P up k s vp fresh known safe, hb.neutral i P up k s vp fresh known safe);

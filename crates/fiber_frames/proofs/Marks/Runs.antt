@@ -3,7 +3,7 @@ use Rattle.std.proofs.Common.{◌≡◌, ◌≢◌, ◌⊎◌, inl, inr, ℕ, �
 use Rattle.std.proofs.lemmas.Bool.{eqb-true}
 use Rattle.std.proofs.lemmas.List.{append-nil}
 use Rattle.std.specs.Prelude.{◌&&◌}
-use Rattle.derived_ops.specs.Tree.{Guarded, Handled, Let, Mask, Masked, Pair, Polled, Seq, Tree, Value}
+use Rattle.derived_ops.specs.Tree.{Guarded, Handled, Let, Mask, Masked, Pair, Polled, Seq, Tree, Operand}
 use Rattle.effect_term.specs.declared.reply.Outcome.{Outcome}
 use Rattle.effect_term.specs.declared.reply.Reply.{Reply}
 use Rattle.fiber_frames.proofs.Marks.Actions.{If_born}
@@ -139,7 +139,7 @@ finals_live : (z : ℕ) (gs : List Tree) → AllStatic gs → LiveRun (Final z g
 finals_live z [] h = tt
 finals_live z (g ∷ gs) h = (static_live g h.0, h.1)
 
-one_dropped : (v : Value) → NoCut (mark.Dropped (number_of v) ∷ [])
+one_dropped : (v : Operand) → NoCut (mark.Dropped (number_of v) ∷ [])
 one_dropped v = elim [ inl e ↦ cc | inr e ↦ e ]
 
 final_rest : (f : Fiber) (z : ℕ) (t : Tree) (gs : List Tree) (E : End) (a : Row Tree) → Remains f.number f.next (Final z (t ∷ gs)) f.marks → Saves f.number f.next t a → Live a.becomes → RestOf (reduced f (root_row f.number f.next (At_final z gs) E a))

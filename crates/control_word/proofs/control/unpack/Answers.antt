@@ -1,23 +1,18 @@
-use Rattle.std.proofs.Common.{◌^◌, ◌<◌, sym, ap, ◌∙◌, arith, eqb}
-use Rattle.std.proofs.lemmas.Int.{of_z-to_z}
-use Rattle.std.specs.Int.{w32, cast_signed, cast_unsigned}
+use Rattle.std.proofs.Common.{sym, ap, ◌∙◌, eqb}
 use Rattle.control_word.specs.Word.{control_of}
 use Rattle.control_word.proofs.Fields.{unpacked}
 use Rattle.control_word.proofs.control.unpack.Goals as goal
 
 pub returns-clause-fields : goal.returns-clause-fields
 unfolding control_of
-returns-clause-fields c =
-    let low : c.field-7.result < 2 ^ 32 = omega arith in
-    λ i. record {
-      count = c.field.ensures i;
-      depth = c.field-2.ensures i;
-      phase = c.field-3.ensures i;
-      kind = c.field-4.ensures i;
-      cancel = eqb (c.field-5.ensures i) 1;
-      waited = eqb (c.field-6.ensures i) 1;
-      value = (ap (λ z. cast_signed w32 (cast_unsigned w32 z)) c.cast_signed.ensures ∙ ap (cast_signed w32) (of_z-to_z w32 c.field-7.result low) ∙ ap (cast_signed w32) c.field-7.ensures) i;
-    }
+returns-clause-fields c = λ i. record {
+  count = c.field.ensures i;
+  depth = c.field-2.ensures i;
+  phase = c.field-3.ensures i;
+  kind = c.field-4.ensures i;
+  cancel = eqb (c.field-5.ensures i) 1;
+  waited = eqb (c.field-6.ensures i) 1;
+}
 
 pub returns-clause-inverse : goal.returns-clause-inverse
 returns-clause-inverse c k h e = returns-clause-fields c ∙ ap control_of (sym e) ∙ unpacked k h

@@ -10,7 +10,9 @@ const ORDER: &[Replay<'static>] = &[Replay {
     program: "(bracket a (pure 1) (bracket b (pure 2) (bracket c (pure 3) (canceled) (say c)) (say b)) (say a))",
     schedule: "0*200",
     status: 2,
-    report: "fiber 0 canceled: enter 0, acquired 0, enter 1, in 1, in 0, enter 2, acquired 2, enter 3, in 3, in 2, enter 4, acquired 4, enter 5, in 5, in 4, cut, releasing 4, say 3, released 4, releasing 2, say 2, released 2, releasing 0, say 1, released 0\n",
+    report: "fiber 0 canceled: enter 0, acquired 0, enter 1, in 1, in 0, enter 2, acquired 2, enter 3, in 3, in 2, \
+        enter 4, acquired 4, enter 5, in 5, in 4, cut, releasing 4, say 3, released 4, releasing 2, say 2, released \
+        2, releasing 0, say 1, released 0\n",
 }];
 
 const FAILED_RELEASES: &[Replay<'static>] = &[
@@ -19,14 +21,16 @@ const FAILED_RELEASES: &[Replay<'static>] = &[
         program: "(bracket x (pure 1) (pure 2) (raise 8))",
         schedule: "0*99",
         status: 1,
-        report: "fiber 0 errored 8: enter 0, acquired 0, enter 1, in 1, in 0, out 0, out 1, releasing 0, released 0, leave 1, leave 0\n",
+        report: "fiber 0 errored 8: enter 0, acquired 0, enter 1, in 1, in 0, out 0, out 1, releasing 0, released 0, \
+            leave 1, leave 0\n",
     },
     Replay {
         rule: "an error of the release after an error is dropped",
         program: "(bracket x (pure 1) (raise 7) (raise 8))",
         schedule: "0*99",
         status: 1,
-        report: "fiber 0 errored 7: enter 0, acquired 0, enter 1, in 1, in 0, out 0, out 1, releasing 0, released 0, leave 1, leave 0\n",
+        report: "fiber 0 errored 7: enter 0, acquired 0, enter 1, in 1, in 0, out 0, out 1, releasing 0, released 0, \
+            leave 1, leave 0\n",
     },
     Replay {
         rule: "an error of the release after a cut is noted",
@@ -43,21 +47,24 @@ const CASES: &[Replay<'static>] = &[
         program: "(bracketcase x (pure 1) (pure 2) y (seq (say x) (say y)) z (say z) (say 9))",
         schedule: "0*99",
         status: 0,
-        report: "fiber 0 succeeded 2: enter 0, acquired 0, enter 1, in 1, in 0, out 0, out 1, releasing 0, say 1, say 2, released 0, leave 1, leave 0\n",
+        report: "fiber 0 succeeded 2: enter 0, acquired 0, enter 1, in 1, in 0, out 0, out 1, releasing 0, say 1, say \
+            2, released 0, leave 1, leave 0\n",
     },
     Replay {
         rule: "the release of an error sees value and code",
         program: "(bracketcase x (pure 1) (raise 7) y (say y) z (seq (say x) (say z)) (say 9))",
         schedule: "0*99",
         status: 1,
-        report: "fiber 0 errored 7: enter 0, acquired 0, enter 1, in 1, in 0, out 0, out 1, releasing 0, say 1, say 7, released 0, leave 1, leave 0\n",
+        report: "fiber 0 errored 7: enter 0, acquired 0, enter 1, in 1, in 0, out 0, out 1, releasing 0, say 1, say \
+            7, released 0, leave 1, leave 0\n",
     },
     Replay {
         rule: "the release of a cut sees the value",
         program: "(bracketcase x (pure 1) (canceled) y (say y) z (say z) (seq (say x) (say 9)))",
         schedule: "0*99",
         status: 2,
-        report: "fiber 0 canceled: enter 0, acquired 0, enter 1, in 1, in 0, cut, releasing 0, say 1, say 9, released 0\n",
+        report: "fiber 0 canceled: enter 0, acquired 0, enter 1, in 1, in 0, cut, releasing 0, say 1, say 9, released \
+            0\n",
     },
 ];
 
@@ -88,7 +95,8 @@ const ACQUISITIONS: &[Replay<'static>] = &[
         program: "(uncancelable p (bracket x (pure 5) (seq (canceled) (say 1)) (say x)))",
         schedule: "0*99",
         status: 2,
-        report: "fiber 0 canceled: enter 0, enter 1, acquired 1, enter 2, in 2, in 1, say 1, out 1, out 2, releasing 1, say 5, released 1, leave 2, leave 1, leave 0, cut\n",
+        report: "fiber 0 canceled: enter 0, enter 1, acquired 1, enter 2, in 2, in 1, say 1, out 1, out 2, releasing \
+            1, say 5, released 1, leave 2, leave 1, leave 0, cut\n",
     },
 ];
 
@@ -193,7 +201,8 @@ fn runs_a_program_of_the_most_masks(rt: HostRuntime) -> Result<(), Fail> {
         &words,
         program.as_str(),
         0,
-        "fiber 0 succeeded 0: enter 0, acquired 0, enter 1, in 1, in 0, out 0, out 1, releasing 0, released 0, leave 1, leave 0\n",
+        "fiber 0 succeeded 0: enter 0, acquired 0, enter 1, in 1, in 0, out 0, out 1, releasing 0, released 0, leave \
+        1, leave 0\n",
         "",
     );
     Ok(())

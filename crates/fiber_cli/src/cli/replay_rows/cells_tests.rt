@@ -5,10 +5,10 @@ use super::{Replay, expect_replays};
 const REFS: &[Replay<'static>] = &[
     Replay {
         rule: "modify gives the old value and wraps",
-        program: "(ref r 2147483647 (let a (modify r 1) (let b (get r) (seq (say a) (say b) (pure 0)))))",
+        program: "(ref r 4611686018427387903 (let a (modify r 1) (let b (get r) (seq (say a) (say b) (pure 0)))))",
         schedule: "0*99",
         status: 0,
-        report: "fiber 0 succeeded 0: say 2147483647, say -2147483648\n",
+        report: "fiber 0 succeeded 0: say 4611686018427387903, say -4611686018427387904\n",
     },
     Replay {
         rule: "set gives 0, and the next one reads it",
@@ -19,14 +19,16 @@ const REFS: &[Replay<'static>] = &[
     },
     Replay {
         rule: "refs are apart",
-        program: "(ref r 4 (ref s 5 (let a (modify s 10) (let b (get r) (let c (get s) (seq (say b) (say c) (pure a)))))))",
+        program: "(ref r 4 (ref s 5 (let a (modify s 10) (let b (get r) (let c (get s) (seq (say b) (say c) (pure \
+            a)))))))",
         schedule: "0*99",
         status: 0,
         report: "fiber 0 succeeded 5: say 4, say 15\n",
     },
     Replay {
         rule: "two fibers modify one ref",
-        program: "(ref r 0 (start f (let a (modify r 1) (say a)) (let b (modify r 2) (seq (say b) (join f x (get r) e (pure 0) (pure 0))))))",
+        program: "(ref r 0 (start f (let a (modify r 1) (say a)) (let b (modify r 2) (seq (say b) (join f x (get r) e \
+            (pure 0) (pure 0))))))",
         schedule: "0*6 1*2 0*2 1*9 0*30",
         status: 0,
         report: "fiber 0 succeeded 3: say 1\nfiber 1 succeeded 0: say 0\n",
@@ -36,7 +38,8 @@ const REFS: &[Replay<'static>] = &[
 const DEFERREDS: &[Replay<'static>] = &[
     Replay {
         rule: "only the first completion counts",
-        program: "(deferred d (let a (complete d 5) (let b (complete d 6) (let c (await d) (seq (say a) (say b) (pure c))))))",
+        program: "(deferred d (let a (complete d 5) (let b (complete d 6) (let c (await d) (seq (say a) (say b) (pure \
+            c))))))",
         schedule: "0*99",
         status: 0,
         report: "fiber 0 succeeded 5: say 1, say 0\n",

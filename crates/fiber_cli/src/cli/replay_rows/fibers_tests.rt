@@ -71,14 +71,16 @@ const JOINS: &[Replay<'static>] = &[
     },
     Replay {
         rule: "all who join an ended fiber find one outcome",
-        program: "(start f (pure 5) (start g (join f x (pure x) e (raise e) (pure -1)) (seq (join f x (say x) e (pure 0) (pure 0)) (join f x (say x) e (pure 0) (pure 0)) (join g x (pure x) e (raise e) (pure -1)))))",
+        program: "(start f (pure 5) (start g (join f x (pure x) e (raise e) (pure -1)) (seq (join f x (say x) e (pure \
+            0) (pure 0)) (join f x (say x) e (pure 0) (pure 0)) (join g x (pure x) e (raise e) (pure -1)))))",
         schedule: "0*4 2*4 1*2 2*4 0*30",
         status: 0,
         report: "fiber 0 succeeded 5: say 5, say 5\nfiber 1 succeeded 5\nfiber 2 succeeded 5\n",
     },
     Replay {
         rule: "the wait of a join can be canceled, which doesn't cancel the joined fiber",
-        program: "(start f (seq (cede) (cede) (pure 2)) (start g (join f x (pure x) e (pure 0) (pure 0)) (seq (cancel g) (join f x (pure x) e (pure 0) (pure -1)))))",
+        program: "(start f (seq (cede) (cede) (pure 2)) (start g (join f x (pure x) e (pure 0) (pure 0)) (seq (cancel \
+            g) (join f x (pure x) e (pure 0) (pure -1)))))",
         schedule: "0*4 2*4 0*9 2*9 0*9 1*20 0*20",
         status: 0,
         report: "fiber 0 succeeded 2: enter 0, leave 0\nfiber 1 succeeded 2\nfiber 2 canceled: cut\n",
@@ -109,7 +111,8 @@ const CANCELS: &[Replay<'static>] = &[
     },
     Replay {
         rule: "cancel of an ended fiber changes nothing, each time",
-        program: "(start f (pure 5) (seq (join f x (pure x) e (pure 0) (pure 0)) (cancel f) (cancel f) (join f x (pure x) e (raise e) (pure -1))))",
+        program: "(start f (pure 5) (seq (join f x (pure x) e (pure 0) (pure 0)) (cancel f) (cancel f) (join f x \
+            (pure x) e (raise e) (pure -1))))",
         schedule: "0*2 1*2 0*40",
         status: 0,
         report: "fiber 0 succeeded 5: enter 0, leave 0, enter 1, leave 1\nfiber 1 succeeded 5\n",
@@ -126,7 +129,9 @@ const CANCELS: &[Replay<'static>] = &[
         program: "(start f (never) (start g (cancel f) (seq (cancel g) (say 1))))",
         schedule: "0*4 2*9 0*9 1*9 2*9 0*9",
         status: 0,
-        report: "fiber 0 succeeded 0: enter 0, leave 0, say 1\nfiber 1 canceled: cut\nfiber 2 canceled: enter 0, leave 0, cut\n",
+        report: "fiber 0 succeeded 0: enter 0, leave 0, say 1\n\
+            fiber 1 canceled: cut\n\
+            fiber 2 canceled: enter 0, leave 0, cut\n",
     },
 ];
 
@@ -140,10 +145,14 @@ const STARTS: &[Replay<'static>] = &[
     },
     Replay {
         rule: "children have their parent's values, and their own masks",
-        program: "(let x (pure 7) (uncancelable p (start f (uncancelable q (say x)) (start g (start h (say x) (pure 1)) (pure 2)))))",
+        program: "(let x (pure 7) (uncancelable p (start f (uncancelable q (say x)) (start g (start h (say x) (pure \
+            1)) (pure 2)))))",
         schedule: "0*99 1*99 2*99 3*99",
         status: 0,
-        report: "fiber 0 succeeded 2: enter 0, leave 0\nfiber 1 succeeded 0: enter 0, say 7, leave 0\nfiber 2 succeeded 1\nfiber 3 succeeded 0: say 7\n",
+        report: "fiber 0 succeeded 2: enter 0, leave 0\n\
+            fiber 1 succeeded 0: enter 0, say 7, leave 0\n\
+            fiber 2 succeeded 1\n\
+            fiber 3 succeeded 0: say 7\n",
     },
 ];
 

@@ -8,17 +8,24 @@ use std::test::Fail;
 const HANDLERS: &[Replay<'static>] = &[
     Replay {
         rule: "a sum out of range raises 1001",
-        program: "(handle (add 2147483647 1) e (pure e))",
+        program: "(handle (add 4611686018427387903 1) e (pure e))",
         schedule: "0*99",
         status: 0,
         report: "fiber 0 succeeded 1001\n",
     },
     Replay {
         rule: "a sum below the range raises 1001",
-        program: "(add -2147483648 -1)",
+        program: "(add -4611686018427387904 -1)",
         schedule: "0*99",
         status: 1,
         report: "fiber 0 errored 1001\n",
+    },
+    Replay {
+        rule: "a sum of more than 32 bits is within the range",
+        program: "(add 2147483647 1)",
+        schedule: "0*99",
+        status: 0,
+        report: "fiber 0 succeeded 2147483648\n",
     },
     Replay {
         rule: "a handler doesn't see cancellation",

@@ -124,7 +124,8 @@ const TOGETHER: &[Law<'static>] = &[
     Law {
         source: "MonadCancelLaws.canceledSequencesOnCancelInOrder",
         left: "(oncancel (oncancel (canceled) (seq (say 1) (raise 5))) (say 2))",
-        right: "(uncancelable p (seq (handle (seq (say 1) (raise 5)) e (pure 0)) (handle (say 2) e (pure 0)) (canceled)))",
+        right: "(uncancelable p (seq (handle (seq (say 1) (raise 5)) e (pure 0)) (handle (say 2) e (pure 0)) \
+            (canceled)))",
     },
     Law {
         source: "GenSpawnLaws.raceCanceledIdentityLeft",

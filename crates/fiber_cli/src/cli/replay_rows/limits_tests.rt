@@ -169,7 +169,10 @@ const NUMBERS: &[Limited<'static>] = &[
         schedule: "0*4 1*2 0*99 2*2 0*99 3*2 0*99",
         option: "--fibers=4",
         status: 0,
-        report: "fiber 0 succeeded 0: say 1, say 1, say 1\nfiber 1 succeeded 1\nfiber 2 succeeded 1\nfiber 3 succeeded 1\n",
+        report: "fiber 0 succeeded 0: say 1, say 1, say 1\n\
+            fiber 1 succeeded 1\n\
+            fiber 2 succeeded 1\n\
+            fiber 3 succeeded 1\n",
     },
 ];
 
@@ -205,7 +208,8 @@ const LATE: &[Limited<'static>] = &[
         schedule: "0*6 1*99",
         option: "--count=7",
         status: 0,
-        report: "fiber 0 succeeded 0: say 1\nfiber 1 succeeded 0: enter 0, say 5, leave 0, enter 1, say 5, leave 1, enter 2, say 5, leave 2\n",
+        report: "fiber 0 succeeded 0: say 1\n\
+            fiber 1 succeeded 0: enter 0, say 5, leave 0, enter 1, say 5, leave 1, enter 2, say 5, leave 2\n",
     },
     Limited {
         rule: "a release that is begun isn't reported where it can't end",

@@ -78,7 +78,8 @@ const OTHER_FIBERS: &[Replay<'static>] = &[
     // The child's mask has the number of its parent's.
     Replay {
         rule: "a poll of one fiber does nothing in another, and a child begins unmasked",
-        program: "(uncancelable p (start f (uncancelable q (seq (canceled) (poll p (say 1)))) (join f x (pure 1) e (pure 2) (pure 3))))",
+        program: "(uncancelable p (start f (uncancelable q (seq (canceled) (poll p (say 1)))) (join f x (pure 1) e \
+            (pure 2) (pure 3))))",
         schedule: "0*10 1*20 0*10",
         status: 0,
         report: "fiber 0 succeeded 3: enter 0, leave 0\nfiber 1 canceled: enter 0, say 1, leave 0, cut\n",
@@ -140,14 +141,16 @@ const MOMENTS: &[Replay<'static>] = &[
         program: CANCELED_IN_A_MASK,
         schedule: "0*2 1*9 0*3 1*30 0*9",
         status: 0,
-        report: "fiber 0 succeeded 0: enter 0, leave 0\nfiber 1 canceled: enter 0, say 1, in 0, say 2, out 0, say 3, leave 0, cut\n",
+        report: "fiber 0 succeeded 0: enter 0, leave 0\n\
+            fiber 1 canceled: enter 0, say 1, in 0, say 2, out 0, say 3, leave 0, cut\n",
     },
     Replay {
         rule: "a request after the last look comes too late",
         program: CANCELED_IN_A_MASK,
         schedule: "0*2 1*13 0*3 1*30 0*9",
         status: 0,
-        report: "fiber 0 succeeded 0: enter 0, leave 0\nfiber 1 succeeded 0: enter 0, say 1, in 0, say 2, out 0, say 3, leave 0\n",
+        report: "fiber 0 succeeded 0: enter 0, leave 0\n\
+            fiber 1 succeeded 0: enter 0, say 1, in 0, say 2, out 0, say 3, leave 0\n",
     },
 ];
 

@@ -23,21 +23,25 @@ const OF_ONE_FIBER: &[Replay<'static>] = &[
         program: "(bracketfull p x (poll p (pure 1)) (pure x) y (say y) z (say 4) (say 5))",
         schedule: "0*99",
         status: 0,
-        report: "fiber 0 succeeded 1: enter 0, in 0, out 0, acquired 0, enter 1, in 1, in 0, out 0, out 1, releasing 0, say 1, released 0, leave 1, leave 0\n",
+        report: "fiber 0 succeeded 1: enter 0, in 0, out 0, acquired 0, enter 1, in 1, in 0, out 0, out 1, releasing \
+            0, say 1, released 0, leave 1, leave 0\n",
     },
     Replay {
         rule: "what was taken before the cut is the acquisition's own to give back",
-        program: "(bracketfull p x (seq (say 1) (oncancel (poll p (canceled)) (say 6))) (pure 2) y (say 3) z (say 4) (say 5))",
+        program: "(bracketfull p x (seq (say 1) (oncancel (poll p (canceled)) (say 6))) (pure 2) y (say 3) z (say 4) \
+            (say 5))",
         schedule: "0*99",
         status: 2,
         report: "fiber 0 canceled: enter 0, say 1, in 0, cut, say 6\n",
     },
     Replay {
         rule: "inside another mask the poll opens nothing",
-        program: "(uncancelable q (bracketfull p x (poll p (seq (canceled) (pure 1))) (pure x) y (say y) z (say 4) (say 5)))",
+        program: "(uncancelable q (bracketfull p x (poll p (seq (canceled) (pure 1))) (pure x) y (say y) z (say 4) \
+            (say 5)))",
         schedule: "0*99",
         status: 2,
-        report: "fiber 0 canceled: enter 0, enter 1, in 1, out 1, acquired 1, enter 2, in 2, in 1, out 1, out 2, releasing 1, say 1, released 1, leave 2, leave 1, leave 0, cut\n",
+        report: "fiber 0 canceled: enter 0, enter 1, in 1, out 1, acquired 1, enter 2, in 2, in 1, out 1, out 2, \
+            releasing 1, say 1, released 1, leave 2, leave 1, leave 0, cut\n",
     },
     Replay {
         rule: "an acquisition that fails inside its poll releases nothing",
@@ -52,7 +56,8 @@ const OF_ONE_FIBER: &[Replay<'static>] = &[
 const OF_TWO_FIBERS: &[Replay<'static>] = &[
     Replay {
         rule: "an acquisition that waits inside its poll is canceled there",
-        program: "(start f (bracketfull p x (poll p (never)) (say 1) y (say 2) z (say 3) (say 4)) (seq (cancel f) (say 5)))",
+        program: "(start f (bracketfull p x (poll p (never)) (say 1) y (say 2) z (say 3) (say 4)) (seq (cancel f) \
+            (say 5)))",
         schedule: "0*2 1*9 0*9 1*9 0*19",
         status: 0,
         report: "fiber 0 succeeded 0: enter 0, leave 0, say 5\nfiber 1 canceled: enter 0, in 0, cut\n",

@@ -59,7 +59,8 @@ const JOINS: &[Run<'static>] = &[
     },
     Run {
         rule: "two fibers join one, and each join gives its value",
-        program: "(start f (pure 5) (start g (join f x (pure x) e (raise e) (pure -1)) (seq (join f x (say x) e (pure 0) (pure 0)) (join f x (say x) e (pure 0) (pure 0)) (join g x (pure x) e (raise e) (pure -1)))))",
+        program: "(start f (pure 5) (start g (join f x (pure x) e (raise e) (pure -1)) (seq (join f x (say x) e (pure \
+            0) (pure 0)) (join f x (say x) e (pure 0) (pure 0)) (join g x (pure x) e (raise e) (pure -1)))))",
         status: 0,
         report: "fiber 0 succeeded 5: say 5, say 5\nfiber 1 succeeded 5\nfiber 2 succeeded 5\n",
     },
@@ -86,13 +87,15 @@ const CANCELS: &[Run<'static>] = &[
     },
     Run {
         rule: "a fiber that has ended is canceled at once, and again",
-        program: "(start f (pure 5) (seq (join f x (pure x) e (pure 0) (pure 0)) (cancel f) (cancel f) (join f x (pure x) e (raise e) (pure -1))))",
+        program: "(start f (pure 5) (seq (join f x (pure x) e (pure 0) (pure 0)) (cancel f) (cancel f) (join f x \
+            (pure x) e (raise e) (pure -1))))",
         status: 0,
         report: "fiber 0 succeeded 5: enter 0, leave 0, enter 1, leave 1\nfiber 1 succeeded 5\n",
     },
     Run {
         rule: "a child of a masked fiber begins unmasked, and its parent's poll undoes none of its masks",
-        program: "(uncancelable p (start f (uncancelable q (seq (canceled) (poll p (say 1)))) (join f x (pure 1) e (pure 2) (pure 3))))",
+        program: "(uncancelable p (start f (uncancelable q (seq (canceled) (poll p (say 1)))) (join f x (pure 1) e \
+            (pure 2) (pure 3))))",
         status: 0,
         report: "fiber 0 succeeded 3: enter 0, leave 0\nfiber 1 canceled: enter 0, say 1, leave 0, cut\n",
     },
@@ -101,7 +104,8 @@ const CANCELS: &[Run<'static>] = &[
 const CELLS: &[Run<'static>] = &[
     Run {
         rule: "no update of a ref is lost",
-        program: "(ref r 0 (start f (seq (modify r 1) (pure 0)) (start g (seq (modify r 1) (pure 0)) (seq (join f x (pure x) e (pure 0) (pure 0)) (join g x (pure x) e (pure 0) (pure 0)) (get r)))))",
+        program: "(ref r 0 (start f (seq (modify r 1) (pure 0)) (start g (seq (modify r 1) (pure 0)) (seq (join f x \
+            (pure x) e (pure 0) (pure 0)) (join g x (pure x) e (pure 0) (pure 0)) (get r)))))",
         status: 0,
         report: "fiber 0 succeeded 2\nfiber 1 succeeded 0\nfiber 2 succeeded 0\n",
     },

@@ -38,7 +38,8 @@ const REPORTS: [&str; 5] = [
     "fiber 0 succeeded 0: enter 0, leave 0\nfiber 1 canceled: cut\n",
     "fiber 0 succeeded 0: enter 0, leave 0\nfiber 1 canceled: enter 0, say 1, in 0, cut\n",
     "fiber 0 succeeded 0: enter 0, leave 0\nfiber 1 canceled: enter 0, say 1, in 0, say 2, cut\n",
-    "fiber 0 succeeded 0: enter 0, leave 0\nfiber 1 canceled: enter 0, say 1, in 0, say 2, out 0, say 3, leave 0, cut\n",
+    "fiber 0 succeeded 0: enter 0, leave 0\n\
+    fiber 1 canceled: enter 0, say 1, in 0, say 2, out 0, say 3, leave 0, cut\n",
     "fiber 0 succeeded 0: enter 0, leave 0\nfiber 1 succeeded 0: enter 0, say 1, in 0, say 2, out 0, say 3, leave 0\n",
 ];
 

@@ -5,30 +5,30 @@ use Rattle.outcome_trace.proofs.backwards.put_signed.Goals as goal
 
 pub write_digits-digits-requires : goal.write_digits-digits-requires
 write_digits-digits-requires c =
-    (omega (arith, length-decimal-le 10 c.from.result (omega arith) (omega arith) (omega arith)), search rules)
+    (omega (arith, length-decimal-le 19 c.unsigned_abs.result (omega arith) (omega arith) (omega arith)), search rules)
 
 pub put-sign-requires-clause-start : goal.put-sign-requires-clause-start
 put-sign-requires-clause-start c =
-    omega (arith, length-decimal-le 10 c.from.result (omega arith) (omega arith) (omega arith))
+    omega (arith, length-decimal-le 19 c.unsigned_abs.result (omega arith) (omega arith) (omega arith))
 
 pub put-requires-clause-start : goal.put-requires-clause-start
 put-requires-clause-start c =
-    omega (arith, length-decimal-le 10 c.from.result (omega arith) (omega arith) (omega arith))
+    omega (arith, length-decimal-le 19 c.unsigned_abs.result (omega arith) (omega arith) (omega arith))
 
 pub returns-then-number-lt0-clause-start : goal.returns-then-number-lt0-clause-start
 returns-then-number-lt0-clause-start c =
-    omega (arith, length-decimal-le 10 c.from.result (omega arith) (omega arith) (omega arith))
+    omega (arith, length-decimal-le 19 c.unsigned_abs.result (omega arith) (omega arith) (omega arith))
 
 pub returns-then-number-lt0-clause-ascii : goal.returns-then-number-lt0-clause-ascii
-returns-then-number-lt0-clause-ascii c = IsAscii-of_signed c.args.number c.ranges.number
+returns-then-number-lt0-clause-ascii c = IsAscii-of_signed c.args.value c.get-number.ensures.range
 
 pub put-requires-2-clause-start : goal.put-requires-2-clause-start
 put-requires-2-clause-start c =
-    omega (arith, length-decimal-le 10 c.from.result (omega arith) (omega arith) (omega arith))
+    omega (arith, length-decimal-le 19 c.unsigned_abs.result (omega arith) (omega arith) (omega arith))
 
 pub returns-clause-start : goal.returns-clause-start
 returns-clause-start c =
-    omega (arith, length-decimal-le 10 c.from.result (omega arith) (omega arith) (omega arith))
+    omega (arith, length-decimal-le 19 c.unsigned_abs.result (omega arith) (omega arith) (omega arith))
 
 pub returns-clause-ascii : goal.returns-clause-ascii
-returns-clause-ascii c = IsAscii-of_signed c.args.number c.ranges.number
+returns-clause-ascii c = IsAscii-of_signed c.args.value c.get-number.ensures.range

@@ -1,7 +1,4 @@
-use Rattle.std.proofs.Common.{ap, ◌∙◌, arith, rules}
-use Rattle.std.proofs.lemmas.Int.{to_z-of_z}
-use mir.Syntax.{w32}
-use Rattle.effect_term.specs.declared.term.Operand.TheVariants.{Number}
+use Rattle.std.proofs.Common.{arith}
 use Rattle.term_parse.specs.OpenForms.{innermost}
 use Rattle.term_parse.proofs.Steps.{fails_value, reads_number}
 use Rattle.term_parse.proofs.form.value.Goals as goal
@@ -11,7 +8,7 @@ returns-in_ok-with_piece-in-Number-clause-found c =
     λ at d n. (
       reads_number c.args.text.now at (innermost c.args.scope.now c.args.form.now) _ c.args.token
           c.in-Number.n c.number.result n c.in-Number.is c.requires.part
-          (c.number.ensures ∙ ap (λ z. Number z) (to_z-of_z w32 c.in-Number.n (search rules)))
+          c.number.ensures
           (c.in_ok-with_piece-in-Number.ensures c.args.scope.now),
       omega (arith, n.later, n.some),
       n.within,

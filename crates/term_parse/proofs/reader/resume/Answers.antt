@@ -15,8 +15,8 @@ returns c = λ text at o h l w.
     let added = subst (λ n. Adds (innermost t c.deref_mut-2.result.now) (pieces.Term c.in_ok-term.term) n
     (innermost t g)) part
     (c.in_ok-with_piece.ensures t) in (
-      open_closes text at c.args.next c.args.open.now.scope.items t c.args.open.now.form.value g b
-          c.args.open.now.around.items c.pop.new.self.items c.in_ok-term.term o c.in-Some.ensures.items h (search rules)
+      open_closes text at c.args.next c.args.stack.now.scope.items t c.args.stack.now.form.value g b
+          c.args.stack.now.around.items c.pop.new.self.items c.in_ok-term.term o c.in-Some.ensures.items h (search rules)
           (search rules) (subst (λ x. Adds (innermost t x) (pieces.Term c.in_ok-term.term) b.value.next
           (innermost t g)) same added)
           l w,

@@ -1,16 +1,16 @@
-use Rattle.std.proofs.Common.{◌+◌, arith, rules}
-use Rattle.term_parse.proofs.Lexing.{plain_none, digits_fail, digits_more, value_more, value_large}
+use Rattle.std.proofs.Common.{arith, rules}
+use Rattle.term_parse.proofs.Lexing.{plain_none, digits_fail, digits_more, value_more, value_over}
 use Rattle.term_parse.proofs.token.plain_value.Goals as goal
 
 pub returns-then-not-is_digit : goal.returns-then-not-is_digit
 returns-then-not-is_digit c = plain_none c.args.digits.now (digits_fail c.args.digits.now c.loop-digit.digit-index c.loop-digit-test.true (search rules))
 
-pub returns-then-value-gt-LARGEST : goal.returns-then-value-gt-LARGEST
-returns-then-value-gt-LARGEST c = value_large c.args.digits.now (c.loop-digit.digit-index + 1) _ (value_more c.args.digits.now c.loop-digit.digit-index c.loop-digit.value c.from.result c.loop-digit-test.true (search rules) (search rules) c.loop-digit.invariant.value) (omega arith)
-
 pub loop-digit-preserved : goal.loop-digit-preserved
 loop-digit-preserved c = record {
   digits = digits_more c.args.digits.now c.loop-digit.digit-index c.loop-digit-test.true c.loop-digit.invariant.digits (search rules);
   value = value_more c.args.digits.now c.loop-digit.digit-index c.loop-digit.value c.from.result c.loop-digit-test.true (search rules) (search rules) c.loop-digit.invariant.value;
-  small = omega arith;
 }
+
+pub returns-then-value : goal.returns-then-value
+returns-then-value c = value_over c.args.digits.now c.loop-digit.digit-index c.loop-digit.value c.loop-digit-test.true
+    c.loop-digit.invariant.value (omega arith)

@@ -1,22 +1,18 @@
-use Rattle.std.proofs.Common.{◌≡◌, ℕ, ◌<◌, ◌+◌, ◌%◌, ◌^◌, List, length, ap, sym, subst, ◌∙◌, get_or, refl, ℤ, pos, ◌+ℤ◌}
-use Rattle.std.specs.Int.{w32, int_wrap, cast_signed, cast_unsigned}
-use Rattle.std.specs.Int.RustNames.{FitsSigned}
-use Rattle.std.proofs.lemmas.Int.{wrapping_add_is, to_z-of_z}
+use Rattle.std.proofs.Common.{◌≡◌, ℕ, ◌<◌, ◌+◌, ◌%◌, ◌^◌, length, ap, sym, subst, ◌∙◌, get_or, refl, arith, ℤ, pos, ◌+ℤ◌}
 use Rattle.std.proofs.lemmas.List.{get_or_default}
 use Rattle.effect_term.specs.declared.reply.Reply.TheVariants.{Value}
+use Rattle.effect_term.specs.Values.{IsValue, value_bits, bits_value, wrapped}
+use Rattle.effect_term.proofs.ValueLaws.{bits_lt, sum_bits, from_bits}
 use Rattle.cell_registry.specs.Cells.{after, reply_of, refusal, IsAllowed}
 use Rattle.cell_registry.proofs.plain.PlainRegistry.modify.Goals as goal
 
--- an element that is read, and its sum modulo 2 ^ 32 with a number
-read : (xs : List ℤ) (r : ℕ) (x : ℤ) → x ≡ get_or xs r x → r < length xs → ((j : ℕ) → FitsSigned w32 (get_or xs j (pos 0))) → cast_signed w32 (cast_unsigned w32 x) ≡ get_or xs r (pos 0)
-read xs r x is within each =
-    let old : x ≡ get_or xs r (pos 0) = is ∙ get_or_default xs r x (pos 0) within in
-    to_z-of_z w32 x (subst (FitsSigned w32) (sym old) (each r)) ∙ old
-
-added : (xs : List ℤ) (r : ℕ) (x v : ℤ) → x ≡ get_or xs r x → r < length xs → ((j : ℕ) → FitsSigned w32 (get_or xs j (pos 0))) → FitsSigned w32 v → cast_signed w32 ((cast_unsigned w32 x + cast_unsigned w32 v) % 2 ^ 32) ≡ int_wrap w32 (get_or xs r (pos 0) +ℤ v)
-added xs r x v is within each fits =
-    let old : x ≡ get_or xs r (pos 0) = is ∙ get_or_default xs r x (pos 0) within in
-    wrapping_add_is w32 x v (subst (FitsSigned w32) (sym old) (each r)) fits ∙ ap (λ z. int_wrap w32 (z +ℤ v)) old
+-- the bits of a sum, in a word
+added : (x v : ℤ) (m n k : ℕ) → m ≡ value_bits x → n ≡ value_bits v → k ≡ (m + n) % 2 ^ 64 → IsValue x → IsValue v → bits_value (k % 2 ^ 63) ≡ wrapped (x +ℤ v)
+unfolding wrapped
+added x v m n k a b is f g =
+    let low = bits_lt x in let high = bits_lt v in
+    let same : k % 2 ^ 63 ≡ (value_bits x + value_bits v) % 2 ^ 63 = omega arith in
+    ap bits_value (same ∙ sum_bits x v f g)
 
 pub returns-clause-made : goal.returns-clause-made
 unfolding after reply_of refusal IsAllowed
@@ -26,8 +22,15 @@ returns-clause-made c =
     let sound = c.self.invariant.sound in
     let is : x ≡ get_or xs c.args.number x = c.index-old.ensures ∙ ap (λ j. get_or xs j x) c.from-place.ensures in
     let within : c.args.number < length xs = rw sound.refs (subst (λ (k : Rattle.cell_registry.specs.Plain.PlainView). c.args.number < k.limits.refs) (sym c.self.view_is) c.requires.may.allowed.0) in
+    let old : x ≡ get_or xs c.args.number (pos 0) = is ∙ get_or_default xs c.args.number x (pos 0) within in
+    let first = c.value_word.ensures in
+    let second = c.value_word-2.ensures in
+    let sum : c.word_value.result ≡ wrapped (get_or xs c.args.number (pos 0) +ℤ c.args.value) =
+    c.word_value.ensures.value
+    ∙ added x c.args.value c.value_word.result c.value_word-2.result _ first.bits second.bits refl (from_bits _ _ first.bits first.inverse) (from_bits _ _ second.bits second.inverse)
+    ∙ ap (λ z. wrapped (z +ℤ c.args.value)) old in
     rw (← c.self.view_is) record {
       room = refl;
-      reply = ap Value (read xs c.args.number x is within sound.each_ref);
-      left = rw (c.from-place.ensures, added xs c.args.number x c.args.value is within sound.each_ref c.ranges.value) refl;
+      reply = ap Value old;
+      left = rw (c.from-place.ensures, sum) refl;
     }

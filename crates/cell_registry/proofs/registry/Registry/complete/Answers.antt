@@ -1,6 +1,5 @@
-use Rattle.std.proofs.Common.{◌+◌, ◌^◌, ◌<◌, sym, ◌∙◌, ap, subst, refl}
-use Rattle.std.specs.Int.{w32, cast_unsigned}
-use Rattle.std.proofs.lemmas.Int.{to_z-of_z}
+use Rattle.std.proofs.Common.{◌+◌, ◌^◌, ◌<◌, sym, ap, subst, refl}
+use Rattle.effect_term.proofs.ValueLaws.{from_bits}
 use Rattle.cell_registry.specs.declared.limits.Limits.{Limits}
 use Rattle.cell_registry.specs.Passes.{RegistryView, PassView, OnlySees, pass_of}
 use Rattle.cell_registry.proofs.ValueTurns.{completes}
@@ -14,21 +13,21 @@ compare_exchange-found-requires c =
     let of = of_registry _ _ _ _ c.self.view_is c.pass.view_is c.requires.own in
     let place = c.deferred_place-place.ensures in
     let within = subst (λ (x : RegistryView). c.args.number < x.limits.deferreds) (sym c.self.view_is) c.requires.within in
-    (ap (λ (s : RegistryView). s.table) of, deferred_word _ _ _ c.args.number r within place, completes _ _ _ c.deferred_place-place.result _ _ c.args.number c.args.value p.0 (seat_has _ _ refl p.1) (subst (λ (k : Limits). c.args.number < k.deferreds) (sym r.key_is) within) (deferred_here _ _ _ c.args.number (sym r.key_is) place) c.ranges.value (ap (λ b. 2 ^ 32 + b) (c.value_bits-filled.ensures.bits ∙ ap (cast_unsigned w32) (to_z-of_z w32 c.args.value c.ranges.value))))
+    (ap (λ (s : RegistryView). s.table) of, deferred_word _ _ _ c.args.number r within place, completes _ _ _ c.deferred_place-place.result _ _ c.args.number c.args.value p.0 (seat_has _ _ refl p.1) (subst (λ (k : Limits). c.args.number < k.deferreds) (sym r.key_is) within) (deferred_here _ _ _ c.args.number (sym r.key_is) place) (from_bits _ _ c.value_word-filled.ensures.bits c.value_word-filled.ensures.inverse) (ap (λ b. 2 ^ 63 + b) c.value_word-filled.ensures.bits))
 
 pub invariant_of-pass : goal.invariant_of-pass
 invariant_of-pass c =
     let p = c.pass.invariant in
     let of = of_registry _ _ _ _ c.self.view_is c.pass.view_is c.requires.own in
     let place = deferred_here _ _ _ c.args.number (sym (ap (λ (s : RegistryView). s.limits) of)) c.deferred_place-place.ensures in
-    let t = c.compare_exchange-found.ensures.2.1 c.args.number place c.args.value c.ranges.value (ap (λ b. 2 ^ 32 + b) (c.value_bits-filled.ensures.bits ∙ ap (cast_unsigned w32) (to_z-of_z w32 c.args.value c.ranges.value))) in
+    let t = c.compare_exchange-found.ensures.2.1 c.args.number place c.args.value (from_bits _ _ c.value_word-filled.ensures.bits c.value_word-filled.ensures.inverse) (ap (λ b. 2 ^ 63 + b) c.value_word-filled.ensures.bits) in
     (c.compare_exchange-found.ensures.2.0, seated_still _ _ _ _ _ _ _ _ _ t.1 (call-prefix _ _ _ _ _ _ _ t.0) t.0.legal p.1)
 
 pub returns-clause-same : goal.returns-clause-same
 returns-clause-same c =
     let of = of_registry _ _ _ _ c.self.view_is c.pass.view_is c.requires.own in
     let place = deferred_here _ _ _ c.args.number (sym (ap (λ (s : RegistryView). s.limits) of)) c.deferred_place-place.ensures in
-    let t = c.compare_exchange-found.ensures.2.1 c.args.number place c.args.value c.ranges.value (ap (λ b. 2 ^ 32 + b) (c.value_bits-filled.ensures.bits ∙ ap (cast_unsigned w32) (to_z-of_z w32 c.args.value c.ranges.value))) in
+    let t = c.compare_exchange-found.ensures.2.1 c.args.number place c.args.value (from_bits _ _ c.value_word-filled.ensures.bits c.value_word-filled.ensures.inverse) (ap (λ b. 2 ^ 63 + b) c.value_word-filled.ensures.bits) in
     let old = c.pass.inside in
     let new = c.compare_exchange-found.new.seat in
     let P : PassView → Type 0 = λ h. OnlySees h (pass_of new.table_id new.me.0 old.number old.stage old.depth old.count old.saw) in

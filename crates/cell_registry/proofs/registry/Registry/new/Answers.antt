@@ -15,8 +15,8 @@ use Rattle.cell_registry.proofs.registry.Registry.new.Goals as goal
 pub of_words-requires : goal.of_words-requires
 of_words-requires c =
     let is = c.in_ok-words.ensures in
-    let items : c.as_slice.result.now ≡ set (replicate (c.args.fibers + c.args.refs + c.args.deferreds + 3) 0) 0 1 =
-    c.as_slice.ensures.value ∙ (λ j. set (is.items_if_clones_equal (λ y e. e) j) (c.claim_place.ensures j) 1) ∙ (λ j. set (replicate (c.from.ensures j + c.from-2.ensures j + c.from-3.ensures j + 3) 0) 0 1) in
+    let items : c.as_slice.result.now ≡ set (replicate (c.args.fibers + c.args.refs + c.args.deferreds + c.args.fibers + 3) 0) 0 1 =
+    c.as_slice.ensures.value ∙ (λ j. set (is.items_if_clones_equal (λ y e. e) j) (c.claim_place.ensures j) 1) ∙ (λ j. set (replicate (c.from.ensures j + c.from-2.ensures j + c.from-3.ensures j + c.from-values.ensures j + 3) 0) 0 1) in
     begins ℕ _ c.as_slice.result.now c.requires.limits items
 
 first : (k : Limits) (t : TableId) (me : Me ℕ Knowledge) → AreLimits k → me ≡ (first_knowledge k, []) → IsSeated me.0 (pass_of t me.0 0 Running 0 0 false)
