@@ -29,7 +29,7 @@ pub enum Order<'a> {
         /// The schedule's text: items `f` or `f*k`, separated by one space each.
         schedule: &'a str,
         /// How many fibers, refs and deferreds there may be (each 1 to 1000), and how often a fiber
-        /// may change its own state (1 to 262,143).
+        /// may change its own state (1 to 1,099,511,627,775).
         limits: Limits,
     },
 }

@@ -88,7 +88,7 @@ pub struct ReplayOrder<'a> {
     /// Whose move is next, from the first entry on.
     pub schedule: &'a [u16],
     /// How many fibers, refs and deferreds there may be (each 1 to 1000), and how often a fiber may
-    /// change its own state (1 to 262,143).
+    /// change its own state (1 to 1,099,511,627,775).
     pub limits: Limits,
     pub ghost ranges: { AreLimits limits },
 }
