@@ -30,7 +30,7 @@ impl Machine {
 
     // The result leaves a form that doesn't take it, whose frame is taken off.
     #[tactic(auto, using(crate::proofs::Reversing::reverse_push))]
-    #[inline(always)]
+    #[inline(never)]
     fn pass(&mut self, end: Leaf, frame: Frame) -> Result<(), AllocError>
         ensures state { OnOk result (state_of self.new ≡ passed (state_of self.old) end frame) }
         ensures kept { OnErr result (Kept self.old self.new) }
@@ -116,7 +116,7 @@ impl Machine {
 
     // The row of an error at the leaf.
     #[tactic(auto, using(crate::proofs::Reversing::reverse_push))]
-    #[inline(always)]
+    #[inline(never)]
     pub(crate) fn error_row(&mut self, code: Operand) -> Result<Turn, AllocError>
         requires under { Under (length self.old.env.items) (state_of self.old).frames }
         ensures state { OnOk result (state_of self.new ≡ error_row (state_of self.old) code
