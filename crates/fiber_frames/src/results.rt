@@ -59,7 +59,7 @@ impl Machine {
         ensures kept { OnErr result (Kept self.old self.new) }
     {
         match frame {
-            Frame::Let(next, level) => self.go_below(next, level, Entry::Value(number(value))),
+            Frame::Let(next, level) => self.go_below_value(next, level, number(value)),
             Frame::Seq(_, next, level) => self.go_to(next, level),
             Frame::Again(turns, body, level) => {
                 self.leaf = Leaf::Turns(turns, body, level);

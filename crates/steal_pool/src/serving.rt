@@ -19,6 +19,7 @@ impl<'g, 'f, G: Gate, C: FaultCell> Shared<'g, 'f, G, C> {
     /// queue: that one is taken, and this one is put last. Else the worker goes on with it. Where it has
     /// started a child, the child would be the other number: so this one is put back and queued, and the
     /// worker goes on with the child, which has never been in the bay.
+    #[inline(never)]
     pub(crate) fn serve<'b, 'a, R: Wait>(
         &self,
         rt: &R,
