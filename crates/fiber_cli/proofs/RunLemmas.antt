@@ -13,7 +13,7 @@ use Rattle.outcome_trace.specs.FaultLines.{fault_line}
 use Rattle.outcome_trace.specs.Orders.{Told}
 use Rattle.outcome_trace.specs.Text.{GoesOut, OnlyWriteFaults, is_write_fault}
 use Rattle.fiber_cli.specs.declared.requests.Request.{Request}
-use Rattle.fiber_cli.specs.Requests.{AsksHelp, GivesRequest, HasNoRequest, IsOutOfMemory, IsRefused, LacksMemory, ObeysRequest, Runs, RunsRequest, ShowsText, TellsKind, TellsWrong, no_memory, no_request, no_words, refused, request, shown, wrong}
+use Rattle.fiber_cli.specs.Requests.{AsksHelp, GivesRequest, LacksMemory, ObeysRequest, Runs, ShowsText, TellsKind, TellsWrong, no_memory, no_request, no_words, refused, request, shown, wrong}
 use Rattle.fiber_cli.specs.Words.{program}
 
 -- the command is one of those of which `clap` says how a parse fails

@@ -1,5 +1,5 @@
 -- What the words of a command line may be.
-use Rattle.std.specs.Prelude.{ℕ, true, codes, Some}
+use Rattle.std.specs.Prelude.{true, codes, Some}
 use Rattle.clap.specs.declared.builder.action.ArgAction.TheVariants.{Set}
 use Rattle.clap.specs.declared.builder.value_parser.ValueParser.TheVariants.{Unsigned}
 use Rattle.clap.specs.Simple.{on_top}

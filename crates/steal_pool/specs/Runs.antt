@@ -1,5 +1,5 @@
 -- The limits of a run, its faults, and what a turn hands out in it.
-use Rattle.std.specs.Prelude.{◌≡◌, ℕ, Option}
+use Rattle.std.specs.Prelude.{◌≡◌, Option}
 use Rattle.cell_registry.specs.Bands.{limit_of}
 use Rattle.cell_registry.specs.declared.limits.Limits.{Limits}
 use Rattle.cell_registry.specs.declared.limits.RunError.{RunError}

@@ -1,5 +1,4 @@
-use Rattle.std.proofs.Common.{◌≡◌, true, false, refl, Ok, Err}
-use Rattle.outcome_trace.specs.declared.status.Status.TheVariants.{Succeeded}
+use Rattle.std.proofs.Common.{◌≡◌, true, false}
 use Rattle.fiber_cli.specs.Requests.{shown}
 use Rattle.fiber_cli.proofs.RunLemmas.{help_of, text_shown, text_kept_back}
 use Rattle.fiber_cli.proofs.cli.usage.Goals as goal

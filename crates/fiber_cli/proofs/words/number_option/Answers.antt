@@ -1,4 +1,4 @@
-use Rattle.std.proofs.Common.{◌≡◌, ◌∙◌, ap, ℕ, pos, rules, Some}
+use Rattle.std.proofs.Common.{◌≡◌, ◌∙◌, ap, pos, rules, Some}
 use Rattle.std.specs.Ordering.{nat_cmp, ord_max}
 use Rattle.std.specs.Int.{saturate_unsigned, w64}
 use Rattle.clap.specs.declared.builder.action.ArgAction.TheVariants.{Set}

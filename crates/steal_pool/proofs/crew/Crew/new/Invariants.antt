@@ -1,4 +1,3 @@
-use Rattle.std.proofs.Common.{◌≡◌}
 use Rattle.wait_bay.specs.Bays.{IsSeatOf}
 use Rattle.steal_pool.proofs.crew.Crew.new.Given as goal
 
