@@ -1,4 +1,3 @@
-pub mod Reading
 pub mod Sums
 pub mod Walk
 pub mod Marks

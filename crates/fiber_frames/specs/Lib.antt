@@ -8,6 +8,7 @@ pub mod Reached
 pub mod Table
 pub mod Written
 pub mod Env
+pub mod Leaf
 pub mod Frames
 pub mod Machine
 pub mod Machines

@@ -1,5 +1,6 @@
 //! What a fiber is at: frames, the leaf, the finalizers that wait.
 
+use crate::kind::Kind;
 use crate::operand::{Handle, Mask};
 use crate::word::Rest;
 use derived_ops::Operand;
@@ -34,23 +35,19 @@ pub(crate) struct Pending {
     pub level: usize,
 }
 
-/// Where the next move happens.
+/// Where the next move happens: what stands there, and what its kind has of these.
 #[derive(Clone, Copy)]
-pub(crate) enum Leaf {
-    /// A word of the table, and its level.
-    At(usize, usize),
-    /// A value.
-    Value(Operand),
-    /// An error of this code.
-    Error(Operand),
-    /// The request of a `cancel`.
-    Request(Handle),
-    /// The wait of a `cancel`.
-    Ending(Handle),
-    /// A ref's first value.
-    Store(u16, Operand),
-    /// A loop that has so many turns left, with its body.
-    Turns(Value, usize, usize),
+pub(crate) struct Place {
+    pub kind: Kind,
+    /// The ref.
+    pub cell: u16,
+    /// The fiber of the `cancel`.
+    pub fiber: Handle,
+    /// The word, or the body of the loop, and its level.
+    pub index: usize,
+    pub level: usize,
+    /// The value, the error's code, the ref's first value, or the turns that are left.
+    pub value: Operand,
 }
 
 /// How far a fiber is.

@@ -15,6 +15,7 @@ mod asks;
 mod config;
 mod env;
 mod frame;
+mod kind;
 mod machine;
 mod mark;
 mod move_case;

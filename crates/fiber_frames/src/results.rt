@@ -1,20 +1,22 @@
 //! The rows of results: how a value or an error leaves the form around it.
 
-ghost use Rattle.std.specs.Prelude.{◌≡◌, ◌≤◌, ◌<◌, ◌^◌, length, OnOk, OnErr, IfOk};
+ghost use Rattle.std.specs.Prelude.{◌≡◌, length, OnOk, OnErr, IfOk};
 ghost use Rattle.effect_term.specs.declared.reply.Outcome.TheVariants as outcomes;
+ghost use Rattle.fiber_frames.specs.declared.frame.Frame.TheVariants as frames;
+ghost use Rattle.fiber_frames.specs.declared.kind.Kind.TheVariants as kinds;
 ghost use Rattle.derived_ops.specs.Cores.{value_in_core};
 ghost use Rattle.fiber_frames.specs.Rows.{number_of};
 ghost use Rattle.fiber_frames.specs.Frames.{Levels, Under};
-ghost use Rattle.fiber_frames.specs.Machine.{over, passed, given, thrown, value_at_root, error_at_root, root_turn};
-ghost use Rattle.fiber_frames.specs.Machine.{value_row, error_row, result_turn};
-ghost use Rattle.fiber_frames.specs.Machines.{state_of, Kept};
+ghost use Rattle.fiber_frames.specs.Machine.{over, passed, given, thrown, value_at_root, root_turn, went};
+ghost use Rattle.fiber_frames.specs.Machine.{error_row, result_turn};
+ghost use Rattle.fiber_frames.specs.Machines.{state_of, Kept, KeptWhere};
 
-use crate::frame::{Frame, Leaf, Stage, Turn};
+use crate::frame::{Frame, Stage, Turn};
+use crate::kind::Kind;
 use crate::machine::Machine;
 use crate::mark::Mark;
 use crate::operand::number;
 use crate::stack::push;
-use crate::word::Entry;
 use derived_ops::Operand;
 use effect_term::Outcome;
 use std::alloc::AllocError;
@@ -28,114 +30,148 @@ impl Machine {
         self.stage = Stage::Over(outcome);
     }
 
-    // The result leaves a form that doesn't take it, whose frame is taken off.
+    // The result leaves the mask of this number, whose frame is taken off.
     #[tactic(auto, using(crate::proofs::Reversing::reverse_push))]
     #[inline(never)]
-    fn pass(&mut self, end: Leaf, frame: Frame) -> Result<(), AllocError>
-        ensures state { OnOk result (state_of self.new ≡ passed (state_of self.old) end frame) }
+    fn leave_mask(&mut self, number: u64) -> Result<(), AllocError>
+        ensures state { OnOk result (state_of self.new ≡
+            passed (state_of self.old) (state_of self.old).leaf (frames.Masked number)) }
         ensures kept { OnErr result (Kept self.old self.new) }
     {
-        match frame {
-            Frame::Masked(number) => {
-                let _ = self.masks.pop();
-                self.note(Mark::Leave(number))?;
-            }
-            Frame::Polled(number) => {
-                push(&mut self.masks, number)?;
-                self.note(Mark::PollOut(number))?;
-            }
-            Frame::Let(_, _) | Frame::Seq(_, _, _) | Frame::Again(_, _, _) => {}
-            Frame::Handle(_, _) | Frame::Guarded(_, _) | Frame::Idle(_) => {}
-        }
-        self.leaf = end;
-        Ok(())
+        let _ = self.masks.pop();
+        self.note(Mark::Leave(number))
     }
 
-    // The value goes on under this frame, which is taken off.
-    #[inline(always)]
-    fn give_under(&mut self, value: Operand, frame: Frame) -> Result<(), AllocError>
-        requires level { Levels frame (length self.old.env.items) }
-        ensures state { OnOk result (state_of self.new ≡ given (state_of self.old) value frame) }
-        ensures kept { OnErr result (Kept self.old self.new) }
-    {
-        match frame {
-            Frame::Let(next, level) => self.go_below_value(next, level, number(value)),
-            Frame::Seq(_, next, level) => self.go_to(next, level),
-            Frame::Again(turns, body, level) => {
-                self.leaf = Leaf::Turns(turns, body, level);
-                Ok(())
-            }
-            Frame::Handle(_, _) | Frame::Guarded(_, _) => self.pass(Leaf::Value(value), frame),
-            Frame::Masked(_) | Frame::Polled(_) | Frame::Idle(_) => {
-                self.pass(Leaf::Value(value), frame)
-            }
-        }
-    }
-
-    // The error goes on under this frame, which is taken off.
-    #[inline(always)]
-    fn throw_under(&mut self, code: Operand, frame: Frame) -> Result<(), AllocError>
-        requires level { Levels frame (length self.old.env.items) }
-        ensures state { OnOk result (state_of self.new ≡ thrown (state_of self.old) code frame) }
-        ensures kept { OnErr result (Kept self.old self.new) }
-    {
-        match frame {
-            Frame::Handle(next, level) => self.go_below(next, level, Entry::Value(number(code))),
-            Frame::Let(_, _) | Frame::Seq(_, _, _) | Frame::Again(_, _, _) => {
-                self.pass(Leaf::Error(code), frame)
-            }
-            Frame::Guarded(_, _) | Frame::Masked(_) | Frame::Polled(_) | Frame::Idle(_) => {
-                self.pass(Leaf::Error(code), frame)
-            }
-        }
-    }
-
-    // The row of a value at the leaf.
+    // The result leaves the poll that undid the mask of this number, whose frame is taken off.
     #[tactic(auto, using(crate::proofs::Reversing::reverse_push))]
-    #[inline(always)]
-    pub(crate) fn value_row(&mut self, value: Operand) -> Result<Turn, AllocError>
-        requires under { Under (length self.old.env.items) (state_of self.old).frames }
-        ensures state { OnOk result (state_of self.new ≡ value_row (state_of self.old) value
-            (state_of self.old).frames) }
-        ensures turn { IfOk result (λ it. it ≡ result_turn (outcomes.Succeeded (number_of (value_in_core value)))
-            (state_of self.old).stage (state_of self.old).frames) }
+    #[inline(never)]
+    fn leave_poll(&mut self, number: u64) -> Result<(), AllocError>
+        ensures state { OnOk result (state_of self.new ≡
+            passed (state_of self.old) (state_of self.old).leaf (frames.Polled number)) }
         ensures kept { OnErr result (Kept self.old self.new) }
     {
-        if let Some(frame) = self.frames.pop() {
-            self.give_under(value, frame)?;
-            return Ok(Turn::Plain);
+        push(&mut self.masks, number)?;
+        self.note(Mark::PollOut(number))
+    }
+
+    // The value at the leaf goes on under this frame, which is taken off: at a word, which this gives, or where it is.
+    #[inline(always)]
+    pub(crate) fn give_under(&mut self, frame: Frame) -> Result<Option<(usize, usize)>, AllocError>
+        requires value { self.old.place.kind ≡ kinds.Value }
+        requires level { Levels frame (length self.old.env.items) }
+        ensures state { IfOk result (λ next. went (state_of self.new) next ≡
+            given (state_of self.old) self.old.place.value frame) }
+        ensures goes { IfOk result (λ next. KeptWhere next self.old self.new) }
+        ensures kept { OnErr result (Kept self.old self.new) }
+    {
+        match frame {
+            Frame::Seq(_, next, level) => return Ok(Some((next, level))),
+            Frame::Let(next, level) => {
+                let value = number(self.place.value);
+                self.go_below_value(next, level, value)?;
+            }
+            Frame::Again(turns, body, level) => {
+                self.place.kind = Kind::Turns;
+                self.place.value = Operand::Number(turns);
+                self.place.index = body;
+                self.place.level = level;
+            }
+            Frame::Handle(_, _) | Frame::Guarded(_, _) | Frame::Idle(_) => {}
+            Frame::Masked(number) => self.leave_mask(number)?,
+            Frame::Polled(number) => self.leave_poll(number)?,
         }
+        Ok(None)
+    }
+
+    // The error at the leaf goes on under this frame, which is taken off.
+    #[inline(always)]
+    fn throw_under(&mut self, frame: Frame) -> Result<(), AllocError>
+        requires error { self.old.place.kind ≡ kinds.Error }
+        requires level { Levels frame (length self.old.env.items) }
+        ensures state { OnOk result (state_of self.new ≡ thrown (state_of self.old) self.old.place.value frame) }
+        ensures kept { OnErr result (Kept self.old self.new) }
+    {
+        let code = number(self.place.value);
+        match frame {
+            Frame::Handle(next, level) => self.go_below_value(next, level, code),
+            Frame::Let(_, _) | Frame::Seq(_, _, _) | Frame::Again(_, _, _) => Ok(()),
+            Frame::Guarded(_, _) | Frame::Idle(_) => Ok(()),
+            Frame::Masked(number) => self.leave_mask(number),
+            Frame::Polled(number) => self.leave_poll(number),
+        }
+    }
+
+    // The row of a value at the leaf, below no frame.
+    #[inline(always)]
+    pub(crate) fn value_at_root(&mut self) -> Result<Turn, AllocError>
+        ensures state { OnOk result (state_of self.new ≡ value_at_root (state_of self.old) self.old.place.value
+            self.old.stage) }
+        ensures turn { IfOk result (λ it. it ≡
+            root_turn (outcomes.Succeeded (number_of (value_in_core self.old.place.value))) self.old.stage) }
+        ensures kept { OnErr result (Kept self.old self.new) }
+    {
         if let Stage::Final(mask) = self.stage {
             self.begin_finalizer(mask)?;
             return Ok(Turn::Plain);
         }
-        let number = number(value);
+        let number = number(self.place.value);
         self.end(Outcome::Succeeded(number));
         Ok(Turn::Ended(Outcome::Succeeded(number)))
     }
 
-    // The row of an error at the leaf.
+    // What the row of this result is to the runner.
+    #[tactic(auto, using(crate::proofs::Reversing::reverse_push))]
+    #[inline(always)]
+    fn result_turn(&self, outcome: Outcome) -> Turn
+        ensures { result ≡ result_turn outcome self.now.stage (state_of self.now).frames }
+    {
+        if self.frames.last().is_some() {
+            return Turn::Plain;
+        }
+        match self.stage {
+            Stage::Final(_) => Turn::Plain,
+            Stage::Runs | Stage::Drained(_) | Stage::Over(_) | Stage::Broken => {
+                Turn::Ended(outcome)
+            }
+        }
+    }
+
+    // The error at the leaf leaves the form around it, or ends the fiber.
     #[tactic(auto, using(crate::proofs::Reversing::reverse_push))]
     #[inline(never)]
-    pub(crate) fn error_row(&mut self, code: Operand) -> Result<Turn, AllocError>
+    fn throw(&mut self) -> Result<(), AllocError>
+        requires error { self.old.place.kind ≡ kinds.Error }
         requires under { Under (length self.old.env.items) (state_of self.old).frames }
-        ensures state { OnOk result (state_of self.new ≡ error_row (state_of self.old) code
+        ensures state { OnOk result (state_of self.new ≡ error_row (state_of self.old) self.old.place.value
             (state_of self.old).frames) }
-        ensures turn { IfOk result (λ it. it ≡ result_turn (outcomes.Errored (number_of (value_in_core code)))
-            (state_of self.old).stage (state_of self.old).frames) }
         ensures kept { OnErr result (Kept self.old self.new) }
     {
+        let code = number(self.place.value);
         if let Some(frame) = self.frames.pop() {
-            self.throw_under(code, frame)?;
-            return Ok(Turn::Plain);
+            return self.throw_under(frame);
         }
         if let Stage::Final(mask) = self.stage {
             self.begin_finalizer(mask)?;
-            self.note(Mark::Dropped(number(code)))?;
-            return Ok(Turn::Plain);
+            return self.note(Mark::Dropped(code));
         }
-        let number = number(code);
-        self.end(Outcome::Errored(number));
-        Ok(Turn::Ended(Outcome::Errored(number)))
+        self.end(Outcome::Errored(code));
+        Ok(())
+    }
+
+    // The row of an error at the leaf.
+    #[inline(always)]
+    pub(crate) fn error_row(&mut self) -> Result<Turn, AllocError>
+        requires error { self.old.place.kind ≡ kinds.Error }
+        requires under { Under (length self.old.env.items) (state_of self.old).frames }
+        ensures state { OnOk result (state_of self.new ≡ error_row (state_of self.old) self.old.place.value
+            (state_of self.old).frames) }
+        ensures turn { IfOk result (λ it. it ≡
+            result_turn (outcomes.Errored (number_of (value_in_core self.old.place.value)))
+            (state_of self.old).stage (state_of self.old).frames) }
+        ensures kept { OnErr result (Kept self.old self.new) }
+    {
+        let turn = self.result_turn(Outcome::Errored(number(self.place.value)));
+        self.throw()?;
+        Ok(turn)
     }
 }

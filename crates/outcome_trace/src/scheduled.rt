@@ -226,8 +226,7 @@ fn finish(registry: &mut PlainRegistry, by: u16, outcome: Outcome) -> Result<Rep
 }
 
 // The fault of a run in which this call of the fiber was refused.
-#[cold]
-#[inline(never)]
+#[inline(always)]
 fn fault(fiber: u16, error: CellError) -> RunError
     ensures { result ≡ fault_of fiber error }
 {
