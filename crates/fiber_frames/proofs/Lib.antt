@@ -5,6 +5,7 @@ pub mod Reversing
 pub mod Gathering
 pub mod Closing
 pub mod Tables
+pub mod WordKinds
 pub mod Writing
 pub mod Operands
 pub mod Levels
@@ -22,6 +23,7 @@ pub mod Asking
 pub mod Moving
 pub mod Beginning
 pub mod Children
+pub mod Valued
 pub mod Reaching
 pub mod Samples
 pub mod Rowing

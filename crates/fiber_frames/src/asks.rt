@@ -1,11 +1,17 @@
 //! The shared call that the row of a leaf wants.
 
 ghost use Rattle.std.specs.Prelude.{◌≡◌, true};
-ghost use Rattle.fiber_frames.specs.Table.{word_at};
-ghost use Rattle.fiber_frames.specs.Machine.{handle_at, is_asked, word_ask, result_ask, leaf_ask, row_ask};
+ghost use Rattle.fiber_frames.specs.Machine.{handle_at, number_at, is_inside, is_quiet};
+ghost use Rattle.fiber_frames.specs.Machine.{word_ask, result_ask, leaf_ask, row_ask};
+ghost use Rattle.derived_ops.specs.Cores.{value_in_core};
+ghost use Rattle.effect_term.specs.declared.reply.Outcome.TheVariants as outcomes;
+ghost use Rattle.fiber_frames.specs.declared.kind.Kind.TheVariants as kinds;
+ghost use Rattle.fiber_frames.specs.Rows.{number_of};
+ghost use Rattle.fiber_frames.specs.declared.ask.Ask.TheVariants as asks;
+ghost use Rattle.fiber_frames.specs.declared.word.Word.TheVariants as words;
 ghost use Rattle.fiber_frames.specs.Machines.{fiber_in, state_of};
 ghost use Rattle.fiber_frames.specs.Frames.{IsLeafAt, Sound};
-ghost use Rattle.fiber_frames.specs.Leaf.{kind_of, leaf_in};
+ghost use Rattle.fiber_frames.specs.Leaf.{leaf_in};
 ghost use Rattle.fiber_frames.specs.Fiber.{ask_of};
 
 use crate::ask::Ask;
@@ -14,64 +20,66 @@ use crate::kind::Kind;
 use crate::machine::{Machine, handle, mask, undoes};
 use crate::move_case::MoveCase;
 use crate::operand::number;
-use crate::table::word;
-use crate::word::Word;
-use derived_ops::Action;
-use effect_term::Outcome;
+use crate::table::{awaited, completed, got, joined, modified, polled, set};
+use derived_ops::Operand;
+use effect_term::{Outcome, Value};
 
 impl Machine {
-    // The number of a fiber, ref or deferred that is bound below this level.
+    // The number of a fiber, ref or deferred that is bound around the leaf.
     #[inline(always)]
-    fn handle_number(&self, level: usize, slot: u32) -> u16
-        ensures { result ≡ handle_at self.now.env.items level slot }
+    fn handle_number(&self, slot: u32) -> u16
+        ensures { result ≡ handle_at self.now.env.items self.now.place.level slot }
     {
-        handle(self.env.as_slice(), level, slot).number()
+        handle(self.env.as_slice(), self.place.level, slot).number()
     }
 
-    // The call of a word whose kind doesn't tell it.
+    // The number of a value that is bound around the leaf.
     #[inline(always)]
-    fn word_ask(&self, index: usize, level: usize) -> Ask
-        requires { is_asked (kind_of (word_at self.now.words.value.items index)) ≡ true }
-        ensures { result ≡ word_ask (state_of self.now) level (word_at self.now.words.value.items index) }
+    fn value_number(&self, value: Operand) -> Value
+        ensures { result ≡ number_at self.now.env.items self.now.place.level value }
     {
-        match word(self.words.as_slice(), index) {
-            Word::Act(Action::Get(it)) => Ask::Get(self.handle_number(level, *it)),
-            Word::Act(Action::Set(it, value)) => {
-                Ask::Set(self.handle_number(level, *it), self.number(level, *value))
-            }
-            Word::Act(Action::Modify(it, value)) => {
-                Ask::Modify(self.handle_number(level, *it), self.number(level, *value))
-            }
-            Word::Act(Action::Complete(it, value)) => {
-                Ask::Complete(self.handle_number(level, *it), self.number(level, *value))
-            }
-            Word::Act(Action::Await(it)) => Ask::Read(self.handle_number(level, *it)),
-            Word::Join(fiber, _, _) => Ask::Join(self.handle_number(level, *fiber)),
-            Word::Poll(slot) => {
-                let poll = mask(self.env.as_slice(), level, *slot);
-                if undoes(self.own, poll, self.masks.as_slice()) {
-                    Ask::Unmask
-                } else {
-                    Ask::Silent
-                }
-            }
-            Word::Act(_) | Word::Note(_, _) | Word::Cancel(_) | Word::If0(_, _) => unreachable!(),
-            Word::Make(_) | Word::Start(_) | Word::Loop(_) | Word::Uncancelable => unreachable!(),
-            Word::Pure(_) | Word::Raise(_) | Word::OnCancel(_) => unreachable!(),
-            Word::Let(_) | Word::Seq(_, _) | Word::Handle(_) => unreachable!(),
+        self.number(self.place.level, value)
+    }
+
+    // The call of a `poll` of this mask.
+    #[inline(always)]
+    fn poll_ask(&self, slot: u32) -> Ask
+        ensures { result ≡ word_ask (state_of self.now) self.now.place.level (words.Poll slot) }
+    {
+        let poll = mask(self.env.as_slice(), self.place.level, slot);
+        if undoes(self.own, poll, self.masks.as_slice()) {
+            Ask::Unmask
+        } else {
+            Ask::Silent
+        }
+    }
+
+    // The frame around the leaf takes a result without a call.
+    #[inline(always)]
+    fn is_inside(&self) -> bool
+        ensures { result ≡ is_inside (state_of self.now).frames }
+    {
+        match self.frames.last() {
+            Some(Frame::Let(_, _) | Frame::Seq(_, _, _) | Frame::Again(_, _, _)) => true,
+            Some(Frame::Handle(_, _) | Frame::Guarded(_, _) | Frame::Idle(_)) => true,
+            Some(Frame::Masked(_) | Frame::Polled(_)) | None => false,
         }
     }
 
     // The call of a result at the leaf, which would end the fiber so at the root.
+    #[tactic(auto, using(crate::proofs::Asking::inside_silent))]
     #[inline(always)]
     fn result_ask(&self, outcome: Outcome) -> Ask
         ensures { result ≡ result_ask outcome self.now.stage (state_of self.now).frames }
     {
+        if self.is_inside() {
+            return Ask::Silent;
+        }
         match self.frames.last() {
             Some(Frame::Masked(_)) => Ask::Unmask,
             Some(Frame::Polled(_)) => Ask::Mask,
-            Some(Frame::Let(_, _) | Frame::Seq(_, _, _) | Frame::Again(_, _, _)) => Ask::Silent,
-            Some(Frame::Handle(_, _) | Frame::Guarded(_, _) | Frame::Idle(_)) => Ask::Silent,
+            Some(Frame::Let(_, _) | Frame::Seq(_, _, _) | Frame::Again(_, _, _)) => unreachable!(),
+            Some(Frame::Handle(_, _) | Frame::Guarded(_, _) | Frame::Idle(_)) => unreachable!(),
             None => match self.stage {
                 Stage::Final(_) => Ask::Silent,
                 Stage::Runs | Stage::Drained(_) | Stage::Over(_) | Stage::Broken => {
@@ -81,18 +89,74 @@ impl Machine {
         }
     }
 
+    // How the result at the leaf would end the fiber.
+    #[inline(always)]
+    fn outcome(&self) -> Outcome
+        ensures value { self.now.place.kind ≡ kinds.Value →
+            result ≡ outcomes.Succeeded (number_of (value_in_core self.now.place.value)) }
+        ensures error { self.now.place.kind ≡ kinds.Error →
+            result ≡ outcomes.Errored (number_of (value_in_core self.now.place.value)) }
+    {
+        let number = number(self.place.value);
+        match self.place.kind {
+            Kind::Error => Outcome::Errored(number),
+            _ => Outcome::Succeeded(number),
+        }
+    }
+
+    // The kind of the leaf, which is no result, tells that the move calls nothing.
+    #[inline(always)]
+    fn is_quiet(&self) -> bool
+        requires leaf { IsLeafAt self.now.words.value (leaf_in self.now.place) }
+        requires value { self.now.place.kind ≡ kinds.Value → ⊥ }
+        requires error { self.now.place.kind ≡ kinds.Error → ⊥ }
+        ensures quiet { result ≡ is_quiet self.now.place.kind }
+        ensures silent { result ≡ true → leaf_ask (state_of self.now) (leaf_in self.now.place) ≡ asks.Silent }
+    {
+        match self.place.kind {
+            Kind::Cede | Kind::Never | Kind::Add | Kind::Say | Kind::Times => true,
+            Kind::Always | Kind::Note | Kind::If0 | Kind::OnCancel | Kind::Turns => true,
+            // These don't come here. With them it is one compare.
+            Kind::Value | Kind::Error | Kind::Form => true,
+            _ => false,
+        }
+    }
+
     // The call of the leaf. Where its kind tells it, no word is read.
     #[inline(always)]
     fn leaf_ask(&self) -> Ask
-        requires { IsLeafAt self.now.words.value.items (leaf_in self.now.place) }
+        requires { IsLeafAt self.now.words.value (leaf_in self.now.place) }
         ensures { result ≡ leaf_ask (state_of self.now) (leaf_in self.now.place) }
     {
+        if matches!(self.place.kind, Kind::Value | Kind::Error) {
+            return self.result_ask(self.outcome());
+        }
+        if self.is_quiet() {
+            return Ask::Silent;
+        }
         match self.place.kind {
-            Kind::Cede | Kind::Never | Kind::Add | Kind::Say => Ask::Silent,
-            Kind::Times | Kind::Always | Kind::Note | Kind::If0 | Kind::OnCancel => Ask::Silent,
-            Kind::Turns => Ask::Silent,
-            Kind::Value => self.result_ask(Outcome::Succeeded(number(self.place.value))),
-            Kind::Error => self.result_ask(Outcome::Errored(number(self.place.value))),
+            Kind::Get => Ask::Get(self.handle_number(got(self.words.as_slice(), self.place.index))),
+            Kind::Set => {
+                let (it, value) = set(self.words.as_slice(), self.place.index);
+                Ask::Set(self.handle_number(it), self.value_number(value))
+            }
+            Kind::Modify => {
+                let (it, value) = modified(self.words.as_slice(), self.place.index);
+                Ask::Modify(self.handle_number(it), self.value_number(value))
+            }
+            Kind::Complete => {
+                let (it, value) = completed(self.words.as_slice(), self.place.index);
+                Ask::Complete(self.handle_number(it), self.value_number(value))
+            }
+            Kind::Await => Ask::Read(self.handle_number(awaited(
+                self.words.as_slice(),
+                self.place.index,
+            ))),
+            Kind::Join => {
+                let (fiber, _, _) = joined(self.words.as_slice(), self.place.index);
+                Ask::Join(self.handle_number(fiber))
+            }
+            Kind::Poll => self.poll_ask(polled(self.words.as_slice(), self.place.index)),
             Kind::Request => Ask::Cancel(self.place.fiber.number()),
             Kind::Ending => Ask::Join(self.place.fiber.number()),
             Kind::Store => Ask::Set(self.place.cell, number(self.place.value)),
@@ -101,14 +165,9 @@ impl Machine {
             Kind::NewRef => Ask::NewRef,
             Kind::NewDeferred => Ask::NewDeferred,
             Kind::Start => Ask::Start,
-            Kind::Get
-            | Kind::Set
-            | Kind::Modify
-            | Kind::Complete
-            | Kind::Await
-            | Kind::Join
-            | Kind::Poll => self.word_ask(self.place.index, self.place.level),
-            Kind::Form => unreachable!(),
+            Kind::Cede | Kind::Never | Kind::Add | Kind::Say | Kind::Times => unreachable!(),
+            Kind::Always | Kind::Note | Kind::If0 | Kind::OnCancel => unreachable!(),
+            Kind::Turns | Kind::Value | Kind::Error | Kind::Form => unreachable!(),
         }
     }
 

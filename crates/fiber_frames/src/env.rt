@@ -1,14 +1,24 @@
 //! The environment of a fiber: what each level holds.
 
-ghost use Rattle.std.specs.Prelude.{◌≡◌, ◌≤◌, take, length, vec_len, IfOk, OnOk, OnErr};
+ghost use Rattle.std.specs.Prelude.{◌≡◌, ◌<◌, ◌≤◌, take, length, vec_len, IfOk, OnOk, OnErr};
 ghost use Rattle.fiber_frames.specs.Env.{env_of, bound};
 
 use crate::stack::push;
 use crate::word::Entry;
 use std::alloc::{AllocError, Global};
 
-/// Binds at a level, over what stands there, or `AllocError` where memory is refused.
-#[tactic(auto, using(crate::proofs::Closing::set_bound, crate::proofs::Closing::push_bound))]
+/// Binds at a level, over what stands there.
+#[tactic(auto, using(crate::proofs::Closing::set_bound))]
+#[inline(always)]
+pub(crate) fn rebind(env: &mut Vec<Entry>, level: usize, entry: Entry)
+    requires { level < vec_len env.old }
+    ensures { env.new.items ≡ bound env.old.items level entry }
+{
+    env[level] = entry;
+}
+
+/// Binds at a level, over what stands there if anything does, or `AllocError` where memory is refused.
+#[tactic(auto, using(crate::proofs::Closing::push_bound))]
 #[inline(always)]
 pub(crate) fn bind(env: &mut Vec<Entry>, level: usize, entry: Entry) -> Result<(), AllocError>
     requires { level ≤ vec_len env.old }
@@ -16,7 +26,7 @@ pub(crate) fn bind(env: &mut Vec<Entry>, level: usize, entry: Entry) -> Result<(
     ensures err { OnErr result (env.new.items ≡ env.old.items) }
 {
     if level < env.len() {
-        env[level] = entry;
+        rebind(env, level, entry);
     } else {
         push(&mut *env, entry)?;
     }

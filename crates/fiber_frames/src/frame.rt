@@ -15,17 +15,17 @@ pub(crate) enum Frame {
     /// The next part of a sequence.
     Seq(Rest, usize, usize),
     /// The body of a loop that has so many turns left.
-    Again(Value, usize, usize),
+    Again(u32, Value, usize),
     /// The word that an error goes on to, which binds its code.
     Handle(usize, usize),
     /// The finalizer of what stands inside.
     Guarded(usize, usize),
+    /// A poll that undid nothing.
+    Idle(Mask),
     /// The mask of this number.
     Masked(u64),
     /// A poll that undid the own mask of this number.
     Polled(u64),
-    /// A poll that undid nothing.
-    Idle(Mask),
 }
 
 /// A finalizer that waits: its word and its level.
@@ -41,13 +41,17 @@ pub(crate) struct Place {
     pub kind: Kind,
     /// The ref.
     pub cell: u16,
+    /// The body of the loop.
+    pub body: u32,
     /// The fiber of the `cancel`.
     pub fiber: Handle,
-    /// The word, or the body of the loop, and its level.
+    /// The word, and its level or that of the body.
     pub index: usize,
     pub level: usize,
-    /// The value, the error's code, the ref's first value, or the turns that are left.
+    /// The value, the error's code, or the ref's first value.
     pub value: Operand,
+    /// The turns that are left.
+    pub turns: Value,
 }
 
 /// How far a fiber is.

@@ -1,7 +1,6 @@
 //! Closed operands.
 
 ghost use Rattle.std.specs.Prelude.{◌≡◌};
-ghost use Rattle.fiber_frames.specs.Path.{same_mask};
 ghost use Rattle.fiber_frames.specs.Rows.{number_of, handle_number, is_zero, mask_number};
 ghost use Rattle.derived_ops.specs.Cores.{value_in_core};
 ghost use Rattle.fiber_frames.specs.Frames.{handle_of, mask_of};

@@ -11,13 +11,14 @@ ghost use Rattle.fiber_frames.specs.Machine.{over, passed, given, thrown, value_
 ghost use Rattle.fiber_frames.specs.Machine.{error_row, result_turn};
 ghost use Rattle.fiber_frames.specs.Machines.{state_of, Kept, KeptWhere};
 
+use crate::env::rebind;
 use crate::frame::{Frame, Stage, Turn};
 use crate::kind::Kind;
 use crate::machine::Machine;
 use crate::mark::Mark;
 use crate::operand::number;
 use crate::stack::push;
-use derived_ops::Operand;
+use crate::word::Entry;
 use effect_term::Outcome;
 use std::alloc::AllocError;
 
@@ -68,12 +69,17 @@ impl Machine {
             Frame::Seq(_, next, level) => return Ok(Some((next, level))),
             Frame::Let(next, level) => {
                 let value = number(self.place.value);
+                // But for the first time, something is bound at the level.
+                if level < self.env.len() {
+                    rebind(&mut self.env, level, Entry::Value(value));
+                    return Ok(Some((next, level + 1)));
+                }
                 self.go_below_value(next, level, value)?;
             }
-            Frame::Again(turns, body, level) => {
+            Frame::Again(body, turns, level) => {
                 self.place.kind = Kind::Turns;
-                self.place.value = Operand::Number(turns);
-                self.place.index = body;
+                self.place.turns = turns;
+                self.place.body = body;
                 self.place.level = level;
             }
             Frame::Handle(_, _) | Frame::Guarded(_, _) | Frame::Idle(_) => {}

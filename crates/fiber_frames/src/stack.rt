@@ -10,10 +10,20 @@ pub(crate) fn push<T: Drop>(stack: &mut Vec<T>, value: T) -> Result<(), AllocErr
     ensures items { OnOk result (stack.new.items ≡ stack.old.items ++ value ∷ []) }
     ensures err { OnErr result (stack.new.items ≡ stack.old.items) }
 {
+    make_room(&mut *stack)?;
+    stack.push_reserved(value);
+    Ok(())
+}
+
+/// Makes sure of room for one more value, or `AllocError` where memory is refused.
+#[inline(always)]
+pub(crate) fn make_room<T: Drop>(stack: &mut Vec<T>) -> Result<(), AllocError>
+    ensures items { stack.new.items ≡ stack.old.items }
+    ensures room { OnOk result (vec_len stack.new < vec_capacity stack.new) }
+{
     if stack.len() >= stack.capacity() {
         grow(&mut *stack)?;
     }
-    stack.push_reserved(value);
     Ok(())
 }
 

@@ -195,7 +195,10 @@ fn answer(registry: &mut PlainRegistry, by: u16, call: Call) -> Result<Reply, Ce
             registry.cut(by)?;
             Ok(Reply::Done)
         }
-        Call::Finish(outcome) => finish(registry, by, outcome),
+        Call::Finish(outcome) => {
+            finish(registry, by, outcome)?;
+            Ok(Reply::Done)
+        }
         Call::NewRef => Ok(Reply::Number(registry.new_ref(by)?)),
         Call::NewDeferred => Ok(Reply::Number(registry.new_deferred(by)?)),
         Call::Get(number) => Ok(Reply::Value(registry.get(by, number))),
@@ -212,17 +215,16 @@ fn answer(registry: &mut PlainRegistry, by: u16, call: Call) -> Result<Reply, Ce
 // The registry's answer to the end of a fiber.
 #[cold]
 #[inline(never)]
-fn finish(registry: &mut PlainRegistry, by: u16, outcome: Outcome) -> Result<Reply, CellError>
+fn finish(registry: &mut PlainRegistry, by: u16, outcome: Outcome) -> Result<(), CellError>
     requires { OutcomeFits outcome → MayCall registry.old by (Call.Finish outcome) }
-    ensures { MatchResult result (λ reply. IsMade registry.old registry.new by (Call.Finish outcome) reply)
+    ensures { MatchResult result (λ _. IsMade registry.old registry.new by (Call.Finish outcome) Reply.Done)
         (λ e. IsRefused registry.old registry.new by (Call.Finish outcome) e) }
 {
     match outcome {
-        Outcome::Succeeded(value) => registry.finish(by, Outcome::Succeeded(value))?,
-        Outcome::Errored(code) => registry.finish(by, Outcome::Errored(code))?,
-        Outcome::Canceled => registry.finish(by, Outcome::Canceled)?,
+        Outcome::Succeeded(value) => registry.finish(by, Outcome::Succeeded(value)),
+        Outcome::Errored(code) => registry.finish(by, Outcome::Errored(code)),
+        Outcome::Canceled => registry.finish(by, Outcome::Canceled),
     }
-    Ok(Reply::Done)
 }
 
 // The fault of a run in which this call of the fiber was refused.
