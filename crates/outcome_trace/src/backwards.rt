@@ -19,8 +19,13 @@ pub(crate) fn put(room: &mut [u8], end: usize, words: &[u8]) -> usize
     ensures text { drop result room.new ≡ words.now ++ drop end room.old }
     ensures start { result + length words.now ≡ end }
 {
-    let start = end - words.len();
-    room[start..end].copy_from_slice(words);
+    let mut start = end;
+    let mut left = words.len();
+    while left > 0 {
+        left -= 1;
+        start -= 1;
+        room[start] = words[left];
+    }
     start
 }
 
@@ -49,10 +54,10 @@ pub(crate) fn put_signed(room: &mut [u8], end: usize, words: &[u8], value: Value
     ensures ascii { IsAscii (signed_decimal value) }
 {
     let number = value.get();
-    let digits = write_digits(number.unsigned_abs(), room, end);
     if number < 0 {
+        let digits = write_digits(number.unsigned_abs(), room, end);
         let sign = put(room, digits, b"-");
         return put(room, sign, words);
     }
-    put(room, digits, words)
+    put_number(room, end, words, number.unsigned_abs())
 }

@@ -22,13 +22,5 @@ returns-then-number-lt0-clause-start c =
 pub returns-then-number-lt0-clause-ascii : goal.returns-then-number-lt0-clause-ascii
 returns-then-number-lt0-clause-ascii c = IsAscii-of_signed c.args.value c.get-number.ensures.range
 
-pub put-requires-2-clause-start : goal.put-requires-2-clause-start
-put-requires-2-clause-start c =
-    omega (arith, length-decimal-le 19 c.unsigned_abs.result (omega arith) (omega arith) (omega arith))
-
-pub returns-clause-start : goal.returns-clause-start
-returns-clause-start c =
-    omega (arith, length-decimal-le 19 c.unsigned_abs.result (omega arith) (omega arith) (omega arith))
-
 pub returns-clause-ascii : goal.returns-clause-ascii
 returns-clause-ascii c = IsAscii-of_signed c.args.value c.get-number.ensures.range
