@@ -10,15 +10,14 @@ use effect_term::Outcome;
 use fiber_frames::{Ask, Config};
 use std::alloc::{AllocError, Global};
 
-// The report of fibers, in the order of their numbers.
-pub(crate) fn report(alloc: Global, fibers: &[Config]) -> Result<Report, AllocError>
-    ensures reports { IfOk result (λ it. it ≡ record { fibers = map report_of fibers.now }) }
+// The report of fibers, in the order of their numbers. They are given up for their marks.
+pub(crate) fn report(alloc: Global, fibers: Vec<Config>) -> Result<Report, AllocError>
+    ensures reports { IfOk result (λ it. it ≡ record { fibers = map report_of fibers.items }) }
     ensures lawful { IfOk result (λ it. All (λ f. AreLawful f.marks f.outcome) it.fibers) }
 {
     let mut reports = Vec::new(alloc);
     for fiber in fibers {
-        let told = fiber_report(alloc, fiber)?;
-        reports.push(told)?;
+        reports.push(fiber_report(fiber))?;
     }
     Ok(Report {
         fibers: FiberReports::new(reports),
@@ -26,16 +25,15 @@ pub(crate) fn report(alloc: Global, fibers: &[Config]) -> Result<Report, AllocEr
 }
 
 // What a fiber has come to.
-fn fiber_report(alloc: Global, fiber: &Config) -> Result<FiberReport, AllocError>
-    ensures told { IfOk result (λ it. it ≡ report_of fiber.now) }
-    ensures lawful { IfOk result (λ it. AreLawful it.marks it.outcome) }
+fn fiber_report(fiber: Config) -> FiberReport
+    ensures told { result ≡ report_of fiber }
+    ensures lawful { AreLawful result.marks result.outcome }
 {
-    let outcome = outcome(fiber);
-    let marks = Vec::from_slice(alloc, fiber.trace())?;
-    Ok(FiberReport {
+    let outcome = outcome(&fiber);
+    FiberReport {
         outcome,
-        marks: Marks::new(marks),
-    })
+        marks: Marks::new(fiber.into_trace()),
+    }
 }
 
 // How a fiber has ended, if it has.

@@ -55,7 +55,7 @@ pub fn replay(
         limits.count,
     )?;
     entries(&mut fibers, &mut registry, schedule)?;
-    let report = report(alloc, fibers.as_slice())?;
+    let report = report(alloc, fibers)?;
     Ok(report)
 }
 

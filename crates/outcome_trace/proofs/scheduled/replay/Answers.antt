@@ -29,5 +29,5 @@ pub returns-clause-core : goal.returns-clause-core
 returns-clause-core c =
     let start = core-opened c.args.limits (code_of (source_of c.args.program.now)) c.in_ok-registry.registry c.in_ok-fibers.fibers.items c.args.schedule.now c.in_ok-fibers.ensures.first c.in_ok-registry.ensures.opening in
     let told : c.in_ok-report.report ≡ record { fibers = map fiber_report c.entries.new.fibers.items } =
-    c.in_ok-report.ensures.reports ∙ ap (λ fibers. record { fibers = map fiber_report fibers }) c.as_slice.ensures.value in
+    c.in_ok-report.ensures.reports in
     inr (ap Ok told ∙ sym (ap reported (sym start ∙ c.in_ok-entries.ensures.goes)))
