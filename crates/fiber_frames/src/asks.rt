@@ -11,7 +11,7 @@ ghost use Rattle.fiber_frames.specs.declared.ask.Ask.TheVariants as asks;
 ghost use Rattle.fiber_frames.specs.declared.word.Word.TheVariants as words;
 ghost use Rattle.fiber_frames.specs.Machines.{fiber_in, state_of};
 ghost use Rattle.fiber_frames.specs.Frames.{IsLeafAt, Sound};
-ghost use Rattle.fiber_frames.specs.Leaf.{leaf_in};
+ghost use Rattle.fiber_frames.specs.Leaf.{leaf_in, value_held};
 ghost use Rattle.fiber_frames.specs.Fiber.{ask_of};
 
 use crate::ask::Ask;
@@ -19,7 +19,6 @@ use crate::frame::{Frame, Stage};
 use crate::kind::Kind;
 use crate::machine::{Machine, handle, mask, undoes};
 use crate::move_case::MoveCase;
-use crate::operand::number;
 use crate::table::{awaited, completed, got, joined, modified, polled, set};
 use derived_ops::Operand;
 use effect_term::{Outcome, Value};
@@ -93,11 +92,11 @@ impl Machine {
     #[inline(always)]
     fn outcome(&self) -> Outcome
         ensures value { self.now.place.kind ≡ kinds.Value →
-            result ≡ outcomes.Succeeded (number_of (value_in_core self.now.place.value)) }
+            result ≡ outcomes.Succeeded (number_of (value_in_core (value_held self.now.place))) }
         ensures error { self.now.place.kind ≡ kinds.Error →
-            result ≡ outcomes.Errored (number_of (value_in_core self.now.place.value)) }
+            result ≡ outcomes.Errored (number_of (value_in_core (value_held self.now.place))) }
     {
-        let number = number(self.place.value);
+        let number = self.place.number();
         match self.place.kind {
             Kind::Error => Outcome::Errored(number),
             _ => Outcome::Succeeded(number),
@@ -157,9 +156,9 @@ impl Machine {
                 Ask::Join(self.handle_number(fiber))
             }
             Kind::Poll => self.poll_ask(polled(self.words.as_slice(), self.place.index)),
-            Kind::Request => Ask::Cancel(self.place.fiber.number()),
-            Kind::Ending => Ask::Join(self.place.fiber.number()),
-            Kind::Store => Ask::Set(self.place.cell, number(self.place.value)),
+            Kind::Request => Ask::Cancel(self.place.fiber()),
+            Kind::Ending => Ask::Join(self.place.fiber()),
+            Kind::Store => Ask::Set(self.place.handle, self.place.number()),
             Kind::Canceled => Ask::Cancel(self.own),
             Kind::Cancel | Kind::Uncancelable => Ask::Mask,
             Kind::NewRef => Ask::NewRef,

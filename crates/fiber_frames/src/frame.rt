@@ -1,5 +1,11 @@
 //! What a fiber is at: frames, the leaf, the finalizers that wait.
 
+ghost use Rattle.std.specs.Prelude.{◌≡◌};
+ghost use Rattle.derived_ops.specs.Cores.{value_in_core};
+ghost use Rattle.fiber_frames.specs.Frames.{handle_of};
+ghost use Rattle.fiber_frames.specs.Leaf.{handle_held, value_held};
+ghost use Rattle.fiber_frames.specs.Rows.{handle_number, number_of};
+
 use crate::kind::Kind;
 use crate::operand::{Handle, Mask};
 use crate::word::Rest;
@@ -39,19 +45,72 @@ pub(crate) struct Pending {
 #[derive(Clone, Copy)]
 pub(crate) struct Place {
     pub kind: Kind,
-    /// The ref.
-    pub cell: u16,
-    /// The body of the loop.
-    pub body: u32,
-    /// The fiber of the `cancel`.
-    pub fiber: Handle,
+    /// Nothing is bound to the value, or to the fiber: the slot of its binder is there instead.
+    pub open: bool,
+    /// The ref, or the fiber of the `cancel`.
+    pub handle: u16,
+    /// The body of the loop, or the slot.
+    pub part: u32,
     /// The word, and its level or that of the body.
     pub index: usize,
     pub level: usize,
-    /// The value, the error's code, or the ref's first value.
-    pub value: Operand,
-    /// The turns that are left.
-    pub turns: Value,
+    /// The value, the error's code, the ref's first value, or the turns that are left.
+    pub number: Value,
+}
+
+impl Place {
+    // The value is this one.
+    #[inline(always)]
+    pub(crate) fn put_value(&mut self, value: Operand)
+        ensures value { value_held self.new ≡ value }
+        ensures kind { self.new.kind ≡ self.old.kind }
+        ensures handle { self.new.handle ≡ self.old.handle }
+    {
+        match value {
+            Operand::Number(number) => {
+                self.open = false;
+                self.number = number;
+            }
+            Operand::Slot(slot) => {
+                self.open = true;
+                self.part = slot;
+            }
+        }
+    }
+
+    // The fiber is this one.
+    #[inline(always)]
+    pub(crate) fn put_fiber(&mut self, fiber: Handle)
+        ensures fiber { handle_held self.new ≡ fiber }
+        ensures kind { self.new.kind ≡ self.old.kind }
+    {
+        match fiber {
+            Handle::Known(number) => {
+                self.open = false;
+                self.handle = number;
+            }
+            Handle::Slot(slot) => {
+                self.open = true;
+                self.part = slot;
+            }
+        }
+    }
+
+    // The number of the value, which a closed term has.
+    #[inline(always)]
+    pub(crate) fn number(&self) -> Value
+        ensures { result ≡ number_of (value_in_core (value_held self.now)) }
+    {
+        if self.open { Value::ZERO } else { self.number }
+    }
+
+    // The number of the fiber, which a closed term has.
+    #[inline(always)]
+    pub(crate) fn fiber(&self) -> u16
+        ensures { result ≡ handle_number (handle_of (handle_held self.now)) }
+    {
+        if self.open { 0 } else { self.handle }
+    }
 }
 
 /// How far a fiber is.

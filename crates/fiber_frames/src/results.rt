@@ -5,6 +5,7 @@ ghost use Rattle.effect_term.specs.declared.reply.Outcome.TheVariants as outcome
 ghost use Rattle.fiber_frames.specs.declared.frame.Frame.TheVariants as frames;
 ghost use Rattle.fiber_frames.specs.declared.kind.Kind.TheVariants as kinds;
 ghost use Rattle.derived_ops.specs.Cores.{value_in_core};
+ghost use Rattle.fiber_frames.specs.Leaf.{value_held};
 ghost use Rattle.fiber_frames.specs.Rows.{number_of};
 ghost use Rattle.fiber_frames.specs.Frames.{Levels, Under};
 ghost use Rattle.fiber_frames.specs.Machine.{over, passed, given, thrown, value_at_root, root_turn, went};
@@ -16,7 +17,6 @@ use crate::frame::{Frame, Stage, Turn};
 use crate::kind::Kind;
 use crate::machine::Machine;
 use crate::mark::Mark;
-use crate::operand::number;
 use crate::stack::push;
 use crate::word::Entry;
 use effect_term::Outcome;
@@ -61,14 +61,14 @@ impl Machine {
         requires value { self.old.place.kind ≡ kinds.Value }
         requires level { Levels frame (length self.old.env.items) }
         ensures state { IfOk result (λ next. went (state_of self.new) next ≡
-            given (state_of self.old) self.old.place.value frame) }
+            given (state_of self.old) (value_held self.old.place) frame) }
         ensures goes { IfOk result (λ next. KeptWhere next self.old self.new) }
         ensures kept { OnErr result (Kept self.old self.new) }
     {
         match frame {
             Frame::Seq(_, next, level) => return Ok(Some((next, level))),
             Frame::Let(next, level) => {
-                let value = number(self.place.value);
+                let value = self.place.number();
                 // But for the first time, something is bound at the level.
                 if level < self.env.len() {
                     rebind(&mut self.env, level, Entry::Value(value));
@@ -78,8 +78,8 @@ impl Machine {
             }
             Frame::Again(body, turns, level) => {
                 self.place.kind = Kind::Turns;
-                self.place.turns = turns;
-                self.place.body = body;
+                self.place.number = turns;
+                self.place.part = body;
                 self.place.level = level;
             }
             Frame::Handle(_, _) | Frame::Guarded(_, _) | Frame::Idle(_) => {}
@@ -94,10 +94,10 @@ impl Machine {
     fn throw_under(&mut self, frame: Frame) -> Result<(), AllocError>
         requires error { self.old.place.kind ≡ kinds.Error }
         requires level { Levels frame (length self.old.env.items) }
-        ensures state { OnOk result (state_of self.new ≡ thrown (state_of self.old) self.old.place.value frame) }
+        ensures state { OnOk result (state_of self.new ≡ thrown (state_of self.old) (value_held self.old.place) frame) }
         ensures kept { OnErr result (Kept self.old self.new) }
     {
-        let code = number(self.place.value);
+        let code = self.place.number();
         match frame {
             Frame::Handle(next, level) => self.go_below_value(next, level, code),
             Frame::Let(_, _) | Frame::Seq(_, _, _) | Frame::Again(_, _, _) => Ok(()),
@@ -110,17 +110,17 @@ impl Machine {
     // The row of a value at the leaf, below no frame.
     #[inline(always)]
     pub(crate) fn value_at_root(&mut self) -> Result<Turn, AllocError>
-        ensures state { OnOk result (state_of self.new ≡ value_at_root (state_of self.old) self.old.place.value
+        ensures state { OnOk result (state_of self.new ≡ value_at_root (state_of self.old) (value_held self.old.place)
             self.old.stage) }
         ensures turn { IfOk result (λ it. it ≡
-            root_turn (outcomes.Succeeded (number_of (value_in_core self.old.place.value))) self.old.stage) }
+            root_turn (outcomes.Succeeded (number_of (value_in_core (value_held self.old.place)))) self.old.stage) }
         ensures kept { OnErr result (Kept self.old self.new) }
     {
         if let Stage::Final(mask) = self.stage {
             self.begin_finalizer(mask)?;
             return Ok(Turn::Plain);
         }
-        let number = number(self.place.value);
+        let number = self.place.number();
         self.end(Outcome::Succeeded(number));
         Ok(Turn::Ended(Outcome::Succeeded(number)))
     }
@@ -148,11 +148,11 @@ impl Machine {
     fn throw(&mut self) -> Result<(), AllocError>
         requires error { self.old.place.kind ≡ kinds.Error }
         requires under { Under (length self.old.env.items) (state_of self.old).frames }
-        ensures state { OnOk result (state_of self.new ≡ error_row (state_of self.old) self.old.place.value
+        ensures state { OnOk result (state_of self.new ≡ error_row (state_of self.old) (value_held self.old.place)
             (state_of self.old).frames) }
         ensures kept { OnErr result (Kept self.old self.new) }
     {
-        let code = number(self.place.value);
+        let code = self.place.number();
         if let Some(frame) = self.frames.pop() {
             return self.throw_under(frame);
         }
@@ -169,14 +169,14 @@ impl Machine {
     pub(crate) fn error_row(&mut self) -> Result<Turn, AllocError>
         requires error { self.old.place.kind ≡ kinds.Error }
         requires under { Under (length self.old.env.items) (state_of self.old).frames }
-        ensures state { OnOk result (state_of self.new ≡ error_row (state_of self.old) self.old.place.value
+        ensures state { OnOk result (state_of self.new ≡ error_row (state_of self.old) (value_held self.old.place)
             (state_of self.old).frames) }
         ensures turn { IfOk result (λ it. it ≡
-            result_turn (outcomes.Errored (number_of (value_in_core self.old.place.value)))
+            result_turn (outcomes.Errored (number_of (value_in_core (value_held self.old.place))))
             (state_of self.old).stage (state_of self.old).frames) }
         ensures kept { OnErr result (Kept self.old self.new) }
     {
-        let turn = self.result_turn(Outcome::Errored(number(self.place.value)));
+        let turn = self.result_turn(Outcome::Errored(self.place.number()));
         self.throw()?;
         Ok(turn)
     }
