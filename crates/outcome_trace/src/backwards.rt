@@ -29,6 +29,22 @@ pub(crate) fn put(room: &mut [u8], end: usize, words: &[u8]) -> usize
     start
 }
 
+// The digits of a number. Most numbers of a report have one, and none has more than 20.
+#[inline(always)]
+fn put_digits(room: &mut [u8], end: usize, number: u64) -> usize
+    requires start { 20 ≤ end }
+    requires end { end ≤ length room.old }
+    ensures text { drop result room.new ≡ decimal number ++ drop end room.old }
+    ensures start { result + length (decimal number) ≡ end }
+{
+    if number < 10 {
+        let digit = end - 1;
+        room[digit] = b'0' + number as u8;
+        return digit;
+    }
+    write_digits(number, room, end)
+}
+
 // These words, and then the number.
 #[inline(always)]
 pub(crate) fn put_number(room: &mut [u8], end: usize, words: &[u8], number: u64) -> usize
@@ -39,7 +55,7 @@ pub(crate) fn put_number(room: &mut [u8], end: usize, words: &[u8], number: u64)
     ensures within { result ≤ end }
     ensures ascii { IsAscii (decimal number) }
 {
-    let digits = write_digits(number, room, end);
+    let digits = put_digits(room, end, number);
     put(room, digits, words)
 }
 
@@ -55,7 +71,7 @@ pub(crate) fn put_signed(room: &mut [u8], end: usize, words: &[u8], value: Value
 {
     let number = value.get();
     if number < 0 {
-        let digits = write_digits(number.unsigned_abs(), room, end);
+        let digits = put_digits(room, end, number.unsigned_abs());
         let sign = put(room, digits, b"-");
         return put(room, sign, words);
     }

@@ -98,7 +98,11 @@ fn push_later_marks(
     while !left.is_empty() {
         let (now, later) = left.split_at(left.len().min(MARKS_AT_ONCE));
         let start = put_later_marks(room, now);
-        push_ascii(text, &room[start..])?;
+        let bytes = &room[start..];
+        // Room for all that come, if they are as long as these: a text that grows is moved, which costs
+        // more than to write it.
+        text.reserve(bytes.len().saturating_mul(left.len() / MARKS_AT_ONCE + 1))?;
+        push_ascii(text, bytes)?;
         left = later;
     }
     Ok(())

@@ -2,10 +2,6 @@ use Rattle.std.proofs.Common.{arith, rules}
 use Rattle.std.proofs.lemmas.Fmt.{IsAscii-decimal, length-decimal-le}
 use Rattle.outcome_trace.proofs.backwards.put_number.Goals as goal
 
-pub write_digits-digits-requires : goal.write_digits-digits-requires
-write_digits-digits-requires c =
-    (omega (arith, length-decimal-le 20 c.args.number (omega arith) (omega arith) (omega arith)), search rules)
-
 pub put-requires-clause-start : goal.put-requires-clause-start
 put-requires-clause-start c =
     omega (arith, length-decimal-le 20 c.args.number (omega arith) (omega arith) (omega arith))

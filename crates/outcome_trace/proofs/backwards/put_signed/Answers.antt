@@ -3,10 +3,6 @@ use Rattle.std.proofs.lemmas.Fmt.{length-decimal-le}
 use Rattle.outcome_trace.proofs.Ascii.{IsAscii-of_signed}
 use Rattle.outcome_trace.proofs.backwards.put_signed.Goals as goal
 
-pub write_digits-digits-requires : goal.write_digits-digits-requires
-write_digits-digits-requires c =
-    (omega (arith, length-decimal-le 19 c.unsigned_abs.result (omega arith) (omega arith) (omega arith)), search rules)
-
 pub put-sign-requires-clause-start : goal.put-sign-requires-clause-start
 put-sign-requires-clause-start c =
     omega (arith, length-decimal-le 19 c.unsigned_abs.result (omega arith) (omega arith) (omega arith))

@@ -12,8 +12,9 @@ loop-left-preserved c =
     let long : length room ≡ 1024 = omega arith in
     let wrote : string_bytes c.push_ascii.new.text ≡ string_bytes c.loop-left.text ++ later_marks_text now =
     c.in_ok-push_ascii.ensures
-    ∙ ap (λ t. string_bytes c.loop-left.text ++ t)
-    (take-to_end 1024 c.put_later_marks-start.result room long ∙ c.put_later_marks-start.ensures.text) in
+    ∙ ap (λ t. string_bytes c.reserve.new.self ++ t)
+    (take-to_end 1024 c.put_later_marks-start.result room long ∙ c.put_later_marks-start.ensures.text)
+    ∙ ap (λ b. b ++ later_marks_text now) c.reserve.ensures.bytes in
     let parts : now ++ later ≡ c.loop-left.left.now =
     ap₂ (λ xs ys. xs ++ ys) c.split_at.ensures.front c.split_at.ensures.back
     ∙ take-append-drop _ c.loop-left.left.now in
