@@ -88,21 +88,6 @@ impl Machine {
         }
     }
 
-    // How the result at the leaf would end the fiber.
-    #[inline(always)]
-    fn outcome(&self) -> Outcome
-        ensures value { self.now.place.kind ≡ kinds.Value →
-            result ≡ outcomes.Succeeded (number_of (value_in_core (value_held self.now.place))) }
-        ensures error { self.now.place.kind ≡ kinds.Error →
-            result ≡ outcomes.Errored (number_of (value_in_core (value_held self.now.place))) }
-    {
-        let number = self.place.number();
-        match self.place.kind {
-            Kind::Error => Outcome::Errored(number),
-            _ => Outcome::Succeeded(number),
-        }
-    }
-
     // The kind of the leaf, which is no result, tells that the move calls nothing.
     #[inline(always)]
     fn is_quiet(&self) -> bool
@@ -127,8 +112,10 @@ impl Machine {
         requires { IsLeafAt self.now.words.value (leaf_in self.now.place) }
         ensures { result ≡ leaf_ask (state_of self.now) (leaf_in self.now.place) }
     {
-        if matches!(self.place.kind, Kind::Value | Kind::Error) {
-            return self.result_ask(self.outcome());
+        match self.place.kind {
+            Kind::Value => return self.result_ask(Outcome::Succeeded(self.place.number())),
+            Kind::Error => return self.result_ask(Outcome::Errored(self.place.number())),
+            _ => {}
         }
         if self.is_quiet() {
             return Ask::Silent;
