@@ -65,11 +65,31 @@ impl Machine {
         }
     }
 
-    // The call of a result at the leaf, which would end the fiber so at the root.
+    // How the result at the leaf would end the fiber.
+    #[inline(always)]
+    fn outcome(&self) -> Outcome
+        ensures value { self.now.place.kind ≡ kinds.Value →
+            result ≡ outcomes.Succeeded (number_of (value_in_core (value_held self.now.place))) }
+        ensures error { self.now.place.kind ≡ kinds.Error →
+            result ≡ outcomes.Errored (number_of (value_in_core (value_held self.now.place))) }
+    {
+        let number = self.place.number();
+        match self.place.kind {
+            Kind::Error => Outcome::Errored(number),
+            _ => Outcome::Succeeded(number),
+        }
+    }
+
+    // The call of the result at the leaf. Its number is read only where it ends the fiber.
     #[tactic(auto, using(crate::proofs::Asking::inside_silent))]
     #[inline(always)]
-    fn result_ask(&self, outcome: Outcome) -> Ask
-        ensures { result ≡ result_ask outcome self.now.stage (state_of self.now).frames }
+    fn result_ask(&self) -> Ask
+        ensures value { self.now.place.kind ≡ kinds.Value → result ≡
+            result_ask (outcomes.Succeeded (number_of (value_in_core (value_held self.now.place)))) self.now.stage
+            (state_of self.now).frames }
+        ensures error { self.now.place.kind ≡ kinds.Error → result ≡
+            result_ask (outcomes.Errored (number_of (value_in_core (value_held self.now.place)))) self.now.stage
+            (state_of self.now).frames }
     {
         if self.is_inside() {
             return Ask::Silent;
@@ -82,7 +102,7 @@ impl Machine {
             None => match self.stage {
                 Stage::Final(_) => Ask::Silent,
                 Stage::Runs | Stage::Drained(_) | Stage::Over(_) | Stage::Broken => {
-                    Ask::Finish(outcome)
+                    Ask::Finish(self.outcome())
                 }
             },
         }
@@ -112,10 +132,8 @@ impl Machine {
         requires { IsLeafAt self.now.words.value (leaf_in self.now.place) }
         ensures { result ≡ leaf_ask (state_of self.now) (leaf_in self.now.place) }
     {
-        match self.place.kind {
-            Kind::Value => return self.result_ask(Outcome::Succeeded(self.place.number())),
-            Kind::Error => return self.result_ask(Outcome::Errored(self.place.number())),
-            _ => {}
+        if matches!(self.place.kind, Kind::Value | Kind::Error) {
+            return self.result_ask();
         }
         if self.is_quiet() {
             return Ask::Silent;
