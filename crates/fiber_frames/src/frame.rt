@@ -11,6 +11,7 @@ use crate::operand::{Handle, Mask};
 use crate::word::Rest;
 use derived_ops::Operand;
 use effect_term::{Outcome, Value};
+use std::mem::size_of;
 
 /// What is left to do with the result of what stands inside. A place in the table comes with its level,
 /// the number of binders around it; of `let` and `handle` it is the level of the form.
@@ -33,6 +34,8 @@ pub(crate) enum Frame {
     /// A poll that undid the own mask of this number.
     Polled(u64),
 }
+
+const _: () = prove!(size_of::<Frame>() == 24);
 
 /// A finalizer that waits: its word and its level.
 #[derive(Clone, Copy)]
