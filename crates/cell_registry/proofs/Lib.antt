@@ -1,5 +1,6 @@
 pub mod Lists
 pub mod Calls
+pub mod PlainCalls
 pub mod Legal
 pub mod TableWords
 pub mod Replies

@@ -8,3 +8,4 @@ pub mod Rule
 pub mod Steps
 pub mod Passes
 pub mod Plain
+pub mod Private

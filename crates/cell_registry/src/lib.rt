@@ -13,6 +13,7 @@
 mod call;
 mod cell;
 mod claims;
+mod kept_cell;
 mod knowledge;
 mod limits;
 mod own_calls;

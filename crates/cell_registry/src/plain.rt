@@ -1,10 +1,10 @@
 //! The registry for one thread.
-ghost use Rattle.std.specs.Prelude.{◌≡◌, ◌+◌, ◌≤◌, IfErr, IfOk, Some, None};
-ghost use Rattle.cell_registry.specs.Cells.{AreLimits, spent};
+ghost use Rattle.std.specs.Prelude.{◌≡◌, IfErr, IfOk};
+ghost use Rattle.cell_registry.specs.Cells.{AreLimits};
 ghost use Rattle.cell_registry.specs.Plain.{new_plain, IsPlain, MayCall, IsMade, IsRefused};
 
 use crate::call::Call;
-use crate::cell::{Cell, Stage};
+use crate::kept_cell::KeptCell;
 use crate::limits::{Band, CellError, Limits};
 use control_word::{value_word, word_value};
 use effect_term::{CancelReply, JoinReply, Outcome, Reply, Value};
@@ -23,7 +23,7 @@ pub struct PlainRegistry {
     next_fiber: u16,
     next_ref: u16,
     next_deferred: u16,
-    cells: Vec<Cell>,
+    cells: Vec<KeptCell>,
     refs: Vec<Value>,
     deferreds: Vec<Option<Value>>,
 }
@@ -58,14 +58,6 @@ impl Model for PlainRegistry {
     } };
 }
 
-const FRESH: Cell = Cell {
-    stage: Stage::Running,
-    depth: 0,
-    request: false,
-    waited: false,
-    count: 0,
-};
-
 #[tactic(auto, unfolding(crate::specs::Cells::after, crate::specs::Cells::reply_of, crate::specs::Cells::refusal, crate::specs::Cells::IsAllowed))]
 impl PlainRegistry {
     /// A registry with so many fibers, refs and deferreds, in which each fiber may make `limit`
@@ -96,7 +88,7 @@ impl PlainRegistry {
             next_fiber: 1,
             next_ref: 0,
             next_deferred: 0,
-            cells: vec![in alloc; FRESH; usize::from(fibers)]?,
+            cells: vec![in alloc; KeptCell::fresh(); usize::from(fibers)]?,
             refs: vec![in alloc; Value::from_i32(0); usize::from(refs)]?,
             deferreds: vec![in alloc; None; usize::from(deferreds)]?,
         })
@@ -133,21 +125,7 @@ impl PlainRegistry {
         ensures lawful { IsPlain self.new }
         ensures made { IsMade self.old self.new by (Call.Cancel fiber) (Reply.Cancel result) }
     {
-        let cell = self.cells[usize::from(fiber)];
-        self.cells[usize::from(fiber)] = Cell {
-            request: true,
-            ..cell
-        };
-        match cell.stage {
-            Stage::Ended(_) => CancelReply::Ended,
-            Stage::Running | Stage::Finalizing => {
-                if cell.request {
-                    CancelReply::Already
-                } else {
-                    CancelReply::Asked
-                }
-            }
-        }
+        self.cells[usize::from(fiber)].request()
     }
 
     /// Whether a fiber, whose number is below the limit, has ended, and how, as in Cats Effect 3's
@@ -157,15 +135,7 @@ impl PlainRegistry {
         ensures lawful { IsPlain self.new }
         ensures made { IsMade self.old self.new by (Call.Join fiber) (Reply.Join result) }
     {
-        let cell = self.cells[usize::from(fiber)];
-        self.cells[usize::from(fiber)] = Cell {
-            waited: true,
-            ..cell
-        };
-        match cell.stage {
-            Stage::Ended(outcome) => JoinReply::Ended(outcome),
-            Stage::Running | Stage::Finalizing => JoinReply::Waits,
-        }
+        self.cells[usize::from(fiber)].join()
     }
 
     /// Whether the caller's cancellation is requested. The caller hasn't ended and isn't masked.
@@ -174,7 +144,7 @@ impl PlainRegistry {
         ensures lawful { IsPlain self.new }
         ensures made { IsMade self.old self.new by Call.Look (Reply.Seen result) }
     {
-        self.cells[usize::from(by)].request
+        self.cells[usize::from(by)].is_requested()
     }
 
     /// Enters a mask. The caller hasn't ended, and is in fewer than 255 masks. Answers `Spent` where
@@ -185,11 +155,9 @@ impl PlainRegistry {
         ensures made { IfOk result (λ _. IsMade self.old self.new by Call.Mask Reply.Done) }
         ensures refused { IfErr result (λ e. IsRefused self.old self.new by Call.Mask e) }
     {
-        let cell = counted(self.cells[usize::from(by)], self.limits.count)?;
-        self.cells[usize::from(by)] = Cell {
-            depth: cell.depth + 1,
-            ..cell
-        };
+        let cell = &mut self.cells[usize::from(by)];
+        cell.refuse_if_spent(self.limits.count)?;
+        cell.mask();
         Ok(())
     }
 
@@ -201,11 +169,9 @@ impl PlainRegistry {
         ensures made { IfOk result (λ _. IsMade self.old self.new by Call.Unmask Reply.Done) }
         ensures refused { IfErr result (λ e. IsRefused self.old self.new by Call.Unmask e) }
     {
-        let cell = counted(self.cells[usize::from(by)], self.limits.count)?;
-        self.cells[usize::from(by)] = Cell {
-            depth: cell.depth - 1,
-            ..cell
-        };
+        let cell = &mut self.cells[usize::from(by)];
+        cell.refuse_if_spent(self.limits.count)?;
+        cell.unmask();
         Ok(())
     }
 
@@ -217,12 +183,9 @@ impl PlainRegistry {
         ensures made { IfOk result (λ _. IsMade self.old self.new by Call.Cut Reply.Done) }
         ensures refused { IfErr result (λ e. IsRefused self.old self.new by Call.Cut e) }
     {
-        let cell = counted(self.cells[usize::from(by)], self.limits.count)?;
-        self.cells[usize::from(by)] = Cell {
-            stage: Stage::Finalizing,
-            depth: 1,
-            ..cell
-        };
+        let cell = &mut self.cells[usize::from(by)];
+        cell.refuse_if_spent(self.limits.count)?;
+        cell.cut();
         Ok(())
     }
 
@@ -234,11 +197,9 @@ impl PlainRegistry {
         ensures made { IfOk result (λ _. IsMade self.old self.new by (Call.Finish outcome) Reply.Done) }
         ensures refused { IfErr result (λ e. IsRefused self.old self.new by (Call.Finish outcome) e) }
     {
-        let cell = counted(self.cells[usize::from(by)], self.limits.count)?;
-        self.cells[usize::from(by)] = Cell {
-            stage: Stage::Ended(outcome),
-            ..cell
-        };
+        let cell = &mut self.cells[usize::from(by)];
+        cell.refuse_if_spent(self.limits.count)?;
+        cell.finish(outcome);
         Ok(())
     }
 
@@ -326,20 +287,4 @@ impl PlainRegistry {
     {
         self.deferreds[usize::from(number)]
     }
-}
-
-// The cell with one more change of its owner's, unless these are used up.
-fn counted(cell: Cell, limit: u64) -> Result<Cell, CellError>
-    requires within { cell.count ≤ limit }
-    ensures room { IfOk result (λ _. spent cell.count limit ≡ None) }
-    ensures counted { IfOk result (λ c. c ≡ record cell { count = cell.count + 1 }) }
-    ensures refused { IfErr result (λ e. spent cell.count limit ≡ Some e) }
-{
-    if cell.count == limit {
-        return Err(CellError::Spent(cell.count));
-    }
-    Ok(Cell {
-        count: cell.count + 1,
-        ..cell
-    })
 }

@@ -1,0 +1,2 @@
+-- What only contracts of private functions and views of private types cite.
+pub mod Kept

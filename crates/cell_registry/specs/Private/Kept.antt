@@ -1,0 +1,15 @@
+-- A cell as the registry for one thread keeps it.
+use Rattle.std.specs.Prelude.{ℤ}
+use Rattle.effect_term.specs.declared.reply.Outcome.TheVariants as outcome
+use Rattle.cell_registry.specs.declared.cell.Stage.{Stage}
+use Rattle.cell_registry.specs.declared.cell.Stage.TheVariants as stage
+use Rattle.cell_registry.specs.declared.kept_cell.Phase.{Phase}
+use Rattle.cell_registry.specs.declared.kept_cell.Phase.TheVariants.{Running, Finalizing, Succeeded, Errored, Canceled}
+
+-- the stage of a fiber in this phase, which ended with this value or error code if it succeeded or errored
+abbrev pub stage_of : Phase → ℤ → Stage
+stage_of Running v = stage.Running
+stage_of Finalizing v = stage.Finalizing
+stage_of Succeeded v = stage.Ended (outcome.Succeeded v)
+stage_of Errored v = stage.Ended (outcome.Errored v)
+stage_of Canceled v = stage.Ended outcome.Canceled

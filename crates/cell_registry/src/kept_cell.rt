@@ -1,0 +1,174 @@
+//! A fiber's cell as the registry for one thread keeps it.
+ghost use Rattle.std.specs.Prelude.{◌≡◌, ◌+◌, ◌<◌, ◌^◌, IfErr, IfOk, Some, None};
+ghost use Rattle.cell_registry.specs.Cells.{awaited, cancel_reply, cut, finished, fresh, join_reply, masked};
+ghost use Rattle.cell_registry.specs.Cells.{requested, spent, unmasked};
+
+use crate::limits::CellError;
+use effect_term::{CancelReply, JoinReply, Outcome, Value};
+use std::marker::Model;
+use std::mem::size_of;
+
+// How far a fiber has come, and in which way it ended.
+#[derive(Clone, Copy)]
+enum Phase {
+    Running,
+    Finalizing,
+    Succeeded,
+    Errored,
+    Canceled,
+}
+
+// A cell in 24 bytes, which changes in place. With a stage in it, it would have 40: a stage and its
+// outcome have a tag each. Contracts see the cell.
+#[derive(Clone, Drop)]
+pub(crate) struct KeptCell {
+    count: u64,
+    // What the fiber ended with, if it succeeded or errored.
+    value: Value,
+    phase: Phase,
+    depth: u8,
+    request: bool,
+    waited: bool,
+}
+
+const _: () = prove!(size_of::<KeptCell>() == 24);
+
+impl Model for KeptCell {
+    ghost use Rattle.cell_registry.specs.declared.cell.Cell.{Cell};
+    ghost use Rattle.cell_registry.specs.Private.Kept.{stage_of};
+
+    ghost Value = { Cell };
+
+    ghost view = { λ k. record {
+      stage = stage_of k.phase k.value;
+      depth = k.depth;
+      request = k.request;
+      waited = k.waited;
+      count = k.count;
+    } };
+}
+
+impl KeptCell {
+    // A cell at the opening.
+    pub(crate) fn fresh() -> KeptCell
+        ensures { result ≡ fresh }
+    {
+        KeptCell {
+            count: 0,
+            value: Value::ZERO,
+            phase: Phase::Running,
+            depth: 0,
+            request: false,
+            waited: false,
+        }
+    }
+
+    // Whether the fiber's cancellation is requested.
+    #[inline(always)]
+    pub(crate) fn is_requested(&self) -> bool
+        ensures { result ≡ self.now.request }
+    {
+        self.request
+    }
+
+    // Requests the fiber's cancellation.
+    #[inline(always)]
+    pub(crate) fn request(&mut self) -> CancelReply
+        ensures cell { self.new ≡ requested self.old }
+        ensures reply { result ≡ cancel_reply self.old.stage self.old.request }
+    {
+        let before = self.request;
+        self.request = true;
+        match self.phase {
+            Phase::Running | Phase::Finalizing => {
+                if before {
+                    CancelReply::Already
+                } else {
+                    CancelReply::Asked
+                }
+            }
+            Phase::Succeeded | Phase::Errored | Phase::Canceled => CancelReply::Ended,
+        }
+    }
+
+    // Notes that somebody waits for the fiber's end.
+    #[inline(always)]
+    pub(crate) fn join(&mut self) -> JoinReply
+        ensures cell { self.new ≡ awaited self.old }
+        ensures reply { result ≡ join_reply self.old.stage }
+    {
+        self.waited = true;
+        match self.phase {
+            Phase::Running | Phase::Finalizing => JoinReply::Waits,
+            Phase::Succeeded => JoinReply::Ended(Outcome::Succeeded(self.value)),
+            Phase::Errored => JoinReply::Ended(Outcome::Errored(self.value)),
+            Phase::Canceled => JoinReply::Ended(Outcome::Canceled),
+        }
+    }
+
+    // Refuses where the count of changes is used up.
+    #[inline(always)]
+    pub(crate) fn refuse_if_spent(&self, limit: u64) -> Result<(), CellError>
+        ensures room { IfOk result (λ _. spent self.now.count limit ≡ None) }
+        ensures refused { IfErr result (λ e. spent self.now.count limit ≡ Some e) }
+    {
+        if self.count == limit {
+            return Err(CellError::Spent(self.count));
+        }
+        Ok(())
+    }
+
+    // Enters a mask.
+    #[inline(always)]
+    pub(crate) fn mask(&mut self)
+        requires depth { self.old.depth < 255 }
+        requires count { self.old.count + 1 < 2 ^ 64 }
+        ensures { self.new ≡ masked self.old }
+    {
+        self.depth += 1;
+        self.count += 1;
+    }
+
+    // Leaves a mask.
+    #[inline(always)]
+    pub(crate) fn unmask(&mut self)
+        requires depth { 0 < self.old.depth }
+        requires count { self.old.count + 1 < 2 ^ 64 }
+        ensures { self.new ≡ unmasked self.old }
+    {
+        self.depth -= 1;
+        self.count += 1;
+    }
+
+    // Observes the request, and enters the mask of the finalizers.
+    #[inline(always)]
+    pub(crate) fn cut(&mut self)
+        requires depth { self.old.depth ≡ 0 }
+        requires count { self.old.count + 1 < 2 ^ 64 }
+        ensures { self.new ≡ cut self.old }
+    {
+        self.phase = Phase::Finalizing;
+        self.depth = 1;
+        self.count += 1;
+    }
+
+    // Ends the fiber.
+    #[inline(always)]
+    pub(crate) fn finish(&mut self, outcome: Outcome)
+        requires { self.old.count + 1 < 2 ^ 64 }
+        ensures { self.new ≡ finished outcome self.old }
+    {
+        match outcome {
+            Outcome::Succeeded(value) => {
+                self.phase = Phase::Succeeded;
+                self.value = value;
+            }
+            Outcome::Errored(code) => {
+                self.phase = Phase::Errored;
+                self.value = code;
+            }
+            Outcome::Canceled => self.phase = Phase::Canceled,
+        }
+        self.count += 1;
+    }
+}
