@@ -13,7 +13,7 @@ use itoa::write_digits;
 
 // These words.
 #[inline(always)]
-pub(crate) fn put(room: &mut [u8], end: usize, words: &[u8]) -> usize
+fn put(room: &mut [u8], end: usize, words: &[u8]) -> usize
     requires start { length words.now ≤ end }
     requires end { end ≤ length room.old }
     ensures text { drop result room.new ≡ words.now ++ drop end room.old }
@@ -45,27 +45,51 @@ fn put_digits(room: &mut [u8], end: usize, number: u64) -> usize
     write_digits(number, room, end)
 }
 
-// These words, and then the number.
+// What stands before, and then these words.
 #[inline(always)]
-pub(crate) fn put_number(room: &mut [u8], end: usize, words: &[u8], number: u64) -> usize
-    requires start { length words.now + 20 ≤ end }
+pub(crate) fn put_behind(room: &mut [u8], end: usize, before: &[u8], words: &[u8]) -> usize
+    requires start { length before.now + length words.now ≤ end }
     requires end { end ≤ length room.old }
-    ensures text { drop result room.new ≡ (words.now ++ decimal number) ++ drop end room.old }
-    ensures start { end ≤ result + (length words.now + 20) }
+    ensures text { drop result room.new ≡ before.now ++ (words.now ++ drop end room.old) }
+    ensures start { result + (length before.now + length words.now) ≡ end }
+{
+    let start = put(room, end, words);
+    put(room, start, before)
+}
+
+// What stands before, these words, and then the number.
+#[inline(always)]
+pub(crate) fn put_number(
+    room: &mut [u8],
+    end: usize,
+    before: &[u8],
+    words: &[u8],
+    number: u64,
+) -> usize
+    requires start { length before.now + (length words.now + 20) ≤ end }
+    requires end { end ≤ length room.old }
+    ensures text { drop result room.new ≡ before.now ++ ((words.now ++ decimal number) ++ drop end room.old) }
+    ensures start { end ≤ result + (length before.now + (length words.now + 20)) }
     ensures within { result ≤ end }
     ensures ascii { IsAscii (decimal number) }
 {
     let digits = put_digits(room, end, number);
-    put(room, digits, words)
+    put_behind(room, digits, before, words)
 }
 
-// These words, and then the value with its sign.
+// What stands before, these words, and then the value with its sign.
 #[inline(always)]
-pub(crate) fn put_signed(room: &mut [u8], end: usize, words: &[u8], value: Value) -> usize
-    requires start { length words.now + 20 ≤ end }
+pub(crate) fn put_signed(
+    room: &mut [u8],
+    end: usize,
+    before: &[u8],
+    words: &[u8],
+    value: Value,
+) -> usize
+    requires start { length before.now + (length words.now + 20) ≤ end }
     requires end { end ≤ length room.old }
-    ensures text { drop result room.new ≡ (words.now ++ signed_decimal value) ++ drop end room.old }
-    ensures start { end ≤ result + (length words.now + 20) }
+    ensures text { drop result room.new ≡ before.now ++ ((words.now ++ signed_decimal value) ++ drop end room.old) }
+    ensures start { end ≤ result + (length before.now + (length words.now + 20)) }
     ensures within { result ≤ end }
     ensures ascii { IsAscii (signed_decimal value) }
 {
@@ -73,7 +97,7 @@ pub(crate) fn put_signed(room: &mut [u8], end: usize, words: &[u8], value: Value
     if number < 0 {
         let digits = put_digits(room, end, number.unsigned_abs());
         let sign = put(room, digits, b"-");
-        return put(room, sign, words);
+        return put_behind(room, sign, before, words);
     }
-    put_number(room, end, words, number.unsigned_abs())
+    put_number(room, end, before, words, number.unsigned_abs())
 }

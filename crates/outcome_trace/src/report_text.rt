@@ -7,7 +7,7 @@ ghost use Rattle.outcome_trace.specs.Text.{GoesOut, OnlyOutFaults, is_write_faul
 ghost use Rattle.outcome_trace.specs.ReportText.{mark_text, later_marks_text, marks_text, outcome_text, fiber_line};
 ghost use Rattle.outcome_trace.specs.ReportText.{text_of_fibers};
 
-use crate::backwards::{put, put_number, put_signed};
+use crate::backwards::{put_behind, put_number, put_signed};
 use crate::device::TextOut;
 use crate::fault::TextFault;
 use crate::report::{FiberReport, Report};
@@ -36,27 +36,27 @@ fn push_number<I: Integer>(text: &mut String, word: &str, number: I) -> Result<(
     text.push_str(digits.format(number))
 }
 
-/// A mark, written so that it ends at `end`. Gives where it starts.
+/// A mark behind a comma or a colon with its space, written so that it ends at `end`. Gives where they start.
 #[inline(always)]
-fn put_mark(room: &mut [u8], end: usize, mark: Mark) -> usize
-    requires start { LONGEST_MARK ≤ end }
+fn put_mark(room: &mut [u8], end: usize, before: &[u8; 2], mark: Mark) -> usize
+    requires start { LONGEST_MARK + 2 ≤ end }
     requires end { end ≤ length room.old }
-    ensures text { drop result room.new ≡ mark_text mark ++ drop end room.old }
-    ensures start { end ≤ result + LONGEST_MARK }
+    ensures text { drop result room.new ≡ before.now ++ (mark_text mark ++ drop end room.old) }
+    ensures start { end ≤ result + (LONGEST_MARK + 2) }
     ensures within { result ≤ end }
     ensures ascii { IsAscii (mark_text mark) }
 {
     match mark {
-        Mark::Say(value) => put_signed(room, end, b"say ", value),
-        Mark::Enter(mask) => put_number(room, end, b"enter ", mask),
-        Mark::Leave(mask) => put_number(room, end, b"leave ", mask),
-        Mark::PollIn(mask) => put_number(room, end, b"in ", mask),
-        Mark::PollOut(mask) => put_number(room, end, b"out ", mask),
-        Mark::Cut => put(room, end, b"cut"),
-        Mark::Acquired(mask) => put_number(room, end, b"acquired ", mask),
-        Mark::Releasing(mask) => put_number(room, end, b"releasing ", mask),
-        Mark::Released(mask) => put_number(room, end, b"released ", mask),
-        Mark::Dropped(code) => put_signed(room, end, b"dropped ", code),
+        Mark::Say(value) => put_signed(room, end, before, b"say ", value),
+        Mark::Enter(mask) => put_number(room, end, before, b"enter ", mask),
+        Mark::Leave(mask) => put_number(room, end, before, b"leave ", mask),
+        Mark::PollIn(mask) => put_number(room, end, before, b"in ", mask),
+        Mark::PollOut(mask) => put_number(room, end, before, b"out ", mask),
+        Mark::Cut => put_behind(room, end, before, b"cut"),
+        Mark::Acquired(mask) => put_number(room, end, before, b"acquired ", mask),
+        Mark::Releasing(mask) => put_number(room, end, before, b"releasing ", mask),
+        Mark::Released(mask) => put_number(room, end, before, b"released ", mask),
+        Mark::Dropped(code) => put_signed(room, end, before, b"dropped ", code),
     }
 }
 
@@ -72,8 +72,7 @@ fn put_later_marks(room: &mut [u8], marks: &[Mark]) -> usize
     let mut left = marks.len();
     while left > 0 {
         left -= 1;
-        let word = put_mark(room, start, marks[left]);
-        start = put(room, word, b", ");
+        start = put_mark(room, start, b", ", marks[left]);
     }
     start
 }
@@ -112,8 +111,7 @@ fn push_later_marks(
 fn push_first_mark(text: &mut String, room: &mut [u8; ROOM], mark: Mark) -> Result<(), AllocError>
     ensures { OnOk result (string_bytes text.new ≡ string_bytes text.old ++ (codes ": " ++ mark_text mark)) }
 {
-    let word = put_mark(room, ROOM, mark);
-    let start = put(room, word, b": ");
+    let start = put_mark(room, ROOM, b": ", mark);
     push_ascii(text, &room[start..])
 }
 

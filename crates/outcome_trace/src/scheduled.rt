@@ -112,7 +112,7 @@ fn entry(
 {
     let place = usize::from(number);
     if place < fibers.len() {
-        match make_move(&mut fibers[place], registry, number)? {
+        match make_move(&mut fibers[place], registry)? {
             Some(child) => add(fibers, child)?,
             None => {}
         }
@@ -132,26 +132,26 @@ fn add(fibers: &mut Vec<Config>, child: Config) -> Result<(), AllocError>
 
 // The next move of a fiber, if it has one; the child that it starts, if it does.
 #[inline(always)]
-fn make_move(
-    config: &mut Config,
-    registry: &mut PlainRegistry,
-    number: u16,
-) -> Result<Option<Config>, RunError>
-    requires { Fits (cell_registered registry.old.state number) config.old }
+fn make_move(config: &mut Config, registry: &mut PlainRegistry) -> Result<Option<Config>, RunError>
+    requires { Fits (cell_registered registry.old.state config.old.number) config.old }
     ensures lawful { IsPlain registry.old }
-    ensures moves { IfOk result (λ child. Moves registry.old number config.old registry.new config.new
+    ensures moves { IfOk result (λ child. Moves registry.old config.old.number config.old registry.new config.new
         (option_to_list child)) }
-    ensures stops { IfErr result (λ e. (e ≡ RunError.NoMemory) ⊎ Refuses registry.old number config.old e) }
+    ensures stops { IfErr result (λ e. (e ≡ RunError.NoMemory) ⊎
+        Refuses registry.old config.old.number config.old e) }
 {
     // The registry is within its limits.
     let _ = registry.limits();
     match Wish::of(config.ask()) {
         Wish::Nothing => Ok(None),
         Wish::Alone => resumed(config, Reply::Done),
-        Wish::Shared(call) => match answer(registry, number, call) {
-            Ok(reply) => resumed(config, reply),
-            Err(error) => Err(fault(number, error)),
-        },
+        Wish::Shared(call) => {
+            let by = config.number();
+            match answer(registry, by, call) {
+                Ok(reply) => resumed(config, reply),
+                Err(error) => Err(fault(by, error)),
+            }
+        }
     }
 }
 

@@ -2,8 +2,8 @@ use Rattle.std.proofs.Common.{arith}
 use Rattle.std.proofs.lemmas.Fmt.{IsAscii-decimal, length-decimal-le}
 use Rattle.outcome_trace.proofs.backwards.put_number.Goals as goal
 
-pub put-requires-clause-start : goal.put-requires-clause-start
-put-requires-clause-start c =
+pub put_behind-requires-clause-start : goal.put_behind-requires-clause-start
+put_behind-requires-clause-start c =
     omega (arith, length-decimal-le 20 c.args.number (omega arith) (omega arith) (omega arith))
 
 pub returns-clause-start : goal.returns-clause-start

@@ -7,8 +7,8 @@ pub put-sign-requires-clause-start : goal.put-sign-requires-clause-start
 put-sign-requires-clause-start c =
     omega (arith, length-decimal-le 19 c.unsigned_abs.result (omega arith) (omega arith) (omega arith))
 
-pub put-requires-clause-start : goal.put-requires-clause-start
-put-requires-clause-start c =
+pub put_behind-requires-clause-start : goal.put_behind-requires-clause-start
+put_behind-requires-clause-start c =
     omega (arith, length-decimal-le 19 c.unsigned_abs.result (omega arith) (omega arith) (omega arith))
 
 pub returns-then-number-lt0-clause-start : goal.returns-then-number-lt0-clause-start
