@@ -24,6 +24,7 @@ pub mod Moving
 pub mod Beginning
 pub mod Children
 pub mod Valued
+pub mod Looking
 pub mod Reaching
 pub mod Samples
 pub mod Rowing

@@ -60,7 +60,8 @@ impl Machine {
     {
         match self.frames.last() {
             Some(Frame::Let(_, _) | Frame::Seq(_, _, _) | Frame::Again(_, _, _)) => true,
-            Some(Frame::Handle(_, _) | Frame::Guarded(_, _) | Frame::Idle(_)) => true,
+            Some(Frame::Forever(_, _) | Frame::Handle(_, _)) => true,
+            Some(Frame::Guarded(_, _) | Frame::Idle(_)) => true,
             Some(Frame::Masked(_) | Frame::Polled(_)) | None => false,
         }
     }
@@ -98,7 +99,8 @@ impl Machine {
             Some(Frame::Masked(_)) => Ask::Unmask,
             Some(Frame::Polled(_)) => Ask::Mask,
             Some(Frame::Let(_, _) | Frame::Seq(_, _, _) | Frame::Again(_, _, _)) => unreachable!(),
-            Some(Frame::Handle(_, _) | Frame::Guarded(_, _) | Frame::Idle(_)) => unreachable!(),
+            Some(Frame::Forever(_, _) | Frame::Handle(_, _)) => unreachable!(),
+            Some(Frame::Guarded(_, _) | Frame::Idle(_)) => unreachable!(),
             None => match self.stage {
                 Stage::Final(_) => Ask::Silent,
                 Stage::Runs | Stage::Drained(_) | Stage::Over(_) | Stage::Broken => {
@@ -181,8 +183,11 @@ impl Machine {
         requires { Sound (state_of self.now) }
         ensures { result ≡ row_ask self.now.stage (state_of self.now) }
     {
+        if self.is_live() {
+            return self.leaf_ask();
+        }
         match self.stage {
-            Stage::Runs | Stage::Final(_) => self.leaf_ask(),
+            Stage::Runs | Stage::Final(_) => unreachable!(),
             Stage::Drained(_) => Ask::Finish(Outcome::Canceled),
             Stage::Over(outcome) => Ask::Over(outcome),
             Stage::Broken => Ask::Broken,

@@ -22,7 +22,9 @@ pub(crate) enum Frame {
     /// The next part of a sequence.
     Seq(Rest, usize, usize),
     /// The body of a loop that has so many turns left.
-    Again(u32, Value, usize),
+    Again(u32, usize, usize),
+    /// The next turn of a loop without end, which is this word.
+    Forever(usize, usize),
     /// The word that an error goes on to, which binds its code.
     Handle(usize, usize),
     /// The finalizer of what stands inside.
@@ -54,10 +56,11 @@ pub(crate) struct Place {
     pub handle: u16,
     /// The body of the loop, or the slot.
     pub part: u32,
-    /// The word, and its level or that of the body.
+    /// The word, or the turns that are left.
     pub index: usize,
+    /// The level of the word, or of the body.
     pub level: usize,
-    /// The value, the error's code, the ref's first value, or the turns that are left.
+    /// The value, the error's code, or the ref's first value.
     pub number: Value,
 }
 

@@ -29,6 +29,7 @@ impl Machine {
         ensures { state_of self.new ≡ over (state_of self.old) outcome }
     {
         self.stage = Stage::Over(outcome);
+        self.masks.clear();
     }
 
     // The result leaves the mask of this number, whose frame is taken off.
@@ -78,10 +79,11 @@ impl Machine {
             }
             Frame::Again(body, turns, level) => {
                 self.place.kind = Kind::Turns;
-                self.place.number = turns;
+                self.place.index = turns;
                 self.place.part = body;
                 self.place.level = level;
             }
+            Frame::Forever(index, level) => self.stand(Kind::Always, index, level),
             Frame::Handle(_, _) | Frame::Guarded(_, _) | Frame::Idle(_) => {}
             Frame::Masked(number) => self.leave_mask(number)?,
             Frame::Polled(number) => self.leave_poll(number)?,
@@ -101,7 +103,7 @@ impl Machine {
         match frame {
             Frame::Handle(next, level) => self.go_below_value(next, level, code),
             Frame::Let(_, _) | Frame::Seq(_, _, _) | Frame::Again(_, _, _) => Ok(()),
-            Frame::Guarded(_, _) | Frame::Idle(_) => Ok(()),
+            Frame::Forever(_, _) | Frame::Guarded(_, _) | Frame::Idle(_) => Ok(()),
             Frame::Masked(number) => self.leave_mask(number),
             Frame::Polled(number) => self.leave_poll(number),
         }

@@ -1,7 +1,7 @@
 //! Text that is written from its end to its front, into a buffer that has room for it. So a number needs
 //! no count of its digits, and nothing is moved.
 
-ghost use Rattle.std.specs.Prelude.{◌≡◌, ◌+◌, ◌≤◌, ◌++◌, length, drop};
+ghost use Rattle.std.specs.Prelude.{◌≡◌, ◌+◌, ◌≤◌, ◌<◌, ◌++◌, length, drop};
 ghost use Rattle.std.specs.Fmt.{decimal, signed_decimal};
 ghost use Rattle.std.specs.Str.{IsAscii};
 
@@ -29,6 +29,21 @@ fn put(room: &mut [u8], end: usize, words: &[u8]) -> usize
     start
 }
 
+// The digit of a number below 10.
+#[inline(always)]
+fn put_digit(room: &mut [u8], end: usize, number: u64) -> usize
+    requires digit { number < 10 }
+    requires start { 1 ≤ end }
+    requires end { end ≤ length room.old }
+    ensures text { drop result room.new ≡ decimal number ++ drop end room.old }
+    ensures start { result + 1 ≡ end }
+    ensures one { length (decimal number) ≡ 1 }
+{
+    let digit = end - 1;
+    room[digit] = b'0' + number as u8;
+    digit
+}
+
 // The digits of a number. Most numbers of a report have one, and none has more than 20.
 #[inline(always)]
 fn put_digits(room: &mut [u8], end: usize, number: u64) -> usize
@@ -38,9 +53,7 @@ fn put_digits(room: &mut [u8], end: usize, number: u64) -> usize
     ensures start { result + length (decimal number) ≡ end }
 {
     if number < 10 {
-        let digit = end - 1;
-        room[digit] = b'0' + number as u8;
-        return digit;
+        return put_digit(room, end, number);
     }
     write_digits(number, room, end)
 }
@@ -55,6 +68,26 @@ pub(crate) fn put_behind(room: &mut [u8], end: usize, before: &[u8], words: &[u8
 {
     let start = put(room, end, words);
     put(room, start, before)
+}
+
+// What stands before, these words, and then the number of one digit: so all of it stands at known distances.
+#[inline(always)]
+pub(crate) fn put_short(
+    room: &mut [u8],
+    end: usize,
+    before: &[u8],
+    words: &[u8],
+    number: u64,
+) -> usize
+    requires digit { number < 10 }
+    requires start { length before.now + (length words.now + 1) ≤ end }
+    requires end { end ≤ length room.old }
+    ensures text { drop result room.new ≡ before.now ++ ((words.now ++ decimal number) ++ drop end room.old) }
+    ensures start { result + (length before.now + (length words.now + 1)) ≡ end }
+    ensures ascii { IsAscii (decimal number) }
+{
+    let digit = put_digit(room, end, number);
+    put_behind(room, digit, before, words)
 }
 
 // What stands before, these words, and then the number.

@@ -1,18 +1,19 @@
 //! The text of a report.
 
-ghost use Rattle.std.specs.Prelude.{◌≡◌, ◌+◌, ◌*◌, ◌≤◌, ◌++◌, false, IfOk, OnOk, IsErrOf};
+ghost use Rattle.std.specs.Prelude.{◌≡◌, ℤ, ◌+◌, ◌*◌, ◌≤◌, ◌++◌, false, IfOk, OnOk, IsErrOf};
 ghost use Rattle.std.specs.Prelude.{codes, drop, length, string_bytes};
 ghost use Rattle.std.specs.Str.{IsAscii};
+ghost use Rattle.fiber_frames.specs.declared.mark.Mark.TheVariants as marks;
 ghost use Rattle.outcome_trace.specs.Text.{GoesOut, OnlyOutFaults, is_write_fault};
 ghost use Rattle.outcome_trace.specs.ReportText.{mark_text, later_marks_text, marks_text, outcome_text, fiber_line};
 ghost use Rattle.outcome_trace.specs.ReportText.{text_of_fibers};
 
-use crate::backwards::{put_behind, put_number, put_signed};
+use crate::backwards::{put_behind, put_number, put_short, put_signed};
 use crate::device::TextOut;
 use crate::fault::TextFault;
 use crate::report::{FiberReport, Report};
 use crate::text::write_text;
-use effect_term::Outcome;
+use effect_term::{Outcome, Value};
 use fiber_frames::Mark;
 use itoa::{Buffer, Integer};
 use std::alloc::{AllocError, Global};
@@ -46,8 +47,43 @@ fn put_mark(room: &mut [u8], end: usize, before: &[u8; 2], mark: Mark) -> usize
     ensures within { result ≤ end }
     ensures ascii { IsAscii (mark_text mark) }
 {
+    let Mark::Say(value) = mark else {
+        return put_other_mark(room, end, before, mark);
+    };
+    // Most marks say a digit. The code of the others stands apart, so that the loop over marks is short.
+    let number = value.get();
+    if 0 <= number && number < 10 {
+        return put_short(room, end, before, b"say ", number.unsigned_abs());
+    }
+    put_long_say(room, end, before, value)
+}
+
+/// A `say` of a number that has more digits or a sign, put as [`put_mark`] does.
+#[inline(never)]
+fn put_long_say(room: &mut [u8], end: usize, before: &[u8; 2], value: Value) -> usize
+    requires start { LONGEST_MARK + 2 ≤ end }
+    requires end { end ≤ length room.old }
+    ensures text { drop result room.new ≡ before.now ++ (mark_text (marks.Say value) ++ drop end room.old) }
+    ensures start { end ≤ result + (LONGEST_MARK + 2) }
+    ensures within { result ≤ end }
+    ensures ascii { IsAscii (mark_text (marks.Say value)) }
+{
+    put_signed(room, end, before, b"say ", value)
+}
+
+/// A mark that says nothing, put as [`put_mark`] does.
+#[inline(never)]
+fn put_other_mark(room: &mut [u8], end: usize, before: &[u8; 2], mark: Mark) -> usize
+    requires other { (value : ℤ) → mark ≡ marks.Say value → ⊥ }
+    requires start { LONGEST_MARK + 2 ≤ end }
+    requires end { end ≤ length room.old }
+    ensures text { drop result room.new ≡ before.now ++ (mark_text mark ++ drop end room.old) }
+    ensures start { end ≤ result + (LONGEST_MARK + 2) }
+    ensures within { result ≤ end }
+    ensures ascii { IsAscii (mark_text mark) }
+{
     match mark {
-        Mark::Say(value) => put_signed(room, end, before, b"say ", value),
+        Mark::Say(_) => unreachable!(),
         Mark::Enter(mask) => put_number(room, end, before, b"enter ", mask),
         Mark::Leave(mask) => put_number(room, end, before, b"leave ", mask),
         Mark::PollIn(mask) => put_number(room, end, before, b"in ", mask),

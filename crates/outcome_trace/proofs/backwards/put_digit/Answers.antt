@@ -1,0 +1,10 @@
+use Rattle.std.proofs.Common.{arith}
+use Rattle.std.proofs.lemmas.Fmt.{decimal_digit}
+use Rattle.std.proofs.lemmas.Grind.{common_steps}
+use Rattle.outcome_trace.proofs.backwards.put_digit.Goals as goal
+
+pub returns-clause-text : goal.returns-clause-text
+returns-clause-text c = rw (decimal_digit c.args.number c.requires.digit) (grind (arith, common_steps))
+
+pub returns-clause-one : goal.returns-clause-one
+returns-clause-one c = rw (decimal_digit c.args.number c.requires.digit) (omega arith)
