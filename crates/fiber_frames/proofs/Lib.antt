@@ -23,8 +23,8 @@ pub mod Asking
 pub mod Moving
 pub mod Beginning
 pub mod Children
-pub mod Valued
 pub mod Looking
+pub mod Valued
 pub mod Reaching
 pub mod Samples
 pub mod Rowing
