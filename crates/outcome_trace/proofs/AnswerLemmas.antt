@@ -10,8 +10,8 @@ use Rattle.term_parse.specs.declared.error.ParseError.{ParseError}
 use Rattle.term_parse.specs.declared.error.ParseError.TheVariants as parse
 use Rattle.term_parse.specs.Atoms.{atoms_of}
 use Rattle.term_parse.specs.Reading.{reading}
-use Rattle.outcome_trace.specs.declared.text_order.Answer.{Answer}
-use Rattle.outcome_trace.specs.declared.status.Status.TheVariants as ends
+use Rattle.text_io.specs.declared.text_order.Answer.{Answer}
+use Rattle.text_io.specs.declared.status.Status.TheVariants as ends
 use Rattle.outcome_trace.specs.declared.lines.Refused.{Refused}
 use Rattle.outcome_trace.specs.declared.lines.Refused.TheVariants as refusals
 use Rattle.outcome_trace.specs.Lines.{has_line, line_of}

@@ -16,8 +16,8 @@ use Rattle.term_parse.specs.Reading.{reading}
 use Rattle.outcome_trace.specs.declared.lines.Refused.{Refused}
 use Rattle.outcome_trace.specs.declared.lines.Refused.TheVariants.{Parse, Run}
 use Rattle.outcome_trace.specs.declared.lines.Refused.TheVariants as refusals
-use Rattle.outcome_trace.specs.declared.status.Status.{Status}
-use Rattle.outcome_trace.specs.declared.status.Status.TheVariants as ends
+use Rattle.text_io.specs.declared.status.Status.{Status}
+use Rattle.text_io.specs.declared.status.Status.TheVariants as ends
 use Rattle.outcome_trace.specs.Lines.{parse_line, term_line}
 
 -- a count as it is told, which is the greatest of 64 bits where it is above that

@@ -1,6 +1,5 @@
 -- The lines that tell a refusal or a fault of a run.
 use Rattle.std.specs.Prelude.{ℕ, Bool, true, false, List, [], ◌∷◌, ◌++◌, codes}
-use Rattle.std.specs.Fmt.{decimal}
 use Rattle.term_parse.specs.declared.error.ParseError.{ParseError}
 use Rattle.term_parse.specs.declared.error.ParseError.TheVariants as parse
 use Rattle.cell_registry.specs.declared.limits.Band.{Band}
@@ -11,10 +10,7 @@ use Rattle.cell_registry.specs.declared.limits.RunError.{RunError}
 use Rattle.cell_registry.specs.declared.limits.RunError.TheVariants as run
 use Rattle.outcome_trace.specs.declared.lines.Refused.{Refused}
 use Rattle.outcome_trace.specs.declared.lines.Refused.TheVariants.{Parse, Term, Run}
-
--- a word or words, and then a number and a line feed
-abbrev pub told : List ℕ → ℕ → List ℕ
-told words n = words ++ (decimal n ++ 10 ∷ [])
+use Rattle.text_io.specs.FaultLines.{told}
 
 -- of a text that isn't one of the grammar: the fault's number and name, and its place
 abbrev pub parse_line : ParseError → List ℕ

@@ -12,8 +12,8 @@ use Rattle.term_parse.specs.Atoms.{atoms_of}
 use Rattle.term_parse.specs.Reading.{reading}
 use Rattle.outcome_trace.specs.declared.report.FiberReport.{FiberReport}
 use Rattle.outcome_trace.specs.declared.report.Report.{Report}
-use Rattle.outcome_trace.specs.declared.status.Status.{Status}
-use Rattle.outcome_trace.specs.declared.status.Status.TheVariants as ends
+use Rattle.text_io.specs.declared.status.Status.{Status}
+use Rattle.text_io.specs.declared.status.Status.TheVariants as ends
 use Rattle.outcome_trace.specs.Answers.{IsRefusalAnswer}
 use Rattle.outcome_trace.specs.Core.{core, reported}
 use Rattle.outcome_trace.specs.Lines.{run_line}

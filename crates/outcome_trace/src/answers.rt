@@ -8,12 +8,11 @@ ghost use Rattle.outcome_trace.specs.Answers.{IsCheckAnswer, IsOfText, IsRefused
 ghost use Rattle.outcome_trace.specs.Lines.{has_line, line_of};
 
 use crate::lines::{Refused, line};
-use crate::status::Status;
-use crate::text_order::{Answer, TextOrder};
 use derived_ops::{expand, print_core, program_of};
 use effect_term::{Program, TermError};
 use std::alloc::{AllocError, Global};
 use term_parse::{ParseError, parse};
+use text_io::{Answer, Status, TextOrder};
 
 /// The program that a text spells, or why there is none: the first fault of the text, or the first limit
 /// that its term goes past.

@@ -2,24 +2,21 @@
 
 ghost use Rattle.std.specs.Prelude.{◌≡◌, ◌≢◌, ◌<◌, ◌^◌, false, IfOk, OnOk};
 ghost use Rattle.cell_registry.specs.Cells.{AreLimits};
-ghost use Rattle.outcome_trace.specs.Devices.{reader, writer};
-ghost use Rattle.outcome_trace.specs.Exchange.{IsAnswered};
+ghost use Rattle.text_io.specs.Devices.{reader, writer};
+ghost use Rattle.text_io.specs.Exchange.{IsAnswered};
 ghost use Rattle.outcome_trace.specs.Lines.{run_line};
 ghost use Rattle.outcome_trace.specs.ReplayAnswers.{IsReplayAnswer, IsRunAnswer, report_status};
 ghost use Rattle.outcome_trace.specs.ReportText.{text_of_fibers};
 
 use crate::answers::{read_program, refusal};
-use crate::device::{TextIn, TextOut};
-use crate::fault::TextFault;
 use crate::lines::{Refused, line};
 use crate::report::Report;
 use crate::report_text::text_of_report;
 use crate::scheduled::replay;
-use crate::status::Status;
-use crate::text_order::{Answer, TextOrder, answer_text};
 use cell_registry::{Limits, RunError};
 use effect_term::{Outcome, Program};
 use std::alloc::{AllocError, Global};
+use text_io::{Answer, Status, TextFault, TextIn, TextOrder, TextOut, answer_text};
 
 /// The status of a program that writes this report.
 fn report_status(report: &Report) -> Status

@@ -4,20 +4,18 @@ ghost use Rattle.std.specs.Prelude.{◌≡◌, ℤ, ◌+◌, ◌*◌, ◌≤◌,
 ghost use Rattle.std.specs.Prelude.{codes, drop, length, string_bytes};
 ghost use Rattle.std.specs.Str.{IsAscii};
 ghost use Rattle.fiber_frames.specs.declared.mark.Mark.TheVariants as marks;
-ghost use Rattle.outcome_trace.specs.Text.{GoesOut, OnlyOutFaults, is_write_fault};
+ghost use Rattle.text_io.specs.Text.{GoesOut, OnlyOutFaults, is_write_fault};
 ghost use Rattle.outcome_trace.specs.ReportText.{mark_text, later_marks_text, marks_text, outcome_text, fiber_line};
 ghost use Rattle.outcome_trace.specs.ReportText.{text_of_fibers};
 
 use crate::backwards::{put_behind, put_number, put_short, put_signed};
-use crate::device::TextOut;
-use crate::fault::TextFault;
 use crate::report::{FiberReport, Report};
-use crate::text::write_text;
 use effect_term::{Outcome, Value};
 use fiber_frames::Mark;
 use itoa::{Buffer, Integer};
 use std::alloc::{AllocError, Global};
 use std::str;
+use text_io::{TextFault, TextOut, write_text};
 
 /// How many bytes a mark may have: the longest word, a space, and the 20 digits of the greatest number.
 const LONGEST_MARK: usize = 30;

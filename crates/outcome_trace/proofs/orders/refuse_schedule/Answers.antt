@@ -1,8 +1,0 @@
-use Rattle.std.proofs.Common.{◌∙◌}
-use Rattle.outcome_trace.proofs.OrderLemmas.{schedule_refused}
-use Rattle.outcome_trace.proofs.orders.refuse_schedule.Goals as goal
-
-pub returns : goal.returns
-returns g c =
-    let told = c.write_text.ensures in
-    schedule_refused c.args.error c.in-BadSchedule.place c.as_bytes.result.now _ _ c.write_text.result c.in-BadSchedule.is (c.as_bytes.ensures.value ∙ c.as_str.ensures.value ∙ c.schedule_line.ensures) told.text told.only told.failed

@@ -1,0 +1,4 @@
+pub mod KnownLemmas
+pub mod ReadLemmas
+pub mod ScheduleLemmas
+pub mod TellingLemmas

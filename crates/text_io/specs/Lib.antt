@@ -1,0 +1,11 @@
+pub mod Device
+pub mod Devices
+pub mod Wrapped
+pub mod Text
+pub mod Exchange
+pub mod FaultLines
+pub mod Status
+pub mod Telling
+pub mod Schedule
+pub mod Reading
+pub mod Digits

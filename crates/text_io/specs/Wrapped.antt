@@ -1,0 +1,56 @@
+-- What a device that wraps a reader or a writer keeps, and what it tells of their answers.
+use Rattle.std.specs.Prelude.{◌≡◌, ◌≢◌, ℕ, Bool, List, Result, Ok, Err}
+use Rattle.std.specs.IoError.{error_kind}
+use Rattle.std.specs.declared.io.Error.{Error}
+use Rattle.std.specs.declared.io.ErrorKind.TheVariants as kind
+use Rattle.text_io.specs.declared.device.ReadError.{ReadError}
+use Rattle.text_io.specs.declared.device.ReadError.TheVariants as read
+use Rattle.text_io.specs.declared.device.WriteFailed.{WriteFailed}
+use Rattle.text_io.specs.declared.wrapped.FromRead.{FromRead}
+use Rattle.text_io.specs.declared.wrapped.ToWrite.{ToWrite}
+
+-- the reader, as it is now
+abbrev pub reader_of : {R : Type 0} → FromRead R → R
+reader_of d = d.inner
+
+-- whether one of its reads has failed
+abbrev pub read_has_failed : {R : Type 0} → FromRead R → Bool
+read_has_failed d = d.failed
+
+-- whether one of its reads has found the end
+abbrev pub has_found_end : {R : Type 0} → FromRead R → Bool
+has_found_end d = d.ended
+
+-- how many reads were made
+abbrev pub reads_of : {R : Type 0} → FromRead R → ℕ
+reads_of d = d.reads
+
+-- the writer, as it is now
+abbrev pub writer_of : {W : Type 0} → ToWrite W → W
+writer_of d = d.inner
+
+-- whether one of its writes has failed
+abbrev pub write_has_failed : {W : Type 0} → ToWrite W → Bool
+write_has_failed d = d.failed
+
+-- a reader's answer, as a device tells it: its count; of an error, that the reader was interrupted, or else that it
+-- failed
+abbrev pub TellsRead : Result ℕ Error → Result ℕ ReadError → Type 0
+TellsRead (Ok n) told = told ≡ Ok n
+TellsRead (Err e) (Ok n) = ⊥
+TellsRead (Err e) (Err read.Interrupted) = error_kind e ≡ kind.Interrupted
+TellsRead (Err e) (Err read.Failed) = error_kind e ≢ kind.Interrupted
+
+-- a writer's answer, as a device tells it: its count, or that the writer failed
+abbrev pub TellsWrite : Result ℕ Error → Result ℕ WriteFailed → Type 0
+TellsWrite (Ok n) told = told ≡ Ok n
+TellsWrite (Err e) (Ok n) = ⊥
+TellsWrite (Err e) (Err f) = Unit {0}
+
+-- what is told is an answer that the reader gave, with its buffer as it is now
+abbrev pub IsToldRead : (Result ℕ Error → List ℕ → Type 0) → List ℕ → Result ℕ ReadError → Type 0
+IsToldRead Answers buffer told = (answer : Result ℕ Error) × Answers answer buffer × TellsRead answer told
+
+-- what is told is an answer that the writer gave to these bytes
+abbrev pub IsToldWrite : (Result ℕ Error → List ℕ → Type 0) → List ℕ → Result ℕ WriteFailed → Type 0
+IsToldWrite Answers bytes told = (answer : Result ℕ Error) × Answers answer bytes × TellsWrite answer told

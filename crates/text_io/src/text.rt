@@ -1,0 +1,108 @@
+//! Whole texts, read from a device and written to one.
+
+ghost use Rattle.std.specs.Prelude.{◌≡◌, ◌≢◌, ◌||◌, ◌+◌, ◌-◌, ◌<◌, ◌≤◌, ◌^◌, ℕ, false, IfOk, IsErrOf, length, take};
+ghost use Rattle.std.specs.Prelude.{drop, vec_len};
+ghost use Rattle.std.specs.Io.KnownBytes.{ReadConsumes};
+ghost use Rattle.text_io.specs.Device.{found_end, read_failed};
+ghost use Rattle.text_io.specs.Devices.{reader};
+ghost use Rattle.text_io.specs.Exchange.{IsOutOfReads, IsRead};
+ghost use Rattle.text_io.specs.Text.{GoesOut, OnlyWriteFaults, is_read_fault, is_write_fault};
+
+use crate::device::{ReadError, TextIn, TextOut};
+use crate::fault::TextFault;
+use std::alloc::{AllocError, Global};
+
+/// One byte more than a text may have, and how many reads are made of one text.
+pub const TEXT_BOUND: usize = 65_537;
+
+/// What is left of the input, up to `TEXT_BOUND` bytes. An interrupted read is tried again.
+///
+/// It makes at most `TEXT_BOUND` reads, and asks that the reader has counted fewer than 2^63. The
+/// faults are `ReadFault` where a read failed, `TurnBound` where so many reads neither found the end
+/// of the input nor gave as many bytes, and `NoMemory` where memory ran out, which is before the
+/// first read.
+pub fn read_text<T: TextIn>(alloc: Global, input: &mut T) -> Result<Vec<u8>, TextFault>
+    requires healthy { T.has_failed input.old ≡ false }
+    requires countable { T.reads input.old < 2 ^ 63 }
+
+    // It gives what it took from the input, which is all of it, or `TEXT_BOUND` bytes.
+    ensures read { let before = reader (T.remaining input.old) (T.has_failed input.old) (T.has_ended input.old)
+        (T.reads input.old) in
+        let after = reader (T.remaining input.new) (T.has_failed input.new) (T.has_ended input.new)
+        (T.reads input.new) in
+        IfOk result (λ text. IsRead before after text.items) }
+
+    // The fault is told exactly where the reader failed.
+    ensures failed { T.has_failed input.new ≡ is_read_fault result }
+    ensures turns { let before = reader (T.remaining input.old) (T.has_failed input.old) (T.has_ended input.old)
+        (T.reads input.old) in
+        let after = reader (T.remaining input.new) (T.has_failed input.new) (T.has_ended input.new)
+        (T.reads input.new) in
+        IsErrOf result TextFault.TurnBound → IsOutOfReads before after }
+    ensures memory { IsErrOf result TextFault.NoMemory → input.new ≡ input.old }
+    ensures nothing_written { (written : ℕ) → result ≢ Err (TextFault.WriteFault written) }
+{
+    let mut text = zeros(alloc, TEXT_BOUND)?;
+    let mut length: usize = 0;
+    for _ in 0..TEXT_BOUND {
+        match read_after(&mut text, length, input) {
+            Ok(0) => {
+                text.truncate(length);
+                return Ok(text);
+            }
+            Ok(count) => {
+                length += count;
+                if length == TEXT_BOUND {
+                    return Ok(text);
+                }
+            }
+            Err(ReadError::Interrupted) => {}
+            Err(ReadError::Failed) => return Err(TextFault::ReadFault),
+        }
+    }
+    Err(TextFault::TurnBound)
+}
+
+/// One read into the buffer, behind the bytes that it has already.
+fn read_after<T: TextIn>(buffer: &mut [u8], len: usize, input: &mut T) -> Result<usize, ReadError>
+    requires within { len ≤ length buffer.old }
+    requires healthy { T.has_failed input.old ≡ false }
+    requires countable { T.reads input.old < 2 ^ 64 - 1 }
+
+    ensures bound { IfOk result (λ count. len + count ≤ length buffer.new) }
+    ensures kept { take len buffer.new ≡ take len buffer.old }
+    ensures bytes { ReadConsumes (T.remaining input.old) (T.remaining input.new) result (drop len buffer.new) }
+    ensures failed { T.has_failed input.new ≡ read_failed result }
+    ensures ended { T.has_ended input.new ≡ (T.has_ended input.old || found_end result (drop len buffer.new)) }
+    ensures counted { T.reads input.new ≡ T.reads input.old + 1 }
+{
+    input.read_some(&mut buffer[len..])
+}
+
+/// A buffer of this many bytes.
+fn zeros(alloc: Global, count: usize) -> Result<Vec<u8>, AllocError>
+    ensures { IfOk result (λ buffer. vec_len buffer ≡ count) }
+{
+    vec![in alloc; 0u8; count]
+}
+
+/// Writes the whole text. It takes no memory: the only fault is `WriteFault`, with the number of
+/// bytes that went out before a write failed, was interrupted, or took nothing.
+pub fn write_text<T: TextOut>(text: &[u8], out: &mut T) -> Result<(), TextFault>
+    requires { T.has_failed out.old ≡ false }
+
+    // All of it goes out, or as much of its front as the fault tells.
+    ensures text { GoesOut (T.contents out.old) (T.contents out.new) text.now result }
+    ensures only { OnlyWriteFaults result }
+    ensures failed { T.has_failed out.new ≡ is_write_fault result }
+{
+    let mut written: usize = 0;
+    while written < text.len() {
+        match out.write_some(&text[written..]) {
+            Ok(0) => return Err(TextFault::WriteFault(written)),
+            Ok(count) => written += count,
+            Err(_) => return Err(TextFault::WriteFault(written)),
+        }
+    }
+    Ok(())
+}

@@ -1,0 +1,58 @@
+//! A text that is read whole, and its answer, which is written whole: one way for all orders.
+
+ghost use Rattle.std.specs.Prelude.{◌≡◌, ◌<◌, ◌^◌, ℕ, List, false, IfOk};
+ghost use Rattle.text_io.specs.declared.status.Status.{Status};
+ghost use Rattle.text_io.specs.Devices.{reader, writer};
+ghost use Rattle.text_io.specs.Exchange.{IsAnswered};
+
+use crate::device::{TextIn, TextOut};
+use crate::fault::TextFault;
+use crate::status::Status;
+use crate::text::{read_text, write_text};
+use std::alloc::{AllocError, Global};
+
+/// What goes out for a text that came in, and the status that goes with it.
+#[derive(Drop)]
+pub struct Answer {
+    /// The bytes that go out.
+    pub text: Vec<u8>,
+    /// How the program ends.
+    pub status: Status,
+}
+
+/// What is to be answered to a text.
+pub trait TextOrder {
+    // What may be answered to a text, with its status.
+    ghost answers: { Self → List ℕ → List ℕ → Status → Type 0 };
+
+    /// The answer to a text. `AllocError` where memory ran out.
+    fn answer(&self, alloc: Global, text: &[u8]) -> Result<Answer, AllocError>
+        ensures { IfOk result (λ a. answers self.now text.now a.text.items a.status) };
+}
+
+/// Reads a text ([`read_text`]), and writes its answer ([`write_text`]). Gives the answer's status.
+///
+/// Where memory runs out, the reader fails, or the input doesn't end within
+/// [`TEXT_BOUND`](crate::TEXT_BOUND) reads, nothing is written.
+pub fn answer_text<A: TextOrder, I: TextIn, O: TextOut>(
+    alloc: Global,
+    order: &A,
+    input: &mut I,
+    out: &mut O,
+) -> Result<Status, TextFault>
+    requires input { I.has_failed input.old ≡ false }
+    requires countable { I.reads input.old < 2 ^ 63 }
+    requires out { O.has_failed out.old ≡ false }
+    ensures { let before = reader (I.remaining input.old) (I.has_failed input.old) (I.has_ended input.old)
+        (I.reads input.old) in
+        let after = reader (I.remaining input.new) (I.has_failed input.new) (I.has_ended input.new)
+        (I.reads input.new) in
+        let old = writer (O.contents out.old) (O.has_failed out.old) in
+        let new = writer (O.contents out.new) (O.has_failed out.new) in
+        IsAnswered (A.answers order.now) before after old new result }
+{
+    let text = read_text(alloc, input)?;
+    let answer = order.answer(alloc, text.as_slice())?;
+    write_text(answer.text.as_slice(), out)?;
+    Ok(answer.status)
+}
