@@ -1,4 +1,4 @@
-use Rattle.std.proofs.Common.{arith}
+use Rattle.std.proofs.Common.{arith, rules}
 use Rattle.std.proofs.lemmas.Grind.{common_steps}
 use Rattle.text_io.proofs.KnownLemmas.{appends_more}
 use Rattle.text_io.proofs.text.write_text.Goals as goal
@@ -9,3 +9,6 @@ loop-written-preserved g c = record {
   healthy = grind (arith, common_steps, c.in-Ok.ensures.failed);
   written = grind (arith, common_steps, appends_more, c.in-Ok.ensures.bytes, c.loop-written.invariant.written);
 }
+
+pub returns-in-Ok-eq0-clause-text : goal.returns-in-Ok-eq0-clause-text
+returns-in-Ok-eq0-clause-text g c = search rules
