@@ -4,14 +4,14 @@ use Rattle.clap.specs.Words.{App, IsAmong, Row, Text, HasMatchesOf, fault_of, is
 use Rattle.clap.specs.declared.error.kind.ErrorKind.{ErrorKind}
 use Rattle.clap.specs.declared.error.kind.ErrorKind.TheVariants as kind
 use Rattle.clap.specs.declared.parser.matches.ArgMatches.{ArgMatches}
-use Rattle.outcome_trace.specs.declared.fault.TextFault.{TextFault}
-use Rattle.outcome_trace.specs.declared.fault.TextFault.TheVariants as faults
-use Rattle.outcome_trace.specs.declared.status.Status.{Status}
-use Rattle.outcome_trace.specs.declared.status.Status.TheVariants.{Succeeded, Fault}
-use Rattle.outcome_trace.specs.Devices.{Devices, Writer}
-use Rattle.outcome_trace.specs.FaultLines.{fault_line}
-use Rattle.outcome_trace.specs.Orders.{Told}
-use Rattle.outcome_trace.specs.Text.{GoesOut, OnlyWriteFaults, is_write_fault}
+use Rattle.text_io.specs.declared.fault.TextFault.{TextFault}
+use Rattle.text_io.specs.declared.fault.TextFault.TheVariants as faults
+use Rattle.text_io.specs.declared.status.Status.{Status}
+use Rattle.text_io.specs.declared.status.Status.TheVariants.{Succeeded, Fault}
+use Rattle.text_io.specs.Devices.{Devices, Writer}
+use Rattle.text_io.specs.FaultLines.{fault_line}
+use Rattle.text_io.specs.Telling.{Told}
+use Rattle.text_io.specs.Text.{GoesOut, OnlyWriteFaults, is_write_fault}
 use Rattle.fiber_cli.specs.declared.requests.Request.{Request}
 use Rattle.fiber_cli.specs.Requests.{AsksHelp, GivesRequest, LacksMemory, ObeysRequest, Runs, ShowsText, TellsKind, TellsWrong, no_memory, no_request, no_words, refused, request, shown, wrong}
 use Rattle.fiber_cli.specs.Words.{program}

@@ -8,8 +8,8 @@ use Rattle.effect_term.specs.Programs.{IsProgram}
 use Rattle.term_parse.specs.Atoms.{atoms_of}
 use Rattle.term_parse.specs.Reading.{reading}
 use Rattle.outcome_trace.specs.declared.report.Report.{Report}
-use Rattle.outcome_trace.specs.declared.status.Status.TheVariants.{Fault}
-use Rattle.outcome_trace.specs.declared.text_order.Answer.{Answer}
+use Rattle.text_io.specs.declared.status.Status.TheVariants.{Fault}
+use Rattle.text_io.specs.declared.text_order.Answer.{Answer}
 use Rattle.outcome_trace.specs.Answers.{IsRefusalAnswer}
 use Rattle.outcome_trace.specs.Lines.{run_line}
 use Rattle.outcome_trace.specs.ReplayAnswers.{report_status}

@@ -6,15 +6,16 @@ use Rattle.clap.specs.declared.error.kind.ErrorKind.{ErrorKind}
 use Rattle.clap.specs.declared.error.kind.ErrorKind.TheVariants as kind
 use Rattle.cell_registry.specs.declared.limits.Limits.{Limits}
 use Rattle.cell_registry.specs.Cells.{AreLimits}
-use Rattle.outcome_trace.specs.declared.fault.TextFault.{TextFault}
-use Rattle.outcome_trace.specs.declared.fault.TextFault.TheVariants.{NoMemory}
+use Rattle.text_io.specs.declared.fault.TextFault.{TextFault}
+use Rattle.text_io.specs.declared.fault.TextFault.TheVariants.{NoMemory}
 use Rattle.outcome_trace.specs.declared.orders.Order.TheVariants.{Check, Show, Replay}
-use Rattle.outcome_trace.specs.declared.status.Status.{Status}
-use Rattle.outcome_trace.specs.declared.status.Status.TheVariants.{Succeeded, Usage, Fault}
-use Rattle.outcome_trace.specs.Devices.{Devices, Writer}
-use Rattle.outcome_trace.specs.FaultLines.{fault_line}
-use Rattle.outcome_trace.specs.Orders.{HasLimits, Obeys, TellsResult, Told, status_of}
-use Rattle.outcome_trace.specs.Text.{GoesOut, OnlyWriteFaults, is_write_fault}
+use Rattle.text_io.specs.declared.status.Status.{Status}
+use Rattle.text_io.specs.declared.status.Status.TheVariants.{Succeeded, Usage, Fault}
+use Rattle.text_io.specs.Devices.{Devices, Writer}
+use Rattle.text_io.specs.FaultLines.{fault_line}
+use Rattle.outcome_trace.specs.Orders.{HasLimits, Obeys}
+use Rattle.text_io.specs.Telling.{TellsResult, Told, status_of}
+use Rattle.text_io.specs.Text.{GoesOut, OnlyWriteFaults, is_write_fault}
 use Rattle.steal_pool.specs.declared.options.Options.{Options}
 use Rattle.steal_pool.specs.Runs.{limits_of}
 use Rattle.fiber_cli.specs.declared.ranges.NumberRange.{NumberRange}

@@ -8,12 +8,12 @@ use Rattle.effect_term.specs.Programs.{IsProgram}
 use Rattle.term_parse.specs.Atoms.{atoms_of}
 use Rattle.term_parse.specs.Reading.{reading}
 use Rattle.outcome_trace.specs.declared.report.Report.{Report}
-use Rattle.outcome_trace.specs.declared.status.Status.{Status}
-use Rattle.outcome_trace.specs.declared.status.Status.TheVariants.{Fault}
+use Rattle.text_io.specs.declared.status.Status.{Status}
+use Rattle.text_io.specs.declared.status.Status.TheVariants.{Fault}
 use Rattle.outcome_trace.specs.Answers.{IsRefusalAnswer}
-use Rattle.outcome_trace.specs.Devices.{Devices}
+use Rattle.text_io.specs.Devices.{Devices}
 use Rattle.outcome_trace.specs.Lines.{run_line}
-use Rattle.outcome_trace.specs.Orders.{Answered}
+use Rattle.text_io.specs.Telling.{Answered}
 use Rattle.outcome_trace.specs.ReplayAnswers.{report_status}
 use Rattle.outcome_trace.specs.ReportText.{text_of_fibers}
 use Rattle.outcome_trace.specs.Stands.{IsOfSomeSchedule}

@@ -3,7 +3,7 @@
 ghost use Rattle.std.specs.Prelude.{◌≡◌, ◌⊎◌, ◌<◌, ◌^◌, false, map};
 ghost use Rattle.clap.specs.Words.{kind_of};
 ghost use Rattle.fiber_cli.specs.Requests.{HasRanges, LacksMemory, ObeysRequest, Runs, TellsKind, TellsWrong};
-ghost use Rattle.outcome_trace.specs.Devices.{devices, reader, writer};
+ghost use Rattle.text_io.specs.Devices.{devices, reader, writer};
 
 use crate::requests::{Request, request_of};
 use crate::run_order::obey_run;

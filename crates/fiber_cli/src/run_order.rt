@@ -6,8 +6,8 @@
 ghost use Rattle.std.specs.Prelude.{◌≡◌, ◌<◌, ◌^◌, false, IfOk};
 ghost use Rattle.cell_registry.specs.Cells.{AreLimits};
 ghost use Rattle.fiber_cli.specs.Workers.{IsRunTextAnswer, IsWorkersAnswer, ObeysRun};
-ghost use Rattle.outcome_trace.specs.Devices.{devices, reader, writer};
-ghost use Rattle.outcome_trace.specs.Exchange.{IsAnswered};
+ghost use Rattle.text_io.specs.Devices.{devices, reader, writer};
+ghost use Rattle.text_io.specs.Exchange.{IsAnswered};
 ghost use Rattle.outcome_trace.specs.Lines.{run_line};
 ghost use Rattle.steal_pool.specs.Runs.{limits_of};
 
