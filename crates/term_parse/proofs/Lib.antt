@@ -26,3 +26,4 @@ pub mod Builds
 pub mod ShapeLaws
 pub mod ParseLaws
 pub mod KindLaws
+pub mod FormLaws

@@ -14,7 +14,7 @@ ghost use Rattle.term_parse.specs.Spelling.{name_spelling, operand_spelling, let
 ghost use Rattle.term_parse.specs.Spelling.{parts_spelling, more_spelling, binders_of, outer_binders, form, spelling};
 ghost use Rattle.term_parse.specs.Spelling.{canonical};
 ghost use Rattle.term_parse.specs.Pieces.{piece_of, pieces_of, terms_spelled, terms_atoms, piece_atoms, pieces_atoms};
-ghost use Rattle.term_parse.specs.Pieces.{Suffice};
+ghost use Rattle.term_parse.specs.Pieces.{Suffice, inner, held_by, held_in, term_word, held_of, more_of};
 
 use crate::table::{Part, Word, parts_of, spelling_of};
 use effect_term::{Kind, Name, Operand, Term};
@@ -37,98 +37,174 @@ struct Form<'a> {
     more: &'a [Term],
 }
 
-// A form of this word with these pieces.
-macro_rules! form_with {
-    ($word:ident) => {
-        Form { word: Word::$word, pieces: [None, None, None, None, None], more: &[] }
-    };
-    ($word:ident, $a:expr) => {
-        Form { word: Word::$word, pieces: [Some($a), None, None, None, None], more: &[] }
-    };
-    ($word:ident, $a:expr, $b:expr) => {
-        Form { word: Word::$word, pieces: [Some($a), Some($b), None, None, None], more: &[] }
-    };
-    ($word:ident, $a:expr, $b:expr, $c:expr) => {
-        Form { word: Word::$word, pieces: [Some($a), Some($b), Some($c), None, None], more: &[] }
-    };
-    ($word:ident, $a:expr, $b:expr, $c:expr, $d:expr) => {
-        Form { word: Word::$word, pieces: [Some($a), Some($b), Some($c), Some($d), None], more: &[] }
-    };
-    ($word:ident, $a:expr, $b:expr, $c:expr, $d:expr, $e:expr) => {
-        Form { word: Word::$word, pieces: [Some($a), Some($b), Some($c), Some($d), Some($e)], more: &[] }
-    };
+// No pieces.
+fn no_pieces<'a>() -> [Option<Piece<'a>>; 5]
+    ensures { held_in result ≡ [] }
+{
+    [None, None, None, None, None]
+}
+
+// A piece alone.
+fn one_piece(a: Piece<'_>) -> [Option<Piece<'_>>; 5]
+    ensures { held_in result ≡ held_by a.entry ∷ [] }
+{
+    [Some(a), None, None, None, None]
+}
+
+// Two pieces, in this order.
+fn two_pieces<'a>(a: Piece<'a>, b: Piece<'a>) -> [Option<Piece<'a>>; 5]
+    ensures { held_in result ≡ held_by a.entry ∷ held_by b.entry ∷ [] }
+{
+    [Some(a), Some(b), None, None, None]
+}
+
+// Three pieces, in this order.
+fn three_pieces<'a>(a: Piece<'a>, b: Piece<'a>, c: Piece<'a>) -> [Option<Piece<'a>>; 5]
+    ensures { held_in result ≡ held_by a.entry ∷ held_by b.entry ∷ held_by c.entry ∷ [] }
+{
+    [Some(a), Some(b), Some(c), None, None]
+}
+
+// A piece, and three terms behind it.
+fn piece_and_terms<'a>(
+    a: Piece<'a>,
+    b: &'a Term,
+    c: &'a Term,
+    d: &'a Term,
+) -> [Option<Piece<'a>>; 5]
+    ensures { held_in result ≡ held_by a.entry ∷ inner b.now ∷ inner c.now ∷ inner d.now ∷ [] }
+{
+    [
+        Some(a),
+        Some(Piece::Term(b)),
+        Some(Piece::Term(c)),
+        Some(Piece::Term(d)),
+        None,
+    ]
+}
+
+// Five terms.
+fn five_terms<'a>(
+    a: &'a Term,
+    b: &'a Term,
+    c: &'a Term,
+    d: &'a Term,
+    e: &'a Term,
+) -> [Option<Piece<'a>>; 5]
+    ensures { held_in result ≡ inner a.now ∷ inner b.now ∷ inner c.now ∷ inner d.now ∷ inner e.now ∷ [] }
+{
+    [
+        Some(Piece::Term(a)),
+        Some(Piece::Term(b)),
+        Some(Piece::Term(c)),
+        Some(Piece::Term(d)),
+        Some(Piece::Term(e)),
+    ]
+}
+
+// The word of a term.
+fn term_word(term: &Term) -> Word
+    ensures { result ≡ term_word term.now }
+{
+    match term {
+        Term::Pure(_) => Word::Pure,
+        Term::Raise(_) => Word::Raise,
+        Term::Let(_, _) => Word::Let,
+        Term::Seq(_, _, _) => Word::Seq,
+        Term::Handle(_, _) => Word::Handle,
+        Term::If0(_, _, _) => Word::If0,
+        Term::Add(_, _) => Word::Add,
+        Term::Say(_) => Word::Say,
+        Term::Cede => Word::Cede,
+        Term::Never => Word::Never,
+        Term::Canceled => Word::Canceled,
+        Term::Uncancelable(_) => Word::Uncancelable,
+        Term::Poll(_, _) => Word::Poll,
+        Term::OnCancel(_, _) => Word::OnCancel,
+        Term::Start(_, _) => Word::Start,
+        Term::Join(_, _, _, _) => Word::Join,
+        Term::Cancel(_) => Word::Cancel,
+        Term::Ref(_, _) => Word::Ref,
+        Term::Get(_) => Word::Get,
+        Term::Set(_, _) => Word::Set,
+        Term::Modify(_, _) => Word::Modify,
+        Term::Deferred(_) => Word::Deferred,
+        Term::Complete(_, _) => Word::Complete,
+        Term::Await(_) => Word::Await,
+        Term::Repeat(_, _) => Word::Repeat,
+        Term::Forever(_) => Word::Forever,
+        Term::Guarantee(_, _) => Word::Guarantee,
+        Term::Bracket(_, _, _) => Word::Bracket,
+        Term::BracketCase(_, _, _, _, _) => Word::BracketCase,
+        Term::BracketFull(_, _, _, _, _) => Word::BracketFull,
+        Term::Race(_, _) => Word::Race,
+        Term::Both(_, _, _) => Word::Both,
+    }
+}
+
+// What stands in a term beside its binders, but for the terms that a `seq` has behind its first two.
+fn pieces_in(term: &Term) -> [Option<Piece<'_>>; 5]
+    ensures { held_in result ≡ held_of term.now }
+{
+    match term {
+        Term::Cede | Term::Never | Term::Canceled => no_pieces(),
+        Term::Pure(v) | Term::Raise(v) | Term::Say(v) => one_piece(Piece::Value(v)),
+        Term::Cancel(n) | Term::Get(n) | Term::Await(n) => one_piece(Piece::Name(*n)),
+        Term::Uncancelable(e) | Term::Deferred(e) | Term::Forever(e) => one_piece(Piece::Term(e)),
+        Term::Add(v, w) => two_pieces(Piece::Value(v), Piece::Value(w)),
+        Term::Set(n, v) | Term::Modify(n, v) | Term::Complete(n, v) => {
+            two_pieces(Piece::Name(*n), Piece::Value(v))
+        }
+        Term::Ref(v, e) | Term::Repeat(v, e) => two_pieces(Piece::Value(v), Piece::Term(e)),
+        Term::Poll(n, e) => two_pieces(Piece::Name(*n), Piece::Term(e)),
+        Term::Let(a, b) | Term::Handle(a, b) | Term::Start(a, b) | Term::Seq(a, b, _) => {
+            two_pieces(Piece::Term(a), Piece::Term(b))
+        }
+        Term::OnCancel(a, b) | Term::Guarantee(a, b) | Term::Race(a, b) => {
+            two_pieces(Piece::Term(a), Piece::Term(b))
+        }
+        Term::If0(v, a, b) => three_pieces(Piece::Value(v), Piece::Term(a), Piece::Term(b)),
+        Term::Bracket(a, b, c) | Term::Both(a, b, c) => {
+            three_pieces(Piece::Term(a), Piece::Term(b), Piece::Term(c))
+        }
+        Term::Join(n, a, b, c) => piece_and_terms(Piece::Name(*n), a, b, c),
+        Term::BracketCase(a, b, c, d, e) | Term::BracketFull(a, b, c, d, e) => {
+            five_terms(a, b, c, d, e)
+        }
+    }
+}
+
+// The terms that a `seq` has behind its first two.
+fn more_of(term: &Term) -> &[Term]
+    ensures { result.now ≡ more_of term.now }
+{
+    match term {
+        Term::Seq(_, _, more) => more,
+        Term::Pure(_) | Term::Raise(_) | Term::Add(_, _) | Term::Say(_) => &[],
+        Term::Cede | Term::Never | Term::Canceled | Term::Cancel(_) => &[],
+        Term::Get(_) | Term::Set(_, _) | Term::Modify(_, _) => &[],
+        Term::Complete(_, _) | Term::Await(_) => &[],
+        Term::Uncancelable(_) | Term::Poll(_, _) | Term::Ref(_, _) => &[],
+        Term::Deferred(_) | Term::Repeat(_, _) | Term::Forever(_) => &[],
+        Term::Let(_, _) | Term::Handle(_, _) | Term::If0(_, _, _) => &[],
+        Term::OnCancel(_, _) | Term::Start(_, _) => &[],
+        Term::Guarantee(_, _) | Term::Race(_, _) => &[],
+        Term::Join(_, _, _, _) | Term::Bracket(_, _, _) | Term::Both(_, _, _) => &[],
+        Term::BracketCase(_, _, _, _, _) | Term::BracketFull(_, _, _, _, _) => &[],
+    }
 }
 
 // The form of a term.
-#[tactic(auto, unfolding(crate::specs::Language::parts_of))]
 fn form_of(term: &Term) -> Form<'_>
     ensures spelled { spelling term.now ≡ form result.word (pieces_of result.pieces) (terms_spelled result.more.now) }
     ensures atoms { atoms_of term.now ≡ a_word result.word ∷
         pieces_atoms result.pieces (terms_atoms result.more.now (ended ∷ [])) }
     ensures enough { Suffice (parts_of result.word) result.pieces result.more.now }
 {
-    match term {
-        Term::Pure(v) => form_with!(Pure, Piece::Value(v)),
-        Term::Raise(v) => form_with!(Raise, Piece::Value(v)),
-        Term::Let(e, k) => form_with!(Let, Piece::Term(e), Piece::Term(k)),
-        Term::Seq(a, b, more) => Form {
-            word: Word::Seq,
-            pieces: [Some(Piece::Term(a)), Some(Piece::Term(b)), None, None, None],
-            more,
-        },
-        Term::Handle(e, h) => form_with!(Handle, Piece::Term(e), Piece::Term(h)),
-        Term::If0(v, s, e) => form_with!(If0, Piece::Value(v), Piece::Term(s), Piece::Term(e)),
-        Term::Add(v, w) => form_with!(Add, Piece::Value(v), Piece::Value(w)),
-        Term::Say(v) => form_with!(Say, Piece::Value(v)),
-        Term::Cede => form_with!(Cede),
-        Term::Never => form_with!(Never),
-        Term::Canceled => form_with!(Canceled),
-        Term::Uncancelable(e) => form_with!(Uncancelable, Piece::Term(e)),
-        Term::Poll(p, e) => form_with!(Poll, Piece::Name(*p), Piece::Term(e)),
-        Term::OnCancel(e, fin) => form_with!(OnCancel, Piece::Term(e), Piece::Term(fin)),
-        Term::Start(e, k) => form_with!(Start, Piece::Term(e), Piece::Term(k)),
-        Term::Join(f, s, e, c) => form_with!(
-            Join,
-            Piece::Name(*f),
-            Piece::Term(s),
-            Piece::Term(e),
-            Piece::Term(c)
-        ),
-        Term::Cancel(f) => form_with!(Cancel, Piece::Name(*f)),
-        Term::Ref(v, k) => form_with!(Ref, Piece::Value(v), Piece::Term(k)),
-        Term::Get(r) => form_with!(Get, Piece::Name(*r)),
-        Term::Set(r, v) => form_with!(Set, Piece::Name(*r), Piece::Value(v)),
-        Term::Modify(r, v) => form_with!(Modify, Piece::Name(*r), Piece::Value(v)),
-        Term::Deferred(k) => form_with!(Deferred, Piece::Term(k)),
-        Term::Complete(d, v) => form_with!(Complete, Piece::Name(*d), Piece::Value(v)),
-        Term::Await(d) => form_with!(Await, Piece::Name(*d)),
-        Term::Repeat(v, e) => form_with!(Repeat, Piece::Value(v), Piece::Term(e)),
-        Term::Forever(e) => form_with!(Forever, Piece::Term(e)),
-        Term::Guarantee(e, fin) => form_with!(Guarantee, Piece::Term(e), Piece::Term(fin)),
-        Term::Bracket(a, b, rel) => form_with!(
-            Bracket,
-            Piece::Term(a),
-            Piece::Term(b),
-            Piece::Term(rel)
-        ),
-        Term::BracketCase(a, b, rs, re, rc) => form_with!(
-            BracketCase,
-            Piece::Term(a),
-            Piece::Term(b),
-            Piece::Term(rs),
-            Piece::Term(re),
-            Piece::Term(rc)
-        ),
-        Term::BracketFull(a, b, rs, re, rc) => form_with!(
-            BracketFull,
-            Piece::Term(a),
-            Piece::Term(b),
-            Piece::Term(rs),
-            Piece::Term(re),
-            Piece::Term(rc)
-        ),
-        Term::Race(a, b) => form_with!(Race, Piece::Term(a), Piece::Term(b)),
-        Term::Both(a, b, k) => form_with!(Both, Piece::Term(a), Piece::Term(b), Piece::Term(k)),
+    Form {
+        word: term_word(term),
+        pieces: pieces_in(term),
+        more: more_of(term),
     }
 }
 

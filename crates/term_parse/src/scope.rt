@@ -16,7 +16,7 @@ use effect_term::{Kind, Name};
 use std::alloc::AllocError;
 
 /// A binder: where its spelling stands in the text, and what it binds.
-#[derive(Clone, Copy, Debug)]
+#[derive(Clone, Copy)]
 pub(crate) struct Binding {
     pub start: usize,
     pub end: usize,

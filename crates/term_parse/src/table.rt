@@ -13,7 +13,7 @@ use crate::spelling::is_same;
 use effect_term::Kind;
 
 /// The 32 words of the language. Each variant is the word of its own name in small letters.
-#[derive(Clone, Copy, PartialEq, Eq, Debug)]
+#[derive(Clone, Copy)]
 pub enum Word {
     Pure,
     Raise,
@@ -50,7 +50,7 @@ pub enum Word {
 }
 
 /// A part of a form behind its word. A binder is named by its index among the binders of its form.
-#[derive(Clone, Copy, Debug)]
+#[derive(Clone, Copy)]
 pub enum Part {
     /// A name that the form binds.
     Bind(Kind),

@@ -9,7 +9,7 @@ ghost use Rattle.term_parse.specs.Seen.{IsNext, lexeme_as, plain_value, seen_kin
 use effect_term::Value;
 
 /// What a token is.
-#[derive(Clone, Copy, PartialEq, Eq, Debug)]
+#[derive(Clone, Copy)]
 pub(crate) enum TokenKind {
     Open,
     Close,
@@ -20,7 +20,7 @@ pub(crate) enum TokenKind {
 }
 
 /// A token, and where its bytes stand in the text.
-#[derive(Clone, Copy, Debug)]
+#[derive(Clone, Copy)]
 pub(crate) struct Token {
     pub kind: TokenKind,
     pub start: usize,

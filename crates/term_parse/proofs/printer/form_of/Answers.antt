@@ -1,10 +1,11 @@
-use Rattle.std.proofs.Common.{rules}
-use Rattle.effect_term.specs.declared.term.Term.TheViews.{the_lemmas}
-use Rattle.term_parse.proofs.TermRows.{row_spellings_items, row_atoms_items}
+use Rattle.term_parse.proofs.FormLaws.{form_spelling, form_atoms, form_suffices}
 use Rattle.term_parse.proofs.printer.form_of.Goals as goal
 
-pub returns-in-Seq-clause-spelled : goal.returns-in-Seq-clause-spelled
-returns-in-Seq-clause-spelled c = search (rules, the_lemmas, row_spellings_items)
+pub returns-clause-spelled : goal.returns-clause-spelled
+returns-clause-spelled c = form_spelling c.args.term.now _ _ _ c.term_word.ensures c.pieces_in.ensures c.more_of.ensures
 
-pub returns-in-Seq-clause-atoms : goal.returns-in-Seq-clause-atoms
-returns-in-Seq-clause-atoms c = search (rules, the_lemmas, row_atoms_items)
+pub returns-clause-atoms : goal.returns-clause-atoms
+returns-clause-atoms c = form_atoms c.args.term.now _ _ _ c.term_word.ensures c.pieces_in.ensures c.more_of.ensures
+
+pub returns-clause-enough : goal.returns-clause-enough
+returns-clause-enough c = form_suffices c.args.term.now _ _ _ c.term_word.ensures c.pieces_in.ensures c.more_of.ensures
