@@ -1,4 +1,4 @@
-use Rattle.std.proofs.Common.{arith, rules, [], IfErr}
+use Rattle.std.proofs.Common.{arith, rules, [], IfErr, refl}
 use Rattle.std.proofs.lemmas.Result.{IfErr-weaker}
 use Rattle.effect_term.specs.Names.{uses_of, IsFault}
 use Rattle.effect_term.specs.Programs.{IsPastLimit}
@@ -22,3 +22,6 @@ invariant_of-result c =
 pub returns-clause-found : goal.returns-clause-found
 returns-clause-found c =
     record { closed = well_kinded [] c.args.term (grind arith); masks = omega arith; expansion = omega arith }
+
+pub returns-clause-kept : goal.returns-clause-kept
+returns-clause-kept c = refl
