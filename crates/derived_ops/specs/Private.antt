@@ -1,3 +1,4 @@
 -- What only contracts of private functions cite.
 pub mod Heads
 pub mod Sequences
+pub mod Shapes

@@ -3,7 +3,7 @@
 use effect_term::Value;
 
 /// An operand: a value or an error code, known or bound.
-#[derive(Clone, Copy, PartialEq, Eq, Debug)]
+#[derive(Clone, Copy)]
 pub enum Operand {
     /// The number itself, which has 63 bits with sign.
     Number(Value),
@@ -13,7 +13,7 @@ pub enum Operand {
 }
 
 /// A word without parts. A fiber, a ref or a deferred is named by the slot of its binder.
-#[derive(Clone, Copy, PartialEq, Eq, Debug)]
+#[derive(Clone, Copy)]
 pub enum Action {
     /// The sum, or raises 1001 where it is out of range.
     Add(Operand, Operand),
@@ -38,7 +38,7 @@ pub enum Action {
 }
 
 /// What a bracket notes of its resource.
-#[derive(Clone, Copy, PartialEq, Eq, Debug)]
+#[derive(Clone, Copy)]
 pub enum BracketMark {
     /// The resource is acquired.
     Acquired,
@@ -49,7 +49,7 @@ pub enum BracketMark {
 }
 
 /// What makes a shared cell.
-#[derive(Clone, Copy, PartialEq, Eq, Debug)]
+#[derive(Clone, Copy)]
 pub enum Maker {
     /// A ref that holds the value.
     Ref(Operand),
@@ -58,7 +58,7 @@ pub enum Maker {
 }
 
 /// How many turns a loop has.
-#[derive(Clone, Copy, PartialEq, Eq, Debug)]
+#[derive(Clone, Copy)]
 pub enum Turns {
     /// So many, none where the number is below 1.
     Times(Operand),

@@ -16,6 +16,7 @@ mod expansion;
 mod forms;
 mod program;
 mod races;
+mod shape;
 
 pub use code::{Code, expand};
 pub use core_term::{Action, BracketMark, Core, Maker, Operand, Turns};
