@@ -1,7 +1,7 @@
 //! Which of its moves a fiber makes next.
 
 /// What the next move is.
-#[derive(Clone, Copy, PartialEq, Eq, Debug)]
+#[derive(Clone, Copy)]
 pub(crate) enum MoveCase {
     /// No mask is active, and the fiber looks at the request.
     Looks,
