@@ -1,10 +1,24 @@
 //! Texts and terms as large and as deep as they may be. Each text is made piece by piece here, and
 //! compared whole.
 
+use crate::pieces::{Piece, text_of};
+use crate::printed_terms::is_printed;
 use effect_term::{Kind, Name, Operand, Term, Value};
 use std::alloc::{AllocError, Global};
 use std::test::Fail;
-use term_parse::{parse, print};
+use term_parse::parse;
+
+/// Whether the text is read as a term of this size and nest, which is printed as the other text.
+fn is_read(alloc: Global, text: &[u8], counts: (u64, u64), printed: &[u8]) -> Result<bool, Fail> {
+    let read = parse(alloc, text)?;
+    let is_counted = read.size() == counts.0 && read.nest() == counts.1;
+    Ok(is_counted && is_printed(alloc, &read, printed)?)
+}
+
+fn bound(alloc: Global, first: Term, then: Term) -> Result<Term, AllocError> {
+    let first = Box::new(alloc, first)?;
+    Ok(Term::Let(first, Box::new(alloc, then)?))
+}
 
 /// So many bindings of a value, each inside the last, and innermost the last value itself.
 fn nested_lets(alloc: Global, binders: u32) -> Result<Term, AllocError> {
@@ -14,101 +28,86 @@ fn nested_lets(alloc: Global, binders: u32) -> Result<Term, AllocError> {
         kind: Kind::Value,
     }));
     for _ in 0..binders {
-        let bound = Box::new(alloc, Term::Cede)?;
-        let body = Box::new(alloc, term)?;
-        term = Term::Let(bound, body);
+        term = bound(alloc, Term::Cede, term)?;
     }
     Ok(term)
 }
 
 /// Their text: each binder is named by how many stand around it.
-fn nested_lets_text(alloc: Global, binders: u32) -> Result<Vec<u8>, AllocError> {
-    let mut text = Vec::new(alloc);
+fn push_nested_lets(text: &mut String, binders: u32) -> Result<(), AllocError> {
     for slot in 0..binders {
-        text.extend_from_slice(format!(in alloc; "(let v{slot} (cede) ")?.as_bytes())?;
+        write!(text, "(let v{slot} (cede) ")?;
     }
-    let last = binders.saturating_sub(1);
-    text.extend_from_slice(format!(in alloc; "(pure v{last})")?.as_bytes())?;
+    write!(text, "(pure v{})", binders.saturating_sub(1))?;
     for _ in 0..binders {
-        text.push(b')')?;
+        text.push(')')?;
     }
-    Ok(text)
+    Ok(())
 }
 
 #[test]
 fn a_hundred_words_deep(rt: HostRuntime) -> Result<(), Fail> {
-    let alloc = rt.alloc();
-    let text = nested_lets_text(alloc, 99)?;
-    let term = nested_lets(alloc, 99)?;
-    assert_eq!(rt; print(alloc, &term)?.as_slice(), text.as_slice());
-    let read = parse(alloc, text.as_slice())?;
-    assert_eq!(rt; (read.size(), read.nest()), (199, 100));
-    assert_eq!(rt; print(alloc, &read)?.as_slice(), text.as_slice());
+    let mut text = String::new(rt.alloc());
+    push_nested_lets(&mut text, 99)?;
+    assert!(rt; is_printed(rt.alloc(), &nested_lets(rt.alloc(), 99)?, text.as_bytes())?);
+    assert!(rt; is_read(rt.alloc(), text.as_bytes(), (199, 100), text.as_bytes())?);
     Ok(())
-}
-
-/// A `seq` of so many `say` and then so many `cede`, each behind this.
-fn seq_text(
-    alloc: Global,
-    says: usize,
-    cedes: usize,
-    between: &[u8],
-) -> Result<Vec<u8>, AllocError> {
-    let mut text = Vec::new(alloc);
-    text.extend_from_slice(b"(seq")?;
-    for _ in 0..says {
-        text.extend_from_slice(between)?;
-        text.extend_from_slice(b"(say 1)")?;
-    }
-    for _ in 0..cedes {
-        text.extend_from_slice(between)?;
-        text.extend_from_slice(b"(cede)")?;
-    }
-    text.push(b')')?;
-    Ok(text)
 }
 
 const fn say_one() -> Term {
     Term::Say(Operand::Number(Value::from_i32(1)))
 }
 
-/// So many `say` and then so many `cede`, of which two stand apart.
-fn seq(alloc: Global, says: usize, cedes: usize) -> Result<Term, AllocError> {
-    let first = Box::new(alloc, say_one())?;
-    let second = Box::new(alloc, say_one())?;
-    let mut more = Vec::new(alloc);
-    for _ in 2..says {
-        more.push(say_one())?;
+fn push_says(parts: &mut Vec<Term>, says: usize) -> Result<(), AllocError> {
+    for _ in 0..says {
+        parts.push(say_one())?;
     }
-    for _ in 0..cedes {
-        more.push(Term::Cede)?;
-    }
-    Ok(Term::Seq(first, second, more))
-}
-
-#[test]
-fn a_canonical_text_of_65536_bytes(rt: HostRuntime) -> Result<(), Fail> {
-    let alloc = rt.alloc();
-    let text = seq_text(alloc, 4, 9357, b" ")?;
-    assert_eq!(rt; text.len(), 65536);
-    let term = seq(alloc, 4, 9357)?;
-    assert_eq!(rt; print(alloc, &term)?.as_slice(), text.as_slice());
-    let read = parse(alloc, text.as_slice())?;
-    assert_eq!(rt; read.size(), 9362);
-    assert_eq!(rt; print(alloc, &read)?.as_slice(), text.as_slice());
     Ok(())
 }
 
+fn push_cedes(parts: &mut Vec<Term>, cedes: usize) -> Result<(), AllocError> {
+    for _ in 0..cedes {
+        parts.push(Term::Cede)?;
+    }
+    Ok(())
+}
+
+/// Two `say` that stand apart, so many more of them, and then so many `cede`.
+fn seq(alloc: Global, says: usize, cedes: usize) -> Result<Term, AllocError> {
+    let mut more = Vec::new(alloc);
+    push_says(&mut more, says)?;
+    push_cedes(&mut more, cedes)?;
+    let first = Box::new(alloc, say_one())?;
+    Ok(Term::Seq(first, Box::new(alloc, say_one())?, more))
+}
+
+// A canonical text of 65,536 bytes.
+const LONG: &[Piece] = &[
+    (b"(seq", 1),
+    (b" (say 1)", 4),
+    (b" (cede)", 9357),
+    (b")", 1),
+];
+
+#[test]
+fn a_canonical_text_of_65536_bytes(rt: HostRuntime) -> Result<(), Fail> {
+    let text = text_of(rt.alloc(), LONG)?;
+    assert_eq!(rt; text.len(), 65536);
+    assert!(rt; is_printed(rt.alloc(), &seq(rt.alloc(), 2, 9357)?, text.as_slice())?);
+    assert!(rt; is_read(rt.alloc(), text.as_slice(), (9362, 2), text.as_slice())?);
+    Ok(())
+}
+
+// A text with as many parts as fit, and what it is printed as.
+const PARTS: &[Piece] = &[(b"(seq", 1), (b"(cede)", 10921), (b")", 1)];
+
+const PRINTED_PARTS: &[Piece] = &[(b"(seq", 1), (b" (cede)", 10921), (b")", 1)];
+
 #[test]
 fn a_seq_of_as_many_parts_as_fit(rt: HostRuntime) -> Result<(), Fail> {
-    let alloc = rt.alloc();
-    let text = seq_text(alloc, 0, 10921, b"")?;
+    let text = text_of(rt.alloc(), PARTS)?;
     assert_eq!(rt; text.len(), 65531);
-    let read = parse(alloc, text.as_slice())?;
-    assert_eq!(rt; (read.size(), read.nest()), (10922, 2));
-    assert_eq!(rt;
-        print(alloc, &read)?.as_slice(),
-        seq_text(alloc, 0, 10921, b" ")?.as_slice()
-    );
+    let printed = text_of(rt.alloc(), PRINTED_PARTS)?;
+    assert!(rt; is_read(rt.alloc(), text.as_slice(), (10922, 2), printed.as_slice())?);
     Ok(())
 }
