@@ -1,6 +1,6 @@
 //! The counts of programs, and the terms that are past a limit, worked from the rules.
 
-use crate::nested::nested;
+use crate::pieces::{Piece, text_of};
 use effect_term::{Program, TermError};
 use std::alloc::Global;
 use std::test::Fail;
@@ -15,96 +15,81 @@ fn told(alloc: Global, text: &[u8]) -> Result<Told, Fail> {
     Ok((term.size(), term.nest(), term.masks(), program.starts()))
 }
 
-#[test]
-fn words_without_parts(rt: HostRuntime) -> Result<(), Fail> {
-    let table: [&[u8]; 7] = [
-        b"(pure 0)",
-        b"(raise 0)",
-        b"(add 0 0)",
-        b"(say 0)",
-        b"(cede)",
-        b"(never)",
-        b"(canceled)",
-    ];
-    for text in table {
-        assert_eq!(rt; told(rt.alloc(), text)?, (1, 1, 0, false));
-    }
-    Ok(())
-}
+// Programs of core words, first those without parts, and what is told of each.
+const CORE_WORDS: &[(&[u8], Told)] = &[
+    (b"(pure 0)", (1, 1, 0, false)),
+    (b"(raise 0)", (1, 1, 0, false)),
+    (b"(add 0 0)", (1, 1, 0, false)),
+    (b"(say 0)", (1, 1, 0, false)),
+    (b"(cede)", (1, 1, 0, false)),
+    (b"(never)", (1, 1, 0, false)),
+    (b"(canceled)", (1, 1, 0, false)),
+    (b"(seq (cede) (cede))", (3, 2, 0, false)),
+    (
+        b"(seq (cede) (cede) (cede) (if0 0 (cede) (never)))",
+        (7, 3, 0, false),
+    ),
+    (b"(let x (cede) (pure x))", (3, 2, 0, false)),
+    (b"(handle (cede) x (say x))", (3, 2, 0, false)),
+    (b"(forever (repeat 0 (cede)))", (3, 3, 0, false)),
+    (b"(uncancelable p (poll p (cede)))", (3, 3, 1, false)),
+    (b"(oncancel (never) (cede))", (3, 2, 1, false)),
+    (
+        b"(start f (cede) (join f x (pure x) y (raise y) (cancel f)))",
+        (6, 3, 1, true),
+    ),
+    (
+        b"(ref r 0 (seq (set r 0) (modify r 0) (get r)))",
+        (5, 3, 0, false),
+    ),
+    (
+        b"(deferred d (seq (complete d 0) (await d)))",
+        (4, 3, 0, false),
+    ),
+];
+
+// Programs of derived words, and what is told of each.
+const DERIVED_WORDS: &[(&[u8], Told)] = &[
+    (b"(guarantee (never) (cede))", (3, 2, 2, false)),
+    (b"(bracket x (cede) (say x) (say x))", (4, 2, 3, false)),
+    (
+        b"(bracket x (cede) (guarantee (cede) (cede)) (cede))",
+        (6, 3, 4, false),
+    ),
+    (
+        b"(bracketcase x (cede) (say x) y (add x y) z (add x z) (say x))",
+        (6, 2, 3, false),
+    ),
+    (
+        b"(bracketfull p x (poll p (cede)) (say x) y (add x y) z (add x z) (say x))",
+        (7, 3, 3, false),
+    ),
+    (
+        b"(bracketfull p x (guarantee (race (cede) (cede)) (cede)) (cede) y (cede) z (cede) (cede))",
+        (10, 4, 5, true),
+    ),
+    (b"(race (cede) (never))", (3, 2, 3, true)),
+    (b"(both (cede) (never) x y (add x y))", (4, 2, 3, true)),
+    (
+        b"(both (cede) (guarantee (cede) (cede)) x y (cede))",
+        (6, 3, 4, true),
+    ),
+];
 
 #[test]
-fn core_words_with_parts(rt: HostRuntime) -> Result<(), Fail> {
-    let table: [(&[u8], Told); 10] = [
-        (b"(seq (cede) (cede))", (3, 2, 0, false)),
-        (
-            b"(seq (cede) (cede) (cede) (if0 0 (cede) (never)))",
-            (7, 3, 0, false),
-        ),
-        (b"(let x (cede) (pure x))", (3, 2, 0, false)),
-        (b"(handle (cede) x (say x))", (3, 2, 0, false)),
-        (b"(forever (repeat 0 (cede)))", (3, 3, 0, false)),
-        (b"(uncancelable p (poll p (cede)))", (3, 3, 1, false)),
-        (b"(oncancel (never) (cede))", (3, 2, 1, false)),
-        (
-            b"(start f (cede) (join f x (pure x) y (raise y) (cancel f)))",
-            (6, 3, 1, true),
-        ),
-        (
-            b"(ref r 0 (seq (set r 0) (modify r 0) (get r)))",
-            (5, 3, 0, false),
-        ),
-        (
-            b"(deferred d (seq (complete d 0) (await d)))",
-            (4, 3, 0, false),
-        ),
-    ];
-    for (text, counts) in table {
-        assert_eq!(rt; told(rt.alloc(), text)?, counts);
+fn core_words(rt: HostRuntime) -> Result<(), Fail> {
+    for (text, counts) in CORE_WORDS {
+        assert_eq!(rt; told(rt.alloc(), text)?, *counts);
     }
     Ok(())
 }
 
 #[test]
 fn derived_words(rt: HostRuntime) -> Result<(), Fail> {
-    let table: [(&[u8], Told); 9] = [
-        (b"(guarantee (never) (cede))", (3, 2, 2, false)),
-        (b"(bracket x (cede) (say x) (say x))", (4, 2, 3, false)),
-        (
-            b"(bracket x (cede) (guarantee (cede) (cede)) (cede))",
-            (6, 3, 4, false),
-        ),
-        (
-            b"(bracketcase x (cede) (say x) y (add x y) z (add x z) (say x))",
-            (6, 2, 3, false),
-        ),
-        (
-            b"(bracketfull p x (poll p (cede)) (say x) y (add x y) z (add x z) (say x))",
-            (7, 3, 3, false),
-        ),
-        (
-            b"(bracketfull p x (guarantee (race (cede) (cede)) (cede)) (cede) y (cede) z (cede) (cede))",
-            (10, 4, 5, true),
-        ),
-        (b"(race (cede) (never))", (3, 2, 3, true)),
-        (b"(both (cede) (never) x y (add x y))", (4, 2, 3, true)),
-        (
-            b"(both (cede) (guarantee (cede) (cede)) x y (cede))",
-            (6, 3, 4, true),
-        ),
-    ];
-    for (text, counts) in table {
-        assert_eq!(rt; told(rt.alloc(), text)?, counts);
+    for (text, counts) in DERIVED_WORDS {
+        assert_eq!(rt; told(rt.alloc(), text)?, *counts);
     }
     Ok(())
-}
-
-/// The refusal of the term of a text, or `None` where it is a program.
-fn refusal(alloc: Global, text: &[u8]) -> Result<Option<TermError>, Fail> {
-    let term = parse(alloc, text)?;
-    match Program::check(alloc, term) {
-        Ok(_) => Ok(None),
-        Err(error) => Ok(Some(error)),
-    }
 }
 
 // What stands before the last part of each nested form.
@@ -112,43 +97,67 @@ const GUARANTEE: &str = "(guarantee (pure 0) ";
 
 const BRACKET_CASE: &str = "(bracketcase x (pure 0) (pure 0) y (pure 0) z (pure 0) ";
 
+// As many nested forms as may be, for the size of the expansion and for its masks, and what is told
+// of each program.
+const WITHIN: &[(&[Piece], Told)] = &[
+    (
+        &[(GUARANTEE, 10), ("(pure 0)", 1), (")", 10)],
+        (21, 11, 20, false),
+    ),
+    (
+        &[(BRACKET_CASE, 83), ("(pure 0)", 1), (")", 83)],
+        (416, 84, 249, false),
+    ),
+];
+
+// More than may be, and the refusal: that of the masks comes before that of the expansion.
+const PAST: &[(&[Piece], TermError)] = &[
+    (
+        &[(GUARANTEE, 11), ("(pure 0)", 1), (")", 11)],
+        TermError::Large,
+    ),
+    (
+        &[(GUARANTEE, 99), ("(pure 0)", 1), (")", 99)],
+        TermError::Large,
+    ),
+    (
+        &[(BRACKET_CASE, 84), ("(pure 0)", 1), (")", 84)],
+        TermError::DeepMasks(252),
+    ),
+    (
+        &[
+            (BRACKET_CASE, 84),
+            (GUARANTEE, 11),
+            ("(pure 0)", 1),
+            (")", 95),
+        ],
+        TermError::DeepMasks(274),
+    ),
+];
+
 #[test]
-fn expansions_at_their_limit(rt: HostRuntime) -> Result<(), Fail> {
-    let alloc = rt.alloc();
-    let within = nested(alloc, 10, GUARANTEE, "(pure 0)")?;
-    assert_eq!(rt; told(alloc, within.as_bytes())?, (21, 11, 20, false));
-    let past = nested(alloc, 11, GUARANTEE, "(pure 0)")?;
-    assert_eq!(rt; refusal(alloc, past.as_bytes())?, Some(TermError::Large));
-    let far_past = nested(alloc, 99, GUARANTEE, "(pure 0)")?;
-    assert_eq!(rt;
-        refusal(alloc, far_past.as_bytes())?,
-        Some(TermError::Large)
-    );
+fn terms_at_a_limit(rt: HostRuntime) -> Result<(), Fail> {
+    for (pieces, counts) in WITHIN {
+        let text = text_of(rt.alloc(), pieces)?;
+        assert_eq!(rt; told(rt.alloc(), text.as_bytes())?, *counts);
+    }
     Ok(())
 }
 
-#[test]
-fn masks_at_their_limit(rt: HostRuntime) -> Result<(), Fail> {
-    let alloc = rt.alloc();
-    let within = nested(alloc, 83, BRACKET_CASE, "(pure 0)")?;
-    assert_eq!(rt; told(alloc, within.as_bytes())?, (416, 84, 249, false));
-    let past = nested(alloc, 84, BRACKET_CASE, "(pure 0)")?;
-    assert_eq!(rt;
-        refusal(alloc, past.as_bytes())?,
-        Some(TermError::DeepMasks(252))
-    );
-    Ok(())
+/// The refusal of the term of a text, or `None` where it is a program.
+fn refusal(alloc: Global, text: &[u8]) -> Result<Option<TermError>, Fail> {
+    match Program::check(alloc, parse(alloc, text)?) {
+        Ok(_) => Ok(None),
+        Err(error) => Ok(Some(error)),
+    }
 }
 
 #[test]
-fn masks_come_before_the_expansion(rt: HostRuntime) -> Result<(), Fail> {
-    let alloc = rt.alloc();
-    let large = nested(alloc, 11, GUARANTEE, "(pure 0)")?;
-    let past_both = nested(alloc, 84, BRACKET_CASE, large.as_str())?;
-    assert_eq!(rt;
-        refusal(alloc, past_both.as_bytes())?,
-        Some(TermError::DeepMasks(274))
-    );
+fn terms_past_a_limit(rt: HostRuntime) -> Result<(), Fail> {
+    for (pieces, error) in PAST {
+        let text = text_of(rt.alloc(), pieces)?;
+        assert_eq!(rt; refusal(rt.alloc(), text.as_bytes())?, Some(*error));
+    }
     Ok(())
 }
 

@@ -6,16 +6,16 @@ use std::alloc::{AllocError, Global};
 use std::test::Fail;
 use term_parse::parse;
 
-/// The text of a program's code, or that memory ran out.
-fn shown(alloc: Global, program: &Program) -> Result<Vec<u8>, AllocError> {
+/// Whether the text of a program's code is this one, or that memory ran out.
+fn is_shown(alloc: Global, program: &Program, text: &[u8]) -> Result<bool, AllocError> {
     let code = expand(alloc, program)?;
-    print_core(alloc, &code)
+    Ok(print_core(alloc, &code)?.as_slice() == text)
 }
 
-/// The text of the code of a text's program.
-fn expanded(alloc: Global, text: &[u8]) -> Result<Vec<u8>, Fail> {
-    let program = Program::check(alloc, parse(alloc, text)?)?;
-    Ok(shown(alloc, &program)?)
+/// Whether the text of the code of a text's program is the other text.
+pub(crate) fn is_expanded(alloc: Global, program: &[u8], text: &[u8]) -> Result<bool, Fail> {
+    let program = Program::check(alloc, parse(alloc, program)?)?;
+    Ok(is_shown(alloc, &program, text)?)
 }
 
 // All core words, and the same with their slots.
@@ -91,23 +91,23 @@ const BOTH: &[u8] =
     v7)) v7 (raise v7) (seq (poll p1 (canceled)) (never)))) v6 (seq (cancel f3) (raise v6)) \
     (seq (cancel f3) (seq (poll p1 (canceled)) (never)))))))))) (let v2 (get r0) (add v1 v2))))";
 
-#[test]
-fn core_words_are_expanded_part_by_part(rt: HostRuntime) -> Result<(), Fail> {
-    let text = expanded(rt.alloc(), CORE_WORDS)?;
-    assert_eq!(rt; text.as_slice(), CORE_WORDS_IN_SLOTS);
-    Ok(())
-}
+// Numbers of 63 bits.
+const NUMBERS: &[u8] =
+    b"(seq (add 4611686018427387903 -4611686018427387904) (say 2147483648) (raise -2147483649))";
+
+// Programs of core words, each with the text of its expansion.
+const CORE_PROGRAMS: &[(&[u8], &[u8])] = &[(CORE_WORDS, CORE_WORDS_IN_SLOTS), (NUMBERS, NUMBERS)];
 
 #[test]
-fn numbers_keep_their_63_bits(rt: HostRuntime) -> Result<(), Fail> {
-    let text: &[u8] = b"(seq (add 4611686018427387903 -4611686018427387904) (say 2147483648) \
-        (raise -2147483649))";
-    assert_eq!(rt; expanded(rt.alloc(), text)?.as_slice(), text);
+fn core_words_are_expanded_part_by_part(rt: HostRuntime) -> Result<(), Fail> {
+    for (program, text) in CORE_PROGRAMS {
+        assert!(rt; is_expanded(rt.alloc(), program, text)?);
+    }
     Ok(())
 }
 
 // Programs of derived words, each with the text of its expansion.
-const DERIVED_WORDS: [(&[u8], &[u8]); 6] = [
+const DERIVED_WORDS: &[(&[u8], &[u8])] = &[
     (b"(guarantee (say 1) (say 2))", GUARANTEE),
     (
         b"(bracket x (pure 1) (say x) (let w (say x) (pure w)))",
@@ -128,24 +128,26 @@ const DERIVED_WORDS: [(&[u8], &[u8]); 6] = [
 #[test]
 fn derived_words_are_what_they_stand_for(rt: HostRuntime) -> Result<(), Fail> {
     for (program, text) in DERIVED_WORDS {
-        assert_eq!(rt; expanded(rt.alloc(), program)?.as_slice(), text);
+        assert!(rt; is_expanded(rt.alloc(), program, text)?);
     }
     Ok(())
+}
+
+/// Whether the program has this text, or memory ran out before that was known.
+fn is_whole(alloc: Global, program: &[u8], text: &[u8]) -> bool {
+    let Ok(term) = parse(alloc, program) else {
+        return true;
+    };
+    let Ok(program) = Program::check(alloc, term) else {
+        return true;
+    };
+    !matches!(is_shown(alloc, &program, text), Ok(false))
 }
 
 /// Holds whichever request for memory is refused.
 #[test]
 fn a_text_is_whole_or_memory_ran_out(rt: HostRuntime) {
-    let alloc = rt.alloc();
     for (program, text) in DERIVED_WORDS {
-        let Ok(term) = parse(alloc, program) else {
-            return;
-        };
-        let Ok(program) = Program::check(alloc, term) else {
-            return;
-        };
-        if let Ok(shown) = shown(alloc, &program) {
-            assert_eq!(rt; shown.as_slice(), text);
-        }
+        assert!(rt; is_whole(rt.alloc(), program, text));
     }
 }

@@ -10,4 +10,4 @@ mod limits;
 #[cfg(test)]
 mod names;
 #[cfg(test)]
-mod nested;
+mod pieces;

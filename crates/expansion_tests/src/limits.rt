@@ -1,18 +1,9 @@
 //! Whole expansions of programs at the limits, each made another way: as a pattern of its level.
 
-use crate::nested::{nested, push_at};
-use derived_ops::{expand, print_core};
-use effect_term::Program;
-use std::alloc::{AllocError, Global};
+use crate::expansions::is_expanded;
+use crate::pieces::{Piece, push_at, push_pieces, text_of};
+use std::alloc::AllocError;
 use std::test::Fail;
-use term_parse::parse;
-
-/// The text of the code of a text's program.
-fn expanded(alloc: Global, text: &str) -> Result<Vec<u8>, Fail> {
-    let program = Program::check(alloc, parse(alloc, text.as_bytes())?)?;
-    let code = expand(alloc, &program)?;
-    Ok(print_core(alloc, &code)?)
-}
 
 // A `bracketcase` before its last part, what it stands for before that part, and behind it.
 const BRACKET_CASE: &str = "(bracketcase x (pure 1) (pure 2) y (pure 3) z (pure 4) ";
@@ -25,19 +16,26 @@ const BEHIND_ITS_LAST_RELEASE: &str = " vD (seq (released pA) (raise vD))) (rele
     (seq (releasing pA) (handle (pure 4) vE (pure 0)) (released pA) (raise vD))) (seq (releasing \
     pA) (handle (pure 3) vE (seq (released pA) (raise vE))) (released pA) (pure vD)))))))";
 
+// A program with as many masks as may be, and the writing of what it stands for.
+const MASKS: &[Piece] = &[(BRACKET_CASE, 83), ("(pure 5)", 1), (")", 83)];
+
+fn push_masks(text: &mut String) -> Result<(), AllocError> {
+    for level in 0..83 {
+        push_at(text, 3 * level, BEFORE_ITS_LAST_RELEASE)?;
+    }
+    text.push_str("(pure 5)")?;
+    for level in (0..83).rev() {
+        push_at(text, 3 * level, BEHIND_ITS_LAST_RELEASE)?;
+    }
+    Ok(())
+}
+
 #[test]
 fn as_many_masks_as_may_be(rt: HostRuntime) -> Result<(), Fail> {
-    let alloc = rt.alloc();
-    let program = nested(alloc, 83, BRACKET_CASE, "(pure 5)")?;
-    let mut wanted = String::new(alloc);
-    for level in 0..83 {
-        push_at(&mut wanted, 3 * level, BEFORE_ITS_LAST_RELEASE)?;
-    }
-    wanted.push_str("(pure 5)")?;
-    for level in (0..83).rev() {
-        push_at(&mut wanted, 3 * level, BEHIND_ITS_LAST_RELEASE)?;
-    }
-    assert!(rt; expanded(alloc, program.as_str())?.as_slice() == wanted.as_bytes());
+    let mut wanted = String::new(rt.alloc());
+    push_masks(&mut wanted)?;
+    let program = text_of(rt.alloc(), MASKS)?;
+    assert!(rt; is_expanded(rt.alloc(), program.as_bytes(), wanted.as_bytes())?);
     Ok(())
 }
 
@@ -62,54 +60,63 @@ fn push_guarantees(text: &mut String, forms: u8, depth: u32) -> Result<(), Alloc
     push_at(text, depth, " (pure vB))))")
 }
 
+// Finalizers that stand in finalizers, as deep as may be.
+const FINALIZERS: &[Piece] = &[(GUARANTEE, 10), ("(pure 2)", 1), (")", 10)];
+
 #[test]
 fn a_finalizer_in_a_finalizer(rt: HostRuntime) -> Result<(), Fail> {
-    let alloc = rt.alloc();
-    let program = nested(alloc, 10, GUARANTEE, "(pure 2)")?;
-    let mut wanted = String::new(alloc);
+    let mut wanted = String::new(rt.alloc());
     push_guarantees(&mut wanted, 10, 0)?;
-    assert!(rt; expanded(alloc, program.as_str())?.as_slice() == wanted.as_bytes());
+    let program = text_of(rt.alloc(), FINALIZERS)?;
+    assert!(rt; is_expanded(rt.alloc(), program.as_bytes(), wanted.as_bytes())?);
     Ok(())
 }
 
 // How deep the parts of a sequence nest, whose expansion has 1,000,000 words.
-const DEPTHS: [u8; 21] = [
+const DEPTHS: &[u8] = &[
     10, 10, 9, 7, 7, 5, 5, 4, 4, 3, 3, 2, 0, 0, 0, 0, 0, 0, 0, 0, 0,
 ];
 
+// Writes that sequence.
+fn push_words(text: &mut String) -> Result<(), AllocError> {
+    text.push_str("(seq")?;
+    for forms in DEPTHS {
+        let times = usize::from(*forms);
+        let part: &[Piece] = &[(" ", 1), (GUARANTEE, times), ("(pure 2)", 1), (")", times)];
+        push_pieces(text, part)?;
+    }
+    text.push_str(")")
+}
+
+// Writes what it stands for.
+fn push_expanded_words(text: &mut String) -> Result<(), AllocError> {
+    text.push_str("(seq")?;
+    for forms in DEPTHS {
+        text.push_str(" ")?;
+        push_guarantees(text, *forms, 0)?;
+    }
+    text.push_str(")")
+}
+
 #[test]
 fn as_many_words_as_may_be(rt: HostRuntime) -> Result<(), Fail> {
-    let alloc = rt.alloc();
-    let mut program = String::from_str(alloc, "(seq")?;
-    let mut wanted = String::from_str(alloc, "(seq")?;
-    for forms in DEPTHS {
-        let part = nested(alloc, usize::from(forms), GUARANTEE, "(pure 2)")?;
-        program.push_str(" ")?;
-        program.push_str(part.as_str())?;
-        wanted.push_str(" ")?;
-        push_guarantees(&mut wanted, forms, 0)?;
-    }
-    program.push_str(")")?;
-    wanted.push_str(")")?;
-    assert!(rt; expanded(alloc, program.as_str())?.as_slice() == wanted.as_bytes());
+    let mut wanted = String::new(rt.alloc());
+    push_expanded_words(&mut wanted)?;
+    let mut program = String::new(rt.alloc());
+    push_words(&mut program)?;
+    assert!(rt; is_expanded(rt.alloc(), program.as_bytes(), wanted.as_bytes())?);
     Ok(())
 }
 
-/// A sequence of so many parts, each behind this separator.
-fn sequence(alloc: Global, parts: usize, part: &str) -> Result<String, AllocError> {
-    let mut text = String::from_str(alloc, "(seq")?;
-    for _ in 0..parts {
-        text.push_str(part)?;
-    }
-    text.push_str(")")?;
-    Ok(text)
-}
+// A sequence of as many parts as a text has room for, and what it stands for.
+const PARTS: &[Piece] = &[("(seq", 1), ("(cede)", 10_921), (")", 1)];
+
+const EXPANDED_PARTS: &[Piece] = &[("(seq", 1), (" (cede)", 10_921), (")", 1)];
 
 #[test]
 fn as_many_parts_as_a_text_has_room_for(rt: HostRuntime) -> Result<(), Fail> {
-    let alloc = rt.alloc();
-    let program = sequence(alloc, 10_921, "(cede)")?;
-    let wanted = sequence(alloc, 10_921, " (cede)")?;
-    assert!(rt; expanded(alloc, program.as_str())?.as_slice() == wanted.as_bytes());
+    let wanted = text_of(rt.alloc(), EXPANDED_PARTS)?;
+    let program = text_of(rt.alloc(), PARTS)?;
+    assert!(rt; is_expanded(rt.alloc(), program.as_bytes(), wanted.as_bytes())?);
     Ok(())
 }
