@@ -9,12 +9,11 @@ use Rattle.derived_ops.specs.Private.Heads.{maker_text, turns_text}
 use Rattle.derived_ops.specs.Private.Sequences.{texts_behind, trees_in_order}
 use Rattle.derived_ops.specs.Tree.{Action, Complete, Operand, Open_slot, Maker, New_ref, New_deferred, Turns, Times, Always, Tree, More, Make, Loop, Uncancelable}
 
-complete-written : (s : ℕ) (v : List ℕ) → (codes "(complete d" ++ decimal s) ++ ((codes " " ++ v) ++ codes ")") ≡ form (codes "complete" ∷ (codes "d" ++ decimal s) ∷ v ∷ [])
+complete-written : (s : ℕ) (v : List ℕ) → (codes "(complete d" ++ decimal s) ++ (codes " " ++ (v ++ codes ")")) ≡ form (codes "complete" ∷ (codes "d" ++ decimal s) ∷ v ∷ [])
 complete-written s v = simp append_assoc
 
-pub complete-pushed : (old before new : List ℕ) (a : Action) (s : ℕ) (v : Operand) → before ≡ old ++ (codes "(complete d" ++ decimal s) → new ≡ before ++ ((codes " " ++ value_text v) ++ codes ")") → a ≡ Complete (Open_slot s) v → new ≡ old ++ action_text a
-complete-pushed old before new a s v e h is =
-    rw is (h ∙ ap (λ x. x ++ ((codes " " ++ value_text v) ++ codes ")")) e ∙ append_assoc old (codes "(complete d" ++ decimal s) ((codes " " ++ value_text v) ++ codes ")") ∙ ap (λ x. old ++ x) (complete-written s (value_text v)))
+pub complete-pushed : (old new : List ℕ) (a : Action) (s : ℕ) (v : Operand) → new ≡ old ++ ((codes "(complete d" ++ decimal s) ++ (codes " " ++ (value_text v ++ codes ")"))) → a ≡ Complete (Open_slot s) v → new ≡ old ++ action_text a
+complete-pushed old new a s v h is = rw is (h ∙ ap (λ x. old ++ x) (complete-written s (value_text v)))
 
 uncancelable-written : (s : ℕ) (e : List ℕ) → (codes "(uncancelable p" ++ decimal s) ++ (codes " " ++ (e ++ codes ")")) ≡ form (codes "uncancelable" ∷ (codes "p" ++ decimal s) ∷ e ∷ [])
 uncancelable-written s e = simp append_assoc

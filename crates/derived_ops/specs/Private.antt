@@ -1,4 +1,5 @@
 -- What only contracts of private functions cite.
+pub mod Closings
 pub mod Heads
 pub mod Sequences
 pub mod Shapes

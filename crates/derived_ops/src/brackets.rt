@@ -2,9 +2,10 @@
 
 ghost use Rattle.std.specs.Prelude.{◌≡◌, ◌+◌, ◌<◌, ◌^◌, IfOk};
 ghost use Rattle.derived_ops.specs.Cores.{tree_of};
-ghost use Rattle.derived_ops.specs.Expansion.{attempted, bracket_case, concluded, guarantee, in_order};
-ghost use Rattle.derived_ops.specs.Expansion.{released_on_cancel, released_on_error, released_on_value};
-ghost use Rattle.derived_ops.specs.Expansion.{released_then, released_then_raised};
+ghost use Rattle.derived_ops.specs.Expansion.{attempted, concluded, in_order, released_on_cancel, released_on_error};
+ghost use Rattle.derived_ops.specs.Expansion.{released_on_value, released_then, released_then_raised};
+ghost use Rattle.derived_ops.specs.Private.Closings.{bracket_by_cases, closed_on_cancel, closed_on_error};
+ghost use Rattle.derived_ops.specs.Private.Closings.{closed_on_value, last_of_closing};
 ghost use Rattle.derived_ops.specs.Tree as tree;
 ghost use Rattle.derived_ops.specs.Tree.{Named};
 
@@ -32,8 +33,8 @@ fn ended(
     ensures { IfOk result (λ core. tree_of core
         ≡ tree.Let (tree.Handled (tree_of body) slot (tree_of on_error)) slot (tree_of on_value)) }
 {
-    let handled = handled(alloc, body, slot, on_error)?;
-    bound(alloc, handled, slot, on_value)
+    let inner = handled(alloc, body, slot, on_error)?;
+    bound(alloc, inner, slot, on_value)
 }
 
 // The body in the mask of this slot, and then the case of its outcome, whose code or value has the
@@ -77,59 +78,17 @@ fn finalized_on_error(alloc: Global, finalizer: Core, slot: u32) -> Result<Core,
     in_order(alloc, attempted, Core::Raise(Operand::Slot(slot)))
 }
 
-// What a guarantee does after its body's error, and after its value. Either has this slot.
-fn guarantee_ends(
-    alloc: Global,
-    slot: u32,
-    on_error: Core,
-    on_value: Core,
-) -> Result<(Core, Core), AllocError>
-    requires { slot + 1 < 2 ^ 32 }
-    ensures on_error { IfOk result (λ ends. tree_of ends.0
-        ≡ in_order (attempted (tree_of on_error) (slot + 1)) (tree.Raise (tree.Slot slot))) }
-    ensures on_value { IfOk result (λ ends. tree_of ends.1
-        ≡ in_order (tree_of on_value) (tree.Pure (tree.Slot slot))) }
-{
-    let on_error = finalized_on_error(alloc, on_error, slot)?;
-    let on_value = in_order(alloc, on_value, Core::Pure(Operand::Slot(slot)))?;
-    Ok((on_error, on_value))
-}
-
-// What a guarantee does after each outcome of its body, by the finalizer for each.
-fn guarantee_cases(alloc: Global, slot: u32, finalizers: Cases) -> Result<Cases, AllocError>
-    requires { slot + 2 < 2 ^ 32 }
-    ensures on_cancel { IfOk result (λ cases. tree_of cases.on_cancel ≡ tree_of finalizers.on_cancel) }
-    ensures on_error { IfOk result (λ cases. tree_of cases.on_error
-        ≡ in_order (attempted (tree_of finalizers.on_error) (slot + 2)) (tree.Raise (tree.Slot (slot + 1)))) }
-    ensures on_value { IfOk result (λ cases. tree_of cases.on_value
-        ≡ in_order (tree_of finalizers.on_value) (tree.Pure (tree.Slot (slot + 1)))) }
-{
-    let Cases {
-        on_cancel,
-        on_error,
-        on_value,
-    } = finalizers;
-    let (on_error, on_value) = guarantee_ends(alloc, slot + 1, on_error, on_value)?;
-    Ok(Cases {
-        on_cancel,
-        on_error,
-        on_value,
-    })
-}
-
-/// The body, and after each of its outcomes the finalizer, which stands there at its own depth.
+/// The body, whose cases are those of its finalizer.
 pub(crate) fn guarantee(
     alloc: Global,
     slot: u32,
     body: Core,
-    finalizers: Cases,
+    cases: Cases,
 ) -> Result<Core, AllocError>
     requires { slot + 2 < 2 ^ 32 }
-    ensures { IfOk result (λ core. tree_of core
-        ≡ guarantee slot (tree_of body) (tree_of finalizers.on_cancel) (tree_of finalizers.on_error)
-        (tree_of finalizers.on_value)) }
+    ensures { IfOk result (λ core. tree_of core ≡ concluded slot (slot + 1) (tree.Poll (Named slot) (tree_of body))
+        (tree_of cases.on_cancel) (tree_of cases.on_error) (tree_of cases.on_value)) }
 {
-    let cases = guarantee_cases(alloc, slot, finalizers)?;
     let polled = polled(alloc, slot, body)?;
     concluded(alloc, slot, slot + 1, polled, cases)
 }
@@ -204,46 +163,46 @@ fn released_on_value(
     released_then(alloc, poll, release, Core::Pure(Operand::Slot(value)))
 }
 
-// What a bracket does after its body's error, and after its value.
-fn bracket_ends(
-    alloc: Global,
-    poll: u32,
-    on_error: Core,
-    on_value: Core,
-) -> Result<(Core, Core), AllocError>
-    requires { poll + 4 < 2 ^ 32 }
-    ensures on_error { IfOk result (λ ends. tree_of ends.0
-        ≡ released_on_error (Named poll) (tree_of on_error) (poll + 3) (poll + 4)) }
-    ensures on_value { IfOk result (λ ends. tree_of ends.1
-        ≡ released_on_value (Named poll) (tree_of on_value) (poll + 3) (poll + 4)) }
-{
-    let on_error = released_on_error(alloc, poll, on_error, poll + 3, poll + 4)?;
-    let on_value = released_on_value(alloc, poll, on_value, poll + 3, poll + 4)?;
-    Ok((on_error, on_value))
+/// What stands in a word after each outcome of its body, with the slot of the word's outer mask.
+#[derive(Clone, Copy)]
+pub(crate) enum Closing {
+    /// The finalizer of a `guarantee`.
+    Finalizer(u32),
+    /// The release of a bracket.
+    Release(u32),
 }
 
-// What a bracket does after each outcome of its body, by the release for each.
-fn bracket_cases(alloc: Global, poll: u32, releases: Cases) -> Result<Cases, AllocError>
-    requires { poll + 4 < 2 ^ 32 }
-    ensures on_cancel { IfOk result (λ cases. tree_of cases.on_cancel
-        ≡ released_on_cancel (Named poll) (tree_of releases.on_cancel) (poll + 3)) }
-    ensures on_error { IfOk result (λ cases. tree_of cases.on_error
-        ≡ released_on_error (Named poll) (tree_of releases.on_error) (poll + 3) (poll + 4)) }
-    ensures on_value { IfOk result (λ cases. tree_of cases.on_value
-        ≡ released_on_value (Named poll) (tree_of releases.on_value) (poll + 3) (poll + 4)) }
+/// What is done where the body was canceled.
+pub(crate) fn on_cancel(alloc: Global, closing: Closing, term: Core) -> Result<Core, AllocError>
+    requires { last_of_closing closing < 2 ^ 32 }
+    ensures { IfOk result (λ core. tree_of core ≡ closed_on_cancel closing (tree_of term)) }
 {
-    let Cases {
-        on_cancel,
-        on_error,
-        on_value,
-    } = releases;
-    let (on_error, on_value) = bracket_ends(alloc, poll, on_error, on_value)?;
-    let on_cancel = released_on_cancel(alloc, poll, on_cancel, poll + 3)?;
-    Ok(Cases {
-        on_cancel,
-        on_error,
-        on_value,
-    })
+    match closing {
+        Closing::Finalizer(_) => Ok(term),
+        Closing::Release(slot) => released_on_cancel(alloc, slot, term, slot + 3),
+    }
+}
+
+/// What is done after the body's error.
+pub(crate) fn on_error(alloc: Global, closing: Closing, term: Core) -> Result<Core, AllocError>
+    requires { last_of_closing closing < 2 ^ 32 }
+    ensures { IfOk result (λ core. tree_of core ≡ closed_on_error closing (tree_of term)) }
+{
+    match closing {
+        Closing::Finalizer(slot) => finalized_on_error(alloc, term, slot + 1),
+        Closing::Release(slot) => released_on_error(alloc, slot, term, slot + 3, slot + 4),
+    }
+}
+
+/// What is done after the body's value.
+pub(crate) fn on_value(alloc: Global, closing: Closing, term: Core) -> Result<Core, AllocError>
+    requires { last_of_closing closing < 2 ^ 32 }
+    ensures { IfOk result (λ core. tree_of core ≡ closed_on_value closing (tree_of term)) }
+{
+    match closing {
+        Closing::Finalizer(slot) => in_order(alloc, term, Core::Pure(Operand::Slot(slot + 1))),
+        Closing::Release(slot) => released_on_value(alloc, slot, term, slot + 3, slot + 4),
+    }
 }
 
 // The body of a bracket, for which both of its masks are undone.
@@ -256,33 +215,29 @@ fn opened(alloc: Global, outer: u32, inner: u32, body: Core) -> Result<Core, All
 }
 
 // The use of what was acquired, and its release.
-fn used(alloc: Global, slot: u32, body: Core, releases: Cases) -> Result<Core, AllocError>
+fn used(alloc: Global, slot: u32, body: Core, cases: Cases) -> Result<Core, AllocError>
     requires { slot + 4 < 2 ^ 32 }
     ensures { IfOk result (λ core. tree_of core
         ≡ concluded (slot + 2) (slot + 3) (tree.Poll (Named (slot + 2)) (tree.Poll (Named slot) (tree_of body)))
-        (released_on_cancel (Named slot) (tree_of releases.on_cancel) (slot + 3))
-        (released_on_error (Named slot) (tree_of releases.on_error) (slot + 3) (slot + 4))
-        (released_on_value (Named slot) (tree_of releases.on_value) (slot + 3) (slot + 4))) }
+        (tree_of cases.on_cancel) (tree_of cases.on_error) (tree_of cases.on_value)) }
 {
-    let cases = bracket_cases(alloc, slot, releases)?;
     let opened = opened(alloc, slot, slot + 2, body)?;
     concluded(alloc, slot + 2, slot + 3, opened, cases)
 }
 
 /// What was acquired is used by the body, and released by the outcome's case.
-pub(crate) fn bracket_case(
+pub(crate) fn bracket(
     alloc: Global,
     slot: u32,
     acquired: Core,
     body: Core,
-    releases: Cases,
+    cases: Cases,
 ) -> Result<Core, AllocError>
     requires { slot + 4 < 2 ^ 32 }
-    ensures { IfOk result (λ core. tree_of core
-        ≡ bracket_case slot (tree_of acquired) (tree_of body) (tree_of releases.on_value) (tree_of releases.on_error)
-        (tree_of releases.on_cancel)) }
+    ensures { IfOk result (λ core. tree_of core ≡ bracket_by_cases slot (tree_of acquired) (tree_of body)
+        (tree_of cases.on_cancel) (tree_of cases.on_error) (tree_of cases.on_value)) }
 {
-    let used = used(alloc, slot, body, releases)?;
+    let used = used(alloc, slot, body, cases)?;
     let noted = in_order(alloc, Core::Note(Acquired, slot), used)?;
     let whole = bound(alloc, acquired, slot + 1, noted)?;
     masked(alloc, slot, whole)

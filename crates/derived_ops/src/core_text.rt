@@ -73,31 +73,33 @@ fn push_word(text: &mut Vec<u8>, front: &[u8], tail: Tail) -> Result<(), AllocEr
     Ok(())
 }
 
+// Writes a form that has a value behind its head, and no parts.
+fn push_valued(
+    text: &mut Vec<u8>,
+    front: &[u8],
+    tail: Tail,
+    value: Operand,
+) -> Result<(), AllocError>
+    ensures { OnOk result (text.new.items ≡ text.old.items ++
+        (head_text front.now tail ++ (codes " " ++ (value_text (value_in_core value) ++ codes ")")))) }
+{
+    push_head(text, front, tail)?;
+    push_word(text, b" ", Tail::Valued(value))
+}
+
 fn push_action(text: &mut Vec<u8>, action: Action) -> Result<(), AllocError>
     ensures { OnOk result (text.new.items ≡ text.old.items ++ action_text (action_in_core action)) }
 {
     match action {
-        Action::Add(v, w) => {
-            push_head(text, b"(add ", Tail::Valued(v))?;
-            push_word(text, b" ", Tail::Valued(w))
-        }
+        Action::Add(v, w) => push_valued(text, b"(add ", Tail::Valued(v), w),
         Action::Say(v) => push_word(text, b"(say ", Tail::Valued(v)),
         Action::Cede => text.extend_from_slice(b"(cede)"),
         Action::Never => text.extend_from_slice(b"(never)"),
         Action::Canceled => text.extend_from_slice(b"(canceled)"),
         Action::Get(slot) => push_word(text, b"(get r", Tail::Named(slot)),
-        Action::Set(slot, v) => {
-            push_head(text, b"(set r", Tail::Named(slot))?;
-            push_word(text, b" ", Tail::Valued(v))
-        }
-        Action::Modify(slot, v) => {
-            push_head(text, b"(modify r", Tail::Named(slot))?;
-            push_word(text, b" ", Tail::Valued(v))
-        }
-        Action::Complete(slot, v) => {
-            push_head(text, b"(complete d", Tail::Named(slot))?;
-            push_word(text, b" ", Tail::Valued(v))
-        }
+        Action::Set(slot, v) => push_valued(text, b"(set r", Tail::Named(slot), v),
+        Action::Modify(slot, v) => push_valued(text, b"(modify r", Tail::Named(slot), v),
+        Action::Complete(slot, v) => push_valued(text, b"(complete d", Tail::Named(slot), v),
         Action::Await(slot) => push_word(text, b"(await d", Tail::Named(slot)),
     }
 }

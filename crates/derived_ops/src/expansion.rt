@@ -4,13 +4,16 @@ ghost use Rattle.std.specs.Prelude.{◌≡◌, ◌+◌, ◌<◌, ◌^◌, [], ma
 ghost use Rattle.effect_term.specs.ExpansionSize.{expansion_size_of, total_expansion_size};
 ghost use Rattle.derived_ops.specs.Cores.{tree_of, value_in_core};
 ghost use Rattle.derived_ops.specs.Expansion.{expansion, slot_at, value_in};
+ghost use Rattle.derived_ops.specs.Private.Closings.{closed_on_cancel, closed_on_error, closed_on_value, last_of_closing};
 ghost use Rattle.derived_ops.specs.Private.Shapes.{depth_at, slots_at, tree_at, tree_of_shape, Fits, EndsFit, PartsFit};
 ghost use Rattle.derived_ops.specs.Reading.{source_of, value_of};
 
-use crate::brackets::{Cases, bracket_case, guarantee};
+use crate::brackets::{Cases, Closing, bracket, guarantee, on_cancel, on_error, on_value};
 use crate::core_term::{Action, Core, Maker, Operand, Turns};
 use crate::forms::sequence;
-use crate::shape::{Ends, One, Part, Place, Shape, Three, Two, of_one, of_three, of_two};
+use crate::shape::{
+    Ends, One, Part, Place, Shape, Three, Two, Word, of_one, of_three, of_two, of_word,
+};
 use effect_term::{Name, Term};
 use std::alloc::{AllocError, Global};
 
@@ -70,8 +73,8 @@ impl Scope {
         ensures parts { PartsFit (expansion_size_of term.now) depth result }
     {
         match term {
-            Term::Pure(v) => Shape::Word(Core::Pure(self.value(*v))),
-            Term::Raise(v) => Shape::Word(Core::Raise(self.value(*v))),
+            Term::Pure(v) => Shape::Word(Word::Pure(self.value(*v))),
+            Term::Raise(v) => Shape::Word(Word::Raise(self.value(*v))),
             Term::Let(e, k) => Shape::Two(Two::Let(depth), part!(Here, e), part!(Bound, k)),
             Term::Seq(a, b, more) => Shape::Seq(part!(Here, a), part!(Here, b), more),
             Term::Handle(e, h) => Shape::Two(Two::Handle(depth), part!(Here, e), part!(Bound, h)),
@@ -79,12 +82,12 @@ impl Scope {
                 Shape::Two(Two::If0(self.value(*v)), part!(Here, s), part!(Here, e))
             }
             Term::Add(v, w) => {
-                Shape::Word(Core::Act(Action::Add(self.value(*v), self.value(*w))))
+                Shape::Word(Word::Act(Action::Add(self.value(*v), self.value(*w))))
             }
-            Term::Say(v) => Shape::Word(Core::Act(Action::Say(self.value(*v)))),
-            Term::Cede => Shape::Word(Core::Act(Action::Cede)),
-            Term::Never => Shape::Word(Core::Act(Action::Never)),
-            Term::Canceled => Shape::Word(Core::Act(Action::Canceled)),
+            Term::Say(v) => Shape::Word(Word::Act(Action::Say(self.value(*v)))),
+            Term::Cede => Shape::Word(Word::Act(Action::Cede)),
+            Term::Never => Shape::Word(Word::Act(Action::Never)),
+            Term::Canceled => Shape::Word(Word::Act(Action::Canceled)),
             Term::Uncancelable(e) => Shape::One(One::Masked(depth), part!(Bound, e)),
             Term::Poll(p, e) => Shape::One(One::Polled(self.slot(*p)), part!(Here, e)),
             Term::OnCancel(e, fin) => Shape::Two(Two::OnCancel, part!(Here, e), part!(Here, fin)),
@@ -95,25 +98,25 @@ impl Scope {
                 part!(Bound, e),
                 part!(Here, c),
             ),
-            Term::Cancel(f) => Shape::Word(Core::Cancel(self.slot(*f))),
+            Term::Cancel(f) => Shape::Word(Word::Cancel(self.slot(*f))),
             Term::Ref(v, k) => {
                 Shape::One(
                     One::Made(Maker::Ref(self.value(*v)), depth),
                     part!(Bound, k),
                 )
             }
-            Term::Get(r) => Shape::Word(Core::Act(Action::Get(self.slot(*r)))),
+            Term::Get(r) => Shape::Word(Word::Act(Action::Get(self.slot(*r)))),
             Term::Set(r, v) => {
-                Shape::Word(Core::Act(Action::Set(self.slot(*r), self.value(*v))))
+                Shape::Word(Word::Act(Action::Set(self.slot(*r), self.value(*v))))
             }
             Term::Modify(r, v) => {
-                Shape::Word(Core::Act(Action::Modify(self.slot(*r), self.value(*v))))
+                Shape::Word(Word::Act(Action::Modify(self.slot(*r), self.value(*v))))
             }
             Term::Deferred(k) => Shape::One(One::Made(Maker::Deferred, depth), part!(Bound, k)),
             Term::Complete(d, v) => {
-                Shape::Word(Core::Act(Action::Complete(self.slot(*d), self.value(*v))))
+                Shape::Word(Word::Act(Action::Complete(self.slot(*d), self.value(*v))))
             }
-            Term::Await(d) => Shape::Word(Core::Act(Action::Await(self.slot(*d)))),
+            Term::Await(d) => Shape::Word(Word::Act(Action::Await(self.slot(*d)))),
             Term::Repeat(v, e) => {
                 Shape::One(One::Repeated(Turns::Times(self.value(*v))), part!(Here, e))
             }
@@ -208,7 +211,7 @@ impl Scope {
     {
         let alloc = self.alloc;
         match self.shape(term, depth) {
-            Shape::Word(core) => Ok(core),
+            Shape::Word(word) => Ok(of_word(word)),
             Shape::One(word, a) => of_one(alloc, word, self.placed(a, depth)?),
             Shape::Two(word, a, b) => {
                 let (a, b) = self.pair(a, b, depth)?;
@@ -220,11 +223,13 @@ impl Scope {
             }
             Shape::Guarantee(slot, body, ends) => {
                 let body = self.placed(body, depth)?;
-                guarantee(alloc, slot, body, self.cases(ends, depth)?)
+                let cases = self.cases(Closing::Finalizer(slot), ends, depth)?;
+                guarantee(alloc, slot, body, cases)
             }
             Shape::Bracket(slot, acquired, body, ends) => {
                 let (acquired, body) = self.pair(acquired, body, depth)?;
-                bracket_case(alloc, slot, acquired, body, self.cases(ends, depth)?)
+                let cases = self.cases(Closing::Release(slot), ends, depth)?;
+                bracket(alloc, slot, acquired, body, cases)
             }
             Shape::Seq(a, b, more) => {
                 let (a, b) = self.pair(a, b, depth)?;
@@ -270,20 +275,23 @@ impl Scope {
         Ok((first, second))
     }
 
-    // The expansions of what stands for each outcome of a body.
+    // What is done after each outcome of a body.
     #[cycle(expansion)]
-    fn cases(&mut self, ends: Ends<'_>, depth: u32) -> Result<Cases, AllocError>
-        requires { EndsFit depth ends }
-        ensures on_cancel { IfOk result (λ cases.
-            tree_of cases.on_cancel ≡ tree_at self.old.slots.items depth ends.entry.on_cancel) }
-        ensures on_error { IfOk result (λ cases.
-            tree_of cases.on_error ≡ tree_at self.old.slots.items depth ends.entry.on_error) }
-        ensures on_value { IfOk result (λ cases.
-            tree_of cases.on_value ≡ tree_at self.old.slots.items depth ends.entry.on_value) }
+    fn cases(&mut self, closing: Closing, ends: Ends<'_>, depth: u32) -> Result<Cases, AllocError>
+        requires ends { EndsFit depth ends }
+        requires closing { last_of_closing closing < 2 ^ 32 }
+        ensures on_cancel { IfOk result (λ cases. tree_of cases.on_cancel
+            ≡ closed_on_cancel closing (tree_at self.old.slots.items depth ends.entry.on_cancel)) }
+        ensures on_error { IfOk result (λ cases. tree_of cases.on_error
+            ≡ closed_on_error closing (tree_at self.old.slots.items depth ends.entry.on_error)) }
+        ensures on_value { IfOk result (λ cases. tree_of cases.on_value
+            ≡ closed_on_value closing (tree_at self.old.slots.items depth ends.entry.on_value)) }
         ensures slots { OnOk result (self.new.slots.items ≡ self.old.slots.items) }
     {
-        let (on_cancel, on_error) = self.pair(ends.on_cancel, ends.on_error, depth)?;
-        let on_value = self.placed(ends.on_value, depth)?;
+        let alloc = self.alloc;
+        let on_cancel = on_cancel(alloc, closing, self.placed(ends.on_cancel, depth)?)?;
+        let on_error = on_error(alloc, closing, self.placed(ends.on_error, depth)?)?;
+        let on_value = on_value(alloc, closing, self.placed(ends.on_value, depth)?)?;
         Ok(Cases {
             on_cancel,
             on_error,

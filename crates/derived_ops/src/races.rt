@@ -7,7 +7,7 @@ ghost use Rattle.derived_ops.specs.Expansion.{ended, gives_up, in_order, pair_ra
 ghost use Rattle.derived_ops.specs.Expansion.{race_winner, runs_side, starts_side};
 ghost use Rattle.derived_ops.specs.Tree as tree;
 
-use crate::brackets::{Cases, guarantee};
+use crate::brackets::{Cases, Closing, guarantee, on_error, on_value};
 use crate::core_term::{Action, Core, Maker, Operand};
 use crate::forms::{
     bound, chosen, finalized, in_order, joined, made, masked, nil, polled, started,
@@ -49,12 +49,15 @@ fn runs_side(
     requires { slot + 2 < 2 ^ 32 }
     ensures { IfOk result (λ core. tree_of core ≡ runs_side slot deferred side (tree_of body)) }
 {
-    let finalizers = Cases {
+    let closing = Closing::Finalizer(slot);
+    let on_error = on_error(alloc, closing, completes(deferred, side))?;
+    let on_value = on_value(alloc, closing, completes(deferred, side))?;
+    let cases = Cases {
         on_cancel: completes(deferred, side),
-        on_error: completes(deferred, side),
-        on_value: completes(deferred, side),
+        on_error,
+        on_value,
     };
-    guarantee(alloc, slot, body, finalizers)
+    guarantee(alloc, slot, body, cases)
 }
 
 // Waits for the ends of both fibers.

@@ -3,9 +3,9 @@
 ghost use Rattle.std.specs.Prelude.{◌≡◌, ◌<◌, ◌^◌, IfOk};
 ghost use Rattle.derived_ops.specs.Cores.{tree_of};
 ghost use Rattle.derived_ops.specs.Private.Shapes.{last_of_three, last_of_two, tree_of_one, tree_of_three};
-ghost use Rattle.derived_ops.specs.Private.Shapes.{tree_of_two};
+ghost use Rattle.derived_ops.specs.Private.Shapes.{tree_of_two, tree_of_word};
 
-use crate::core_term::{Core, Maker, Operand, Turns};
+use crate::core_term::{Action, Core, Maker, Operand, Turns};
 use crate::forms::{
     bound, chosen, finalized, handled, joined, made, masked, polled, repeated, started,
 };
@@ -48,6 +48,15 @@ pub(crate) struct Ends<'a> {
     pub(crate) on_value: Part<'a>,
 }
 
+/// A word without parts.
+#[derive(Clone, Copy)]
+pub(crate) enum Word {
+    Pure(Operand),
+    Raise(Operand),
+    Act(Action),
+    Cancel(u32),
+}
+
 /// A word of one part, with the slot that it binds.
 #[derive(Clone, Copy)]
 pub(crate) enum One {
@@ -76,10 +85,9 @@ pub(crate) enum Three {
 }
 
 /// A term as a word and its parts.
-#[derive(Drop)]
+#[derive(Clone, Copy)]
 pub(crate) enum Shape<'a> {
-    /// A word without parts.
-    Word(Core),
+    Word(Word),
     One(One, Part<'a>),
     Two(Two, Part<'a>, Part<'a>),
     Three(Three, Part<'a>, Part<'a>, Part<'a>),
@@ -88,6 +96,18 @@ pub(crate) enum Shape<'a> {
     /// A bracket, with the slot of its outer mask.
     Bracket(u32, Part<'a>, Part<'a>, Ends<'a>),
     Seq(Part<'a>, Part<'a>, &'a [Term]),
+}
+
+/// A word without parts, as a term.
+pub(crate) fn of_word(word: Word) -> Core
+    ensures { tree_of result ≡ tree_of_word word }
+{
+    match word {
+        Word::Pure(value) => Core::Pure(value),
+        Word::Raise(code) => Core::Raise(code),
+        Word::Act(action) => Core::Act(action),
+        Word::Cancel(fiber) => Core::Cancel(fiber),
+    }
 }
 
 /// A word of one part, which is expanded.

@@ -13,12 +13,14 @@ use Rattle.derived_ops.specs.declared.shape.Three.{Three}
 use Rattle.derived_ops.specs.declared.shape.Three.TheVariants as three
 use Rattle.derived_ops.specs.declared.shape.Two.{Two}
 use Rattle.derived_ops.specs.declared.shape.Two.TheVariants as two
-use Rattle.derived_ops.specs.Cores.{maker_in_core, tree_of, turns_in_core, value_in_core}
+use Rattle.derived_ops.specs.declared.shape.Word.{Word}
+use Rattle.derived_ops.specs.declared.shape.Word.TheVariants as word
+use Rattle.derived_ops.specs.Cores.{action_in_core, maker_in_core, turns_in_core, value_in_core}
 use Rattle.derived_ops.specs.Expansion.{both, bracket_case, expansion, guarantee, race}
 use Rattle.derived_ops.specs.Private.Sequences.{trees_in_order}
 use Rattle.derived_ops.specs.Reading.{source_of}
-use Rattle.derived_ops.specs.Tree.{Tree, Named, Open_slot, Let, Handled, If0, Join, Make, Start, Loop, Uncancelable}
-use Rattle.derived_ops.specs.Tree.{Poll, On_cancel}
+use Rattle.derived_ops.specs.Tree.{Tree, Named, Open_slot, Pure, Raise, Act, Cancel, Let, Handled, If0, Join, Make}
+use Rattle.derived_ops.specs.Tree.{Start, Loop, Uncancelable, Poll, On_cancel}
 
 -- the binders around a part of a word that stands below d binders, and those of them that the program knows, beside m
 abbrev pub depth_at : Place → ℕ → ℕ
@@ -44,6 +46,12 @@ abbrev pub tree_at : List ℕ → ℕ → Part → Tree
 tree_at m d p = expansion (slots_at p.place m d) (depth_at p.place d) (source_of p.term.now)
 
 -- what a word is with its parts expanded
+abbrev pub tree_of_word : Word → Tree
+tree_of_word (word.Pure v) = Pure (value_in_core v)
+tree_of_word (word.Raise v) = Raise (value_in_core v)
+tree_of_word (word.Act a) = Act (action_in_core a)
+tree_of_word (word.Cancel f) = Cancel (Open_slot f)
+
 abbrev pub tree_of_one : One → Tree → Tree
 tree_of_one (one.Masked s) e = Uncancelable s e
 tree_of_one (one.Polled p) e = Poll (Named p) e
@@ -64,7 +72,7 @@ tree_of_three (three.Both s) a b k = both s a b k
 
 -- what a term is by its word and parts
 abbrev pub tree_of_shape : List ℕ → ℕ → Shape → Tree
-tree_of_shape m d (shape.Word core) = tree_of core
+tree_of_shape m d (shape.Word w) = tree_of_word w
 tree_of_shape m d (shape.One w a) = tree_of_one w (tree_at m d a)
 tree_of_shape m d (shape.Two w a b) = tree_of_two w (tree_at m d a) (tree_at m d b)
 tree_of_shape m d (shape.Three w a b c) = tree_of_three w (tree_at m d a) (tree_at m d b) (tree_at m d c)
@@ -101,7 +109,7 @@ EndsFit d ends = Fits d ends.on_cancel × (Fits d ends.on_error × Fits d ends.o
 
 -- the parts of a term of n words below d binders have fewer words together, and no slot of it is past what can be counted
 abbrev pub PartsFit : ℕ → ℕ → Shape → Type 0
-PartsFit n d (shape.Word core) = Unit {0}
+PartsFit n d (shape.Word w) = Unit {0}
 PartsFit n d (shape.One w a) = (size_at a < n) × Fits d a
 PartsFit n d (shape.Two w a b) = ((size_at a + size_at b < n) × (last_of_two w < 2 ^ 32)) × (Fits d a × Fits d b)
 PartsFit n d (shape.Three w a b c) =

@@ -4,10 +4,8 @@ use Rattle.derived_ops.specs.Cores.{action_in_core, value_in_core}
 use Rattle.derived_ops.proofs.Texts.{complete-pushed}
 use Rattle.derived_ops.proofs.core_text.push_action.Goals as goal
 
-pub returns-in_ok-push_head-in-Complete : goal.returns-in_ok-push_head-in-Complete
-returns-in_ok-push_head-in-Complete c =
-    on_ok_weaker c.push_word-in-Complete.result (λ h.
-    complete-pushed c.args.text.now.items c.push_head-in-Complete.new.text.items
-    c.push_word-in-Complete.new.text.items (action_in_core c.args.action) c.in-Complete.slot
-    (value_in_core c.in-Complete.v)
-    c.in_ok-push_head-in-Complete.ensures h (ap action_in_core c.in-Complete.is)) c.push_word-in-Complete.ensures
+pub returns-in-Complete : goal.returns-in-Complete
+returns-in-Complete c =
+    on_ok_weaker c.push_valued-in-Complete.result (λ h.
+    complete-pushed c.args.text.now.items c.push_valued-in-Complete.new.text.items (action_in_core c.args.action)
+    c.in-Complete.slot (value_in_core c.in-Complete.v) h (ap action_in_core c.in-Complete.is)) c.push_valued-in-Complete.ensures
