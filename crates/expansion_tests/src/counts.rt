@@ -1,7 +1,7 @@
 //! The counts of programs, and the terms that are past a limit, worked from the rules.
 
 use crate::pieces::{Piece, text_of};
-use effect_term::{Program, TermError};
+use effect_term::{Program, Term, TermError};
 use std::alloc::Global;
 use std::test::Fail;
 use term_parse::parse;
@@ -161,13 +161,18 @@ fn terms_past_a_limit(rt: HostRuntime) -> Result<(), Fail> {
     Ok(())
 }
 
+/// The size of the term where it is a program's.
+fn checked_size(alloc: Global, term: Term) -> Result<u64, TermError> {
+    let program = Program::check(alloc, term)?;
+    Ok(program.term().size())
+}
+
 /// Holds whichever request for memory is refused.
 #[test]
 fn a_term_is_checked_or_memory_ran_out(rt: HostRuntime) {
-    let alloc = rt.alloc();
-    if let Ok(term) = parse(alloc, b"(let x (cede) (pure x))") {
-        match Program::check(alloc, term) {
-            Ok(program) => assert_eq!(rt; program.term().size(), 3),
+    if let Ok(term) = parse(rt.alloc(), b"(let x (cede) (pure x))") {
+        match checked_size(rt.alloc(), term) {
+            Ok(size) => assert_eq!(rt; size, 3),
             Err(error) => assert_eq!(rt; error, TermError::NoMemory),
         }
     }

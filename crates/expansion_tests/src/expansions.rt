@@ -1,21 +1,30 @@
 //! Expansions of whole programs, worked from the rules.
 
-use derived_ops::{expand, print_core};
-use effect_term::Program;
+use derived_ops::{Code, expand, print_core};
+use effect_term::{Program, Term, TermError};
 use std::alloc::{AllocError, Global};
 use std::test::Fail;
 use term_parse::parse;
 
+fn is_printed(alloc: Global, code: &Code, text: &[u8]) -> Result<bool, AllocError> {
+    Ok(print_core(alloc, code)?.as_slice() == text)
+}
+
 /// Whether the text of a program's code is this one, or that memory ran out.
 fn is_shown(alloc: Global, program: &Program, text: &[u8]) -> Result<bool, AllocError> {
     let code = expand(alloc, program)?;
-    Ok(print_core(alloc, &code)?.as_slice() == text)
+    is_printed(alloc, &code, text)
+}
+
+/// Whether the text of the code of a term's program is this one.
+fn is_expanded_so(alloc: Global, term: Term, text: &[u8]) -> Result<bool, TermError> {
+    let program = Program::check(alloc, term)?;
+    Ok(is_shown(alloc, &program, text)?)
 }
 
 /// Whether the text of the code of a text's program is the other text.
 pub(crate) fn is_expanded(alloc: Global, program: &[u8], text: &[u8]) -> Result<bool, Fail> {
-    let program = Program::check(alloc, parse(alloc, program)?)?;
-    Ok(is_shown(alloc, &program, text)?)
+    Ok(is_expanded_so(alloc, parse(alloc, program)?, text)?)
 }
 
 // All core words, and the same with their slots.
@@ -135,13 +144,10 @@ fn derived_words_are_what_they_stand_for(rt: HostRuntime) -> Result<(), Fail> {
 
 /// Whether the program has this text, or memory ran out before that was known.
 fn is_whole(alloc: Global, program: &[u8], text: &[u8]) -> bool {
-    let Ok(term) = parse(alloc, program) else {
-        return true;
-    };
-    let Ok(program) = Program::check(alloc, term) else {
-        return true;
-    };
-    !matches!(is_shown(alloc, &program, text), Ok(false))
+    match parse(alloc, program) {
+        Ok(term) => !matches!(is_expanded_so(alloc, term, text), Ok(false)),
+        Err(_) => true,
+    }
 }
 
 /// Holds whichever request for memory is refused.
