@@ -1,15 +1,9 @@
 //! The program: one command line over the standard streams.
 //!
-//! It reads its words by `clap`, and does what they ask for: the orders of `outcome_trace`, which
-//! promises what goes out and with which status, and runs on the workers of `steal_pool`.
+//! What its words ask for is done by `command_line`.
 #![tactic(auto)]
 
-mod cli;
-mod ranges;
-mod requests;
-mod run_order;
-mod words;
-
+use command_line::{command, refuse_words};
 use outcome_trace::{FromRead, TextFault, ToWrite, tell_fault};
 use std::alloc::AllocError;
 use std::env;
@@ -27,12 +21,12 @@ fn main(rt: HostRuntime) -> ExitCode {
         Ok(words) => words.collect(rt.alloc()),
         Err(error) if error.kind() == ErrorKind::OutOfMemory => Err(AllocError),
         Err(_) => {
-            let status = cli::refuse_words(rt.alloc(), NOT_TEXT, &mut err);
+            let status = refuse_words(rt.alloc(), NOT_TEXT, &mut err);
             return ExitCode::from(status.code());
         }
     };
     let status = match words {
-        Ok(words) => cli::command(&rt, words.as_slice(), &mut input, &mut out, &mut err),
+        Ok(words) => command(&rt, words.as_slice(), &mut input, &mut out, &mut err),
         Err(_) => tell_fault(TextFault::NoMemory, &mut err),
     };
     ExitCode::from(status.code())

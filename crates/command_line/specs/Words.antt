@@ -1,0 +1,78 @@
+-- What the words of a command line may be.
+use Rattle.std.specs.Prelude.{true, codes, Some}
+use Rattle.clap.specs.declared.builder.action.ArgAction.TheVariants.{Set}
+use Rattle.clap.specs.declared.builder.value_parser.ValueParser.TheVariants.{Unsigned}
+use Rattle.clap.specs.Simple.{on_top}
+use Rattle.clap.specs.Words.{App, Rule, Text, new_app, new_rule, with_rule, with_subcommand}
+use Rattle.command_line.specs.declared.ranges.NumberRange.{NumberRange}
+
+-- ---- the numbers that the options take: the least, the greatest, and the one where the option isn't given
+-- of fibers, of refs or of deferreds
+abbrev pub band_range : NumberRange
+band_range = record { least = 1; most = 1000; usual = 1000 }
+
+-- of changes that a fiber makes of its own state
+abbrev pub count_range : NumberRange
+count_range = record { least = 1; most = 1099511627775; usual = 1099511627775 }
+
+abbrev pub workers_range : NumberRange
+workers_range = record { least = 1; most = 16; usual = 4 }
+
+-- of moves that a turn has at most
+abbrev pub budget_range : NumberRange
+budget_range = record { least = 2; most = 10000; usual = 64 }
+
+-- of moves that fiber 0 may make
+abbrev pub moves_range : NumberRange
+moves_range = record { least = 1; most = 1000000; usual = 100000 }
+
+-- ---- the options
+-- an option that takes a whole number of this range
+abbrev pub number_option : Text → NumberRange → Rule
+number_option id range = record (new_rule id) {
+  long = Some id;
+  value_names = 1;
+  action = Some Set;
+  parser = Some (Unsigned range.least range.most);
+}
+
+abbrev pub schedule_option : Rule
+schedule_option = record (new_rule (codes "schedule")) {
+  long = Some (codes "schedule");
+  value_names = 1;
+  action = Some Set;
+  required = true;
+}
+
+-- with the options for the limits of a run
+abbrev pub with_limits : App → App
+with_limits app =
+    with_rule (with_rule (with_rule (with_rule app
+    (number_option (codes "fibers") band_range))
+    (number_option (codes "refs") band_range))
+    (number_option (codes "deferreds") band_range))
+    (number_option (codes "count") count_range)
+
+-- ---- the commands
+abbrev pub replay_command : App
+replay_command = with_limits (with_rule (new_app (codes "replay")) schedule_option)
+
+abbrev pub run_command : App
+run_command =
+    with_rule (with_rule (with_limits (with_rule (new_app (codes "run"))
+    (number_option (codes "workers") workers_range)))
+    (number_option (codes "budget") budget_range))
+    (number_option (codes "moves") moves_range)
+
+-- the command, which wants one of four subcommands, and tells its version
+abbrev pub program : App
+program =
+    with_subcommand (with_subcommand
+    (with_subcommand (with_subcommand (on_top (λ s. record s {
+      subcommand_required = true;
+      has_version = true;
+    }) (new_app (codes "fiber_cli")))
+    (new_app (codes "check")).top)
+    (new_app (codes "show")).top)
+    replay_command.top)
+    run_command.top

@@ -1,0 +1,17 @@
+//! Tests of the public calls of `command_line`, over texts in memory and devices that fail, with
+//! answers worked by hand.
+//!
+//! The crate has nothing but its tests. They stand apart from the library so that it is proved without
+//! them.
+#![tactic(auto)]
+
+#[cfg(test)]
+mod devices;
+#[cfg(test)]
+mod replays;
+#[cfg(test)]
+mod runs;
+#[cfg(test)]
+mod texts;
+#[cfg(test)]
+mod words;

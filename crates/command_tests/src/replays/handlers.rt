@@ -1,0 +1,144 @@
+//! Errors and their handlers, choices and loops.
+
+use super::{Replay, expect_replays};
+use crate::devices::expect;
+use std::alloc::{AllocError, Global};
+use std::test::Fail;
+
+const HANDLERS: &[Replay<'static>] = &[
+    Replay {
+        rule: "a sum out of range raises 1001",
+        program: "(handle (add 4611686018427387903 1) e (pure e))",
+        schedule: "0*99",
+        status: 0,
+        report: "fiber 0 succeeded 1001\n",
+    },
+    Replay {
+        rule: "a sum below the range raises 1001",
+        program: "(add -4611686018427387904 -1)",
+        schedule: "0*99",
+        status: 1,
+        report: "fiber 0 errored 1001\n",
+    },
+    Replay {
+        rule: "a sum of more than 32 bits is within the range",
+        program: "(add 2147483647 1)",
+        schedule: "0*99",
+        status: 0,
+        report: "fiber 0 succeeded 2147483648\n",
+    },
+    Replay {
+        rule: "a handler doesn't see cancellation",
+        program: "(handle (canceled) e (pure 1))",
+        schedule: "0*99",
+        status: 2,
+        report: "fiber 0 canceled: cut\n",
+    },
+    Replay {
+        rule: "a finalizer doesn't run before a handler",
+        program: "(handle (oncancel (raise 4) (say 1)) e (pure e))",
+        schedule: "0*99",
+        status: 0,
+        report: "fiber 0 succeeded 4\n",
+    },
+    Replay {
+        rule: "an error of the handler goes to the next one",
+        program: "(handle (handle (raise 4) e (seq (say e) (raise 5))) e (seq (say e) (raise 6)))",
+        schedule: "0*99",
+        status: 1,
+        report: "fiber 0 errored 6: say 4, say 5\n",
+    },
+];
+
+const CHOICES: &[Replay<'static>] = &[
+    Replay {
+        rule: "0 takes the first branch",
+        program: "(if0 0 (say 1) (say 2))",
+        schedule: "0*99",
+        status: 0,
+        report: "fiber 0 succeeded 0: say 1\n",
+    },
+    Replay {
+        rule: "any other value takes the second branch",
+        program: "(let x (add 3 -4) (if0 x (say 1) (say 2)))",
+        schedule: "0*99",
+        status: 0,
+        report: "fiber 0 succeeded 0: say 2\n",
+    },
+];
+
+const LOOPS: &[Replay<'static>] = &[
+    Replay {
+        rule: "three times",
+        program: "(repeat 3 (say 1))",
+        schedule: "0*99",
+        status: 0,
+        report: "fiber 0 succeeded 0: say 1, say 1, say 1\n",
+    },
+    Replay {
+        rule: "fewer than no times",
+        program: "(repeat -1 (say 1))",
+        schedule: "0*99",
+        status: 0,
+        report: "fiber 0 succeeded 0\n",
+    },
+    Replay {
+        rule: "an error ends the loop",
+        program: "(ref r 2 (handle (forever (let x (modify r -1) (if0 x (raise 7) (say x)))) e (pure e)))",
+        schedule: "0*99",
+        status: 0,
+        report: "fiber 0 succeeded 7: say 2, say 1\n",
+    },
+    Replay {
+        rule: "a loop without end is canceled",
+        program: "(start f (forever (seq (say 1) (cede))) (seq (cancel f) (say 2)))",
+        schedule: "0*2 1*16 0*9 1*9 0*9",
+        status: 0,
+        report: "fiber 0 succeeded 0: enter 0, leave 0, say 2\nfiber 1 canceled: say 1, say 1, cut\n",
+    },
+];
+
+#[test]
+fn a_handler_takes_errors_alone(rt: HostRuntime) {
+    expect_replays(&rt, HANDLERS);
+}
+
+#[test]
+fn a_choice_is_by_zero(rt: HostRuntime) {
+    expect_replays(&rt, CHOICES);
+}
+
+#[test]
+fn a_loop_goes_round_so_often(rt: HostRuntime) {
+    expect_replays(&rt, LOOPS);
+}
+
+/// A report of fiber 0 that said 1 so often, and at least once.
+fn said(alloc: Global, outcome: &str, times: usize) -> Result<String, AllocError> {
+    let mut report = format!(in alloc; "fiber 0 {outcome}: say 1")?;
+    for _ in 1..times {
+        report.push_str(", say 1")?;
+    }
+    report.push_str("\n")?;
+    Ok(report)
+}
+
+// A time round is six moves: two looks and two moves of the loop and of `say`, and a look and a move
+// by which the result of `say` is passed over. The last time round and the end are two moves each.
+#[test]
+fn a_loop_costs_six_moves_a_time(rt: HostRuntime) -> Result<(), Fail> {
+    for (schedule, outcome, status) in [("0*60004", "succeeded 0", 0), ("0*60003", "unended", 3)] {
+        let report = said(rt.alloc(), outcome, 10000)?;
+        let words = ["fiber_cli", "replay", "--schedule", schedule];
+        expect(
+            &rt,
+            "10,000 times",
+            &words,
+            "(repeat 10000 (say 1))",
+            status,
+            report.as_str(),
+            "",
+        );
+    }
+    Ok(())
+}

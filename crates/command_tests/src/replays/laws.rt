@@ -1,0 +1,352 @@
+//! The laws of `cats-effect-laws`, as programs: the two sides of a law end in the same way, and say the
+//! same, whatever the order in which the fibers take turns, and whenever a cancellation comes.
+//!
+//! `forceR(fa)(fb)` is written as `(seq (handle fa e (pure 0)) fb)`, and `attempt` as such a `handle`.
+
+use command_line::command;
+use outcome_trace::{FromRead, ToWrite};
+use std::alloc::{AllocError, Global};
+use std::process::Abort;
+use std::str;
+use std::sync::Wait;
+use std::test::Fail;
+use std::thread::Threads;
+
+/// Two programs that can't be told apart.
+struct Law<'a> {
+    /// The law's name in `cats-effect-laws`, or in `cats-laws` where `MonadCancel` inherits it.
+    source: &'a str,
+    left: &'a str,
+    right: &'a str,
+}
+
+/// Laws on one fiber.
+const ALONE: &[Law<'static>] = &[
+    Law {
+        source: "MonadCancelLaws.uncancelablePollIsIdentity",
+        left: "(uncancelable p (poll p (seq (say 1) (pure 4))))",
+        right: "(seq (say 1) (pure 4))",
+    },
+    Law {
+        source: "MonadCancelLaws.uncancelablePollIsIdentity",
+        left: "(uncancelable p (poll p (seq (say 1) (canceled) (say 2))))",
+        right: "(seq (say 1) (canceled) (say 2))",
+    },
+    Law {
+        source: "MonadCancelLaws.uncancelableIgnoredPollEliminatesNesting",
+        left: "(uncancelable p (uncancelable q (seq (say 1) (canceled) (say 2))))",
+        right: "(uncancelable p (seq (say 1) (canceled) (say 2)))",
+    },
+    Law {
+        source: "MonadCancelLaws.uncancelablePollInverseNestIsUncancelable",
+        left: "(uncancelable op (uncancelable ip (poll op (poll ip (seq (say 1) (canceled) (say 2))))))",
+        right: "(uncancelable p (seq (say 1) (canceled) (say 2)))",
+    },
+    Law {
+        source: "MonadCancelLaws.uncancelableEliminatesOnCancel",
+        left: "(uncancelable p (oncancel (seq (say 1) (canceled) (say 2)) (say 9)))",
+        right: "(uncancelable p (seq (say 1) (canceled) (say 2)))",
+    },
+    Law {
+        source: "MonadCancelLaws.canceledAssociatesLeftOverFlatMap",
+        left: "(seq (canceled) (seq (say 1) (raise 5)))",
+        right: "(canceled)",
+    },
+    Law {
+        source: "MonadCancelLaws.uncancelableCanceledAssociatesRightOverFlatMap",
+        left: "(uncancelable p (let a (let u (canceled) (pure 4)) (seq (say a) (raise 6))))",
+        right: "(uncancelable p (seq (handle (seq (say 4) (raise 6)) e (pure 0)) (canceled)))",
+    },
+    Law {
+        source: "MonadCancelLaws.uncancelableFinalizers",
+        left: "(oncancel (canceled) (uncancelable p (seq (say 1) (canceled) (say 2))))",
+        right: "(oncancel (canceled) (seq (say 1) (canceled) (say 2)))",
+    },
+    Law {
+        source: "MonadCancelLaws.forceRDiscardsPure",
+        left: "(seq (handle (pure 7) e (pure 0)) (seq (say 1) (pure 4)))",
+        right: "(seq (say 1) (pure 4))",
+    },
+    Law {
+        source: "MonadCancelLaws.forceRDiscardsError",
+        left: "(seq (handle (raise 7) e (pure 0)) (seq (say 1) (raise 5)))",
+        right: "(seq (say 1) (raise 5))",
+    },
+    Law {
+        source: "MonadCancelLaws.forceRCanceledShortCircuits",
+        left: "(seq (handle (canceled) e (pure 0)) (seq (say 1) (pure 4)))",
+        right: "(seq (canceled) (seq (say 1) (pure 4)))",
+    },
+    Law {
+        source: "GenSpawnLaws.neverDominatesOverFlatMap",
+        left: "(seq (never) (seq (say 1) (pure 4)))",
+        right: "(never)",
+    },
+    Law {
+        source: "GenSpawnLaws.forceRNeverIsNever",
+        left: "(seq (handle (never) e (pure 0)) (seq (say 1) (pure 4)))",
+        right: "(never)",
+    },
+    Law {
+        source: "MonadErrorLaws.monadErrorLeftZero",
+        left: "(let x (raise 3) (seq (say x) (pure 4)))",
+        right: "(raise 3)",
+    },
+    Law {
+        source: "ApplicativeErrorLaws.applicativeErrorHandleWith",
+        left: "(handle (raise 3) e (seq (say e) (pure 4)))",
+        right: "(let e (pure 3) (seq (say e) (pure 4)))",
+    },
+    Law {
+        source: "ApplicativeErrorLaws.handleErrorWithPure",
+        left: "(handle (pure 3) e (seq (say e) (pure 4)))",
+        right: "(pure 3)",
+    },
+    Law {
+        source: "MonadLaws.monadLeftIdentity",
+        left: "(let x (pure 3) (seq (say x) (canceled) (say 2)))",
+        right: "(seq (say 3) (canceled) (say 2))",
+    },
+    Law {
+        source: "MonadLaws.monadRightIdentity",
+        left: "(let x (seq (say 1) (pure 4)) (pure x))",
+        right: "(seq (say 1) (pure 4))",
+    },
+    Law {
+        source: "FlatMapLaws.flatMapAssociativity",
+        left: "(let y (let x (seq (say 1) (pure 4)) (seq (say x) (pure x))) (say y))",
+        right: "(let x (seq (say 1) (pure 4)) (let y (seq (say x) (pure x)) (say y)))",
+    },
+];
+
+/// Laws on several fibers, and one that holds only of a fiber that nobody cancels from outside.
+const TOGETHER: &[Law<'static>] = &[
+    Law {
+        source: "MonadCancelLaws.canceledSequencesOnCancelInOrder",
+        left: "(oncancel (oncancel (canceled) (seq (say 1) (raise 5))) (say 2))",
+        right: "(uncancelable p (seq (handle (seq (say 1) (raise 5)) e (pure 0)) (handle (say 2) e (pure 0)) \
+            (canceled)))",
+    },
+    Law {
+        source: "GenSpawnLaws.raceCanceledIdentityLeft",
+        left: "(race (canceled) (seq (say 1) (pure 4)))",
+        right: "(seq (say 1) (pure 4))",
+    },
+    Law {
+        source: "GenSpawnLaws.raceCanceledIdentityRight",
+        left: "(race (seq (say 1) (raise 5)) (canceled))",
+        right: "(seq (say 1) (raise 5))",
+    },
+    Law {
+        source: "GenSpawnLaws.raceNeverNoncanceledIdentityLeft",
+        left: "(race (never) (seq (say 1) (pure 4)))",
+        right: "(oncancel (seq (say 1) (pure 4)) (never))",
+    },
+    Law {
+        source: "GenSpawnLaws.raceNeverNoncanceledIdentityRight",
+        left: "(race (seq (say 1) (raise 5)) (never))",
+        right: "(oncancel (seq (say 1) (raise 5)) (never))",
+    },
+    Law {
+        source: "GenSpawnLaws.uncancelableRacePollCanceledIdentityLeft",
+        left: "(uncancelable p (race (poll p (canceled)) (seq (say 1) (pure 4))))",
+        right: "(uncancelable p (seq (say 1) (pure 4)))",
+    },
+    Law {
+        source: "GenSpawnLaws.uncancelableRacePollCanceledIdentityRight",
+        left: "(uncancelable p (race (seq (say 1) (raise 5)) (poll p (canceled))))",
+        right: "(uncancelable p (seq (say 1) (raise 5)))",
+    },
+    Law {
+        source: "GenSpawnLaws.uncancelableRaceNotInherited",
+        left: "(uncancelable p (race (never) (never)))",
+        right: "(never)",
+    },
+    Law {
+        source: "GenSpawnLaws.uncancelableCancelCancels",
+        left: "(start f (never) (seq (uncancelable p (cancel f)) (join f x (pure x) e (pure e) (pure -1))))",
+        right: "(pure -1)",
+    },
+    Law {
+        source: "GenSpawnLaws.uncancelableStartIsCancelable",
+        left: "(uncancelable p (start f (never) (seq (cancel f) (join f x (pure x) e (pure e) (pure -1)))))",
+        right: "(pure -1)",
+    },
+    Law {
+        source: "GenSpawnLaws.fiberPureIsOutcomeCompletedPure",
+        left: "(start f (pure 5) (join f x (pure x) e (raise e) (pure -1)))",
+        right: "(pure 5)",
+    },
+    Law {
+        source: "GenSpawnLaws.fiberErrorIsOutcomeErrored",
+        left: "(start f (raise 9) (join f x (pure x) e (raise e) (pure -1)))",
+        right: "(raise 9)",
+    },
+    Law {
+        source: "GenSpawnLaws.fiberCanceledIsOutcomeCanceled",
+        left: "(start f (canceled) (join f x (pure x) e (raise e) (pure -1)))",
+        right: "(pure -1)",
+    },
+    Law {
+        source: "GenSpawnLaws.fiberCancelationIsOutcomeCanceled",
+        left: "(start f (never) (seq (cancel f) (join f x (pure x) e (raise e) (pure -1))))",
+        right: "(pure -1)",
+    },
+    Law {
+        source: "GenSpawnLaws.fiberNeverIsNever",
+        left: "(start f (never) (join f x (pure x) e (raise e) (pure -1)))",
+        right: "(never)",
+    },
+    Law {
+        source: "GenSpawnLaws.fiberStartOfNeverIsUnit",
+        left: "(start f (never) (pure 0))",
+        right: "(pure 0)",
+    },
+];
+
+/// In which order up to three fibers take turns, and for how many moves.
+const ROUNDS: [&str; 8] = [
+    "0 1 2",
+    "2 1 0",
+    "0*2 1*2 2*2",
+    "2*3 1*3 0*3",
+    "0*7 1*2 2*5",
+    "1*11 0 2*4",
+    "0*40 1*40 2*40",
+    "2*40 1*40 0*40",
+];
+
+/// After so many rounds each of these programs has ended, or waits without end.
+const TIMES: usize = 40;
+
+/// After so many moves each program of one fiber above has ended, or waits without end, also behind a
+/// `cede`.
+const MOMENTS: usize = 36;
+
+/// What a replay of the program reports.
+fn replayed<R: Abort + AllocGlobal + Threads + Wait + Sync>(
+    rt: &R,
+    program: &str,
+    schedule: &str,
+) -> Vec<u8> {
+    let mut out = Vec::new(rt.alloc());
+    let mut err = Vec::new(rt.alloc());
+    let words = ["fiber_cli", "replay", "--schedule", schedule];
+    let status = command(
+        rt,
+        &words,
+        &mut FromRead::new(program.as_bytes()),
+        &mut ToWrite::new(&mut out),
+        &mut ToWrite::new(&mut err),
+    );
+    assert!(rt; status.code() < 4, "{program} under {schedule}");
+    assert_eq!(rt; err.len(), 0, "{program} under {schedule}");
+    out
+}
+
+/// Puts what a fiber said at the end.
+fn push_said(ending: &mut String, marks: &str) -> Result<(), AllocError> {
+    for mark in marks.split(", ") {
+        if mark.starts_with("say ") {
+            ending.push_str(", ")?;
+            ending.push_str(mark)?;
+        }
+    }
+    Ok(())
+}
+
+/// How fiber 0 ended, and what was said, in the order of the fibers.
+fn ending_in(alloc: Global, report: &str) -> Result<String, AllocError> {
+    let mut ending = String::new(alloc);
+    for line in report.lines() {
+        let (ended, marks) = line.split_once(": ").unwrap_or((line, ""));
+        if ended.starts_with("fiber 0 ") {
+            ending.push_str(ended)?;
+        }
+        push_said(&mut ending, marks)?;
+    }
+    Ok(ending)
+}
+
+/// How a program ends under a schedule.
+fn ending<R: Abort + AllocGlobal + Threads + Wait + Sync>(
+    rt: &R,
+    program: &str,
+    schedule: &str,
+) -> Result<String, AllocError> {
+    let report = replayed(rt, program, schedule);
+    ending_in(
+        rt.alloc(),
+        str::from_utf8(report.as_slice()).unwrap_or("no text"),
+    )
+}
+
+/// So many rounds.
+fn schedule(alloc: Global, round: &str, times: usize) -> Result<String, AllocError> {
+    let mut schedule = String::new(alloc);
+    schedule.push_str(round)?;
+    for _ in 1..times {
+        schedule.push_str(" ")?;
+        schedule.push_str(round)?;
+    }
+    Ok(schedule)
+}
+
+/// Compares how the two sides of each law end under these rounds.
+fn expect_same<R: Abort + AllocGlobal + Threads + Wait + Sync>(
+    rt: &R,
+    round: &str,
+    laws: &[Law<'_>],
+) -> Result<(), AllocError> {
+    let schedule = schedule(rt.alloc(), round, TIMES)?;
+    for law in laws {
+        let left = ending(rt, law.left, schedule.as_str())?;
+        let right = ending(rt, law.right, schedule.as_str())?;
+        assert_eq!(rt; left.as_str(), right.as_str(), "{}: {round}", law.source);
+    }
+    Ok(())
+}
+
+#[test]
+fn the_sides_of_a_law_end_alike_in_every_order(rt: HostRuntime) -> Result<(), Fail> {
+    for round in ROUNDS {
+        expect_same(&rt, round, ALONE)?;
+        expect_same(&rt, round, TOGETHER)?;
+    }
+    Ok(())
+}
+
+/// How a program ends in a fiber that is canceled after each number of its moves in turn. The
+/// first of them are those of a `cede`, so the request comes before the program's own first look, too.
+fn endings<R: Abort + AllocGlobal + Threads + Wait + Sync>(
+    rt: &R,
+    program: &str,
+) -> Result<Vec<String>, AllocError> {
+    let whole = format!(in rt.alloc();
+        "(start f (seq (cede) {program}) (seq (cancel f) (join f x (pure x) e (raise e) (pure -1))))"
+    )?;
+    let mut endings = Vec::new(rt.alloc());
+    for moment in 1..MOMENTS {
+        let schedule = format!(in rt.alloc(); "0*2 1*{moment} 0*3 1*99 0*99")?;
+        endings.push(ending(rt, whole.as_str(), schedule.as_str())?)?;
+    }
+    Ok(endings)
+}
+
+/// Looks for each ending of the one side among those of the other.
+fn expect_among<R: Abort>(rt: &R, source: &str, some: &[String], others: &[String]) {
+    for ending in some {
+        assert!(rt; others.contains(ending), "{source}: {ending}");
+    }
+}
+
+#[test]
+fn the_sides_of_a_law_end_alike_whenever_they_are_canceled(rt: HostRuntime) -> Result<(), Fail> {
+    for law in ALONE {
+        let left = endings(&rt, law.left)?;
+        let right = endings(&rt, law.right)?;
+        expect_among(&rt, law.source, left.as_slice(), right.as_slice());
+        expect_among(&rt, law.source, right.as_slice(), left.as_slice());
+    }
+    Ok(())
+}
