@@ -1,5 +1,6 @@
-//! Command lines, over texts in memory and devices that fail.
+//! Command lines over devices that give little at a time, and that fail.
 
+use crate::answers::{LONG, answered, told};
 use command_line::command;
 use outcome_trace::{FromRead, ToWrite};
 use std::alloc::{AllocError, Global};
@@ -10,207 +11,11 @@ use std::sync::Wait;
 use std::test::Fail;
 use std::thread::Threads;
 
-const CHECK: [&str; 2] = ["fiber_cli", "check"];
+const CHECK: &[&str] = &["fiber_cli", "check"];
 
-const SHOW: [&str; 2] = ["fiber_cli", "show"];
+const SHOW: &[&str] = &["fiber_cli", "show"];
 
-const RUN: [&str; 2] = ["fiber_cli", "run"];
-
-pub const LONG: &[&str] = &["fiber_cli", "replay", "--schedule", "0*99"];
-
-/// Runs a command line, and compares all that it writes and its status. Where that isn't what is
-/// wanted, the rule is printed.
-pub fn expect<R: Abort + AllocGlobal + Threads + Wait + Sync>(
-    rt: &R,
-    rule: &str,
-    words: &[&str],
-    input: &str,
-    status: u8,
-    out: &str,
-    err: &str,
-) {
-    let mut written = Vec::new(rt.alloc());
-    let mut told = Vec::new(rt.alloc());
-    let answered = command(
-        rt,
-        words,
-        &mut FromRead::new(input.as_bytes()),
-        &mut ToWrite::new(&mut written),
-        &mut ToWrite::new(&mut told),
-    );
-    assert_eq!(rt;
-        written.as_slice(),
-        out.as_bytes(),
-        "{rule}: {words:?} on {input}"
-    );
-    assert_eq!(rt;
-        told.as_slice(),
-        err.as_bytes(),
-        "{rule}: {words:?} on {input}"
-    );
-    assert_eq!(rt; answered.code(), status, "{rule}: {words:?} on {input}");
-}
-
-/// A text that goes so deep.
-pub fn nested(
-    alloc: Global,
-    front: &str,
-    depth: usize,
-    inmost: &str,
-    back: &str,
-) -> Result<String, AllocError> {
-    let mut text = String::new(alloc);
-    for _ in 0..depth {
-        text.push_str(front)?;
-    }
-    text.push_str(inmost)?;
-    for _ in 0..depth {
-        text.push_str(back)?;
-    }
-    Ok(text)
-}
-
-#[test]
-fn answers_deep_texts(rt: HostRuntime) -> Result<(), Fail> {
-    let forever = "(forever ";
-    let bracketcase = "(bracketcase x (pure 0) (pure 0) y (pure 0) z (pure 0) ";
-    let guarantee = "(guarantee (pure 0) ";
-    for (rule, front, depth, inmost, back, status, want) in [
-        (
-            "as deep as may be",
-            forever,
-            99,
-            "(never)",
-            ")",
-            0,
-            "ok size 100 nest 100 masks 0\n",
-        ),
-        (
-            "one bracket deeper",
-            forever,
-            100,
-            "(never)",
-            ")",
-            65,
-            "refused 11 TooDeep at 900\n",
-        ),
-        // With 100 brackets open only one that is wanted goes too deep.
-        (
-            "a name in a term's place",
-            forever,
-            100,
-            "x",
-            "",
-            65,
-            "refused 7 Arity at 900\n",
-        ),
-        (
-            "a bracket in a term's place",
-            forever,
-            100,
-            ")",
-            "",
-            65,
-            "refused 7 Arity at 900\n",
-        ),
-        (
-            "a bad number there",
-            forever,
-            100,
-            "01",
-            "",
-            65,
-            "refused 8 BadNumber at 900\n",
-        ),
-        (
-            "a bracket that isn't wanted",
-            forever,
-            99,
-            "(pure (",
-            "",
-            65,
-            "refused 7 Arity at 897\n",
-        ),
-        (
-            "a bracket that is wanted",
-            forever,
-            99,
-            "(seq (",
-            "",
-            65,
-            "refused 11 TooDeep at 896\n",
-        ),
-        (
-            "as long as may be",
-            " ",
-            65536,
-            "",
-            "",
-            65,
-            "refused 5 End at 65536\n",
-        ),
-        (
-            "one byte longer",
-            " ",
-            65537,
-            "",
-            "",
-            65,
-            "refused 12 TooLong at 65536\n",
-        ),
-        (
-            "most masks",
-            bracketcase,
-            83,
-            "(pure 0)",
-            ")",
-            0,
-            "ok size 416 nest 84 masks 249\n",
-        ),
-        (
-            "more masks",
-            bracketcase,
-            84,
-            "(pure 0)",
-            ")",
-            65,
-            "refused 3 DeepMasks 252\n",
-        ),
-        (
-            "a large expansion",
-            guarantee,
-            10,
-            "(pure 0)",
-            ")",
-            0,
-            "ok size 21 nest 11 masks 20\n",
-        ),
-        (
-            "a larger one",
-            guarantee,
-            11,
-            "(pure 0)",
-            ")",
-            65,
-            "refused 26 Large\n",
-        ),
-    ] {
-        let text = nested(rt.alloc(), front, depth, inmost, back)?;
-        expect(&rt, rule, &CHECK, text.as_str(), status, want, "");
-    }
-    let large = nested(rt.alloc(), guarantee, 11, "(pure 0)", ")")?;
-    let both = nested(rt.alloc(), bracketcase, 84, large.as_str(), ")")?;
-    expect(
-        &rt,
-        "masks before size",
-        &CHECK,
-        both.as_str(),
-        65,
-        "refused 3 DeepMasks 274\n",
-        "",
-    );
-    Ok(())
-}
+const RUN: &[&str] = &["fiber_cli", "run"];
 
 /// Gives one byte for a read, and fails once it has given so many.
 #[derive(Drop)]
@@ -248,9 +53,9 @@ impl Read for Restless {
 
 /// Takes one byte for a write until it is full, and then fails, or takes nothing.
 #[derive(Drop)]
-pub struct Narrow {
-    pub room: usize,
-    pub fails: bool,
+struct Narrow {
+    room: usize,
+    fails: bool,
 }
 
 impl Write for Narrow {
@@ -297,85 +102,95 @@ fn cut_at(alloc: Global, bytes: usize) -> Result<String, AllocError> {
     format!(in alloc; "refused 5 End at {bytes}\n")
 }
 
+/// Runs a command line over a reader, and compares all that it writes and its status.
+fn expect_of<R: Abort + AllocGlobal + Threads + Wait + Sync, S: Read + Drop>(
+    rt: &R,
+    words: &[&str],
+    input: S,
+    status: u8,
+    out: &str,
+    err: &str,
+) {
+    let answer = answered(rt, words, input);
+    assert_eq!(rt;
+        (answer.status, answer.out.as_slice(), answer.err.as_slice()),
+        (status, out.as_bytes(), err.as_bytes())
+    );
+}
+
 #[test]
 fn refuses_each_front_of_a_program(rt: HostRuntime) -> Result<(), Fail> {
     for bytes in 0..PROGRAM.len() {
         let want = cut_at(rt.alloc(), bytes)?;
-        let mut out = Vec::new(rt.alloc());
-        let mut err = Vec::new(rt.alloc());
-        let status = command(
-            &rt,
-            &CHECK,
-            &mut FromRead::new(Drops {
-                left: &PROGRAM.as_bytes()[..bytes],
-                fails: false,
-            }),
-            &mut ToWrite::new(&mut out),
-            &mut ToWrite::new(&mut err),
-        );
-        assert_eq!(rt; out.as_slice(), want.as_bytes());
-        assert_eq!(rt; err.len(), 0);
-        assert_eq!(rt; status.code(), 65);
+        let drops = Drops {
+            left: &PROGRAM.as_bytes()[..bytes],
+            fails: false,
+        };
+        expect_of(&rt, CHECK, drops, 65, want.as_str(), "");
     }
     Ok(())
 }
 
 #[test]
 fn tells_failed_readers(rt: HostRuntime) {
-    for words in [&CHECK as &[&str], &SHOW, LONG, &RUN] {
-        let mut out = Vec::new(rt.alloc());
-        let mut err = Vec::new(rt.alloc());
-        let status = command(
-            &rt,
-            words,
-            &mut FromRead::new(Drops {
-                left: b"(pure 7)",
-                fails: true,
-            }),
-            &mut ToWrite::new(&mut out),
-            &mut ToWrite::new(&mut err),
-        );
-        assert_eq!(rt; out.len(), 0);
-        assert_eq!(rt; err.as_slice(), b"fault 23 ReadFault\n".as_slice());
-        assert_eq!(rt; status.code(), 70);
+    for words in [CHECK, SHOW, LONG, RUN] {
+        let drops = Drops {
+            left: b"(pure 7)",
+            fails: true,
+        };
+        expect_of(&rt, words, drops, 70, "", "fault 23 ReadFault\n");
     }
-    let mut out = Vec::new(rt.alloc());
-    let mut err = Vec::new(rt.alloc());
-    let status = command(
-        &rt,
-        &CHECK,
-        &mut FromRead::new(Restless),
-        &mut ToWrite::new(&mut out),
-        &mut ToWrite::new(&mut err),
-    );
-    assert_eq!(rt; out.len(), 0);
-    assert_eq!(rt; err.as_slice(), b"fault 25 TurnBound\n".as_slice());
-    assert_eq!(rt; status.code(), 70);
+    expect_of(&rt, CHECK, Restless, 70, "", "fault 25 TurnBound\n");
 }
+
+/// Runs a command line whose output is full after so many bytes, and asks that this be told.
+fn expect_write_fault<R: Abort + AllocGlobal + Threads + Wait + Sync>(
+    rt: &R,
+    words: &[&str],
+    room: usize,
+    fails: bool,
+) -> Result<(), AllocError> {
+    let line = format!(in rt.alloc(); "fault 24 WriteFault {room}\n")?;
+    let (err, status) = told(rt, words, b"(pure 7)".as_slice(), Narrow { room, fails });
+    assert_eq!(rt; (status, err.as_slice()), (70, line.as_bytes()));
+    Ok(())
+}
+
+/// Words, and how many bytes they write.
+const WRITING: &[(&[&str], usize)] = &[
+    (CHECK, "ok size 1 nest 1 masks 0\n".len()),
+    (SHOW, "(pure 7)\n".len()),
+    (LONG, "fiber 0 succeeded 7\n".len()),
+    (RUN, "fiber 0 succeeded 7\n".len()),
+];
 
 #[test]
 fn tells_failed_writers(rt: HostRuntime) -> Result<(), Fail> {
-    for (words, out) in [
-        (&CHECK as &[&str], "ok size 1 nest 1 masks 0\n"),
-        (&SHOW, "(pure 7)\n"),
-        (LONG, "fiber 0 succeeded 7\n"),
-        (&RUN, "fiber 0 succeeded 7\n"),
-    ] {
-        for fails in [true, false] {
-            for room in 0..out.len() {
-                let mut err = Vec::new(rt.alloc());
-                let status = command(
-                    &rt,
-                    words,
-                    &mut FromRead::new(b"(pure 7)".as_slice()),
-                    &mut ToWrite::new(Narrow { room, fails }),
-                    &mut ToWrite::new(&mut err),
-                );
-                let line = format!(in rt.alloc(); "fault 24 WriteFault {room}\n")?;
-                assert_eq!(rt; err.as_slice(), line.as_bytes());
-                assert_eq!(rt; status.code(), 70);
-            }
+    for (words, bytes) in WRITING {
+        for room in 0..*bytes {
+            expect_write_fault(&rt, words, room, true)?;
+            expect_write_fault(&rt, words, room, false)?;
         }
     }
+    for room in [0, 10] {
+        expect_write_fault(&rt, &["fiber_cli", "check", "--help"], room, true)?;
+        expect_write_fault(&rt, &["fiber_cli", "check", "--help"], room, false)?;
+    }
     Ok(())
+}
+
+#[test]
+fn keeps_the_status_where_a_usage_fault_cannot_be_told(rt: HostRuntime) {
+    let mut out = Vec::new(rt.alloc());
+    let status = command(
+        &rt,
+        &["fiber_cli", "walk"],
+        &mut FromRead::new(b"(pure 7)".as_slice()),
+        &mut ToWrite::new(&mut out),
+        &mut ToWrite::new(Narrow {
+            room: 3,
+            fails: true,
+        }),
+    );
+    assert_eq!(rt; (status.code(), out.len()), (64, 0));
 }

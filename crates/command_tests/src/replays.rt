@@ -1,6 +1,6 @@
 //! Replays of programs, rule by rule: what is reported of each fiber under a schedule.
 
-use crate::devices::expect;
+use crate::answers::expect;
 use std::process::Abort;
 use std::sync::Wait;
 use std::thread::Threads;
@@ -16,6 +16,7 @@ mod polled_acquisitions;
 mod races;
 
 /// A replay, and what comes of it.
+#[derive(Clone, Copy)]
 struct Replay<'a> {
     /// What the replay shows.
     rule: &'a str,
@@ -25,18 +26,22 @@ struct Replay<'a> {
     report: &'a str,
 }
 
-/// Replays each program under its schedule, and compares the report and the status.
+/// Replays a program under its schedule, and compares the report and the status.
+fn expect_replay<R: Abort + AllocGlobal + Threads + Wait + Sync>(rt: &R, replay: &Replay<'_>) {
+    expect(
+        rt,
+        replay.rule,
+        &["fiber_cli", "replay", "--schedule", replay.schedule],
+        replay.program,
+        replay.status,
+        replay.report,
+        "",
+    );
+}
+
+/// The same of each of these.
 fn expect_replays<R: Abort + AllocGlobal + Threads + Wait + Sync>(rt: &R, replays: &[Replay<'_>]) {
     for replay in replays {
-        let words = ["fiber_cli", "replay", "--schedule", replay.schedule];
-        expect(
-            rt,
-            replay.rule,
-            &words,
-            replay.program,
-            replay.status,
-            replay.report,
-            "",
-        );
+        expect_replay(rt, replay);
     }
 }

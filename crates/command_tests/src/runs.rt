@@ -1,6 +1,6 @@
 //! Programs on workers, rule by rule: what is reported of each fiber, however many workers there are.
 
-use crate::devices::expect;
+use crate::answers::expect;
 use std::process::Abort;
 use std::sync::Wait;
 use std::thread::Threads;
@@ -10,7 +10,7 @@ mod reports;
 mod schedules;
 
 /// How many workers each program is run on.
-const WORKERS: [&str; 5] = ["1", "2", "3", "4", "16"];
+const WORKERS: &[&str] = &["1", "2", "3", "4", "16"];
 
 /// A run whose report is the same under all schedules, and what comes of it.
 #[derive(Clone, Copy)]
@@ -25,11 +25,10 @@ struct Run<'a> {
 /// Runs a program with this option on one worker and on more, and compares the report and the status.
 fn expect_run<R: Abort + AllocGlobal + Threads + Wait + Sync>(rt: &R, option: &str, run: &Run<'_>) {
     for workers in WORKERS {
-        let words = ["fiber_cli", "run", "--workers", workers, option];
         expect(
             rt,
             run.rule,
-            &words,
+            &["fiber_cli", "run", "--workers", *workers, option],
             run.program,
             run.status,
             run.report,

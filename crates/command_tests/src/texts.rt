@@ -1,6 +1,11 @@
 //! What is answered to texts, rule by rule.
 
-use crate::devices::{LONG, expect};
+use crate::answers::{LONG, expect, nested};
+use std::alloc::AllocError;
+use std::process::Abort;
+use std::sync::Wait;
+use std::test::Fail;
+use std::thread::Threads;
 
 /// The rule that a text shows, the text, and what is answered to it.
 type Case<'a> = (&'a str, &'a str, &'a str);
@@ -51,6 +56,11 @@ const ANSWERS: &[Answers<'static>] = &[
                 "binders of different parts with one spelling",
                 "(start f (pure 5) (join f x (pure x) x (raise x) (pure -1)))",
                 "ok size 6 nest 3 masks 0\n",
+            ),
+            (
+                "an acquisition with a poll counts as in a bracket without one",
+                "(bracketfull p x (poll p (pure 1)) (pure x) y (pure y) z (pure z) (pure 0))",
+                "ok size 7 nest 3 masks 3\n",
             ),
         ],
     },
@@ -188,6 +198,11 @@ const ANSWERS: &[Answers<'static>] = &[
                 "(add x 01)",
                 "refused 9 UnknownName at 5\n",
             ),
+            (
+                "the poll of an acquisition has no meaning in the body",
+                "(bracketfull p x (pure 0) (poll p (pure 1)) y (pure 0) z (pure 0) (pure 0))",
+                "refused 9 UnknownName at 32\n",
+            ),
         ],
     },
     Answers {
@@ -250,4 +265,182 @@ fn answers_texts(rt: HostRuntime) {
             expect(&rt, rule, answers.words, text, answers.status, out, "");
         }
     }
+}
+
+const FOREVER: &str = "(forever ";
+
+const BRACKETCASE: &str = "(bracketcase x (pure 0) (pure 0) y (pure 0) z (pure 0) ";
+
+const GUARANTEE: &str = "(guarantee (pure 0) ";
+
+/// A text that goes so deep, and what `check` answers to it.
+#[derive(Clone, Copy)]
+struct Deep<'a> {
+    rule: &'a str,
+    front: &'a str,
+    depth: usize,
+    inmost: &'a str,
+    back: &'a str,
+    status: u8,
+    answer: &'a str,
+}
+
+const DEEP: &[Deep<'static>] = &[
+    Deep {
+        rule: "as deep as may be",
+        front: FOREVER,
+        depth: 99,
+        inmost: "(never)",
+        back: ")",
+        status: 0,
+        answer: "ok size 100 nest 100 masks 0\n",
+    },
+    Deep {
+        rule: "one bracket deeper",
+        front: FOREVER,
+        depth: 100,
+        inmost: "(never)",
+        back: ")",
+        status: 65,
+        answer: "refused 11 TooDeep at 900\n",
+    },
+    // With 100 brackets open only one that is wanted goes too deep.
+    Deep {
+        rule: "a name in a term's place",
+        front: FOREVER,
+        depth: 100,
+        inmost: "x",
+        back: "",
+        status: 65,
+        answer: "refused 7 Arity at 900\n",
+    },
+    Deep {
+        rule: "a bracket in a term's place",
+        front: FOREVER,
+        depth: 100,
+        inmost: ")",
+        back: "",
+        status: 65,
+        answer: "refused 7 Arity at 900\n",
+    },
+    Deep {
+        rule: "a bad number there",
+        front: FOREVER,
+        depth: 100,
+        inmost: "01",
+        back: "",
+        status: 65,
+        answer: "refused 8 BadNumber at 900\n",
+    },
+    Deep {
+        rule: "a bracket that isn't wanted",
+        front: FOREVER,
+        depth: 99,
+        inmost: "(pure (",
+        back: "",
+        status: 65,
+        answer: "refused 7 Arity at 897\n",
+    },
+    Deep {
+        rule: "a bracket that is wanted",
+        front: FOREVER,
+        depth: 99,
+        inmost: "(seq (",
+        back: "",
+        status: 65,
+        answer: "refused 11 TooDeep at 896\n",
+    },
+    Deep {
+        rule: "as long as may be",
+        front: " ",
+        depth: 65536,
+        inmost: "",
+        back: "",
+        status: 65,
+        answer: "refused 5 End at 65536\n",
+    },
+    Deep {
+        rule: "one byte longer",
+        front: " ",
+        depth: 65537,
+        inmost: "",
+        back: "",
+        status: 65,
+        answer: "refused 12 TooLong at 65536\n",
+    },
+    Deep {
+        rule: "most masks",
+        front: BRACKETCASE,
+        depth: 83,
+        inmost: "(pure 0)",
+        back: ")",
+        status: 0,
+        answer: "ok size 416 nest 84 masks 249\n",
+    },
+    Deep {
+        rule: "more masks",
+        front: BRACKETCASE,
+        depth: 84,
+        inmost: "(pure 0)",
+        back: ")",
+        status: 65,
+        answer: "refused 3 DeepMasks 252\n",
+    },
+    Deep {
+        rule: "a large expansion",
+        front: GUARANTEE,
+        depth: 10,
+        inmost: "(pure 0)",
+        back: ")",
+        status: 0,
+        answer: "ok size 21 nest 11 masks 20\n",
+    },
+    Deep {
+        rule: "a larger one",
+        front: GUARANTEE,
+        depth: 11,
+        inmost: "(pure 0)",
+        back: ")",
+        status: 65,
+        answer: "refused 26 Large\n",
+    },
+];
+
+/// Checks a text that goes so deep.
+fn expect_deep<R: Abort + AllocGlobal + Threads + Wait + Sync>(
+    rt: &R,
+    deep: &Deep<'_>,
+) -> Result<(), AllocError> {
+    let text = nested(rt.alloc(), deep.front, deep.depth, deep.inmost, deep.back)?;
+    expect(
+        rt,
+        deep.rule,
+        &["fiber_cli", "check"],
+        text.as_str(),
+        deep.status,
+        deep.answer,
+        "",
+    );
+    Ok(())
+}
+
+#[test]
+fn answers_deep_texts(rt: HostRuntime) -> Result<(), Fail> {
+    for deep in DEEP {
+        expect_deep(&rt, deep)?;
+    }
+    let large = nested(rt.alloc(), GUARANTEE, 11, "(pure 0)", ")")?;
+    expect_deep(
+        &rt,
+        &Deep {
+            rule: "masks before size",
+            front: BRACKETCASE,
+            depth: 84,
+            inmost: large.as_str(),
+            back: ")",
+            status: 65,
+            answer: "refused 3 DeepMasks 274\n",
+        },
+    )?;
+    Ok(())
 }

@@ -1,8 +1,8 @@
 //! What comes of the words of a command line.
 
-use crate::devices::{Narrow, expect};
-use command_line::{command, refuse_words};
-use outcome_trace::{FromRead, ToWrite};
+use crate::answers::expect;
+use command_line::refuse_words;
+use outcome_trace::ToWrite;
 use std::alloc::AllocError;
 use std::process::Abort;
 use std::sync::Wait;
@@ -218,58 +218,58 @@ const TOLD_VERSION: (&[&str], &str) = (&["fiber_cli", "--version"], "fiber_cli 0
 /// its range as it is told of those.
 struct Numbers {
     name: &'static str,
-    taken: [&'static str; 4],
-    refused: [&'static str; 3],
+    taken: &'static [&'static str],
+    refused: &'static [&'static str],
     range: &'static str,
 }
 
 /// The limits, which `replay` and `run` both have. A narrow number would take the last one that is
 /// refused for 1, or for the least number.
-const LIMITS: [Numbers; 4] = [
+const LIMITS: &[Numbers] = &[
     Numbers {
         name: "fibers",
-        taken: ["1", "01", "+1", "1000"],
-        refused: ["0", "1001", "65537"],
+        taken: &["1", "01", "+1", "1000"],
+        refused: &["0", "1001", "65537"],
         range: "1..=1000",
     },
     Numbers {
         name: "refs",
-        taken: ["1", "01", "+1", "1000"],
-        refused: ["0", "1001", "65537"],
+        taken: &["1", "01", "+1", "1000"],
+        refused: &["0", "1001", "65537"],
         range: "1..=1000",
     },
     Numbers {
         name: "deferreds",
-        taken: ["1", "01", "+1", "1000"],
-        refused: ["0", "1001", "65537"],
+        taken: &["1", "01", "+1", "1000"],
+        refused: &["0", "1001", "65537"],
         range: "1..=1000",
     },
     Numbers {
         name: "count",
-        taken: ["1", "01", "+1", "1099511627775"],
-        refused: ["0", "1099511627776", "18446744073709551615"],
+        taken: &["1", "01", "+1", "1099511627775"],
+        refused: &["0", "1099511627776", "18446744073709551615"],
         range: "1..=1099511627775",
     },
 ];
 
 /// What `run` has besides. `(pure 7)` takes two moves.
-const RUNNING: [Numbers; 3] = [
+const RUNNING: &[Numbers] = &[
     Numbers {
         name: "workers",
-        taken: ["1", "01", "+1", "16"],
-        refused: ["0", "17", "257"],
+        taken: &["1", "01", "+1", "16"],
+        refused: &["0", "17", "257"],
         range: "1..=16",
     },
     Numbers {
         name: "budget",
-        taken: ["2", "02", "+2", "10000"],
-        refused: ["1", "10001", "4294967298"],
+        taken: &["2", "02", "+2", "10000"],
+        refused: &["1", "10001", "4294967298"],
         range: "2..=10000",
     },
     Numbers {
         name: "moves",
-        taken: ["2", "02", "+2", "1000000"],
-        refused: ["0", "1000001", "4294967297"],
+        taken: &["2", "02", "+2", "1000000"],
+        refused: &["0", "1000001", "4294967297"],
         range: "1..=1000000",
     },
 ];
@@ -279,7 +279,7 @@ const REPLAY: &[&str] = &["fiber_cli", "replay", "--schedule", "0*2"];
 const RUN: &[&str] = &["fiber_cli", "run"];
 
 /// Each command that takes numbers, with its options that do.
-const COMMANDS: [(&[&str], &[Numbers]); 3] = [(REPLAY, &LIMITS), (RUN, &LIMITS), (RUN, &RUNNING)];
+const COMMANDS: &[(&[&str], &[Numbers])] = &[(REPLAY, LIMITS), (RUN, LIMITS), (RUN, RUNNING)];
 
 #[test]
 fn tells_wrong_words(rt: HostRuntime) {
@@ -340,53 +340,42 @@ fn refuses_beyond<R: Abort + AllocGlobal + Threads + Wait + Sync>(
     refuses(rt, command, option, why.as_str())
 }
 
-#[test]
-fn takes_numbers_in_their_range(rt: HostRuntime) -> Result<(), Fail> {
-    for (command, options) in COMMANDS {
-        for option in options {
-            for number in option.taken {
-                expect_number(
-                    &rt,
-                    command,
-                    (option.name, number),
-                    0,
-                    "fiber 0 succeeded 7\n",
-                    "",
-                )?;
-            }
-        }
+/// Texts that are no numbers, and why.
+const NO_NUMBERS: &[(&str, &str)] = &[
+    ("", "cannot parse integer from empty string"),
+    ("x", "invalid digit found in string"),
+    ("-1", "invalid digit found in string"),
+    ("1.5", "invalid digit found in string"),
+    (
+        "18446744073709551616",
+        "number too large to fit in target type",
+    ),
+];
+
+/// A command takes the numbers of an option's range, and nothing else.
+fn expect_range<R: Abort + AllocGlobal + Threads + Wait + Sync>(
+    rt: &R,
+    command: &[&str],
+    option: &Numbers,
+) -> Result<(), AllocError> {
+    for number in option.taken {
+        let taken = (option.name, *number);
+        expect_number(rt, command, taken, 0, "fiber 0 succeeded 7\n", "")?;
+    }
+    for number in option.refused {
+        refuses_beyond(rt, command, (option.name, *number), option.range)?;
+    }
+    for (number, why) in NO_NUMBERS {
+        refuses(rt, command, (option.name, *number), why)?;
     }
     Ok(())
 }
 
 #[test]
-fn refuses_numbers_out_of_their_range(rt: HostRuntime) -> Result<(), Fail> {
+fn takes_numbers_of_their_range_alone(rt: HostRuntime) -> Result<(), Fail> {
     for (command, options) in COMMANDS {
-        for option in options {
-            for number in option.refused {
-                refuses_beyond(&rt, command, (option.name, number), option.range)?;
-            }
-        }
-    }
-    Ok(())
-}
-
-#[test]
-fn refuses_what_is_no_number(rt: HostRuntime) -> Result<(), Fail> {
-    for (command, options) in COMMANDS {
-        for option in options {
-            for (number, why) in [
-                ("", "cannot parse integer from empty string"),
-                ("x", "invalid digit found in string"),
-                ("-1", "invalid digit found in string"),
-                ("1.5", "invalid digit found in string"),
-                (
-                    "18446744073709551616",
-                    "number too large to fit in target type",
-                ),
-            ] {
-                refuses(&rt, command, (option.name, number), why)?;
-            }
+        for option in *options {
+            expect_range(&rt, command, option)?;
         }
     }
     Ok(())
@@ -402,43 +391,6 @@ fn helps(rt: HostRuntime) {
 }
 
 #[test]
-fn tells_help_that_cannot_be_written(rt: HostRuntime) -> Result<(), Fail> {
-    for room in [0, 10] {
-        for fails in [true, false] {
-            let mut told = Vec::new(rt.alloc());
-            let status = command(
-                &rt,
-                &["fiber_cli", "check", "--help"],
-                &mut FromRead::new(b"(pure 7)".as_slice()),
-                &mut ToWrite::new(Narrow { room, fails }),
-                &mut ToWrite::new(&mut told),
-            );
-            let line = format!(in rt.alloc(); "fault 24 WriteFault {room}\n")?;
-            assert_eq!(rt; told.as_slice(), line.as_bytes());
-            assert_eq!(rt; status.code(), 70);
-        }
-    }
-    Ok(())
-}
-
-#[test]
-fn keeps_the_status_where_a_usage_fault_cannot_be_told(rt: HostRuntime) {
-    let mut out = Vec::new(rt.alloc());
-    let status = command(
-        &rt,
-        &["fiber_cli", "walk"],
-        &mut FromRead::new(b"(pure 7)".as_slice()),
-        &mut ToWrite::new(&mut out),
-        &mut ToWrite::new(Narrow {
-            room: 3,
-            fails: true,
-        }),
-    );
-    assert_eq!(rt; out.len(), 0);
-    assert_eq!(rt; status.code(), 64);
-}
-
-#[test]
 fn refuses_words_that_are_no_text(rt: HostRuntime) {
     let mut told = Vec::new(rt.alloc());
     let status = refuse_words(
@@ -450,6 +402,5 @@ fn refuses_words_that_are_no_text(rt: HostRuntime) {
         \n\nUsage: fiber_cli <COMMAND>\
         \n\nFor more information, try '--help'.\
         \n";
-    assert_eq!(rt; told.as_slice(), text.as_bytes());
-    assert_eq!(rt; status.code(), 64);
+    assert_eq!(rt; (status.code(), told.as_slice()), (64, text.as_bytes()));
 }

@@ -1,10 +1,14 @@
 //! Brackets and guarantees: what is released, once and in which order.
 
-use super::{Replay, expect_replays};
-use crate::devices::{expect, nested};
+use super::{Replay, expect_replay, expect_replays};
+use crate::answers::nested;
 use std::alloc::{AllocError, Global};
+use std::process::Abort;
+use std::sync::Wait;
 use std::test::Fail;
+use std::thread::Threads;
 
+/// Releases from the inside out.
 const ORDER: &[Replay<'static>] = &[Replay {
     rule: "three brackets that are canceled inside",
     program: "(bracket a (pure 1) (bracket b (pure 2) (bracket c (pure 3) (canceled) (say c)) (say b)) (say a))",
@@ -15,6 +19,7 @@ const ORDER: &[Replay<'static>] = &[Replay {
         2, releasing 0, say 1, released 0\n",
 }];
 
+/// A release that fails is released all the same.
 const FAILED_RELEASES: &[Replay<'static>] = &[
     Replay {
         rule: "an error of the release after success becomes the error of the whole",
@@ -41,6 +46,7 @@ const FAILED_RELEASES: &[Replay<'static>] = &[
     },
 ];
 
+/// The release of the outcome runs.
 const CASES: &[Replay<'static>] = &[
     Replay {
         rule: "the release of success sees both values",
@@ -68,6 +74,7 @@ const CASES: &[Replay<'static>] = &[
     },
 ];
 
+/// Only what was acquired is released.
 const ACQUISITIONS: &[Replay<'static>] = &[
     Replay {
         rule: "a failed acquisition releases nothing",
@@ -100,6 +107,7 @@ const ACQUISITIONS: &[Replay<'static>] = &[
     },
 ];
 
+/// A guarantee runs its finalizer after each outcome.
 const GUARANTEES: &[Replay<'static>] = &[
     Replay {
         rule: "the finalizer runs after an error",
@@ -132,27 +140,11 @@ const GUARANTEES: &[Replay<'static>] = &[
 ];
 
 #[test]
-fn releases_from_the_inside_out(rt: HostRuntime) {
+fn brackets_and_guarantees(rt: HostRuntime) {
     expect_replays(&rt, ORDER);
-}
-
-#[test]
-fn a_release_that_fails_is_released_all_the_same(rt: HostRuntime) {
     expect_replays(&rt, FAILED_RELEASES);
-}
-
-#[test]
-fn the_release_of_the_outcome_runs(rt: HostRuntime) {
     expect_replays(&rt, CASES);
-}
-
-#[test]
-fn only_what_was_acquired_is_released(rt: HostRuntime) {
     expect_replays(&rt, ACQUISITIONS);
-}
-
-#[test]
-fn a_guarantee_runs_its_finalizer_after_each_outcome(rt: HostRuntime) {
     expect_replays(&rt, GUARANTEES);
 }
 
@@ -173,37 +165,44 @@ fn guarantees_marks(alloc: Global, depth: usize) -> Result<String, AllocError> {
     Ok(report)
 }
 
-#[test]
-fn runs_the_largest_expansion(rt: HostRuntime) -> Result<(), Fail> {
-    let program = nested(rt.alloc(), "(guarantee (pure 0) ", 10, "(pure 0)", ")")?;
-    let report = guarantees_marks(rt.alloc(), 10)?;
-    let words = ["fiber_cli", "replay", "--schedule", "0*999"];
-    expect(
-        &rt,
-        "guarantees in one another's finalizers",
-        &words,
-        program.as_str(),
-        0,
-        report.as_str(),
-        "",
-    );
+/// Replays a program that goes so deep around `(pure 0)`.
+fn expect_deep<R: Abort + AllocGlobal + Threads + Wait + Sync>(
+    rt: &R,
+    rule: &str,
+    front: &str,
+    depth: usize,
+    report: &str,
+) -> Result<(), AllocError> {
+    let program = nested(rt.alloc(), front, depth, "(pure 0)", ")")?;
+    let replay = Replay {
+        rule,
+        program: program.as_str(),
+        schedule: "0*999",
+        status: 0,
+        report,
+    };
+    expect_replay(rt, &replay);
     Ok(())
 }
 
+// The first is the largest expansion, and the second has the most masks.
 #[test]
-fn runs_a_program_of_the_most_masks(rt: HostRuntime) -> Result<(), Fail> {
-    let front = "(bracketcase x (pure 0) (pure 0) y (pure 0) z (pure 0) ";
-    let program = nested(rt.alloc(), front, 83, "(pure 0)", ")")?;
-    let words = ["fiber_cli", "replay", "--schedule", "0*999"];
-    expect(
+fn brackets_and_guarantees_as_deep_as_may_be(rt: HostRuntime) -> Result<(), Fail> {
+    let marks = guarantees_marks(rt.alloc(), 10)?;
+    expect_deep(
+        &rt,
+        "guarantees in one another's finalizers",
+        "(guarantee (pure 0) ",
+        10,
+        marks.as_str(),
+    )?;
+    expect_deep(
         &rt,
         "brackets in one another's releases",
-        &words,
-        program.as_str(),
-        0,
+        "(bracketcase x (pure 0) (pure 0) y (pure 0) z (pure 0) ",
+        83,
         "fiber 0 succeeded 0: enter 0, acquired 0, enter 1, in 1, in 0, out 0, out 1, releasing 0, released 0, leave \
         1, leave 0\n",
-        "",
-    );
+    )?;
     Ok(())
 }

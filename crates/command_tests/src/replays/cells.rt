@@ -2,6 +2,7 @@
 
 use super::{Replay, expect_replays};
 
+/// A ref is changed in one step.
 const REFS: &[Replay<'static>] = &[
     Replay {
         rule: "modify gives the old value and wraps",
@@ -35,6 +36,7 @@ const REFS: &[Replay<'static>] = &[
     },
 ];
 
+/// A deferred is completed once.
 const DEFERREDS: &[Replay<'static>] = &[
     Replay {
         rule: "only the first completion counts",
@@ -75,11 +77,7 @@ const DEFERREDS: &[Replay<'static>] = &[
 ];
 
 #[test]
-fn a_ref_is_changed_in_one_step(rt: HostRuntime) {
+fn refs_and_deferreds(rt: HostRuntime) {
     expect_replays(&rt, REFS);
-}
-
-#[test]
-fn a_deferred_is_completed_once(rt: HostRuntime) {
     expect_replays(&rt, DEFERREDS);
 }

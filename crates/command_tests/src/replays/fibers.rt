@@ -2,6 +2,7 @@
 
 use super::{Replay, expect_replays};
 
+/// An entry is a move of its fiber.
 const ENTRIES: &[Replay<'static>] = &[
     Replay {
         rule: "a fiber looks, and ends",
@@ -47,6 +48,7 @@ const ENTRIES: &[Replay<'static>] = &[
     },
 ];
 
+/// A join waits for the end.
 const JOINS: &[Replay<'static>] = &[
     Replay {
         rule: "a join goes on with the value",
@@ -87,6 +89,7 @@ const JOINS: &[Replay<'static>] = &[
     },
 ];
 
+/// A cancel waits for the end.
 const CANCELS: &[Replay<'static>] = &[
     Replay {
         rule: "cancel cuts a fiber that waits",
@@ -135,6 +138,7 @@ const CANCELS: &[Replay<'static>] = &[
     },
 ];
 
+/// A start makes a fiber of its own.
 const STARTS: &[Replay<'static>] = &[
     Replay {
         rule: "nobody waits for a fiber that isn't joined",
@@ -157,21 +161,9 @@ const STARTS: &[Replay<'static>] = &[
 ];
 
 #[test]
-fn an_entry_is_a_move_of_its_fiber(rt: HostRuntime) {
+fn starts_joins_and_cancels(rt: HostRuntime) {
     expect_replays(&rt, ENTRIES);
-}
-
-#[test]
-fn a_join_waits_for_the_end(rt: HostRuntime) {
     expect_replays(&rt, JOINS);
-}
-
-#[test]
-fn a_cancel_waits_for_the_end(rt: HostRuntime) {
     expect_replays(&rt, CANCELS);
-}
-
-#[test]
-fn a_start_makes_a_fiber_of_its_own(rt: HostRuntime) {
     expect_replays(&rt, STARTS);
 }

@@ -1,10 +1,13 @@
 //! Errors and their handlers, choices and loops.
 
-use super::{Replay, expect_replays};
-use crate::devices::expect;
+use super::{Replay, expect_replay, expect_replays};
 use std::alloc::{AllocError, Global};
+use std::process::Abort;
+use std::sync::Wait;
 use std::test::Fail;
+use std::thread::Threads;
 
+/// A handler takes errors alone.
 const HANDLERS: &[Replay<'static>] = &[
     Replay {
         rule: "a sum out of range raises 1001",
@@ -50,6 +53,7 @@ const HANDLERS: &[Replay<'static>] = &[
     },
 ];
 
+/// A choice is by zero.
 const CHOICES: &[Replay<'static>] = &[
     Replay {
         rule: "0 takes the first branch",
@@ -67,6 +71,7 @@ const CHOICES: &[Replay<'static>] = &[
     },
 ];
 
+/// A loop goes round so often.
 const LOOPS: &[Replay<'static>] = &[
     Replay {
         rule: "three times",
@@ -99,17 +104,9 @@ const LOOPS: &[Replay<'static>] = &[
 ];
 
 #[test]
-fn a_handler_takes_errors_alone(rt: HostRuntime) {
+fn handlers_choices_and_loops(rt: HostRuntime) {
     expect_replays(&rt, HANDLERS);
-}
-
-#[test]
-fn a_choice_is_by_zero(rt: HostRuntime) {
     expect_replays(&rt, CHOICES);
-}
-
-#[test]
-fn a_loop_goes_round_so_often(rt: HostRuntime) {
     expect_replays(&rt, LOOPS);
 }
 
@@ -123,22 +120,30 @@ fn said(alloc: Global, outcome: &str, times: usize) -> Result<String, AllocError
     Ok(report)
 }
 
+/// Replays ten thousand times round, of which each says 1.
+fn expect_times_round<R: Abort + AllocGlobal + Threads + Wait + Sync>(
+    rt: &R,
+    schedule: &str,
+    outcome: &str,
+    status: u8,
+) -> Result<(), AllocError> {
+    let report = said(rt.alloc(), outcome, 10000)?;
+    let replay = Replay {
+        rule: "10,000 times",
+        program: "(repeat 10000 (say 1))",
+        schedule,
+        status,
+        report: report.as_str(),
+    };
+    expect_replay(rt, &replay);
+    Ok(())
+}
+
 // A time round is six moves: two looks and two moves of the loop and of `say`, and a look and a move
 // by which the result of `say` is passed over. The last time round and the end are two moves each.
 #[test]
 fn a_loop_costs_six_moves_a_time(rt: HostRuntime) -> Result<(), Fail> {
-    for (schedule, outcome, status) in [("0*60004", "succeeded 0", 0), ("0*60003", "unended", 3)] {
-        let report = said(rt.alloc(), outcome, 10000)?;
-        let words = ["fiber_cli", "replay", "--schedule", schedule];
-        expect(
-            &rt,
-            "10,000 times",
-            &words,
-            "(repeat 10000 (say 1))",
-            status,
-            report.as_str(),
-            "",
-        );
-    }
+    expect_times_round(&rt, "0*60004", "succeeded 0", 0)?;
+    expect_times_round(&rt, "0*60003", "unended", 3)?;
     Ok(())
 }

@@ -3,8 +3,7 @@
 //!
 //! `forceR(fa)(fb)` is written as `(seq (handle fa e (pure 0)) fb)`, and `attempt` as such a `handle`.
 
-use command_line::command;
-use outcome_trace::{FromRead, ToWrite};
+use crate::answers::answered;
 use std::alloc::{AllocError, Global};
 use std::process::Abort;
 use std::str;
@@ -205,7 +204,7 @@ const TOGETHER: &[Law<'static>] = &[
 ];
 
 /// In which order up to three fibers take turns, and for how many moves.
-const ROUNDS: [&str; 8] = [
+const ROUNDS: &[&str] = &[
     "0 1 2",
     "2 1 0",
     "0*2 1*2 2*2",
@@ -229,19 +228,13 @@ fn replayed<R: Abort + AllocGlobal + Threads + Wait + Sync>(
     program: &str,
     schedule: &str,
 ) -> Vec<u8> {
-    let mut out = Vec::new(rt.alloc());
-    let mut err = Vec::new(rt.alloc());
     let words = ["fiber_cli", "replay", "--schedule", schedule];
-    let status = command(
-        rt,
-        &words,
-        &mut FromRead::new(program.as_bytes()),
-        &mut ToWrite::new(&mut out),
-        &mut ToWrite::new(&mut err),
+    let answer = answered(rt, &words, program.as_bytes());
+    assert!(rt;
+        answer.status < 4 && answer.err.is_empty(),
+        "{program} under {schedule}"
     );
-    assert!(rt; status.code() < 4, "{program} under {schedule}");
-    assert_eq!(rt; err.len(), 0, "{program} under {schedule}");
-    out
+    answer.out
 }
 
 /// Puts what a fiber said at the end.
@@ -283,8 +276,7 @@ fn ending<R: Abort + AllocGlobal + Threads + Wait + Sync>(
 
 /// So many rounds.
 fn schedule(alloc: Global, round: &str, times: usize) -> Result<String, AllocError> {
-    let mut schedule = String::new(alloc);
-    schedule.push_str(round)?;
+    let mut schedule = String::from_str(alloc, round)?;
     for _ in 1..times {
         schedule.push_str(" ")?;
         schedule.push_str(round)?;
@@ -292,17 +284,33 @@ fn schedule(alloc: Global, round: &str, times: usize) -> Result<String, AllocErr
     Ok(schedule)
 }
 
-/// Compares how the two sides of each law end under these rounds.
+/// Compares how the two sides of a law end under a schedule.
 fn expect_same<R: Abort + AllocGlobal + Threads + Wait + Sync>(
     rt: &R,
+    law: &Law<'_>,
+    schedule: &str,
+) -> Result<(), AllocError> {
+    let left = ending(rt, law.left, schedule)?;
+    let right = ending(rt, law.right, schedule)?;
+    assert!(rt;
+        left == right,
+        "{}: {left} and {right} under {schedule}",
+        law.source
+    );
+    Ok(())
+}
+
+/// Compares how the two sides of each law end under these rounds.
+fn expect_laws<R: Abort + AllocGlobal + Threads + Wait + Sync>(
+    rt: &R,
     round: &str,
-    laws: &[Law<'_>],
 ) -> Result<(), AllocError> {
     let schedule = schedule(rt.alloc(), round, TIMES)?;
-    for law in laws {
-        let left = ending(rt, law.left, schedule.as_str())?;
-        let right = ending(rt, law.right, schedule.as_str())?;
-        assert_eq!(rt; left.as_str(), right.as_str(), "{}: {round}", law.source);
+    for law in ALONE {
+        expect_same(rt, law, schedule.as_str())?;
+    }
+    for law in TOGETHER {
+        expect_same(rt, law, schedule.as_str())?;
     }
     Ok(())
 }
@@ -310,14 +318,23 @@ fn expect_same<R: Abort + AllocGlobal + Threads + Wait + Sync>(
 #[test]
 fn the_sides_of_a_law_end_alike_in_every_order(rt: HostRuntime) -> Result<(), Fail> {
     for round in ROUNDS {
-        expect_same(&rt, round, ALONE)?;
-        expect_same(&rt, round, TOGETHER)?;
+        expect_laws(&rt, round)?;
     }
     Ok(())
 }
 
-/// How a program ends in a fiber that is canceled after each number of its moves in turn. The
-/// first of them are those of a `cede`, so the request comes before the program's own first look, too.
+/// How a program ends in a fiber that is canceled after so many of its moves. The first of them are
+/// those of a `cede`, so the request comes before the program's own first look, too.
+fn canceled_ending<R: Abort + AllocGlobal + Threads + Wait + Sync>(
+    rt: &R,
+    whole: &str,
+    moment: usize,
+) -> Result<String, AllocError> {
+    let schedule = format!(in rt.alloc(); "0*2 1*{moment} 0*3 1*99 0*99")?;
+    ending(rt, whole, schedule.as_str())
+}
+
+/// The same after each number of its moves in turn.
 fn endings<R: Abort + AllocGlobal + Threads + Wait + Sync>(
     rt: &R,
     program: &str,
@@ -327,26 +344,33 @@ fn endings<R: Abort + AllocGlobal + Threads + Wait + Sync>(
     )?;
     let mut endings = Vec::new(rt.alloc());
     for moment in 1..MOMENTS {
-        let schedule = format!(in rt.alloc(); "0*2 1*{moment} 0*3 1*99 0*99")?;
-        endings.push(ending(rt, whole.as_str(), schedule.as_str())?)?;
+        endings.push(canceled_ending(rt, whole.as_str(), moment)?)?;
     }
     Ok(endings)
 }
 
-/// Looks for each ending of the one side among those of the other.
-fn expect_among<R: Abort>(rt: &R, source: &str, some: &[String], others: &[String]) {
-    for ending in some {
-        assert!(rt; others.contains(ending), "{source}: {ending}");
-    }
+/// Whether each ending of the one side is among those of the other.
+fn are_among(some: &[String], others: &[String]) -> bool {
+    some.iter().all(|ending| others.contains(ending))
+}
+
+/// The sides of a law have the same endings.
+fn expect_same_endings<R: Abort + AllocGlobal + Threads + Wait + Sync>(
+    rt: &R,
+    law: &Law<'_>,
+) -> Result<(), AllocError> {
+    let left = endings(rt, law.left)?;
+    let right = endings(rt, law.right)?;
+    let same = are_among(left.as_slice(), right.as_slice())
+        && are_among(right.as_slice(), left.as_slice());
+    assert!(rt; same, "{}: {left:?} and {right:?}", law.source);
+    Ok(())
 }
 
 #[test]
 fn the_sides_of_a_law_end_alike_whenever_they_are_canceled(rt: HostRuntime) -> Result<(), Fail> {
     for law in ALONE {
-        let left = endings(&rt, law.left)?;
-        let right = endings(&rt, law.right)?;
-        expect_among(&rt, law.source, left.as_slice(), right.as_slice());
-        expect_among(&rt, law.source, right.as_slice(), left.as_slice());
+        expect_same_endings(&rt, law)?;
     }
     Ok(())
 }

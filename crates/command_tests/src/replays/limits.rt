@@ -1,7 +1,7 @@
 //! Limits that are met in the middle of a replay: the first refused call ends it with its fault, and
 //! nothing else is written.
 
-use crate::devices::expect;
+use crate::answers::expect;
 use std::process::Abort;
 use std::sync::Wait;
 use std::thread::Threads;
@@ -23,6 +23,7 @@ const CUT_BEHIND_A_MASK: &str = "(uncancelable p (canceled))";
 
 const POLL: &str = "(uncancelable p (poll p (pure 1)))";
 
+/// A count is spent by its owner's changes.
 const COUNTS: &[Limited<'static>] = &[
     Limited {
         rule: "the second mask is one change too many",
@@ -130,6 +131,7 @@ const COUNTS: &[Limited<'static>] = &[
     },
 ];
 
+/// Numbers are given up to the limit.
 const NUMBERS: &[Limited<'static>] = &[
     Limited {
         rule: "a race is three fibers",
@@ -176,7 +178,7 @@ const NUMBERS: &[Limited<'static>] = &[
     },
 ];
 
-/// Faults after much was noted, in each of two fibers.
+/// Nothing is written beside a fault, also after much was noted, in each of two fibers.
 const LATE: &[Limited<'static>] = &[
     Limited {
         rule: "a fiber too many after marks of two fibers",
@@ -244,16 +246,8 @@ fn expect_limited<R: Abort + AllocGlobal + Threads + Wait + Sync>(rt: &R, replay
 }
 
 #[test]
-fn a_count_is_spent_by_the_owners_changes(rt: HostRuntime) {
+fn limits_in_the_middle_of_a_replay(rt: HostRuntime) {
     expect_limited(&rt, COUNTS);
-}
-
-#[test]
-fn numbers_are_given_up_to_the_limit(rt: HostRuntime) {
     expect_limited(&rt, NUMBERS);
-}
-
-#[test]
-fn nothing_is_written_beside_a_fault(rt: HostRuntime) {
     expect_limited(&rt, LATE);
 }

@@ -2,6 +2,7 @@
 
 use super::{Replay, expect_replays};
 
+/// A poll opens its mask.
 const POLLS: &[Replay<'static>] = &[
     Replay {
         rule: "a poll observes the request that its mask suppressed",
@@ -33,6 +34,7 @@ const POLLS: &[Replay<'static>] = &[
     },
 ];
 
+/// A mask suppresses until it is left.
 const LEFT: &[Replay<'static>] = &[
     Replay {
         rule: "a request under a mask is observed behind it, where nothing is left to compute",
@@ -50,6 +52,7 @@ const LEFT: &[Replay<'static>] = &[
     },
 ];
 
+/// Each mask is undone by its own poll.
 const NESTED: &[Replay<'static>] = &[
     Replay {
         rule: "the outer poll outermost doesn't unmask",
@@ -74,6 +77,7 @@ const NESTED: &[Replay<'static>] = &[
     },
 ];
 
+/// A mask is of one fiber.
 const OTHER_FIBERS: &[Replay<'static>] = &[
     // The child's mask has the number of its parent's.
     Replay {
@@ -86,6 +90,7 @@ const OTHER_FIBERS: &[Replay<'static>] = &[
     },
 ];
 
+/// Finalizers run masked after a cut alone.
 const FINALIZERS: &[Replay<'static>] = &[
     Replay {
         rule: "finalizers run masked, and no poll unmasks them",
@@ -121,6 +126,7 @@ const FINALIZERS: &[Replay<'static>] = &[
 const CANCELED_IN_A_MASK: &str =
     "(start f (uncancelable p (seq (say 1) (poll p (say 2)) (say 3))) (cancel f))";
 
+/// A request is observed where the fiber is unmasked.
 const MOMENTS: &[Replay<'static>] = &[
     Replay {
         rule: "a request before the mask cuts the fiber there",
@@ -155,31 +161,11 @@ const MOMENTS: &[Replay<'static>] = &[
 ];
 
 #[test]
-fn a_poll_opens_its_mask(rt: HostRuntime) {
+fn masks_and_polls(rt: HostRuntime) {
     expect_replays(&rt, POLLS);
-}
-
-#[test]
-fn a_mask_suppresses_until_it_is_left(rt: HostRuntime) {
     expect_replays(&rt, LEFT);
-}
-
-#[test]
-fn each_mask_is_undone_by_its_own_poll(rt: HostRuntime) {
     expect_replays(&rt, NESTED);
-}
-
-#[test]
-fn a_mask_is_of_one_fiber(rt: HostRuntime) {
     expect_replays(&rt, OTHER_FIBERS);
-}
-
-#[test]
-fn finalizers_run_masked_after_a_cut_alone(rt: HostRuntime) {
     expect_replays(&rt, FINALIZERS);
-}
-
-#[test]
-fn a_request_is_observed_where_the_fiber_is_unmasked(rt: HostRuntime) {
     expect_replays(&rt, MOMENTS);
 }

@@ -1,8 +1,8 @@
 //! Acquisitions that poll their bracket's mask: where they may be cut, and what is released then.
 
 use super::{Replay, expect_replays};
-use crate::devices::expect;
 
+/// An acquisition is cut inside its poll alone.
 const OF_ONE_FIBER: &[Replay<'static>] = &[
     Replay {
         rule: "an acquisition is cut inside its poll, and nothing is released",
@@ -52,6 +52,7 @@ const OF_ONE_FIBER: &[Replay<'static>] = &[
     },
 ];
 
+/// An acquisition that waits inside its poll is canceled.
 // The schedule lets the second fiber reach its wait before it is canceled.
 const OF_TWO_FIBERS: &[Replay<'static>] = &[
     Replay {
@@ -72,37 +73,7 @@ const OF_TWO_FIBERS: &[Replay<'static>] = &[
 ];
 
 #[test]
-fn an_acquisition_is_cut_inside_its_poll_alone(rt: HostRuntime) {
+fn polled_acquisitions(rt: HostRuntime) {
     expect_replays(&rt, OF_ONE_FIBER);
-}
-
-#[test]
-fn an_acquisition_that_waits_inside_its_poll_is_canceled(rt: HostRuntime) {
     expect_replays(&rt, OF_TWO_FIBERS);
-}
-
-#[test]
-fn counts_the_words_of_a_polled_acquisition(rt: HostRuntime) {
-    expect(
-        &rt,
-        "an acquisition counts as in a bracket without a poll",
-        &["fiber_cli", "check"],
-        "(bracketfull p x (poll p (pure 1)) (pure x) y (pure y) z (pure z) (pure 0))",
-        0,
-        "ok size 7 nest 3 masks 3\n",
-        "",
-    );
-}
-
-#[test]
-fn the_poll_is_bound_in_the_acquisition_alone(rt: HostRuntime) {
-    expect(
-        &rt,
-        "a poll in the body has no meaning",
-        &["fiber_cli", "check"],
-        "(bracketfull p x (pure 0) (poll p (pure 1)) y (pure 0) z (pure 0) (pure 0))",
-        65,
-        "refused 9 UnknownName at 32\n",
-        "",
-    );
 }

@@ -2,6 +2,7 @@
 
 use super::{Replay, expect_replays};
 
+/// A race cancels and awaits the loser.
 const RACES: &[Replay<'static>] = &[
     Replay {
         rule: "the loser's finalizers end before the race does",
@@ -53,6 +54,7 @@ const RACES: &[Replay<'static>] = &[
     },
 ];
 
+/// A pair awaits both sides.
 const PAIRS: &[Replay<'static>] = &[
     Replay {
         rule: "both values",
@@ -84,11 +86,7 @@ const PAIRS: &[Replay<'static>] = &[
 ];
 
 #[test]
-fn a_race_cancels_and_awaits_the_loser(rt: HostRuntime) {
+fn races_and_pairs(rt: HostRuntime) {
     expect_replays(&rt, RACES);
-}
-
-#[test]
-fn a_pair_awaits_both_sides(rt: HostRuntime) {
     expect_replays(&rt, PAIRS);
 }

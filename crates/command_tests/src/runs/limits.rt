@@ -20,6 +20,7 @@ struct Faults<'a> {
     fault: &'a str,
 }
 
+/// The count of a fiber's own changes ends a run.
 const COUNTS: &[Faults<'static>] = &[
     Faults {
         option: "--count=1",
@@ -60,6 +61,7 @@ const COUNTS: &[Faults<'static>] = &[
     },
 ];
 
+/// A number past its limit ends a run.
 const NUMBERS: &[Faults<'static>] = &[
     Faults {
         option: "--fibers=1",
@@ -86,7 +88,7 @@ const NUMBERS: &[Faults<'static>] = &[
     },
 ];
 
-/// Runs that an option leaves as much as they need.
+/// Runs that an option leaves as much as they need, which have their report.
 const ENOUGH: &[(&str, Run<'static>)] = &[
     (
         "--count=4",
@@ -135,7 +137,7 @@ const ENOUGH: &[(&str, Run<'static>)] = &[
     ),
 ];
 
-/// Runs in which fibers use their moves.
+/// Runs in which fibers have used their moves, and are unended.
 const TOO_FEW: &[(&str, Run<'static>)] = &[
     (
         "--moves=1",
@@ -181,26 +183,17 @@ fn expect_faults<R: Abort + AllocGlobal + Threads + Wait + Sync>(rt: &R, all: &[
     }
 }
 
+/// Runs each program under its option, and compares the report and the status.
+fn expect_each<R: Abort + AllocGlobal + Threads + Wait + Sync>(rt: &R, runs: &[(&str, Run<'_>)]) {
+    for (option, run) in runs {
+        expect_run(rt, option, run);
+    }
+}
+
 #[test]
-fn the_count_of_own_changes_ends_a_run(rt: HostRuntime) {
+fn limits_in_the_middle_of_a_run(rt: HostRuntime) {
     expect_faults(&rt, COUNTS);
-}
-
-#[test]
-fn a_number_past_its_limit_ends_a_run(rt: HostRuntime) {
     expect_faults(&rt, NUMBERS);
-}
-
-#[test]
-fn a_run_that_needs_all_that_it_may_have_has_its_report(rt: HostRuntime) {
-    for (option, run) in ENOUGH {
-        expect_run(&rt, option, run);
-    }
-}
-
-#[test]
-fn a_fiber_that_has_used_its_moves_is_unended(rt: HostRuntime) {
-    for (option, run) in TOO_FEW {
-        expect_run(&rt, option, run);
-    }
+    expect_each(&rt, ENOUGH);
+    expect_each(&rt, TOO_FEW);
 }

@@ -5,6 +5,7 @@ use std::process::Abort;
 use std::sync::Wait;
 use std::thread::Threads;
 
+/// A fiber alone ends or waits.
 const ALONE: &[Run<'static>] = &[
     Run {
         rule: "a value",
@@ -38,6 +39,7 @@ const ALONE: &[Run<'static>] = &[
     },
 ];
 
+/// A join waits for the end and gives it.
 const JOINS: &[Run<'static>] = &[
     Run {
         rule: "a join of a fiber that succeeds",
@@ -72,6 +74,7 @@ const JOINS: &[Run<'static>] = &[
     },
 ];
 
+/// A cancel waits for the end.
 const CANCELS: &[Run<'static>] = &[
     Run {
         rule: "a cancel ends a wait",
@@ -101,6 +104,7 @@ const CANCELS: &[Run<'static>] = &[
     },
 ];
 
+/// Fibers share refs and deferreds.
 const CELLS: &[Run<'static>] = &[
     Run {
         rule: "no update of a ref is lost",
@@ -143,26 +147,10 @@ fn expect_runs<R: Abort + AllocGlobal + Threads + Wait + Sync>(rt: &R, runs: &[R
 }
 
 #[test]
-fn a_fiber_alone_ends_or_waits(rt: HostRuntime) {
+fn ends_joins_cancels_and_cells(rt: HostRuntime) {
     expect_runs(&rt, ALONE);
-}
-
-#[test]
-fn a_join_waits_for_the_end_and_gives_it(rt: HostRuntime) {
     expect_runs(&rt, JOINS);
-}
-
-#[test]
-fn a_cancel_waits_for_the_end(rt: HostRuntime) {
     expect_runs(&rt, CANCELS);
-}
-
-#[test]
-fn fibers_share_refs_and_deferreds(rt: HostRuntime) {
     expect_runs(&rt, CELLS);
-}
-
-#[test]
-fn a_refused_text_is_not_run(rt: HostRuntime) {
     expect_runs(&rt, REFUSED);
 }

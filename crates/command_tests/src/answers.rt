@@ -1,0 +1,87 @@
+//! What a command line writes, and its status.
+
+use command_line::command;
+use outcome_trace::{FromRead, ToWrite};
+use std::alloc::{AllocError, Global};
+use std::io::{Read, Write};
+use std::process::Abort;
+use std::sync::Wait;
+use std::thread::Threads;
+
+/// The words of a replay under which short programs end.
+pub const LONG: &[&str] = &["fiber_cli", "replay", "--schedule", "0*99"];
+
+/// What a command line wrote, and its status.
+#[derive(Drop)]
+pub struct Answer {
+    pub out: Vec<u8>,
+    pub err: Vec<u8>,
+    pub status: u8,
+}
+
+/// Runs a command line whose output goes there. Gives what it tells, and its status.
+pub fn told<R: AllocGlobal + Threads + Wait + Sync, S: Read + Drop, T: Write + Drop>(
+    rt: &R,
+    words: &[&str],
+    input: S,
+    out: T,
+) -> (Vec<u8>, u8) {
+    let mut err = Vec::new(rt.alloc());
+    let status = command(
+        rt,
+        words,
+        &mut FromRead::new(input),
+        &mut ToWrite::new(out),
+        &mut ToWrite::new(&mut err),
+    );
+    (err, status.code())
+}
+
+/// Runs a command line.
+pub fn answered<R: AllocGlobal + Threads + Wait + Sync, S: Read + Drop>(
+    rt: &R,
+    words: &[&str],
+    input: S,
+) -> Answer {
+    let mut out = Vec::new(rt.alloc());
+    let (err, status) = told(rt, words, input, &mut out);
+    Answer { out, err, status }
+}
+
+/// Runs a command line, and compares all that it writes and its status. Where that isn't what is
+/// wanted, the rule is printed.
+pub fn expect<R: Abort + AllocGlobal + Threads + Wait + Sync>(
+    rt: &R,
+    rule: &str,
+    words: &[&str],
+    input: &str,
+    status: u8,
+    out: &str,
+    err: &str,
+) {
+    let answer = answered(rt, words, input.as_bytes());
+    assert_eq!(rt;
+        (answer.status, answer.out.as_slice(), answer.err.as_slice()),
+        (status, out.as_bytes(), err.as_bytes()),
+        "{rule}: {words:?} on {input}"
+    );
+}
+
+/// A text that goes so deep.
+pub fn nested(
+    alloc: Global,
+    front: &str,
+    depth: usize,
+    inmost: &str,
+    back: &str,
+) -> Result<String, AllocError> {
+    let mut text = String::new(alloc);
+    for _ in 0..depth {
+        text.push_str(front)?;
+    }
+    text.push_str(inmost)?;
+    for _ in 0..depth {
+        text.push_str(back)?;
+    }
+    Ok(text)
+}
