@@ -6,7 +6,7 @@ use std::marker::Model;
 use std::mem;
 
 /// What lies under the lock of a fiber.
-#[derive(Clone, Copy, Debug, PartialEq, Eq, Drop)]
+#[derive(Clone, Copy, Drop)]
 pub struct Slot {
     /// Whether the fiber's task is here.
     pub full: bool,
@@ -15,7 +15,7 @@ pub struct Slot {
 }
 
 /// A task is in the slot already.
-#[derive(Clone, Copy, Debug, PartialEq, Eq, Drop)]
+#[derive(Drop)]
 pub struct IsFull;
 
 impl Slot {
