@@ -10,7 +10,7 @@ use fiber_frames::{Ask, Moved};
 
 // What a move that starts nobody was. With the ask that it answered it says what is to be told; it has
 // no fields, so that a move answers it in a register.
-#[derive(Clone, Copy, PartialEq, Eq, Debug)]
+#[derive(Clone, Copy)]
 pub(crate) enum Step {
     // Nothing is to be told.
     Plain,

@@ -1,5 +1,5 @@
 use Rattle.std.proofs.Common.{refl, rules}
-use Rattle.fiber_poll.proofs.Results.{comes_back, still_polled}
+use Rattle.fiber_poll.proofs.Results.{comes_back, fault_comes, still_polled}
 use Rattle.fiber_poll.proofs.future.FiberFutureFuture.poll.Goals as goal
 
 pub returns-in_default : goal.returns-in_default
@@ -15,3 +15,9 @@ returns-in_default c =
       registered = search rules;
       kept = search rules;
     }
+
+pub returns-in-Err-clause-turn : goal.returns-in-Err-clause-turn
+returns-in-Err-clause-turn c = search rules
+
+pub returns-in-Err-clause-value : goal.returns-in-Err-clause-value
+returns-in-Err-clause-value c = fault_comes c.args.self.now.task c.turn-turned.new.self c.args.self.now.budget c.in-Err.fault c.in-Err.ensures.stopped
