@@ -5,39 +5,14 @@ ghost use Rattle.fiber_frames.specs.Answers.{Answers};
 ghost use Rattle.fiber_frames.specs.Fiber.{ask_of};
 
 use derived_ops::expand;
-use effect_term::{
-    CancelReply, JoinReply, Kind, Name, Operand, Outcome, Program, Reply, Term, Value,
-};
+use effect_term::{CancelReply, JoinReply, Outcome, Program, Reply, Value};
 use fiber_frames::{Ask, Config, Mark, Moved};
 use std::alloc::{AllocError, Global};
 use std::test::Fail;
+use term_parse::parse;
 
-fn boxed(alloc: Global, term: Term) -> Result<Box<Term>, AllocError> {
-    Ok(Box::new(alloc, term)?)
-}
-
-fn masked(alloc: Global, body: Term) -> Result<Term, AllocError> {
-    Ok(Term::Uncancelable(boxed(alloc, body)?))
-}
-
-fn polled(alloc: Global, slot: u32, body: Term) -> Result<Term, AllocError> {
-    let poll = Name {
-        slot,
-        kind: Kind::Poll,
-    };
-    Ok(Term::Poll(poll, boxed(alloc, body)?))
-}
-
-fn bound(alloc: Global, first: Term, then: Term) -> Result<Term, AllocError> {
-    Ok(Term::Let(boxed(alloc, first)?, boxed(alloc, then)?))
-}
-
-const fn number(number: i32) -> Operand {
-    Operand::Number(Value::from_i32(number))
-}
-
-const fn say(it: i32) -> Term {
-    Term::Say(number(it))
+const fn number(number: i32) -> Value {
+    Value::from_i32(number)
 }
 
 const fn said(number: i32) -> Mark {
@@ -46,18 +21,6 @@ const fn said(number: i32) -> Mark {
 
 const fn succeeded(number: i32) -> Outcome {
     Outcome::Succeeded(Value::from_i32(number))
-}
-
-fn guarded(alloc: Global, body: Term, finalizer: Term) -> Result<Term, AllocError> {
-    Ok(Term::OnCancel(boxed(alloc, body)?, boxed(alloc, finalizer)?))
-}
-
-const fn name(slot: u32, kind: Kind) -> Name {
-    Name { slot, kind }
-}
-
-const fn value(slot: u32) -> Operand {
-    Operand::Named(name(slot, Kind::Value))
 }
 
 // What a registry answers to a fiber that was asked to cancel or not. A started fiber has the next
@@ -142,32 +105,85 @@ fn run_to_end(alloc: Global, config: Config) -> Result<Run, Fail>
     })
 }
 
-fn run_alone(alloc: Global, term: Term) -> Result<Run, Fail>
+// The fiber of a text's program before its first move; nothing where memory ran out.
+fn begun(alloc: Global, program: &[u8]) -> Option<Config>
+    ensures { IfSome result (λ config. config.next ≡ 0) }
+{
+    let Ok(term) = parse(alloc, program) else {
+        return None;
+    };
+    let Ok(program) = Program::check(alloc, term) else {
+        return None;
+    };
+    let Ok(code) = expand(alloc, &program) else {
+        return None;
+    };
+    match Config::new(alloc, &code) {
+        Ok(config) => Some(config),
+        Err(_) => None,
+    }
+}
+
+fn run_alone(alloc: Global, program: &[u8]) -> Result<Run, Fail>
     ensures { IfOk result (λ it. IfSome it.child (λ child. child.next ≡ 0)) }
 {
-    let code = expand(alloc, &Program::check(alloc, term)?)?;
-    run_to_end(alloc, Config::new(alloc, &code)?)
+    match begun(alloc, program) {
+        Some(config) => run_to_end(alloc, config),
+        None => Err(Fail::new("no fiber began")),
+    }
 }
+
+fn has_run(run: &Run, marks: &[Mark], ended: Option<Outcome>) -> bool {
+    run.marks.as_slice() == marks && run.ended == ended
+}
+
+// Whether the fiber of the text's program makes these marks and ends so.
+fn is_run(
+    alloc: Global,
+    program: &[u8],
+    marks: &[Mark],
+    ended: Option<Outcome>,
+) -> Result<bool, Fail> {
+    let run = run_alone(alloc, program)?;
+    Ok(has_run(&run, marks, ended))
+}
+
+// Whether it asks so until it is over.
+fn are_asks(alloc: Global, program: &[u8], asks: &[Ask]) -> Result<bool, Fail> {
+    let run = run_alone(alloc, program)?;
+    Ok(run.asks.as_slice() == asks)
+}
+
+// Whether these asks are the others, but for looks and silent ones.
+fn are_shared(asks: &[Ask], shared: &[Ask]) -> bool {
+    let mut left = shared.iter();
+    for ask in asks {
+        if !matches!(ask, Ask::Look | Ask::Silent) {
+            match left.next() {
+                Some(want) if want == ask => {}
+                _ => return false,
+            }
+        }
+    }
+    left.next().is_none()
+}
+
+const MASKED_REQUEST: &[u8] = b"(uncancelable p (canceled))";
+
+const POLL: &[u8] = b"(uncancelable p (poll p (say 1)))";
 
 #[test]
 fn result_is_the_outcome(rt: HostRuntime) -> Result<(), Fail> {
     let alloc = rt.alloc();
-    let it = run_alone(alloc, Term::Pure(number(7)))?;
-    let asks = [
-        Ask::Look,
-        Ask::Finish(succeeded(7)),
-        Ask::Over(succeeded(7)),
-    ];
-    assert_eq!(rt; it.asks.as_slice(), asks.as_slice());
-    assert_eq!(rt; it.ended, Some(succeeded(7)));
-    assert_eq!(rt; it.marks.len(), 0);
+    let ended = succeeded(7);
+    assert!(rt; is_run(alloc, b"(pure 7)", &[], Some(ended))?);
+    let asks = [Ask::Look, Ask::Finish(ended), Ask::Over(ended)];
+    assert!(rt; are_asks(alloc, b"(pure 7)", asks.as_slice())?);
     Ok(())
 }
 
 #[test]
-fn masked_request_is_observed_after_the_mask(rt: HostRuntime) -> Result<(), Fail> {
-    let alloc = rt.alloc();
-    let it = run_alone(alloc, masked(alloc, Term::Canceled)?)?;
+fn a_mask_asks_as_it_is_entered_and_left(rt: HostRuntime) -> Result<(), Fail> {
     let asks = [
         Ask::Look,
         Ask::Mask,
@@ -178,17 +194,12 @@ fn masked_request_is_observed_after_the_mask(rt: HostRuntime) -> Result<(), Fail
         Ask::Finish(Outcome::Canceled),
         Ask::Over(Outcome::Canceled),
     ];
-    assert_eq!(rt; it.asks.as_slice(), asks.as_slice());
-    let marks = [Mark::Enter(0), Mark::Leave(0), Mark::Cut];
-    assert_eq!(rt; it.marks.as_slice(), marks.as_slice());
-    assert_eq!(rt; it.ended, Some(Outcome::Canceled));
+    assert!(rt; are_asks(rt.alloc(), MASKED_REQUEST, asks.as_slice())?);
     Ok(())
 }
 
 #[test]
-fn poll_is_entered_and_left(rt: HostRuntime) -> Result<(), Fail> {
-    let alloc = rt.alloc();
-    let it = run_alone(alloc, masked(alloc, polled(alloc, 0, say(1))?)?)?;
+fn a_poll_asks_as_it_is_entered_and_left(rt: HostRuntime) -> Result<(), Fail> {
     let asks = [
         Ask::Look,
         Ask::Mask,
@@ -202,36 +213,35 @@ fn poll_is_entered_and_left(rt: HostRuntime) -> Result<(), Fail> {
         Ask::Finish(succeeded(0)),
         Ask::Over(succeeded(0)),
     ];
-    assert_eq!(rt; it.asks.as_slice(), asks.as_slice());
-    let marks = [
+    assert!(rt; are_asks(rt.alloc(), POLL, asks.as_slice())?);
+    Ok(())
+}
+
+#[test]
+fn requests_are_observed_where_no_mask_is_active(rt: HostRuntime) -> Result<(), Fail> {
+    let alloc = rt.alloc();
+    let canceled = Some(Outcome::Canceled);
+    let after_the_mask = [Mark::Enter(0), Mark::Leave(0), Mark::Cut];
+    assert!(rt; is_run(alloc, MASKED_REQUEST, after_the_mask.as_slice(), canceled)?);
+    let in_the_poll = [Mark::Enter(0), said(1), Mark::PollIn(0), Mark::Cut];
+    let program = b"(uncancelable p (let a (canceled) (let b (say 1) (poll p (say 2)))))";
+    assert!(rt; is_run(alloc, program, in_the_poll.as_slice(), canceled)?);
+    Ok(())
+}
+
+#[test]
+fn polls_undo_their_own_mask(rt: HostRuntime) -> Result<(), Fail> {
+    let alloc = rt.alloc();
+    let canceled = Some(Outcome::Canceled);
+    let own = [
         Mark::Enter(0),
         Mark::PollIn(0),
         said(1),
         Mark::PollOut(0),
         Mark::Leave(0),
     ];
-    assert_eq!(rt; it.marks.as_slice(), marks.as_slice());
-    Ok(())
-}
-
-#[test]
-fn masked_request_is_observed_in_the_poll(rt: HostRuntime) -> Result<(), Fail> {
-    let alloc = rt.alloc();
-    let last = bound(alloc, say(1), polled(alloc, 0, say(2))?)?;
-    let it = run_alone(alloc, masked(alloc, bound(alloc, Term::Canceled, last)?)?)?;
-    let marks = [Mark::Enter(0), said(1), Mark::PollIn(0), Mark::Cut];
-    assert_eq!(rt; it.marks.as_slice(), marks.as_slice());
-    assert_eq!(rt; it.ended, Some(Outcome::Canceled));
-    Ok(())
-}
-
-#[test]
-fn polls_in_the_wrong_order_undo_nothing(rt: HostRuntime) -> Result<(), Fail> {
-    let alloc = rt.alloc();
-    let inner = polled(alloc, 0, polled(alloc, 1, say(1))?)?;
-    let body = bound(alloc, Term::Canceled, inner)?;
-    let it = run_alone(alloc, masked(alloc, masked(alloc, body)?)?)?;
-    let marks = [
+    assert!(rt; is_run(alloc, POLL, own.as_slice(), Some(succeeded(0)))?);
+    let in_the_wrong_order = [
         Mark::Enter(0),
         Mark::Enter(1),
         Mark::PollIn(1),
@@ -241,188 +251,155 @@ fn polls_in_the_wrong_order_undo_nothing(rt: HostRuntime) -> Result<(), Fail> {
         Mark::Leave(0),
         Mark::Cut,
     ];
-    assert_eq!(rt; it.marks.as_slice(), marks.as_slice());
-    Ok(())
-}
-
-#[test]
-fn poll_of_an_outer_mask_undoes_nothing(rt: HostRuntime) -> Result<(), Fail> {
-    let alloc = rt.alloc();
-    let inner = masked(alloc, polled(alloc, 0, Term::Canceled)?)?;
-    let it = run_alone(alloc, masked(alloc, polled(alloc, 0, inner)?)?)?;
-    let marks = [
+    let program = b"(uncancelable p (uncancelable q (let a (canceled) (poll p (poll q (say 1))))))";
+    assert!(rt; is_run(alloc, program, in_the_wrong_order.as_slice(), canceled)?);
+    let of_an_outer_mask = [
         Mark::Enter(0),
         Mark::PollIn(0),
         Mark::Enter(1),
         Mark::Leave(1),
         Mark::Cut,
     ];
-    assert_eq!(rt; it.marks.as_slice(), marks.as_slice());
+    let program = b"(uncancelable p (poll p (uncancelable q (poll p (canceled)))))";
+    assert!(rt; is_run(alloc, program, of_an_outer_mask.as_slice(), canceled)?);
     Ok(())
 }
 
-// (oncancel (oncancel (canceled) (say 1)) (say 2))
 #[test]
 fn finalizers_run_from_the_inside_out(rt: HostRuntime) -> Result<(), Fail> {
-    let alloc = rt.alloc();
-    let inner = guarded(alloc, Term::Canceled, say(1))?;
-    let it = run_alone(alloc, guarded(alloc, inner, say(2))?)?;
-    assert_eq!(rt;
-        it.marks.as_slice(),
-        [Mark::Cut, said(1), said(2)].as_slice()
+    let program = b"(oncancel (oncancel (canceled) (say 1)) (say 2))";
+    let marks = [Mark::Cut, said(1), said(2)];
+    assert!(rt;
+        is_run(
+            rt.alloc(),
+            program,
+            marks.as_slice(),
+            Some(Outcome::Canceled)
+        )?
     );
-    assert_eq!(rt; it.ended, Some(Outcome::Canceled));
     Ok(())
 }
 
-// (handle (oncancel (raise 4) (say 1)) e (say e)), and (let x (add 4611686018427387903 1) (say x))
 #[test]
 fn errors_go_to_the_handler_or_end_the_fiber(rt: HostRuntime) -> Result<(), Fail> {
     let alloc = rt.alloc();
-    let raised = guarded(alloc, Term::Raise(number(4)), say(1))?;
-    let handled = Term::Handle(boxed(alloc, raised)?, boxed(alloc, Term::Say(value(0)))?);
-    let it = run_alone(alloc, handled)?;
-    assert_eq!(rt; it.marks.as_slice(), [said(4)].as_slice());
-    assert_eq!(rt; it.ended, Some(succeeded(0)));
-    let sum = Term::Add(Operand::Number(Value::MAX), number(1));
-    let it = run_alone(alloc, bound(alloc, sum, Term::Say(value(0)))?)?;
-    assert_eq!(rt; it.marks.len(), 0);
-    assert_eq!(rt; it.ended, Some(Outcome::Errored(Value::from_i32(1001))));
+    let program = b"(handle (oncancel (raise 4) (say 1)) e (say e))";
+    assert!(rt; is_run(alloc, program, &[said(4)], Some(succeeded(0)))?);
+    let program = b"(let x (add 4611686018427387903 1) (say x))";
+    assert!(rt; is_run(alloc, program, &[], Some(Outcome::Errored(number(1001))))?);
     Ok(())
 }
 
-// (add 4611686018427387903 1), (add -4611686018427387904 -1) and (add 2147483647 1)
 #[test]
 fn sums_have_63_bits(rt: HostRuntime) -> Result<(), Fail> {
     let alloc = rt.alloc();
-    let it = run_alone(alloc, Term::Add(Operand::Number(Value::MAX), number(1)))?;
-    assert_eq!(rt; it.ended, Some(Outcome::Errored(Value::from_i32(1001))));
-    let it = run_alone(alloc, Term::Add(Operand::Number(Value::MIN), number(-1)))?;
-    assert_eq!(rt; it.ended, Some(Outcome::Errored(Value::from_i32(1001))));
-    let it = run_alone(alloc, Term::Add(number(2147483647), number(1)))?;
-    let Some(sum) = Value::of(2147483648) else {
-        return Err(Fail::new("2147483648 has 33 bits"));
-    };
-    assert_eq!(rt; it.ended, Some(Outcome::Succeeded(sum)));
+    let overflow = Some(Outcome::Errored(number(1001)));
+    assert!(rt; is_run(alloc, b"(add 4611686018427387903 1)", &[], overflow)?);
+    assert!(rt; is_run(alloc, b"(add -4611686018427387904 -1)", &[], overflow)?);
+    let sum = Value::of(2147483648).ok_or("2147483648 has 33 bits")?;
+    assert!(rt;
+        is_run(
+            alloc,
+            b"(add 2147483647 1)",
+            &[],
+            Some(Outcome::Succeeded(sum))
+        )?
+    );
     Ok(())
 }
 
-// (let x (pure 3) (repeat x (if0 x (say 1) (say x)))), and (forever (cede)) without an end
 #[test]
 fn loops_take_their_turns(rt: HostRuntime) -> Result<(), Fail> {
     let alloc = rt.alloc();
-    let branch = Term::If0(
-        value(0),
-        boxed(alloc, say(1))?,
-        boxed(alloc, Term::Say(value(0)))?,
-    );
-    let turns = Term::Repeat(value(0), boxed(alloc, branch)?);
-    let it = run_alone(alloc, bound(alloc, Term::Pure(number(3)), turns)?)?;
-    assert_eq!(rt; it.marks.as_slice(), [said(3), said(3), said(3)].as_slice());
-    assert_eq!(rt; it.ended, Some(succeeded(0)));
-    let it = run_alone(alloc, Term::Forever(boxed(alloc, Term::Cede)?))?;
-    assert_eq!(rt; it.asks.len(), 99);
-    assert_eq!(rt; it.ended, None);
+    let program = b"(let x (pure 3) (repeat x (if0 x (say 1) (say x))))";
+    let marks = [said(3), said(3), said(3)];
+    assert!(rt; is_run(alloc, program, marks.as_slice(), Some(succeeded(0)))?);
+    let endless = run_alone(alloc, b"(forever (cede))")?;
+    assert_eq!(rt; (endless.asks.len(), endless.ended), (99, None));
     Ok(())
 }
 
-// (let x (pure 9) (uncancelable p (start f (poll p (say x)) (join f y (say y) e (pure 0) (pure 0)))))
+// A parent whose child says what it took from it, in a poll.
+const PARENT: &[u8] =
+    b"(let x (pure 9) (uncancelable p (start f (poll p (say x)) (join f y (say y) e (pure 0) (pure 0)))))";
+
+// The child that the fiber of the text's program started last.
+fn child_of(alloc: Global, program: &[u8]) -> Result<Config, Fail>
+    ensures { IfOk result (λ child. child.next ≡ 0) }
+{
+    let Run { child, .. } = run_alone(alloc, program)?;
+    match child {
+        Some(child) => Ok(child),
+        None => Err(Fail::new("no child was born")),
+    }
+}
+
 #[test]
 fn a_child_has_its_parents_values_and_no_mask_of_it(rt: HostRuntime) -> Result<(), Fail> {
     let alloc = rt.alloc();
-    let polled = Term::Poll(name(1, Kind::Poll), boxed(alloc, Term::Say(value(0)))?);
-    let none = Term::Pure(number(0));
-    let joined = Term::Join(
-        name(2, Kind::Fiber),
-        boxed(alloc, Term::Say(value(3)))?,
-        boxed(alloc, Term::Pure(number(0)))?,
-        boxed(alloc, none)?,
-    );
-    let started = Term::Start(boxed(alloc, polled)?, boxed(alloc, joined)?);
-    let nine = Term::Pure(number(9));
-    let Run { marks, child, .. } = run_alone(alloc, bound(alloc, nine, masked(alloc, started)?)?)?;
-    assert_eq!(rt;
-        marks.as_slice(),
-        [Mark::Enter(0), said(3), Mark::Leave(0)].as_slice()
-    );
-    let Some(child) = child else {
-        return Err(Fail::new("no child was born"));
-    };
+    let marks = [Mark::Enter(0), said(3), Mark::Leave(0)];
+    assert!(rt; is_run(alloc, PARENT, marks.as_slice(), Some(succeeded(0)))?);
+    let child = child_of(alloc, PARENT)?;
     assert_eq!(rt; child.number(), 1);
-    let it = run_to_end(alloc, child)?;
-    assert_eq!(rt; it.marks.as_slice(), [said(9)].as_slice());
-    assert_eq!(rt; it.ended, Some(succeeded(0)));
+    let run = run_to_end(alloc, child)?;
+    assert!(rt; has_run(&run, &[said(9)], Some(succeeded(0))));
     Ok(())
 }
 
-// (ref r 2 (let x (get r) (deferred d (let y (complete d x) (let z (await d) (cancel f))))))
+// A program that makes a ref and a deferred.
+const CELLS: &[u8] =
+    b"(ref r 2 (let x (get r) (deferred d (let y (complete d x) (let z (await d) (say z))))))";
+
 #[test]
 fn cells_are_asked_for_by_their_numbers(rt: HostRuntime) -> Result<(), Fail> {
-    let alloc = rt.alloc();
-    let awaited = bound(
-        alloc,
-        Term::Await(name(2, Kind::Deferred)),
-        Term::Say(value(4)),
-    )?;
-    let completed = bound(
-        alloc,
-        Term::Complete(name(2, Kind::Deferred), value(1)),
-        awaited,
-    )?;
-    let deferred = Term::Deferred(boxed(alloc, completed)?);
-    let got = bound(alloc, Term::Get(name(0, Kind::Ref)), deferred)?;
-    let it = run_alone(alloc, Term::Ref(number(2), boxed(alloc, got)?))?;
-    let mut shared = Vec::new(alloc);
-    for ask in it.asks.as_slice() {
-        if !matches!(ask, Ask::Look | Ask::Silent) {
-            shared.push(*ask)?;
-        }
-    }
     let asks = [
         Ask::NewRef,
-        Ask::Set(0, Value::from_i32(2)),
+        Ask::Set(0, number(2)),
         Ask::Get(0),
         Ask::NewDeferred,
-        Ask::Complete(0, Value::from_i32(5)),
+        Ask::Complete(0, number(5)),
         Ask::Read(0),
         Ask::Finish(succeeded(0)),
         Ask::Over(succeeded(0)),
     ];
-    assert_eq!(rt; shared.as_slice(), asks.as_slice());
+    let it = run_alone(rt.alloc(), CELLS)?;
+    assert!(rt; are_shared(it.asks.as_slice(), asks.as_slice()));
     assert_eq!(rt; it.marks.as_slice(), [said(7)].as_slice());
     Ok(())
+}
+
+// Makes a move of a fiber that notes these marks and succeeds with 0. Where the fiber was over
+// already, or breaks, tells whether it is so with the marks that it had.
+fn moved(config: &mut Config, marks: &[Mark]) -> Result<(), bool>
+    requires { config.old.next < 2 ^ 63 }
+    ensures { IfOk result (λ _. config.new.next ≤ config.old.next + 1) }
+{
+    let ask = config.ask();
+    let Some(reply) = reply(config.number(), &ask, false) else {
+        return Err(ask == Ask::Over(succeeded(0)) && config.trace() == marks);
+    };
+    let before = config.trace().len();
+    let is_made = stepped(config, reply).is_ok();
+    if !marks.starts_with(config.trace()) {
+        return Err(false);
+    }
+    if is_made {
+        Ok(())
+    } else {
+        Err(config.ask() == Ask::Broken && config.trace().len() == before)
+    }
 }
 
 /// Holds whichever allocation is refused: the fiber then is broken, and its marks are as they were.
 #[test]
 fn a_move_is_made_or_the_fiber_breaks(rt: HostRuntime) {
-    let alloc = rt.alloc();
-    let Ok(term) = masked(alloc, say(1)) else {
-        return;
-    };
-    let Ok(program) = Program::check(alloc, term) else {
-        return;
-    };
-    let Ok(code) = expand(alloc, &program) else {
-        return;
-    };
-    let Ok(mut config) = Config::new(alloc, &code) else {
+    let Some(mut config) = begun(rt.alloc(), b"(uncancelable p (say 1))") else {
         return;
     };
     let marks = [Mark::Enter(0), said(1), Mark::Leave(0)];
     for _step in 0..9u32 {
-        let ask = config.ask();
-        let Some(reply) = reply(config.number(), &ask, false) else {
-            assert_eq!(rt; ask, Ask::Over(succeeded(0)));
-            assert_eq!(rt; config.trace(), marks.as_slice());
-            break;
-        };
-        let before = config.trace().len();
-        let failed = config.resume(reply).is_err();
-        assert!(rt; marks.as_slice().starts_with(config.trace()));
-        if failed {
-            assert_eq!(rt; config.ask(), Ask::Broken);
-            assert_eq!(rt; config.trace().len(), before);
+        if let Err(is_right) = moved(&mut config, marks.as_slice()) {
+            assert!(rt; is_right);
             break;
         }
     }

@@ -81,134 +81,177 @@ impl Write for Narrow {
     }
 }
 
-#[test]
-fn reads_byte_by_byte(rt: HostRuntime) -> Result<(), Fail> {
-    for stops_at in 0..8u64 {
-        let mut input = FromRead::new(Drops {
-            left: b"(pure 7)",
+// What is read of a text in drops, one read of which stops so.
+fn read_in_drops(
+    alloc: Global,
+    text: &[u8],
+    stops_at: u64,
+    kind: ErrorKind,
+) -> Result<Vec<u8>, TextFault> {
+    read_text(
+        alloc,
+        &mut FromRead::new(Drops {
+            left: text,
             reads: 0,
             stops_at,
-            kind: ErrorKind::Interrupted,
-        });
-        let text = read_text(rt.alloc(), &mut input)?;
-        assert_eq!(rt; text.as_slice(), b"(pure 7)".as_slice(), "at {stops_at}");
+            kind,
+        }),
+    )
+}
+
+fn is_read_whole(alloc: Global, text: &[u8], stops_at: u64) -> Result<bool, TextFault> {
+    let read = read_in_drops(alloc, text, stops_at, ErrorKind::Interrupted)?;
+    Ok(read.as_slice() == text)
+}
+
+#[test]
+fn reads_byte_by_byte(rt: HostRuntime) {
+    for stops_at in 0..8u64 {
+        assert_eq!(rt;
+            is_read_whole(rt.alloc(), b"(pure 7)", stops_at),
+            Ok(true),
+            "at {stops_at}"
+        );
     }
-    Ok(())
 }
 
 #[test]
 fn tells_failed_reads(rt: HostRuntime) {
     for stops_at in 1..10u64 {
-        let mut input = FromRead::new(Drops {
-            left: b"(pure 7)",
-            reads: 0,
-            stops_at,
-            kind: ErrorKind::BrokenPipe,
-        });
-        let fault = read_text(rt.alloc(), &mut input).err();
+        let fault = read_in_drops(rt.alloc(), b"(pure 7)", stops_at, ErrorKind::BrokenPipe).err();
         assert_eq!(rt; fault, Some(TextFault::ReadFault), "at {stops_at}");
     }
 }
+
+fn length_read(alloc: Global, text: &[u8], stops_at: u64) -> Result<usize, TextFault> {
+    Ok(read_in_drops(alloc, text, stops_at, ErrorKind::Interrupted)?.len())
+}
+
+// How long a text is, which read of it is interrupted, and how much of it is read.
+const LENGTHS: &[(usize, u64, Result<usize, TextFault>)] = &[
+    (TEXT_BOUND - 1, 0, Ok(TEXT_BOUND - 1)),
+    (TEXT_BOUND, 0, Ok(TEXT_BOUND)),
+    (TEXT_BOUND + 1, 0, Ok(TEXT_BOUND)),
+    (TEXT_BOUND - 1, 9, Err(TextFault::TurnBound)),
+];
 
 #[test]
 fn bounds_its_turns(rt: HostRuntime) -> Result<(), Fail> {
     let fault = read_text(rt.alloc(), &mut FromRead::new(Restless)).err();
     assert_eq!(rt; fault, Some(TextFault::TurnBound));
     let long = vec![in rt.alloc(); b' '; TEXT_BOUND + 1]?;
-    for (len, stops_at, want) in [
-        (TEXT_BOUND - 1, 0, None),
-        (TEXT_BOUND, 0, None),
-        (TEXT_BOUND + 1, 0, None),
-        (TEXT_BOUND - 1, 9, Some(TextFault::TurnBound)),
-    ] {
-        assert!(rt; len <= long.len());
-        let mut input = FromRead::new(Drops {
-            left: &long[..len],
-            reads: 0,
-            stops_at,
-            kind: ErrorKind::Interrupted,
-        });
-        match read_text(rt.alloc(), &mut input) {
-            Ok(text) => {
-                assert_eq!(rt; want, None, "of {len}");
-                assert_eq!(rt; text.len(), len.min(TEXT_BOUND));
-            }
-            Err(fault) => assert_eq!(rt; Some(fault), want, "of {len}"),
-        }
+    for (len, stops_at, want) in LENGTHS {
+        assert!(rt; *len <= long.len());
+        assert_eq!(rt;
+            length_read(rt.alloc(), &long[..*len], *stops_at),
+            *want,
+            "of {len}"
+        );
     }
     Ok(())
+}
+
+// Whether what went to it, of a text that was written to it so, is as much as it has room for.
+fn has_its_part(narrow: &Narrow, text: &[u8], written: Result<(), TextFault>) -> bool {
+    let taken = narrow.taken.as_slice();
+    if narrow.room < text.len() {
+        written == Err(TextFault::WriteFault(narrow.room))
+            && taken.len() == narrow.room
+            && text.starts_with(taken)
+    } else {
+        written == Ok(()) && taken == text
+    }
+}
+
+fn is_written(alloc: Global, text: &[u8], room: usize, fails: bool) -> bool {
+    let mut narrow = Narrow {
+        taken: Vec::new(alloc),
+        room,
+        fails,
+    };
+    let written = write_text(text, &mut ToWrite::new(&mut narrow));
+    has_its_part(&narrow, text, written)
 }
 
 #[test]
 fn tells_how_much_was_written(rt: HostRuntime) {
     let text = b"fiber 0 canceled: enter 0, leave 0, cut\n";
-    for fails in [true, false] {
-        for room in 0..text.len() {
-            let mut narrow = Narrow {
-                taken: Vec::new(rt.alloc()),
-                room,
-                fails,
-            };
-            let fault = write_text(text, &mut ToWrite::new(&mut narrow)).err();
-            assert_eq!(rt; fault, Some(TextFault::WriteFault(room)));
-            assert_eq!(rt; narrow.taken.as_slice(), &text[..room]);
-        }
+    for room in 0..text.len() {
+        assert!(rt; is_written(rt.alloc(), text, room, true), "room for {room}");
+        assert!(rt;
+            is_written(rt.alloc(), text, room, false),
+            "room for {room}"
+        );
     }
-    let mut narrow = Narrow {
-        taken: Vec::new(rt.alloc()),
-        room: text.len(),
-        fails: true,
-    };
-    assert_eq!(rt; write_text(text, &mut ToWrite::new(&mut narrow)), Ok(()));
-    assert_eq!(rt; narrow.taken.as_slice(), text.as_slice());
+    assert!(rt; is_written(rt.alloc(), text, text.len(), true));
 }
+
+fn count_of_entries(alloc: Global, text: &str) -> Result<usize, ScheduleError> {
+    Ok(read_schedule(alloc, text)?.len())
+}
+
+// Schedules, and how many entries each has.
+const SCHEDULES: &[(&str, usize)] = &[
+    ("", 0),
+    ("0*7", 7),
+    ("999", 1),
+    ("999*100000", 100_000),
+    (
+        "0*100000 1*100000 2*100000 3*100000 4*100000 5*100000 6*100000 7*100000 8*100000 9*100000",
+        1_000_000,
+    ),
+];
+
+// Texts that are no schedules, and the place of the first bad item of each.
+const BAD_SCHEDULES: &[(&str, usize)] = &[
+    (" ", 0),
+    ("0 x", 2),
+    ("0 ", 2),
+    (" 0", 0),
+    ("0  1", 2),
+    ("1000", 0),
+    ("01", 0),
+    ("+1", 0),
+    ("1 2*0", 2),
+    ("1 2*01", 2),
+    ("1*100001", 0),
+    ("1*", 0),
+    ("*1", 0),
+    ("1*1*1", 0),
+    ("4294967296", 0),
+    ("0 \u{e9}", 2),
+    (
+        "0*100000 1*100000 2*100000 3*100000 4*100000 5*100000 6*100000 7*100000 8*100000 9*100000 1",
+        90,
+    ),
+];
 
 #[test]
 fn reads_schedules(rt: HostRuntime) -> Result<(), Fail> {
     let entries = read_schedule(rt.alloc(), "0 1*2")?;
     assert_eq!(rt; entries.as_slice(), [0u16, 1, 1].as_slice());
-    for (text, want) in [
-        ("", 0),
-        ("0*7", 7),
-        ("999", 1),
-        ("999*100000", 100_000),
-        (
-            "0*100000 1*100000 2*100000 3*100000 4*100000 5*100000 6*100000 7*100000 8*100000 9*100000",
-            1_000_000,
-        ),
-    ] {
-        assert_eq!(rt; read_schedule(rt.alloc(), text)?.len(), want, "{text}");
+    for (text, count) in SCHEDULES {
+        assert_eq!(rt; count_of_entries(rt.alloc(), text), Ok(*count), "{text}");
     }
-    for (text, place) in [
-        (" ", 0),
-        ("0 x", 2),
-        ("0 ", 2),
-        (" 0", 0),
-        ("0  1", 2),
-        ("1000", 0),
-        ("01", 0),
-        ("+1", 0),
-        ("1 2*0", 2),
-        ("1 2*01", 2),
-        ("1*100001", 0),
-        ("1*", 0),
-        ("*1", 0),
-        ("1*1*1", 0),
-        ("4294967296", 0),
-        ("0 \u{e9}", 2),
-        (
-            "0*100000 1*100000 2*100000 3*100000 4*100000 5*100000 6*100000 7*100000 8*100000 9*100000 1",
-            90,
-        ),
-    ] {
-        let fault = read_schedule(rt.alloc(), text).err();
-        assert_eq!(rt; fault, Some(ScheduleError::BadSchedule(place)), "{text}");
+    for (text, place) in BAD_SCHEDULES {
+        let want = Err(ScheduleError::BadSchedule(*place));
+        assert_eq!(rt; count_of_entries(rt.alloc(), text), want, "{text}");
     }
     Ok(())
 }
 
-/// A fiber that made each kind of mark, and fibers with none that ended in each way.
-fn some_report(alloc: Global) -> Result<Report, AllocError> {
+fn fiber(
+    alloc: Global,
+    outcome: Option<Outcome>,
+    marks: &[Mark],
+) -> Result<FiberReport, AllocError> {
+    Ok(FiberReport {
+        outcome,
+        marks: Marks::new(Vec::from_slice(alloc, marks)?),
+    })
+}
+
+fn push_fibers(fibers: &mut Vec<FiberReport>, alloc: Global) -> Result<(), AllocError> {
     let marks = [
         Mark::Enter(0),
         Mark::Acquired(0),
@@ -222,47 +265,57 @@ fn some_report(alloc: Global) -> Result<Report, AllocError> {
         Mark::Dropped(Value::from_i32(8)),
         Mark::Released(0),
     ];
-    let mut fibers = Vec::new(alloc);
-    fibers.push(FiberReport {
-        outcome: Some(Outcome::Canceled),
-        marks: Marks::new(Vec::from_slice(alloc, marks.as_slice())?),
-    })?;
+    fibers.push(fiber(alloc, Some(Outcome::Canceled), marks.as_slice())?)?;
     for outcome in [
         Some(Outcome::Succeeded(Value::from_i32(7))),
         Some(Outcome::Errored(Value::from_i32(-1))),
         None,
     ] {
-        fibers.push(FiberReport {
-            outcome,
-            marks: Marks::new(Vec::new(alloc)),
-        })?;
+        fibers.push(fiber(alloc, outcome, &[])?)?;
     }
+    Ok(())
+}
+
+/// A fiber that made each kind of mark, and fibers with none that ended in each way.
+fn some_report(alloc: Global) -> Result<Report, AllocError> {
+    let mut fibers = Vec::new(alloc);
+    push_fibers(&mut fibers, alloc)?;
     Ok(Report {
         fibers: FiberReports::new(fibers),
     })
 }
 
+// Its text.
+const REPORT: &str =
+    "fiber 0 canceled: enter 0, acquired 0, enter 1, in 1, say -4611686018427387904, out 1, leave 18446744073709551615, \
+    cut, releasing 0, dropped 8, released 0\n\
+    fiber 1 succeeded 7\n\
+    fiber 2 errored -1\n\
+    fiber 3 unended\n";
+
+fn is_printed(alloc: Global, report: &Report) -> Result<bool, TextFault> {
+    let mut out = Vec::new(alloc);
+    print_report(alloc, report, &mut ToWrite::new(&mut out))?;
+    Ok(out.as_slice() == REPORT.as_bytes())
+}
+
+// Whether as much of the report's text goes out as there is room for.
+fn is_printed_in(alloc: Global, report: &Report, room: usize) -> bool {
+    let mut narrow = Narrow {
+        taken: Vec::new(alloc),
+        room,
+        fails: true,
+    };
+    let printed = print_report(alloc, report, &mut ToWrite::new(&mut narrow));
+    has_its_part(&narrow, REPORT.as_bytes(), printed)
+}
+
 #[test]
 fn prints_reports(rt: HostRuntime) -> Result<(), Fail> {
-    let want =
-        "fiber 0 canceled: enter 0, acquired 0, enter 1, in 1, say -4611686018427387904, out 1, leave 18446744073709551615, \
-        cut, releasing 0, dropped 8, released 0\n\
-        fiber 1 succeeded 7\n\
-        fiber 2 errored -1\n\
-        fiber 3 unended\n";
     let report = some_report(rt.alloc())?;
-    let mut out = Vec::new(rt.alloc());
-    print_report(rt.alloc(), &report, &mut ToWrite::new(&mut out))?;
-    assert_eq!(rt; str::from_utf8(out.as_slice())?, want);
-    for room in 0..want.len() {
-        let mut narrow = Narrow {
-            taken: Vec::new(rt.alloc()),
-            room,
-            fails: true,
-        };
-        let fault = print_report(rt.alloc(), &report, &mut ToWrite::new(&mut narrow)).err();
-        assert_eq!(rt; fault, Some(TextFault::WriteFault(room)));
-        assert_eq!(rt; narrow.taken.as_slice(), &want.as_bytes()[..room]);
+    assert_eq!(rt; is_printed(rt.alloc(), &report), Ok(true));
+    for room in 0..REPORT.len() {
+        assert!(rt; is_printed_in(rt.alloc(), &report, room), "room for {room}");
     }
     Ok(())
 }
@@ -284,16 +337,21 @@ impl Write for Counts {
     }
 }
 
+// How the printing of the report went, and how many bytes went out.
+fn print_and_count(alloc: Global) -> Result<(Result<(), TextFault>, usize), AllocError> {
+    let report = some_report(alloc)?;
+    let mut counts = Counts { taken: 0 };
+    let printed = print_report(alloc, &report, &mut ToWrite::new(&mut counts));
+    Ok((printed, counts.taken))
+}
+
 /// Holds whichever request for memory is refused: then nothing goes out.
 #[test]
 fn a_report_is_printed_or_memory_ran_out(rt: HostRuntime) {
-    if let Ok(report) = some_report(rt.alloc()) {
-        let mut counts = Counts { taken: 0 };
-        let printed = print_report(rt.alloc(), &report, &mut ToWrite::new(&mut counts));
-        match printed {
-            Ok(()) => assert_eq!(rt; counts.taken, 210),
-            Err(fault) => assert_eq!(rt; (fault, counts.taken), (TextFault::NoMemory, 0)),
-        }
+    match print_and_count(rt.alloc()) {
+        Ok((Ok(()), taken)) => assert_eq!(rt; taken, 210),
+        Ok((Err(fault), taken)) => assert_eq!(rt; (fault, taken), (TextFault::NoMemory, 0)),
+        Err(_) => {}
     }
 }
 
@@ -324,20 +382,22 @@ const SHOWN: [(&str, &str, Status); 2] = [
     ),
 ];
 
+fn is_shown(alloc: Global, text: &str, want: &str, status: Status) -> bool {
+    let mut out = Vec::new(alloc);
+    let answered = answer_text(
+        alloc,
+        &ShowOrder,
+        &mut FromRead::new(text.as_bytes()),
+        &mut ToWrite::new(&mut out),
+    );
+    answered == Ok(status) && out.as_slice() == want.as_bytes()
+}
+
 #[test]
-fn shows_the_code_of_a_program(rt: HostRuntime) -> Result<(), Fail> {
+fn shows_the_code_of_a_program(rt: HostRuntime) {
     for (text, want, status) in SHOWN {
-        let mut out = Vec::new(rt.alloc());
-        let answered = answer_text(
-            rt.alloc(),
-            &ShowOrder,
-            &mut FromRead::new(text.as_bytes()),
-            &mut ToWrite::new(&mut out),
-        );
-        assert_eq!(rt; str::from_utf8(out.as_slice())?, want, "{text}");
-        assert_eq!(rt; answered, Ok(status), "{text}");
+        assert!(rt; is_shown(rt.alloc(), text, want, status), "{text}");
     }
-    Ok(())
 }
 
 /// Holds whichever request for memory is refused: then nothing goes out.
@@ -421,7 +481,7 @@ fn tells_refusals_and_faults(rt: HostRuntime) -> Result<(), Fail> {
         (Refused::Run(RunError::NoWorker), "fault 22 NoWorker\n"),
     ] {
         let line = line(rt.alloc(), &refused)?;
-        assert_eq!(rt; str::from_utf8(line.as_slice())?, want);
+        assert!(rt; line.as_slice() == want.as_bytes(), "{want}");
     }
     Ok(())
 }
