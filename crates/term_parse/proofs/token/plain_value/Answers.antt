@@ -1,4 +1,6 @@
 use Rattle.std.proofs.Common.{arith, rules}
+use Rattle.std.proofs.lemmas.Grind.{common_steps}
+use Rattle.term_parse.specs.Seen.{plain_value}
 use Rattle.term_parse.proofs.Lexing.{plain_none, digits_fail, digits_more, value_more, value_over}
 use Rattle.term_parse.proofs.token.plain_value.Goals as goal
 
@@ -14,3 +16,7 @@ loop-digit-preserved c = record {
 pub returns-then-value : goal.returns-then-value
 returns-then-value c = value_over c.args.digits.now c.loop-digit.digit-index c.loop-digit.value c.loop-digit-test.true
     c.loop-digit.invariant.value (omega arith)
+
+pub returns : goal.returns
+unfolding plain_value
+returns c = first_of (search rules, grind (arith, common_steps))
