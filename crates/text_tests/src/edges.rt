@@ -2,7 +2,7 @@
 //! compared whole.
 
 use crate::pieces::{Piece, text_of};
-use crate::printed_terms::is_printed;
+use crate::printed_terms::is_spelled;
 use effect_term::{Kind, Name, Operand, Term, Value};
 use std::alloc::{AllocError, Global};
 use std::test::Fail;
@@ -12,7 +12,7 @@ use term_parse::parse;
 fn is_read(alloc: Global, text: &[u8], counts: (u64, u64), printed: &[u8]) -> Result<bool, Fail> {
     let read = parse(alloc, text)?;
     let is_counted = read.size() == counts.0 && read.nest() == counts.1;
-    Ok(is_counted && is_printed(alloc, &read, printed)?)
+    Ok(is_spelled(alloc, read, printed)? && is_counted)
 }
 
 fn bound(alloc: Global, first: Term, then: Term) -> Result<Term, AllocError> {
@@ -49,7 +49,7 @@ fn push_nested_lets(text: &mut String, binders: u32) -> Result<(), AllocError> {
 fn a_hundred_words_deep(rt: HostRuntime) -> Result<(), Fail> {
     let mut text = String::new(rt.alloc());
     push_nested_lets(&mut text, 99)?;
-    assert!(rt; is_printed(rt.alloc(), &nested_lets(rt.alloc(), 99)?, text.as_bytes())?);
+    assert!(rt; is_spelled(rt.alloc(), nested_lets(rt.alloc(), 99)?, text.as_bytes())?);
     assert!(rt; is_read(rt.alloc(), text.as_bytes(), (199, 100), text.as_bytes())?);
     Ok(())
 }
@@ -93,7 +93,7 @@ const LONG: &[Piece] = &[
 fn a_canonical_text_of_65536_bytes(rt: HostRuntime) -> Result<(), Fail> {
     let text = text_of(rt.alloc(), LONG)?;
     assert_eq!(rt; text.len(), 65536);
-    assert!(rt; is_printed(rt.alloc(), &seq(rt.alloc(), 2, 9357)?, text.as_slice())?);
+    assert!(rt; is_spelled(rt.alloc(), seq(rt.alloc(), 2, 9357)?, text.as_slice())?);
     assert!(rt; is_read(rt.alloc(), text.as_slice(), (9362, 2), text.as_slice())?);
     Ok(())
 }

@@ -1,6 +1,6 @@
 //! Each form, read and printed again.
 
-use crate::printed_terms::is_printed;
+use crate::printed_terms::is_spelled;
 use std::alloc::Global;
 use std::test::Fail;
 use term_parse::parse;
@@ -117,8 +117,7 @@ const CANONICAL: &[&[u8]] = &[
 
 /// Whether reading and printing the first text gives the second.
 fn is_read_and_printed(alloc: Global, text: &[u8], canonical: &[u8]) -> Result<bool, Fail> {
-    let term = parse(alloc, text)?;
-    Ok(is_printed(alloc, &term, canonical)?)
+    Ok(is_spelled(alloc, parse(alloc, text)?, canonical)?)
 }
 
 /// Each word's form, with other names and spaces than its canonical spelling, which is what parsing
