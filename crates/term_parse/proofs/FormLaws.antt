@@ -1,7 +1,5 @@
 -- A term's form, by its word and what stands in it.
-use Rattle.std.proofs.Common.{◌≡◌, List, [], ◌∷◌, ◌++◌, Option, Some, None, map, ap, refl, subst, sym, ◌∙◌}
-use Rattle.effect_term.specs.declared.term.Operand.{Operand}
-use Rattle.effect_term.specs.declared.term.Name.{Name}
+use Rattle.std.proofs.Common.{◌≡◌, List, [], ◌∷◌, ◌++◌, Option, Some, None, ap, refl, subst, sym, ◌∙◌}
 use Rattle.effect_term.specs.declared.term.Term.{Term}
 use Rattle.effect_term.specs.declared.term.Term.TheVariants.{Pure, Raise, Let', Seq', Handle', If0', Add, Say, Cede}
 use Rattle.effect_term.specs.declared.term.Term.TheVariants.{Never, Canceled, Uncancelable', Poll', OnCancel', Start'}
@@ -11,7 +9,6 @@ use Rattle.effect_term.specs.declared.term.Term.TheVariants.{BracketCase', Brack
 use Rattle.term_parse.specs.declared.printer.Piece.{Piece}
 use Rattle.term_parse.specs.declared.printer.Piece.TheVariants as pieces
 use Rattle.term_parse.specs.declared.table.Word.{Word}
-use Rattle.term_parse.specs.declared.table.Word.TheVariants as words
 use Rattle.term_parse.specs.declared.table.Part.{Part}
 use Rattle.term_parse.specs.declared.table.Part.TheVariants as parts
 use Rattle.term_parse.specs.Atoms.{Atom, word, value, name, ended, atoms_of}
