@@ -56,7 +56,8 @@ piece_spelled (pieces.Term t) = refl
 
 pieces_spelled : (ps : List (Option Piece)) → pieces_of ps ≡ all_spelled (held_in ps)
 pieces_spelled [] = refl
-pieces_spelled (Some p ∷ ps) = ap (λ x. x ∷ pieces_of ps) (piece_spelled p) ∙ ap (λ xs. held_spelled (held_by p) ∷ xs) (pieces_spelled ps)
+pieces_spelled (Some p ∷ ps) =
+    ap (λ x. x ∷ pieces_of ps) (piece_spelled p) ∙ ap (λ xs. held_spelled (held_by p) ∷ xs) (pieces_spelled ps)
 pieces_spelled (None ∷ ps) = refl
 
 piece_atoms_held : (p : Piece) → piece_atoms p ≡ held_atoms (held_by p)
@@ -67,10 +68,12 @@ piece_atoms_held (pieces.Term t) = refl
 pieces_atoms_held : (ps : List (Option Piece)) (end : List Atom) → pieces_atoms ps end ≡ all_atoms (held_in ps) end
 pieces_atoms_held [] end = refl
 pieces_atoms_held (Some p ∷ ps) end =
-    ap (λ xs. xs ++ pieces_atoms ps end) (piece_atoms_held p) ∙ ap (λ xs. held_atoms (held_by p) ++ xs) (pieces_atoms_held ps end)
+    ap (λ xs. xs ++ pieces_atoms ps end) (piece_atoms_held p)
+    ∙ ap (λ xs. held_atoms (held_by p) ++ xs) (pieces_atoms_held ps end)
 pieces_atoms_held (None ∷ ps) end = refl
 
-suffice_held : (ws : List Part) (ps : List (Option Piece)) (more : List Term) → Covers ws (held_in ps) more → Suffice ws ps more
+suffice_held : (ws : List Part) (ps : List (Option Piece)) (more : List Term) → Covers ws (held_in ps) more →
+    Suffice ws ps more
 suffice_held [] ps more h = absurd h
 suffice_held (parts.Close ∷ ws) [] more h = (tt, h)
 suffice_held (parts.Close ∷ ws) (None ∷ ps) more h = (tt, h)
@@ -99,7 +102,9 @@ spelling_held : (t : Term) → spelling t ≡ form (term_word t) (all_spelled (h
 spelling_held (Pure v) = refl
 spelling_held (Raise v) = refl
 spelling_held (Let' p e q k) = refl
-spelling_held (Seq' p a q b shape more) = ap (form (term_word (Seq' p a q b shape more)) (all_spelled (held_of (Seq' p a q b shape more)))) (row_spellings_items _ more)
+spelling_held (Seq' p a q b shape more) =
+    ap (form (term_word (Seq' p a q b shape more)) (all_spelled (held_of (Seq' p a q b shape more))))
+    (row_spellings_items _ more)
 spelling_held (Handle' p e q h) = refl
 spelling_held (If0' v p s q e) = refl
 spelling_held (Add v w) = refl
@@ -133,7 +138,9 @@ atoms_held : (t : Term) → atoms_of t ≡ word (term_word t) ∷ all_atoms (hel
 atoms_held (Pure v) = refl
 atoms_held (Raise v) = refl
 atoms_held (Let' p e q k) = refl
-atoms_held (Seq' p a q b shape more) = ap (λ xs. word (term_word (Seq' p a q b shape more)) ∷ all_atoms (held_of (Seq' p a q b shape more)) xs) (row_atoms_items _ more (ended ∷ []))
+atoms_held (Seq' p a q b shape more) =
+    ap (λ xs. word (term_word (Seq' p a q b shape more)) ∷ all_atoms (held_of (Seq' p a q b shape more)) xs)
+    (row_atoms_items _ more (ended ∷ []))
 atoms_held (Handle' p e q h) = refl
 atoms_held (If0' v p s q e) = refl
 atoms_held (Add v w) = refl
@@ -202,7 +209,8 @@ covered (Both' p a q b r k) = refl
 pub form_spelling : (t : Term) (w : Word) (ps : List (Option Piece)) (more : List Term) → w ≡ term_word t →
     held_in ps ≡ held_of t → more ≡ more_of t → spelling t ≡ form w (pieces_of ps) (terms_spelled more)
 form_spelling t w ps more d e f =
-    spelling_held t ∙ ap (λ q. form (term_word t) q (terms_spelled (more_of t))) (sym (pieces_spelled ps ∙ ap all_spelled e))
+    spelling_held t
+    ∙ ap (λ q. form (term_word t) q (terms_spelled (more_of t))) (sym (pieces_spelled ps ∙ ap all_spelled e))
     ∙ ap (λ x. form x (pieces_of ps) (terms_spelled (more_of t))) (sym d)
     ∙ ap (λ ts. form w (pieces_of ps) (terms_spelled ts)) (sym f)
 
@@ -219,5 +227,7 @@ pub form_suffices : (t : Term) (w : Word) (ps : List (Option Piece)) (more : Lis
 form_suffices t w ps more d e f =
     let covers : Covers (parts_of (term_word t)) (held_in ps) (more_of t) =
     subst (λ hs. Covers (parts_of (term_word t)) hs (more_of t)) (sym e) (covered t) in
-    let suffices : Suffice (parts_of (term_word t)) ps (more_of t) = suffice_held (parts_of (term_word t)) ps (more_of t) covers in
-    subst (λ x. Suffice (parts_of x) ps more) (sym d) (subst (λ ts. Suffice (parts_of (term_word t)) ps ts) (sym f) suffices)
+    let suffices : Suffice (parts_of (term_word t)) ps (more_of t) =
+    suffice_held (parts_of (term_word t)) ps (more_of t) covers in
+    subst (λ x. Suffice (parts_of x) ps more) (sym d)
+    (subst (λ ts. Suffice (parts_of (term_word t)) ps ts) (sym f) suffices)
