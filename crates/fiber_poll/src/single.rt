@@ -1,15 +1,17 @@
 //! A program that starts nobody, run by itself.
 ghost use Rattle.std.specs.Prelude.{◌≡◌, ◌⊎◌, false, replicate, Err as Fails};
+ghost use Rattle.cell_registry.specs.Passes.{first_pass};
 ghost use Rattle.derived_ops.specs.Expansion.{code_of};
 ghost use Rattle.derived_ops.specs.Reading.{source_of};
 ghost use Rattle.effect_term.specs.Starts.{starts_fiber};
+ghost use Rattle.fiber_frames.specs.Fiber.{begins};
 ghost use Rattle.outcome_trace.specs.Core.{core};
-ghost use Rattle.fiber_poll.specs.Futures.{default_limits, first_result};
+ghost use Rattle.fiber_poll.specs.Futures.{Comes, default_limits, first_result};
 
 use crate::future::FiberFuture;
 use crate::opening::first;
-use cell_registry::{Outcome, Registry, RunError};
-use derived_ops::expand;
+use cell_registry::{Outcome, Pass, Registry, RunError};
+use derived_ops::{Code, expand};
 use effect_term::Program;
 use futures::executor::block_on;
 use std::alloc::AllocGlobal;
@@ -43,7 +45,22 @@ pub fn alone<R: Wait + RandomSource + AllocGlobal>(
     let alloc = rt.alloc();
     let code = expand(alloc, &program)?;
     let (registry, pass) = Registry::new(alloc, NUMBERS, NUMBERS, NUMBERS, COUNT)?;
-    let task = first(alloc, &registry, pass, &code, moves)?;
+    run_first(rt, &registry, pass, &code, moves)
+}
+
+// Runs fiber 0 of a code for at most so many moves, at a registry in which no call was made yet.
+fn run_first<R: Wait + RandomSource + AllocGlobal>(
+    rt: &R,
+    registry: &Registry,
+    pass: Pass,
+    code: &Code,
+    moves: u32,
+) -> Result<Option<Outcome>, RunError>
+    requires { pass ≡ first_pass registry.now }
+    ensures { (result ≡ Fails RunError.NoMemory) ⊎ (result ≡ Fails RunError.NoWorker) ⊎
+        (Comes (record { home = registry.now; pass = pass; state = begins 0 code.now; moves = moves }) result) }
+{
+    let task = first(rt.alloc(), registry, pass, code, moves)?;
     let future = FiberFuture {
         task,
         budget: BUDGET,
