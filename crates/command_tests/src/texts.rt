@@ -258,12 +258,17 @@ const ANSWERS: &[Answers<'static>] = &[
     },
 ];
 
+/// Answers these texts.
+fn expect_answers<R: Abort + AllocGlobal + Threads + Wait + Sync>(rt: &R, answers: &Answers<'_>) {
+    for (rule, text, out) in answers.cases {
+        expect(rt, rule, answers.words, text, answers.status, out, "");
+    }
+}
+
 #[test]
 fn answers_texts(rt: HostRuntime) {
     for answers in ANSWERS {
-        for (rule, text, out) in answers.cases {
-            expect(&rt, rule, answers.words, text, answers.status, out, "");
-        }
+        expect_answers(&rt, answers);
     }
 }
 

@@ -351,7 +351,12 @@ fn endings<R: Abort + AllocGlobal + Threads + Wait + Sync>(
 
 /// Whether each ending of the one side is among those of the other.
 fn are_among(some: &[String], others: &[String]) -> bool {
-    some.iter().all(|ending| others.contains(ending))
+    for ending in some {
+        if !others.contains(ending) {
+            return false;
+        }
+    }
+    true
 }
 
 /// The sides of a law have the same endings.
