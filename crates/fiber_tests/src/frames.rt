@@ -105,7 +105,7 @@ fn run_to_end(alloc: Global, config: Config) -> Result<Run, Fail>
     })
 }
 
-// The fiber of a text's program before its first move; nothing where memory ran out.
+// The fiber of a text's program before its first move; nothing where memory ran out or the text is no program.
 fn begun(alloc: Global, program: &[u8]) -> Option<Config>
     ensures { IfSome result (λ config. config.next ≡ 0) }
 {
