@@ -27,7 +27,9 @@ pub use replay_texts::{ReplayOrder, replay_text, report_answer};
 pub use report::{FiberReport, FiberReports, Marks, Report};
 pub use report_text::{print_report, text_of_report};
 pub use scheduled::replay;
-pub use text_io::{Answer, Status, TextFault, TextOrder, answer_text, obey_text, tell_fault};
-pub use text_io::{FromRead, ReadError, Sink, Source, TextIn, TextOut, ToWrite, WriteFailed};
-pub use text_io::{MOST_ENTRIES, ScheduleError, TEXT_BOUND, read_schedule, read_text, write_text};
+pub use text_io::{
+    Answer, FromRead, MOST_ENTRIES, ReadError, ScheduleError, Sink, Source, Status, TEXT_BOUND,
+    TextFault, TextIn, TextOrder, TextOut, ToWrite, WriteFailed, answer_text, obey_text,
+    read_schedule, read_text, tell_fault, write_text,
+};
 pub use wish::Wish;
