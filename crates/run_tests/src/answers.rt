@@ -7,33 +7,48 @@ use cell_registry::{Limits, RunError};
 use derived_ops::program_of;
 use effect_term::Program;
 use outcome_trace::{Refused, Report, line, replay, text_of_report};
-use std::alloc::Global;
+use std::alloc::{AllocError, Global};
+use std::process::Abort;
 use std::sync::Wait;
 use std::test::Fail;
 use std::thread::Threads;
 use steal_pool::{Gate, OpenGate, Options, run};
 use term_parse::parse;
 
-/// So many workers and so many moves a turn, at least 2, and all else by default.
-pub fn options(workers: u8, budget: u32) -> Options
+/// The options by default.
+pub const USUAL: Options = Options {
+    workers: 4,
+    fibers: 1000,
+    refs: 1000,
+    deferreds: 1000,
+    count: 1_099_511_627_775,
+    budget: 64,
+    moves: 100_000,
+};
+
+/// How a text is run: with these options, so many times on each of these numbers of workers with each
+/// of these numbers of moves a turn.
+#[derive(Clone, Copy)]
+pub struct Runs<'a> {
+    pub options: Options,
+    pub workers: &'a [u8],
+    pub budgets: &'a [u32],
+    pub times: u32,
+}
+
+/// These options on so many workers with so many moves a turn, each number within its range.
+pub fn within(options: Options, workers: u8, budget: u32) -> Options
     ensures limits { AreLimits (limits_of result) }
     ensures budget { 1 < result.budget }
 {
-    let mut options = Options::new();
-    options.workers = workers;
-    options.budget = budget.max(2);
-    options
-}
-
-/// The greatest limits.
-pub fn widest() -> Limits
-    ensures { AreLimits result }
-{
-    Limits {
-        fibers: 1000,
-        refs: 1000,
-        deferreds: 1000,
-        count: 1_099_511_627_775,
+    Options {
+        workers,
+        fibers: options.fibers.max(1).min(1000),
+        refs: options.refs.max(1).min(1000),
+        deferreds: options.deferreds.max(1).min(1000),
+        count: options.count.max(1).min(1_099_511_627_775),
+        budget: budget.max(2),
+        moves: options.moves,
     }
 }
 
@@ -44,24 +59,11 @@ pub fn program(alloc: Global, text: &str) -> Result<Program, Fail> {
 }
 
 /// The text of a report, or the line of a fault.
-pub fn spelled(alloc: Global, answer: Result<Report, RunError>) -> Result<String, Fail> {
+fn spelled(alloc: Global, answer: Result<Report, RunError>) -> Result<String, Fail> {
     match answer {
         Ok(report) => Ok(text_of_report(alloc, &report)?),
         Err(fault) => Ok(String::from_utf8(line(alloc, &Refused::Run(fault))?)?),
     }
-}
-
-/// What a run of the program that this text spells answers.
-pub fn run_of<R: Threads + Wait + Sync>(
-    rt: &R,
-    alloc: Global,
-    text: &str,
-    options: Options,
-) -> Result<String, Fail>
-    requires limits { AreLimits (limits_of options) }
-    requires budget { 1 < options.budget }
-{
-    run_past(rt, alloc, text, options, &OpenGate)
 }
 
 /// What a run of the program that this text spells answers, with this gate.
@@ -79,14 +81,71 @@ pub fn run_past<R: Threads + Wait + Sync, G: Gate>(
     spelled(alloc, run(rt, alloc, program, options, gate))
 }
 
-/// What a replay of a program under a schedule answers.
-pub fn replay_of(
+/// What a replay of a program under a schedule answers, within the greatest limits.
+pub fn replay_of(alloc: Global, program: &Program, schedule: &[u16]) -> Result<String, Fail> {
+    let widest = Limits {
+        fibers: 1000,
+        refs: 1000,
+        deferreds: 1000,
+        count: 1_099_511_627_775,
+    };
+    spelled(alloc, replay(alloc, program, schedule, widest))
+}
+
+/// Adds a piece to a text that is made piece by piece.
+pub fn push_piece(text: &mut String, piece: Result<String, AllocError>) -> Result<(), AllocError> {
+    text.push_str(piece?.as_str())
+}
+
+/// Whether a text is one of these.
+fn is_among(text: &str, wanted: &[&str]) -> bool {
+    for want in wanted {
+        if *want == text {
+            return true;
+        }
+    }
+    false
+}
+
+/// Runs a text once, and asks that its answer be one of these.
+fn expect_run<R: Abort + Threads + Wait + Sync>(
+    rt: &R,
     alloc: Global,
-    program: &Program,
-    schedule: &[u16],
-    limits: Limits,
-) -> Result<String, Fail>
-    requires { AreLimits limits }
+    text: &str,
+    options: Options,
+    wanted: &[&str],
+) -> Result<(), Fail>
+    requires limits { AreLimits (limits_of options) }
+    requires budget { 1 < options.budget }
 {
-    spelled(alloc, replay(alloc, program, schedule, limits))
+    let answer = run_past(rt, alloc, text, options, &OpenGate)?;
+    assert!(rt;
+        is_among(answer.as_str(), wanted),
+        "{text} with {options:?}: {answer}"
+    );
+    Ok(())
+}
+
+/// Runs a text so often, and asks that each answer be one of these.
+pub fn expect_runs<R: Abort + Threads + Wait + Sync>(
+    rt: &R,
+    alloc: Global,
+    text: &str,
+    runs: &Runs<'_>,
+    wanted: &[&str],
+) -> Result<(), Fail> {
+    for workers in runs.workers {
+        for budget in runs.budgets {
+            for _ in 0..runs.times {
+                expect_run(
+                    rt,
+                    alloc,
+                    text,
+                    within(runs.options, *workers, *budget),
+                    wanted,
+                )?;
+            }
+        }
+    }
+    Ok(())
 }

@@ -1,9 +1,15 @@
-//! Gates that show which workers are inside at once.
+//! Gates, which show how workers are inside: two at once, and none after a fault.
 
-use crate::answers::{options, run_past};
-use std::sync::atomic::{AtomicBool, Ordering};
+use crate::answers::{USUAL, run_past, within};
+use std::process::Abort;
+use std::rt::Clock;
+use std::sync::Wait;
+use std::sync::atomic::{AtomicBool, AtomicU64, Ordering};
 use std::test::Fail;
-use steal_pool::Gate;
+use std::thread;
+use std::thread::Threads;
+use std::time::{Duration, Instant};
+use steal_pool::{Gate, Options};
 
 // How often a worker looks for the other one.
 const LOOKS: u32 = 200_000_000;
@@ -47,15 +53,91 @@ impl Gate for Meeting {
     }
 }
 
-#[test]
-fn two_workers_are_inside_at_once(rt: HostRuntime) -> Result<(), Fail> {
+// Runs two fibers that meet.
+fn expect_meeting<R: Abort + AllocGlobal + Threads + Wait + Sync>(
+    rt: &R,
+    workers: u8,
+) -> Result<(), Fail> {
     let text = "(start f (say 1) (start g (say 2) (pure 0)))";
     let want = "fiber 0 succeeded 0\nfiber 1 succeeded 0: say 1\nfiber 2 succeeded 0: say 2\n";
-    for workers in [2, 3, 16] {
-        let gate = Meeting::new();
-        let report = run_past(&rt, rt.alloc(), text, options(workers, 64), &gate)?;
-        assert!(rt; !gate.gave_up.load(Ordering::SeqCst), "on {workers}");
-        assert_eq!(rt; report.as_str(), want, "on {workers}");
-    }
+    let gate = Meeting::new();
+    let report = run_past(rt, rt.alloc(), text, within(USUAL, workers, 64), &gate)?;
+    assert!(rt; !gate.gave_up.load(Ordering::SeqCst), "on {workers}");
+    assert!(rt; report.as_str() == want, "on {workers}: {report}");
     Ok(())
+}
+
+#[test]
+fn two_workers_are_inside_at_once(rt: HostRuntime) -> Result<(), Fail> {
+    expect_meeting(&rt, 2)?;
+    expect_meeting(&rt, 3)?;
+    expect_meeting(&rt, 16)
+}
+
+// Counts the turns.
+#[derive(Drop)]
+struct Turns {
+    made: AtomicU64,
+}
+
+impl Gate for Turns {
+    fn enter(&self, _worker: u8, _fiber: u16) {
+        self.made.fetch_add(1, Ordering::SeqCst);
+    }
+}
+
+// Five hundred fibers that yield for ever would make five hundred million moves.
+const BUSY: &str =
+    "(start f (forever (uncancelable p (pure 0))) (seq (repeat 500 (start g (forever (cede)) (pure 0))) (forever \
+    (cede))))";
+
+// The fault of fiber 1 comes in time.
+fn expect_fault_in_time<R: Abort + AllocGlobal + Clock + Threads + Wait + Sync>(
+    rt: &R,
+    workers: u8,
+    gate: &Turns,
+) -> Result<(), Fail> {
+    let busy = Options {
+        moves: 1_000_000,
+        count: 1000,
+        ..USUAL
+    };
+    let begun = Instant::now(rt)?;
+    let answer = run_past(rt, rt.alloc(), BUSY, within(busy, workers, 64), gate)?;
+    assert!(rt;
+        answer.as_str() == "fault 19 Spent 1\n",
+        "on {workers}: {answer}"
+    );
+    assert!(rt;
+        begun.elapsed(rt)? < Duration::from_secs(10),
+        "on {workers}"
+    );
+    Ok(())
+}
+
+// No thread makes a turn after the run has ended.
+fn expect_no_thread_left<R: Abort + AllocGlobal + Clock + Threads + Wait + Sync>(
+    rt: &R,
+    workers: u8,
+) -> Result<(), Fail> {
+    let gate = Turns {
+        made: AtomicU64::new(0),
+    };
+    expect_fault_in_time(rt, workers, &gate)?;
+    let made = gate.made.load(Ordering::SeqCst);
+    thread::sleep(rt, Duration::from_millis(20));
+    assert_eq!(rt;
+        gate.made.load(Ordering::SeqCst),
+        made,
+        "a thread of {workers} is left"
+    );
+    Ok(())
+}
+
+#[test]
+fn a_fault_ends_all_workers(rt: HostRuntime) -> Result<(), Fail> {
+    expect_no_thread_left(&rt, 1)?;
+    expect_no_thread_left(&rt, 2)?;
+    expect_no_thread_left(&rt, 4)?;
+    expect_no_thread_left(&rt, 16)
 }

@@ -3,15 +3,19 @@
 use crate::answers::program;
 use cell_registry::{Registry, RunError};
 use derived_ops::expand;
+use std::alloc::Global;
 use std::test::Fail;
 use steal_pool::gather;
 
-#[test]
-fn without_tasks_fiber_0_is_lost(rt: HostRuntime) -> Result<(), Fail> {
-    let alloc = rt.alloc();
+// The fault where no task of a program is left.
+fn fault_without_tasks(alloc: Global) -> Result<Option<RunError>, Fail> {
     let code = expand(alloc, &program(alloc, "(pure 7)")?)?;
     let (registry, _pass) = Registry::new(alloc, 2, 1, 1, 10)?;
-    let none = gather(alloc, &registry, &code, Vec::new(alloc)).err();
-    assert_eq!(rt; none, Some(RunError::Lost(0)));
+    Ok(gather(alloc, &registry, &code, Vec::new(alloc)).err())
+}
+
+#[test]
+fn without_tasks_fiber_0_is_lost(rt: HostRuntime) -> Result<(), Fail> {
+    assert_eq!(rt; fault_without_tasks(rt.alloc())?, Some(RunError::Lost(0)));
     Ok(())
 }

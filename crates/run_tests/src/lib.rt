@@ -9,8 +9,6 @@
 #[cfg(test)]
 mod answers;
 #[cfg(test)]
-mod faults;
-#[cfg(test)]
 mod gates;
 #[cfg(test)]
 mod gathered;

@@ -1,9 +1,7 @@
-//! Limits at their edges. A fiber that has used its moves is unended.
-ghost use Rattle.std.specs.Prelude.{◌<◌, ◌≤◌};
-ghost use Rattle.cell_registry.specs.Cells.{AreLimits};
-ghost use Rattle.steal_pool.specs.Runs.{limits_of};
+//! Limits at their edges: the first refused call ends a run with its fault, and a fiber that has used
+//! its moves is unended.
 
-use crate::answers::{options, run_of};
+use crate::answers::{Runs, USUAL, expect_runs, push_piece};
 use std::alloc::{AllocError, Global};
 use std::process::Abort;
 use std::sync::Wait;
@@ -11,155 +9,240 @@ use std::test::Fail;
 use std::thread::Threads;
 use steal_pool::Options;
 
-// So many workers, and fiber 0 may make so many moves.
-fn moving(workers: u8, moves: u32) -> Options
-    ensures limits { AreLimits (limits_of result) }
-    ensures budget { 1 < result.budget }
-{
-    let mut options = options(workers, 64);
-    options.moves = moves;
-    options
-}
+// How each program here is run, but for its options.
+const RUNS: Runs<'static> = Runs {
+    options: USUAL,
+    workers: &[1, 2, 4, 16],
+    budgets: &[64],
+    times: 1,
+};
 
-// Runs of this text give this report, where fiber 0 may make so many moves.
-fn gives<R: Abort + Threads + Wait + Sync>(
-    rt: &R,
-    alloc: Global,
-    text: &str,
-    moves: u32,
-    want: &str,
-) -> Result<(), Fail> {
-    for workers in [1, 2, 4, 16] {
-        let report = run_of(rt, alloc, text, moving(workers, moves))?;
-        assert_eq!(rt; report.as_str(), want, "{text}, {moves} moves on {workers}");
-    }
-    Ok(())
-}
+// A program, and what comes of it where fiber 0 may make so many moves. Each reduction of an unmasked
+// fiber is a look and the move itself, and so is its end. A child begins with the moves that are left.
+const MOVES: &[(&str, u32, &str)] = &[
+    ("(pure 7)", 1, "fiber 0 unended\n"),
+    ("(pure 7)", 2, "fiber 0 succeeded 7\n"),
+    ("(say 1)", 1, "fiber 0 unended\n"),
+    ("(say 1)", 2, "fiber 0 unended: say 1\n"),
+    ("(say 1)", 3, "fiber 0 unended: say 1\n"),
+    ("(say 1)", 4, "fiber 0 succeeded 0: say 1\n"),
+    (
+        "(uncancelable p (canceled))",
+        6,
+        "fiber 0 unended: enter 0, leave 0, cut\n",
+    ),
+    (
+        "(uncancelable p (canceled))",
+        7,
+        "fiber 0 canceled: enter 0, leave 0, cut\n",
+    ),
+    ("(start f (pure 5) (pure 6))", 1, "fiber 0 unended\n"),
+    (
+        "(start f (pure 5) (pure 6))",
+        2,
+        "fiber 0 unended\nfiber 1 unended\n",
+    ),
+    (
+        "(start f (pure 5) (pure 6))",
+        3,
+        "fiber 0 unended\nfiber 1 unended\n",
+    ),
+    (
+        "(start f (pure 5) (pure 6))",
+        4,
+        "fiber 0 succeeded 6\nfiber 1 succeeded 5\n",
+    ),
+    (
+        "(start f (seq (say 1) (say 2)) (never))",
+        4,
+        "fiber 0 unended\nfiber 1 unended: say 1\n",
+    ),
+    (
+        "(start f (seq (say 1) (say 2)) (never))",
+        8,
+        "fiber 0 unended\nfiber 1 unended: say 1, say 2\n",
+    ),
+    (
+        "(start f (seq (say 1) (say 2)) (never))",
+        9,
+        "fiber 0 unended\nfiber 1 unended: say 1, say 2\n",
+    ),
+    (
+        "(start f (seq (say 1) (say 2)) (never))",
+        10,
+        "fiber 0 unended\nfiber 1 succeeded 0: say 1, say 2\n",
+    ),
+];
 
-// Each reduction of an unmasked fiber is a look and the move itself, and so is its end.
+// A program, and what comes of it where each fiber may change its own state so often.
+const COUNTS: &[(&str, u64, &str)] = &[
+    ("(uncancelable p (canceled))", 1, "fault 19 Spent 0\n"),
+    ("(uncancelable p (canceled))", 2, "fault 19 Spent 0\n"),
+    ("(uncancelable p (canceled))", 3, "fault 19 Spent 0\n"),
+    (
+        "(uncancelable p (canceled))",
+        4,
+        "fiber 0 canceled: enter 0, leave 0, cut\n",
+    ),
+    (
+        "(uncancelable p (poll p (pure 1)))",
+        4,
+        "fault 19 Spent 0\n",
+    ),
+    (
+        "(uncancelable p (poll p (pure 1)))",
+        5,
+        "fiber 0 succeeded 1: enter 0, in 0, out 0, leave 0\n",
+    ),
+    (
+        "(start f (uncancelable p (never)) (start g (uncancelable p (pure 1)) (pure 0)))",
+        2,
+        "fault 19 Spent 2\n",
+    ),
+];
+
+// A program, and what comes of it where there may be so many fibers, refs and deferreds.
+const NUMBERS: &[(&str, u16, u16, u16, &str)] = &[
+    ("(pure 7)", 1, 1000, 1000, "fiber 0 succeeded 7\n"),
+    (
+        "(start f (pure 1) (pure 0))",
+        1,
+        1000,
+        1000,
+        "fault 18 Full fibers 1\n",
+    ),
+    (
+        "(repeat 1000 (start f (pure 1) (pure 0)))",
+        1000,
+        1000,
+        1000,
+        "fault 18 Full fibers 1000\n",
+    ),
+    (
+        "(repeat 5 (start f (never) (pure 0)))",
+        3,
+        1000,
+        1000,
+        "fault 18 Full fibers 3\n",
+    ),
+    (
+        "(race (pure 1) (pure 2))",
+        2,
+        1000,
+        1000,
+        "fault 18 Full fibers 2\n",
+    ),
+    (
+        "(ref a 0 (ref b 0 (pure 1)))",
+        1000,
+        1,
+        1000,
+        "fault 18 Full refs 1\n",
+    ),
+];
+
+// The same of deferreds, whoever makes the last of them, in turns of two moves.
+const DEFERREDS: &[(u16, &str)] = &[
+    (1, "fault 18 Full deferreds 1\n"),
+    (2, "fault 18 Full deferreds 2\n"),
+    (3, "fiber 0 succeeded 6\nfiber 1 succeeded 5\n"),
+];
+
+// Programs that loop without end, and what comes of them where each fiber may change its own state so
+// often.
+const LOOPS: &[(&str, u64, &str)] = &[
+    (
+        "(start f (seq (say 1) (forever (cede))) (start g (forever (uncancelable p (pure 0))) (forever (pure 0))))",
+        4,
+        "fault 19 Spent 2\n",
+    ),
+    (
+        "(start f (seq (say 1) (forever (cede))) (forever (pure 0)))",
+        1_099_511_627_775,
+        "fiber 0 unended\nfiber 1 unended: say 1\n",
+    ),
+];
+
 #[test]
 fn moves_are_counted(rt: HostRuntime) -> Result<(), Fail> {
-    for (text, moves, want) in [
-        ("(pure 7)", 1, "fiber 0 unended\n"),
-        ("(pure 7)", 2, "fiber 0 succeeded 7\n"),
-        ("(say 1)", 1, "fiber 0 unended\n"),
-        ("(say 1)", 2, "fiber 0 unended: say 1\n"),
-        ("(say 1)", 3, "fiber 0 unended: say 1\n"),
-        ("(say 1)", 4, "fiber 0 succeeded 0: say 1\n"),
-        (
-            "(uncancelable p (canceled))",
-            6,
-            "fiber 0 unended: enter 0, leave 0, cut\n",
-        ),
-        (
-            "(uncancelable p (canceled))",
-            7,
-            "fiber 0 canceled: enter 0, leave 0, cut\n",
-        ),
-    ] {
-        gives(&rt, rt.alloc(), text, moves, want)?;
+    for (text, moves, want) in MOVES {
+        let options = Options {
+            moves: *moves,
+            ..USUAL
+        };
+        expect_runs(&rt, rt.alloc(), text, &Runs { options, ..RUNS }, &[*want])?;
     }
     Ok(())
 }
 
 #[test]
-fn a_child_begins_with_the_moves_that_are_left(rt: HostRuntime) -> Result<(), Fail> {
-    let text = "(start f (pure 5) (pure 6))";
-    for (moves, want) in [
-        (1, "fiber 0 unended\n"),
-        (2, "fiber 0 unended\nfiber 1 unended\n"),
-        (3, "fiber 0 unended\nfiber 1 unended\n"),
-        (4, "fiber 0 succeeded 6\nfiber 1 succeeded 5\n"),
-    ] {
-        gives(&rt, rt.alloc(), text, moves, want)?;
+fn a_spent_count_is_told_with_its_fiber(rt: HostRuntime) -> Result<(), Fail> {
+    for (text, count, want) in COUNTS {
+        let options = Options {
+            count: *count,
+            ..USUAL
+        };
+        expect_runs(&rt, rt.alloc(), text, &Runs { options, ..RUNS }, &[*want])?;
     }
-    let text = "(start f (seq (say 1) (say 2)) (never))";
-    for (moves, want) in [
-        (4, "fiber 0 unended\nfiber 1 unended: say 1\n"),
-        (8, "fiber 0 unended\nfiber 1 unended: say 1, say 2\n"),
-        (9, "fiber 0 unended\nfiber 1 unended: say 1, say 2\n"),
-        (10, "fiber 0 unended\nfiber 1 succeeded 0: say 1, say 2\n"),
-    ] {
-        gives(&rt, rt.alloc(), text, moves, want)?;
+    Ok(())
+}
+
+#[test]
+fn a_band_that_is_full_is_told_with_its_limit(rt: HostRuntime) -> Result<(), Fail> {
+    for (text, fibers, refs, deferreds, want) in NUMBERS {
+        let options = Options {
+            fibers: *fibers,
+            refs: *refs,
+            deferreds: *deferreds,
+            ..USUAL
+        };
+        expect_runs(&rt, rt.alloc(), text, &Runs { options, ..RUNS }, &[*want])?;
+    }
+    for (deferreds, want) in DEFERREDS {
+        let runs = Runs {
+            options: Options {
+                deferreds: *deferreds,
+                ..USUAL
+            },
+            budgets: &[2],
+            ..RUNS
+        };
+        let text = "(deferred a (start f (deferred b (pure 5)) (deferred c (pure 6))))";
+        expect_runs(&rt, rt.alloc(), text, &runs, &[*want])?;
     }
     Ok(())
 }
 
 #[test]
 fn a_loop_uses_all_moves(rt: HostRuntime) -> Result<(), Fail> {
-    let text =
-        "(start f (seq (say 1) (forever (cede))) (start g (forever (uncancelable p (pure 0))) (forever (pure 0))))";
-    for workers in [1, 16] {
-        for budget in [2, 10_000] {
-            let mut options = options(workers, budget);
-            options.moves = 1_000_000;
-            options.count = 4;
-            let report = run_of(&rt, rt.alloc(), text, options)?;
-            assert_eq!(rt;
-                report.as_str(),
-                "fault 19 Spent 2\n",
-                "on {workers} at {budget}"
-            );
-        }
-    }
-    let text = "(start f (seq (say 1) (forever (cede))) (forever (pure 0)))";
-    let want = "fiber 0 unended\nfiber 1 unended: say 1\n";
-    for workers in [1, 16] {
-        for budget in [2, 10_000] {
-            let mut options = options(workers, budget);
-            options.moves = 1_000_000;
-            let report = run_of(&rt, rt.alloc(), text, options)?;
-            assert_eq!(rt; report.as_str(), want, "on {workers} at {budget}");
-        }
+    for (text, count, want) in LOOPS {
+        let runs = Runs {
+            options: Options {
+                count: *count,
+                moves: 1_000_000,
+                ..USUAL
+            },
+            workers: &[1, 16],
+            budgets: &[2, 10_000],
+            ..RUNS
+        };
+        expect_runs(&rt, rt.alloc(), text, &runs, &[*want])?;
     }
     Ok(())
-}
-
-// So many workers and fibers, and all else by default.
-fn peopled(workers: u8, fibers: u16) -> Options
-    requires some { 0 < fibers }
-    requires most { fibers ≤ 1000 }
-    ensures limits { AreLimits (limits_of result) }
-    ensures budget { 1 < result.budget }
-{
-    let mut options = options(workers, 64);
-    options.fibers = fibers;
-    options
 }
 
 // Fiber 0 and so many others that have succeeded with 1.
 fn succeeded(alloc: Global, fibers: u32) -> Result<String, AllocError> {
     let mut text = String::from_str(alloc, "fiber 0 succeeded 0\n")?;
     for number in 1..fibers {
-        text.push_str(format!(in alloc; "fiber {number} succeeded 1\n")?.as_str())?;
+        push_piece(&mut text, format!(in alloc; "fiber {number} succeeded 1\n"))?;
     }
     Ok(text)
 }
 
 #[test]
 fn fibers_are_started_up_to_their_limit(rt: HostRuntime) -> Result<(), Fail> {
-    let alloc = rt.alloc();
-    let all = "(repeat 999 (start f (pure 1) (pure 0)))";
-    let one_more = "(repeat 1000 (start f (pure 1) (pure 0)))";
-    let want = succeeded(alloc, 1000)?;
-    for workers in [1, 2, 4, 16] {
-        let report = run_of(&rt, alloc, all, peopled(workers, 1000))?;
-        assert_eq!(rt; report.as_str(), want.as_str(), "on {workers}");
-        let fault = run_of(&rt, alloc, one_more, peopled(workers, 1000))?;
-        assert_eq!(rt;
-            fault.as_str(),
-            "fault 18 Full fibers 1000\n",
-            "on {workers}"
-        );
-        let alone = run_of(&rt, alloc, "(pure 7)", peopled(workers, 1))?;
-        assert_eq!(rt; alone.as_str(), "fiber 0 succeeded 7\n", "on {workers}");
-        let fault = run_of(
-            &rt,
-            alloc,
-            "(start f (pure 1) (pure 0))",
-            peopled(workers, 1),
-        )?;
-        assert_eq!(rt; fault.as_str(), "fault 18 Full fibers 1\n", "on {workers}");
-    }
-    Ok(())
+    let want = succeeded(rt.alloc(), 1000)?;
+    let text = "(repeat 999 (start f (pure 1) (pure 0)))";
+    expect_runs(&rt, rt.alloc(), text, &RUNS, &[want.as_str()])
 }
