@@ -37,7 +37,6 @@ pub enum Call {
 }
 
 /// A call that was made: by which fiber, and what it was answered.
-#[derive(Clone, Copy, PartialEq, Eq, Debug)]
 pub struct Entry {
     /// The fiber that called.
     pub by: u16,

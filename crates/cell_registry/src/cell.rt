@@ -13,7 +13,6 @@ pub enum Stage {
 }
 
 /// The shared state of one fiber.
-#[derive(Clone, Copy, PartialEq, Eq, Debug)]
 pub struct Cell {
     /// How far the fiber has come.
     pub stage: Stage,

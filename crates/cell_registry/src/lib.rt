@@ -22,8 +22,6 @@ mod plain;
 mod registry;
 mod rule;
 mod shared_values;
-#[cfg(test)]
-mod word_tests;
 mod words;
 
 pub use call::{Call, Entry};

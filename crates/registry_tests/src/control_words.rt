@@ -30,6 +30,7 @@ fn the_highest_bit_of_a_word_is_no_values(rt: HostRuntime) {
     assert_eq!(rt; word_value(0x7fff_ffff_ffff_ffff), Value::from_i32(-1));
     assert_eq!(rt; word_value(0xffff_ffff_ffff_ffff), Value::from_i32(-1));
     assert_eq!(rt; word_value(0x8000_0000_0000_0005), Value::from_i32(5));
+    assert_eq!(rt; word_value(0x8000_0000_0000_0000), Value::ZERO);
     assert_eq!(rt;
         word_value(0x4000_0000_0000_0000).get(),
         -4_611_686_018_427_387_904

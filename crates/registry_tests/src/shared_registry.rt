@@ -183,3 +183,24 @@ fn an_end_with_either_extreme_is_told_to_joins(rt: HostRuntime) -> Result<(), Al
     assert_eq!(rt; registry.join(&mut child, 0), JoinReply::Ended(told));
     Ok(())
 }
+
+#[test]
+fn the_value_of_an_end_has_a_word_of_its_own(rt: HostRuntime) -> Result<(), AllocError> {
+    let (registry, mut pass) = Registry::new(rt.alloc(), 2, 1, 1, 1)?;
+    let outcome = Outcome::Succeeded(Value::from_i32(-1));
+    assert_eq!(rt; registry.finish(&mut pass, outcome), Ok(()));
+    assert_eq!(rt; registry.last_word(pass, 0), 0x6_0000_0000_0001);
+    Ok(())
+}
+
+#[test]
+fn the_highest_bit_of_a_word_is_no_values(rt: HostRuntime) -> Result<(), AllocError> {
+    let (registry, mut pass) = Registry::new(rt.alloc(), 1, 1, 1, 1)?;
+    registry.set(&mut pass, 0, Value::from_i32(-1));
+    assert_eq!(rt;
+        registry.modify(&mut pass, 0, Value::from_i32(1)),
+        Value::from_i32(-1)
+    );
+    assert_eq!(rt; registry.get(&mut pass, 0), Value::from_i32(0));
+    Ok(())
+}

@@ -8,6 +8,7 @@ use cell_registry::{Band, CancelReply, CellError, Pass, Registry};
 use effect_term::Value;
 use std::alloc::{AllocError, Global};
 use std::thread;
+use std::thread::Threads;
 
 // Starts a fiber and cancels it. Gives its number.
 fn start_and_cancel(registry: &Registry, pass: &mut Pass) -> Option<u16>
@@ -34,37 +35,58 @@ fn start_four(registry: &Registry, pass: Pass) -> (Pass, [Option<u16>; 4])
     (pass, [first, second, third, fourth])
 }
 
-#[test]
-fn two_threads_start_and_cancel_at_once(rt: HostRuntime) -> Result<(), AllocError> {
-    let (registry, mut parent) = Registry::new(rt.alloc(), 10, 1, 1, 1)?;
-    let Ok(child) = registry.start(&mut parent) else {
-        panic!(rt; "no fiber was started");
-    };
-    let shared = &registry;
-    let (first, second) = thread::join(
-        &rt,
+// Two threads start and cancel four fibers each.
+fn start_eight<R: Threads + Sync>(
+    rt: &R,
+    registry: &Registry,
+    parent: Pass,
+    child: Pass,
+) -> ((Pass, [Option<u16>; 4]), (Pass, [Option<u16>; 4]))
+    requires own { IsOf registry.now parent × IsOf registry.now child }
+    requires open { IsOpen parent.stage × IsOpen child.stage }
+    ensures own { IsOf registry.now result.0.0 × IsOf registry.now result.1.0 }
+    ensures open { IsOpen result.0.0.stage }
+{
+    thread::join(
+        rt,
         move || -> (Pass, [Option<u16>; 4])
-            requires { IsOf shared.now parent × IsOpen parent.stage }
-            ensures { IsOf shared.entry.now result.0 × IsOpen result.0.stage }
-        { start_four(shared, parent) },
+            requires { IsOf registry.now parent × IsOpen parent.stage }
+            ensures { IsOf registry.entry.now result.0 × IsOpen result.0.stage }
+        { start_four(registry, parent) },
         move || -> (Pass, [Option<u16>; 4])
-            requires { IsOf shared.now child × IsOpen child.stage }
-            ensures { IsOf shared.entry.now result.0 × IsOpen result.0.stage }
-        { start_four(shared, child) },
-    );
-    let mut met = registry.meet(first.0, second.0);
-    let mut given: Vec<u16> = Vec::new(rt.alloc());
-    for number in first.1.iter().chain(second.1.iter()) {
-        given.push(number.unwrap_or(0))?;
+            requires { IsOf registry.now child × IsOpen child.stage }
+            ensures { IsOf registry.entry.now result.0 × IsOpen result.0.stage }
+        { start_four(registry, child) },
+    )
+}
+
+// Whether these are the numbers from 2 to 9, in any order.
+fn are_all_given(first: &[Option<u16>; 4], second: &[Option<u16>; 4]) -> bool {
+    let mut given = [0u16; 8];
+    for (place, number) in given.iter_mut().zip(first.iter().chain(second.iter())) {
+        *place = number.unwrap_or(0);
     }
     given.sort_unstable();
-    assert_eq!(rt; given.as_slice(), [2, 3, 4, 5, 6, 7, 8, 9].as_slice());
-    assert_eq!(rt; registry.cancel(&mut met, 2), CancelReply::Already);
-    assert_eq!(rt; registry.cancel(&mut met, 9), CancelReply::Already);
-    assert_eq!(rt;
-        registry.start(&mut met).err(),
-        Some(CellError::Full(Band::Fibers, 10))
-    );
+    given == [2, 3, 4, 5, 6, 7, 8, 9]
+}
+
+fn eight_are_started<R: Threads + Sync>(rt: &R, alloc: Global) -> Result<bool, AllocError> {
+    let (registry, mut parent) = Registry::new(alloc, 10, 1, 1, 1)?;
+    let Ok(child) = registry.start(&mut parent) else {
+        return Ok(false);
+    };
+    let (first, second) = start_eight(rt, &registry, parent, child);
+    let given = are_all_given(&first.1, &second.1);
+    let mut met = registry.meet(first.0, second.0);
+    let asked = registry.cancel(&mut met, 2) == CancelReply::Already
+        && registry.cancel(&mut met, 9) == CancelReply::Already;
+    let full = registry.start(&mut met).err() == Some(CellError::Full(Band::Fibers, 10));
+    Ok(given && asked && full)
+}
+
+#[test]
+fn two_threads_start_and_cancel_at_once(rt: HostRuntime) -> Result<(), AllocError> {
+    assert!(rt; eight_are_started(&rt, rt.alloc())?);
     Ok(())
 }
 
@@ -82,37 +104,62 @@ fn add_often(alloc: Global, registry: &Registry, pass: Pass) -> Result<(Pass, Ve
     Ok((pass, olds))
 }
 
-#[test]
-fn two_threads_lose_no_update(rt: HostRuntime) -> Result<(), AllocError> {
-    let (registry, mut parent) = Registry::new(rt.alloc(), 2, 1, 1, 1)?;
-    assert_eq!(rt; registry.new_ref(&mut parent), Ok(0));
-    let Ok(child) = registry.start(&mut parent) else {
-        panic!(rt; "no fiber was started");
-    };
-    let alloc = rt.alloc();
-    let shared = &registry;
+// Two threads add to ref 0 at once. Gives the pass that has met both, and their old values.
+fn add_at_once<R: Threads + Sync>(
+    rt: &R,
+    alloc: Global,
+    registry: &Registry,
+    parent: Pass,
+    child: Pass,
+) -> Result<(Pass, Vec<i64>, Vec<i64>), AllocError>
+    requires own { IsOf registry.now parent × IsOf registry.now child }
+    requires some_ref { 0 < registry.now.limits.refs }
+    ensures { IfOk result (λ r. IsOf registry.now r.0) }
+{
     let (first, second) = thread::join(
-        &rt,
+        rt,
         move || -> Result<(Pass, Vec<i64>), AllocError>
-            requires { IsOf shared.now parent × (0 < shared.now.limits.refs) }
-            ensures { IfOk result (λ r. IsOf shared.entry.now r.0) }
-        { add_often(alloc, shared, parent) },
+            requires { IsOf registry.now parent × (0 < registry.now.limits.refs) }
+            ensures { IfOk result (λ r. IsOf registry.entry.now r.0) }
+        { add_often(alloc, registry, parent) },
         move || -> Result<(Pass, Vec<i64>), AllocError>
-            requires { IsOf shared.now child × (0 < shared.now.limits.refs) }
-            ensures { IfOk result (λ r. IsOf shared.entry.now r.0) }
-        { add_often(alloc, shared, child) },
+            requires { IsOf registry.now child × (0 < registry.now.limits.refs) }
+            ensures { IfOk result (λ r. IsOf registry.entry.now r.0) }
+        { add_often(alloc, registry, child) },
     );
-    let (first, mut olds) = first?;
+    let (first, olds) = first?;
     let (second, others) = second?;
-    for old in others.iter() {
+    Ok((registry.meet(first, second), olds, others))
+}
+
+// Whether these are the numbers below 2000, in any order.
+fn are_all_below(alloc: Global, first: &[i64], second: &[i64]) -> Result<bool, AllocError> {
+    let mut olds = Vec::new(alloc);
+    for old in first.iter().chain(second.iter()) {
         olds.push(*old)?;
     }
     olds.sort_unstable();
-    assert_eq!(rt; olds.len(), 2000);
     for (wanted, old) in (0..2000).zip(olds.iter()) {
-        assert_eq!(rt; *old, wanted);
+        if *old != wanted {
+            return Ok(false);
+        }
     }
-    let mut met = registry.meet(first, second);
-    assert_eq!(rt; registry.get(&mut met, 0), Value::from_i32(2000));
+    Ok(olds.len() == 2000)
+}
+
+fn updates_are_kept<R: Threads + Sync>(rt: &R, alloc: Global) -> Result<bool, AllocError> {
+    let (registry, mut parent) = Registry::new(alloc, 2, 1, 1, 1)?;
+    let made = registry.new_ref(&mut parent) == Ok(0);
+    let Ok(child) = registry.start(&mut parent) else {
+        return Ok(false);
+    };
+    let (mut met, olds, others) = add_at_once(rt, alloc, &registry, parent, child)?;
+    let left = registry.get(&mut met, 0) == Value::from_i32(2000);
+    Ok(made && left && are_all_below(alloc, &olds, &others)?)
+}
+
+#[test]
+fn two_threads_lose_no_update(rt: HostRuntime) -> Result<(), AllocError> {
+    assert!(rt; updates_are_kept(&rt, rt.alloc())?);
     Ok(())
 }
