@@ -1,5 +1,5 @@
 -- A term as a word and its parts: where a part stands in the expansion, and what is made of the expanded parts.
-use Rattle.std.specs.Prelude.{ℕ, ◌+◌, ◌<◌, ◌≤◌, ◌^◌, List, [], ◌∷◌, ◌++◌, map}
+use Rattle.std.specs.Prelude.{ℕ, ◌+◌, ◌<◌, ◌^◌, List, [], ◌∷◌, ◌++◌, map}
 use Rattle.effect_term.specs.ExpansionSize.{expansion_size_of, total_expansion_size}
 use Rattle.derived_ops.specs.declared.shape.Ends.{Ends}
 use Rattle.derived_ops.specs.declared.shape.One.{One}
