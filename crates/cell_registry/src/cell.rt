@@ -2,7 +2,7 @@
 use effect_term::Outcome;
 
 /// How far a fiber has come.
-#[derive(Clone, Copy, PartialEq, Eq, Debug)]
+#[derive(Clone, Copy)]
 pub enum Stage {
     /// It runs its program.
     Running,

@@ -6,7 +6,7 @@ use std::alloc::AllocError;
 
 /// How many numbers each band of a registry has, each from 1 to 1000, and how often the owner of a
 /// fiber may change its cell, from 1 to 1,099,511,627,775.
-#[derive(Clone, Copy, PartialEq, Eq, Debug)]
+#[derive(Clone, Copy, Debug)]
 pub struct Limits {
     /// How many fibers, the first one included.
     pub fibers: u16,

@@ -7,11 +7,15 @@
 #![tactic(auto)]
 
 #[cfg(test)]
+mod answers;
+#[cfg(test)]
 mod control_words;
 #[cfg(test)]
 mod four_threads;
 #[cfg(test)]
 mod plain_registry;
+#[cfg(test)]
+mod rows;
 #[cfg(test)]
 mod shared_registry;
 #[cfg(test)]

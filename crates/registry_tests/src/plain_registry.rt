@@ -1,94 +1,235 @@
 //! Calls of the registry for one thread.
 
-use crate::values::numbered;
-use cell_registry::{Band, CancelReply, CellError, JoinReply, Limits, Outcome, PlainRegistry};
-use effect_term::Value;
-use std::alloc::AllocError;
+ghost use Rattle.std.specs.Prelude.{◌≡◌, ◌<◌, ◌^◌, IfOk};
+ghost use Rattle.cell_registry.specs.Plain.{new_plain};
 
-/// Holds whichever allocation is refused.
-#[test]
+use crate::answers::numbered;
+use cell_registry::{
+    Band, Call, CancelReply, CellError, JoinReply, Limits, Outcome, PlainRegistry, Reply,
+};
+use effect_term::Value;
+use std::alloc::{AllocError, Global};
+
+// A call of fiber 0, and its answer.
+type Row = (Call, Result<Reply, CellError>);
+
+// The answer to a call of fiber 0 that it may make however far it has come. `None` to another.
 #[tactic(auto, unfolding(cell_registry::specs::Cells::after, cell_registry::specs::Cells::reply_of, cell_registry::specs::Cells::refusal, cell_registry::specs::Cells::IsAllowed))]
-fn want_of_memory_or_a_fresh_plain_registry(rt: HostRuntime) {
-    match PlainRegistry::new(rt.alloc(), 2, 1, 1, 10) {
-        Err(AllocError) => {}
-        Ok(mut registry) => {
-            let limits = Limits {
-                fibers: 2,
-                refs: 1,
-                deferreds: 1,
-                count: 10,
-            };
-            assert_eq!(rt; registry.limits(), limits);
-            assert_eq!(rt; registry.look(0), false);
-            assert_eq!(rt; registry.join(0, 0), JoinReply::Waits);
-            assert_eq!(rt; registry.cancel(0, 0), CancelReply::Asked);
-            assert_eq!(rt; registry.get(0, 0), Value::from_i32(0));
-            assert_eq!(rt; registry.read(0, 0), None);
-            assert_eq!(rt; registry.new_ref(0), Ok(0));
-            assert_eq!(rt; registry.new_deferred(0), Ok(0));
-            assert_eq!(rt; registry.start(0), Ok(1));
+fn answer(registry: &mut PlainRegistry, call: &Call) -> Option<Result<Reply, CellError>> {
+    let limits = registry.limits();
+    match call {
+        Call::NewRef => numbered(registry.new_ref(0)),
+        Call::NewDeferred => numbered(registry.new_deferred(0)),
+        Call::Cancel(fiber) => {
+            if *fiber >= limits.fibers {
+                return None;
+            }
+            Some(Ok(Reply::Cancel(registry.cancel(0, *fiber))))
         }
+        Call::Join(fiber) => {
+            if *fiber >= limits.fibers {
+                return None;
+            }
+            Some(Ok(Reply::Join(registry.join(0, *fiber))))
+        }
+        Call::Get(_)
+        | Call::Set(_, _)
+        | Call::Modify(_, _)
+        | Call::Complete(_, _)
+        | Call::Read(_) => { value_answer(registry, call) }
+        _ => None,
     }
 }
 
-#[test]
+// The answer to a call of fiber 0 on ref 0 or deferred 0. `None` to another.
 #[tactic(auto, unfolding(cell_registry::specs::Cells::after, cell_registry::specs::Cells::reply_of, cell_registry::specs::Cells::refusal, cell_registry::specs::Cells::IsAllowed))]
+fn value_answer(registry: &mut PlainRegistry, call: &Call) -> Option<Result<Reply, CellError>> {
+    let _ = registry.limits();
+    match call {
+        Call::Get(_) => Some(Ok(Reply::Value(registry.get(0, 0)))),
+        Call::Set(_, value) => {
+            let _ = value.get();
+            registry.set(0, 0, *value);
+            Some(Ok(Reply::Done))
+        }
+        Call::Modify(_, value) => {
+            let _ = value.get();
+            Some(Ok(Reply::Value(registry.modify(0, 0, *value))))
+        }
+        Call::Complete(_, value) => {
+            let _ = value.get();
+            Some(Ok(Reply::Completed(registry.complete(0, 0, *value))))
+        }
+        Call::Read(_) => Some(Ok(Reply::Read(registry.read(0, 0)))),
+        _ => None,
+    }
+}
+
+// Whether each of these calls has its row's answer.
+fn are_answered(registry: &mut PlainRegistry, rows: &[Row]) -> bool {
+    for (call, wanted) in rows {
+        if answer(registry, call) != Some(*wanted) {
+            return false;
+        }
+    }
+    true
+}
+
+fn two_fibers(alloc: Global, count: u64) -> Result<PlainRegistry, AllocError>
+    requires some { 0 < count }
+    requires most { count < 2 ^ 40 }
+    ensures { IfOk result (λ r. r ≡ new_plain record { fibers = 2; refs = 1; deferreds = 1; count = count }) }
+{
+    PlainRegistry::new(alloc, 2, 1, 1, count)
+}
+
+fn has_limits(registry: &PlainRegistry, wanted: Limits) -> bool {
+    let limits = registry.limits();
+    limits.fibers == wanted.fibers
+        && limits.refs == wanted.refs
+        && limits.deferreds == wanted.deferreds
+        && limits.count == wanted.count
+}
+
+fn fresh() -> [Row; 6] {
+    [
+        (Call::Join(0), Ok(Reply::Join(JoinReply::Waits))),
+        (Call::Cancel(0), Ok(Reply::Cancel(CancelReply::Asked))),
+        (Call::Get(0), Ok(Reply::Value(Value::ZERO))),
+        (Call::Read(0), Ok(Reply::Read(None))),
+        (Call::NewRef, Ok(Reply::Number(0))),
+        (Call::NewDeferred, Ok(Reply::Number(0))),
+    ]
+}
+
+#[tactic(auto, unfolding(cell_registry::specs::Cells::after, cell_registry::specs::Cells::reply_of, cell_registry::specs::Cells::refusal, cell_registry::specs::Cells::IsAllowed))]
+fn is_fresh(alloc: Global) -> Result<bool, AllocError> {
+    let mut registry = two_fibers(alloc, 10)?;
+    let limits = Limits {
+        fibers: 2,
+        refs: 1,
+        deferreds: 1,
+        count: 10,
+    };
+    let has_limits = has_limits(&registry, limits);
+    let seen = registry.look(0);
+    let started = registry.start(0) == Ok(1);
+    Ok(has_limits && !seen && started && are_answered(&mut registry, &fresh()))
+}
+
+/// Holds whichever allocation is refused.
+#[test]
+fn want_of_memory_or_a_fresh_plain_registry(rt: HostRuntime) {
+    match is_fresh(rt.alloc()) {
+        Err(AllocError) => {}
+        Ok(fresh) => assert!(rt; fresh),
+    }
+}
+
+// Starts fiber 1, asks it to cancel, and ends it. Whether each answer is the right one.
+#[tactic(auto, unfolding(cell_registry::specs::Cells::after, cell_registry::specs::Cells::reply_of, cell_registry::specs::Cells::refusal, cell_registry::specs::Cells::IsAllowed))]
+fn cancel_child(registry: &mut PlainRegistry) -> bool
+    requires { registry.old ≡ new_plain record { fibers = 2; refs = 1; deferreds = 1; count = 10 } }
+{
+    if registry.start(0) != Ok(1) {
+        return false;
+    }
+    let full = registry.start(0) == Err(CellError::Full(Band::Fibers, 2));
+    let waits = registry.join(0, 1) == JoinReply::Waits;
+    let asked = registry.cancel(0, 1) == CancelReply::Asked;
+    let already = registry.cancel(0, 1) == CancelReply::Already;
+    let seen = registry.look(1);
+    let cut = registry.cut(1) == Ok(());
+    let ended = registry.finish(1, Outcome::Canceled) == Ok(());
+    let told = registry.join(1, 1) == JoinReply::Ended(Outcome::Canceled);
+    full && waits && asked && already && seen && cut && ended && told
+}
+
+fn canceled() -> [Row; 2] {
+    [
+        (Call::Cancel(1), Ok(Reply::Cancel(CancelReply::Ended))),
+        (
+            Call::Join(1),
+            Ok(Reply::Join(JoinReply::Ended(Outcome::Canceled))),
+        ),
+    ]
+}
+
+fn child_is_canceled(alloc: Global) -> Result<bool, AllocError> {
+    let mut registry = two_fibers(alloc, 10)?;
+    Ok(cancel_child(&mut registry) && are_answered(&mut registry, &canceled()))
+}
+
+#[test]
 fn a_child_is_canceled(rt: HostRuntime) -> Result<(), AllocError> {
-    let mut registry = PlainRegistry::new(rt.alloc(), 2, 1, 1, 10)?;
-    assert_eq!(rt; registry.start(0), Ok(1));
-    assert_eq!(rt; registry.start(0), Err(CellError::Full(Band::Fibers, 2)));
-    assert_eq!(rt; registry.join(0, 1), JoinReply::Waits);
-    assert_eq!(rt; registry.cancel(0, 1), CancelReply::Asked);
-    assert_eq!(rt; registry.cancel(0, 1), CancelReply::Already);
-    assert_eq!(rt; registry.look(1), true);
-    assert_eq!(rt; registry.cut(1), Ok(()));
-    assert_eq!(rt; registry.finish(1, Outcome::Canceled), Ok(()));
-    assert_eq!(rt; registry.cancel(0, 1), CancelReply::Ended);
-    assert_eq!(rt; registry.join(0, 1), JoinReply::Ended(Outcome::Canceled));
-    assert_eq!(rt; registry.join(1, 1), JoinReply::Ended(Outcome::Canceled));
+    assert!(rt; child_is_canceled(rt.alloc())?);
     Ok(())
 }
 
-#[test]
-#[tactic(auto, unfolding(cell_registry::specs::Cells::after, cell_registry::specs::Cells::reply_of, cell_registry::specs::Cells::refusal, cell_registry::specs::Cells::IsAllowed))]
-fn refs_wrap_and_deferreds_fill_once(rt: HostRuntime) -> Result<(), AllocError> {
-    let greatest = numbered(4_611_686_018_427_387_903);
-    let least = numbered(-4_611_686_018_427_387_904);
+fn values() -> [Row; 12] {
+    let one = Value::from_i32(1);
     let five = Value::from_i32(5);
-    let mut registry = PlainRegistry::new(rt.alloc(), 1, 1, 1, 1)?;
-    assert_eq!(rt; registry.new_ref(0), Ok(0));
-    assert_eq!(rt; registry.new_ref(0), Err(CellError::Full(Band::Refs, 1)));
-    assert_eq!(rt; registry.get(0, 0), Value::from_i32(0));
-    registry.set(0, 0, greatest);
-    assert_eq!(rt; registry.modify(0, 0, Value::from_i32(1)), greatest);
-    assert_eq!(rt; registry.get(0, 0), least);
-    assert_eq!(rt; registry.new_deferred(0), Ok(0));
-    assert_eq!(rt;
-        registry.new_deferred(0),
-        Err(CellError::Full(Band::Deferreds, 1))
-    );
-    assert_eq!(rt; registry.read(0, 0), None);
-    assert_eq!(rt; registry.complete(0, 0, five), true);
-    assert_eq!(rt; registry.complete(0, 0, Value::from_i32(6)), false);
-    assert_eq!(rt; registry.read(0, 0), Some(five));
-    Ok(())
+    [
+        (Call::NewRef, Ok(Reply::Number(0))),
+        (Call::NewRef, Err(CellError::Full(Band::Refs, 1))),
+        (Call::Get(0), Ok(Reply::Value(Value::ZERO))),
+        (Call::Set(0, Value::MAX), Ok(Reply::Done)),
+        (Call::Modify(0, one), Ok(Reply::Value(Value::MAX))),
+        (Call::Get(0), Ok(Reply::Value(Value::MIN))),
+        (Call::NewDeferred, Ok(Reply::Number(0))),
+        (Call::NewDeferred, Err(CellError::Full(Band::Deferreds, 1))),
+        (Call::Read(0), Ok(Reply::Read(None))),
+        (Call::Complete(0, five), Ok(Reply::Completed(true))),
+        (Call::Complete(0, one), Ok(Reply::Completed(false))),
+        (Call::Read(0), Ok(Reply::Read(Some(five)))),
+    ]
+}
+
+fn values_are_kept(alloc: Global) -> Result<bool, AllocError> {
+    let mut registry = two_fibers(alloc, 1)?;
+    Ok(are_answered(&mut registry, &values()))
 }
 
 #[test]
+fn refs_wrap_and_deferreds_fill_once(rt: HostRuntime) -> Result<(), AllocError> {
+    assert!(rt; values_are_kept(rt.alloc())?);
+    Ok(())
+}
+
+// Uses up the changes of fiber 0, and ends fiber 1. Whether each answer is the right one.
 #[tactic(auto, unfolding(cell_registry::specs::Cells::after, cell_registry::specs::Cells::reply_of, cell_registry::specs::Cells::refusal, cell_registry::specs::Cells::IsAllowed))]
-fn an_owner_changes_its_cell_so_often(rt: HostRuntime) -> Result<(), AllocError> {
-    let mut registry = PlainRegistry::new(rt.alloc(), 2, 1, 1, 3)?;
-    assert_eq!(rt; registry.mask(0), Ok(()));
-    assert_eq!(rt; registry.start(0), Ok(1));
-    assert_eq!(rt; registry.mask(0), Ok(()));
-    assert_eq!(rt; registry.unmask(0), Ok(()));
-    assert_eq!(rt; registry.unmask(0), Err(CellError::Spent(3)));
-    assert_eq!(rt; registry.mask(0), Err(CellError::Spent(3)));
-    assert_eq!(rt; registry.cancel(1, 0), CancelReply::Asked);
-    assert_eq!(rt; registry.look(1), false);
-    let given = Outcome::Succeeded(Value::from_i32(-1));
-    assert_eq!(rt; registry.finish(1, given), Ok(()));
+fn change_often(registry: &mut PlainRegistry) -> bool
+    requires { registry.old ≡ new_plain record { fibers = 2; refs = 1; deferreds = 1; count = 3 } }
+{
+    let Ok(()) = registry.mask(0) else {
+        return false;
+    };
+    if registry.start(0) != Ok(1) {
+        return false;
+    }
+    let Ok(()) = registry.mask(0) else {
+        return false;
+    };
+    let Ok(()) = registry.unmask(0) else {
+        return false;
+    };
+    let left = registry.unmask(0) == Err(CellError::Spent(3));
+    let entered = registry.mask(0) == Err(CellError::Spent(3));
+    let asked = registry.cancel(1, 0) == CancelReply::Asked;
+    let seen = registry.look(1);
+    let ended = registry.finish(1, Outcome::Succeeded(Value::from_i32(-1))) == Ok(());
+    left && entered && asked && !seen && ended
+}
+
+fn changes_run_out(alloc: Global) -> Result<bool, AllocError> {
     let told = Outcome::Succeeded(Value::from_i32(-1));
-    assert_eq!(rt; registry.join(0, 1), JoinReply::Ended(told));
+    let mut registry = two_fibers(alloc, 3)?;
+    let rows = [(Call::Join(1), Ok(Reply::Join(JoinReply::Ended(told))))];
+    Ok(change_often(&mut registry) && are_answered(&mut registry, &rows))
+}
+
+#[test]
+fn an_owner_changes_its_cell_so_often(rt: HostRuntime) -> Result<(), AllocError> {
+    assert!(rt; changes_run_out(rt.alloc())?);
     Ok(())
 }

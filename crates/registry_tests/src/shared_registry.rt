@@ -1,206 +1,294 @@
 //! Calls of the lock-free registry on one thread.
 
-ghost use Rattle.std.specs.Prelude.{◌≡◌, IfOk, IfSome};
-ghost use Rattle.cell_registry.specs.Passes.{IsOf};
-
-use crate::values::numbered;
-use cell_registry::{Band, CancelReply, CellError, JoinReply, Outcome, Pass, Registry, Stage};
+use crate::rows::{Row, are_answered, two_fibers, word_after};
+use cell_registry::{
+    Band, Call, CancelReply, CellError, JoinReply, Outcome, Pass, Registry, Reply, Stage,
+};
 use effect_term::Value;
 use std::alloc::{AllocError, Global};
+
+// What a new pass tells of its fiber.
+fn is_new(pass: &Pass, number: u16) -> bool {
+    pass.number() == number
+        && matches!(pass.phase(), Stage::Running)
+        && pass.depth() == 0
+        && pass.count() == 0
+        && !pass.saw()
+}
+
+fn is_fresh(alloc: Global) -> Result<bool, AllocError> {
+    let (registry, pass) = Registry::new(alloc, 2, 1, 1, 10)?;
+    Ok(is_new(&pass, 0) && registry.last_word(pass, 0) == 0)
+}
 
 /// Holds whichever allocation is refused.
 #[test]
 fn want_of_memory_or_a_fresh_registry(rt: HostRuntime) {
-    match Registry::new(rt.alloc(), 2, 1, 1, 10) {
+    match is_fresh(rt.alloc()) {
         Err(AllocError) => {}
-        Ok((registry, pass)) => {
-            assert_eq!(rt; pass.number(), 0);
-            assert_eq!(rt; pass.phase(), Stage::Running);
-            assert_eq!(rt; pass.depth(), 0);
-            assert_eq!(rt; pass.count(), 0);
-            assert_eq!(rt; pass.saw(), false);
-            assert_eq!(rt; registry.last_word(pass, 0), 0);
-        }
+        Ok(fresh) => assert!(rt; fresh),
     }
+}
+
+fn bands() -> [Row; 9] {
+    [
+        (0, Call::Start, Err(CellError::Full(Band::Fibers, 2))),
+        (0, Call::NewRef, Ok(Reply::Number(0))),
+        (0, Call::NewRef, Err(CellError::Full(Band::Refs, 1))),
+        (0, Call::NewDeferred, Ok(Reply::Number(0))),
+        (
+            0,
+            Call::NewDeferred,
+            Err(CellError::Full(Band::Deferreds, 1)),
+        ),
+        (0, Call::Cancel(1), Ok(Reply::Cancel(CancelReply::Asked))),
+        (0, Call::Cancel(1), Ok(Reply::Cancel(CancelReply::Already))),
+        (0, Call::Join(1), Ok(Reply::Join(JoinReply::Waits))),
+        (1, Call::Look, Ok(Reply::Seen(true))),
+    ]
+}
+
+// The child's number is 1, and its look is its own.
+fn bands_are_given(alloc: Global) -> Result<bool, AllocError> {
+    let Some((registry, mut pass, mut child)) = two_fibers(alloc, 10)? else {
+        return Ok(false);
+    };
+    Ok(
+        is_new(&child, 1)
+            && are_answered(&registry, &mut pass, &mut child, &bands())
+            && child.saw()
+            && !pass.saw(),
+    )
 }
 
 #[test]
 fn each_band_gives_its_numbers_once(rt: HostRuntime) -> Result<(), AllocError> {
-    let (registry, mut pass) = Registry::new(rt.alloc(), 2, 1, 1, 10)?;
-    let Ok(mut child) = registry.start(&mut pass) else {
-        panic!(rt; "no fiber was started");
-    };
-    assert_eq!(rt; child.number(), 1);
-    assert_eq!(rt;
-        registry.start(&mut pass).err(),
-        Some(CellError::Full(Band::Fibers, 2))
-    );
-    assert_eq!(rt; registry.new_ref(&mut pass), Ok(0));
-    assert_eq!(rt;
-        registry.new_ref(&mut pass),
-        Err(CellError::Full(Band::Refs, 1))
-    );
-    assert_eq!(rt; registry.new_deferred(&mut pass), Ok(0));
-    assert_eq!(rt;
-        registry.new_deferred(&mut pass),
-        Err(CellError::Full(Band::Deferreds, 1))
-    );
-    assert_eq!(rt; registry.cancel(&mut pass, 1), CancelReply::Asked);
-    assert_eq!(rt; registry.cancel(&mut pass, 1), CancelReply::Already);
-    assert_eq!(rt; registry.join(&mut pass, 1), JoinReply::Waits);
-    assert_eq!(rt; registry.look(&mut child), true);
-    assert_eq!(rt; child.saw(), true);
-    assert_eq!(rt; pass.saw(), false);
+    assert!(rt; bands_are_given(rt.alloc())?);
     Ok(())
+}
+
+fn born_are_counted(alloc: Global) -> Result<bool, AllocError> {
+    let (registry, mut pass) = Registry::new(alloc, 2, 1, 1, 10)?;
+    let before = registry.born(&mut pass);
+    let Ok(mut child) = registry.start(&mut pass) else {
+        return Ok(false);
+    };
+    Ok(before == 1 && registry.born(&mut pass) == 2 && registry.born(&mut child) == 2)
 }
 
 #[test]
 fn the_born_fibers_are_counted(rt: HostRuntime) -> Result<(), AllocError> {
-    let (registry, mut pass) = Registry::new(rt.alloc(), 2, 1, 1, 10)?;
-    assert_eq!(rt; registry.born(&mut pass), 1);
-    let Ok(mut child) = registry.start(&mut pass) else {
-        panic!(rt; "no fiber was started");
-    };
-    assert_eq!(rt; registry.born(&mut pass), 2);
-    assert_eq!(rt; registry.born(&mut child), 2);
+    assert!(rt; born_are_counted(rt.alloc())?);
     Ok(())
+}
+
+fn cut() -> [Row; 3] {
+    [
+        (0, Call::Cancel(1), Ok(Reply::Cancel(CancelReply::Asked))),
+        (1, Call::Look, Ok(Reply::Seen(true))),
+        (1, Call::Cut, Ok(Reply::Done)),
+    ]
 }
 
 #[test]
 fn a_cut_leaves_one_word(rt: HostRuntime) -> Result<(), AllocError> {
-    let (registry, mut pass) = Registry::new(rt.alloc(), 2, 1, 1, 10)?;
-    let Ok(mut child) = registry.start(&mut pass) else {
-        panic!(rt; "no fiber was started");
-    };
-    assert_eq!(rt; registry.cancel(&mut pass, 1), CancelReply::Asked);
-    if !registry.look(&mut child) {
-        panic!(rt; "the request was not seen");
-    }
-    assert_eq!(rt; registry.cut(&mut child), Ok(()));
-    assert_eq!(rt; registry.last_word(child, 1), 4_786_174_115_708_929);
+    let word = word_after(rt.alloc(), 10, &cut(), 1)?;
+    assert_eq!(rt; word, Some(4_786_174_115_708_929));
     Ok(())
 }
 
-// A registry, fiber 0's pass, and that of a fiber that was canceled and has ended, if no call was
-// refused.
-fn canceled_child(alloc: Global) -> Result<Option<(Registry, Pass, Pass)>, AllocError>
-    ensures { IfOk result (λ found. IfSome found (λ r. IsOf r.0 r.1 × IsOf r.0 r.2 × (r.0.limits.fibers ≡ 2))) }
-{
-    let (registry, mut pass) = Registry::new(alloc, 2, 1, 1, 10)?;
-    let Ok(mut child) = registry.start(&mut pass) else {
-        return Ok(None);
+fn canceled() -> [Row; 4] {
+    [
+        (0, Call::Cancel(1), Ok(Reply::Cancel(CancelReply::Asked))),
+        (1, Call::Look, Ok(Reply::Seen(true))),
+        (1, Call::Cut, Ok(Reply::Done)),
+        (1, Call::Finish(Outcome::Canceled), Ok(Reply::Done)),
+    ]
+}
+
+// The pass of a canceled fiber tells its end, the mask of its cut, and two changes.
+fn pass_tells_the_end(alloc: Global) -> Result<bool, AllocError> {
+    let Some((registry, mut pass, mut child)) = two_fibers(alloc, 10)? else {
+        return Ok(false);
     };
-    registry.cancel(&mut pass, 1);
-    if !registry.look(&mut child) {
-        return Ok(None);
-    }
-    let Ok(()) = registry.cut(&mut child) else {
-        return Ok(None);
-    };
-    match registry.finish(&mut child, Outcome::Canceled) {
-        Ok(()) => Ok(Some((registry, pass, child))),
-        Err(_) => Ok(None),
-    }
+    Ok(
+        are_answered(&registry, &mut pass, &mut child, &canceled())
+            && matches!(child.phase(), Stage::Ended(Outcome::Canceled))
+            && child.depth() == 1
+            && child.count() == 2,
+    )
 }
 
 #[test]
 fn a_canceled_fiber_ends_in_one_word(rt: HostRuntime) -> Result<(), AllocError> {
-    let Some((registry, _, child)) = canceled_child(rt.alloc())? else {
-        panic!(rt; "a call was refused");
-    };
-    assert_eq!(rt; child.phase(), Stage::Ended(Outcome::Canceled));
-    assert_eq!(rt; child.depth(), 1);
-    assert_eq!(rt; child.count(), 2);
-    assert_eq!(rt; registry.last_word(child, 1), 8_445_348_812_947_458);
+    assert!(rt; pass_tells_the_end(rt.alloc())?);
+    let word = word_after(rt.alloc(), 10, &canceled(), 1)?;
+    assert_eq!(rt; word, Some(8_445_348_812_947_458));
     Ok(())
+}
+
+fn told() -> [Row; 7] {
+    [
+        (0, Call::Cancel(1), Ok(Reply::Cancel(CancelReply::Asked))),
+        (1, Call::Look, Ok(Reply::Seen(true))),
+        (1, Call::Cut, Ok(Reply::Done)),
+        (1, Call::Finish(Outcome::Canceled), Ok(Reply::Done)),
+        (0, Call::Cancel(1), Ok(Reply::Cancel(CancelReply::Ended))),
+        (
+            0,
+            Call::Join(1),
+            Ok(Reply::Join(JoinReply::Ended(Outcome::Canceled))),
+        ),
+        (
+            1,
+            Call::Join(1),
+            Ok(Reply::Join(JoinReply::Ended(Outcome::Canceled))),
+        ),
+    ]
+}
+
+// A pass that has met the canceled fiber's is fiber 0's, and its join is told the end.
+fn met_is_told_the_end(alloc: Global) -> Result<bool, AllocError> {
+    let Some((registry, mut pass, mut child)) = two_fibers(alloc, 10)? else {
+        return Ok(false);
+    };
+    let told = are_answered(&registry, &mut pass, &mut child, &told());
+    let mut met = registry.meet(pass, child);
+    let ended = JoinReply::Ended(Outcome::Canceled);
+    Ok(told && met.number() == 0 && registry.join(&mut met, 1) == ended)
 }
 
 #[test]
 fn the_end_of_a_canceled_fiber_is_told_to_all(rt: HostRuntime) -> Result<(), AllocError> {
-    let Some((registry, mut pass, mut child)) = canceled_child(rt.alloc())? else {
-        panic!(rt; "a call was refused");
-    };
-    let ended = JoinReply::Ended(Outcome::Canceled);
-    assert_eq!(rt; registry.cancel(&mut pass, 1), CancelReply::Ended);
-    assert_eq!(rt; registry.join(&mut pass, 1), ended);
-    assert_eq!(rt; registry.join(&mut child, 1), ended);
-    let mut met = registry.meet(pass, child);
-    assert_eq!(rt; met.number(), 0);
-    assert_eq!(rt; registry.join(&mut met, 1), ended);
+    assert!(rt; met_is_told_the_end(rt.alloc())?);
     // The joins have noted that somebody waits.
-    assert_eq!(rt;
-        registry.last_word(met, 1),
-        8_445_348_812_947_458 + (1 << 53)
-    );
+    let word = word_after(rt.alloc(), 10, &told(), 1)?;
+    assert_eq!(rt; word, Some(8_445_348_812_947_458 + (1 << 53)));
     Ok(())
+}
+
+fn spent() -> [Row; 4] {
+    [
+        (0, Call::Mask, Ok(Reply::Done)),
+        (0, Call::Unmask, Ok(Reply::Done)),
+        (0, Call::Mask, Err(CellError::Spent(2))),
+        (0, Call::Cancel(0), Ok(Reply::Cancel(CancelReply::Asked))),
+    ]
 }
 
 #[test]
 fn a_count_runs_out_at_the_limit(rt: HostRuntime) -> Result<(), AllocError> {
-    let (registry, mut pass) = Registry::new(rt.alloc(), 1, 1, 1, 2)?;
-    let Ok(()) = registry.mask(&mut pass) else {
-        panic!(rt; "the first mask was refused");
-    };
-    let Ok(()) = registry.unmask(&mut pass) else {
-        panic!(rt; "the end of the mask was refused");
-    };
-    assert_eq!(rt; registry.mask(&mut pass), Err(CellError::Spent(2)));
-    assert_eq!(rt; registry.cancel(&mut pass, 0), CancelReply::Asked);
-    assert_eq!(rt; registry.last_word(pass, 0), 0x10_0000_0000_0002);
+    let word = word_after(rt.alloc(), 2, &spent(), 0)?;
+    assert_eq!(rt; word, Some(0x10_0000_0000_0002));
     Ok(())
+}
+
+fn values() -> [Row; 8] {
+    let one = Value::from_i32(1);
+    [
+        (0, Call::Get(0), Ok(Reply::Value(Value::ZERO))),
+        (0, Call::Set(0, Value::MAX), Ok(Reply::Done)),
+        (0, Call::Modify(0, one), Ok(Reply::Value(Value::MAX))),
+        (0, Call::Get(0), Ok(Reply::Value(Value::MIN))),
+        (0, Call::Read(0), Ok(Reply::Read(None))),
+        (0, Call::Complete(0, Value::MIN), Ok(Reply::Completed(true))),
+        (
+            0,
+            Call::Complete(0, Value::MAX),
+            Ok(Reply::Completed(false)),
+        ),
+        (0, Call::Read(0), Ok(Reply::Read(Some(Value::MIN)))),
+    ]
 }
 
 #[test]
 fn refs_wrap_and_deferreds_fill_once(rt: HostRuntime) -> Result<(), AllocError> {
-    let greatest = numbered(4_611_686_018_427_387_903);
-    let least = numbered(-4_611_686_018_427_387_904);
-    let (registry, mut pass) = Registry::new(rt.alloc(), 1, 1, 1, 1)?;
-    assert_eq!(rt; registry.get(&mut pass, 0), Value::from_i32(0));
-    registry.set(&mut pass, 0, greatest);
-    assert_eq!(rt; registry.modify(&mut pass, 0, Value::from_i32(1)), greatest);
-    assert_eq!(rt; registry.get(&mut pass, 0), least);
-    assert_eq!(rt; registry.read(&mut pass, 0), None);
-    assert_eq!(rt; registry.complete(&mut pass, 0, least), true);
-    assert_eq!(rt; registry.complete(&mut pass, 0, greatest), false);
-    assert_eq!(rt; registry.read(&mut pass, 0), Some(least));
+    assert_eq!(rt; word_after(rt.alloc(), 1, &values(), 0)?, Some(0));
     Ok(())
 }
 
-#[test]
-fn an_end_with_either_extreme_is_told_to_joins(rt: HostRuntime) -> Result<(), AllocError> {
-    let (registry, mut pass) = Registry::new(rt.alloc(), 2, 1, 1, 1_099_511_627_775)?;
-    let Ok(mut child) = registry.start(&mut pass) else {
-        panic!(rt; "no fiber was started");
-    };
-    assert_eq!(rt; registry.join(&mut pass, 1), JoinReply::Waits);
-    let least = Outcome::Errored(numbered(-4_611_686_018_427_387_904));
-    assert_eq!(rt; registry.finish(&mut child, least), Ok(()));
-    let told = Outcome::Errored(numbered(-4_611_686_018_427_387_904));
-    assert_eq!(rt; registry.join(&mut pass, 1), JoinReply::Ended(told));
-    let greatest = Outcome::Succeeded(numbered(4_611_686_018_427_387_903));
-    assert_eq!(rt; registry.finish(&mut pass, greatest), Ok(()));
-    let told = Outcome::Succeeded(numbered(4_611_686_018_427_387_903));
-    assert_eq!(rt; registry.join(&mut child, 0), JoinReply::Ended(told));
-    Ok(())
-}
-
-#[test]
-fn the_value_of_an_end_has_a_word_of_its_own(rt: HostRuntime) -> Result<(), AllocError> {
-    let (registry, mut pass) = Registry::new(rt.alloc(), 2, 1, 1, 1)?;
-    let outcome = Outcome::Succeeded(Value::from_i32(-1));
-    assert_eq!(rt; registry.finish(&mut pass, outcome), Ok(()));
-    assert_eq!(rt; registry.last_word(pass, 0), 0x6_0000_0000_0001);
-    Ok(())
+// The sum of -1 and 1 carries into the highest bit of a ref's word, and the word of a completed deferred
+// has that bit.
+fn highest_bits() -> [Row; 6] {
+    let minus_one = Value::from_i32(-1);
+    let five = Value::from_i32(5);
+    [
+        (0, Call::Set(0, minus_one), Ok(Reply::Done)),
+        (
+            0,
+            Call::Modify(0, Value::from_i32(1)),
+            Ok(Reply::Value(minus_one)),
+        ),
+        (0, Call::Get(0), Ok(Reply::Value(Value::ZERO))),
+        (0, Call::Read(0), Ok(Reply::Read(None))),
+        (1, Call::Complete(0, five), Ok(Reply::Completed(true))),
+        (1, Call::Read(0), Ok(Reply::Read(Some(five)))),
+    ]
 }
 
 #[test]
 fn the_highest_bit_of_a_word_is_no_values(rt: HostRuntime) -> Result<(), AllocError> {
-    let (registry, mut pass) = Registry::new(rt.alloc(), 1, 1, 1, 1)?;
-    registry.set(&mut pass, 0, Value::from_i32(-1));
-    assert_eq!(rt;
-        registry.modify(&mut pass, 0, Value::from_i32(1)),
-        Value::from_i32(-1)
-    );
-    assert_eq!(rt; registry.get(&mut pass, 0), Value::from_i32(0));
+    assert_eq!(rt; word_after(rt.alloc(), 1, &highest_bits(), 1)?, Some(0));
+    Ok(())
+}
+
+fn extremes() -> [Row; 5] {
+    [
+        (0, Call::Join(1), Ok(Reply::Join(JoinReply::Waits))),
+        (
+            1,
+            Call::Finish(Outcome::Errored(Value::MIN)),
+            Ok(Reply::Done),
+        ),
+        (
+            0,
+            Call::Join(1),
+            Ok(Reply::Join(JoinReply::Ended(Outcome::Errored(Value::MIN)))),
+        ),
+        (
+            0,
+            Call::Finish(Outcome::Succeeded(Value::MAX)),
+            Ok(Reply::Done),
+        ),
+        (
+            1,
+            Call::Join(0),
+            Ok(Reply::Join(JoinReply::Ended(Outcome::Succeeded(Value::MAX)))),
+        ),
+    ]
+}
+
+#[test]
+fn an_end_with_either_extreme_is_told_to_joins(rt: HostRuntime) -> Result<(), AllocError> {
+    let word = word_after(rt.alloc(), 1_099_511_627_775, &extremes(), 1)?;
+    assert_eq!(rt; word, Some(0x2a_0000_0000_0001));
+    Ok(())
+}
+
+// The end of fiber 0 with -1, and what fiber 1 is told then.
+fn own_value() -> [Row; 3] {
+    let minus_one = Value::from_i32(-1);
+    [
+        (
+            0,
+            Call::Finish(Outcome::Succeeded(minus_one)),
+            Ok(Reply::Done),
+        ),
+        (
+            1,
+            Call::Join(0),
+            Ok(Reply::Join(JoinReply::Ended(Outcome::Succeeded(minus_one)))),
+        ),
+        (1, Call::Join(1), Ok(Reply::Join(JoinReply::Waits))),
+    ]
+}
+
+/// The value stands in no fiber's word, and a join tells it.
+#[test]
+fn the_value_of_an_end_has_a_word_of_its_own(rt: HostRuntime) -> Result<(), AllocError> {
+    let ended = word_after(rt.alloc(), 1, &own_value()[..1], 0)?;
+    assert_eq!(rt; ended, Some(0x6_0000_0000_0001));
+    let other = word_after(rt.alloc(), 1, &own_value(), 1)?;
+    assert_eq!(rt; other, Some(1 << 53));
     Ok(())
 }
