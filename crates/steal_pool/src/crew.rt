@@ -1,5 +1,5 @@
 //! The workers before they start.
-ghost use Rattle.std.specs.Prelude.{◌<◌};
+ghost use Rattle.std.specs.Prelude.{◌≡◌, ◌<◌};
 ghost use Rattle.wait_bay.specs.Bays.{IsSeatOf};
 
 use crate::berth::Berth;
@@ -45,10 +45,8 @@ impl<'q, 'b, 'a> Crew<'q, 'b, 'a> {
                 victims,
                 inlet: InletEnd::of(inlet),
             };
-            let berth = Berth::new(bay, bay.split(&mut seat));
-            let (worker, bunk) = Worker::new(alloc, number, queues, berth)?;
-            hired.push(worker)?;
-            bunks.push(bunk)?;
+            let one = hired_one(alloc, bay, &mut seat, number, queues)?;
+            add(&mut hired, &mut bunks, one)?;
             number = number.wrapping_add(1);
         }
         Ok(Crew {
@@ -56,6 +54,34 @@ impl<'q, 'b, 'a> Crew<'q, 'b, 'a> {
             idle: Idle::new(bunks),
         })
     }
+}
+
+// A worker of this bay with these queues, and its bunk.
+fn hired_one<'q, 'b, 'a>(
+    alloc: Global,
+    bay: &'b Bay<'a>,
+    seat: &mut BaySeat<'a>,
+    number: u8,
+    queues: Queues<'q>,
+) -> Result<(Worker<'q, 'b, 'a>, Bunk), AllocError>
+    requires here { IsSeatOf bay.now seat.old }
+    requires some { 0 < bay.now.fibers }
+    ensures { seat.new ≡ seat.old }
+{
+    let berth = Berth::new(bay, bay.split(seat));
+    Worker::new(alloc, number, queues, berth)
+}
+
+// One worker more, and where it sleeps.
+fn add<'q, 'b, 'a>(
+    workers: &mut Vec<Worker<'q, 'b, 'a>>,
+    bunks: &mut Vec<Bunk>,
+    one: (Worker<'q, 'b, 'a>, Bunk),
+) -> Result<(), AllocError> {
+    let (worker, bunk) = one;
+    workers.push(worker)?;
+    bunks.push(bunk)?;
+    Ok(())
 }
 
 // So many empty queues.

@@ -7,7 +7,7 @@ pub trait Gate: Sync {
 }
 
 /// A gate that lets all pass.
-#[derive(Clone, Copy, Debug)]
+#[derive(Clone, Copy)]
 pub struct OpenGate;
 
 impl Gate for OpenGate {

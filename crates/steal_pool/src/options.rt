@@ -2,7 +2,7 @@
 ghost use Rattle.std.specs.Prelude.{◌≡◌};
 
 /// How a run goes. [`Options::new`] has the values by default.
-#[derive(Clone, Copy, Debug, PartialEq, Eq)]
+#[derive(Clone, Copy, Debug)]
 pub struct Options {
     /// How many workers there are, each on a thread of its own: from 1 to 16, by default 4.
     pub workers: u8,

@@ -2,6 +2,7 @@
 ghost use Rattle.std.specs.Prelude.{◌≡◌, ◌<◌, All, IfErr, IfOk};
 ghost use Rattle.once_cell.specs.Once.{cell_name};
 ghost use Rattle.cell_registry.specs.Cells.{AreLimits};
+ghost use Rattle.cell_registry.specs.Passes.{first_pass};
 ghost use Rattle.derived_ops.specs.Expansion.{code_of};
 ghost use Rattle.derived_ops.specs.Reading.{source_of};
 ghost use Rattle.outcome_trace.specs.Stands.{IsOfSomeSchedule};
@@ -17,8 +18,8 @@ use crate::inlet::{InletEnd, empty_inlet};
 use crate::laws;
 use crate::options::Options;
 use crate::worker::{Shared, Worker};
-use cell_registry::{Registry, RunError};
-use derived_ops::expand;
+use cell_registry::{Pass, Registry, RunError};
+use derived_ops::{Code, expand};
 use effect_term::Program;
 use fiber_poll::first;
 use once_cell::race::OnceBox;
@@ -59,7 +60,7 @@ pub fn run<R: Threads + Wait + Sync, G: Gate>(
     }
 }
 
-// The registry and the bay of a run, and what the workers leave of it.
+// The registry of a run, and what the workers leave of it.
 fn attempt<R: Threads + Wait + Sync, G: Gate>(
     rt: &R,
     alloc: Global,
@@ -82,19 +83,35 @@ fn attempt<R: Threads + Wait + Sync, G: Gate>(
     } = options;
     let code = expand(alloc, program)?;
     let (registry, pass) = Registry::new(alloc, fibers, refs, deferreds, count)?;
-    let task = first(alloc, &registry, pass, &code, options.moves)?;
-    let named = Some((&registry, &code));
-    let (bay, mut seat) = Bay::new(alloc, fibers, deferreds, named)?;
+    of_registry(rt, alloc, &registry, pass, &code, options, gate)
+}
+
+// The bay of a run, and what the workers leave of it.
+fn of_registry<R: Threads + Wait + Sync, G: Gate>(
+    rt: &R,
+    alloc: Global,
+    registry: &Registry,
+    pass: Pass,
+    code: &Code,
+    options: Options,
+    gate: &G,
+) -> Result<Report, RunError>
+    requires pass { pass ≡ first_pass registry.now }
+    requires some { 0 < options.fibers }
+    requires budget { 1 < options.budget }
+    ensures schedule { IfOk result (λ report. IsOfSomeSchedule code.now registry.now.limits report) }
+    ensures lawful { IfOk result (λ report. All IsLawful report.fibers) }
+{
+    let task = first(alloc, registry, pass, code, options.moves)?;
+    let named = Some((registry, code));
+    let (bay, mut seat) = Bay::new(alloc, options.fibers, options.deferreds, named)?;
     if bay.put(rt, &mut seat, 0, task, true).is_err() {
         return Err(RunError::Lost(0));
     }
-    match drive(rt, alloc, &bay, seat, options, gate)? {
-        Some(fault) => Err(fault),
-        None => {
-            let tasks = bay.empty()?;
-            gather(alloc, &registry, &code, tasks)
-        }
+    if let Some(fault) = drive(rt, alloc, &bay, seat, options, gate)? {
+        return Err(fault);
     }
+    gather(alloc, registry, code, bay.empty()?)
 }
 
 // Has workers run the tasks of a bay from fiber 0 on, and answers the first fault, if there was one.

@@ -91,28 +91,44 @@ impl<'g, 'f, G: Gate, C: FaultCell> Shared<'g, 'f, G, C> {
         worker: Worker<'q, 'b, 'a>,
     ) -> Learned<C> {
         let Worker {
-            number: worker,
+            number,
             mut queues,
             mut berth,
             parker,
-            mut room,
+            room,
         } = worker;
+        match self.serve_all(rt, number, &mut queues, &mut berth, &parker) {
+            Ok(()) => self.first_fault.learned(None),
+            Err(fault) => self.tell(room, fault),
+        }
+    }
+
+    // Serves one number after another until the run is over.
+    fn serve_all<'b, 'a, R: Wait>(
+        &self,
+        rt: &R,
+        worker: u8,
+        queues: &mut Queues<'_>,
+        berth: &mut Berth<'b, 'a>,
+        parker: &Parker,
+    ) -> Result<(), RunError> {
         let mut next = None;
         for _ in rt.forever() {
-            let Some(number) = self.next(rt, worker, next, &mut queues, &parker) else {
-                break;
+            let Some(number) = self.next(rt, worker, next, queues, parker) else {
+                return Ok(());
             };
-            match self.serve(rt, worker, &mut queues, &mut berth, number) {
-                Ok(following) => next = following,
-                Err(fault) => {
-                    *room = fault;
-                    let learned = self.first_fault.learned(Some(room));
-                    self.idle.wake_all();
-                    return learned;
-                }
-            }
+            next = self.serve(rt, worker, queues, berth, number)?;
         }
-        self.first_fault.learned(None)
+        unreachable!()
+    }
+
+    // Tells of a fault, for which there is room, and that the run is over.
+    fn tell(&self, room: Box<RunError>, fault: RunError) -> Learned<C> {
+        let mut room = room;
+        *room = fault;
+        let learned = self.first_fault.learned(Some(room));
+        self.idle.wake_all();
+        learned
     }
 
     // The number to serve next: the one that is in the hand, the first of the worker's own queue, or
