@@ -10,8 +10,7 @@ use cell_registry::{Pass, Registry};
 use derived_ops::Code;
 use effect_term::{Outcome, Value};
 use fiber_poll::{FiberTask, Topic, first};
-use std::alloc::{AllocError, AllocGlobal, Global};
-use std::process::Abort;
+use std::alloc::{AllocError, Global};
 use std::sync::Wait;
 use std::test::Fail;
 use wait_bay::{Bay, BaySeat, PutError, PutFault};
@@ -68,65 +67,39 @@ fn puts<'a>(
     }
 }
 
-// Why the task of fiber 1 is refused, and the task; none where it is taken in.
-fn refused<'a>(
+// Whether a task of fiber 1 is taken in, and not in another slot.
+fn takes_one<'a>(rt: &impl Wait, bay: &Bay<'a>, seat: &mut BaySeat<'a>, task: FiberTask<'a>) -> bool
+    requires here { IsSeatOf bay.now seat.old }
+    requires three { 2 < bay.now.fibers }
+    requires nameless { bay.now.named ≡ None }
+    ensures { seat.new ≡ seat.old }
+{
+    match bay.put(rt, seat, 2, task, true) {
+        Ok(_) => false,
+        Err(PutFault { task, error }) => {
+            let queued = puts(rt, bay, seat, task, false);
+            (error, queued) == (PutError::WrongSlot(2), Some(false))
+        }
+    }
+}
+
+// Whether no second task is taken in.
+fn takes_no_other<'a>(
     rt: &impl Wait,
     bay: &Bay<'a>,
     seat: &mut BaySeat<'a>,
-    slot: u16,
-    task: FiberTask<'a>,
-) -> Option<(PutError, FiberTask<'a>)>
-    requires here { IsSeatOf bay.now seat.old }
-    requires within { slot < bay.now.fibers }
-    requires nameless { bay.now.named ≡ None }
-    ensures { seat.new ≡ seat.old }
-{
-    match bay.put(rt, seat, slot, task, true) {
-        Ok(_) => None,
-        Err(PutFault { task, error }) => Some((error, task)),
-    }
-}
-
-// Takes in one task of fiber 1, and not in another slot.
-fn takes_one<'a, R: Abort + Wait>(
-    rt: &R,
-    bay: &Bay<'a>,
-    seat: &mut BaySeat<'a>,
-    task: FiberTask<'a>,
-)
-    requires here { IsSeatOf bay.now seat.old }
-    requires three { 2 < bay.now.fibers }
-    requires nameless { bay.now.named ≡ None }
-    ensures { seat.new ≡ seat.old }
-{
-    match refused(rt, bay, seat, 2, task) {
-        Some((error, task)) => {
-            assert_eq!(rt; error, PutError::WrongSlot(2));
-            assert_eq!(rt; puts(rt, bay, seat, task, false), Some(false));
-        }
-        None => panic!(rt; "the task was taken in"),
-    }
-}
-
-// Takes in no second task.
-fn takes_no_other<'a, R: Abort + Wait>(
-    rt: &R,
-    bay: &Bay<'a>,
-    seat: &mut BaySeat<'a>,
     other: FiberTask<'a>,
-)
+) -> bool
     requires here { IsSeatOf bay.now seat.old }
-    requires three { 2 < bay.now.fibers }
+    requires two { 1 < bay.now.fibers }
     requires nameless { bay.now.named ≡ None }
     ensures { seat.new ≡ seat.old }
 {
-    match refused(rt, bay, seat, 1, other) {
-        Some((error, other)) => {
-            assert_eq!(rt; error, PutError::Occupied(1));
-            assert_eq!(rt; other.number(), 1);
-            assert_eq!(rt; other.outcome(), None);
+    match bay.put(rt, seat, 1, other, true) {
+        Ok(_) => false,
+        Err(PutFault { task, error }) => {
+            (error, task.number(), task.outcome()) == (PutError::Occupied(1), 1, None)
         }
-        None => panic!(rt; "the task was taken in"),
     }
 }
 
@@ -147,29 +120,31 @@ fn taken_outcome<'a>(
     }
 }
 
-// Gives the task of fiber 1, which has ended, once.
-fn gives_one<'a, R: Abort + Wait>(rt: &R, bay: &Bay<'a>, seat: &mut BaySeat<'a>)
+// Whether the task of fiber 1, which has ended, is given once.
+fn gives_one<'a>(rt: &impl Wait, bay: &Bay<'a>, seat: &mut BaySeat<'a>) -> bool
     requires here { IsSeatOf bay.now seat.old }
     requires three { 2 < bay.now.fibers }
 {
-    assert_eq!(rt; bay.wake(rt, 1), true);
+    let woken = bay.wake(rt, 1);
+    let first = taken_outcome(rt, bay, seat, 1);
+    let second = taken_outcome(rt, bay, seat, 1);
+    let other = taken_outcome(rt, bay, seat, 2);
     let ended = Some(Some(Outcome::Succeeded(Value::ZERO)));
-    assert_eq!(rt; taken_outcome(rt, bay, seat, 1), ended);
-    assert_eq!(rt; taken_outcome(rt, bay, seat, 1), None);
-    assert_eq!(rt; taken_outcome(rt, bay, seat, 2), None);
+    (woken, first, second, other) == (true, ended, None, None)
 }
 
-// A bay for three fibers, into which these tasks of fiber 1 are put.
-fn holds_one<'a, R: Abort + AllocGlobal + Wait>(
-    rt: &R,
+// Whether a bay for three fibers holds the first of these tasks of fiber 1.
+fn holds_one<'a>(
+    alloc: Global,
+    rt: &impl Wait,
     task: FiberTask<'a>,
     other: FiberTask<'a>,
-) -> Result<(), AllocError> {
-    let (bay, mut seat) = Bay::new(rt.alloc(), 3, 1, None)?;
-    takes_one(rt, &bay, &mut seat, task);
-    takes_no_other(rt, &bay, &mut seat, other);
-    gives_one(rt, &bay, &mut seat);
-    Ok(())
+) -> Result<bool, AllocError> {
+    let (bay, mut seat) = Bay::new(alloc, 3, 1, None)?;
+    let takes = takes_one(rt, &bay, &mut seat, task);
+    let refuses = takes_no_other(rt, &bay, &mut seat, other);
+    let gives = gives_one(rt, &bay, &mut seat);
+    Ok(takes && refuses && gives)
 }
 
 #[test]
@@ -177,7 +152,8 @@ fn a_slot_holds_one_task_of_its_own_fiber(rt: HostRuntime) -> Result<(), Fail> {
     let (code, registry, pass) = opened(rt.alloc(), STARTING, few(2, 9))?;
     let (_, elsewhere, its_pass) = opened(rt.alloc(), STARTING, few(2, 9))?;
     let (ended, other) = two_children(rt.alloc(), &code, &registry, pass, &elsewhere, its_pass)?;
-    Ok(holds_one(&rt, ended, other)?)
+    assert!(&rt; holds_one(rt.alloc(), &rt, ended, other)?);
+    Ok(())
 }
 
 // Takes the task of fiber 1 and puts it back: whether its number is to be queued; none where it is lost.
@@ -193,101 +169,148 @@ fn puts_back<'a>(rt: &impl Wait, bay: &Bay<'a>, seat: &mut BaySeat<'a>, ready: b
     }
 }
 
-// Wakes of fiber 1 while its task lies in its slot. Those so far go with a task that is taken.
-fn tells_once<'a, R: Abort + AllocGlobal + Wait>(
-    rt: &R,
-    task: FiberTask<'a>,
-) -> Result<(), AllocError> {
-    let (bay, mut seat) = Bay::new(rt.alloc(), 2, 1, None)?;
-    assert_eq!(rt; puts(rt, &bay, &mut seat, task, false), Some(false));
-    assert_eq!(rt; bay.wake(rt, 1), true);
-    assert_eq!(rt; bay.wake(rt, 1), false);
-    assert_eq!(rt; puts_back(rt, &bay, &mut seat, false), Some(false));
-    assert_eq!(rt; bay.wake(rt, 1), true);
-    Ok(())
+// Whether a wake of fiber 1 is told once while its task lies in its slot. Those so far go with a task
+// that is taken.
+fn tells_once<'a>(alloc: Global, rt: &impl Wait, task: FiberTask<'a>) -> Result<bool, AllocError> {
+    let (bay, mut seat) = Bay::new(alloc, 2, 1, None)?;
+    let put = puts(rt, &bay, &mut seat, task, false);
+    let wakes = (bay.wake(rt, 1), bay.wake(rt, 1));
+    let again = puts_back(rt, &bay, &mut seat, false);
+    let woken = bay.wake(rt, 1);
+    Ok((put, wakes, again, woken) == (Some(false), (true, false), Some(false), true))
 }
 
 #[test]
 fn a_wake_is_told_once(rt: HostRuntime) -> Result<(), Fail> {
     let (code, registry, pass) = opened(rt.alloc(), STARTING, few(2, 9))?;
     let task = only_child(rt.alloc(), &code, &registry, pass)?;
-    Ok(tells_once(&rt, task)?)
+    assert!(&rt; tells_once(rt.alloc(), &rt, task)?);
+    Ok(())
 }
 
-// Wakes of fiber 1 while its task isn't there, or is queued.
-fn keeps_wake<'a, R: Abort + AllocGlobal + Wait>(
-    rt: &R,
-    task: FiberTask<'a>,
-) -> Result<(), AllocError> {
-    let (bay, mut seat) = Bay::new(rt.alloc(), 2, 1, None)?;
-    assert_eq!(rt; bay.wake(rt, 1), false);
-    assert_eq!(rt; puts(rt, &bay, &mut seat, task, false), Some(true));
-    assert_eq!(rt; bay.wake(rt, 1), false);
-    assert_eq!(rt; puts_back(rt, &bay, &mut seat, true), Some(true));
-    assert_eq!(rt; bay.wake(rt, 1), false);
-    Ok(())
+// Whether a wake of fiber 1 is kept while its task isn't there, and told to nobody while it is queued.
+fn keeps_wake<'a>(alloc: Global, rt: &impl Wait, task: FiberTask<'a>) -> Result<bool, AllocError> {
+    let (bay, mut seat) = Bay::new(alloc, 2, 1, None)?;
+    let before = bay.wake(rt, 1);
+    let put = puts(rt, &bay, &mut seat, task, false);
+    let queued = bay.wake(rt, 1);
+    let again = puts_back(rt, &bay, &mut seat, true);
+    let woken = (before, queued, bay.wake(rt, 1));
+    Ok((put, again, woken) == (Some(true), Some(true), (false, false, false)))
 }
 
 #[test]
 fn a_wake_before_the_put_is_kept(rt: HostRuntime) -> Result<(), Fail> {
     let (code, registry, pass) = opened(rt.alloc(), STARTING, few(2, 9))?;
     let task = only_child(rt.alloc(), &code, &registry, pass)?;
-    Ok(keeps_wake(&rt, task)?)
+    assert!(&rt; keeps_wake(rt.alloc(), &rt, task)?);
+    Ok(())
+}
+
+const DEFERRED: Topic = Topic::Deferred(0);
+
+/// Who comes to wait, and who is then told, topic by topic.
+struct Waiting<'a> {
+    come: &'a [(Topic, u16)],
+    told: &'a [(Topic, &'a [u16])],
+}
+
+const WAITS: &[Waiting<'static>] = &[
+    Waiting {
+        come: &[(DEFERRED, 1)],
+        told: &[(DEFERRED, &[1]), (DEFERRED, &[])],
+    },
+    Waiting {
+        come: &[
+            (Topic::Fiber(2), 1),
+            (Topic::Fiber(2), 0),
+            (Topic::Never, 2),
+        ],
+        told: &[
+            (DEFERRED, &[]),
+            (Topic::Never, &[]),
+            (Topic::Fiber(1), &[]),
+            (Topic::Fiber(2), &[1, 0]),
+        ],
+    },
+];
+
+// Notes who waits. A bay without a list for the topic notes nobody.
+fn notes(rt: &impl Wait, bay: &Bay<'_>, come: &[(Topic, u16)]) -> Result<(), AllocError> {
+    for (topic, fiber) in come {
+        if bay.has(*topic) {
+            bay.register(rt, *topic, *fiber)?;
+        }
+    }
+    Ok(())
+}
+
+// Whether these wait, topic by topic.
+fn are_told(rt: &impl Wait, bay: &Bay<'_>, told: &[(Topic, &[u16])]) -> bool {
+    for (topic, fibers) in told {
+        if !bay.has(*topic) || bay.drain_topic(rt, *topic).as_slice() != *fibers {
+            return false;
+        }
+    }
+    true
+}
+
+// Whether a bay for three fibers and one deferred tells those that wait.
+fn tells_all(alloc: Global, rt: &impl Wait, cases: &[Waiting<'_>]) -> Result<bool, AllocError> {
+    let (bay, _) = Bay::new(alloc, 3, 1, None)?;
+    for case in cases {
+        notes(rt, &bay, case.come)?;
+        if !are_told(rt, &bay, case.told) {
+            return Ok(false);
+        }
+    }
+    Ok(true)
 }
 
 #[test]
 fn those_that_wait_are_told_once_in_their_order(rt: HostRuntime) -> Result<(), Fail> {
-    let (bay, _) = Bay::new(rt.alloc(), 3, 1, None)?;
-    let deferred = Topic::Deferred(0);
-    bay.register(&rt, deferred, 1)?;
-    assert_eq!(rt;
-        bay.drain_topic(&rt, deferred).as_slice(),
-        [1u16].as_slice()
-    );
-    assert!(&rt; bay.drain_topic(&rt, deferred).is_empty());
-    bay.register(&rt, Topic::Fiber(2), 1)?;
-    bay.register(&rt, Topic::Fiber(2), 0)?;
-    bay.register(&rt, Topic::Never, 2)?;
-    assert!(&rt; bay.drain_topic(&rt, deferred).is_empty());
-    assert!(&rt; bay.drain_topic(&rt, Topic::Never).is_empty());
-    assert!(&rt; bay.drain_topic(&rt, Topic::Fiber(1)).is_empty());
-    let waiters = bay.drain_topic(&rt, Topic::Fiber(2));
-    assert_eq!(rt; waiters.as_slice(), [1u16, 0].as_slice());
+    assert!(&rt; tells_all(rt.alloc(), &rt, WAITS)?);
     Ok(())
+}
+
+/// Whether a bay for three fibers and one deferred has a list for each topic.
+const LISTS: &[(Topic, bool)] = &[
+    (Topic::Fiber(2), true),
+    (Topic::Fiber(3), false),
+    (Topic::Deferred(0), true),
+    (Topic::Deferred(1), false),
+    (Topic::Never, true),
+];
+
+// Whether the bay has a list for each of these topics as it should.
+fn has_lists(bay: &Bay<'_>, lists: &[(Topic, bool)]) -> bool {
+    for (topic, has) in lists {
+        if bay.has(*topic) != *has {
+            return false;
+        }
+    }
+    true
 }
 
 #[test]
 fn a_bay_has_a_list_for_each_number(rt: HostRuntime) -> Result<(), Fail> {
     let (bay, _) = Bay::new(rt.alloc(), 3, 1, None)?;
-    assert_eq!(rt; bay.fibers(), 3);
-    for (topic, has) in [
-        (Topic::Fiber(2), true),
-        (Topic::Fiber(3), false),
-        (Topic::Deferred(0), true),
-        (Topic::Deferred(1), false),
-        (Topic::Never, true),
-    ] {
-        assert_eq!(rt; bay.has(topic), has, "{topic:?}");
-    }
+    assert!(&rt; bay.fibers() == 3 && has_lists(&bay, LISTS));
     Ok(())
 }
 
-// Of a bay in which this task of fiber 1 alone lies, it is left at the end.
-fn leaves_one<'a, R: Abort + AllocGlobal + Wait>(
-    rt: &R,
-    task: FiberTask<'a>,
-) -> Result<(), AllocError> {
-    let (bay, mut seat) = Bay::new(rt.alloc(), 3, 1, None)?;
-    assert_eq!(rt; puts(rt, &bay, &mut seat, task, false), Some(false));
+// Whether a bay in which this task of fiber 1 alone lies leaves it at the end.
+fn leaves_one<'a>(alloc: Global, rt: &impl Wait, task: FiberTask<'a>) -> Result<bool, AllocError> {
+    let (bay, mut seat) = Bay::new(alloc, 3, 1, None)?;
+    let put = puts(rt, &bay, &mut seat, task, false);
     let tasks = bay.empty()?;
-    assert_eq!(rt; tasks.len(), 1);
-    assert_eq!(rt; tasks[0].number(), 1);
-    Ok(())
+    Ok(put == Some(false) && tasks.len() == 1 && tasks[0].number() == 1)
 }
 
 #[test]
 fn what_lies_in_a_bay_is_left_at_its_end(rt: HostRuntime) -> Result<(), Fail> {
     let (code, registry, pass) = opened(rt.alloc(), STARTING, few(2, 9))?;
     let task = only_child(rt.alloc(), &code, &registry, pass)?;
-    Ok(leaves_one(&rt, task)?)
+    assert!(&rt; leaves_one(rt.alloc(), &rt, task)?);
+    Ok(())
 }

@@ -5,8 +5,7 @@ ghost use Rattle.std.specs.Prelude.{◌<◌};
 use crate::programs::{ample, replayed};
 use crate::turning::{Told, Turns, expect_turns, turn_by_turn};
 use fiber_poll::Topic;
-use std::alloc::{AllocError, Global};
-use std::process::Abort;
+use std::alloc::Global;
 use std::test::Fail;
 
 const ENDED: Told = Told::Succeeded(0);
@@ -16,8 +15,11 @@ const ENDS: &[Turns<'static>] = &[
         rule: "a fiber that has ended answers its value again, though it has no moves left",
         program: "(pure 7)",
         moves: 2,
-        turns: &[(0, 64), (0, 2), (0, 64)],
-        told: &[Told::Succeeded(7), Told::Succeeded(7), Told::Succeeded(7)],
+        turns: &[
+            (0, 64, Told::Succeeded(7)),
+            (0, 2, Told::Succeeded(7)),
+            (0, 64, Told::Succeeded(7)),
+        ],
         schedule: "0*2",
         report: "fiber 0 succeeded 7\n",
     },
@@ -25,8 +27,7 @@ const ENDS: &[Turns<'static>] = &[
         rule: "an error is told",
         program: "(raise 9)",
         moves: 99,
-        turns: &[(0, 64), (0, 64)],
-        told: &[Told::Errored(9), Told::Errored(9)],
+        turns: &[(0, 64, Told::Errored(9)), (0, 64, Told::Errored(9))],
         schedule: "0*2",
         report: "fiber 0 errored 9\n",
     },
@@ -34,8 +35,7 @@ const ENDS: &[Turns<'static>] = &[
         rule: "to request one's own cancellation wakes nobody",
         program: "(uncancelable p (canceled))",
         moves: 99,
-        turns: &[(0, 64), (0, 64)],
-        told: &[Told::Canceled, Told::Canceled],
+        turns: &[(0, 64, Told::Canceled), (0, 64, Told::Canceled)],
         schedule: "0*7",
         report: "fiber 0 canceled: enter 0, leave 0, cut\n",
     },
@@ -46,10 +46,9 @@ const WAITS: &[Turns<'static>] = &[
         rule: "who awaits an empty deferred waits for it, each time anew",
         program: "(deferred d (await d))",
         moves: 99,
-        turns: &[(0, 64), (0, 64)],
-        told: &[
-            Told::Waits(Topic::Deferred(0)),
-            Told::Waits(Topic::Deferred(0)),
+        turns: &[
+            (0, 64, Told::Waits(Topic::Deferred(0))),
+            (0, 64, Told::Waits(Topic::Deferred(0))),
         ],
         schedule: "0*6",
         report: "fiber 0 unended\n",
@@ -58,8 +57,10 @@ const WAITS: &[Turns<'static>] = &[
         rule: "who waits without end is told so",
         program: "(seq (say 1) (never))",
         moves: 99,
-        turns: &[(0, 64), (0, 64)],
-        told: &[Told::Waits(Topic::Never), Told::Waits(Topic::Never)],
+        turns: &[
+            (0, 64, Told::Waits(Topic::Never)),
+            (0, 64, Told::Waits(Topic::Never)),
+        ],
         schedule: "0*8",
         report: "fiber 0 unended: say 1\n",
     },
@@ -67,11 +68,10 @@ const WAITS: &[Turns<'static>] = &[
         rule: "a masked wait is told with each of its moves",
         program: "(uncancelable p (never))",
         moves: 4,
-        turns: &[(0, 64), (0, 64), (0, 64)],
-        told: &[
-            Told::Waits(Topic::Never),
-            Told::Waits(Topic::Never),
-            Told::OutOfMoves,
+        turns: &[
+            (0, 64, Told::Waits(Topic::Never)),
+            (0, 64, Told::Waits(Topic::Never)),
+            (0, 64, Told::OutOfMoves),
         ],
         schedule: "0*4",
         report: "fiber 0 unended: enter 0\n",
@@ -83,8 +83,7 @@ const YIELDS: &[Turns<'static>] = &[
         rule: "a fiber yields at a cede, and nowhere before",
         program: "(seq (say 1) (cede) (say 2))",
         moves: 99,
-        turns: &[(0, 64)],
-        told: &[Told::Cedes],
+        turns: &[(0, 64, Told::Cedes)],
         schedule: "0*6",
         report: "fiber 0 unended: say 1\n",
     },
@@ -92,8 +91,7 @@ const YIELDS: &[Turns<'static>] = &[
         rule: "a fiber goes on after a cede",
         program: "(seq (say 1) (cede) (say 2))",
         moves: 99,
-        turns: &[(0, 64), (0, 64)],
-        told: &[Told::Cedes, ENDED],
+        turns: &[(0, 64, Told::Cedes), (0, 64, ENDED)],
         schedule: "0*12",
         report: "fiber 0 succeeded 0: say 1, say 2\n",
     },
@@ -101,8 +99,11 @@ const YIELDS: &[Turns<'static>] = &[
         rule: "a fiber yields once the budget's moves are made",
         program: "(forever (say 1))",
         moves: 99,
-        turns: &[(0, 7), (0, 2), (0, 3)],
-        told: &[Told::Cedes, Told::Cedes, Told::Cedes],
+        turns: &[
+            (0, 7, Told::Cedes),
+            (0, 2, Told::Cedes),
+            (0, 3, Told::Cedes),
+        ],
         schedule: "0*12",
         report: "fiber 0 unended: say 1, say 1\n",
     },
@@ -114,26 +115,15 @@ const WAKES: &[Turns<'static>] = &[
         program: "(start f (never) (start g (cancel f) (cancel f)))",
         moves: 99,
         turns: &[
-            (0, 64),
-            (0, 64),
-            (1, 64),
-            (0, 64),
-            (2, 64),
-            (0, 64),
-            (1, 64),
-            (2, 64),
-            (0, 64),
-        ],
-        told: &[
-            Told::Started(1),
-            Told::Started(2),
-            Told::Waits(Topic::Never),
-            Told::WakeFiber(1),
-            Told::Waits(Topic::Fiber(1)),
-            Told::Waits(Topic::Fiber(1)),
-            Told::Canceled,
-            ENDED,
-            ENDED,
+            (0, 64, Told::Started(1)),
+            (0, 64, Told::Started(2)),
+            (1, 64, Told::Waits(Topic::Never)),
+            (0, 64, Told::WakeFiber(1)),
+            (2, 64, Told::Waits(Topic::Fiber(1))),
+            (0, 64, Told::Waits(Topic::Fiber(1))),
+            (1, 64, Told::Canceled),
+            (2, 64, ENDED),
+            (0, 64, ENDED),
         ],
         schedule: "0*4 1*2 0*3 2*4 0*1 1*3 2*4 0*4",
         report: "fiber 0 succeeded 0: enter 0, leave 0\nfiber 1 canceled: cut\nfiber 2 succeeded 0: enter 0, leave 0\n",
@@ -142,13 +132,12 @@ const WAKES: &[Turns<'static>] = &[
         rule: "who completes a deferred wakes those that wait for it, and who comes late wakes nobody",
         program: "(deferred d (start f (await d) (seq (complete d 5) (complete d 6))))",
         moves: 99,
-        turns: &[(0, 64), (1, 64), (0, 64), (0, 64), (1, 64)],
-        told: &[
-            Told::Started(1),
-            Told::Waits(Topic::Deferred(0)),
-            Told::WakeTopic(Topic::Deferred(0)),
-            ENDED,
-            Told::Succeeded(5),
+        turns: &[
+            (0, 64, Told::Started(1)),
+            (1, 64, Told::Waits(Topic::Deferred(0))),
+            (0, 64, Told::WakeTopic(Topic::Deferred(0))),
+            (0, 64, ENDED),
+            (1, 64, Told::Succeeded(5)),
         ],
         schedule: "0*4 1*2 0*8 1*4",
         report: "fiber 0 succeeded 0\nfiber 1 succeeded 5\n",
@@ -160,8 +149,7 @@ const USED_UP: &[Turns<'static>] = &[
         rule: "a task with no moves makes none",
         program: "(say 1)",
         moves: 0,
-        turns: &[(0, 64), (0, 64)],
-        told: &[Told::OutOfMoves, Told::OutOfMoves],
+        turns: &[(0, 64, Told::OutOfMoves), (0, 64, Told::OutOfMoves)],
         schedule: "",
         report: "fiber 0 unended\n",
     },
@@ -169,8 +157,7 @@ const USED_UP: &[Turns<'static>] = &[
         rule: "a task that has made its moves makes no more",
         program: "(say 1)",
         moves: 3,
-        turns: &[(0, 64), (0, 64)],
-        told: &[Told::OutOfMoves, Told::OutOfMoves],
+        turns: &[(0, 64, Told::OutOfMoves), (0, 64, Told::OutOfMoves)],
         schedule: "0*3",
         report: "fiber 0 unended: say 1\n",
     },
@@ -178,8 +165,7 @@ const USED_UP: &[Turns<'static>] = &[
         rule: "a budget that ends with the moves is told first",
         program: "(say 1)",
         moves: 2,
-        turns: &[(0, 2), (0, 2)],
-        told: &[Told::Cedes, Told::OutOfMoves],
+        turns: &[(0, 2, Told::Cedes), (0, 2, Told::OutOfMoves)],
         schedule: "0*2",
         report: "fiber 0 unended: say 1\n",
     },
@@ -212,34 +198,34 @@ fn used_up_moves_are_told(rt: HostRuntime) -> Result<(), Fail> {
 
 const SAYING: &str = "(start f (seq (say 1) (say 2)) (seq (say 3) (say 4)))";
 
-// Turns where each fiber may make so many moves from the start on.
-fn shares_moves<R: Abort + AllocGlobal>(rt: &R, left: u32) -> Result<(), Fail>
+// Whether both fibers make the moves that are left from the start on, as in the core.
+fn shares_moves(alloc: Global, left: u32) -> Result<bool, Fail>
     requires { left < 99 }
 {
-    let turns = [(0, 64), (1, 64), (0, 64)];
-    let (told, report) = turn_by_turn(rt.alloc(), SAYING, ample(), left + 2, turns.as_slice())?;
-    let core = core_report(rt.alloc(), left)?;
     let last = if left < 8 { Told::OutOfMoves } else { ENDED };
-    assert_eq!(rt; told.as_slice(), [Told::Started(1), last, last].as_slice());
-    assert_eq!(rt; report, core, "{left}");
-    Ok(())
+    let turns = [(0, 64, Told::Started(1)), (1, 64, last), (0, 64, last)];
+    let core = core_report(alloc, left)?;
+    turn_by_turn(
+        alloc,
+        SAYING,
+        ample(),
+        left + 2,
+        turns.as_slice(),
+        core.as_str(),
+    )
 }
 
 /// Both fibers need eight moves from the start on.
 #[test]
 fn a_child_begins_with_the_moves_that_are_left(rt: HostRuntime) -> Result<(), Fail> {
     for left in 1..11u32 {
-        shares_moves(&rt, left)?;
+        assert!(&rt; shares_moves(rt.alloc(), left)?, "{left}");
     }
     Ok(())
 }
 
 // The core's report where each fiber makes so many moves from the start on.
 fn core_report(alloc: Global, left: u32) -> Result<String, Fail> {
-    let schedule = schedule(alloc, left)?;
+    let schedule = format!(in alloc; "0*2 1*{left} 0*{left}")?;
     replayed(alloc, SAYING, ample(), schedule.as_str())
-}
-
-fn schedule(alloc: Global, left: u32) -> Result<String, AllocError> {
-    format!(in alloc; "0*2 1*{left} 0*{left}")
 }

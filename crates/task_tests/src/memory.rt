@@ -10,8 +10,8 @@ use effect_term::{Outcome, Value};
 use fiber_frames::Mark;
 use fiber_poll::{FiberTask, Topic, alone, first};
 use outcome_trace::read_program;
-use std::alloc::{AllocError, AllocGlobal};
-use std::process::Abort;
+use std::alloc::{AllocError, AllocGlobal, Global};
+use std::random::RandomSource;
 use std::sync::Wait;
 use wait_bay::{Bay, BaySeat};
 
@@ -54,132 +54,144 @@ fn nested_marks() -> [Mark; 25] {
     ]
 }
 
-// A turn of a task that lacked memory says so again, and makes no move.
-fn is_broken<R: Abort>(rt: &R, task: &mut FiberTask<'_>) {
+// What a turn of a task told. The task of a fiber that it started is dropped.
+fn turn_told(task: &mut FiberTask<'_>) -> Result<Told, AllocError> {
+    let (told, _) = answered(task.turn(999))?;
+    Ok(told)
+}
+
+// Whether each turn of a task that lacked memory says so again, and makes no move.
+fn is_broken(task: &mut FiberTask<'_>) -> bool {
     let made = task.trace().len();
     for _ in 0..3 {
-        assert!(rt; answered(task.turn(999)).is_err());
-        assert_eq!(rt; task.trace().len(), made);
-        assert_eq!(rt; task.outcome(), None);
+        if turn_told(task).is_ok() || task.trace().len() != made || task.outcome().is_some() {
+            return false;
+        }
+    }
+    true
+}
+
+// Whether one turn ends the fiber so and with these marks, or meets want of memory.
+fn ends(task: &mut FiberTask<'_>, outcome: Outcome, marks: &[Mark]) -> bool {
+    match turn_told(task) {
+        Ok(told) => told == end_of(outcome) && task.trace() == marks,
+        Err(AllocError) => marks.starts_with(task.trace()) && is_broken(task),
     }
 }
 
-// One turn, which ends the fiber so and with these marks, or meets want of memory.
-fn ends<R: Abort>(rt: &R, task: &mut FiberTask<'_>, outcome: Outcome, marks: &[Mark]) {
-    match answered(task.turn(999)) {
-        Ok((told, _)) => {
-            assert_eq!(rt; told, end_of(outcome));
-            assert_eq!(rt; task.trace(), marks);
-        }
-        Err(AllocError) => {
-            assert!(rt; marks.starts_with(task.trace()));
-            is_broken(rt, task);
-        }
-    }
+// Whether the nested brackets end as they should; none where memory ran out before the turn.
+fn nested_ends(alloc: Global) -> Option<bool> {
+    let (code, registry, pass) = opened(alloc, NESTED, few(1, 99)).ok()?;
+    let mut task = first(alloc, &registry, pass, &code, 999).ok()?;
+    Some(ends(&mut task, Outcome::Canceled, nested_marks().as_slice()))
 }
 
 /// What a turn answers and the marks from then on, or that memory ran out, which each later turn
 /// answers, too.
 #[test]
 fn a_turn_ends_the_fiber_or_memory_ran_out(rt: HostRuntime) {
-    let Ok((code, registry, pass)) = opened(rt.alloc(), NESTED, few(1, 99)) else {
-        return;
-    };
-    let Ok(mut task) = first(rt.alloc(), &registry, pass, &code, 999) else {
-        return;
-    };
-    ends(&rt, &mut task, Outcome::Canceled, nested_marks().as_slice());
+    assert!(rt; nested_ends(rt.alloc()) != Some(false));
 }
 
-// One turn, which starts a fiber that then ends, or meets want of memory.
-fn starts<R: Abort>(rt: &R, parent: &mut FiberTask<'_>) {
+/// A program whose first turn starts fiber 1.
+const STARTING: &str =
+    "(let x (pure 7) (let y (pure 8) (start f (say y) (join f z (say z) e (pure 0) (pure 0)))))";
+
+// Whether one turn starts a fiber that then ends, or meets want of memory.
+fn starts(parent: &mut FiberTask<'_>) -> bool {
     match answered(parent.turn(999)) {
         Ok((told, Some(mut child))) => {
-            assert_eq!(rt; told, Told::Started(1));
-            let marks = [say(8)];
-            ends(
-                rt,
+            let ends = ends(
                 &mut child,
                 Outcome::Succeeded(Value::ZERO),
-                marks.as_slice(),
+                [say(8)].as_slice(),
             );
+            told == Told::Started(1) && ends
         }
-        Ok((_, None)) => panic!(rt; "no fiber was started"),
-        Err(AllocError) => is_broken(rt, parent),
+        Ok((_, None)) => false,
+        Err(AllocError) => is_broken(parent),
     }
+}
+
+// Whether the program starts a fiber as it should; none where memory ran out before the turn.
+fn first_starts(alloc: Global) -> Option<bool> {
+    let (code, registry, pass) = opened(alloc, STARTING, few(2, 99)).ok()?;
+    let mut parent = first(alloc, &registry, pass, &code, 999).ok()?;
+    Some(starts(&mut parent))
 }
 
 /// The child's task and its mark, or that memory ran out, which each later turn answers, too.
 #[test]
 fn a_turn_starts_a_fiber_or_memory_ran_out(rt: HostRuntime) {
-    let text =
-        "(let x (pure 7) (let y (pure 8) (start f (say y) (join f z (say z) e (pure 0) (pure 0)))))";
-    let Ok((code, registry, pass)) = opened(rt.alloc(), text, few(2, 99)) else {
-        return;
-    };
-    let Ok(mut parent) = first(rt.alloc(), &registry, pass, &code, 999) else {
-        return;
-    };
-    starts(&rt, &mut parent);
+    assert!(rt; first_starts(rt.alloc()) != Some(false));
+}
+
+// Whether the nested brackets end by themselves as they should; none where memory ran out before that.
+fn nested_ends_alone<R: Wait + RandomSource + AllocGlobal>(rt: &R) -> Option<bool> {
+    let program = read_program(rt.alloc(), NESTED.as_bytes()).ok()?;
+    if program.starts() {
+        return Some(false);
+    }
+    match alone(rt, program, 999) {
+        Ok(outcome) => Some(outcome == Some(Outcome::Canceled)),
+        Err(RunError::NoMemory | RunError::NoWorker) => Some(true),
+        Err(_) => Some(false),
+    }
 }
 
 /// The future's queue asks for memory, too: where it is refused, the thread can't wait.
 #[test]
 fn a_program_ends_alone_or_memory_ran_out(rt: HostRuntime) {
-    let Ok(program) = read_program(rt.alloc(), NESTED.as_bytes()) else {
-        return;
-    };
-    assert!(&rt; !program.starts());
-    match alone(&rt, program, 999) {
-        Ok(outcome) => assert_eq!(rt; outcome, Some(Outcome::Canceled)),
-        Err(error) => assert!(&rt; matches!(error, RunError::NoMemory | RunError::NoWorker)),
-    }
+    assert!(&rt; nested_ends_alone(&rt) != Some(false));
 }
 
-// Notes who waits, where there is memory for it.
-fn notes<R: Abort + Wait>(rt: &R, bay: &Bay<'_>)
+// Whether it is noted who waits, where there is memory for it.
+fn notes(rt: &impl Wait, bay: &Bay<'_>) -> bool
     requires { 1 < bay.now.deferreds }
 {
     let topic = Topic::Deferred(1);
-    let noted = match bay.register(rt, topic, 2) {
-        Ok(()) => [2u16].as_slice(),
-        Err(AllocError) => [].as_slice(),
-    };
-    assert_eq!(rt; bay.drain_topic(rt, topic).as_slice(), noted);
+    let noted = bay.register(rt, topic, 2).is_ok();
+    let told = bay.drain_topic(rt, topic);
+    if noted {
+        told.as_slice() == [2u16].as_slice()
+    } else {
+        told.is_empty()
+    }
 }
 
-// The task of fiber 0 goes into its slot, and is to be queued.
-fn takes_in<'a, R: Abort + Wait>(rt: &R, bay: &Bay<'a>, seat: &mut BaySeat<'a>, task: FiberTask<'a>)
+// Whether the task of fiber 0 goes into its slot, and is to be queued.
+fn takes_in<'a>(rt: &impl Wait, bay: &Bay<'a>, seat: &mut BaySeat<'a>, task: FiberTask<'a>) -> bool
     requires here { IsSeatOf bay.now seat.old }
     requires some { 0 < bay.now.fibers }
     requires nameless { bay.now.named ≡ None }
     ensures { seat.new ≡ seat.old }
 {
     match bay.put(rt, seat, 0, task, true) {
-        Ok(queued) => assert_eq!(rt; queued, true),
-        Err(_) => panic!(rt; "the task was refused"),
+        Ok(queued) => queued,
+        Err(_) => false,
     }
 }
 
-// A bay that takes this task in, and gives it back at its end where there is memory for it.
-fn keeps<'a, R: Abort + AllocGlobal + Wait>(rt: &R, task: FiberTask<'a>) {
-    let Ok((bay, mut seat)) = Bay::new(rt.alloc(), 3, 2, None) else {
-        return;
+// Whether a bay takes this task in, and gives it back at its end; none where memory ran out.
+fn keeps<'a>(alloc: Global, rt: &impl Wait, task: FiberTask<'a>) -> Option<bool> {
+    let (bay, mut seat) = Bay::new(alloc, 3, 2, None).ok()?;
+    let takes = takes_in(rt, &bay, &mut seat, task);
+    let notes = notes(rt, &bay);
+    let kept = match bay.empty() {
+        Ok(tasks) => tasks.len() == 1,
+        Err(AllocError) => true,
     };
-    takes_in(rt, &bay, &mut seat, task);
-    notes(rt, &bay);
-    match bay.empty() {
-        Ok(tasks) => assert_eq!(rt; tasks.len(), 1),
-        Err(AllocError) => {}
-    }
+    Some(takes && notes && kept)
+}
+
+// Whether a bay keeps the task of fiber 0; none where memory ran out.
+fn first_is_kept(alloc: Global, rt: &impl Wait) -> Option<bool> {
+    let (code, registry, pass) = opened(alloc, "(pure 7)", few(1, 9)).ok()?;
+    let task = first(alloc, &registry, pass, &code, 9).ok()?;
+    keeps(alloc, rt, task)
 }
 
 #[test]
 fn a_bay_keeps_what_it_took_or_memory_ran_out(rt: HostRuntime) {
-    let Ok((code, registry, pass)) = opened(rt.alloc(), "(pure 7)", few(1, 9)) else {
-        return;
-    };
-    if let Ok(task) = first(rt.alloc(), &registry, pass, &code, 9) {
-        keeps(&rt, task);
-    }
+    assert!(&rt; first_is_kept(rt.alloc(), &rt) != Some(false));
 }

@@ -8,7 +8,7 @@ ghost use Rattle.effect_term.specs.Starts.{starts_fiber};
 use cell_registry::{Limits, Pass, Registry, RunError};
 use derived_ops::{Code, expand};
 use effect_term::Program;
-use outcome_trace::{Refused, read_program, read_schedule, replay, text_of_report};
+use outcome_trace::{Refused, Report, read_program, read_schedule, replay, text_of_report};
 use std::alloc::Global;
 use std::test::Fail;
 
@@ -82,8 +82,33 @@ pub fn ample() -> Limits
 pub fn replayed(alloc: Global, text: &str, limits: Limits, schedule: &str) -> Result<String, Fail>
     requires { AreLimits limits }
 {
+    let report = report_of(alloc, text, limits, schedule)?;
+    Ok(text_of_report(alloc, &report)?)
+}
+
+// The core's report of a program under a schedule's text.
+fn report_of(alloc: Global, text: &str, limits: Limits, schedule: &str) -> Result<Report, Fail>
+    requires { AreLimits limits }
+{
     let program = read_program(alloc, text.as_bytes())?;
     let entries = read_schedule(alloc, schedule)?;
-    let report = replay(alloc, &program, entries.as_slice(), limits)?;
-    Ok(text_of_report(alloc, &report)?)
+    Ok(replay(alloc, &program, entries.as_slice(), limits)?)
+}
+
+/// Whether this is the text of the core's report of a program under a schedule's text.
+pub fn is_replayed(
+    alloc: Global,
+    text: &str,
+    limits: Limits,
+    schedule: &str,
+    report: &str,
+) -> Result<bool, Fail>
+    requires { AreLimits limits }
+{
+    is_text_of(alloc, &report_of(alloc, text, limits, schedule)?, report)
+}
+
+/// Whether this is the report's text.
+pub fn is_text_of(alloc: Global, report: &Report, text: &str) -> Result<bool, Fail> {
+    Ok(text_of_report(alloc, report)?.as_str() == text)
 }

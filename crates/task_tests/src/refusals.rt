@@ -2,18 +2,17 @@
 
 ghost use Rattle.std.specs.Prelude.{◌≡◌, ◌<◌, IfOk};
 ghost use Rattle.cell_registry.specs.Cells.{AreLimits};
-ghost use Rattle.cell_registry.specs.Passes.{IsOf, first_pass};
+ghost use Rattle.cell_registry.specs.Passes.{IsOf};
 ghost use Rattle.fiber_poll.specs.Tasks.{IsTaskOf};
 
 use crate::programs::{few, opened};
-use crate::turning::{Told, Turns, answered, child_of, expect_turns, turned};
+use crate::turning::{Told, Turns, answered, child_of, expect_turns, turn_told};
 use cell_registry::{Band, Limits, Pass, Registry};
 use derived_ops::Code;
 use effect_term::{CancelReply, JoinReply, Outcome, Value};
 use fiber_frames::{Ask, Mark};
 use fiber_poll::{FiberTask, first};
 use std::alloc::{AllocError, Global};
-use std::process::Abort;
 use std::test::Fail;
 
 const NO_FIBER: Told = Told::Full(Band::Fibers, 1);
@@ -34,8 +33,7 @@ const FULL: &[Turns<'static>] = &[
         rule: "a refused start is refused again",
         program: "(seq (say 1) (start f (pure 1) (pure 2)))",
         moves: 6,
-        turns: &[(0, 64), (0, 64), (0, 2)],
-        told: &[NO_FIBER, NO_FIBER, NO_FIBER],
+        turns: &[(0, 64, NO_FIBER), (0, 64, NO_FIBER), (0, 2, NO_FIBER)],
         schedule: "0*5",
         report: "fiber 0 unended: say 1\n",
     },
@@ -43,8 +41,7 @@ const FULL: &[Turns<'static>] = &[
         rule: "a refused ref is refused again",
         program: "(ref r 0 (seq (say 1) (ref s 0 (say 2))))",
         moves: 99,
-        turns: &[(0, 64), (0, 64)],
-        told: &[NO_REF, NO_REF],
+        turns: &[(0, 64, NO_REF), (0, 64, NO_REF)],
         schedule: "0*11",
         report: "fiber 0 unended: say 1\n",
     },
@@ -52,8 +49,7 @@ const FULL: &[Turns<'static>] = &[
         rule: "a refused deferred is refused again",
         program: "(uncancelable p (deferred d (seq (say 1) (deferred e (say 2)))))",
         moves: 99,
-        turns: &[(0, 64), (0, 64)],
-        told: &[NO_DEFERRED, NO_DEFERRED],
+        turns: &[(0, 64, NO_DEFERRED), (0, 64, NO_DEFERRED)],
         schedule: "0*5",
         report: "fiber 0 unended: enter 0, say 1\n",
     },
@@ -64,14 +60,13 @@ const TWO_FIBERS: &[Turns<'static>] = &[Turns {
     rule: "a second start is refused, and the fiber of the first one goes on",
     program: "(start f (say 1) (start g (pure 2) (pure 3)))",
     moves: 99,
-    turns: &[(0, 64), (0, 64), (1, 2), (0, 64), (1, 64), (0, 64)],
-    told: &[
-        Told::Started(1),
-        NO_MORE,
-        Told::Cedes,
-        NO_MORE,
-        Told::Succeeded(0),
-        NO_MORE,
+    turns: &[
+        (0, 64, Told::Started(1)),
+        (0, 64, NO_MORE),
+        (1, 2, Told::Cedes),
+        (0, 64, NO_MORE),
+        (1, 64, Told::Succeeded(0)),
+        (0, 64, NO_MORE),
     ],
     schedule: "0*2 0*1 1*2 1*2",
     report: "fiber 0 unended\nfiber 1 succeeded 0: say 1\n",
@@ -82,8 +77,7 @@ const ONE_CHANGE: &[Turns<'static>] = &[Turns {
     rule: "the end of a mask is refused",
     program: "(uncancelable p (say 1))",
     moves: 4,
-    turns: &[(0, 64), (0, 64), (0, 2)],
-    told: &[SPENT, SPENT, SPENT],
+    turns: &[(0, 64, SPENT), (0, 64, SPENT), (0, 2, SPENT)],
     schedule: "0*3",
     report: "fiber 0 unended: enter 0, say 1\n",
 }];
@@ -94,8 +88,7 @@ const TWO_CHANGES: &[Turns<'static>] = &[
         rule: "an end is refused",
         program: "(uncancelable p (say 1))",
         moves: 99,
-        turns: &[(0, 64), (0, 64)],
-        told: &[SPENT, SPENT],
+        turns: &[(0, 64, SPENT), (0, 64, SPENT)],
         schedule: "0*5",
         report: "fiber 0 unended: enter 0, say 1, leave 0\n",
     },
@@ -103,8 +96,7 @@ const TWO_CHANGES: &[Turns<'static>] = &[
         rule: "a cut is refused",
         program: "(uncancelable p (canceled))",
         moves: 99,
-        turns: &[(0, 64), (0, 64)],
-        told: &[SPENT, SPENT],
+        turns: &[(0, 64, SPENT), (0, 64, SPENT)],
         schedule: "0*5",
         report: "fiber 0 unended: enter 0, leave 0\n",
     },
@@ -112,13 +104,12 @@ const TWO_CHANGES: &[Turns<'static>] = &[
         rule: "a poll is refused, and another fiber ends",
         program: "(start f (uncancelable p (seq (poll p (say 1)) (say 2))) (say 3))",
         moves: 99,
-        turns: &[(0, 64), (1, 64), (1, 64), (0, 64), (1, 64)],
-        told: &[
-            Told::Started(1),
-            CHILD_SPENT,
-            CHILD_SPENT,
-            Told::Succeeded(0),
-            CHILD_SPENT,
+        turns: &[
+            (0, 64, Told::Started(1)),
+            (1, 64, CHILD_SPENT),
+            (1, 64, CHILD_SPENT),
+            (0, 64, Told::Succeeded(0)),
+            (1, 64, CHILD_SPENT),
         ],
         schedule: "0*2 1*6 0*4",
         report: "fiber 0 succeeded 0: say 3\nfiber 1 unended: enter 0, in 0, say 1\n",
@@ -142,7 +133,7 @@ fn the_task_stands_before_a_change_that_is_not_made(rt: HostRuntime) -> Result<(
 }
 
 /// What a fiber asks next.
-#[derive(Clone, Copy, PartialEq, Eq, Debug)]
+#[derive(Clone, Copy, PartialEq)]
 enum Wanted {
     Start,
     Unmask,
@@ -150,7 +141,7 @@ enum Wanted {
 }
 
 /// A program whose fiber comes to a move that is refused.
-#[derive(Clone, Copy, Drop)]
+#[derive(Drop)]
 struct Refused<'a> {
     program: &'a str,
     /// What each turn tells.
@@ -163,24 +154,25 @@ struct Refused<'a> {
     depth: u8,
 }
 
-// Three turns, each of which is refused and changes nothing.
-fn refused_thrice<R: Abort>(
-    rt: &R,
+// Whether three turns are refused so, of which each changes nothing.
+fn is_refused_thrice(
     registry: &Registry,
     code: &Code,
     task: &mut FiberTask<'_>,
-    case: Refused<'_>,
-) -> Result<(), AllocError>
+    case: &Refused<'_>,
+) -> Result<bool, AllocError>
     requires { IsTaskOf registry.now code.now task.old }
     ensures { IfOk result (λ _. IsTaskOf registry.now code.now task.new) }
 {
     'thrice: for _ in 0..3u32 {
-        let (told, _) = turned(registry, code, task, 64)?;
-        assert_eq!(rt; told, case.told);
-        assert_eq!(rt; task.outcome(), None);
-        assert_eq!(rt; task.trace(), case.marks);
+        if turn_told(registry, code, task)? != case.told {
+            return Ok(false);
+        }
+        if task.outcome().is_some() || task.trace() != case.marks {
+            return Ok(false);
+        }
     }
-    Ok(())
+    Ok(true)
 }
 
 // A task's pass, and what its fiber asks.
@@ -197,36 +189,65 @@ fn parts_of(registry: &Registry, code: &Code, task: FiberTask<'_>) -> (Pass, Wan
     (pass, wanted)
 }
 
-// Calls that the pass of fiber 0 makes, of which each is answered.
-fn makes_calls<R: Abort>(rt: &R, registry: &Registry, pass: &mut Pass)
+// Whether calls of the pass of fiber 0 that are of itself are answered.
+fn requests_its_end(registry: &Registry, pass: &mut Pass) -> bool
+    requires own { IsOf registry.now pass.old }
+    requires limits { AreLimits registry.now.limits }
+    ensures { IsOf registry.now pass.new }
+{
+    let first = registry.cancel(pass, 0);
+    let second = registry.cancel(pass, 0);
+    let end = registry.join(pass, 0);
+    (first, second, end) == (CancelReply::Asked, CancelReply::Already, JoinReply::Waits)
+}
+
+// Whether calls of a pass that are of shared cells are answered.
+fn shares_cells(registry: &Registry, pass: &mut Pass) -> bool
     requires own { IsOf registry.now pass.old }
     requires limits { AreLimits registry.now.limits }
 {
     let (five, six) = (Value::from_i32(5), Value::from_i32(6));
-    assert_eq!(rt; registry.cancel(pass, 0), CancelReply::Asked);
-    assert_eq!(rt; registry.cancel(pass, 0), CancelReply::Already);
-    assert_eq!(rt; registry.join(pass, 0), JoinReply::Waits);
-    assert_eq!(rt; registry.new_ref(pass), Ok(0));
-    assert_eq!(rt; registry.modify(pass, 0, five), Value::ZERO);
-    assert_eq!(rt; registry.get(pass, 0), five);
-    assert_eq!(rt; registry.new_deferred(pass), Ok(0));
-    assert_eq!(rt; registry.complete(pass, 0, six), true);
-    assert_eq!(rt; registry.read(pass, 0), Some(six));
+    if registry.new_ref(pass) != Ok(0) {
+        return false;
+    }
+    let of_ref = (registry.modify(pass, 0, five), registry.get(pass, 0));
+    if registry.new_deferred(pass) != Ok(0) {
+        return false;
+    }
+    let of_deferred = (registry.complete(pass, 0, six), registry.read(pass, 0));
+    (of_ref, of_deferred) == ((Value::ZERO, five), (true, Some(six)))
 }
 
-// Three refused turns of fiber 0, and then calls by its pass.
-fn goes_on<R: Abort + AllocGlobal>(rt: &R, limits: Limits, case: Refused<'_>) -> Result<(), Fail>
+// Whether a task is refused thrice, and its fiber's pass then goes on.
+fn task_goes_on(
+    registry: &Registry,
+    code: &Code,
+    task: FiberTask<'_>,
+    case: &Refused<'_>,
+) -> Result<bool, AllocError>
+    requires own { IsTaskOf registry.now code.now task }
+    requires limits { AreLimits registry.now.limits }
+{
+    let mut task = task;
+    if !is_refused_thrice(registry, code, &mut task, case)? {
+        return Ok(false);
+    }
+    let (mut pass, wanted) = parts_of(registry, code, task);
+    let is_there = wanted == case.wanted
+        && pass.count() == case.count
+        && pass.depth() == case.depth;
+    let requests = requests_its_end(registry, &mut pass);
+    let shares = shares_cells(registry, &mut pass);
+    Ok(is_there && requests && shares)
+}
+
+// Whether fiber 0 of a program is refused thrice, and its pass then goes on.
+fn goes_on(alloc: Global, limits: Limits, case: &Refused<'_>) -> Result<bool, Fail>
     requires { AreLimits limits }
 {
-    let (code, registry, pass) = opened(rt.alloc(), case.program, limits)?;
-    let mut task = first(rt.alloc(), &registry, pass, &code, 99)?;
-    refused_thrice(rt, &registry, &code, &mut task, case)?;
-    let (mut pass, wanted) = parts_of(&registry, &code, task);
-    assert_eq!(rt; wanted, case.wanted);
-    assert_eq!(rt; pass.count(), case.count);
-    assert_eq!(rt; pass.depth(), case.depth);
-    makes_calls(rt, &registry, &mut pass);
-    Ok(())
+    let (code, registry, pass) = opened(alloc, case.program, limits)?;
+    let task = first(alloc, &registry, pass, &code, 99)?;
+    Ok(task_goes_on(&registry, &code, task, case)?)
 }
 
 #[test]
@@ -240,7 +261,8 @@ fn the_pass_goes_on_after_a_full_band(rt: HostRuntime) -> Result<(), Fail> {
         count: 0,
         depth: 0,
     };
-    goes_on(&rt, few(1, 9), case)
+    assert!(&rt; goes_on(rt.alloc(), few(1, 9), &case)?);
+    Ok(())
 }
 
 #[test]
@@ -254,61 +276,67 @@ fn the_pass_goes_on_after_a_used_up_count(rt: HostRuntime) -> Result<(), Fail> {
         count: 1,
         depth: 1,
     };
-    goes_on(&rt, few(1, 1), case)
-}
-
-// The tasks of a fiber and of the one that its first turn starts.
-fn two_tasks<'a>(
-    alloc: Global,
-    registry: &'a Registry,
-    pass: Pass,
-    code: &Code,
-) -> Result<(FiberTask<'a>, FiberTask<'a>), Fail>
-    requires { pass ≡ first_pass registry.now }
-    ensures first { IfOk result (λ tasks. IsTaskOf registry.now code.now tasks.0) }
-    ensures second { IfOk result (λ tasks. IsTaskOf registry.now code.now tasks.1) }
-{
-    let mut parent = first(alloc, registry, pass, code, 99)?;
-    let child = child_of(registry, code, &mut parent)?;
-    Ok((parent, child))
-}
-
-// A turn of fiber 1 after it was canceled by fiber 0, whose pass is told of the end.
-fn cancels_the_other<R: Abort>(
-    rt: &R,
-    registry: &Registry,
-    pass: &mut Pass,
-    other: &mut FiberTask<'_>,
-) -> Result<(), AllocError>
-    requires own { IsOf registry.now pass.old }
-    requires two { 1 < registry.now.limits.fibers }
-{
-    assert_eq!(rt; registry.cancel(pass, 1), CancelReply::Asked);
-    assert_eq!(rt; registry.join(pass, 1), JoinReply::Waits);
-    let (told, _) = answered(other.turn(64))?;
-    assert_eq!(rt; told, Told::Canceled);
-    assert_eq!(rt; registry.join(pass, 1), JoinReply::Ended(Outcome::Canceled));
+    assert!(&rt; goes_on(rt.alloc(), few(1, 1), &case)?);
     Ok(())
 }
 
-// A refused turn of fiber 0, whose pass then cancels fiber 1.
-fn cancels_after_refusal<R: Abort + AllocGlobal>(
-    rt: &R,
-    program: &str,
-    refusal: Told,
-) -> Result<(), Fail> {
-    let (code, registry, pass) = opened(rt.alloc(), program, few(2, 2))?;
-    let (mut task, mut other) = two_tasks(rt.alloc(), &registry, pass, &code)?;
-    let (told, _) = turned(&registry, &code, &mut task, 64)?;
-    assert_eq!(rt; told, refusal);
-    let (mut pass, _) = parts_of(&registry, &code, task);
-    Ok(cancels_the_other(rt, &registry, &mut pass, &mut other)?)
+// Whether fiber 1 is canceled by fiber 0, whose pass is told of its end.
+fn cancels_the_other(
+    registry: &Registry,
+    pass: &mut Pass,
+    other: &mut FiberTask<'_>,
+) -> Result<bool, AllocError>
+    requires own { IsOf registry.now pass.old }
+    requires two { 1 < registry.now.limits.fibers }
+{
+    let reply = registry.cancel(pass, 1);
+    let before = registry.join(pass, 1);
+    let (told, _) = answered(other.turn(64))?;
+    let after = registry.join(pass, 1);
+    let is_canceled = told == Told::Canceled && after == JoinReply::Ended(Outcome::Canceled);
+    Ok((reply, before, is_canceled) == (CancelReply::Asked, JoinReply::Waits, true))
 }
+
+// Whether a turn of fiber 0 is refused so, and its pass then cancels fiber 1.
+fn refused_cancels(
+    registry: &Registry,
+    code: &Code,
+    task: FiberTask<'_>,
+    other: FiberTask<'_>,
+    refusal: Told,
+) -> Result<bool, AllocError>
+    requires own { IsTaskOf registry.now code.now task }
+    requires two { 1 < registry.now.limits.fibers }
+{
+    let mut task = task;
+    let mut other = other;
+    if turn_told(registry, code, &mut task)? != refusal {
+        return Ok(false);
+    }
+    let (mut pass, _) = parts_of(registry, code, task);
+    cancels_the_other(registry, &mut pass, &mut other)
+}
+
+// Whether fiber 0 starts fiber 1, is refused so, and then cancels it.
+fn cancels_after_refusal(alloc: Global, program: &str, refusal: Told) -> Result<bool, Fail> {
+    let (code, registry, pass) = opened(alloc, program, few(2, 2))?;
+    let mut task = first(alloc, &registry, pass, &code, 99)?;
+    let other = child_of(&registry, &code, &mut task)?;
+    Ok(refused_cancels(&registry, &code, task, other, refusal)?)
+}
+
+const REFUSALS: &[(&str, Told)] = &[
+    ("(start f (never) (start g (pure 2) (pure 3)))", NO_MORE),
+    ("(start f (never) (uncancelable p (say 1)))", SPENT),
+];
 
 #[test]
 fn a_refused_fiber_cancels_another(rt: HostRuntime) -> Result<(), Fail> {
-    let full = "(start f (never) (start g (pure 2) (pure 3)))";
-    cancels_after_refusal(&rt, full, NO_MORE)?;
-    let spent = "(start f (never) (uncancelable p (say 1)))";
-    cancels_after_refusal(&rt, spent, SPENT)
+    for (program, refusal) in REFUSALS {
+        assert!(&rt;
+            cancels_after_refusal(rt.alloc(), program, *refusal)?,
+            "{program}"
+        );
+    }
+    Ok(())
 }

@@ -5,17 +5,17 @@ ghost use Rattle.std.specs.Prelude.{◌≡◌, ◌<◌};
 use crate::programs::{few, opened, quiet_program};
 use crate::turning::{Told, end_of};
 use cell_registry::{Band, Limits, RunError};
-use effect_term::{Outcome, Value};
+use effect_term::Outcome;
 use fiber_poll::{FiberFuture, alone, first};
 use futures::executor::block_on;
-use outcome_trace::replay;
+use outcome_trace::{Report, replay};
 use std::alloc::{AllocGlobal, Global};
 use std::random::RandomSource;
 use std::sync::Wait;
 use std::test::Fail;
 
 /// A program, how many moves its fiber needs, and how it ends.
-const ENDS: [(&str, usize, Told); 8] = [
+const ENDS: &[(&str, u32, Told)] = &[
     (
         "(uncancelable p (let a (canceled) (let b (say 1) (poll p (say 2)))))",
         10,
@@ -57,12 +57,11 @@ fn ends_alone<R: Wait + RandomSource + AllocGlobal>(
     moves: u32,
 ) -> Result<Option<Told>, Fail> {
     let program = quiet_program(rt.alloc(), text)?;
-    let ended: Option<Outcome> = alone(rt, program, moves)?;
-    Ok(end_told(ended))
+    Ok(end_told(alone(rt, program, moves)?))
 }
 
-// How the core's fiber 0 ends under so many entries of 0.
-fn ends_in_the_core(alloc: Global, text: &str, moves: usize) -> Result<Option<Told>, Fail> {
+// The core's report of a program under so many entries of 0.
+fn core_report(alloc: Global, text: &str, moves: usize) -> Result<Report, Fail> {
     let program = quiet_program(alloc, text)?;
     let schedule = vec![in alloc; 0; moves]?;
     let limits = Limits {
@@ -71,7 +70,12 @@ fn ends_in_the_core(alloc: Global, text: &str, moves: usize) -> Result<Option<To
         deferreds: 1000,
         count: 1_099_511_627_775,
     };
-    let report = replay(alloc, &program, schedule.as_slice(), limits)?;
+    Ok(replay(alloc, &program, schedule.as_slice(), limits)?)
+}
+
+// How the core's fiber 0 ends under so many entries of 0.
+fn ends_in_the_core(alloc: Global, text: &str, moves: usize) -> Result<Option<Told>, Fail> {
+    let report = core_report(alloc, text, moves)?;
     match report.fibers.as_slice().first() {
         Some(first) => Ok(end_told(first.outcome)),
         None => Err(Fail::new("no fiber was born")),
@@ -81,27 +85,60 @@ fn ends_in_the_core(alloc: Global, text: &str, moves: usize) -> Result<Option<To
 #[test]
 fn a_program_ends_alone(rt: HostRuntime) -> Result<(), Fail> {
     let ended = ends_alone(&rt, "(repeat 3 (say 1))", 1000)?;
-    assert_eq!(rt; ended, Some(Told::Succeeded(0)));
-    assert_eq!(rt; ends_alone(&rt, "(never)", 1000)?, None);
+    assert!(&rt; ended == Some(Told::Succeeded(0)));
+    assert!(&rt; ends_alone(&rt, "(never)", 1000)?.is_none());
     Ok(())
+}
+
+// Whether a program ends so in so many moves, by itself and in the core.
+fn ends_so<R: Wait + RandomSource + AllocGlobal>(
+    rt: &R,
+    text: &str,
+    moves: u32,
+    wanted: Option<Told>,
+) -> Result<bool, Fail> {
+    let ended = ends_alone(rt, text, moves)?;
+    let core = ends_in_the_core(rt.alloc(), text, moves as usize)?;
+    Ok(ended == wanted && core == wanted)
 }
 
 #[test]
 fn alone_is_the_core_under_entries_of_0(rt: HostRuntime) -> Result<(), Fail> {
     for (text, needed, outcome) in ENDS {
         for moves in 1..41u32 {
-            let wanted = if (moves as usize) < needed {
+            let wanted = if moves < *needed {
                 None
             } else {
-                Some(outcome)
+                Some(*outcome)
             };
-            let ended = ends_alone(&rt, text, moves)?;
-            assert_eq!(rt; ended, wanted, "{text} in {moves}");
-            let core = ends_in_the_core(rt.alloc(), text, moves as usize)?;
-            assert_eq!(rt; core, wanted, "{text} in {moves}");
+            assert!(&rt; ends_so(&rt, text, moves, wanted)?, "{text} in {moves}");
         }
     }
     Ok(())
+}
+
+/// A program, how many moves its fiber may make, and the end or the fault where each band has one number
+/// and a cell changes twice.
+const FUTURES: &[(&str, u32, Option<Told>)] = &[
+    ("(seq (say 1) (cede) (raise 3))", 10, Some(Told::Errored(3))),
+    ("(seq (say 1) (cede) (raise 3))", 9, None),
+    ("(never)", 1000, None),
+    (
+        "(ref r 0 (ref s 0 (get r)))",
+        99,
+        Some(Told::Full(Band::Refs, 1)),
+    ),
+    ("(uncancelable p (say 1))", 99, Some(Told::Spent(0))),
+];
+
+// What a future gave, where it is an end or a fault of the registry.
+fn given(come: Result<Option<Outcome>, RunError>) -> Result<Option<Told>, Fail> {
+    match come {
+        Ok(ended) => Ok(end_told(ended)),
+        Err(RunError::Full(band, limit)) => Ok(Some(Told::Full(band, limit))),
+        Err(RunError::Spent(fiber)) => Ok(Some(Told::Spent(fiber))),
+        Err(_) => Err(Fail::new("the future gave another fault")),
+    }
 }
 
 // What a program gives as a future, by two moves a poll, where each band has one number.
@@ -109,27 +146,16 @@ fn comes<R: Wait + RandomSource + AllocGlobal>(
     rt: &R,
     text: &str,
     moves: u32,
-) -> Result<Result<Option<Outcome>, RunError>, Fail> {
+) -> Result<Option<Told>, Fail> {
     let (code, registry, pass) = opened(rt.alloc(), text, few(1, 2))?;
     let task = first(rt.alloc(), &registry, pass, &code, moves)?;
-    Ok(block_on(rt, FiberFuture { task, budget: 2 })?)
+    given(block_on(rt, FiberFuture { task, budget: 2 })?)
 }
 
 #[test]
 fn a_future_gives_the_end_or_the_fault(rt: HostRuntime) -> Result<(), Fail> {
-    let said = "(seq (say 1) (cede) (raise 3))";
-    for (text, moves, wanted) in [
-        (said, 10, Ok(Some(Outcome::Errored(Value::from_i32(3))))),
-        (said, 9, Ok(None)),
-        ("(never)", 1000, Ok(None)),
-        (
-            "(ref r 0 (ref s 0 (get r)))",
-            99,
-            Err(RunError::Full(Band::Refs, 1)),
-        ),
-        ("(uncancelable p (say 1))", 99, Err(RunError::Spent(0))),
-    ] {
-        assert_eq!(rt; comes(&rt, text, moves)?, wanted, "{text}");
+    for (text, moves, wanted) in FUTURES {
+        assert!(&rt; comes(&rt, text, *moves)? == *wanted, "{text}");
     }
     Ok(())
 }

@@ -5,19 +5,19 @@ ghost use Rattle.cell_registry.specs.Cells.{AreLimits};
 ghost use Rattle.cell_registry.specs.Passes.{first_pass};
 ghost use Rattle.fiber_poll.specs.Tasks.{IsTaskOf};
 
-use crate::programs::{opened, replayed};
+use crate::programs::{is_replayed, is_text_of, opened};
 use cell_registry::{Band, Limits, Pass, Registry, RunError};
 use derived_ops::Code;
 use effect_term::Outcome;
 use fiber_poll::{FiberTask, Topic, Turn, first};
-use outcome_trace::{FiberReport, FiberReports, Marks, Report, text_of_report};
+use outcome_trace::{FiberReport, FiberReports, Marks, Report};
 use std::alloc::{AllocError, Global};
 use std::process::Abort;
 use std::test::Fail;
 use steal_pool::gather;
 
 /// What a turn answered, with the number of a started fiber in place of its task.
-#[derive(Clone, Copy, PartialEq, Eq, Debug)]
+#[derive(Clone, Copy, PartialEq)]
 pub enum Told {
     Succeeded(i64),
     Errored(i64),
@@ -104,6 +104,20 @@ pub fn child_of<'a>(
     }
 }
 
+/// What a turn of a task of this registry and code tells, which it still is. The task of a fiber that it
+/// started is dropped.
+pub fn turn_told(
+    registry: &Registry,
+    code: &Code,
+    task: &mut FiberTask<'_>,
+) -> Result<Told, AllocError>
+    requires { IsTaskOf registry.now code.now task.old }
+    ensures { IfOk result (λ _. IsTaskOf registry.now code.now task.new) }
+{
+    let (told, _) = turned(registry, code, task, 64)?;
+    Ok(told)
+}
+
 // Makes a turn of the fiber of this number. A started fiber's task goes to the end, which is its place.
 fn turn_of<'a>(
     registry: &Registry,
@@ -124,25 +138,28 @@ fn turn_of<'a>(
     Ok(told)
 }
 
-// Makes these turns, each of the fiber of this number and by this budget.
-fn all_turns<'a>(
-    alloc: Global,
+/// A turn: the number of its fiber, its budget, and what it tells.
+pub type Row = (usize, u32, Told);
+
+// Whether these turns tell so.
+fn tell<'a>(
     registry: &Registry,
     code: &Code,
     tasks: &mut Vec<FiberTask<'a>>,
-    turns: &[(usize, u32)],
-) -> Result<Vec<Told>, Fail>
+    turns: &[Row],
+) -> Result<bool, Fail>
     requires { All (IsTaskOf registry.now code.now) tasks.old.items }
     ensures { IfOk result (λ _. All (IsTaskOf registry.now code.now) tasks.new.items) }
 {
-    let mut told = Vec::new(alloc);
-    for (number, budget) in turns {
+    for (number, budget, told) in turns {
         if *number >= tasks.len() || *budget < 2 {
             return Err(Fail::new("there is no such turn"));
         }
-        told.push(turn_of(registry, code, tasks, *number, *budget)?)?;
+        if turn_of(registry, code, tasks, *number, *budget)? != *told {
+            return Ok(false);
+        }
     }
-    Ok(told)
+    Ok(true)
 }
 
 // What the fiber of a task has come to.
@@ -154,34 +171,55 @@ fn line_of(alloc: Global, task: &FiberTask<'_>) -> Result<FiberReport, AllocErro
     })
 }
 
-// The text of the report of what these tasks tell that their fibers have come to.
-fn report_of(alloc: Global, tasks: &[FiberTask<'_>]) -> Result<String, Fail> {
+// The report of what these tasks tell that their fibers have come to.
+fn report_of(alloc: Global, tasks: &[FiberTask<'_>]) -> Result<Report, AllocError> {
     let mut lines = Vec::new(alloc);
     for task in tasks {
         lines.push(line_of(alloc, task)?)?;
     }
-    let report = Report {
+    Ok(Report {
         fibers: FiberReports::new(lines),
-    };
-    Ok(text_of_report(alloc, &report)?)
+    })
 }
 
-// The text of the report that is gathered from these tasks. It is what they tell themselves.
-fn gathered<'a>(
+// Whether this is the text of the report of what these tasks tell themselves.
+fn is_told(alloc: Global, tasks: &[FiberTask<'_>], report: &str) -> Result<bool, Fail> {
+    is_text_of(alloc, &report_of(alloc, tasks)?, report)
+}
+
+// Whether this is the text of the report that is gathered from these tasks, and of what they tell
+// themselves.
+fn is_gathered<'a>(
     alloc: Global,
     registry: &Registry,
     code: &Code,
     tasks: Vec<FiberTask<'a>>,
-) -> Result<String, Fail>
+    report: &str,
+) -> Result<bool, Fail>
     requires { All (IsTaskOf registry.now code.now) tasks.items }
 {
-    let told = report_of(alloc, tasks.as_slice())?;
-    let report = gather(alloc, registry, code, tasks)?;
-    let gathered = text_of_report(alloc, &report)?;
-    if gathered.as_str() != told.as_str() {
-        return Err(Fail::new("what was gathered isn't what the tasks tell"));
+    if !is_told(alloc, tasks.as_slice(), report)? {
+        return Ok(false);
     }
-    Ok(gathered)
+    is_text_of(alloc, &gather(alloc, registry, code, tasks)?, report)
+}
+
+// Whether these turns of the tasks tell so, and this is the report that is then gathered from them.
+fn come_to<'a>(
+    alloc: Global,
+    registry: &Registry,
+    code: &Code,
+    tasks: Vec<FiberTask<'a>>,
+    turns: &[Row],
+    report: &str,
+) -> Result<bool, Fail>
+    requires { All (IsTaskOf registry.now code.now) tasks.items }
+{
+    let mut tasks = tasks;
+    if !tell(registry, code, &mut tasks, turns)? {
+        return Ok(false);
+    }
+    is_gathered(alloc, registry, code, tasks, report)
 }
 
 // Fiber 0's task, which may make so many moves, as the only one.
@@ -200,41 +238,53 @@ fn only_first<'a>(
     Ok(tasks)
 }
 
-/// Makes these turns of a program's fibers, each of the fiber of this number and by this budget. Gives
-/// what the turns told, and the text of the report that is then gathered from all tasks.
+/// Makes these turns of a program's fibers, of which fiber 0 may make so many moves. Whether they tell
+/// so, and this is the text of the report that is then gathered from all tasks.
 pub fn turn_by_turn(
     alloc: Global,
     text: &str,
     limits: Limits,
     moves: u32,
-    turns: &[(usize, u32)],
-) -> Result<(Vec<Told>, String), Fail>
+    turns: &[Row],
+    report: &str,
+) -> Result<bool, Fail>
     requires { AreLimits limits }
 {
     let (code, registry, pass) = opened(alloc, text, limits)?;
-    let mut tasks = only_first(alloc, &registry, pass, &code, moves)?;
-    let told = all_turns(alloc, &registry, &code, &mut tasks, turns)?;
-    let report = gathered(alloc, &registry, &code, tasks)?;
-    Ok((told, report))
+    let tasks = only_first(alloc, &registry, pass, &code, moves)?;
+    come_to(alloc, &registry, &code, tasks, turns, report)
 }
 
 /// Turns of a program's fibers that are made by hand, and what comes of them.
-#[derive(Clone, Copy, Drop)]
 pub struct Turns<'a> {
     /// What the turns show.
     pub rule: &'a str,
     pub program: &'a str,
     /// How many moves fiber 0 may make. A child may make those that are left at its start.
     pub moves: u32,
-    /// The turns, each of the fiber of this number and by this budget.
-    pub turns: &'a [(usize, u32)],
-    /// What each of them tells.
-    pub told: &'a [Told],
+    pub turns: &'a [Row],
     /// A schedule that has the moves of the turns, in their order: a turn that made n moves of fiber f
     /// stands in it as n entries of f. The refused move of a turn is no entry.
     pub schedule: &'a str,
     /// The report that is gathered from the tasks, which is the core's under the schedule.
     pub report: &'a str,
+}
+
+// Whether the turns tell what they should, and the gathered and the core's report are the one they come to.
+fn is_met(alloc: Global, limits: Limits, case: &Turns<'_>) -> Result<bool, Fail>
+    requires { AreLimits limits }
+{
+    if !turn_by_turn(
+        alloc,
+        case.program,
+        limits,
+        case.moves,
+        case.turns,
+        case.report,
+    )? {
+        return Ok(false);
+    }
+    is_replayed(alloc, case.program, limits, case.schedule, case.report)
 }
 
 /// Makes the turns of each case, and compares what they tell, and the gathered and the core's report.
@@ -246,19 +296,7 @@ pub fn expect_turns<R: Abort + AllocGlobal>(
     requires { AreLimits limits }
 {
     for case in cases {
-        expect(rt, limits, *case)?;
+        assert!(rt; is_met(rt.alloc(), limits, case)?, "{}", case.rule);
     }
-    Ok(())
-}
-
-fn expect<R: Abort + AllocGlobal>(rt: &R, limits: Limits, case: Turns<'_>) -> Result<(), Fail>
-    requires { AreLimits limits }
-{
-    let alloc = rt.alloc();
-    let (told, report) = turn_by_turn(alloc, case.program, limits, case.moves, case.turns)?;
-    let core = replayed(alloc, case.program, limits, case.schedule)?;
-    assert_eq!(rt; told.as_slice(), case.told, "{}", case.rule);
-    assert_eq!(rt; report.as_str(), case.report, "{}", case.rule);
-    assert_eq!(rt; core.as_str(), case.report, "{}", case.rule);
     Ok(())
 }

@@ -1,5 +1,5 @@
 use Rattle.fiber_poll.specs.Tasks.{IsTaskOf}
-use Rattle.task_tests.proofs.refusals.refused_thrice.Given as goal
+use Rattle.task_tests.proofs.refusals.is_refused_thrice.Given as goal
 
 abbrev pub invariant-thrice : goal.invariant-thrice
 invariant-thrice g l = IsTaskOf l.registry l.code l.task
