@@ -18,6 +18,14 @@ abbrev pub IsFaultWithin : Limits → RunError → Type 0
 IsFaultWithin k (fault.Full band n) = n ≡ limit_of band k
 IsFaultWithin k _ = Unit {0}
 
+-- the fault, with the number that its band has where it tells one
+abbrev pub fault_within : Limits → RunError → RunError
+fault_within k (fault.Full band n) = fault.Full band (limit_of band k)
+fault_within k (fault.Spent fiber) = fault.Spent fiber
+fault_within k fault.NoMemory = fault.NoMemory
+fault_within k (fault.Lost fiber) = fault.Lost fiber
+fault_within k fault.NoWorker = fault.NoWorker
+
 -- a fiber that the turn started is of what is named, too
 abbrev pub ChildIsNamed : Option Named → Turn → Type 0
 ChildIsNamed named (turn.Started c) = IsNamed named c

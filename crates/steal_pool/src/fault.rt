@@ -1,5 +1,5 @@
 //! How what workers know of the first fault comes back to who answers.
-ghost use Rattle.std.specs.Prelude.{◌≡◌, ℕ};
+ghost use Rattle.std.specs.Prelude.{◌≡◌, ◌≢◌, ℕ, None};
 ghost use Rattle.once_cell.specs.Once.{cell_name};
 
 use crate::laws;
@@ -43,7 +43,9 @@ impl<'r, C: FaultCell> FirstFault<'r, C> {
     }
 
     /// What a worker knows that has met this fault, or `None` where it met none.
-    pub(crate) fn learned(&self, met: Option<Box<RunError>>) -> Learned<C> {
+    pub(crate) fn learned(&self, met: Option<Box<RunError>>) -> Learned<C>
+        ensures { met ≢ None → result.note.known ≢ None }
+    {
         let mut note = self.cell.note();
         if let Some(fault) = met {
             let _ = self.cell.set_as(fault, &mut note);

@@ -1,7 +1,7 @@
 //! What the queues, the end of a run and its first fault rest on.
 ghost use Rattle.std.specs.Prelude.{◌≡◌, ◌↔◌, IsTrue, Some};
 ghost use Rattle.once_cell.specs.Once.{cell_name};
-ghost use Rattle.steal_pool.specs.Runs.{IsFaultWithin, limits_of};
+ghost use Rattle.steal_pool.specs.Runs.{IsFaultWithin, fault_within, limits_of};
 
 pub use crate::deque::{ReadyDeque, Victim};
 pub use crate::inlet::{Inlet, InletEnd, empty_inlet};
@@ -38,14 +38,16 @@ pub fn learn(cell: &OnceBox<RunError>, mine: &mut Note<RunError>, theirs: Note<R
 /// The first fault, if there was one. It is the one that the note knows.
 pub fn first_fault(cell: &OnceBox<RunError>, mine: &mut Note<RunError>) -> Option<RunError>
     requires { mine.old.cell ≡ cell_name cell.now }
-    ensures { (e : _) → mine.old.known ≡ Some e → result ≡ Some e }
+    ensures known { (e : _) → mine.old.known ≡ Some e → result ≡ Some e }
+    ensures only { result ≡ mine.new.known }
 {
     cell.get_as(mine).copied()
 }
 
 /// A worker's fault as the fault of a run with these options, whose bands have so many numbers.
 pub fn within(options: Options, fault: RunError) -> RunError
-    ensures { IsFaultWithin (limits_of options) result }
+    ensures limit { IsFaultWithin (limits_of options) result }
+    ensures same { result ≡ fault_within (limits_of options) fault }
 {
     match fault {
         RunError::Full(Band::Fibers, _) => RunError::Full(Band::Fibers, options.fibers),

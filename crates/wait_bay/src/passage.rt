@@ -1,5 +1,5 @@
 //! How tasks go into their slots and out of them, and how fibers are woken.
-ghost use Rattle.std.specs.Prelude.{◌≡◌, ◌≢◌, ◌<◌, ◌∷◌, [], IfErr, IfOk, IfSome, Option, false, true};
+ghost use Rattle.std.specs.Prelude.{◌≡◌, ◌≢◌, ◌<◌, ◌∷◌, [], IfErr, IfOk, IfSome, IsTrue, Option, false, true};
 ghost use Rattle.fiber_poll.specs.Tasks.{TaskView};
 ghost use Rattle.wait_bay.specs.Names.{IsNamed, MayLie};
 ghost use Rattle.wait_bay.specs.Bays.{IsSeatOf, refusal};
@@ -33,6 +33,9 @@ impl<'a> Bay<'a> {
         requires named { IsNamed self.now.named task }
         ensures same { seat.new ≡ seat.old }
         ensures own { IfOk result (λ _. task.entry.state.number ≡ f) }
+
+        // A task that is ready is to be queued.
+        ensures ready { IfOk result (λ queued. IsTrue ready → IsTrue queued) }
         ensures error { IfErr result (λ fault. fault.error ≡ refusal f task.entry.state.number) }
         ensures back { IfErr result (λ fault. fault.task ≡ task.entry) }
     {
