@@ -14,3 +14,4 @@ pub mod Seats
 pub mod Tokens
 pub mod OwnTurns
 pub mod ValueTurns
+pub mod Showing

@@ -190,7 +190,7 @@ begins S k words limits is = (
     two (suc i) j v w a b ne = absurd (some-ne-none v (sym a))
 
 -- ---- the table at the end
-get_elem?-get_or : (l : List ℕ) (i a : ℕ) → get_elem? l i ≡ some a → get_or l i 0 ≡ a
+pub get_elem?-get_or : (l : List ℕ) (i a : ℕ) → get_elem? l i ≡ some a → get_or l i 0 ≡ a
 get_elem?-get_or [] i a e = absurd (some-ne-none a (sym e))
 get_elem?-get_or (x ∷ xs) zero a e = some-injective x a e
 get_elem?-get_or (x ∷ xs) (suc i) a e = get_elem?-get_or xs i a e

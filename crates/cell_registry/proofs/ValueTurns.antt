@@ -25,7 +25,7 @@ use Rattle.cell_registry.proofs.Turns.{Turn, Tells, turns}
 use Rattle.cell_registry.proofs.CellTurns.{advanced, same_knowledge}
 
 -- ---- a word for each ref, behind the fibers'
-ref_at : (words : List ℕ) (s : Cells) (r i : ℕ) (l : Leaves words s) → i ≡ r + (3 + length s.cells) → r < length s.refs → get_or words i 0 ≡ get_or l.raw r 0
+pub ref_at : (words : List ℕ) (s : Cells) (r i : ℕ) (l : Leaves words s) → i ≡ r + (3 + length s.cells) → r < length s.refs → get_or words i 0 ≡ get_or l.raw r 0
 ref_at words s r i l is within =
     let e : i ≡ suc (suc (suc (length s.cells + r))) = omega arith in
     let long = length-map s.cells cell_word in
@@ -58,7 +58,7 @@ put_ref words s r i n v l is within e =
     record { raw = set l.raw r n; values = l.values; words_are = rw (l.words_are, j) (λ t. s.next_fiber ∷ s.next_ref ∷ s.next_deferred ∷ rest t); long = length-set l.raw r n ∙ l.long ∙ sym (length-set s.refs r v); refs = put_both (λ a b. a % 2 ^ 63 ≡ value_bits b) l.raw s.refs r n v l.long e l.refs; many = l.many; ended = l.ended }
 
 -- ---- a word for each deferred, behind the refs'
-deferred_at : (words : List ℕ) (s : Cells) (d i : ℕ) → Leaves words s → i ≡ d + (3 + length s.cells + length s.refs) → d < length s.deferreds → get_or words i 0 ≡ deferred_word (deferred_of s d)
+pub deferred_at : (words : List ℕ) (s : Cells) (d i : ℕ) → Leaves words s → i ≡ d + (3 + length s.cells + length s.refs) → d < length s.deferreds → get_or words i 0 ≡ deferred_word (deferred_of s d)
 deferred_at words s d i l is within =
     let m : ℕ = length s.refs + d in
     let e : i ≡ suc (suc (suc (length s.cells + (length s.refs + d)))) = omega arith in

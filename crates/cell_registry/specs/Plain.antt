@@ -1,9 +1,13 @@
 -- What a call of a registry for one thread does.
-use Rattle.std.specs.Prelude.{◌≡◌, ◌<◌, ℕ, Some, None}
+use Rattle.std.specs.Prelude.{◌≡◌, ◌<◌, ℕ, List, Some, None}
+use mathlib.Core.List.{IsPrefix}
 use Rattle.effect_term.specs.declared.reply.Reply.{Reply}
 use Rattle.cell_registry.specs.declared.limits.Limits.{Limits}
 use Rattle.cell_registry.specs.declared.limits.CellError.{CellError}
 use Rattle.cell_registry.specs.declared.call.Call.{Call}
+use Rattle.cell_registry.specs.declared.call.Entry.{Entry}
+use Rattle.cell_registry.specs.Histories.{left, IsLegal, calls_by}
+use Rattle.cell_registry.specs.Rule.{Has}
 use Rattle.cell_registry.specs.Cells.{AreLimits, Cells, opening, after, reply_of, IsAllowed, refusal, IsSound}
 
 -- what contracts see of a registry for one thread: its limits, and what its calls have left
@@ -35,3 +39,12 @@ pub record IsMade (old new : PlainView) (by : ℕ) (c : Call) (answer : Reply) :
 pub record IsRefused (old new : PlainView) (by : ℕ) (c : Call) (e : CellError) : Type 0 where
   pub why : refusal old.limits old.state by c ≡ Some e
   pub same : new ≡ old
+
+-- At the end, the registry is r: some legal history, which begins with all that was seen and has no further call of
+-- the fibers fs, leaves it so
+pub record IsLeftPlain (k : Limits) (fs : List ℕ) (seen : List Entry) (r : PlainView) : Type 0 where
+  pub history : List Entry
+  pub begins : IsPrefix seen history
+  pub legal : IsLegal k history
+  pub own : (g : ℕ) → Has fs g → calls_by g history ≡ calls_by g seen
+  pub plain : r ≡ record { limits = k; state = left k history }

@@ -1,2 +1,3 @@
 -- What only contracts of private functions and views of private types cite.
 pub mod Kept
+pub mod Shown

@@ -1,15 +1,18 @@
 //! A fiber's cell as the registry for one thread keeps it.
 ghost use Rattle.std.specs.Prelude.{◌≡◌, ◌+◌, ◌<◌, ◌^◌, IfErr, IfOk, Some, None};
+ghost use Rattle.cell_registry.specs.Words.{has_ended};
 ghost use Rattle.cell_registry.specs.Cells.{awaited, cancel_reply, cut, finished, fresh, join_reply, masked};
 ghost use Rattle.cell_registry.specs.Cells.{requested, spent, unmasked};
+ghost use Rattle.cell_registry.specs.declared.cell.Stage.TheVariants.{Ended, Finalizing, Running};
 
 use crate::limits::CellError;
+use crate::sameness::{Same, mixed};
 use effect_term::{CancelReply, JoinReply, Outcome, Value};
 use std::marker::Model;
 use std::mem::size_of;
 
 // How far a fiber has come, and in which way it ended.
-#[derive(Clone, Copy)]
+#[derive(Clone, Copy, PartialEq)]
 enum Phase {
     Running,
     Finalizing,
@@ -63,12 +66,68 @@ impl KeptCell {
         }
     }
 
+    // The cell of a fiber that runs.
+    pub(crate) fn running(depth: u8, request: bool, waited: bool, count: u64) -> KeptCell
+        ensures { result ≡ record {
+          stage = Running;
+          depth = depth;
+          request = request;
+          waited = waited;
+          count = count;
+        } }
+    {
+        KeptCell {
+            count,
+            value: Value::ZERO,
+            phase: Phase::Running,
+            depth,
+            request,
+            waited,
+        }
+    }
+
+    // The fiber finalizes.
+    #[inline(always)]
+    pub(crate) fn finalize(&mut self)
+        ensures { self.new ≡ record self.old { stage = Finalizing } }
+    {
+        self.phase = Phase::Finalizing;
+    }
+
+    // The fiber has ended so.
+    #[inline(always)]
+    pub(crate) fn end(&mut self, outcome: Outcome)
+        ensures { self.new ≡ record self.old { stage = Ended outcome } }
+    {
+        match outcome {
+            Outcome::Succeeded(value) => {
+                self.phase = Phase::Succeeded;
+                self.value = value;
+            }
+            Outcome::Errored(code) => {
+                self.phase = Phase::Errored;
+                self.value = code;
+            }
+            Outcome::Canceled => self.phase = Phase::Canceled,
+        }
+    }
+
     // Whether the fiber's cancellation is requested.
     #[inline(always)]
     pub(crate) fn is_requested(&self) -> bool
         ensures { result ≡ self.now.request }
     {
         self.request
+    }
+
+    // Whether the fiber has ended.
+    pub(crate) fn has_ended(&self) -> bool
+        ensures { result ≡ has_ended self.now.stage }
+    {
+        match self.phase {
+            Phase::Running | Phase::Finalizing => false,
+            Phase::Succeeded | Phase::Errored | Phase::Canceled => true,
+        }
     }
 
     // Requests the fiber's cancellation.
@@ -147,7 +206,7 @@ impl KeptCell {
         requires count { self.old.count + 1 < 2 ^ 64 }
         ensures { self.new ≡ cut self.old }
     {
-        self.phase = Phase::Finalizing;
+        self.finalize();
         self.depth = 1;
         self.count += 1;
     }
@@ -158,17 +217,25 @@ impl KeptCell {
         requires { self.old.count + 1 < 2 ^ 64 }
         ensures { self.new ≡ finished outcome self.old }
     {
-        match outcome {
-            Outcome::Succeeded(value) => {
-                self.phase = Phase::Succeeded;
-                self.value = value;
-            }
-            Outcome::Errored(code) => {
-                self.phase = Phase::Errored;
-                self.value = code;
-            }
-            Outcome::Canceled => self.phase = Phase::Canceled,
-        }
+        self.end(outcome);
         self.count += 1;
+    }
+}
+
+impl Same for KeptCell {
+    fn same(&self, other: &KeptCell) -> bool {
+        self.count == other.count
+            && self.phase == other.phase
+            && self.depth == other.depth
+            && self.request == other.request
+            && self.waited == other.waited
+            && self.value.same(&other.value)
+    }
+
+    fn mixed_into(&self, digest: u64) -> u64 {
+        let bits = u64::from(self.request) + 2 * u64::from(self.waited);
+        let word = (self.phase as u64) << 16 | u64::from(self.depth) << 8 | bits;
+        let digest = mixed(digest, word);
+        self.value.mixed_into(mixed(digest, self.count))
     }
 }

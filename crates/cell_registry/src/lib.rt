@@ -21,7 +21,9 @@ mod pass;
 mod plain;
 mod registry;
 mod rule;
+mod sameness;
 mod shared_values;
+mod shown;
 mod words;
 
 pub use call::{Call, Entry};

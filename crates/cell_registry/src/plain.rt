@@ -1,11 +1,16 @@
 //! The registry for one thread.
-ghost use Rattle.std.specs.Prelude.{◌≡◌, IfErr, IfOk};
-ghost use Rattle.cell_registry.specs.Cells.{AreLimits};
+ghost use Rattle.std.specs.Prelude.{◌≡◌, ◌+◌, ◌<◌, is_none, length, IfErr, IfOk, true};
+ghost use Rattle.cell_registry.specs.Cells.{AreLimits, Cells, cell_of, deferred_of};
+ghost use Rattle.cell_registry.specs.Words.{has_ended};
+ghost use Rattle.cell_registry.specs.Private.Shown.{Shows};
 ghost use Rattle.cell_registry.specs.Plain.{new_plain, IsPlain, MayCall, IsMade, IsRefused};
 
 use crate::call::Call;
 use crate::kept_cell::KeptCell;
 use crate::limits::{Band, CellError, Limits};
+use crate::sameness::{mixed_items, same_items};
+use crate::shown::{cells, deferreds, refs};
+use crate::words::claim_place;
 use control_word::{value_word, word_value};
 use effect_term::{CancelReply, JoinReply, Outcome, Reply, Value};
 use std::alloc::{AllocError, Global};
@@ -94,12 +99,71 @@ impl PlainRegistry {
         })
     }
 
+    // The registry that these words are left by.
+    pub(crate) fn shown(
+        alloc: Global,
+        words: &[u64],
+        limits: Limits,
+    ) -> Result<PlainRegistry, AllocError>
+        requires some { (s : Cells) × Shows limits words.now s }
+        requires words { length words.now ≡ limits.fibers + limits.refs + limits.deferreds + limits.fibers + 3 }
+        ensures { IfOk result (λ r. (s : Cells) → Shows limits words.now s → r ≡ record { limits = limits; state = s }) }
+    {
+        let next_fiber = words[claim_place(Band::Fibers)];
+        let next_ref = words[claim_place(Band::Refs)];
+        let next_deferred = words[claim_place(Band::Deferreds)];
+        let cells = cells(alloc, words, limits)?;
+        let refs = refs(alloc, words, limits)?;
+        let deferreds = deferreds(alloc, words, limits)?;
+        Ok(PlainRegistry {
+            limits,
+            next_fiber: next_fiber as u16,
+            next_ref: next_ref as u16,
+            next_deferred: next_deferred as u16,
+            cells,
+            refs,
+            deferreds,
+        })
+    }
+
     /// The limits that the registry was made with.
     pub fn limits(&self) -> Limits
         ensures limits { result ≡ self.now.limits }
         ensures lawful { IsPlain self.now }
     {
         self.limits
+    }
+
+    /// How many fibers were born. It is no call.
+    pub fn born(&self) -> u16
+        ensures born { result ≡ self.now.state.next_fiber }
+    {
+        self.next_fiber
+    }
+
+    /// Whether a fiber, whose number is below the limit, has ended. It is no call.
+    pub fn has_ended(&self, fiber: u16) -> bool
+        requires within { fiber < self.now.limits.fibers }
+        ensures ended { result ≡ has_ended (cell_of self.now.state fiber).stage }
+    {
+        self.cells[usize::from(fiber)].has_ended()
+    }
+
+    /// Whether the cancellation of a fiber, whose number is below the limit, is requested. It is no call.
+    pub fn is_requested(&self, fiber: u16) -> bool
+        requires within { fiber < self.now.limits.fibers }
+        ensures request { result ≡ (cell_of self.now.state fiber).request }
+    {
+        self.cells[usize::from(fiber)].is_requested()
+    }
+
+    /// Whether a deferred, whose number is below the limit, is empty. It is no call.
+    pub fn is_empty(&self, number: u16) -> bool
+        requires within { number < self.now.limits.deferreds }
+        ensures empty { result ≡ is_none (deferred_of self.now.state number) }
+    {
+        let at = usize::from(number);
+        self.deferreds[at].is_none()
     }
 
     /// Makes a fiber, and gives its number. The caller hasn't ended. Answers `Full` where all
@@ -287,4 +351,56 @@ impl PlainRegistry {
     {
         self.deferreds[usize::from(number)]
     }
+}
+
+impl PlainRegistry {
+    /// The same registry once more, or `AllocError` where memory is refused.
+    pub fn copy(&self, alloc: Global) -> Result<PlainRegistry, AllocError>
+        ensures same { IfOk result (λ copy. copy ≡ self.now) }
+        ensures lawful { IfOk result (λ copy. IsPlain copy) }
+    {
+        Ok(PlainRegistry {
+            limits: self.limits,
+            next_fiber: self.next_fiber,
+            next_ref: self.next_ref,
+            next_deferred: self.next_deferred,
+            cells: Vec::from_clones(alloc, self.cells.as_slice())?,
+            refs: Vec::from_slice(alloc, self.refs.as_slice())?,
+            deferreds: Vec::from_slice(alloc, self.deferreds.as_slice())?,
+        })
+    }
+
+    /// Whether two registries are one: the same limits, numbers given, cells and values.
+    pub fn same(&self, other: &PlainRegistry) -> bool
+        ensures { result ≡ true → self.now ≡ other.now }
+    {
+        same_limits(self.limits, other.limits)
+            && self.next_fiber == other.next_fiber
+            && self.next_ref == other.next_ref
+            && self.next_deferred == other.next_deferred
+            && same_items(self.cells.as_slice(), other.cells.as_slice())
+            && same_items(self.refs.as_slice(), other.refs.as_slice())
+            && same_items(self.deferreds.as_slice(), other.deferreds.as_slice())
+    }
+
+    /// A number that is the same for registries that [`same`](PlainRegistry::same) takes for one, and
+    /// for others mostly isn't. It serves to look one up among many, and no more is promised of it.
+    pub fn digest(&self) -> u64 {
+        let fibers = usize::from(self.next_fiber);
+        let refs = usize::from(self.next_ref);
+        let deferreds = usize::from(self.next_deferred);
+        let digest = mixed_items(fibers as u64, self.cells.as_slice(), fibers);
+        let digest = mixed_items(digest, self.refs.as_slice(), refs);
+        mixed_items(digest, self.deferreds.as_slice(), deferreds)
+    }
+}
+
+// Whether the limits are the same.
+fn same_limits(one: Limits, other: Limits) -> bool
+    ensures { result ≡ true → one ≡ other }
+{
+    one.fibers == other.fibers
+        && one.refs == other.refs
+        && one.deferreds == other.deferreds
+        && one.count == other.count
 }

@@ -7,6 +7,7 @@ ghost use Rattle.cell_registry.specs.declared.call.Call.TheVariants as call;
 ghost use Rattle.cell_registry.specs.Cells.{AreLimits, IsOpen};
 ghost use Rattle.cell_registry.specs.Cancellation.{WasCancelled};
 ghost use Rattle.cell_registry.specs.Passes.{Calls, Counts, Gives, IsLeftWord, IsOf, IsPass, Meets, OnlySees};
+ghost use Rattle.cell_registry.specs.Plain.{IsLeftPlain, IsPlain};
 ghost use Rattle.cell_registry.specs.Passes.{SeesAllGiven, Starts, first_pass};
 
 use crate::cell::Stage;
@@ -14,7 +15,9 @@ use crate::claims::claim;
 use crate::knowledge::Knowledge;
 use crate::limits::{Band, CellError, Limits};
 use crate::pass::Pass;
+use crate::plain::PlainRegistry;
 use crate::rule::{self, Rule};
+use crate::shown::copied;
 use crate::words::{
     CANCEL, CLAIM_WORDS, WAITED, cancel_answer, cell_place, claim_place, has_ended, look_answer,
     outcome_answer, value_place,
@@ -281,5 +284,33 @@ impl Registry {
         let word = closed.word(cell_place(fiber));
         closed.free();
         word
+    }
+
+    /// The registry for one thread that this one is when no thread shares it any more: it is what one
+    /// legal history leaves that begins with all that the pass had seen and has no further call of the
+    /// pass's fibers. Answers `AllocError` where there is no memory for it; the registry is dropped.
+    pub fn into_plain(self, alloc: Global, pass: Pass) -> Result<PlainRegistry, AllocError>
+        requires own { IsOf self pass }
+        ensures left { IfOk result (λ r. IsLeftPlain self.limits pass.fibers pass.seen r) }
+        ensures lawful { IfOk result (λ r. IsPlain r) }
+    {
+        let Registry { table, limits } = self;
+        let Pass {
+            seat,
+            number: _,
+            stage: _,
+            depth: _,
+            count: _,
+            saw: _,
+        } = pass;
+        let values = usize::from(limits.fibers);
+        let cells = usize::from(limits.fibers)
+            + usize::from(limits.refs)
+            + usize::from(limits.deferreds);
+        let closed = table.close_with(seat);
+        let words = copied(alloc, &closed, cells + values + CLAIM_WORDS);
+        closed.free();
+        let words = words?;
+        PlainRegistry::shown(alloc, words.as_slice(), limits)
     }
 }

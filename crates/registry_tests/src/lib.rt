@@ -11,6 +11,8 @@ mod answers;
 #[cfg(test)]
 mod control_words;
 #[cfg(test)]
+mod copies;
+#[cfg(test)]
 mod four_threads;
 #[cfg(test)]
 mod plain_registry;

@@ -13,9 +13,12 @@ use std::alloc::{AllocError, Global};
 // A call of fiber 0, and its answer.
 type Row = (Call, Result<Reply, CellError>);
 
-// The answer to a call of fiber 0 that it may make however far it has come. `None` to another.
+/// The answer to a call of fiber 0 that it may make however far it has come. `None` to another.
 #[tactic(auto, unfolding(cell_registry::specs::Cells::after, cell_registry::specs::Cells::reply_of, cell_registry::specs::Cells::refusal, cell_registry::specs::Cells::IsAllowed))]
-fn answer(registry: &mut PlainRegistry, call: &Call) -> Option<Result<Reply, CellError>> {
+pub(crate) fn answer(
+    registry: &mut PlainRegistry,
+    call: &Call,
+) -> Option<Result<Reply, CellError>> {
     let limits = registry.limits();
     match call {
         Call::NewRef => numbered(registry.new_ref(0)),
@@ -75,7 +78,8 @@ fn are_answered(registry: &mut PlainRegistry, rows: &[Row]) -> bool {
     true
 }
 
-fn two_fibers(alloc: Global, count: u64) -> Result<PlainRegistry, AllocError>
+/// A new registry of two fibers, one ref and one deferred, in which each fiber has so many changes.
+pub(crate) fn two_fibers(alloc: Global, count: u64) -> Result<PlainRegistry, AllocError>
     requires some { 0 < count }
     requires most { count < 2 ^ 40 }
     ensures { IfOk result (λ r. r ≡ new_plain record { fibers = 2; refs = 1; deferreds = 1; count = count }) }

@@ -1,0 +1,7 @@
+use Rattle.std.proofs.Common.{◌≡◌, take}
+use Rattle.cell_registry.specs.Cells.{Cells}
+use Rattle.cell_registry.specs.Private.Shown.{Shows}
+use Rattle.cell_registry.proofs.shown.deferreds.Given as goal
+
+abbrev pub invariant-loop-number : goal.invariant-loop-number
+invariant-loop-number l = (s : Cells) → Shows l.limits l.words s → l.deferreds.items ≡ take l.number s.deferreds

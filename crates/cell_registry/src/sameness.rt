@@ -1,0 +1,73 @@
+//! Whether two values are one, and numbers by which values are looked up.
+
+ghost use Rattle.std.specs.Prelude.{◌≡◌, true};
+
+use control_word::value_word;
+use effect_term::Value;
+
+/// Values of which two can be told to be one.
+pub(crate) trait Same {
+    /// Whether the two are one.
+    fn same(&self, other: &Self) -> bool
+        ensures { result ≡ true → self.now ≡ other.now };
+
+    /// A digest, and then this value in it.
+    fn mixed_into(&self, digest: u64) -> u64;
+}
+
+impl Same for Value {
+    fn same(&self, other: &Value) -> bool {
+        self.get() == other.get()
+    }
+
+    fn mixed_into(&self, digest: u64) -> u64 {
+        mixed(digest, value_word(*self))
+    }
+}
+
+impl Same for Option<Value> {
+    fn same(&self, other: &Option<Value>) -> bool {
+        match (self, other) {
+            (None, None) => true,
+            (Some(one), Some(other)) => one.same(other),
+            (None, Some(_)) | (Some(_), None) => false,
+        }
+    }
+
+    fn mixed_into(&self, digest: u64) -> u64 {
+        match self {
+            None => mixed(digest, u64::MAX),
+            Some(value) => value.mixed_into(digest),
+        }
+    }
+}
+
+/// Whether two lists have the same items.
+pub(crate) fn same_items<T: Same>(one: &[T], other: &[T]) -> bool
+    ensures { result ≡ true → one.now ≡ other.now }
+{
+    if one.len() != other.len() {
+        return false;
+    }
+    for (index, item) in one.iter().enumerate() {
+        if !item.same(&other[index]) {
+            return false;
+        }
+    }
+    true
+}
+
+/// A digest, and then the first of these items in it, so many at most.
+pub(crate) fn mixed_items<T: Same>(digest: u64, items: &[T], most: usize) -> u64 {
+    let mut digest = digest;
+    for item in items.iter().take(most) {
+        digest = item.mixed_into(digest);
+    }
+    digest
+}
+
+/// A digest, and then this word in it: a step of FNV-1a over a word, whose high bits are brought down.
+pub(crate) fn mixed(digest: u64, word: u64) -> u64 {
+    let product = (digest ^ word).wrapping_mul(0x9e37_79b9_7f4a_7c15);
+    product ^ (product >> 32)
+}
