@@ -13,6 +13,7 @@
 mod ask;
 mod asks;
 mod config;
+mod copies;
 mod env;
 mod frame;
 mod kind;
@@ -24,6 +25,7 @@ mod reply_parts;
 mod results;
 mod row;
 mod rows;
+mod sameness;
 mod stack;
 mod table;
 mod word;
