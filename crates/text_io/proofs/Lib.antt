@@ -1,4 +1,5 @@
 pub mod KnownLemmas
 pub mod ReadLemmas
 pub mod ScheduleLemmas
+pub mod WriteLemmas
 pub mod TellingLemmas

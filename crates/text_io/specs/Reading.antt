@@ -1,6 +1,6 @@
--- How far a schedule has been read.
+-- How far a schedule has been read, and how far it has been written.
 use Rattle.std.specs.Prelude.{◌≡◌, ◌<◌, ◌≤◌, ℕ, List, ◌++◌, length}
-use Rattle.std.specs.List.{AllByRecursion}
+use Rattle.std.specs.List.{All, AllByRecursion}
 use Rattle.text_io.specs.Schedule.{Item, IsItem, front_of, entries_of}
 
 -- good items stand before the rest, and these are their entries
@@ -11,3 +11,12 @@ pub record HasRead (text rest entries : List ℕ) : Type 0 where
   pub entries_are : entries ≡ entries_of items
   pub few : length entries ≤ 1000000
   pub some : 0 < length text
+
+-- the text is of good items with a space behind each, and the rest are the entries behind theirs
+pub record HasWritten (text rest entries : List ℕ) : Type 0 where
+  pub items : List Item
+  pub good : AllByRecursion IsItem items
+  pub text_is : text ≡ front_of items
+  pub entries_are : entries ≡ entries_of items ++ rest
+  pub fibers : All (λ fiber. fiber < 1000) rest
+  pub some : 0 < length rest

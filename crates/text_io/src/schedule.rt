@@ -16,7 +16,7 @@ pub const MOST_ENTRIES: usize = 1_000_000;
 
 const MOST_FIBER: u32 = 999;
 
-const MOST_TIMES: u32 = 100_000;
+pub(crate) const MOST_TIMES: u32 = 100_000;
 
 #[derive(Clone, Copy, Debug, PartialEq, Eq, Error)]
 pub enum ScheduleError {
