@@ -404,3 +404,49 @@ fn a_move_is_made_or_the_fiber_breaks(rt: HostRuntime) {
         }
     }
 }
+
+fn are_one(one: &Config, other: &Config) -> bool {
+    one.same(other) && other.same(one)
+}
+
+// Makes a move of a fiber, if it isn't over. Whether a copy was one with it before, and isn't since.
+fn leaves_its_copy(alloc: Global, config: &mut Config) -> Result<bool, AllocError>
+    requires { config.old.next < 2 ^ 63 }
+    ensures { IfOk result (λ _. config.new.next ≤ config.old.next + 1) }
+{
+    let copy = config.copy(alloc)?;
+    let is_one = are_one(config, &copy) && copy.digest() == config.digest();
+    let ask = config.ask();
+    let Some(reply) = reply(config.number(), &ask, false) else {
+        return Ok(is_one && copy.ask() == ask && copy.trace() == config.trace());
+    };
+    let _ = stepped(config, reply)?;
+    Ok(is_one && !are_one(config, &copy))
+}
+
+// A program of which no move leads to where its fiber was: with a child, cells, masks, handlers and loops.
+const EACH_MOVE: &[u8] =
+    b"(ref r 2 (let x (get r) (uncancelable p (start f (say x) (seq (poll p (oncancel (say 1) (say 2))) (handle (raise 3) e (say e)) (repeat 2 (cede)) (join f y (say y) e (pure 0) (pure 0)))))))";
+
+/// Holds whichever allocation is refused.
+#[test]
+fn copies_are_one_with_their_fiber_until_it_moves(rt: HostRuntime) {
+    let Some(mut config) = begun(rt.alloc(), EACH_MOVE) else {
+        return;
+    };
+    for _step in 0..99u32 {
+        match leaves_its_copy(rt.alloc(), &mut config) {
+            Err(AllocError) => break,
+            Ok(leaves) => assert!(rt; leaves),
+        }
+    }
+}
+
+#[test]
+fn fibers_of_two_programs_are_two(rt: HostRuntime) {
+    let (Some(one), Some(other)) = (begun(rt.alloc(), b"(say 1)"), begun(rt.alloc(), b"(say 2)"))
+    else {
+        return;
+    };
+    assert!(rt; are_one(&one, &one) && !are_one(&one, &other));
+}

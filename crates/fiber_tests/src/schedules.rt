@@ -2,9 +2,12 @@
 ghost use Rattle.std.specs.Prelude.{◌<◌};
 ghost use Rattle.cell_registry.specs.Cells.{AreLimits};
 
-use cell_registry::{Limits, RunError};
+use cell_registry::{Limits, PlainRegistry, RunError};
 use effect_term::Program;
-use outcome_trace::{read_schedule, replay, text_of_report};
+use fiber_frames::Config;
+use outcome_trace::{
+    enter, first_fibers, read_schedule, replay, report_of_fibers, same_report, text_of_report,
+};
 use std::alloc::Global;
 use std::test::Fail;
 use term_parse::parse;
@@ -114,6 +117,72 @@ fn runs_give_their_report_or_their_fault(rt: HostRuntime) -> Result<(), Fail> {
         assert!(rt; *count > 0);
         let told = run(rt.alloc(), program, schedule, *count)?;
         assert!(rt; is_told(&told, want), "{program:?} under {schedule}");
+    }
+    Ok(())
+}
+
+// The fibers of a program after a schedule, entered here.
+fn fibers_after(
+    alloc: Global,
+    program: &Program,
+    schedule: &[u16],
+) -> Result<Vec<Config>, RunError> {
+    let Limits {
+        fibers,
+        refs,
+        deferreds,
+        count,
+    } = limits(10);
+    let mut registry = PlainRegistry::new(alloc, fibers, refs, deferreds, count)?;
+    let mut fibers = first_fibers(alloc, program)?;
+    for number in schedule {
+        enter(&mut fibers, &mut registry, *number)?;
+    }
+    Ok(fibers)
+}
+
+// Whether a program comes to the same report under two schedules. Each is that of its replay.
+fn is_one_report(alloc: Global, program: &Program, one: &str, other: &str) -> Result<bool, Fail> {
+    let one = read_schedule(alloc, one)?;
+    let other = read_schedule(alloc, other)?;
+    let Ok(fibers) = fibers_after(alloc, program, one.as_slice()) else {
+        return Err(Fail::new("a fault"));
+    };
+    let Ok(others) = fibers_after(alloc, program, other.as_slice()) else {
+        return Err(Fail::new("a fault"));
+    };
+    let is_one = same_report(fibers.as_slice(), others.as_slice());
+    let text = text_of_report(alloc, &report_of_fibers(alloc, fibers)?)?;
+    let replayed = report_text(alloc, program, one.as_slice(), 10);
+    if is_told(&replayed, &Ok(text.as_str())) {
+        Ok(is_one)
+    } else {
+        Err(Fail::new("a replay is another"))
+    }
+}
+
+/// A program, two schedules, and whether they lead to one report.
+const REPORTS: &[(&[u8], &str, &str, bool)] = &[
+    // A look tells nothing.
+    (b"(say 1)", "", "0", true),
+    // A mark does, and so does an end.
+    (b"(say 1)", "0", "0*2", false),
+    (b"(say 1)", "0*2", "0*3", true),
+    (b"(say 1)", "0*3", "0*4", false),
+    (b"(say 1)", "0*4", "0*5", true),
+    // A fiber that is born is told.
+    (b"(start f (pure 1) (pure 2))", "0", "0*2", false),
+    // Which of two moves comes first isn't.
+    (b"(start f (say 1) (say 2))", "0*4 1*2", "0*2 1*2 0*2", true),
+    (b"(start f (say 1) (say 2))", "0*4 1*2", "0*2 1*3 0", false),
+];
+
+#[test]
+fn entries_lead_where_their_replay_does(rt: HostRuntime) -> Result<(), Fail> {
+    for (program, one, other, is_one) in REPORTS {
+        let program = Program::check(rt.alloc(), parse(rt.alloc(), program)?)?;
+        let told = is_one_report(rt.alloc(), &program, one, other)?;
+        assert_eq!(rt; told, *is_one, "{one} and {other}");
     }
     Ok(())
 }

@@ -4,9 +4,9 @@ use cell_registry::{Band, RunError};
 use effect_term::{Outcome, TermError, Value};
 use fiber_frames::Mark;
 use outcome_trace::{
-    FiberReport, FiberReports, FromRead, Marks, Refused, Report, ScheduleError, ShowOrder, Status,
-    TEXT_BOUND, TextFault, ToWrite, answer_text, line, print_report, read_schedule, read_text,
-    write_text,
+    FiberReport, FiberReports, FromRead, MOST_ENTRIES, Marks, Refused, Report, ScheduleError,
+    ShowOrder, Status, TEXT_BOUND, TextFault, ToWrite, answer_text, line, print_report,
+    read_schedule, read_text, schedule_text, write_text,
 };
 use std::alloc::{AllocError, Global};
 use std::io;
@@ -237,6 +237,35 @@ fn reads_schedules(rt: HostRuntime) -> Result<(), Fail> {
         let want = Err(ScheduleError::BadSchedule(*place));
         assert_eq!(rt; count_of_entries(rt.alloc(), text), want, "{text}");
     }
+    Ok(())
+}
+
+// Whether the text of these entries is this one, and is read back as them.
+fn is_spelled(alloc: Global, entries: &[u16], text: &str) -> Result<bool, Fail> {
+    if entries.len() > MOST_ENTRIES || !entries.iter().all(|fiber| *fiber < 1000) {
+        return Ok(false);
+    }
+    let spelled = schedule_text(alloc, entries)?;
+    let read = read_schedule(alloc, spelled.as_str())?;
+    Ok(spelled.as_str() == text && read.as_slice() == entries)
+}
+
+// Schedules, and the text of each.
+const ENTRIES: &[(&[u16], &str)] = &[
+    (&[], ""),
+    (&[7], "7"),
+    (&[0, 0], "0*2"),
+    (&[0, 1, 0], "0 1 0"),
+    (&[1, 1, 1, 0, 999, 999, 0], "1*3 0 999*2 0"),
+];
+
+#[test]
+fn spells_schedules_by_their_runs(rt: HostRuntime) -> Result<(), Fail> {
+    for (entries, text) in ENTRIES {
+        assert!(rt; is_spelled(rt.alloc(), entries, text)?, "{text}");
+    }
+    let long = vec![in rt.alloc(); 3; 200_001]?;
+    assert!(rt; is_spelled(rt.alloc(), long.as_slice(), "3*100000 3*100000 3")?);
     Ok(())
 }
 

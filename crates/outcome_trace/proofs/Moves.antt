@@ -24,11 +24,11 @@ use Rattle.cell_registry.specs.Plain.{IsPlain, MayCall, PlainView, new_plain}
 use Rattle.outcome_trace.specs.declared.wish.Wish.{Wish}
 use Rattle.outcome_trace.specs.declared.wish.Wish.TheVariants.{Alone, Nothing, Shared}
 use Rattle.outcome_trace.specs.Core.{World, answered, born, core, entered, turned, wish_of, wished}
-use Rattle.outcome_trace.specs.Fitting.{Fits, cell_registered}
+use Rattle.outcome_trace.specs.Fitting.{AllFit, Fits, cell_registered, world_of}
 use Rattle.outcome_trace.specs.Permits.{IsInRange}
 use Rattle.outcome_trace.proofs.Answered.{alone_answers}
 use Rattle.outcome_trace.specs.Private.Asking.{Asking}
-use Rattle.outcome_trace.specs.Private.Moving.{AllFit, Goes, Made, Moves, Refuses, Replied, Rests, Unshared, children, world_of}
+use Rattle.outcome_trace.specs.Private.Moving.{Goes, Made, Moves, Refuses, Replied, Rests, Unshared, children}
 use Rattle.outcome_trace.proofs.Fitted.{If_shared, at_call}
 use Rattle.outcome_trace.proofs.Lists.{set-same}
 use Rattle.outcome_trace.proofs.PlainFits.{plain_allowed}
@@ -160,9 +160,9 @@ pub lacks_memory : (old : PlainView) (f : ℕ) (g : Fiber) (it : Result (Option 
 lacks_memory old f g (Ok child) h = tt
 lacks_memory old f g (Err e) h = inl h
 
--- an entry of a fiber that isn't born
-pub unborn_entered : (old : PlainView) (fibers : List Fiber) (f : ℕ) → length fibers ≤ f → entered old.limits (Ok (world_of fibers old.state)) f ≡ Ok (world_of fibers old.state)
-unborn_entered old fibers f past = ap (turned old.limits (world_of fibers old.state) f) (slice_get_past fibers f past)
+-- an entry of a fiber that isn't born changes nothing
+pub unborn_entered : (k : Limits) (w : World) (f : ℕ) → length w.fibers ≤ f → entered k (Ok w) f ≡ Ok w
+unborn_entered k w f past = ap (turned k w f) (slice_get_past w.fibers f past)
 
 -- the opening
 pub core-opened : (k : Limits) (code : Tree) (r : PlainView) (fibers : List Fiber) (schedule : List ℕ) → fibers ≡ begins 0 code ∷ [] → r ≡ new_plain k → fold (entered r.limits) (Ok (world_of fibers r.state)) schedule ≡ core code k schedule

@@ -24,10 +24,9 @@ use Rattle.derived_ops.specs.Naming.{Given, IsMore}
 use Rattle.derived_ops.specs.Tree.{Tree}
 use Rattle.fiber_frames.specs.Naming.{NamedBeginning}
 use Rattle.outcome_trace.proofs.Answered.{called_answers}
-use Rattle.outcome_trace.specs.Fitting.{Fits, cell_registered, given_by, new_registered}
+use Rattle.outcome_trace.specs.Fitting.{AllFit, Fits, cell_registered, given_by, new_registered}
 use Rattle.fiber_frames.proofs.NamedMoves.{run_more}
 use Rattle.outcome_trace.specs.Private.Asking.{Asking}
-use Rattle.outcome_trace.specs.Private.Moving.{AllFit}
 use Rattle.outcome_trace.proofs.Fitted.{fits_alone}
 use Rattle.outcome_trace.proofs.PlainFits.{fits_as, fits_more, given_rises, plain_other, plain_own}
 use Rattle.outcome_trace.proofs.Replied.{begins_fits}

@@ -1,17 +1,19 @@
 -- A fiber's state and what a registry has of it fit together: in a registry for many threads, where a pass knows
 -- it, and in one for one thread.
-use Rattle.std.specs.Prelude.{◌≡◌, ℕ, ◌<◌, ◌≤◌, Bool, true, false}
+use Rattle.std.specs.Prelude.{◌≡◌, ℕ, ◌<◌, ◌≤◌, Bool, true, false, List, length, Some}
+use Rattle.std.specs.List.{slice_get}
 use Rattle.fiber_frames.specs.declared.ask.Look.{Look}
 use Rattle.fiber_frames.specs.declared.ask.Look.TheVariants.{Due, Clear, Seen}
 use Rattle.fiber_frames.specs.Fiber.{Fiber}
 use Rattle.cell_registry.specs.declared.cell.Stage.{Stage}
 use Rattle.cell_registry.specs.declared.cell.Stage.TheVariants as stage
-use Rattle.cell_registry.specs.Cells.{Cells, cell_of}
+use Rattle.cell_registry.specs.Cells.{Cells, cell_of, owned}
 use Rattle.cell_registry.specs.Histories.{left}
 use Rattle.cell_registry.specs.Passes.{PassView}
 use Rattle.fiber_frames.specs.Leading.{Way, Runs_term, Finalizes, Has_ended, Is_lost, way_of, depth_of}
 use Rattle.derived_ops.specs.Naming.{Given}
 use Rattle.fiber_frames.specs.Naming.{NamedRun}
+use Rattle.outcome_trace.specs.Core.{World}
 
 -- What a registry has of a fiber, as its runner knows it: its number, how far it has come, how many masks it is
 -- under, how many changes it made, whether its cancellation is known to be requested, and how many numbers were
@@ -79,3 +81,13 @@ abbrev pub cell_registered : Cells → ℕ → Registered
 cell_registered s i =
     let c = cell_of s i in
     record { number = i; stage = c.stage; depth = c.depth; count = c.count; saw = c.request; given = given_by s }
+
+-- the world of these fibers and cells
+abbrev pub world_of : List Fiber → Cells → World
+world_of fibers cells = record { fibers = fibers; cells = cells }
+
+-- each born fiber fits its cell, and the own parts of the other cells are as they opened
+pub record AllFit (w : World) : Type 0 where
+  pub many : length w.fibers ≡ w.cells.next_fiber
+  pub each : (f : ℕ) (g : Fiber) → slice_get w.fibers f ≡ Some g → Fits (cell_registered w.cells f) g
+  pub unborn : (f : ℕ) → w.cells.next_fiber ≤ f → owned (cell_of w.cells f) ≡ (stage.Running, 0, 0)

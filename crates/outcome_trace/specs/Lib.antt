@@ -8,3 +8,4 @@ pub mod Fitting
 pub mod Permits
 pub mod Private
 pub mod Stands
+pub mod Finals

@@ -1,3 +1,4 @@
 -- What the contracts of private functions cite.
 pub mod Asking
 pub mod Moving
+pub mod Settling

@@ -10,6 +10,7 @@
 
 mod answers;
 mod backwards;
+mod finals;
 mod lines;
 mod orders;
 mod replay_texts;
@@ -21,15 +22,17 @@ mod wish;
 
 pub use answers::{CheckOrder, ShowOrder, read_program, refusal};
 pub use cell_registry::Limits;
+pub use finals::{Settled, settle};
 pub use lines::{Refused, line};
 pub use orders::{Order, obey};
 pub use replay_texts::{ReplayOrder, replay_text, report_answer};
 pub use report::{FiberReport, FiberReports, Marks, Report};
 pub use report_text::{print_report, text_of_report};
-pub use scheduled::replay;
+pub use reports::{report_of_fibers, same_report};
+pub use scheduled::{enter, first_fiber, first_fibers, replay};
 pub use text_io::{
     Answer, FromRead, MOST_ENTRIES, ReadError, ScheduleError, Sink, Source, Status, TEXT_BOUND,
     TextFault, TextIn, TextOrder, TextOut, ToWrite, WriteFailed, answer_text, obey_text,
-    read_schedule, read_text, tell_fault, write_text,
+    read_schedule, read_text, schedule_text, tell_fault, write_text,
 };
 pub use wish::Wish;

@@ -12,15 +12,15 @@ ghost use Rattle.fiber_frames.specs.Marks.{AreLawful};
 ghost use Rattle.fiber_frames.specs.Moves.{moved};
 ghost use Rattle.fiber_frames.specs.Naming.{NamedBeginning};
 ghost use Rattle.effect_term.specs.Outcomes.{OutcomeFits};
-ghost use Rattle.cell_registry.specs.Cells.{AreLimits};
+ghost use Rattle.cell_registry.specs.Cells.{AreLimits, opening};
 ghost use Rattle.cell_registry.specs.Plain.{MayCall, IsMade, IsPlain, IsRefused};
 ghost use Rattle.outcome_trace.specs.Core.{entered, core, fault_of, reported};
-ghost use Rattle.outcome_trace.specs.Fitting.{Fits, cell_registered};
+ghost use Rattle.outcome_trace.specs.Fitting.{AllFit, Fits, cell_registered, world_of};
 ghost use Rattle.outcome_trace.specs.Permits.{IsInRange};
-ghost use Rattle.outcome_trace.specs.Private.Moving.{AllFit, Moves, Refuses, children, world_of};
+ghost use Rattle.outcome_trace.specs.Private.Moving.{Moves, Refuses, children};
 
 use crate::report::Report;
-use crate::reports::report;
+use crate::reports::report_of_fibers;
 use crate::wish::Wish;
 use cell_registry::{Call, CellError, Limits, PlainRegistry, RunError};
 use derived_ops::expand;
@@ -55,18 +55,32 @@ pub fn replay(
         limits.count,
     )?;
     entries(&mut fibers, &mut registry, schedule)?;
-    let report = report(alloc, fibers)?;
+    let report = report_of_fibers(alloc, fibers)?;
     Ok(report)
 }
 
-// The fibers of a program before the first move: fiber 0 alone.
-fn first_fibers(alloc: Global, program: &Program) -> Result<Vec<Config>, AllocError>
-    ensures first { IfOk result (λ fibers. fibers.items ≡ begins 0 (code_of (source_of program.now)) ∷ []) }
-    ensures named { IfOk result (λ _. (given : Given) →
-        NamedBeginning given (begins 0 (code_of (source_of program.now)))) }
+/// Fiber 0 of a program before its first move, or `AllocError` where memory is refused.
+///
+/// It stands at the root of the program's code, and names no fiber, ref or deferred that was given.
+pub fn first_fiber(alloc: Global, program: &Program) -> Result<Config, AllocError>
+    ensures first { IfOk result (λ fiber. fiber ≡ begins 0 (code_of (source_of program.now))) }
+    ensures named { IfOk result (λ fiber. (given : Given) → NamedBeginning given fiber) }
 {
     let code = expand(alloc, program)?;
-    let first = Config::new(alloc, &code)?;
+    Config::new(alloc, &code)
+}
+
+/// The fibers of a program before the first move, which is fiber 0 alone ([`first_fiber`]), or
+/// `AllocError` where memory is refused.
+///
+/// Beside a new registry, whatever its limits, they are the first world of the core, in which the fiber
+/// fits its cell: so [`enter`] may be called on them.
+pub fn first_fibers(alloc: Global, program: &Program) -> Result<Vec<Config>, AllocError>
+    ensures first { IfOk result (λ fibers. fibers.items ≡ begins 0 (code_of (source_of program.now)) ∷ []) }
+    ensures fits { IfOk result (λ fibers. (limits : Limits) → AreLimits limits →
+        AllFit (world_of fibers.items (opening limits))) }
+{
+    let first = first_fiber(alloc, program)?;
     let mut fibers = Vec::new(alloc);
     fibers.push(first)?;
     Ok(fibers)
@@ -87,17 +101,22 @@ fn entries(
         schedule.now ≡ Fails e)) }
 {
     for number in schedule {
-        entry(fibers, registry, *number)?;
+        enter(fibers, registry, *number)?;
     }
     Ok(())
 }
 
-// An entry: the move of the fiber of this number, if it is born and has a move.
-//
+/// An entry of a schedule: the next move of the fiber of this number, if it is born and has a move.
+///
+/// The fibers and the registry are a world of the core in which each fiber fits its cell, as
+/// [`first_fibers`] and a new registry are, and what the entry leads to is such a world again. A call
+/// that the registry refuses is answered with [`RunError::Full`] or [`RunError::Spent`], the fault of
+/// the core; where memory runs out, the answer is [`RunError::NoMemory`]. After an error nothing is
+/// known of the fibers and the registry.
 // What most entries call is inlined into the loop over them: a result that holds fields goes through
 // memory where its function isn't. What few call stands apart, so that the loop keeps its registers.
 #[inline(always)]
-fn entry(
+pub fn enter(
     fibers: &mut Vec<Config>,
     registry: &mut PlainRegistry,
     number: u16,

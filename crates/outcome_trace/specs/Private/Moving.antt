@@ -1,6 +1,5 @@
 -- The fibers of a run beside their registry, and the next move of one of them.
-use Rattle.std.specs.Prelude.{◌≡◌, ℕ, ◌≤◌, List, [], ◌∷◌, length, Some}
-use Rattle.std.specs.List.{slice_get}
+use Rattle.std.specs.Prelude.{◌≡◌, ℕ, List, [], ◌∷◌, Some}
 use Rattle.effect_term.specs.declared.reply.Reply.{Reply}
 use Rattle.effect_term.specs.declared.reply.Reply.TheVariants as reply
 use Rattle.fiber_frames.specs.declared.config.Moved.{Moved}
@@ -9,23 +8,12 @@ use Rattle.fiber_frames.specs.Fiber.{Fiber, ask_of, move}
 use Rattle.fiber_frames.specs.Moves.{moved}
 use Rattle.cell_registry.specs.declared.limits.CellError.{CellError}
 use Rattle.cell_registry.specs.declared.limits.RunError.{RunError}
-use Rattle.cell_registry.specs.declared.cell.Stage.TheVariants.{Running}
 use Rattle.cell_registry.specs.declared.call.Call.{Call}
-use Rattle.cell_registry.specs.Cells.{Cells, cell_of, owned, refusal}
+use Rattle.cell_registry.specs.Cells.{refusal}
 use Rattle.cell_registry.specs.Plain.{IsMade, PlainView}
 use Rattle.outcome_trace.specs.declared.wish.Wish.TheVariants.{Alone, Nothing, Shared}
-use Rattle.outcome_trace.specs.Core.{World, fault_of, wish_of}
-use Rattle.outcome_trace.specs.Fitting.{Fits, cell_registered}
+use Rattle.outcome_trace.specs.Core.{fault_of, wish_of}
 use Rattle.outcome_trace.specs.Private.Asking.{Asking}
-
--- each born fiber fits its cell, and the own parts of the other cells are as they opened
-pub record AllFit (w : World) : Type 0 where
-  pub many : length w.fibers ≡ w.cells.next_fiber
-  pub each : (f : ℕ) (g : Fiber) → slice_get w.fibers f ≡ Some g → Fits (cell_registered w.cells f) g
-  pub unborn : (f : ℕ) → w.cells.next_fiber ≤ f → owned (cell_of w.cells f) ≡ (Running, 0, 0)
-
-abbrev pub world_of : List Fiber → Cells → World
-world_of fibers cells = record { fibers = fibers; cells = cells }
 
 -- what is told of a move gives this child, or none
 abbrev pub children : Moved → List Fiber

@@ -1,7 +1,7 @@
 use Rattle.std.proofs.Common.{◌≡◌, Ok, take}
 use Rattle.std.specs.List.{fold}
+use Rattle.outcome_trace.specs.Fitting.{AllFit, world_of}
 use Rattle.outcome_trace.specs.Core.{entered}
-use Rattle.outcome_trace.specs.Private.Moving.{AllFit, world_of}
 use Rattle.outcome_trace.proofs.scheduled.entries.Given as goal
 
 -- the entries so far led to this world

@@ -1,20 +1,18 @@
-use Rattle.std.proofs.Common.{◌≡◌, inl, inr, Ok, Err, sym, ap, ap₂, ◌∙◌, subst, map}
+use Rattle.std.proofs.Common.{◌≡◌, inl, inr, Ok, Err, sym, ap, ◌∙◌, subst, map}
 use Rattle.std.proofs.lemmas.Result.{err_from_is_err_and}
 use Rattle.derived_ops.specs.Expansion.{code_of}
 use Rattle.derived_ops.specs.Reading.{source_of}
+use Rattle.cell_registry.specs.Cells.{Cells, opening}
 use Rattle.cell_registry.specs.Plain.{PlainView}
-use Rattle.outcome_trace.specs.Core.{fiber_report, first_world, reported}
-use Rattle.outcome_trace.specs.Private.Moving.{AllFit, world_of}
+use Rattle.outcome_trace.specs.Fitting.{AllFit, world_of}
+use Rattle.outcome_trace.specs.Core.{fiber_report, reported}
 use Rattle.outcome_trace.proofs.Moves.{core-opened}
-use Rattle.outcome_trace.proofs.Worlds.{all_first}
 use Rattle.outcome_trace.proofs.scheduled.replay.Goals as goal
 
 pub entries-requires : goal.entries-requires
 entries-requires c =
-    let code = code_of (source_of c.args.program.now) in
-    let first : world_of c.in_ok-fibers.fibers.items c.in_ok-registry.registry.state ≡ first_world code c.args.limits =
-    ap₂ world_of c.in_ok-fibers.ensures.first (ap (λ (r : PlainView). r.state) c.in_ok-registry.ensures.opening) in
-    subst AllFit (sym first) (all_first c.args.limits code c.requires.limits c.in_ok-fibers.ensures.named)
+    let opened : opening c.args.limits ≡ c.in_ok-registry.registry.state = ap (λ (r : PlainView). r.state) (sym c.in_ok-registry.ensures.opening) in
+    subst (λ (cells : Cells). AllFit (world_of c.in_ok-fibers.fibers.items cells)) opened (c.in_ok-fibers.ensures.fits c.args.limits c.requires.limits)
 
 pub returns-in_err-entries-clause-core : goal.returns-in_err-entries-clause-core
 returns-in_err-entries-clause-core c =

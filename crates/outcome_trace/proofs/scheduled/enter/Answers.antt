@@ -6,10 +6,10 @@ use Rattle.std.proofs.lemmas.Grind.{common_steps}
 use Rattle.std.proofs.lemmas.Option.{gets}
 use Rattle.std.proofs.lemmas.Result.{err_from_is_err_and}
 use Rattle.fiber_frames.specs.Fiber.{Fiber}
-use Rattle.outcome_trace.specs.Fitting.{Fits, cell_registered}
-use Rattle.outcome_trace.specs.Private.Moving.{AllFit, Moves, Refuses, world_of}
+use Rattle.outcome_trace.specs.Fitting.{AllFit, Fits, cell_registered, world_of}
+use Rattle.outcome_trace.specs.Private.Moving.{Moves, Refuses}
 use Rattle.outcome_trace.proofs.Moves.{moved_entered, refused_entered, unborn_entered}
-use Rattle.outcome_trace.proofs.scheduled.entry.Goals as goal
+use Rattle.outcome_trace.proofs.scheduled.enter.Goals as goal
 
 pub make_move-requires : goal.make_move-requires
 make_move-requires c =
@@ -73,4 +73,4 @@ returns-in-None-clause-goes c =
     led.goes ∙ ap (λ (fibers : List Fiber). Ok (world_of fibers c.make_move.new.registry.state)) (sym here)
 
 pub returns-else-place-len-clause-goes : goal.returns-else-place-len-clause-goes
-returns-else-place-len-clause-goes c = unborn_entered c.args.registry.now c.args.fibers.now.items c.args.number (omega arith)
+returns-else-place-len-clause-goes c = unborn_entered c.args.registry.now.limits (world_of c.args.fibers.now.items c.args.registry.now.state) c.args.number (omega arith)

@@ -3,7 +3,7 @@ use Rattle.std.specs.List.{All}
 use Rattle.std.specs.Vec.Iter.{into_iter_items, into_iter_len}
 use Rattle.fiber_frames.specs.Marks.{AreLawful}
 use Rattle.outcome_trace.specs.Core.{fiber_report}
-use Rattle.outcome_trace.proofs.reports.report.Given as goal
+use Rattle.outcome_trace.proofs.reports.report_of_fibers.Given as goal
 
 -- the fibers so far are reported, and the others are left
 abbrev pub invariant-loop-fiber : goal.invariant-loop-fiber

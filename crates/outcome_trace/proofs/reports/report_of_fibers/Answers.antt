@@ -5,7 +5,7 @@ use Rattle.fiber_frames.specs.Fiber.{Fiber}
 use Rattle.fiber_frames.specs.Marks.{AreLawful}
 use Rattle.outcome_trace.specs.declared.report.FiberReport.{FiberReport}
 use Rattle.outcome_trace.specs.Core.{fiber_report}
-use Rattle.outcome_trace.proofs.reports.report.Goals as goal
+use Rattle.outcome_trace.proofs.reports.report_of_fibers.Goals as goal
 
 nothing_left : {X : Type 0} (l : List X) → length l ≡ 0 → l ≡ []
 nothing_left [] h = cc
