@@ -1,0 +1,9 @@
+pub mod Lists
+pub mod Flags
+pub mod Paths
+pub mod Closed
+pub mod Fitting
+pub mod Meeting
+pub mod Entries
+pub mod Answering
+pub mod Results

@@ -1,0 +1,40 @@
+use Rattle.std.proofs.Common.{◌≡◌, List, sym, ◌∙◌, subst, arith}
+use Rattle.std.specs.Prelude.{Some}
+use Rattle.std.specs.List.{slice_get}
+use Rattle.std.proofs.lemmas.Grind.{common_steps}
+use Rattle.std.proofs.lemmas.Option.{gets, same_Some, slice_get_within}
+use mathlib.Core.Logic.{dite}
+use native.Mathlib.Decide.{ℕ_discrete}
+use Rattle.world_search.specs.declared.graphs.Noted.{Noted}
+use Rattle.world_search.specs.declared.graphs.Node.{Node}
+use Rattle.world_search.specs.declared.landings.Landing.TheVariants as to
+use Rattle.world_search.specs.Private.Listed.{Adds, IsNamed}
+use Rattle.world_search.specs.Private.Shapes.{shape}
+use Rattle.world_search.proofs.Lists.{more_more}
+use Rattle.world_search.proofs.Answering.{adds_more, adds_named, adds_fault, named_more}
+use Rattle.world_search.proofs.listing.list_faults.Goals as goal
+
+pub loop-index-preserved : goal.loop-index-preserved
+loop-index-preserved c =
+    let known = c.loop-index.invariant in
+    let nodes : List Node = c.args.graph.now.nodes.items in
+    let noted : Noted = c.index-noted.result.now in
+    let old = c.loop-index.answers.items in
+    let new = c.tell.new.answers.items in
+    let at : slice_get c.args.graph.now.noted.items c.loop-index.index ≡ Some noted = grind (arith, common_steps, gets) in
+    let adds : Adds nodes noted.node (to.Fault noted.fault) old new =
+    subst (λ (l : List Node). Adds l noted.node (to.Fault noted.fault) old new) c.as_slice.ensures.value c.in_ok-tell.ensures in
+    record {
+      listed = adds_fault (shape c.args.graph.now) old new c.loop-index.index noted known.listed adds at;
+      more = more_more c.args.answers.now.items old new known.more (adds_more nodes noted.node (to.Fault noted.fault) old new adds);
+      told = λ k n low there. dite (ℕ_discrete k c.loop-index.index)
+          (λ is.
+          let same : noted ≡ n = same_Some noted n (sym at ∙ subst (λ i. slice_get c.args.graph.now.noted.items i ≡ Some n) is there) in
+          subst (λ (x : Noted). IsNamed new (to.Fault x.fault)) same (adds_named nodes noted.node (to.Fault noted.fault) old new adds))
+          (λ isnt. named_more old new (to.Fault n.fault) (adds_more nodes noted.node (to.Fault noted.fault) old new adds) (known.told k n (omega arith) there));
+    }
+
+pub returns-clause-told : goal.returns-clause-told
+returns-clause-told c = λ k n at.
+    let low = slice_get_within c.args.graph.now.noted.items k n at in
+    c.loop-index.invariant.told k n (omega arith) at

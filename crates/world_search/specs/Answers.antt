@@ -1,0 +1,46 @@
+-- What the answers of a search say.
+use Rattle.std.specs.Prelude.{◌≡◌, ℕ, ◌<◌, ◌≤◌, List, length, Some, Result, Ok, Err}
+use Rattle.std.specs.List.{slice_get, All}
+use Rattle.world_search.specs.declared.landings.Landing.{Landing}
+use Rattle.world_search.specs.declared.landings.Landing.TheVariants as to
+use Rattle.world_search.specs.declared.answers.Answer.{Answer}
+use Rattle.world_search.specs.Lists.{IsIn}
+use Rattle.world_search.specs.Systems.{run, IsSettled}
+
+-- the schedule is no longer than so many entries
+abbrev pub IsShort : ℕ → Answer → Type 0
+IsShort entries a = length a.schedule.items ≤ entries
+
+-- the schedule is of numbers below this one
+abbrev pub IsNumbered : ℕ → Answer → Type 0
+IsNumbered most a = All (λ f. f < most) a.schedule.items
+
+module _ {W E R : Type 0} (step : W → ℕ → Result W E) (report : W → R) (ws : List W) (es : List E) where
+  -- the schedule leads from this world to the end that is named, where it ends in a fault or in a settled world
+  abbrev pub LeadsTo : W → List ℕ → Landing → Type 0
+  LeadsTo first schedule (to.World j) = (w : W) × (slice_get ws j ≡ Some w) × (run step (Ok first) schedule ≡ Ok w) × IsSettled step report w
+  LeadsTo first schedule (to.Fault j) = (e : E) × (slice_get es j ≡ Some e) × (run step (Ok first) schedule ≡ Err e)
+
+  abbrev pub IsRight : W → Answer → Type 0
+  IsRight first a = LeadsTo first a.schedule.items a.end
+
+  -- the end is a world of the same report, or the same fault
+  abbrev pub Tells : Landing → Result W E → Type 0
+  Tells (to.World j) (Ok w) = (x : W) × (slice_get ws j ≡ Some x) × (report x ≡ report w)
+  Tells (to.World j) (Err e) = ⊥
+  Tells (to.Fault j) (Ok w) = ⊥
+  Tells (to.Fault j) (Err e) = slice_get es j ≡ Some e
+
+  -- one of the answers tells it
+  abbrev pub IsAnswered : List Answer → Result W E → Type 0
+  IsAnswered answers y = (a : Answer) × IsIn a answers × Tells a.end y
+
+  -- one of the answers tells it, if it is a fault or a settled world
+  abbrev pub IsCovered : List Answer → Result W E → Type 0
+  IsCovered answers (Ok w) = IsSettled step report w → IsAnswered answers (Ok w)
+  IsCovered answers (Err e) = IsAnswered answers (Err e)
+
+  -- it is a fault or a settled world, and one of the answers tells it
+  abbrev pub IsEnd : List Answer → Result W E → Type 0
+  IsEnd answers (Ok w) = IsSettled step report w × IsAnswered answers (Ok w)
+  IsEnd answers (Err e) = IsAnswered answers (Err e)

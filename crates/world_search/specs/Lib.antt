@@ -1,0 +1,5 @@
+pub mod Lists
+pub mod Systems
+pub mod Landings
+pub mod Answers
+pub mod Private

@@ -1,0 +1,6 @@
+-- What only contracts of private functions cite.
+pub mod Shapes
+pub mod Flags
+pub mod Paths
+pub mod Graphs
+pub mod Listed

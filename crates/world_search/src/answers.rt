@@ -1,0 +1,37 @@
+//! What a search is asked for, and what it finds.
+
+use crate::landings::Landing;
+
+/// How far a search goes.
+#[derive(Clone, Copy)]
+pub struct Bounds {
+    /// The most worlds that are kept; the first is kept in any case. More than 2^32 - 1 are as many as that.
+    pub worlds: usize,
+    /// The most entries of a schedule. More than 2^32 - 1 are as many as that.
+    pub entries: usize,
+}
+
+/// An answer: a schedule, and where it leads.
+#[derive(Drop)]
+pub struct Answer {
+    /// The fibers whose entries are made, in turn.
+    pub schedule: Vec<u16>,
+    /// A settled world, whose report no entry changes any more, or a fault.
+    pub end: Landing,
+}
+
+/// What a search found.
+#[derive(Drop)]
+pub struct Found {
+    /// The settled worlds, one of each report, and behind them the faults. Where the search isn't complete, these are
+    /// the ones that are certain. Worlds are met breadth first, so the schedules are short; no contract says so.
+    pub answers: Vec<Answer>,
+    /// Every schedule was searched: no other leads to a fault that isn't listed, or to a settled world of another
+    /// report. It is so where all worlds are kept, and each of them is met by fewer entries than the most.
+    pub complete: bool,
+    /// From each world that was met, some entries lead to an answer; if the search is complete, that is wherever a
+    /// schedule leads.
+    pub ends: bool,
+    /// How many worlds the store has.
+    pub worlds: usize,
+}

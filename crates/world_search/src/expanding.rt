@@ -1,0 +1,199 @@
+//! The entries at each world that was met, in turn.
+
+ghost use Rattle.std.specs.Prelude.{◌≡◌, ℕ, ◌<◌, ◌≤◌, length, true, max, IfOk, OnOk, Some};
+ghost use Rattle.std.specs.List.{slice_get};
+ghost use Rattle.world_search.specs.declared.graphs.Node.{Node};
+ghost use Rattle.world_search.specs.Landings.{LandsAt};
+ghost use Rattle.world_search.specs.Lists.{IsMore};
+ghost use Rattle.world_search.specs.Private.Shapes.{shape};
+ghost use Rattle.world_search.specs.Private.Graphs.{Fits, Grows, CanEnter, ComesTo, IsDone, SameFlags, worse_of};
+
+use crate::graphs::{Edge, Graph, Node, add_edge, keep, note, set_faulting, set_quiet};
+use crate::landings::{Entered, Landing};
+use crate::store::Worlds;
+use std::alloc::AllocError;
+
+/// How far the entries go.
+#[derive(Clone, Copy)]
+pub struct Limits {
+    /// The most worlds.
+    pub worlds: u32,
+    /// The most entries that lead to one.
+    pub entries: u32,
+}
+
+/// What came of entries at a world.
+#[derive(Clone, Copy)]
+pub enum Came {
+    /// Each of them changes nothing, or leads to a world of the same report.
+    Stays,
+    /// One of them changes the report or ends in a fault. What comes of them is all among what was met.
+    Leaves,
+    /// What comes of one of them isn't kept.
+    Lost,
+}
+
+/// Makes the entries at all worlds that are met, as far as the limits go. Whether there are no others.
+pub fn explore<W: Worlds>(
+    worlds: &mut W,
+    graph: &mut Graph,
+    limits: Limits,
+) -> Result<bool, AllocError>
+    requires { Fits W.step W.report W.most_born limits.entries
+        (W.worlds worlds.old) (W.faults worlds.old) (shape graph.old) }
+    ensures grows { OnOk result (Grows (W.worlds worlds.old) (W.worlds worlds.new) (W.faults worlds.old)
+        (W.faults worlds.new) (shape graph.old) (shape graph.new)) }
+    ensures fits { OnOk result (Fits W.step W.report W.most_born limits.entries (W.worlds worlds.new)
+        (W.faults worlds.new) (shape graph.new)) }
+    ensures done { IfOk result (λ it. it ≡ true → (i : ℕ) → i < length graph.new.nodes.items →
+        IsDone W.step W.report W.most_born limits.entries
+        (W.worlds worlds.new) (W.faults worlds.new) (shape graph.new) i) }
+    ensures room { OnOk result (length (W.worlds worlds.new) ≤ max limits.worlds (length (W.worlds worlds.old))) }
+{
+    let mut whole = true;
+    let mut index = 0;
+    while index < graph.nodes.len() && index < limits.worlds as usize {
+        if !expand(&mut *worlds, &mut *graph, index, limits)? {
+            whole = false;
+        }
+        index += 1;
+    }
+    Ok(whole && index >= graph.nodes.len())
+}
+
+// All entries at one world. Whether what comes of them is all among what was met.
+fn expand<W: Worlds>(
+    worlds: &mut W,
+    graph: &mut Graph,
+    index: usize,
+    limits: Limits,
+) -> Result<bool, AllocError>
+    requires fits { Fits W.step W.report W.most_born limits.entries
+        (W.worlds worlds.old) (W.faults worlds.old) (shape graph.old) }
+    requires low { index < length graph.old.nodes.items }
+    requires few { index < limits.worlds }
+    ensures grows { OnOk result (Grows (W.worlds worlds.old) (W.worlds worlds.new) (W.faults worlds.old)
+        (W.faults worlds.new) (shape graph.old) (shape graph.new)) }
+    ensures fits { OnOk result (Fits W.step W.report W.most_born limits.entries (W.worlds worlds.new)
+        (W.faults worlds.new) (shape graph.new)) }
+    ensures flags { OnOk result (SameFlags index graph.old.unsettled.items graph.new.unsettled.items) }
+    ensures done { IfOk result (λ it. it ≡ true →
+        IsDone W.step W.report W.most_born limits.entries
+        (W.worlds worlds.new) (W.faults worlds.new) (shape graph.new) index) }
+    ensures room { OnOk result (length (W.worlds worlds.new) ≤ max limits.worlds (length (W.worlds worlds.old))) }
+{
+    if graph.nodes[index].depth >= limits.entries {
+        return Ok(false);
+    }
+    let born = worlds.born(index);
+    let mut came = Came::Stays;
+    for fiber in 0..born {
+        came = worse(
+            came,
+            enter(&mut *worlds, &mut *graph, index, fiber, limits)?,
+        );
+    }
+    match came {
+        Came::Stays => {
+            set_quiet(graph, index);
+            Ok(true)
+        }
+        Came::Leaves => Ok(true),
+        Came::Lost => Ok(false),
+    }
+}
+
+// What came of entries and of one more.
+fn worse(one: Came, other: Came) -> Came
+    ensures { result ≡ worse_of one other }
+{
+    match (one, other) {
+        (Came::Lost, _) | (_, Came::Lost) => Came::Lost,
+        (Came::Leaves, _) | (_, Came::Leaves) => Came::Leaves,
+        (Came::Stays, Came::Stays) => Came::Stays,
+    }
+}
+
+// One entry at one world.
+fn enter<W: Worlds>(
+    worlds: &mut W,
+    graph: &mut Graph,
+    index: usize,
+    fiber: u16,
+    limits: Limits,
+) -> Result<Came, AllocError>
+    requires fits { Fits W.step W.report W.most_born limits.entries
+        (W.worlds worlds.old) (W.faults worlds.old) (shape graph.old) }
+    requires low { index < length graph.old.nodes.items }
+    requires few { index < limits.worlds }
+    requires deep { (n : Node) → slice_get graph.old.nodes.items index ≡ Some n → n.depth < limits.entries }
+    requires small { fiber < W.most_born }
+    ensures grows { OnOk result (Grows (W.worlds worlds.old) (W.worlds worlds.new) (W.faults worlds.old)
+        (W.faults worlds.new) (shape graph.old) (shape graph.new)) }
+    ensures fits { OnOk result (Fits W.step W.report W.most_born limits.entries (W.worlds worlds.new)
+        (W.faults worlds.new) (shape graph.new)) }
+    ensures flags { OnOk result (IsMore graph.old.unsettled.items graph.new.unsettled.items) }
+    ensures came { IfOk result (λ it. (w : W.World) → slice_get (W.worlds worlds.old) index ≡ Some w →
+        ComesTo W.step W.report W.most_born limits.entries (W.worlds worlds.new) (W.faults worlds.new)
+        (shape graph.new) index w it (W.step w fiber)) }
+    ensures room { OnOk result (length (W.worlds worlds.new) ≤ max limits.worlds (length (W.worlds worlds.old))) }
+{
+    let node = Node {
+        from: index as u32,
+        depth: graph.nodes[index].depth + 1,
+        fiber,
+    };
+    match worlds.enter(index, fiber, limits.worlds as usize)? {
+        Entered::Full => Ok(Came::Lost),
+        Entered::At(Landing::World(to)) => meet(&*worlds, graph, node, to, limits),
+        Entered::At(Landing::Fault(fault)) => {
+            note(&mut *graph, fault, node)?;
+            set_faulting(graph, index);
+            Ok(Came::Leaves)
+        }
+    }
+}
+
+// An entry leads to the world of this number.
+fn meet<W: Worlds>(
+    worlds: &W,
+    graph: &mut Graph,
+    node: Node,
+    to: usize,
+    limits: Limits,
+) -> Result<Came, AllocError>
+    requires fits { Fits W.step W.report W.most_born limits.entries
+        (W.worlds worlds.now) (W.faults worlds.now) (shape graph.old) }
+    requires low { node.from < length graph.old.nodes.items }
+    requires how { CanEnter W.most_born limits.entries graph.old.nodes.items node }
+    requires lands { (w : W.World) → slice_get (W.worlds worlds.now) node.from ≡ Some w →
+        LandsAt (W.worlds worlds.now) (W.faults worlds.now) (Landing.World to) (W.step w node.fiber) }
+    ensures grows { OnOk result (Grows (W.worlds worlds.now) (W.worlds worlds.now) (W.faults worlds.now)
+        (W.faults worlds.now) (shape graph.old) (shape graph.new)) }
+    ensures fits { OnOk result (Fits W.step W.report W.most_born limits.entries (W.worlds worlds.now)
+        (W.faults worlds.now) (shape graph.new)) }
+    ensures flags { OnOk result (IsMore graph.old.unsettled.items graph.new.unsettled.items) }
+    ensures came { IfOk result (λ it. (w : W.World) → slice_get (W.worlds worlds.now) node.from ≡ Some w →
+        ComesTo W.step W.report W.most_born limits.entries (W.worlds worlds.now) (W.faults worlds.now)
+        (shape graph.new) node.from w it (W.step w node.fiber)) }
+{
+    if !keep(&mut *graph, node, to, limits.worlds)? {
+        return Ok(Came::Lost);
+    }
+    let from = node.from as usize;
+    if to == from {
+        return Ok(Came::Stays);
+    }
+    add_edge(
+        graph,
+        Edge {
+            from: node.from,
+            to: to as u32,
+        },
+    )?;
+    if worlds.same_report(from, to) {
+        Ok(Came::Stays)
+    } else {
+        Ok(Came::Leaves)
+    }
+}

@@ -1,0 +1,140 @@
+//! What a search knows of the worlds that it has met.
+
+ghost use Rattle.std.specs.Prelude.{◌≡◌, ◌<◌, ◌^◌, ◌≤◌, length, true, IfOk, OnOk};
+ghost use Rattle.world_search.specs.Private.Shapes.{shape, begun, Keeps, Notes, IsNotedIn};
+ghost use Rattle.world_search.specs.Private.Shapes.{with_edge, with_quiet, with_faulting};
+
+use std::alloc::{AllocError, Global};
+
+/// By which entry a world or a fault was met first.
+#[derive(Clone, Copy)]
+pub struct Node {
+    /// The number of the world at which the entry was made.
+    pub from: u32,
+    /// How many entries lead here: 0 at the first world alone.
+    pub depth: u32,
+    /// The fiber whose entry it was.
+    pub fiber: u16,
+}
+
+/// An entry that leads from one world to another.
+#[derive(Clone, Copy)]
+pub struct Edge {
+    /// The number of the world at which the entry is made.
+    pub from: u32,
+    /// The number of the world that comes of it.
+    pub to: u32,
+}
+
+/// A fault, and how it was met first.
+#[derive(Clone, Copy)]
+pub struct Noted {
+    /// Its number.
+    pub fault: usize,
+    /// The entry that ends in it.
+    pub node: Node,
+}
+
+/// The worlds that were met, each by its number, and where their entries lead.
+#[derive(Drop)]
+pub struct Graph {
+    /// How each world was met first.
+    pub nodes: Vec<Node>,
+    /// The entries that lead from one world to another one.
+    pub edges: Vec<Edge>,
+    /// The faults.
+    pub noted: Vec<Noted>,
+    /// Of each world, whether it isn't known that its entries keep its report: not all of them were made, one of them
+    /// ends in a fault, or one changes the report.
+    pub unsettled: Vec<bool>,
+    /// Of each world, whether an entry of it ends in a fault.
+    pub faulting: Vec<bool>,
+}
+
+/// The first world alone.
+pub fn begin(alloc: Global) -> Result<Graph, AllocError>
+    ensures { IfOk result (λ it. shape it ≡ begun) }
+{
+    let mut nodes = Vec::new(alloc);
+    nodes.push(Node {
+        from: 0,
+        depth: 0,
+        fiber: 0,
+    })?;
+    let mut unsettled = Vec::new(alloc);
+    unsettled.push(true)?;
+    let mut faulting = Vec::new(alloc);
+    faulting.push(false)?;
+    Ok(Graph {
+        nodes,
+        edges: Vec::new(alloc),
+        noted: Vec::new(alloc),
+        unsettled,
+        faulting,
+    })
+}
+
+/// Whether the world of this number is among the worlds, where this entry leads to it: if it is the next one, and there
+/// are fewer than `most`, it is added.
+pub fn keep(graph: &mut Graph, node: Node, to: usize, most: u32) -> Result<bool, AllocError>
+    ensures keeps { OnOk result (Keeps (shape graph.old) (shape graph.new) node to) }
+    ensures kept { IfOk result (λ it. it ≡ true → to < length graph.new.nodes.items) }
+    ensures small { IfOk result (λ it. it ≡ true → to < most) }
+{
+    if to >= most as usize || to > graph.nodes.len() {
+        return Ok(false);
+    }
+    if to == graph.nodes.len() {
+        graph.nodes.push(node)?;
+        graph.unsettled.push(true)?;
+        graph.faulting.push(false)?;
+    }
+    Ok(true)
+}
+
+/// Adds an entry from one world to another.
+pub fn add_edge(graph: &mut Graph, edge: Edge) -> Result<(), AllocError>
+    ensures { OnOk result (shape graph.new ≡ with_edge (shape graph.old) edge) }
+{
+    graph.edges.push(edge)?;
+    Ok(())
+}
+
+/// The fault is among the faults, which this entry ends in.
+pub fn note(graph: &mut Graph, fault: usize, node: Node) -> Result<(), AllocError>
+    ensures { OnOk result (Notes (shape graph.old) (shape graph.new) fault node) }
+{
+    if is_noted(graph.noted.as_slice(), fault) {
+        return Ok(());
+    }
+    graph.noted.push(Noted { fault, node })?;
+    Ok(())
+}
+
+// Whether the fault is among those noted.
+fn is_noted(noted: &[Noted], fault: usize) -> bool
+    ensures { result ≡ true → IsNotedIn noted.now fault }
+{
+    for it in noted {
+        if it.fault == fault {
+            return true;
+        }
+    }
+    false
+}
+
+/// An entry of this world ends in a fault.
+pub fn set_faulting(graph: &mut Graph, index: usize)
+    requires { index < length graph.old.faulting.items }
+    ensures { shape graph.new ≡ with_faulting (shape graph.old) index }
+{
+    graph.faulting[index] = true;
+}
+
+/// The entries of this world keep its report.
+pub fn set_quiet(graph: &mut Graph, index: usize)
+    requires { index < length graph.old.unsettled.items }
+    ensures { shape graph.new ≡ with_quiet (shape graph.old) index }
+{
+    graph.unsettled[index] = false;
+}

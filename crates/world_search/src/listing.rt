@@ -1,0 +1,191 @@
+//! The answers of a search, read off what is known of the worlds.
+
+ghost use Rattle.std.specs.Prelude.{◌≡◌, ◌⊎◌, ℕ, ◌<◌, ◌≤◌, length, true, false, IfOk, OnOk, Some, Ok as GoesWell};
+ghost use Rattle.std.specs.List.{slice_get};
+ghost use Rattle.world_search.specs.declared.answers.Answer.{Answer};
+ghost use Rattle.world_search.specs.declared.graphs.Noted.{Noted};
+ghost use Rattle.world_search.specs.Answers.{IsAnswered, Tells};
+ghost use Rattle.world_search.specs.Lists.{IsMore};
+ghost use Rattle.world_search.specs.Private.Flags.{AreWithin};
+ghost use Rattle.world_search.specs.Private.Listed.{Adds, AreListed, AreNotedChained, CanEnd, IsNamed};
+ghost use Rattle.world_search.specs.Private.Paths.{AreChained, IsChained};
+ghost use Rattle.world_search.specs.Private.Shapes.{shape};
+
+use crate::answers::Answer;
+use crate::graphs::{Graph, Node};
+use crate::landings::Landing;
+use crate::schedules::schedule_to;
+use crate::spread::spread;
+use crate::store::Worlds;
+use std::alloc::{AllocError, Global};
+
+/// Adds an answer for each report of a world that isn't unsettled.
+pub fn list_worlds<W: Worlds>(
+    alloc: Global,
+    worlds: &W,
+    graph: &Graph,
+    answers: &mut Vec<Answer>,
+) -> Result<(), AllocError>
+    requires chained { AreChained graph.now.nodes.items }
+    requires known { length graph.now.nodes.items ≤ length (W.worlds worlds.now) }
+    requires flags { length graph.now.unsettled.items ≡ length graph.now.nodes.items }
+    requires listed { AreListed (shape graph.now) answers.old.items }
+    ensures listed { OnOk result (AreListed (shape graph.now) answers.new.items) }
+    ensures told { OnOk result ((i : ℕ) (w : W.World) → slice_get graph.now.unsettled.items i ≡ Some false →
+        slice_get (W.worlds worlds.now) i ≡ Some w →
+        IsAnswered W.step W.report (W.worlds worlds.now) (W.faults worlds.now) answers.new.items (GoesWell w)) }
+{
+    for index in 0..graph.nodes.len() {
+        list_world(alloc, worlds, graph, index, &mut *answers)?;
+    }
+    Ok(())
+}
+
+// The same of one world.
+fn list_world<W: Worlds>(
+    alloc: Global,
+    worlds: &W,
+    graph: &Graph,
+    index: usize,
+    answers: &mut Vec<Answer>,
+) -> Result<(), AllocError>
+    requires chained { AreChained graph.now.nodes.items }
+    requires known { length graph.now.nodes.items ≤ length (W.worlds worlds.now) }
+    requires flags { length graph.now.unsettled.items ≡ length graph.now.nodes.items }
+    requires listed { AreListed (shape graph.now) answers.old.items }
+    requires low { index < length graph.now.nodes.items }
+    ensures listed { OnOk result (AreListed (shape graph.now) answers.new.items) }
+    ensures more { OnOk result (IsMore answers.old.items answers.new.items) }
+    ensures told { OnOk result ((w : W.World) → slice_get graph.now.unsettled.items index ≡ Some false →
+        slice_get (W.worlds worlds.now) index ≡ Some w →
+        IsAnswered W.step W.report (W.worlds worlds.now) (W.faults worlds.now) answers.new.items (GoesWell w)) }
+{
+    if graph.unsettled[index] {
+        return Ok(());
+    }
+    if is_told(worlds, answers.as_slice(), index) {
+        return Ok(());
+    }
+    tell(
+        alloc,
+        graph.nodes.as_slice(),
+        graph.nodes[index],
+        Landing::World(index),
+        answers,
+    )?;
+    Ok(())
+}
+
+// Whether one of the answers has the report of this world.
+fn is_told<W: Worlds>(worlds: &W, answers: &[Answer], index: usize) -> bool
+    requires low { index < length (W.worlds worlds.now) }
+    requires within { (k : ℕ) (a : Answer) (j : ℕ) → slice_get answers.now k ≡ Some a → a.end ≡ Landing.World j →
+        j < length (W.worlds worlds.now) }
+    ensures { result ≡ true → (w : W.World) → slice_get (W.worlds worlds.now) index ≡ Some w →
+        IsAnswered W.step W.report (W.worlds worlds.now) (W.faults worlds.now) answers.now (GoesWell w) }
+{
+    for it in answers {
+        if tells(worlds, it.end, index) {
+            return true;
+        }
+    }
+    false
+}
+
+// Whether this end has the report of that world.
+fn tells<W: Worlds>(worlds: &W, end: Landing, index: usize) -> bool
+    requires low { index < length (W.worlds worlds.now) }
+    requires within { (j : ℕ) → end ≡ Landing.World j → j < length (W.worlds worlds.now) }
+    ensures { result ≡ true → (w : W.World) → slice_get (W.worlds worlds.now) index ≡ Some w →
+        Tells W.step W.report (W.worlds worlds.now) (W.faults worlds.now) end (GoesWell w) }
+{
+    match end {
+        Landing::World(other) => worlds.same_report(other, index),
+        Landing::Fault(_) => false,
+    }
+}
+
+// Adds an answer: this end, and the schedule that leads there.
+fn tell(
+    alloc: Global,
+    nodes: &[Node],
+    last: Node,
+    end: Landing,
+    answers: &mut Vec<Answer>,
+) -> Result<(), AllocError>
+    requires chained { AreChained nodes.now }
+    requires last { IsChained nodes.now last }
+    ensures { OnOk result (Adds nodes.now last end answers.old.items answers.new.items) }
+{
+    let schedule = schedule_to(alloc, nodes, last)?;
+    answers.push(Answer { schedule, end })?;
+    Ok(())
+}
+
+/// Adds an answer for each fault.
+pub fn list_faults(
+    alloc: Global,
+    graph: &Graph,
+    answers: &mut Vec<Answer>,
+) -> Result<(), AllocError>
+    requires chained { AreChained graph.now.nodes.items }
+    requires noted { AreNotedChained (shape graph.now) }
+    requires listed { AreListed (shape graph.now) answers.old.items }
+    ensures listed { OnOk result (AreListed (shape graph.now) answers.new.items) }
+    ensures more { OnOk result (IsMore answers.old.items answers.new.items) }
+    ensures told { OnOk result ((k : ℕ) (n : Noted) → slice_get graph.now.noted.items k ≡ Some n →
+        IsNamed answers.new.items (Landing.Fault n.fault)) }
+{
+    for index in 0..graph.noted.len() {
+        let noted = graph.noted[index];
+        tell(
+            alloc,
+            graph.nodes.as_slice(),
+            noted.node,
+            Landing::Fault(noted.fault),
+            &mut *answers,
+        )?;
+    }
+    Ok(())
+}
+
+/// Whether from each world some entries lead to one that isn't unsettled, or to a fault.
+pub fn all_end(alloc: Global, graph: &Graph) -> Result<bool, AllocError>
+    requires within { AreWithin graph.now.edges.items (length graph.now.nodes.items) }
+    requires unsettled { length graph.now.unsettled.items ≡ length graph.now.nodes.items }
+    requires faulting { length graph.now.faulting.items ≡ length graph.now.nodes.items }
+    ensures { IfOk result (λ it. it ≡ true → (i : ℕ) → i < length graph.now.nodes.items → CanEnd (shape graph.now) i) }
+{
+    let mut ending = Vec::new(alloc);
+    for index in 0..graph.nodes.len() {
+        ending.push(ends_at(graph, index))?;
+    }
+    spread(graph.edges.as_slice(), &mut ending);
+    Ok(are_set(ending.as_slice()))
+}
+
+// Whether a world isn't unsettled, or has an entry that ends in a fault.
+fn ends_at(graph: &Graph, index: usize) -> bool
+    requires unsettled { index < length graph.now.unsettled.items }
+    requires faulting { index < length graph.now.faulting.items }
+    ensures { result ≡ true →
+        (slice_get graph.now.unsettled.items index ≡ Some false) ⊎
+        (slice_get graph.now.faulting.items index ≡ Some true) }
+{
+    if !graph.unsettled[index] {
+        return true;
+    }
+    graph.faulting[index]
+}
+
+// Whether all flags are set.
+fn are_set(flags: &[bool]) -> bool
+    ensures { result ≡ true → (i : ℕ) → i < length flags.now → slice_get flags.now i ≡ Some true }
+{
+    for flag in flags {
+        if !*flag {
+            return false;
+        }
+    }
+    true
+}

@@ -1,0 +1,69 @@
+//! The search.
+
+ghost use Rattle.std.specs.Prelude.{◌≡◌, ℕ, ◌<◌, ◌≤◌, ◌++◌, List, length, true, max, Ok as GoesWell};
+ghost use Rattle.std.specs.Prelude.{IfOk, OnOk, Some};
+ghost use Rattle.std.specs.List.{slice_get, All};
+ghost use Rattle.world_search.specs.Answers.{IsCovered, IsRight, IsEnd, IsShort, IsNumbered};
+ghost use Rattle.world_search.specs.Lists.{IsMore};
+ghost use Rattle.world_search.specs.Systems.{run};
+
+use crate::answers::{Bounds, Found};
+use crate::expanding::{Limits, explore};
+use crate::graphs::begin;
+use crate::listing::{all_end, list_faults, list_worlds};
+use crate::spread::spread;
+use crate::store::Worlds;
+use std::alloc::{AllocError, Global};
+
+/// Searches every schedule from the first world of a store, the one of number 0.
+///
+/// Each entry is made once at each world that is met. Beside the store, a world takes 14 bytes
+/// here, and an entry that leads to another world 8. `AllocError` where memory is refused, here or by the store.
+pub fn search<W: Worlds>(alloc: Global, worlds: &mut W, bounds: Bounds) -> Result<Found, AllocError>
+    requires { 0 < length (W.worlds worlds.old) }
+    ensures grows { OnOk result (IsMore (W.worlds worlds.old) (W.worlds worlds.new)) }
+    ensures adds { OnOk result (IsMore (W.faults worlds.old) (W.faults worlds.new)) }
+    ensures all { IfOk result (λ it. it.complete ≡ true → (first : W.World) →
+        slice_get (W.worlds worlds.old) 0 ≡ Some first → (schedule : List ℕ) →
+        IsCovered W.step W.report (W.worlds worlds.new) (W.faults worlds.new) it.answers.items
+        (run W.step (GoesWell first) schedule)) }
+    ensures each { IfOk result (λ it. (first : W.World) → slice_get (W.worlds worlds.old) 0 ≡ Some first →
+        All (IsRight W.step W.report (W.worlds worlds.new) (W.faults worlds.new) first) it.answers.items) }
+    ensures onward { IfOk result (λ it. it.complete ≡ true → it.ends ≡ true → (first : W.World) →
+        slice_get (W.worlds worlds.old) 0 ≡ Some first → (schedule : List ℕ) →
+        (more : List ℕ) × IsEnd W.step W.report (W.worlds worlds.new) (W.faults worlds.new) it.answers.items
+        (run W.step (GoesWell first) (schedule ++ more))) }
+    ensures numbers { IfOk result (λ it. All (IsNumbered W.most_born) it.answers.items) }
+    ensures short { IfOk result (λ it. All (IsShort bounds.entries) it.answers.items) }
+    ensures room { OnOk result (length (W.worlds worlds.new) ≤ max bounds.worlds (length (W.worlds worlds.old))) }
+    ensures count { IfOk result (λ it. it.worlds ≡ length (W.worlds worlds.new)) }
+{
+    let limits = Limits {
+        worlds: capped(bounds.worlds),
+        entries: capped(bounds.entries),
+    };
+    let mut graph = begin(alloc)?;
+    let complete = explore(&mut *worlds, &mut graph, limits)?;
+    spread(graph.edges.as_slice(), &mut graph.unsettled);
+    let mut answers = Vec::new(alloc);
+    list_worlds(alloc, &*worlds, &graph, &mut answers)?;
+    list_faults(alloc, &graph, &mut answers)?;
+    let ends = all_end(alloc, &graph)?;
+    Ok(Found {
+        answers,
+        complete,
+        ends,
+        worlds: worlds.len(),
+    })
+}
+
+// A bound as a number of the graph.
+fn capped(bound: usize) -> u32
+    ensures { result ≤ bound }
+{
+    if bound > u32::MAX as usize {
+        u32::MAX
+    } else {
+        bound as u32
+    }
+}
