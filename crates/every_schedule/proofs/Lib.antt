@@ -1,0 +1,4 @@
+pub mod Placed
+pub mod Told
+pub mod Listing
+pub mod Laws

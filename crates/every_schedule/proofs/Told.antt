@@ -1,0 +1,113 @@
+-- What a search promises of its answers, said of the answers that are told.
+use Rattle.std.proofs.Common.{◌≡◌, inl, inr, ℕ, ◌<◌, ◌≤◌, List, length, Result, Ok, Err, refl, sym, ap, ◌∙◌, subst, arith, get_or}
+use Rattle.std.specs.Prelude.{◌++◌, Some, IfOk}
+use Rattle.std.specs.List.{All, slice_get}
+use Rattle.std.proofs.lemmas.Option.{get_or_from_slice_get, same_Some, slice_get-get_or, slice_get_cases, slice_get_within}
+use Rattle.std.proofs.lemmas.List.Elements.{All-get_or, All-from_get_or}
+use Rattle.derived_ops.specs.Tree.{Tree}
+use Rattle.cell_registry.specs.declared.limits.Limits.{Limits}
+use Rattle.cell_registry.specs.declared.limits.RunError.{RunError}
+use Rattle.outcome_trace.specs.declared.report.Report.{Report}
+use Rattle.outcome_trace.specs.Core.{World, core, reported}
+use Rattle.world_search.specs.declared.answers.Answer.{Answer as Found}
+use Rattle.world_search.specs.declared.landings.Landing.{Landing}
+use Rattle.world_search.specs.declared.landings.Landing.TheVariants as to
+use Rattle.world_search.specs.Answers as search
+use Rattle.world_search.specs.Systems as systems
+use Rattle.every_schedule.specs.declared.exploration.Answer.{Answer}
+use Rattle.every_schedule.specs.Explored.{IsAnswered, IsCovered, IsListed, IsReached, IsSettled}
+use Rattle.every_schedule.specs.Places.{Kept, Place, first_place, placed, report_at, stepped}
+use Rattle.every_schedule.specs.Private.Telling.{AreTold, IsEnd, IsTold, IsWithin}
+use Rattle.every_schedule.proofs.Placed.{core_run, settles, settles_place}
+
+pub all_at : {A : Type 0} (P : A → Type 0) (xs : List A) (i : ℕ) (x : A) → slice_get xs i ≡ Some x → All P xs → P x
+all_at P xs i x e h = subst P (get_or_from_slice_get xs i x x e) (All-get_or P xs i x (slice_get_within xs i x e) h)
+
+pub all_from : {A : Type 0} (P : A → Type 0) (xs : List A) → ((i : ℕ) (x : A) → slice_get xs i ≡ Some x → P x) → All P xs
+all_from P xs h = λ k d low. let there = slice_get-get_or xs k d low in h k (get_or xs k d) there
+
+pub at_within : {A : Type 0} (xs : List A) (i : ℕ) → i < length xs → (x : A) × (slice_get xs i ≡ Some x)
+at_within xs i h = elim ((slice_get_cases xs i).1) [
+  | inl q ↦ (q.0, q.2)
+  | inr past ↦ absurd (omega arith)
+]
+
+-- what is right of an answer of a search has numbers that are there
+within : (kept : Kept) (first : Place) (s : List ℕ) (l : Landing) → search.LeadsTo stepped report_at kept.places kept.faults first s l → IsWithin kept l
+within kept first s (to.World j) h = slice_get_within kept.places j h.0 h.1
+within kept first s (to.Fault j) h = slice_get_within kept.faults j h.0 h.1
+
+pub all_within : (kept : Kept) (first : Place) (found : List Found) → All (search.IsRight stepped report_at kept.places kept.faults first) found → All (λ a. IsWithin kept a.end) found
+all_within kept first found right = all_from (λ a. IsWithin kept a.end) found (λ i f e.
+    within kept first f.schedule.items f.end (all_at (search.IsRight stepped report_at kept.places kept.faults first) found i f e right))
+
+module _ (kept : Kept) (found : List Found) (answers : List Answer) (told : AreTold kept found answers) where
+  -- an end of the search is the end that is told
+  ends_as : (k : Limits) (l : Landing) (x : Result World RunError) (end : Result Report RunError) → search.Tells stepped report_at kept.places kept.faults l (placed k x) → IsEnd kept l end → end ≡ reported x
+  ends_as k (to.World j) (Ok w) end h e =
+      let same : e.0 ≡ h.0 = same_Some e.0 h.0 (sym e.1 ∙ h.1) in
+      e.2 ∙ ap Ok (ap report_at same ∙ h.2)
+  ends_as k (to.World j) (Err d) end h e = absurd h
+  ends_as k (to.Fault j) (Ok w) end h e = absurd h
+  ends_as k (to.Fault j) (Err d) end h e = e.2 ∙ ap Err (same_Some e.0 d (sym e.1 ∙ h))
+
+  -- what is found is told
+  listed : (k : Limits) (x : Result World RunError) → search.IsAnswered stepped report_at kept.places kept.faults found (placed k x) → IsListed answers (reported x)
+  listed k x h =
+      let i = h.1.0 in
+      let low : i < length answers = subst (λ n. i < n) (sym told.many) (slice_get_within found i h.0 h.1.1) in
+      let a = at_within answers i low in
+      (i, a.0, a.1, ends_as k h.0.end x a.0.end h.2 (told.each i h.0 a.0 h.1.1 a.1).ends)
+
+  pub covered : (k : Limits) (x : Result World RunError) → search.IsCovered stepped report_at kept.places kept.faults found (placed k x) → IsCovered k answers x
+  covered k (Ok w) h = λ settled. listed k (Ok w) (h (settles_place k w settled))
+  covered k (Err e) h = listed k (Err e) h
+
+  pub answered : (k : Limits) (x : Result World RunError) → search.IsEnd stepped report_at kept.places kept.faults found (placed k x) → IsAnswered k answers x
+  answered k (Ok w) h = (settles k w h.0, listed k (Ok w) h.1)
+  answered k (Err e) h = listed k (Err e) h
+
+  -- where a schedule leads that is found, and its end as it is told
+  abbrev leads_to : (k : Limits) (x : Result World RunError) → Landing → Type 0
+  leads_to k x (to.World j) = (p : Place) × (slice_get kept.places j ≡ Some p) × (placed k x ≡ Ok p) × systems.IsSettled stepped report_at p
+  leads_to k x (to.Fault j) = (e : RunError) × (slice_get kept.faults j ≡ Some e) × (placed k x ≡ Err e)
+
+  led : (k : Limits) (x : Result World RunError) (l : Landing) (end : Result Report RunError) → leads_to k x l → IsEnd kept l end → (reported x ≡ end) × IfOk x (IsSettled k)
+  led k (Ok w) (to.World j) end h e =
+      let here : record { limits = k; world = w } ≡ h.0 = (let q = h.2 in cc) in
+      let same : h.0 ≡ e.0 = same_Some h.0 e.0 (sym h.1 ∙ e.1) in
+      (ap Ok (ap report_at (here ∙ same)) ∙ sym e.2, settles k w (subst (systems.IsSettled stepped report_at) (sym here) h.3))
+  led k (Ok w) (to.Fault j) end h e = absurd (let q = h.2 in cc)
+  led k (Err d) (to.World j) end h e = absurd (let q = h.2 in cc)
+  led k (Err d) (to.Fault j) end h e =
+      let here : d ≡ h.0 = (let q = h.2 in cc) in
+      let same : h.0 ≡ e.0 = same_Some h.0 e.0 (sym h.1 ∙ e.1) in
+      (ap Err (here ∙ same) ∙ sym e.2, tt)
+
+  leads : (code : Tree) (k : Limits) (s : List ℕ) (l : Landing) → search.LeadsTo stepped report_at kept.places kept.faults (first_place code k) s l → leads_to k (core code k s) l
+  leads code k s (to.World j) h = (h.0, h.1, sym (core_run code k s) ∙ h.2, h.3)
+  leads code k s (to.Fault j) h = (h.0, h.1, sym (core_run code k s) ∙ h.2)
+
+  -- an answer that is told was found
+  found_at : (i : ℕ) (a : Answer) → slice_get answers i ≡ Some a → (f : Found) × (slice_get found i ≡ Some f) × IsTold kept f a
+  found_at i a e =
+      let low : i < length found = subst (λ n. i < n) told.many (slice_get_within answers i a e) in
+      let f = at_within found i low in
+      (f.0, f.1, told.each i f.0 a f.1 e)
+
+  pub reached : (code : Tree) (k : Limits) → All (search.IsRight stepped report_at kept.places kept.faults (first_place code k)) found → All (IsReached code k) answers
+  reached code k right = all_from (IsReached code k) answers (λ i a e.
+      let it = found_at i a e in
+      let h = all_at (search.IsRight stepped report_at kept.places kept.faults (first_place code k)) found i it.0 it.1 right in
+      let both = led k (core code k it.0.schedule.items) it.0.end a.end (leads code k it.0.schedule.items it.0.end h) it.2.ends in
+      subst (λ s. IsReached code k record { schedule = s; end = a.end }) (sym it.2.schedule) (record { reached = both.0; settled = both.1 }))
+
+  pub numbered : (most : ℕ) → All (search.IsNumbered most) found → All (λ a. All (λ f. f < most) a.schedule) answers
+  numbered most h = all_from (λ a. All (λ f. f < most) a.schedule) answers (λ i a e.
+      let it = found_at i a e in
+      subst (λ s. All (λ f. f < most) s) (sym it.2.schedule) (all_at (search.IsNumbered most) found i it.0 it.1 h))
+
+  pub short : (most : ℕ) → All (search.IsShort most) found → All (λ a. length a.schedule ≤ most) answers
+  short most h = all_from (λ a. length a.schedule ≤ most) answers (λ i a e.
+      let it = found_at i a e in
+      subst (λ s. length s ≤ most) (sym it.2.schedule) (all_at (search.IsShort most) found i it.0 it.1 h))

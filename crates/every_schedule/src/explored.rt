@@ -1,0 +1,110 @@
+//! What can come of a program under every schedule.
+ghost use Rattle.std.specs.Prelude.{◌≡◌, ◌++◌, ◌<◌, ◌≤◌, ℕ, List, length, IfOk, IfErr, true};
+ghost use Rattle.std.specs.Prelude.{Ok as GoesWell, Err as Fails, Result as TheResult};
+ghost use Rattle.cell_registry.specs.declared.limits.RunError.{RunError as TheRunError};
+ghost use Rattle.std.specs.List.{All};
+ghost use Rattle.derived_ops.specs.Expansion.{code_of};
+ghost use Rattle.derived_ops.specs.Reading.{source_of};
+ghost use Rattle.fiber_frames.specs.Marks.{AreLawful};
+ghost use Rattle.cell_registry.specs.Cells.{AreLimits};
+ghost use Rattle.outcome_trace.specs.declared.report.Report.{Report as TheReport};
+ghost use Rattle.outcome_trace.specs.Core.{World, core, reported};
+ghost use Rattle.every_schedule.specs.Explored.{EndAlike, HasLawfulMarks, HasNoFault, HasOutcome};
+ghost use Rattle.every_schedule.specs.Explored.{IsAnswered, IsCovered, IsReached, IsSettled};
+ghost use Rattle.every_schedule.specs.Private.Telling.{AreTold, IsEnd, IsTold, IsWithin};
+
+use crate::core_worlds::CoreWorlds;
+use crate::exploration::{Answer, Answers, Exploration, Schedule};
+use cell_registry::{Limits, RunError};
+use effect_term::Program;
+use outcome_trace::Report;
+use std::alloc::{AllocError, Global};
+use world_search::{Bounds, Landing, search};
+
+/// All that can come of a program, whatever the schedule: the reports that no further entry changes, and the faults,
+/// each with a schedule under which it comes, as `replay` takes it.
+///
+/// Where the exploration is complete, no other report that stays and no other fault comes of any schedule. Where it
+/// isn't, since there are more worlds or longer schedules than the bounds allow, each answer is right all the same.
+/// So of a complete exploration: where no fault is listed, no schedule faults; where all answers end alike, the report
+/// doesn't hang on the schedule; and where a fiber has ended in each answer, it can still end wherever a schedule has
+/// led. A report is listed once, and so is a fault. The limits are in their ranges ([`Limits`]); a world takes memory for
+/// each of its numbers. [`RunError::NoMemory`] is the only error.
+pub fn explore(
+    alloc: Global,
+    program: &Program,
+    limits: Limits,
+    bounds: Bounds,
+) -> Result<Exploration, RunError>
+    requires limits { AreLimits limits }
+    ensures all { IfOk result (λ it. it.complete ≡ true → (schedule : List ℕ) →
+        IsCovered limits it.answers (core (code_of (source_of program.now)) limits schedule)) }
+    ensures each { IfOk result (λ it. All (IsReached (code_of (source_of program.now)) limits) it.answers) }
+    ensures onward { IfOk result (λ it. it.complete ≡ true → it.ends ≡ true → (schedule : List ℕ) →
+        (more : List ℕ) × IsAnswered limits it.answers
+        (core (code_of (source_of program.now)) limits (schedule ++ more))) }
+    ensures faultless { IfOk result (λ it. it.complete ≡ true → HasNoFault it.answers →
+        (schedule : List ℕ) (e : TheRunError) → core (code_of (source_of program.now)) limits schedule ≡ Fails e → ⊥) }
+    ensures alike { IfOk result (λ it. it.complete ≡ true → (end : TheResult TheReport TheRunError) → EndAlike it.answers end →
+        (schedule : List ℕ) (w : World) → core (code_of (source_of program.now)) limits schedule ≡ GoesWell w →
+        IsSettled limits w → reported (GoesWell w) ≡ end) }
+    ensures can_end { IfOk result (λ it. it.complete ≡ true → it.ends ≡ true → (f : ℕ) →
+        All (λ a. HasOutcome f a.end) it.answers → (schedule : List ℕ) → (more : List ℕ) ×
+        HasOutcome f (reported (core (code_of (source_of program.now)) limits (schedule ++ more)))) }
+    ensures numbers { IfOk result (λ it. All (λ a. All (λ f. f < 1000) a.schedule) it.answers) }
+    ensures short { IfOk result (λ it. All (λ a. length a.schedule ≤ bounds.entries) it.answers) }
+    ensures lawful { IfOk result (λ it. All HasLawfulMarks it.answers) }
+    ensures memory { IfErr result (λ e. e ≡ RunError.NoMemory) }
+{
+    let mut worlds = CoreWorlds::new(alloc, program, limits)?;
+    let found = search(alloc, &mut worlds, bounds)?;
+    let answers = told(alloc, &worlds, found.answers)?;
+    Ok(Exploration {
+        answers: Answers::new(answers),
+        worlds: found.worlds,
+        complete: found.complete,
+        ends: found.ends,
+    })
+}
+
+// The answers of a search, each with its report or fault.
+fn told(
+    alloc: Global,
+    worlds: &CoreWorlds,
+    found: Vec<world_search::Answer>,
+) -> Result<Vec<Answer>, AllocError>
+    requires { All (λ a. IsWithin worlds.now a.end) found.items }
+    ensures told { IfOk result (λ answers. AreTold worlds.now found.items answers.items) }
+    ensures lawful { IfOk result (λ answers. All HasLawfulMarks answers.items) }
+{
+    let mut answers = Vec::new(alloc);
+    for it in found {
+        answers.push(answer(worlds, it)?)?;
+    }
+    Ok(answers)
+}
+
+// An answer of a search, with its report or fault.
+fn answer(worlds: &CoreWorlds, found: world_search::Answer) -> Result<Answer, AllocError>
+    requires { IsWithin worlds.now found.end }
+    ensures told { IfOk result (λ answer. IsTold worlds.now found answer) }
+    ensures lawful { IfOk result (λ answer. HasLawfulMarks answer) }
+{
+    let end = end(worlds, found.end)?;
+    Ok(Answer {
+        schedule: Schedule::new(found.schedule),
+        end,
+    })
+}
+
+// The report of a world that was found, or a fault.
+fn end(worlds: &CoreWorlds, found: Landing) -> Result<Result<Report, RunError>, AllocError>
+    requires { IsWithin worlds.now found }
+    ensures told { IfOk result (λ end. IsEnd worlds.now found end) }
+    ensures lawful { IfOk result (λ end. IfOk end (λ r. All (λ f. AreLawful f.marks f.outcome) r.fibers)) }
+{
+    match found {
+        Landing::World(world) => Ok(Ok(worlds.report(world)?)),
+        Landing::Fault(number) => Ok(Err(worlds.fault(number))),
+    }
+}
