@@ -1,0 +1,3 @@
+pub mod Wants
+pub mod ExplorationText
+pub mod ExploreAnswers

@@ -1,0 +1,58 @@
+-- The outcomes of fiber 0 that are wanted, and which answers are not.
+use Rattle.std.specs.Prelude.{ℕ, Bool, true, false, not, List, [], ◌∷◌, Option, Some, None, Result, Ok, Err}
+use Rattle.std.specs.List.{list_any}
+use Rattle.std.specs.Ordering.{int_eq}
+use Rattle.effect_term.specs.declared.reply.Outcome.{Outcome}
+use Rattle.effect_term.specs.declared.reply.Outcome.TheVariants.{Succeeded, Errored, Canceled}
+use Rattle.effect_term.specs.Outcomes.{OutcomeFits}
+use Rattle.cell_registry.specs.declared.limits.RunError.{RunError}
+use Rattle.outcome_trace.specs.declared.report.FiberReport.{FiberReport}
+use Rattle.outcome_trace.specs.declared.report.Report.{Report}
+use Rattle.outcome_trace.specs.ReportText.{outcome_text}
+use Rattle.every_schedule.specs.declared.exploration.Answer.{Answer}
+use Rattle.exploration_text.specs.declared.wants.Want.{Want}
+use Rattle.exploration_text.specs.declared.wants.Want.TheVariants.{Ended, Unended}
+
+-- the outcome that is wanted, as a report has it
+abbrev pub outcome_wanted : Want → Option Outcome
+outcome_wanted (Ended outcome) = Some outcome
+outcome_wanted Unended = None
+
+-- how a report spells it
+abbrev pub want_text : Want → List ℕ
+want_text want = outcome_text (outcome_wanted want)
+
+-- its value is one
+abbrev pub IsInRange : Want → Type 0
+IsInRange (Ended outcome) = OutcomeFits outcome
+IsInRange Unended = Unit {0}
+
+-- whether two outcomes are one
+abbrev pub is_outcome : Outcome → Outcome → Bool
+is_outcome (Succeeded v) (Succeeded w) = int_eq v w
+is_outcome (Errored c) (Errored d) = int_eq c d
+is_outcome Canceled Canceled = true
+is_outcome _ _ = false
+
+-- whether a fiber with this outcome is as wanted
+abbrev pub is_met : Want → Option Outcome → Bool
+is_met (Ended wanted) (Some outcome) = is_outcome wanted outcome
+is_met Unended None = true
+is_met _ _ = false
+
+-- how fiber 0 has ended, if it has
+abbrev pub first_outcome : List FiberReport → Option Outcome
+first_outcome [] = None
+first_outcome (f ∷ fibers) = f.outcome
+
+-- Whether an answer shows that the program isn't right: a fault, or, where outcomes are wanted, a report whose fiber 0
+-- has another one.
+abbrev pub is_failure : List Want → Result Report RunError → Bool
+is_failure wants (Err e) = true
+is_failure [] (Ok r) = false
+is_failure (w ∷ wants) (Ok r) = not (list_any (λ want. is_met want (first_outcome r.fibers)) (w ∷ wants))
+
+-- whether an answer is listed as not wanted, which none is where nothing is wanted
+abbrev pub is_unwanted : List Want → Answer → Bool
+is_unwanted [] answer = false
+is_unwanted (w ∷ wants) answer = is_failure (w ∷ wants) answer.end

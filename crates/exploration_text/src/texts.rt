@@ -1,0 +1,215 @@
+//! The text of an exploration, and how the program ends behind it.
+
+ghost use Rattle.std.specs.Prelude.{◌≡◌, ◌++◌, IfOk, OnOk, codes, count_by, string_bytes};
+ghost use Rattle.std.specs.List.{All, list_any};
+ghost use Rattle.std.specs.Result.{is_err, is_ok};
+ghost use Rattle.exploration_text.specs.ExplorationText.{IsAnswerText, IsExplorationText, IsPartText, counted};
+ghost use Rattle.exploration_text.specs.ExplorationText.{end_text, exploration_status, first_line, has_failure};
+ghost use Rattle.exploration_text.specs.ExplorationText.{IsSpellable, heading, is_listed_so};
+ghost use Rattle.exploration_text.specs.Wants.{first_outcome, is_failure, is_met, is_unwanted};
+
+use crate::wants::Want;
+use cell_registry::RunError;
+use effect_term::Outcome;
+use every_schedule::{Answer, Exploration};
+use itoa::Buffer;
+use outcome_trace::{Refused, Report, Status, line, schedule_text, text_of_report};
+use std::alloc::{AllocError, Global};
+
+/// The text of an exploration: whether all was explored, how many worlds were found and how many reports and faults are
+/// listed; then each answer behind a blank line and its schedule, as a replay under the schedule writes it. Where
+/// outcomes of fiber 0 are wanted, the answers that have another one and the faults stand first, and are headed as not
+/// wanted.
+///
+/// The entries of each schedule are at most 999, and it has at most 1,000,000. `AllocError` where memory is refused.
+pub fn text_of_exploration(
+    alloc: Global,
+    exploration: &Exploration,
+    wants: &[Want],
+) -> Result<Vec<u8>, AllocError>
+    requires { All IsSpellable exploration.now.answers }
+    ensures { IfOk result (λ text. IsExplorationText wants.now exploration.now text.items) }
+{
+    let answers = exploration.answers.as_slice();
+    let unwanted = part_text(alloc, answers, wants, true)?;
+    let others = part_text(alloc, answers, wants, false)?;
+    let mut text = first_line(alloc, exploration)?.into_bytes();
+    text.extend_from_slice(unwanted.as_slice())?;
+    text.extend_from_slice(others.as_slice())?;
+    Ok(text)
+}
+
+/// How the program ends behind the text: `Status::Errored` where a fault is listed, or a report whose outcome of fiber 0
+/// isn't among those that are wanted, if any is; else `Status::Succeeded` where all was explored, and `Status::Unended`
+/// where it wasn't.
+pub fn exploration_status(exploration: &Exploration, wants: &[Want]) -> Status
+    ensures { result ≡ exploration_status wants.now exploration.now }
+{
+    if has_failure(exploration.answers.as_slice(), wants) {
+        Status::Errored
+    } else if exploration.complete {
+        Status::Succeeded
+    } else {
+        Status::Unended
+    }
+}
+
+// Whether an answer is a fault, or has an outcome that isn't wanted.
+fn has_failure(answers: &[Answer], wants: &[Want]) -> bool
+    ensures { result ≡ has_failure wants.now answers.now }
+{
+    for answer in answers {
+        if is_failure(&answer.end, wants) {
+            return true;
+        }
+    }
+    false
+}
+
+// Whether the end of an answer is a fault, or has an outcome that isn't wanted.
+fn is_failure(end: &Result<Report, RunError>, wants: &[Want]) -> bool
+    ensures { result ≡ is_failure wants.now end.now }
+{
+    match end {
+        Ok(report) => !wants.is_empty() && !is_wanted(report, wants),
+        Err(_) => true,
+    }
+}
+
+// How fiber 0 has ended, if it has.
+fn first_outcome(report: &Report) -> Option<Outcome>
+    ensures { result ≡ first_outcome report.now.fibers }
+{
+    report.fibers.as_slice().first()?.outcome
+}
+
+// Whether fiber 0 has come to one of these.
+fn is_wanted(report: &Report, wants: &[Want]) -> bool
+    ensures { result ≡ list_any (λ want. is_met want (first_outcome report.now.fibers)) wants.now }
+{
+    for want in wants {
+        if want.is_met(first_outcome(report)) {
+            return true;
+        }
+    }
+    false
+}
+
+// Whether an answer is listed as not wanted.
+fn is_unwanted(answer: &Answer, wants: &[Want]) -> bool
+    ensures { result ≡ is_unwanted wants.now answer.now }
+{
+    !wants.is_empty() && is_failure(&answer.end, wants)
+}
+
+// Whether an answer is one of those that are listed as not wanted, or one of the others.
+fn is_listed_so(answer: &Answer, wants: &[Want], unwanted: bool) -> bool
+    ensures { result ≡ is_listed_so unwanted wants.now answer.now }
+{
+    if unwanted {
+        is_unwanted(answer, wants)
+    } else {
+        !is_unwanted(answer, wants)
+    }
+}
+
+// The text of the answers that are listed as not wanted, or of the others.
+fn part_text(
+    alloc: Global,
+    answers: &[Answer],
+    wants: &[Want],
+    unwanted: bool,
+) -> Result<Vec<u8>, AllocError>
+    requires { All IsSpellable answers.now }
+    ensures { IfOk result (λ text. IsPartText unwanted wants.now answers.now text.items) }
+{
+    let mut text = Vec::new(alloc);
+    for answer in answers {
+        if is_listed_so(answer, wants, unwanted) {
+            let part = answer_text(alloc, answer, unwanted)?;
+            text.extend_from_slice(part.as_slice())?;
+        }
+    }
+    Ok(text)
+}
+
+// The text of an answer behind its schedule.
+fn answer_text(alloc: Global, answer: &Answer, unwanted: bool) -> Result<Vec<u8>, AllocError>
+    requires { IsSpellable answer.now }
+    ensures { IfOk result (λ text. IsAnswerText unwanted answer.now text.items) }
+{
+    let schedule = schedule_text(alloc, answer.schedule.as_slice())?;
+    let end = end_text(alloc, &answer.end)?;
+    let mut text = Vec::from_slice(alloc, heading(unwanted))?;
+    text.push(b'"')?;
+    text.extend_from_slice(schedule.as_bytes())?;
+    text.extend_from_slice(b"\"\n")?;
+    text.extend_from_slice(end.as_slice())?;
+    Ok(text)
+}
+
+// What stands before a schedule.
+fn heading(unwanted: bool) -> &'static [u8]
+    ensures { result.now ≡ heading unwanted }
+{
+    if unwanted {
+        b"\nnot wanted, under "
+    } else {
+        b"\nunder "
+    }
+}
+
+// The text of a report, or the line of a fault.
+fn end_text(alloc: Global, end: &Result<Report, RunError>) -> Result<Vec<u8>, AllocError>
+    ensures { IfOk result (λ text. text.items ≡ end_text end.now) }
+{
+    match end {
+        Ok(report) => Ok(text_of_report(alloc, report)?.into_bytes()),
+        Err(error) => line(alloc, &Refused::Run(*error)),
+    }
+}
+
+// How far the exploration came.
+fn first_line(alloc: Global, exploration: &Exploration) -> Result<String, AllocError>
+    ensures { IfOk result (λ line. string_bytes line ≡ first_line exploration.now) }
+{
+    let answers = exploration.answers.as_slice();
+    let mut line = String::new(alloc);
+    line.push_str(if exploration.complete {
+        "explored "
+    } else {
+        "stopped at "
+    })?;
+    push_counted(&mut line, exploration.worlds, "world")?;
+    line.push_str(": ")?;
+    push_counted(&mut line, reports(answers), "report")?;
+    line.push_str(", ")?;
+    push_counted(&mut line, faults(answers), "fault")?;
+    line.push_str("\n")?;
+    Ok(line)
+}
+
+// How many answers are reports.
+fn reports(answers: &[Answer]) -> usize
+    ensures { result ≡ count_by (λ a. is_ok a.end) answers.now }
+{
+    answers.iter().filter(|a| a.end.is_ok()).count()
+}
+
+// How many answers are faults.
+fn faults(answers: &[Answer]) -> usize
+    ensures { result ≡ count_by (λ a. is_err a.end) answers.now }
+{
+    answers.iter().filter(|a| a.end.is_err()).count()
+}
+
+// A number of things.
+fn push_counted(text: &mut String, number: usize, noun: &str) -> Result<(), AllocError>
+    ensures { OnOk result (string_bytes text.new ≡ string_bytes text.old ++ counted number noun.now) }
+{
+    let mut digits = Buffer::new();
+    text.push_str(digits.format(number))?;
+    text.push_str(" ")?;
+    text.push_str(noun)?;
+    text.push_str(if number == 1 { "" } else { "s" })
+}
