@@ -98,6 +98,13 @@ impl<'a> FiberTask<'a> {
         }
     }
 
+    /// How many moves the task may still make.
+    pub fn moves(&self) -> u32
+        ensures { result ≡ self.now.moves }
+    {
+        self.moves
+    }
+
     /// The task's pass and its fiber's state.
     pub fn into_parts(self) -> (Pass, Config)
         ensures pass { result.0 ≡ self.entry.pass }

@@ -12,7 +12,7 @@ use std::process::Abort;
 use std::sync::Wait;
 use std::test::Fail;
 use std::thread::Threads;
-use steal_pool::{Gate, OpenGate, Options, run};
+use steal_pool::{Gate, OpenGate, Options, RunEnd, run_told};
 use term_parse::parse;
 
 /// The options by default.
@@ -66,7 +66,24 @@ fn spelled(alloc: Global, answer: Result<Report, RunError>) -> Result<String, Fa
     }
 }
 
-/// What a run of the program that this text spells answers, with this gate.
+/// The text of the report of a run, or the line of its fault. Behind a report stands how many moves were
+/// made after the workers had ended, if there were any.
+fn told(alloc: Global, answer: Result<RunEnd, RunError>) -> Result<String, Fail> {
+    match answer {
+        Ok(end) => {
+            let mut text = spelled(alloc, Ok(end.report))?;
+            if end.finished > 0 {
+                let finished = end.finished;
+                push_piece(&mut text, format!(in alloc; "finished {finished}\n"))?;
+            }
+            Ok(text)
+        }
+        Err(fault) => spelled(alloc, Err(fault)),
+    }
+}
+
+/// What a run of the program that this text spells answers, with this gate. Where the workers left
+/// anything unfinished, the answer tells so.
 pub fn run_past<R: Threads + Wait + Sync, G: Gate>(
     rt: &R,
     alloc: Global,
@@ -78,7 +95,24 @@ pub fn run_past<R: Threads + Wait + Sync, G: Gate>(
     requires budget { 1 < options.budget }
 {
     let program = program(alloc, text)?;
-    spelled(alloc, run(rt, alloc, program, options, gate))
+    told(alloc, run_told(rt, alloc, program, options, gate))
+}
+
+/// Which fiber a run of the program that this text spells is told to have used its moves, if any is.
+pub fn stopped_in<R: Threads + Wait + Sync>(
+    rt: &R,
+    alloc: Global,
+    text: &str,
+    options: Options,
+) -> Result<Option<u16>, Fail>
+    requires limits { AreLimits (limits_of options) }
+    requires budget { 1 < options.budget }
+{
+    let program = program(alloc, text)?;
+    match run_told(rt, alloc, program, options, &OpenGate) {
+        Ok(end) => Ok(end.stopped),
+        Err(_) => Err(Fail::new("the run gave a fault")),
+    }
 }
 
 /// What a replay of a program under a schedule answers, within the greatest limits.

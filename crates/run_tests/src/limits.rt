@@ -1,7 +1,7 @@
 //! Limits at their edges: the first refused call ends a run with its fault, and a fiber that has used
 //! its moves is unended.
 
-use crate::answers::{Runs, USUAL, expect_runs, push_piece};
+use crate::answers::{Runs, USUAL, expect_runs, push_piece, stopped_in, within};
 use std::alloc::{AllocError, Global};
 use std::process::Abort;
 use std::sync::Wait;
@@ -171,6 +171,36 @@ fn moves_are_counted(rt: HostRuntime) -> Result<(), Fail> {
             ..USUAL
         };
         expect_runs(&rt, rt.alloc(), text, &Runs { options, ..RUNS }, &[*want])?;
+    }
+    Ok(())
+}
+
+// A program, how many moves fiber 0 may make, and which fiber has used its moves then. One that waits hasn't.
+const STOPPED: &[(&str, u32, Option<u16>)] = &[
+    ("(pure 7)", 1, Some(0)),
+    ("(pure 7)", 2, None),
+    ("(never)", 1, None),
+    ("(never)", 100_000, None),
+    ("(forever (cede))", 100_000, Some(0)),
+    ("(deferred d (await d))", 100_000, None),
+    ("(start f (never) (pure 1))", 100_000, None),
+    ("(start f (forever (cede)) (pure 1))", 100_000, Some(1)),
+    (
+        "(start f (forever (cede)) (join f x (pure x) e (raise e) (pure -1)))",
+        100_000,
+        Some(1),
+    ),
+];
+
+#[test]
+fn a_fiber_that_has_used_its_moves_is_told(rt: HostRuntime) -> Result<(), Fail> {
+    for (text, moves, want) in STOPPED {
+        let options = Options {
+            moves: *moves,
+            ..USUAL
+        };
+        let stopped = stopped_in(&rt, rt.alloc(), text, within(options, 4, 64))?;
+        assert!(rt; stopped == *want, "{text} of {moves} moves: {stopped:?}");
     }
     Ok(())
 }

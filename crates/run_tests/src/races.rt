@@ -1,17 +1,30 @@
-//! Programs whose reports hang on the schedule. All reports that may come are worked by hand: each is
-//! that of some replay, and each replay and each run gives one of them.
+//! Programs whose reports hang on the schedule. All reports that may come are worked by hand: an exploration
+//! finds these and no other, each with a schedule under which a replay gives it, and each run gives one of them.
 
 use crate::answers::{Runs, USUAL, expect_runs, program, replay_of};
-use crate::schedules::{Blocks, how_many, schedule};
+use cell_registry::Limits;
 use effect_term::Program;
-use std::alloc::Global;
+use every_schedule::{Answer, Bounds, explore};
+use outcome_trace::text_of_report;
+use std::alloc::{AllocError, Global};
 use std::process::Abort;
 use std::sync::Wait;
 use std::test::Fail;
 use std::thread::Threads;
 
-// More than the fibers of each program here.
-const FIBERS: u16 = 4;
+// Limits that none of these programs reaches.
+const LIMITS: Limits = Limits {
+    fibers: 16,
+    refs: 16,
+    deferreds: 16,
+    count: 1_099_511_627_775,
+};
+
+// Bounds that none of these explorations reaches.
+const BOUNDS: Bounds = Bounds {
+    worlds: 100_000,
+    entries: 10_000,
+};
 
 // How each program here is run.
 const RUNS: Runs<'static> = Runs {
@@ -26,8 +39,6 @@ struct Race<'a> {
     // What it shows.
     rule: &'a str,
     text: &'a str,
-    // The schedules that it is replayed under.
-    orders: &'a [Blocks<'a>],
     // Its reports.
     wanted: &'a [&'a str],
 }
@@ -37,16 +48,6 @@ const UPDATES: &[Race<'static>] = &[
         rule: "two fibers update a ref",
         text: "(ref r 0 (start f (modify r 1) (start g (modify r 2) (join f x (join g y (add x y) e (raise e) (pure -1)) e \
         (raise e) (pure -1)))))",
-        orders: &[
-            Blocks {
-                lead: 20,
-                then: &[(1, 7), (2, 7)],
-            },
-            Blocks {
-                lead: 20,
-                then: &[(2, 7), (1, 7)],
-            },
-        ],
         wanted: &[
             "fiber 0 succeeded 1\nfiber 1 succeeded 0\nfiber 2 succeeded 1\n",
             "fiber 0 succeeded 2\nfiber 1 succeeded 2\nfiber 2 succeeded 0\n",
@@ -56,16 +57,6 @@ const UPDATES: &[Race<'static>] = &[
         rule: "a get and a set apart lose an update",
         text: "(ref r 0 (start f (let x (get r) (let y (add x 1) (set r y))) (start g (let x (get r) (let y (add x 10) (set \
         r y))) (seq (join f x (pure x) e (raise e) (pure -1)) (join g x (pure x) e (raise e) (pure -1)) (get r)))))",
-        orders: &[
-            Blocks {
-                lead: 20,
-                then: &[(1, 14), (2, 14), (1, 14)],
-            },
-            Blocks {
-                lead: 20,
-                then: &[(2, 14), (1, 14), (2, 14)],
-            },
-        ],
         wanted: &[
             "fiber 0 succeeded 11\nfiber 1 succeeded 0\nfiber 2 succeeded 0\n",
             "fiber 0 succeeded 10\nfiber 1 succeeded 0\nfiber 2 succeeded 0\n",
@@ -75,16 +66,6 @@ const UPDATES: &[Race<'static>] = &[
     Race {
         rule: "one completion counts",
         text: "(deferred d (start f (complete d 1) (start g (complete d 2) (await d))))",
-        orders: &[
-            Blocks {
-                lead: 12,
-                then: &[(1, 7), (2, 7)],
-            },
-            Blocks {
-                lead: 12,
-                then: &[(2, 7), (1, 7)],
-            },
-        ],
         wanted: &[
             "fiber 0 succeeded 1\nfiber 1 succeeded 1\nfiber 2 succeeded 0\n",
             "fiber 0 succeeded 2\nfiber 1 succeeded 0\nfiber 2 succeeded 1\n",
@@ -93,10 +74,6 @@ const UPDATES: &[Race<'static>] = &[
     Race {
         rule: "numbers are given in the order of starts",
         text: "(start f (start h (say 1) (pure 0)) (start g (say 2) (pure 0)))",
-        orders: &[Blocks {
-            lead: 2,
-            then: &[(1, 5), (0, 5)],
-        }],
         wanted: &[
             "fiber 0 succeeded 0\nfiber 1 succeeded 0\nfiber 2 succeeded 0: say 1\nfiber 3 succeeded 0: say 2\n",
             "fiber 0 succeeded 0\nfiber 1 succeeded 0\nfiber 2 succeeded 0: say 2\nfiber 3 succeeded 0: say 1\n",
@@ -108,10 +85,6 @@ const REQUESTS: &[Race<'static>] = &[
     Race {
         rule: "a request is observed in the poll or outside the mask",
         text: "(start f (uncancelable p (seq (say 1) (poll p (say 2)) (say 3))) (cancel f))",
-        orders: &[Blocks {
-            lead: 2,
-            then: &[(1, 24), (0, 5)],
-        }],
         wanted: &[
             "fiber 0 succeeded 0: enter 0, leave 0\nfiber 1 canceled: cut\n",
             "fiber 0 succeeded 0: enter 0, leave 0\nfiber 1 canceled: enter 0, say 1, in 0, cut\n",
@@ -126,10 +99,6 @@ const REQUESTS: &[Race<'static>] = &[
         rule: "a request is observed where each mask is undone",
         text: "(start f (uncancelable p (uncancelable q (seq (say 1) (poll q (say 2)) (poll q (poll p (say 3))) (say 4)))) \
         (cancel f))",
-        orders: &[Blocks {
-            lead: 2,
-            then: &[(1, 40), (0, 5)],
-        }],
         wanted: &[
             "fiber 0 succeeded 0: enter 0, leave 0\nfiber 1 canceled: cut\n",
             "fiber 0 succeeded 0: enter 0, leave 0\n\
@@ -147,10 +116,6 @@ const REQUESTS: &[Race<'static>] = &[
     Race {
         rule: "what is acquired is released",
         text: "(start f (bracket x (say 1) (say 2) (say 3)) (cancel f))",
-        orders: &[Blocks {
-            lead: 2,
-            then: &[(1, 50), (0, 5)],
-        }],
         wanted: &[
             "fiber 0 succeeded 0: enter 0, leave 0\nfiber 1 canceled: cut\n",
             "fiber 0 succeeded 0: enter 0, leave 0\n\
@@ -169,10 +134,6 @@ const REQUESTS: &[Race<'static>] = &[
     Race {
         rule: "a finalizer runs while it is registered",
         text: "(ref r 0 (start f (oncancel (say 1) (set r 5)) (seq (cancel f) (get r))))",
-        orders: &[Blocks {
-            lead: 8,
-            then: &[(1, 12), (0, 5)],
-        }],
         wanted: &[
             "fiber 0 succeeded 0: enter 0, leave 0\nfiber 1 canceled: cut\n",
             "fiber 0 succeeded 5: enter 0, leave 0\nfiber 1 canceled: cut\n",
@@ -184,10 +145,6 @@ const REQUESTS: &[Race<'static>] = &[
     Race {
         rule: "a fiber that cedes is canceled",
         text: "(start f (seq (say 1) (cede) (say 2)) (start g (cede) (cancel f)))",
-        orders: &[Blocks {
-            lead: 4,
-            then: &[(1, 16), (0, 5)],
-        }],
         wanted: &[
             "fiber 0 succeeded 0: enter 0, leave 0\nfiber 1 canceled: cut\nfiber 2 succeeded 0\n",
             "fiber 0 succeeded 0: enter 0, leave 0\nfiber 1 canceled: say 1, cut\nfiber 2 succeeded 0\n",
@@ -201,10 +158,6 @@ const WAITS: &[Race<'static>] = &[
     Race {
         rule: "a wait ends by its deferred or by a request",
         text: "(deferred d (start f (await d) (start g (complete d 7) (cancel f))))",
-        orders: &[Blocks {
-            lead: 6,
-            then: &[(2, 7), (1, 7), (0, 5)],
-        }],
         wanted: &[
             "fiber 0 succeeded 0: enter 0, leave 0\nfiber 1 canceled: cut\nfiber 2 succeeded 1\n",
             "fiber 0 succeeded 0: enter 0, leave 0\nfiber 1 succeeded 7\nfiber 2 succeeded 1\n",
@@ -213,10 +166,6 @@ const WAITS: &[Race<'static>] = &[
     Race {
         rule: "a canceled join leaves the joined fiber",
         text: "(start f (seq (cede) (pure 3)) (start g (join f x (pure x) e (pure -1) (pure -2)) (cancel g)))",
-        orders: &[Blocks {
-            lead: 4,
-            then: &[(1, 12), (2, 8), (0, 5)],
-        }],
         wanted: &[
             "fiber 0 succeeded 0: enter 0, leave 0\nfiber 1 succeeded 3\nfiber 2 canceled: cut\n",
             "fiber 0 succeeded 0: enter 0, leave 0\nfiber 1 succeeded 3\nfiber 2 succeeded 3\n",
@@ -225,16 +174,6 @@ const WAITS: &[Race<'static>] = &[
     Race {
         rule: "a fiber that cancels is canceled",
         text: "(start f (say 1) (start g (cancel f) (cancel g)))",
-        orders: &[
-            Blocks {
-                lead: 4,
-                then: &[(1, 7), (2, 5), (1, 8), (2, 8)],
-            },
-            Blocks {
-                lead: 4,
-                then: &[(1, 7), (2, 3), (0, 5)],
-            },
-        ],
         wanted: &[
             "fiber 0 succeeded 0: enter 0, leave 0\nfiber 1 succeeded 0: say 1\nfiber 2 canceled: cut\n",
             "fiber 0 succeeded 0: enter 0, leave 0\nfiber 1 canceled: cut\nfiber 2 canceled: enter 0, leave 0, cut\n",
@@ -252,16 +191,6 @@ const WAITS: &[Race<'static>] = &[
 const RACE: &[Race<'static>] = &[Race {
     rule: "either side wins a race",
     text: "(race (pure 4) (pure 5))",
-    orders: &[
-        Blocks {
-            lead: 20,
-            then: &[(1, 18), (2, 26), (0, 18)],
-        },
-        Blocks {
-            lead: 20,
-            then: &[(2, 18), (1, 26), (0, 18)],
-        },
-    ],
     wanted: &[
         "fiber 0 succeeded 4: enter 0, in 0, out 0, enter 1, leave 1, leave 0\n\
         fiber 1 succeeded 4: enter 0, in 0, out 0, leave 0\n\
@@ -293,16 +222,6 @@ const RACE: &[Race<'static>] = &[Race {
 const BOTH: &[Race<'static>] = &[Race {
     rule: "either side fails first",
     text: "(both (raise 5) (raise 6) x y (pure 0))",
-    orders: &[
-        Blocks {
-            lead: 26,
-            then: &[(1, 20), (2, 26), (0, 18)],
-        },
-        Blocks {
-            lead: 26,
-            then: &[(2, 20), (1, 26), (0, 18)],
-        },
-    ],
     wanted: &[
         "fiber 0 errored 5: enter 0, in 0, out 0, enter 1, leave 1, leave 0\n\
         fiber 1 errored 5: enter 0, in 0, out 0, leave 0\n\
@@ -334,10 +253,6 @@ const BOTH: &[Race<'static>] = &[Race {
 const NEVER: &[Race<'static>] = &[Race {
     rule: "the side that never ends loses",
     text: "(race (never) (pure 5))",
-    orders: &[Blocks {
-        lead: 20,
-        then: &[(1, 12), (2, 30), (0, 18)],
-    }],
     wanted: &[
         "fiber 0 succeeded 5: enter 0, in 0, out 0, enter 1, leave 1, leave 0\n\
         fiber 1 canceled: cut\n\
@@ -360,61 +275,55 @@ fn note(report: &str, wanted: &[&str], met: &mut [bool]) -> bool {
     found
 }
 
-// The replay under one of these schedules gives one of the reports that are wanted, which is noted.
-fn expect_replay<R: Abort>(
-    rt: &R,
-    alloc: Global,
-    program: &Program,
-    entries: &[u16],
-    wanted: &[&str],
-    met: &mut [bool],
-) -> Result<(), Fail> {
-    let report = replay_of(alloc, program, entries)?;
-    assert!(rt; note(report.as_str(), wanted, met), "{report}");
-    Ok(())
-}
-
-// The same of all schedules that begin with these blocks.
-fn expect_replays<R: Abort>(
-    rt: &R,
-    alloc: Global,
-    program: &Program,
-    blocks: &Blocks<'_>,
-    wanted: &[&str],
-    met: &mut [bool],
-) -> Result<(), Fail> {
-    for number in 0..how_many(blocks) {
-        let entries = schedule(alloc, blocks, number, FIBERS)?;
-        expect_replay(rt, alloc, program, entries.as_slice(), wanted, met)?;
+// The text of the report of an answer, or nothing where it is a fault.
+fn spelled(alloc: Global, answer: &Answer) -> Result<String, Fail> {
+    match &answer.end {
+        Ok(report) => Ok(text_of_report(alloc, report)?),
+        Err(_) => Ok(String::new(alloc)),
     }
+}
+
+// An answer is one of the reports that are wanted, which is noted, and the replay of its schedule gives it.
+fn expect_answer<R: Abort>(
+    rt: &R,
+    alloc: Global,
+    program: &Program,
+    answer: &Answer,
+    wanted: &[&str],
+    met: &mut [bool],
+) -> Result<(), Fail> {
+    let report = spelled(alloc, answer)?;
+    assert!(rt; note(report.as_str(), wanted, met), "{report}");
+    let replayed = replay_of(alloc, program, answer.schedule.as_slice())?;
+    assert!(rt; replayed.as_str() == report.as_str(), "{replayed}");
     Ok(())
 }
 
-// Replays of the program give its reports, each of them and no other.
-fn expect_all<R: Abort>(
-    rt: &R,
-    alloc: Global,
-    race: &Race<'_>,
-    met: &mut [bool],
-) -> Result<(), Fail> {
+// An exploration finds the reports that are wanted, each of them once and no other.
+fn expect_explored<R: Abort>(rt: &R, alloc: Global, race: &Race<'_>) -> Result<(), Fail> {
     let program = program(alloc, race.text)?;
-    for blocks in race.orders {
-        expect_replays(rt, alloc, &program, blocks, race.wanted, met)?;
+    let Ok(found) = explore(alloc, &program, LIMITS, BOUNDS) else {
+        return Err(Fail::from(AllocError));
+    };
+    let answers = found.answers.as_slice();
+    assert!(rt; found.complete && found.ends, "{}", race.rule);
+    assert!(rt; answers.len() == race.wanted.len(), "{}", race.rule);
+    let mut met = vec![in alloc; false; race.wanted.len()]?;
+    for answer in answers {
+        expect_answer(rt, alloc, &program, answer, race.wanted, met.as_mut_slice())?;
     }
     assert!(rt; !met.contains(&false), "{}: {met:?}", race.rule);
     Ok(())
 }
 
-// Each replay and each run of these programs gives one of its reports, and each of them comes of some
-// replay.
+// An exploration of these programs finds their reports, and each run gives one of them.
 fn expect_races<R: Abort + Threads + Wait + Sync>(
     rt: &R,
     alloc: Global,
     races: &[Race<'_>],
 ) -> Result<(), Fail> {
     for race in races {
-        let mut met = vec![in alloc; false; race.wanted.len()]?;
-        expect_all(rt, alloc, race, met.as_mut_slice())?;
+        expect_explored(rt, alloc, race)?;
         expect_runs(rt, alloc, race.text, &RUNS, race.wanted)?;
     }
     Ok(())

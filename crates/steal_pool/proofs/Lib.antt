@@ -1,3 +1,4 @@
+pub mod Ending
 pub mod Ledgers
 pub mod Lining
 pub mod Meeting

@@ -2,19 +2,22 @@
 use Rattle.std.proofs.Common.{◌≡◌, ℕ, zero, suc, ◌<◌, List, [], ◌∷◌, ◌++◌, length, get_or, All, ◌⊎◌, inl, inr, Some, Ok, refl, sym, ap, ◌∙◌, subst, arith}
 use Rattle.std.specs.List.{slice_get}
 use Rattle.std.proofs.lemmas.Option.{same_Some}
+use mathlib.Core.List.{IsPrefix}
 use Rattle.derived_ops.specs.Tree.{Tree}
 use Rattle.fiber_frames.specs.Fiber.{Fiber}
 use Rattle.cell_registry.specs.declared.limits.Limits.{Limits}
-use Rattle.cell_registry.specs.Histories.{IsLegal, left}
+use Rattle.cell_registry.specs.Histories.{IsLegal, calls_by, left}
 use Rattle.cell_registry.specs.Passes.{Counts, IsPass, Meets, PassView, RegistryView}
 use Rattle.cell_registry.specs.Rule.{Has}
 use Rattle.outcome_trace.specs.declared.report.FiberReport.{FiberReport}
 use Rattle.outcome_trace.specs.Core.{core, reported}
+use Rattle.outcome_trace.specs.Fitting.{Fits, cell_registered}
 use Rattle.outcome_trace.specs.Stands.{IsOfSomeSchedule, Stands}
+use Rattle.outcome_trace.proofs.Continuing.{fits_longer, fits_pass}
 use Rattle.outcome_trace.proofs.Standing.Moving.{stands-longer}
 use Rattle.outcome_trace.proofs.Standing.Schedules.{some_schedules}
 use Rattle.fiber_poll.specs.Tasks.{IsTask, IsTaskOf, TaskView}
-use Rattle.steal_pool.specs.Private.Gathered.{AreLines, Gathered, IsAtHome}
+use Rattle.steal_pool.specs.Private.Gathered.{AreLines, Gathered, IsAtHome, IsMet}
 
 has-left : (xs ys : List ℕ) (f : ℕ) → Has xs f → Has (xs ++ ys) f
 has-left [] ys f h = absurd h
@@ -32,34 +35,51 @@ last_or (y ∷ xs) a zero x e = inl e
 last_or (y ∷ xs) a (suc i) x e = elim (last_or xs a i x e) [ inl h ↦ inl h | inr h ↦ inr (ap suc h.0, h.1) ]
 
 -- what one task brings
-own_at : (code : Tree) (t : TaskView) (r : RegistryView) → IsTaskOf r code t → IsTask t → Has t.pass.fibers t.state.number × Stands code t.pass.seen t.state.number t.state
-own_at code t r i k = (subst (Has t.pass.fibers) (sym k.number) k.pass.own, subst (λ n. Stands code t.pass.seen n t.state) (sym k.number) i.stands)
+own_at : (code : Tree) (t : TaskView) (r : RegistryView) → IsTaskOf r code t → IsTask t → IsMet code t.pass t.state
+own_at code t r i k = record {
+  own = subst (Has t.pass.fibers) (sym k.number) k.pass.own;
+  stands = subst (λ n. Stands code t.pass.seen n t.state) (sym k.number) i.stands;
+  fits = elim k.fits [
+    | inl b ↦ inl b
+    | inr f ↦ inr (subst (λ n. Fits (cell_registered (left t.pass.registry.limits t.pass.seen) n) t.state) (sym k.number) (fits_pass t.pass t.state k.pass f))
+  ];
+}
+
+-- and still does where the pass has seen more, without a call of the fiber
+met_longer : (code : Tree) (p q : PassView) (s : Fiber) → q.registry ≡ p.registry → Has q.fibers s.number → IsPrefix p.seen q.seen → calls_by s.number q.seen ≡ calls_by s.number p.seen → IsMet code p s → IsMet code q s
+met_longer code p q s home own seen calls m = record {
+  own = own;
+  stands = stands-longer code s.number p.seen q.seen s seen calls m.stands;
+  fits = elim m.fits [
+    | inl b ↦ inl b
+    | inr f ↦ inr (subst (λ (x : RegistryView). Fits (cell_registered (left x.limits q.seen) s.number) s) (sym home) (fits_longer p.registry.limits p.seen q.seen s.number s seen calls f))
+  ];
+}
 
 gathered-one : (r : RegistryView) (code : Tree) (t : TaskView) → IsTaskOf r code t → IsTask t → Gathered r code t.pass (t.state ∷ [])
 gathered-one r code t i k = record { home = k.here ∙ i.home; pass = k.pass; at = one }
   where
-    one : (j : ℕ) (s : Fiber) → slice_get (t.state ∷ []) j ≡ Some s → Has t.pass.fibers s.number × Stands code t.pass.seen s.number s
-    one zero s e = subst (λ (x : Fiber). Has t.pass.fibers x.number × Stands code t.pass.seen x.number x) (same_Some t.state s e) (own_at code t r i k)
+    one : (j : ℕ) (s : Fiber) → slice_get (t.state ∷ []) j ≡ Some s → IsMet code t.pass s
+    one zero s e = subst (IsMet code t.pass) (same_Some t.state s e) (own_at code t r i k)
     one (suc j) s e = absurd (cc)
 
 gathered-more : (r : RegistryView) (code : Tree) (met : PassView) (configs : List Fiber) (t : TaskView) (q : PassView) → Gathered r code met configs → IsTaskOf r code t → IsTask t → Meets met t.pass q → IsPass q → Gathered r code q (configs ++ t.state ∷ [])
-gathered-more r code met configs t q g i k m lawful = record {
-  home = ap (λ (x : PassView). x.registry) m.same ∙ g.home;
-  pass = lawful;
-  at = λ j s e. elim (last_or configs t.state j s e) [
-    | inl h ↦
-        let old = g.at j s h in (
-          subst (λ (l : List ℕ). Has l s.number) (sym (ap (λ (x : PassView). x.fibers) m.same)) (has-left met.fibers t.pass.fibers s.number old.0),
-          stands-longer code s.number met.seen q.seen s m.first (m.own s.number old.0) old.1,
-        )
-    | inr h ↦
-        let mine = own_at code t r i k in
-        subst (λ (x : Fiber). Has q.fibers x.number × Stands code q.seen x.number x) (sym h.1) (
-          subst (λ (l : List ℕ). Has l t.state.number) (sym (ap (λ (x : PassView). x.fibers) m.same)) (has-right met.fibers t.pass.fibers t.state.number mine.0),
-          stands-longer code t.state.number t.pass.seen q.seen t.state m.second (m.other t.state.number mine.0) mine.1,
-        )
-  ];
-}
+gathered-more r code met configs t q g i k m lawful =
+    let home : q.registry ≡ met.registry = ap (λ (x : PassView). x.registry) m.same in
+    let fibers : q.fibers ≡ met.fibers ++ t.pass.fibers = ap (λ (x : PassView). x.fibers) m.same in record {
+      home = home ∙ g.home;
+      pass = lawful;
+      at = λ j s e. elim (last_or configs t.state j s e) [
+        | inl h ↦
+            let old = g.at j s h in
+            met_longer code met q s home (subst (λ (l : List ℕ). Has l s.number) (sym fibers) (has-left met.fibers t.pass.fibers s.number old.own)) m.first (m.own s.number old.own) old
+        | inr h ↦
+            let mine = own_at code t r i k in
+            subst (IsMet code q) (sym h.1)
+            (met_longer code t.pass q t.state (home ∙ g.home ∙ sym (k.here ∙ i.home)) (subst (λ (l : List ℕ). Has l t.state.number) (sym fibers) (has-right met.fibers t.pass.fibers t.state.number mine.own))
+            m.second (m.other t.state.number mine.own) mine)
+      ];
+    }
 
 -- what the states give is the report of some schedule
 pub gathered_report : (r : RegistryView) (code : Tree) (met : PassView) (configs : List Fiber) (n : ℕ) (q : PassView) (lines : List FiberReport) → Gathered r code met configs → Counts met n q → AreLines configs n lines → IsOfSomeSchedule code r.limits record { fibers = lines }
@@ -71,7 +91,7 @@ gathered_report r code met configs n q lines g c a =
     let each : (f : ℕ) (s : Fiber) → slice_get a.finals f ≡ Some s → Stands code q.seen f s = λ f s e.
     let i = a.each f s e in
     let old = g.at i.place s i.here in
-    subst (λ (x : ℕ). Stands code q.seen x s) i.number (stands-longer code s.number met.seen q.seen s c.look.seen (c.look.own s.number old.0) old.1) in
+    subst (λ (x : ℕ). Stands code q.seen x s) i.number (stands-longer code s.number met.seen q.seen s c.look.seen (c.look.own s.number old.own) old.stands) in
     let some = some_schedules code r.limits q.seen a.finals legal (a.many ∙ sym next) each in
     (some.0, ap reported some.1 ∙ ap (λ (l : List FiberReport). Ok record { fibers = l }) (sym a.lines_are))
 

@@ -43,8 +43,9 @@ pub fn gather<'a>(
     })
 }
 
-// One pass that has met those of all tasks, and the states of their fibers.
-fn meet<'a>(
+// One pass that has met those of all tasks, and the states of their fibers, of which that of the last task
+// comes first.
+pub(crate) fn meet<'a>(
     alloc: Global,
     registry: &Registry,
     tasks: Vec<FiberTask<'a>>,
@@ -77,7 +78,7 @@ fn meet<'a>(
 }
 
 // One state more.
-fn push(configs: &mut Vec<Config>, config: Config) -> Result<(), RunError>
+pub(crate) fn push(configs: &mut Vec<Config>, config: Config) -> Result<(), RunError>
     ensures pushed { OnOk result (configs.new.items ≡ configs.old.items ++ config ∷ []) }
     ensures refused { IfErr result (λ error. error ≡ RunError.NoMemory) }
 {

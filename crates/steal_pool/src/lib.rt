@@ -4,17 +4,20 @@
 //! its reports (`outcome_trace`), and on the kit's `crossbeam_deque` for the queues, `crossbeam_utils`
 //! for parking and `once_cell` for the first fault. [`run`] starts the workers. Each takes numbers of
 //! fibers from its queue, takes their tasks from the bay, makes turns of them and puts them back, until
-//! no fiber can go on. [`gather`] takes the tasks of one registry and one code, whoever moved them and
-//! in whatever order, and reads a report off them.
+//! no fiber can go on. What they left unfinished, which is nothing where each wake arrived, one thread
+//! finishes. [`gather`] takes the tasks of one registry and one code, whoever moved them and in whatever
+//! order, and reads a report off them.
 //!
-//! It promises that every report is one that the core gives under some schedule. That wakes arrive and
-//! that workers run at once is tested only.
+//! It promises that every report is one that the core gives under some schedule, and that a run's is
+//! complete ([`run_told`]) unless a fiber has used its moves. That wakes arrive and that workers run at
+//! once is tested only.
 #![tactic(auto)]
 
 mod berth;
 mod crew;
 mod deque;
 mod fault;
+mod finishing;
 mod gate;
 mod gathering;
 mod idle;
@@ -27,7 +30,8 @@ mod serving;
 mod traffic;
 mod worker;
 
+pub use finishing::RunEnd;
 pub use gate::{Gate, OpenGate};
 pub use gathering::gather;
 pub use options::Options;
-pub use running::run;
+pub use running::{run, run_told};

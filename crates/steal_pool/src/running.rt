@@ -1,19 +1,21 @@
-//! A run: the registry, the bay and the workers come and go, and what is left is gathered.
-ghost use Rattle.std.specs.Prelude.{◌≡◌, ◌<◌, All, IfErr, IfOk};
+//! A run: the registry, the bay and the workers come and go, and what is left goes on by one thread.
+ghost use Rattle.std.specs.Prelude.{◌≡◌, ◌<◌, ℕ, All, IfErr, IfOk, None as Nobody, Some as Somebody};
 ghost use Rattle.once_cell.specs.Once.{cell_name};
 ghost use Rattle.cell_registry.specs.Cells.{AreLimits};
 ghost use Rattle.cell_registry.specs.Passes.{first_pass};
 ghost use Rattle.derived_ops.specs.Expansion.{code_of};
 ghost use Rattle.derived_ops.specs.Reading.{source_of};
+ghost use Rattle.outcome_trace.specs.Finals.{IsFinalReport, IsSettledReport};
 ghost use Rattle.outcome_trace.specs.Stands.{IsOfSomeSchedule};
 ghost use Rattle.steal_pool.specs.Gathering.{IsLawful};
 ghost use Rattle.wait_bay.specs.Bays.{IsSeatOf};
-ghost use Rattle.steal_pool.specs.Runs.{IsFaultWithin, limits_of};
+ghost use Rattle.steal_pool.specs.Private.Gathered.{Gathered};
+ghost use Rattle.steal_pool.specs.Runs.{IsEnd, IsFaultWithin, TellsUnended, limits_of};
 
 use crate::crew::Crew;
 use crate::fault::{FaultCell, FirstFault, Learned};
+use crate::finishing::{Leavings, RunEnd};
 use crate::gate::Gate;
-use crate::gathering::gather;
 use crate::inlet::{InletEnd, empty_inlet};
 use crate::laws;
 use crate::options::Options;
@@ -33,8 +35,8 @@ use std::thread::{JoinHandle, Threads};
 use wait_bay::{Bay, BaySeat};
 
 /// Runs a program on worker threads, until no fiber can go on, and tells what each fiber has come
-/// to. A fiber that waits, or has used its moves, is unended. The report is one that the core gives
-/// under some schedule.
+/// to. A fiber that rests at a wait that nothing serves, or has used its moves, is unended. The report is
+/// one that the core gives under some schedule; [`run_told`] tells whether it is complete.
 ///
 /// The first fault of a worker ends the run: `Full` and `Spent` as a turn answers them, `NoMemory`
 /// where there was none, for a push on a queue too, and `Lost` where a fiber's task wasn't where it
@@ -54,25 +56,56 @@ pub fn run<R: Threads + Wait + Sync, G: Gate>(
     ensures lawful { IfOk result (λ report. All IsLawful report.fibers) }
     ensures full { IfErr result (IsFaultWithin (limits_of options)) }
 {
+    match run_told(rt, alloc, program, options, gate) {
+        Ok(end) => Ok(end.report),
+        Err(fault) => Err(fault),
+    }
+}
+
+/// Runs a program as [`run`] does, and tells also whether the report is complete.
+///
+/// Unless a fiber is told to have used its moves, the report is a final one: that of a schedule of the
+/// core after which each fiber has ended, or rests at a wait that nothing serves. Whatever entries
+/// follow, no fiber's outcome or marks change and no fault comes. It doesn't matter what the workers
+/// did: once they have ended, the fibers go on by one thread until none can. Where each wake arrived,
+/// that thread finds nothing to do.
+pub fn run_told<R: Threads + Wait + Sync, G: Gate>(
+    rt: &R,
+    alloc: Global,
+    program: Program,
+    options: Options,
+    gate: &G,
+) -> Result<RunEnd, RunError>
+    requires limits { AreLimits (limits_of options) }
+    requires budget { 1 < options.budget }
+    ensures schedule { IfOk result (λ it. IsOfSomeSchedule (code_of (source_of program)) (limits_of options)
+        it.report) }
+    ensures complete { IfOk result (λ it. it.stopped ≡ Nobody →
+        IsFinalReport (code_of (source_of program)) (limits_of options) it.report) }
+    ensures settled { IfOk result (λ it. it.stopped ≡ Nobody →
+        IsSettledReport (code_of (source_of program)) (limits_of options) it.report) }
+    ensures stopped { IfOk result (λ it. (f : ℕ) → it.stopped ≡ Somebody f → TellsUnended it.report f) }
+    ensures lawful { IfOk result (λ it. All IsLawful it.report.fibers) }
+    ensures full { IfErr result (IsFaultWithin (limits_of options)) }
+{
     match attempt(rt, alloc, &program, options, gate) {
-        Ok(report) => Ok(report),
+        Ok(end) => Ok(end),
         Err(fault) => Err(laws::within(options, fault)),
     }
 }
 
-// The registry of a run, and what the workers leave of it.
+// The registry of a run, and its end.
 fn attempt<R: Threads + Wait + Sync, G: Gate>(
     rt: &R,
     alloc: Global,
     program: &Program,
     options: Options,
     gate: &G,
-) -> Result<Report, RunError>
+) -> Result<RunEnd, RunError>
     requires limits { AreLimits (limits_of options) }
     requires budget { 1 < options.budget }
-    ensures schedule { IfOk result (λ report. IsOfSomeSchedule (code_of (source_of program.now)) (limits_of options)
-        report) }
-    ensures lawful { IfOk result (λ report. All IsLawful report.fibers) }
+    ensures ends { IfOk result (IsEnd (code_of (source_of program.now)) (limits_of options)) }
+    ensures lawful { IfOk result (λ it. All IsLawful it.report.fibers) }
 {
     let Options {
         fibers,
@@ -83,10 +116,11 @@ fn attempt<R: Threads + Wait + Sync, G: Gate>(
     } = options;
     let code = expand(alloc, program)?;
     let (registry, pass) = Registry::new(alloc, fibers, refs, deferreds, count)?;
-    of_registry(rt, alloc, &registry, pass, &code, options, gate)
+    let leavings = of_registry(rt, alloc, &registry, pass, &code, options, gate)?;
+    leavings.finish(alloc, registry)
 }
 
-// The bay of a run, and what the workers leave of it.
+// The bay of a run, and what the workers leave.
 fn of_registry<R: Threads + Wait + Sync, G: Gate>(
     rt: &R,
     alloc: Global,
@@ -95,12 +129,11 @@ fn of_registry<R: Threads + Wait + Sync, G: Gate>(
     code: &Code,
     options: Options,
     gate: &G,
-) -> Result<Report, RunError>
+) -> Result<Leavings, RunError>
     requires pass { pass ≡ first_pass registry.now }
     requires some { 0 < options.fibers }
     requires budget { 1 < options.budget }
-    ensures schedule { IfOk result (λ report. IsOfSomeSchedule code.now registry.now.limits report) }
-    ensures lawful { IfOk result (λ report. All IsLawful report.fibers) }
+    ensures { IfOk result (λ it. Gathered registry.now code.now it.met it.configs.items) }
 {
     let task = first(alloc, registry, pass, code, options.moves)?;
     let named = Some((registry, code));
@@ -111,7 +144,7 @@ fn of_registry<R: Threads + Wait + Sync, G: Gate>(
     if let Some(fault) = drive(rt, alloc, &bay, seat, options, gate)? {
         return Err(fault);
     }
-    gather(alloc, registry, code, bay.empty()?)
+    Leavings::of(alloc, registry, code, bay.empty()?)
 }
 
 // Has workers run the tasks of a bay from fiber 0 on, and answers the first fault, if there was one.

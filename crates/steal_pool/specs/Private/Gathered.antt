@@ -4,23 +4,31 @@ use Rattle.std.specs.List.{slice_get}
 use mathlib.Core.List.{IsPrefix}
 use Rattle.derived_ops.specs.Tree.{Tree}
 use Rattle.fiber_frames.specs.Fiber.{Fiber}
+use Rattle.cell_registry.specs.Histories.{left}
 use Rattle.cell_registry.specs.Passes.{IsOf, IsPass, PassView, RegistryView}
 use Rattle.cell_registry.specs.Rule.{Has}
 use Rattle.outcome_trace.specs.declared.report.FiberReport.{FiberReport}
 use Rattle.outcome_trace.specs.Core.{fiber_report}
+use Rattle.outcome_trace.specs.Fitting.{Fits, cell_registered}
 use Rattle.outcome_trace.specs.Stands.{Stands}
-use Rattle.fiber_poll.specs.Tasks.{TaskView}
+use Rattle.fiber_poll.specs.Tasks.{IsBroken, TaskView}
 
 -- the task is at home at this registry
 abbrev pub IsAtHome : RegistryView → TaskView → Type 0
 IsAtHome r t = t.home ≡ r
 
+-- the state is one of a code under what the pass has seen, which is of this fiber too; unless the fiber is broken, it
+-- fits what its calls there leave
+pub record IsMet (code : Tree) (met : PassView) (s : Fiber) : Type 0 where
+  pub own : Has met.fibers s.number
+  pub stands : Stands code met.seen s.number s
+  pub fits : IsBroken s ⊎ Fits (cell_registered (left met.registry.limits met.seen) s.number) s
+
 -- the pass has met the passes of these states' tasks
 pub record Gathered (r : RegistryView) (code : Tree) (met : PassView) (configs : List Fiber) : Type 0 where
   pub home : IsOf r met
   pub pass : IsPass met
-  pub at : (i : ℕ) (s : Fiber) → slice_get configs i ≡ Some s → Has met.fibers s.number ×
-      Stands code met.seen s.number s
+  pub at : (i : ℕ) (s : Fiber) → slice_get configs i ≡ Some s → IsMet code met s
 
 -- of all these tasks the rest is still there, and the states of the others are these
 pub record Taken (all rest : List TaskView) (met : PassView) (configs : List Fiber) : Type 0 where
@@ -52,3 +60,8 @@ pub record IsLeast (configs : List Fiber) (born f : ℕ) : Type 0 where
   pub below : f < born
   pub none : IsNowhere configs f
   pub before : (g : ℕ) → g < f → (s : Fiber) × IsIn s configs g
+
+-- these are the states of the fibers below a number, in order, and none of them is broken
+pub record AreInOrder (configs : List Fiber) (born : ℕ) (fibers : List Fiber) : Type 0 where
+  pub many : length fibers ≡ born
+  pub each : (f : ℕ) (s : Fiber) → slice_get fibers f ≡ Some s → IsIn s configs f × (IsBroken s → ⊥)
