@@ -1,3 +1,4 @@
 pub mod RangeLemmas
 pub mod RunLemmas
+pub mod WantLemmas
 pub mod WorkerLemmas

@@ -1,6 +1,6 @@
 -- What the words of a command line may be.
 use Rattle.std.specs.Prelude.{true, codes, Some}
-use Rattle.clap.specs.declared.builder.action.ArgAction.TheVariants.{Set}
+use Rattle.clap.specs.declared.builder.action.ArgAction.TheVariants.{Append, Set}
 use Rattle.clap.specs.declared.builder.value_parser.ValueParser.TheVariants.{Unsigned}
 use Rattle.clap.specs.Simple.{on_top}
 use Rattle.clap.specs.Words.{App, Rule, Text, new_app, new_rule, with_rule, with_subcommand}
@@ -10,6 +10,10 @@ use Rattle.command_line.specs.declared.ranges.NumberRange.{NumberRange}
 -- of fibers, of refs or of deferreds
 abbrev pub band_range : NumberRange
 band_range = record { least = 1; most = 1000; usual = 1000 }
+
+-- the same of an exploration
+abbrev pub few_range : NumberRange
+few_range = record { least = 1; most = 1000; usual = 16 }
 
 -- of changes that a fiber makes of its own state
 abbrev pub count_range : NumberRange
@@ -25,6 +29,14 @@ budget_range = record { least = 2; most = 10000; usual = 64 }
 -- of moves that fiber 0 may make
 abbrev pub moves_range : NumberRange
 moves_range = record { least = 1; most = 1000000; usual = 100000 }
+
+-- of worlds that an exploration keeps
+abbrev pub worlds_range : NumberRange
+worlds_range = record { least = 1; most = 1000000; usual = 100000 }
+
+-- of entries that the schedules of an exploration have
+abbrev pub entries_range : NumberRange
+entries_range = record { least = 1; most = 1000000; usual = 10000 }
 
 -- ---- the options
 -- an option that takes a whole number of this range
@@ -44,6 +56,13 @@ schedule_option = record (new_rule (codes "schedule")) {
   required = true;
 }
 
+abbrev pub want_option : Rule
+want_option = record (new_rule (codes "want")) {
+  long = Some (codes "want");
+  value_names = 1;
+  action = Some Append;
+}
+
 -- with the options for the limits of a run
 abbrev pub with_limits : App → App
 with_limits app =
@@ -57,6 +76,13 @@ with_limits app =
 abbrev pub replay_command : App
 replay_command = with_limits (with_rule (new_app (codes "replay")) schedule_option)
 
+abbrev pub explore_command : App
+explore_command =
+    with_rule (with_rule (with_rule (with_limits (new_app (codes "explore")))
+    (number_option (codes "worlds") worlds_range))
+    (number_option (codes "entries") entries_range))
+    want_option
+
 abbrev pub run_command : App
 run_command =
     with_rule (with_rule (with_limits (with_rule (new_app (codes "run"))
@@ -64,10 +90,10 @@ run_command =
     (number_option (codes "budget") budget_range))
     (number_option (codes "moves") moves_range)
 
--- the command, which wants one of four subcommands, and tells its version
+-- the command, which wants one of five subcommands, and tells its version
 abbrev pub program : App
 program =
-    with_subcommand (with_subcommand
+    with_subcommand (with_subcommand (with_subcommand
     (with_subcommand (with_subcommand (on_top (λ s. record s {
       subcommand_required = true;
       has_version = true;
@@ -75,4 +101,5 @@ program =
     (new_app (codes "check")).top)
     (new_app (codes "show")).top)
     replay_command.top)
+    explore_command.top)
     run_command.top

@@ -10,11 +10,15 @@ use crate::run_order::obey_run;
 use crate::words::all_words;
 use clap::Error;
 use clap::error::ErrorKind;
-use outcome_trace::{Status, TextFault, TextIn, TextOut, obey, tell_fault, write_text};
+use outcome_trace::{Status, TextFault, TextIn, TextOut, obey, obey_text, tell_fault, write_text};
 use std::alloc::Global;
 use std::convert::AsStr;
 use std::sync::Wait;
 use std::thread::Threads;
+
+/// What is told where the words give no request. `clap` looks at each of them but the outcomes.
+const NO_OUTCOME: &str =
+    "an outcome of '--want <OUTCOME>' is none of 'succeeded V', 'errored C', 'canceled' and 'unended'";
 
 /// Tells help or the version that was asked for, or what is wrong with the words, in `clap`'s words.
 /// Where help can't be written, that is told as any other fault.
@@ -61,7 +65,7 @@ pub fn refuse_words<E: TextOut>(alloc: Global, message: &str, err: &mut E) -> St
     Status::Usage
 }
 
-/// Does what was asked for ([`obey`], [`obey_run`]), and gives the status.
+/// Does what was asked for ([`obey`], [`obey_text`], [`obey_run`]), and gives the status.
 fn obey_request<R, I, O, E>(
     rt: &R,
     request: Request<'_>,
@@ -92,12 +96,13 @@ where
 {
     match request {
         Request::Order(order) => obey(rt.alloc(), order, input, out, err),
+        Request::Explore(order) => obey_text(rt.alloc(), &order, input, out, err),
         Request::Run(options) => obey_run(rt, rt.alloc(), options, input, out, err),
     }
 }
 
 /// Runs one command line over these devices, and gives the status of the program: that of what the
-/// words ask for ([`obey`], [`obey_run`]), `Status::Succeeded` where help or the version was asked
+/// words ask for ([`obey`], [`obey_text`], [`obey_run`]), `Status::Succeeded` where help or the version was asked
 /// for, `Status::Usage` where the words or the schedule are wrong, and `Status::Fault` where memory
 /// ran out or a device failed.
 ///
@@ -136,9 +141,10 @@ where
         return tell_fault(TextFault::NoMemory, err);
     };
     match all.try_get_matches_from(words) {
-        Ok(matches) => match request_of(&matches) {
-            Some(request) => obey_request(rt, request, input, out, err),
-            None => refuse_words(alloc, "the words ask for nothing", err),
+        Ok(matches) => match request_of(alloc, &matches) {
+            Ok(Some(request)) => obey_request(rt, request, input, out, err),
+            Ok(None) => refuse_words(alloc, NO_OUTCOME, err),
+            Err(_) => tell_fault(TextFault::NoMemory, err),
         },
         Err(error) => usage(alloc, &error, out, err),
     }

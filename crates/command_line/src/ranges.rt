@@ -16,6 +16,13 @@ pub const BAND: NumberRange = NumberRange {
     usual: 1000,
 };
 
+/// The same of an exploration, which keeps so many numbers for each world.
+pub const FEW: NumberRange = NumberRange {
+    least: 1,
+    most: 1000,
+    usual: 16,
+};
+
 /// How often a fiber may change its own state.
 pub const COUNT: NumberRange = NumberRange {
     least: 1,
@@ -43,4 +50,18 @@ pub const MOVES: NumberRange = NumberRange {
     least: 1,
     most: 1_000_000,
     usual: 100_000,
+};
+
+/// How many worlds an exploration keeps at most.
+pub const WORLDS: NumberRange = NumberRange {
+    least: 1,
+    most: 1_000_000,
+    usual: 100_000,
+};
+
+/// How many entries the schedules of an exploration have at most.
+pub const ENTRIES: NumberRange = NumberRange {
+    least: 1,
+    most: 1_000_000,
+    usual: 10_000,
 };

@@ -1,24 +1,32 @@
 //! The request that the words of a command line give.
 
-ghost use Rattle.std.specs.Prelude.{◌≡◌, ◌≤◌, ◌<◌, ℕ, codes, IfSome, IfNone, option_map};
+ghost use Rattle.std.specs.Prelude.{◌≡◌, ◌≢◌, ◌≤◌, ◌<◌, ℕ, codes, IfOk, IfSome, IfNone, List, Some, map, option_map};
 ghost use Rattle.cell_registry.specs.declared.limits.Limits.{Limits};
 ghost use Rattle.cell_registry.specs.Cells.{AreLimits};
 ghost use Rattle.clap.specs.Words.{first_of, found_of, rows_of, subcommand_rows_of};
+ghost use Rattle.exploration_text.specs.declared.explore_texts.ExploreOrder.{ExploreOrder};
+ghost use Rattle.exploration_text.specs.declared.wants.Want.{Want};
+ghost use Rattle.exploration_text.specs.Wants.{IsInRange, want_text};
 ghost use Rattle.steal_pool.specs.declared.options.Options.{Options};
 ghost use Rattle.steal_pool.specs.Runs.{limits_of};
 ghost use Rattle.outcome_trace.specs.Orders.{HasLimits};
-ghost use Rattle.command_line.specs.Requests.{GivesRequest, HasRanges, IsNumberOf, Says, SaysLimits, SaysNumber, SaysRun};
+ghost use Rattle.command_line.specs.Requests.{AreWants, GivesRequest, HasRanges, IsNumberOf, Says, SaysBounds};
+ghost use Rattle.command_line.specs.Requests.{SaysExplore, SaysLimits, SaysNumber, SaysRun, texts_said};
 
-use crate::ranges::{BAND, BUDGET, COUNT, MOVES, NumberRange, WORKERS};
+use crate::ranges::{BAND, BUDGET, COUNT, ENTRIES, FEW, MOVES, NumberRange, WORKERS, WORLDS};
 use clap::ArgMatches;
+use exploration_text::{Bounds, ExploreOrder, Want, read_want};
 use outcome_trace::{Limits, Order};
+use std::alloc::{AllocError, Global};
 use steal_pool::Options;
 
 /// What the words of a command line ask for.
-#[derive(Clone, Copy, Debug)]
+#[derive(Drop)]
 pub enum Request<'a> {
     /// An order that needs no worker.
     Order(Order<'a>),
+    /// To explore every schedule of the text's program.
+    Explore(ExploreOrder),
     /// To run the text's program on workers, and report what each fiber came to.
     Run(Options),
 }
@@ -56,15 +64,19 @@ fn number_of(matches: &ArgMatches<'_>, name: &str, range: NumberRange) -> Option
     }
 }
 
-/// The limits that the options of `replay` or of `run` say.
-fn limits_of(options: &ArgMatches<'_>) -> Option<Limits>
-    ensures said { IfSome result (SaysLimits (rows_of (found_of options.now))) }
-    ensures none { IfNone result ((limits : Limits) → SaysLimits (rows_of (found_of options.now)) limits → ⊥) }
+/// The limits that the options of `replay`, of `explore` or of `run` say, with this range of fibers, of
+/// refs and of deferreds.
+fn limits_of(options: &ArgMatches<'_>, band: NumberRange) -> Option<Limits>
+    requires least { band.least ≡ 1 }
+    requires most { band.most ≡ 1000 }
+    requires usual { (1 ≤ band.usual) × (band.usual ≤ 1000) }
+    ensures said { IfSome result (SaysLimits band (rows_of (found_of options.now))) }
+    ensures none { IfNone result ((limits : Limits) → SaysLimits band (rows_of (found_of options.now)) limits → ⊥) }
     ensures ranges { IfSome result AreLimits }
 {
-    let fibers = number_of(options, "fibers", BAND)?;
-    let refs = number_of(options, "refs", BAND)?;
-    let deferreds = number_of(options, "deferreds", BAND)?;
+    let fibers = number_of(options, "fibers", band)?;
+    let refs = number_of(options, "refs", band)?;
+    let deferreds = number_of(options, "deferreds", band)?;
     let count = number_of(options, "count", COUNT)?;
     Some(Limits {
         fibers: fibers as u16,
@@ -82,7 +94,7 @@ fn run_options(run: &ArgMatches<'_>) -> Option<Options>
     ensures budget { IfSome result (λ o. 1 < o.budget) }
 {
     let workers = number_of(run, "workers", WORKERS)?;
-    let limits = limits_of(run)?;
+    let limits = limits_of(run, BAND)?;
     let budget = number_of(run, "budget", BUDGET)?;
     let moves = number_of(run, "moves", MOVES)?;
     Some(Options {
@@ -104,21 +116,123 @@ fn replay_order<'a>(replay: &ArgMatches<'a>) -> Option<Order<'a>>
     ensures limits { IfSome result HasLimits }
 {
     let schedule = text_of(replay, "schedule")?;
-    let limits = limits_of(replay)?;
+    let limits = limits_of(replay, BAND)?;
     Some(Order::Replay { schedule, limits })
 }
 
-/// The request that the words give.
-pub fn request_of<'a>(matches: &ArgMatches<'a>) -> Option<Request<'a>>
-    ensures request { GivesRequest (subcommand_rows_of matches.now) result }
+/// How far the options of `explore` say that the search goes.
+fn bounds_of(explore: &ArgMatches<'_>) -> Option<Bounds>
+    ensures said { IfSome result (λ b. SaysBounds (rows_of (found_of explore.now)) b.worlds b.entries) }
+    ensures none { IfNone result ((worlds : ℕ) (entries : ℕ) → SaysBounds (rows_of (found_of explore.now)) worlds entries →
+        ⊥) }
+    ensures short { IfSome result (λ b. b.entries ≤ 1000000) }
+{
+    let worlds = number_of(explore, "worlds", WORLDS)?;
+    let entries = number_of(explore, "entries", ENTRIES)?;
+    Some(Bounds {
+        worlds: worlds as usize,
+        entries: entries as usize,
+    })
+}
+
+/// The outcomes that texts spell, where each spells one.
+fn wants_of(alloc: Global, texts: &[&str]) -> Result<Option<Vec<Want>>, AllocError>
+    ensures said { IfOk result (λ found. IfSome found (λ wants. AreWants (map (λ s. s.now) texts.now) wants.items)) }
+    ensures none { IfOk result (λ found. IfNone found ((wants : List Want) →
+        AreWants (map (λ s. s.now) texts.now) wants → ⊥)) }
+{
+    let mut wants = Vec::new(alloc);
+    for text in texts {
+        match read_want(text) {
+            Some(Want::Ended(outcome)) => wants.push(Want::Ended(outcome))?,
+            Some(Want::Unended) => wants.push(Want::Unended)?,
+            None => return Ok(None),
+        }
+    }
+    Ok(Some(wants))
+}
+
+/// The outcomes that the options of `explore` say are wanted, where each text spells one.
+fn wants_said(alloc: Global, explore: &ArgMatches<'_>) -> Result<Option<Vec<Want>>, AllocError>
+    ensures said { IfOk result (λ found. IfSome found (λ wants.
+        AreWants (texts_said (codes "want") (rows_of (found_of explore.now))) wants.items)) }
+    ensures none { IfOk result (λ found. IfNone found ((wants : List Want) →
+        AreWants (texts_said (codes "want") (rows_of (found_of explore.now))) wants → ⊥)) }
+{
+    match explore.get_strs("want") {
+        Some(texts) => wants_of(alloc, texts),
+        None => Ok(Some(Vec::new(alloc))),
+    }
+}
+
+/// What the options of `explore` say that the text is explored under.
+fn explore_order(
+    alloc: Global,
+    explore: &ArgMatches<'_>,
+) -> Result<Option<ExploreOrder>, AllocError>
+    ensures said { IfOk result (λ found. IfSome found (SaysExplore (rows_of (found_of explore.now)))) }
+    ensures none { IfOk result (λ found. IfNone found ((order : ExploreOrder) →
+        SaysExplore (rows_of (found_of explore.now)) order → ⊥)) }
+{
+    let Some(limits) = limits_of(explore, FEW) else {
+        return Ok(None);
+    };
+    let Some(bounds) = bounds_of(explore) else {
+        return Ok(None);
+    };
+    let Some(wants) = wants_said(alloc, explore)? else {
+        return Ok(None);
+    };
+    Ok(Some(ExploreOrder {
+        limits,
+        bounds,
+        wants,
+    }))
+}
+
+/// The request that a subcommand other than `explore` gives with its options.
+fn plain_request<'a>(name: &str, options: &ArgMatches<'a>) -> Option<Request<'a>>
+    requires { name.now ≢ codes "explore" }
+    ensures request { GivesRequest (Some (name.now, rows_of (found_of options.now))) result }
     ensures ranges { IfSome result HasRanges }
 {
-    let (name, options) = matches.subcommand()?;
     match name {
         "check" => Some(Request::Order(Order::Check)),
         "show" => Some(Request::Order(Order::Show)),
         "replay" => Some(Request::Order(replay_order(options)?)),
         "run" => Some(Request::Run(run_options(options)?)),
         _ => None,
+    }
+}
+
+/// The request that `explore` gives with its options.
+fn explore_request<'a>(
+    alloc: Global,
+    options: &ArgMatches<'a>,
+) -> Result<Option<Request<'a>>, AllocError>
+    ensures request { IfOk result (GivesRequest (Some (codes "explore", rows_of (found_of options.now)))) }
+    ensures ranges { IfOk result (λ found. IfSome found HasRanges) }
+{
+    match explore_order(alloc, options)? {
+        Some(order) => Ok(Some(Request::Explore(order))),
+        None => Ok(None),
+    }
+}
+
+/// The request that the words give. `AllocError` where memory ran out.
+pub fn request_of<'a>(
+    alloc: Global,
+    matches: &ArgMatches<'a>,
+) -> Result<Option<Request<'a>>, AllocError>
+    ensures request { IfOk result (GivesRequest (subcommand_rows_of matches.now)) }
+    ensures ranges { IfOk result (λ found. IfSome found HasRanges) }
+{
+    let Some((name, options)) = matches.subcommand() else {
+        return Ok(None);
+    };
+    if name == "explore" {
+        explore_request(alloc, options)
+    } else {
+        Ok(plain_request(name, options))
     }
 }

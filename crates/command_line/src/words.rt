@@ -3,10 +3,10 @@
 ghost use Rattle.std.specs.Prelude.{◌≡◌, ◌<◌, ◌^◌, false, IfOk};
 ghost use Rattle.clap.specs.Words.{app_of, new_app, rule_of};
 ghost use Rattle.clap.specs.declared.builder.command.Command.TheViews.{out-Command};
-ghost use Rattle.command_line.specs.Words.{number_option, program, replay_command, run_command, schedule_option};
-ghost use Rattle.command_line.specs.Words.{with_limits};
+ghost use Rattle.command_line.specs.Words.{explore_command, number_option, program, replay_command, run_command};
+ghost use Rattle.command_line.specs.Words.{schedule_option, want_option, with_limits};
 
-use crate::ranges::{BAND, BUDGET, COUNT, MOVES, NumberRange, WORKERS};
+use crate::ranges::{BAND, BUDGET, COUNT, ENTRIES, MOVES, NumberRange, WORKERS, WORLDS};
 use clap::{Arg, ArgAction, Command, value_parser};
 use std::alloc::{AllocError, Global};
 
@@ -21,7 +21,34 @@ const STATUSES: &str = "Exit status:
    3  fiber 0 has not ended
   64  the words or the schedule are wrong
   65  the text is refused
-  70  a run or a device failed, or memory ran out";
+  70  a run or a device failed, or memory ran out
+
+Exit status of explore, where it is not 64, 65 or 70:
+   0  every schedule was explored, and nothing unwanted was found
+   1  something unwanted was found; without --want, a fault
+   3  a bound was reached, and nothing unwanted was found";
+
+/// What the help tells of the options for the limits of a run.
+#[derive(Clone, Copy)]
+struct LimitsHelp<'a> {
+    fibers: &'a str,
+    refs: &'a str,
+    deferreds: &'a str,
+}
+
+/// What the help of `replay` and of `run` tells.
+const LIMITS_HELP: LimitsHelp<'static> = LimitsHelp {
+    fibers: "How many fibers there may be: 1 to 1000, 1000 if not given",
+    refs: "How many refs there may be: 1 to 1000, 1000 if not given",
+    deferreds: "How many deferreds there may be: 1 to 1000, 1000 if not given",
+};
+
+/// What the help of `explore` tells.
+const FEW_HELP: LimitsHelp<'static> = LimitsHelp {
+    fibers: "How many fibers there may be: 1 to 1000, 16 if not given",
+    refs: "How many refs there may be: 1 to 1000, 16 if not given",
+    deferreds: "How many deferreds there may be: 1 to 1000, 16 if not given",
+};
 
 /// A command without words of its own, whose help ends with the statuses.
 fn new_command<'a>(alloc: Global, name: &'a str, about: &'a str) -> Command<'a>
@@ -62,29 +89,33 @@ fn schedule_option<'a>(alloc: Global) -> Arg<'a>
         .action(ArgAction::Set)
 }
 
+/// The option that takes an outcome of fiber 0 that is wanted, as often as there are such.
+fn want_option<'a>(alloc: Global) -> Arg<'a>
+    ensures rule { rule_of result ≡ want_option }
+    ensures local { result.global ≡ false }
+{
+    Arg::new(alloc, "want")
+        .long("want")
+        .value_name("OUTCOME")
+        .help(
+            "An outcome of fiber 0 that is wanted, as a report spells it: \"succeeded V\", \"errored C\", canceled or \
+            unended. It may be given more than once. A report with another outcome, and a fault, is then not wanted",
+        )
+        .action(ArgAction::Append)
+}
+
 /// Adds the options for the limits of a run.
-fn with_limits<'a>(alloc: Global, command: Command<'a>) -> Result<Command<'a>, AllocError>
+fn with_limits<'a>(
+    alloc: Global,
+    command: Command<'a>,
+    help: LimitsHelp<'a>,
+) -> Result<Command<'a>, AllocError>
     ensures shape { IfOk result (λ c. app_of c ≡ with_limits (app_of command.entry)) }
     ensures local { IfOk result (λ c. (out-Command c).has_globals ≡ (out-Command command.entry).has_globals) }
 {
-    let fibers = number_option(
-        alloc,
-        "fibers",
-        "How many fibers there may be: 1 to 1000, 1000 if not given",
-        BAND,
-    );
-    let refs = number_option(
-        alloc,
-        "refs",
-        "How many refs there may be: 1 to 1000, 1000 if not given",
-        BAND,
-    );
-    let deferreds = number_option(
-        alloc,
-        "deferreds",
-        "How many deferreds there may be: 1 to 1000, 1000 if not given",
-        BAND,
-    );
+    let fibers = number_option(alloc, "fibers", help.fibers, BAND);
+    let refs = number_option(alloc, "refs", help.refs, BAND);
+    let deferreds = number_option(alloc, "deferreds", help.deferreds, BAND);
     let count = number_option(
         alloc,
         "count",
@@ -100,7 +131,31 @@ fn replay_command<'a>(alloc: Global) -> Result<Command<'a>, AllocError>
 {
     let about = "Runs the program under a schedule, and prints its report";
     let command = new_command(alloc, "replay", about).arg(schedule_option(alloc))?;
-    with_limits(alloc, command)
+    with_limits(alloc, command, LIMITS_HELP)
+}
+
+fn explore_command<'a>(alloc: Global) -> Result<Command<'a>, AllocError>
+    ensures shape { IfOk result (λ c. app_of c ≡ explore_command) }
+    ensures local { IfOk result (λ c. (out-Command c).has_globals ≡ false) }
+{
+    let worlds = number_option(
+        alloc,
+        "worlds",
+        "How many worlds are kept, each a state of all fibers and cells: 1 to 1000000, 100000 if not given",
+        WORLDS,
+    );
+    let entries = number_option(
+        alloc,
+        "entries",
+        "How many entries a schedule may have: 1 to 1000000, 10000 if not given",
+        ENTRIES,
+    );
+    let about = "Explores every schedule, and prints all that can come of the program";
+    let command = new_command(alloc, "explore", about);
+    with_limits(alloc, command, FEW_HELP)?
+        .arg(worlds)?
+        .arg(entries)?
+        .arg(want_option(alloc))
 }
 
 fn run_command<'a>(alloc: Global) -> Result<Command<'a>, AllocError>
@@ -129,7 +184,9 @@ fn run_command<'a>(alloc: Global) -> Result<Command<'a>, AllocError>
     );
     let about = "Runs the program on work-stealing threads, and prints its report";
     let command = new_command(alloc, "run", about).arg(workers)?;
-    with_limits(alloc, command)?.arg(budget)?.arg(moves)
+    with_limits(alloc, command, LIMITS_HELP)?
+        .arg(budget)?
+        .arg(moves)
 }
 
 /// The command, with all that its words may be.
@@ -139,6 +196,7 @@ pub fn all_words<'a>(alloc: Global) -> Result<Command<'a>, AllocError>
     let check = new_command(alloc, "check", "Tells whether the text is a program");
     let show = new_command(alloc, "show", "Prints the expansion of the program");
     let replay = replay_command(alloc)?;
+    let explore = explore_command(alloc)?;
     let run = run_command(alloc)?;
     let about = "Runs effect programs on fibers. The program's text is read from standard input";
     new_command(alloc, "fiber_cli", about)
@@ -147,5 +205,6 @@ pub fn all_words<'a>(alloc: Global) -> Result<Command<'a>, AllocError>
         .subcommand(check)?
         .subcommand(show)?
         .subcommand(replay)?
+        .subcommand(explore)?
         .subcommand(run)
 }

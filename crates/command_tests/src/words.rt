@@ -9,6 +9,14 @@ use std::sync::Wait;
 use std::test::Fail;
 use std::thread::Threads;
 
+/// What is told of an outcome that is wanted and is none.
+const NO_OUTCOME: &str =
+    "error: an outcome of '--want <OUTCOME>' is none of 'succeeded V', 'errored C', 'canceled' and \
+    'unended'\
+    \n\nUsage: fiber_cli <COMMAND>\
+    \n\nFor more information, try '--help'.\
+    \n";
+
 /// Words that are refused with status 64, before the text is read: the rule, the words, and what is
 /// told.
 const WRONG: &[(&str, &[&str], &str)] = &[
@@ -45,7 +53,7 @@ const WRONG: &[(&str, &[&str], &str)] = &[
         "a subcommand is required",
         &["fiber_cli"],
         "error: 'fiber_cli' requires a subcommand but one was not provided\
-        \n  [subcommands: check, show, replay, run, help]\
+        \n  [subcommands: check, show, replay, explore, run, help]\
         \n\nUsage: fiber_cli <COMMAND>\
         \n\nFor more information, try '--help'.\
         \n",
@@ -70,6 +78,68 @@ const WRONG: &[(&str, &[&str], &str)] = &[
         \n\nUsage: fiber_cli run [OPTIONS]\
         \n\nFor more information, try '--help'.\
         \n",
+    ),
+    (
+        "explore takes no schedule",
+        &["fiber_cli", "explore", "--schedule", "0"],
+        "error: unexpected argument '--schedule' found\
+        \n\nUsage: fiber_cli explore [OPTIONS]\
+        \n\nFor more information, try '--help'.\
+        \n",
+    ),
+    (
+        "an option of explore twice",
+        &["fiber_cli", "explore", "--worlds", "2", "--worlds", "2"],
+        "error: the argument '--worlds <N>' cannot be used multiple times\
+        \n\nUsage: fiber_cli explore [OPTIONS]\
+        \n\nFor more information, try '--help'.\
+        \n",
+    ),
+    (
+        "want without its outcome",
+        &["fiber_cli", "explore", "--want"],
+        "error: a value is required for '--want <OUTCOME>' but none was supplied\
+        \n\nFor more information, try '--help'.\
+        \n",
+    ),
+    (
+        "no such outcome",
+        &["fiber_cli", "explore", "--want", "done"],
+        NO_OUTCOME,
+    ),
+    (
+        "an outcome without its value",
+        &["fiber_cli", "explore", "--want", "succeeded"],
+        NO_OUTCOME,
+    ),
+    (
+        "a zero in front of an outcome's value",
+        &["fiber_cli", "explore", "--want", "succeeded 07"],
+        NO_OUTCOME,
+    ),
+    (
+        "an outcome's value that is out of range",
+        &[
+            "fiber_cli",
+            "explore",
+            "--want",
+            "errored 4611686018427387904",
+        ],
+        NO_OUTCOME,
+    ),
+    (
+        "one wrong outcome behind others",
+        &[
+            "fiber_cli",
+            "explore",
+            "--want",
+            "canceled",
+            "--want",
+            "unended",
+            "--want",
+            "Canceled",
+        ],
+        NO_OUTCOME,
     ),
     (
         "replay has no workers",
@@ -109,11 +179,12 @@ const HELP: &[(&[&str], &str)] = &[
         "Runs effect programs on fibers. The program's text is read from standard input\
         \n\nUsage: fiber_cli <COMMAND>\
         \n\nCommands:\
-        \n  check   Tells whether the text is a program\
-        \n  show    Prints the expansion of the program\
-        \n  replay  Runs the program under a schedule, and prints its report\
-        \n  run     Runs the program on work-stealing threads, and prints its report\
-        \n  help    Print this message or the help of the given subcommand(s)\
+        \n  check    Tells whether the text is a program\
+        \n  show     Prints the expansion of the program\
+        \n  replay   Runs the program under a schedule, and prints its report\
+        \n  explore  Explores every schedule, and prints all that can come of the program\
+        \n  run      Runs the program on work-stealing threads, and prints its report\
+        \n  help     Print this message or the help of the given subcommand(s)\
         \n\nOptions:\
         \n  -h, --help     Print help\
         \n  -V, --version  Print version\
@@ -125,6 +196,10 @@ const HELP: &[(&[&str], &str)] = &[
         \n  64  the words or the schedule are wrong\
         \n  65  the text is refused\
         \n  70  a run or a device failed, or memory ran out\
+        \n\nExit status of explore, where it is not 64, 65 or 70:\
+        \n   0  every schedule was explored, and nothing unwanted was found\
+        \n   1  something unwanted was found; without --want, a fault\
+        \n   3  a bound was reached, and nothing unwanted was found\
         \n",
     ),
     (
@@ -141,6 +216,10 @@ const HELP: &[(&[&str], &str)] = &[
         \n  64  the words or the schedule are wrong\
         \n  65  the text is refused\
         \n  70  a run or a device failed, or memory ran out\
+        \n\nExit status of explore, where it is not 64, 65 or 70:\
+        \n   0  every schedule was explored, and nothing unwanted was found\
+        \n   1  something unwanted was found; without --want, a fault\
+        \n   3  a bound was reached, and nothing unwanted was found\
         \n",
     ),
     (
@@ -157,6 +236,10 @@ const HELP: &[(&[&str], &str)] = &[
         \n  64  the words or the schedule are wrong\
         \n  65  the text is refused\
         \n  70  a run or a device failed, or memory ran out\
+        \n\nExit status of explore, where it is not 64, 65 or 70:\
+        \n   0  every schedule was explored, and nothing unwanted was found\
+        \n   1  something unwanted was found; without --want, a fault\
+        \n   3  a bound was reached, and nothing unwanted was found\
         \n",
     ),
     (
@@ -180,6 +263,41 @@ const HELP: &[(&[&str], &str)] = &[
         \n  64  the words or the schedule are wrong\
         \n  65  the text is refused\
         \n  70  a run or a device failed, or memory ran out\
+        \n\nExit status of explore, where it is not 64, 65 or 70:\
+        \n   0  every schedule was explored, and nothing unwanted was found\
+        \n   1  something unwanted was found; without --want, a fault\
+        \n   3  a bound was reached, and nothing unwanted was found\
+        \n",
+    ),
+    (
+        &["fiber_cli", "explore", "--help"],
+        "Explores every schedule, and prints all that can come of the program\
+        \n\nUsage: fiber_cli explore [OPTIONS]\
+        \n\nOptions:\
+        \n      --fibers <N>      How many fibers there may be: 1 to 1000, 16 if not given\
+        \n      --refs <N>        How many refs there may be: 1 to 1000, 16 if not given\
+        \n      --deferreds <N>   How many deferreds there may be: 1 to 1000, 16 if not given\
+        \n      --count <N>       How often a fiber may change its own state: 1 to 1099511627775, 1099511627775 if not \
+        given\
+        \n      --worlds <N>      How many worlds are kept, each a state of all fibers and cells: 1 to 1000000, 100000 \
+        if not given\
+        \n      --entries <N>     How many entries a schedule may have: 1 to 1000000, 10000 if not given\
+        \n      --want <OUTCOME>  An outcome of fiber 0 that is wanted, as a report spells it: \"succeeded V\", \
+        \"errored C\", canceled or unended. It may be given more than once. A report with another outcome, and a fault, \
+        is then not wanted\
+        \n  -h, --help            Print help\
+        \n\nExit status:\
+        \n   0  fiber 0 succeeded, the text was checked or shown, or help was asked for\
+        \n   1  fiber 0 errored\
+        \n   2  fiber 0 was canceled\
+        \n   3  fiber 0 has not ended\
+        \n  64  the words or the schedule are wrong\
+        \n  65  the text is refused\
+        \n  70  a run or a device failed, or memory ran out\
+        \n\nExit status of explore, where it is not 64, 65 or 70:\
+        \n   0  every schedule was explored, and nothing unwanted was found\
+        \n   1  something unwanted was found; without --want, a fault\
+        \n   3  a bound was reached, and nothing unwanted was found\
         \n",
     ),
     (
@@ -207,6 +325,10 @@ const HELP: &[(&[&str], &str)] = &[
         \n  64  the words or the schedule are wrong\
         \n  65  the text is refused\
         \n  70  a run or a device failed, or memory ran out\
+        \n\nExit status of explore, where it is not 64, 65 or 70:\
+        \n   0  every schedule was explored, and nothing unwanted was found\
+        \n   1  something unwanted was found; without --want, a fault\
+        \n   3  a bound was reached, and nothing unwanted was found\
         \n",
     ),
 ];
@@ -274,12 +396,42 @@ const RUNNING: &[Numbers] = &[
     },
 ];
 
+/// What `explore` has besides. `(pure 7)` has three worlds, and none of its schedules needs more than two entries.
+const EXPLORING: &[Numbers] = &[
+    Numbers {
+        name: "worlds",
+        taken: &["100", "0100", "+100", "1000000"],
+        refused: &["0", "1000001", "4294967396"],
+        range: "1..=1000000",
+    },
+    Numbers {
+        name: "entries",
+        taken: &["100", "0100", "+100", "1000000"],
+        refused: &["0", "1000001", "4294967396"],
+        range: "1..=1000000",
+    },
+];
+
 const REPLAY: &[&str] = &["fiber_cli", "replay", "--schedule", "0*2"];
 
 const RUN: &[&str] = &["fiber_cli", "run"];
 
-/// Each command that takes numbers, with its options that do.
-const COMMANDS: &[(&[&str], &[Numbers])] = &[(REPLAY, LIMITS), (RUN, LIMITS), (RUN, RUNNING)];
+const EXPLORE: &[&str] = &["fiber_cli", "explore"];
+
+/// What each of them answers to `(pure 7)`.
+const REPORTED: &str = "fiber 0 succeeded 7\n";
+
+const EXPLORED: &str =
+    "explored 3 worlds: 1 report, 0 faults\n\nunder \"0*2\"\nfiber 0 succeeded 7\n";
+
+/// Each command that takes numbers, with its options that do, and its answer.
+const COMMANDS: &[(&[&str], &[Numbers], &str)] = &[
+    (REPLAY, LIMITS, REPORTED),
+    (EXPLORE, LIMITS, EXPLORED),
+    (EXPLORE, EXPLORING, EXPLORED),
+    (RUN, LIMITS, REPORTED),
+    (RUN, RUNNING, REPORTED),
+];
 
 #[test]
 fn tells_wrong_words(rt: HostRuntime) {
@@ -352,15 +504,16 @@ const NO_NUMBERS: &[(&str, &str)] = &[
     ),
 ];
 
-/// A command takes the numbers of an option's range, and nothing else.
+/// A command takes the numbers of an option's range, with this answer, and nothing else.
 fn expect_range<R: Abort + AllocGlobal + Threads + Wait + Sync>(
     rt: &R,
     command: &[&str],
     option: &Numbers,
+    out: &str,
 ) -> Result<(), AllocError> {
     for number in option.taken {
         let taken = (option.name, *number);
-        expect_number(rt, command, taken, 0, "fiber 0 succeeded 7\n", "")?;
+        expect_number(rt, command, taken, 0, out, "")?;
     }
     for number in option.refused {
         refuses_beyond(rt, command, (option.name, *number), option.range)?;
@@ -373,9 +526,9 @@ fn expect_range<R: Abort + AllocGlobal + Threads + Wait + Sync>(
 
 #[test]
 fn takes_numbers_of_their_range_alone(rt: HostRuntime) -> Result<(), Fail> {
-    for (command, options) in COMMANDS {
+    for (command, options, out) in COMMANDS {
         for option in *options {
-            expect_range(&rt, command, option)?;
+            expect_range(&rt, command, option, out)?;
         }
     }
     Ok(())

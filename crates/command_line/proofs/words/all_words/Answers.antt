@@ -13,4 +13,5 @@ returns c =
     let one = c.in_ok-subcommand.ensures.shape c.new_command-check.ensures.local ∙ ap₂ with_subcommand empty_is (ap top_of check_is) in
     let two = c.in_ok-subcommand-2.ensures.shape c.new_command-show.ensures.local ∙ ap₂ with_subcommand one (ap top_of show_is) in
     let three = c.in_ok-subcommand-3.ensures.shape c.in_ok-replay.ensures.local ∙ ap₂ with_subcommand two (ap top_of c.in_ok-replay.ensures.shape) in
-    IfOk-weaker c.subcommand-4.result _ _ (λ m h. h.shape c.in_ok-run.ensures.local ∙ ap₂ with_subcommand three (ap top_of c.in_ok-run.ensures.shape)) c.subcommand-4.ensures
+    let four = c.in_ok-subcommand-4.ensures.shape c.in_ok-explore.ensures.local ∙ ap₂ with_subcommand three (ap top_of c.in_ok-explore.ensures.shape) in
+    IfOk-weaker c.subcommand-5.result _ _ (λ m h. h.shape c.in_ok-run.ensures.local ∙ ap₂ with_subcommand four (ap top_of c.in_ok-run.ensures.shape)) c.subcommand-5.ensures
