@@ -2,3 +2,8 @@ pub mod Placed
 pub mod Told
 pub mod Listing
 pub mod Laws
+pub mod Numbered
+pub mod Bringing
+pub mod Apart
+pub mod Alikeness
+pub mod Entering

@@ -1,13 +1,13 @@
 -- The core under a schedule, as a search over places sees it.
-use Rattle.std.proofs.Common.{◌≡◌, ℕ, List, [], ◌∷◌, ◌++◌, map, Result, Ok, Err, refl, sym, ap, ◌∙◌, subst}
+use Rattle.std.proofs.Common.{◌≡◌, ℕ, List, [], ◌∷◌, Result, Ok, Err, refl, sym, ap, ◌∙◌}
 use Rattle.std.specs.List.{fold}
 use Rattle.derived_ops.specs.Tree.{Tree}
 use Rattle.cell_registry.specs.declared.limits.Limits.{Limits}
 use Rattle.cell_registry.specs.declared.limits.RunError.{RunError}
 use Rattle.outcome_trace.specs.Core.{World, core, entered, first_world, reported}
+use Rattle.outcome_trace.specs.Finals.{IsSettled}
 use Rattle.world_search.specs.Systems as search
-use Rattle.every_schedule.specs.Explored.{IsSettled}
-use Rattle.every_schedule.specs.Places.{Place, first_place, placed, report_at, stepped}
+use Rattle.every_schedule.specs.Places.{first_place, placed, report_at, stepped}
 
 -- a schedule leads to the place of the world to which it leads
 pub placed_run : (k : Limits) (x : Result World RunError) (s : List ℕ) → search.run stepped (placed k x) s ≡ placed k (fold (entered k) x s)

@@ -1,21 +1,22 @@
 -- What a search promises of its answers, said of the answers that are told.
-use Rattle.std.proofs.Common.{◌≡◌, inl, inr, ℕ, ◌<◌, ◌≤◌, List, length, Result, Ok, Err, refl, sym, ap, ◌∙◌, subst, arith, get_or}
-use Rattle.std.specs.Prelude.{◌++◌, Some, IfOk}
+use Rattle.std.proofs.Common.{◌≡◌, inl, inr, ℕ, ◌<◌, ◌≤◌, List, length, Result, Ok, Err, sym, ap, ◌∙◌, subst, arith, get_or}
+use Rattle.std.specs.Prelude.{Some, IfOk}
 use Rattle.std.specs.List.{All, slice_get}
 use Rattle.std.proofs.lemmas.Option.{get_or_from_slice_get, same_Some, slice_get-get_or, slice_get_cases, slice_get_within}
-use Rattle.std.proofs.lemmas.List.Elements.{All-get_or, All-from_get_or}
+use Rattle.std.proofs.lemmas.List.Elements.{All-get_or}
 use Rattle.derived_ops.specs.Tree.{Tree}
 use Rattle.cell_registry.specs.declared.limits.Limits.{Limits}
 use Rattle.cell_registry.specs.declared.limits.RunError.{RunError}
 use Rattle.outcome_trace.specs.declared.report.Report.{Report}
 use Rattle.outcome_trace.specs.Core.{World, core, reported}
+use Rattle.outcome_trace.specs.Finals.{IsSettled}
 use Rattle.world_search.specs.declared.answers.Answer.{Answer as Found}
 use Rattle.world_search.specs.declared.landings.Landing.{Landing}
 use Rattle.world_search.specs.declared.landings.Landing.TheVariants as to
 use Rattle.world_search.specs.Answers as search
 use Rattle.world_search.specs.Systems as systems
 use Rattle.every_schedule.specs.declared.exploration.Answer.{Answer}
-use Rattle.every_schedule.specs.Explored.{IsAnswered, IsCovered, IsListed, IsReached, IsSettled}
+use Rattle.every_schedule.specs.Explored.{IsAnswered, IsCovered, IsListed, IsReached}
 use Rattle.every_schedule.specs.Places.{Kept, Place, first_place, placed, report_at, stepped}
 use Rattle.every_schedule.specs.Private.Telling.{AreTold, IsEnd, IsTold, IsWithin}
 use Rattle.every_schedule.proofs.Placed.{core_run, settles, settles_place}

@@ -1,6 +1,6 @@
 -- What an exploration tells of a program under every schedule.
 use Rattle.std.specs.Prelude.{◌≡◌, ℕ, List, Some, Result, Ok, Err, IfOk}
-use Rattle.std.specs.List.{All, fold, slice_get}
+use Rattle.std.specs.List.{All, slice_get}
 use Rattle.derived_ops.specs.Tree.{Tree}
 use Rattle.fiber_frames.specs.Marks.{AreLawful}
 use Rattle.cell_registry.specs.declared.limits.Limits.{Limits}
@@ -8,21 +8,18 @@ use Rattle.cell_registry.specs.declared.limits.RunError.{RunError}
 use Rattle.effect_term.specs.declared.reply.Outcome.{Outcome}
 use Rattle.outcome_trace.specs.declared.report.FiberReport.{FiberReport}
 use Rattle.outcome_trace.specs.declared.report.Report.{Report}
-use Rattle.outcome_trace.specs.Core.{World, core, entered, reported}
+use Rattle.outcome_trace.specs.Core.{World, core, reported}
+use Rattle.outcome_trace.specs.Covers.{IsAccounted, IsAmong}
+use Rattle.outcome_trace.specs.Finals.{IsSettled}
 use Rattle.every_schedule.specs.declared.exploration.Answer.{Answer}
-
--- whatever entries follow, the report stays what it is, and no fault comes
-abbrev pub IsSettled : Limits → World → Type 0
-IsSettled k w = (schedule : List ℕ) → reported (fold (entered k) (Ok w) schedule) ≡ reported (Ok w)
 
 -- one of the answers ends so
 abbrev pub IsListed : List Answer → Result Report RunError → Type 0
-IsListed answers end = (i : ℕ) × (a : Answer) × (slice_get answers i ≡ Some a) × (a.end ≡ end)
+IsListed answers end = IsAmong (λ (a : Answer). a.end) answers end
 
 -- What a schedule has led to is listed: the report of a settled world, and a fault
 abbrev pub IsCovered : Limits → List Answer → Result World RunError → Type 0
-IsCovered k answers (Ok w) = IsSettled k w → IsListed answers (reported (Ok w))
-IsCovered k answers (Err e) = IsListed answers (Err e)
+IsCovered k answers x = IsAccounted (λ (a : Answer). a.end) k answers x
 
 -- a schedule has led to a settled world, or to a fault, which is listed
 abbrev pub IsAnswered : Limits → List Answer → Result World RunError → Type 0

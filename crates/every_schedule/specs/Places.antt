@@ -1,6 +1,5 @@
 -- Worlds as a search keeps them: each with the limits under which it is entered.
-use Rattle.std.specs.Prelude.{◌≡◌, ℕ, List, Result, Ok, Err, map}
-use Rattle.std.specs.List.{slice_get}
+use Rattle.std.specs.Prelude.{ℕ, List, Result, Ok, Err, map}
 use Rattle.cell_registry.specs.declared.limits.Limits.{Limits}
 use Rattle.cell_registry.specs.declared.limits.RunError.{RunError}
 use Rattle.outcome_trace.specs.declared.report.Report.{Report}

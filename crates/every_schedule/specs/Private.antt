@@ -1,3 +1,6 @@
 -- What the contracts of private functions cite.
 pub mod Telling
 pub mod Keeping
+pub mod Numbered
+pub mod Standing
+pub mod Reporting

@@ -1,16 +1,15 @@
 //! One world of the core.
-ghost use Rattle.std.specs.Prelude.{◌≡◌, ◌≢◌, ◌⊎◌, ◌≤◌, length, IfOk, IfErr, true, false, Ok as GoesWell, Err as Fails};
-ghost use Rattle.std.specs.List.{All};
+ghost use Rattle.std.specs.Prelude.{◌≡◌, ◌⊎◌, IfOk, IfErr, Ok as GoesWell, Err as Fails};
 ghost use Rattle.derived_ops.specs.Expansion.{code_of};
 ghost use Rattle.derived_ops.specs.Reading.{source_of};
 ghost use Rattle.cell_registry.specs.Cells.{AreLimits};
-ghost use Rattle.fiber_frames.specs.Marks.{AreLawful};
-ghost use Rattle.every_schedule.specs.Places.{first_place, report_at, stepped};
+ghost use Rattle.outcome_trace.specs.Fitting.{AllFit, world_of};
+ghost use Rattle.every_schedule.specs.Places.{first_place, stepped};
 
 use cell_registry::{Limits, PlainRegistry, RunError};
 use effect_term::Program;
 use fiber_frames::Config;
-use outcome_trace::{Report, enter, first_fibers, report_of_fibers, same_report};
+use outcome_trace::{enter, first_fibers};
 use std::alloc::{AllocError, Global};
 use std::marker::Model;
 
@@ -62,25 +61,6 @@ impl CoreWorld {
         Ok(CoreWorld { fibers, registry })
     }
 
-    // How many fibers are born.
-    pub(crate) fn born(&self) -> u16
-        ensures many { result ≡ length self.now.world.fibers }
-        ensures most { result ≤ 1000 }
-    {
-        // The registry is within its limits, and has given each of them its number.
-        let _ = self.registry.limits();
-        self.fibers.len() as u16
-    }
-
-    // The same world once more.
-    pub(crate) fn copy(&self, alloc: Global) -> Result<CoreWorld, AllocError>
-        ensures { IfOk result (λ w. w ≡ self.now) }
-    {
-        let fibers = copy_fibers(alloc, self.fibers.as_slice())?;
-        let registry = self.registry.copy(alloc)?;
-        Ok(CoreWorld { fibers, registry })
-    }
-
     // The entry of a fiber. After an error the world is of no use.
     pub(crate) fn enter(self, fiber: u16) -> Result<CoreWorld, RunError>
         ensures goes { IfOk result (λ w. stepped self fiber ≡ GoesWell w) }
@@ -94,63 +74,35 @@ impl CoreWorld {
         Ok(CoreWorld { fibers, registry })
     }
 
-    // Whether two worlds are one, as far as was looked.
-    pub(crate) fn same(&self, other: &CoreWorld) -> bool
-        ensures { result ≡ true → self.now ≡ other.now }
+    // The world of these fibers and this registry.
+    pub(crate) fn new(fibers: Vec<Config>, registry: PlainRegistry) -> CoreWorld
+        requires { AllFit (world_of fibers.items registry.state) }
+        ensures { result ≡ record { limits = registry.limits; world = world_of fibers.items registry.state } }
     {
-        self.registry.same(&other.registry)
-            && same_fibers(self.fibers.as_slice(), other.fibers.as_slice())
+        CoreWorld { fibers, registry }
     }
 
-    // Whether two worlds have the same report.
-    pub(crate) fn same_report(&self, other: &CoreWorld) -> bool
-        ensures yes { result ≡ true → report_at self.now ≡ report_at other.now }
-        ensures no { result ≡ false → report_at self.now ≢ report_at other.now }
+    // Its fibers.
+    pub(crate) fn fibers(&self) -> &[Config]
+        ensures fibers { result.now ≡ self.now.world.fibers }
+        ensures fits { AllFit self.now.world }
     {
-        same_report(self.fibers.as_slice(), other.fibers.as_slice())
+        self.fibers.as_slice()
     }
 
-    // What the fibers have come to.
-    pub(crate) fn report(&self, alloc: Global) -> Result<Report, AllocError>
-        ensures report { IfOk result (λ it. it ≡ report_at self.now) }
-        ensures lawful { IfOk result (λ it. All (λ f. AreLawful f.marks f.outcome) it.fibers) }
+    // Its registry.
+    pub(crate) fn registry(&self) -> &PlainRegistry
+        ensures { result.now ≡ record { limits = self.now.limits; state = self.now.world.cells } }
     {
-        let fibers = copy_fibers(alloc, self.fibers.as_slice())?;
-        report_of_fibers(alloc, fibers)
+        &self.registry
     }
 
-    // A number that is the same for worlds that are taken for one.
-    pub(crate) fn digest(&self) -> u64 {
-        let mut digest = self.registry.digest();
-        for fiber in self.fibers.iter() {
-            digest = digest.rotate_left(5).wrapping_mul(0x9E37_79B9_7F4A_7C15) ^ fiber.digest();
-        }
-        digest
+    // The fibers and the registry, given back.
+    pub(crate) fn into_parts(self) -> (Vec<Config>, PlainRegistry)
+        ensures fibers { result.0.items ≡ self.world.fibers }
+        ensures registry { result.1 ≡ record { limits = self.limits; state = self.world.cells } }
+    {
+        let CoreWorld { fibers, registry } = self;
+        (fibers, registry)
     }
-}
-
-// The same fibers once more.
-fn copy_fibers(alloc: Global, fibers: &[Config]) -> Result<Vec<Config>, AllocError>
-    ensures { IfOk result (λ copies. copies.items ≡ fibers.now) }
-{
-    let mut copies = Vec::with_capacity(alloc, fibers.len())?;
-    for fiber in fibers {
-        copies.push(fiber.copy(alloc)?)?;
-    }
-    Ok(copies)
-}
-
-// Whether two lists of fibers are one, as far as was looked.
-fn same_fibers(one: &[Config], other: &[Config]) -> bool
-    ensures { result ≡ true → one.now ≡ other.now }
-{
-    if one.len() != other.len() {
-        return false;
-    }
-    for (i, fiber) in one.iter().enumerate() {
-        if !fiber.same(&other[i]) {
-            return false;
-        }
-    }
-    true
 }

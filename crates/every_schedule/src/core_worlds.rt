@@ -1,47 +1,64 @@
 //! The worlds that an exploration has found, each with a number.
-ghost use Rattle.std.specs.Prelude.{◌≡◌, ◌++◌, ◌<◌, ◌≤◌, [], ◌∷◌, length, max, IfOk, IfSome, OnOk, Some};
+ghost use Rattle.std.specs.Prelude.{◌≡◌, ◌⊎◌, ◌++◌, ◌<◌, ◌≤◌, ℕ, [], ◌∷◌, length, max};
+ghost use Rattle.std.specs.Prelude.{IfOk, IfErr, IfSome, OnOk, OnErr, Some};
+ghost use Rattle.std.specs.Prelude.{Ok as GoesWell, Err as Fails, Result as TheResult, List};
 ghost use Rattle.std.specs.List.{All, slice_get};
 ghost use Rattle.derived_ops.specs.Expansion.{code_of};
 ghost use Rattle.derived_ops.specs.Reading.{source_of};
 ghost use Rattle.fiber_frames.specs.Marks.{AreLawful};
 ghost use Rattle.cell_registry.specs.Cells.{AreLimits};
+ghost use Rattle.world_search.specs.Landings.{EntersAt};
 ghost use Rattle.world_search.specs.Lists.{IsMore};
 ghost use Rattle.every_schedule.specs.Places.{Place, first_place, report_at};
 ghost use Rattle.every_schedule.specs.Private.Keeping.{IsKept};
+ghost use Rattle.every_schedule.specs.Private.Numbered.{MayAdd};
 
 use crate::core_world::CoreWorld;
+use crate::current::{Current, States, begun, entered, fibers_of, set_up};
+use crate::pool::{Pool, Pooled};
+use crate::reports::same_reports;
+use crate::row::Row;
 use cell_registry::{Limits, RunError};
 use effect_term::Program;
-use outcome_trace::Report;
+use outcome_trace::{Report, report_of_fibers};
 use std::alloc::{AllocError, Global};
-use std::collections::HashMap;
 use std::marker::Model;
 use world_search::{Entered, Landing, Worlds};
 
-// All worlds and faults that were found. A world is looked up by its digest, under which the last world of this
-// digest is filed, and each world names the one before it. Whatever stands there, only a world that is the same is
-// taken for the one that is looked for.
+// All worlds and faults that were found. The states of fibers and registries are kept once, and a world is a row of
+// their numbers.
 #[derive(Drop)]
 pub(crate) struct CoreWorlds {
     alloc: Global,
-    worlds: Vec<CoreWorld>,
+    limits: Limits,
+    states: States,
+    rows: Pool<Row>,
+    current: Option<Current>,
     faults: Vec<RunError>,
-    last: HashMap<u64, usize>,
-    earlier: Vec<Option<usize>>,
 }
 
 impl Model for CoreWorlds {
+    ghost use Rattle.std.specs.Prelude.{map, IfSome};
     ghost use Rattle.std.specs.Coded.{codes};
     ghost use Rattle.derived_ops.specs.Stored.{tree_code};
     ghost use Rattle.fiber_frames.specs.contracts.ask.Look as the_look;
     ghost use Rattle.fiber_frames.specs.contracts.mark.Mark as the_mark;
     ghost use Rattle.every_schedule.specs.Places.{Kept};
+    ghost use Rattle.every_schedule.specs.Private.Numbered.{AreWorlds, place_of};
+    ghost use Rattle.every_schedule.specs.Private.Standing.{IsCurrent};
 
     ghost Value = { Kept };
 
     ghost coded = { Prim.hlevel (codes, tree_code, the_look.the_row.coded, the_mark.the_row.coded) };
 
-    ghost view = { λ s. record { places = s.worlds.items; faults = s.faults.items } };
+    ghost view = { λ s. record {
+      places = map (place_of s.limits s.states.fibers.items.items s.states.registries.items.items) s.rows.items.items;
+      faults = s.faults.items;
+    } };
+
+    ghost invariant = { λ s.
+        AreWorlds s.limits s.states.fibers.items.items s.states.registries.items.items s.rows.items.items ×
+        IfSome s.current (IsCurrent s.states.fibers.items.items s.states.registries.items.items) };
 }
 
 impl CoreWorlds {
@@ -57,75 +74,23 @@ impl CoreWorlds {
           faults = [];
         }) }
     {
-        let first = CoreWorld::first(alloc, program, limits)?;
-        let mut all = CoreWorlds {
-            alloc,
-            worlds: Vec::new(alloc),
-            faults: Vec::new(alloc),
-            last: HashMap::new(alloc),
-            earlier: Vec::new(alloc),
+        let mut states = States {
+            fibers: Pool::new(alloc),
+            registries: Pool::new(alloc),
         };
-        all.file(first)?;
-        Ok(all)
-    }
-
-    // Keeps one more world, which gets the next number.
-    fn file(&mut self, world: CoreWorld) -> Result<(), AllocError>
-        ensures { OnOk result (self.new ≡ record self.old { places = self.old.places ++ world ∷ [] }) }
-    {
-        let before = self.last.insert(world.digest(), self.worlds.len())?;
-        self.earlier.push(before)?;
-        self.worlds.push(world)?;
-        Ok(())
-    }
-
-    // The number of a world that is kept and is this one, as far as was looked.
-    fn find(&self, world: &CoreWorld) -> Option<usize>
-        ensures { IfSome result (λ i. slice_get self.now.places i ≡ Some world.now) }
-    {
-        let mut next = self.last.get(&world.digest()).copied();
-        for _ in 0..self.worlds.len() {
-            let place = next?;
-            if self.worlds.get(place)?.same(world) {
-                return Some(place);
-            }
-            next = *self.earlier.get(place)?;
-        }
-        None
-    }
-
-    // The world is kept, unless there are so many already.
-    fn keep(&mut self, world: CoreWorld, most: usize) -> Result<Entered, AllocError>
-        ensures faults { OnOk result (self.new.faults ≡ self.old.faults) }
-        ensures places { OnOk result (IsMore self.old.places self.new.places) }
-        ensures kept { IfOk result (λ it. IsKept self.new.places it world) }
-        ensures room { OnOk result (length self.new.places ≤ max most (length self.old.places)) }
-    {
-        if let Some(place) = self.find(&world) {
-            return Ok(Entered::At(Landing::World(place)));
-        }
-        let place = self.worlds.len();
-        if place >= most {
-            return Ok(Entered::Full);
-        }
-        self.file(world)?;
-        Ok(Entered::At(Landing::World(place)))
-    }
-
-    // The number of a fault, which is kept from now on.
-    fn note(&mut self, fault: RunError) -> Result<usize, AllocError>
-        ensures places { OnOk result (self.new.places ≡ self.old.places) }
-        ensures faults { OnOk result (IsMore self.old.faults self.new.faults) }
-        ensures noted { IfOk result (λ i. slice_get self.new.faults i ≡ Some fault) }
-    {
-        for (i, known) in self.faults.iter().enumerate() {
-            if *known == fault {
-                return Ok(i);
-            }
-        }
-        let place = self.faults.len();
-        self.faults.push(fault)?;
-        Ok(place)
+        let first = CoreWorld::first(alloc, program, limits)?;
+        let current = begun(alloc, first, &mut states)?;
+        let row = current.row.again(alloc)?;
+        let mut rows = Pool::new(alloc);
+        rows.add(row)?;
+        Ok(CoreWorlds {
+            alloc,
+            limits,
+            states,
+            rows,
+            current: Some(current),
+            faults: Vec::new(alloc),
+        })
     }
 
     // What the fibers of a world have come to.
@@ -134,7 +99,9 @@ impl CoreWorlds {
         ensures report { IfOk result (λ it. (p : Place) → slice_get self.now.places world ≡ Some p → it ≡ report_at p) }
         ensures lawful { IfOk result (λ it. All (λ f. AreLawful f.marks f.outcome) it.fibers) }
     {
-        self.worlds[world].report(self.alloc)
+        let row = &self.rows.items[world];
+        let fibers = fibers_of(self.alloc, &self.states.fibers, row.fibers())?;
+        report_of_fibers(self.alloc, fibers)
     }
 
     // A fault that was met.
@@ -143,6 +110,55 @@ impl CoreWorlds {
         ensures { slice_get self.now.faults number ≡ Some result }
     {
         self.faults[number]
+    }
+}
+
+// The number of a row, which is kept unless there are so many already.
+fn keep(alloc: Global, rows: &mut Pool<Row>, row: &Row, most: usize) -> Result<Entered, AllocError>
+    ensures adds { MayAdd rows.old.items.items rows.new.items.items row.now }
+    ensures kept { IfOk result (λ it. IsKept rows.new.items.items it row.now) }
+    ensures room { OnOk result (length rows.new.items.items ≤ max most (length rows.old.items.items)) }
+{
+    if let Some(number) = rows.find(row) {
+        return Ok(Entered::At(Landing::World(number as usize)));
+    }
+    if rows.items.len() >= most {
+        return Ok(Entered::Full);
+    }
+    let number = rows.add(row.again(alloc)?)?;
+    Ok(Entered::At(Landing::World(number as usize)))
+}
+
+// The number of a fault, which is kept from now on.
+fn note(faults: &mut Vec<RunError>, fault: RunError) -> Result<usize, AllocError>
+    ensures more { IsMore faults.old.items faults.new.items }
+    ensures noted { IfOk result (λ i. slice_get faults.new.items i ≡ Some fault) }
+{
+    for (i, known) in faults.iter().enumerate() {
+        if *known == fault {
+            return Ok(i);
+        }
+    }
+    let place = faults.len();
+    faults.push(fault)?;
+    Ok(place)
+}
+
+// What came of an entry that ended so: the fault's number, or want of memory.
+fn fault_met(faults: &mut Vec<RunError>, fault: RunError) -> Result<Entered, AllocError>
+    ensures more { IsMore faults.old.items faults.new.items }
+    ensures met { IfOk result (λ it. (places : List Place) (to : TheResult Place RunError) →
+        (fault ≡ RunError.NoMemory) ⊎ (to ≡ Fails fault) → EntersAt places faults.new.items it to) }
+{
+    match fault {
+        RunError::NoMemory => Err(AllocError),
+        RunError::Full(band, limit) => Ok(Entered::At(Landing::Fault(note(
+            faults,
+            RunError::Full(band, limit),
+        )?))),
+        RunError::Spent(by) => Ok(Entered::At(Landing::Fault(note(faults, RunError::Spent(by))?))),
+        RunError::Lost(by) => Ok(Entered::At(Landing::Fault(note(faults, RunError::Lost(by))?))),
+        RunError::NoWorker => Ok(Entered::At(Landing::Fault(note(faults, RunError::NoWorker)?))),
     }
 }
 
@@ -166,33 +182,37 @@ impl Worlds for CoreWorlds {
     ghost most_born = { 1000 };
 
     fn born(&self, world: usize) -> u16 {
-        self.worlds[world].born()
+        let row = &self.rows.items[world];
+        // The registry is within its limits, and has given each of the fibers its number.
+        let registry = &self.states.registries.items[row.registry() as usize];
+        let _ = registry.limits();
+        row.fibers().len() as u16
     }
 
     fn enter(&mut self, world: usize, fiber: u16, most: usize) -> Result<Entered, AllocError> {
-        match self.worlds[world].copy(self.alloc)?.enter(fiber) {
-            Ok(next) => self.keep(next, most),
-            Err(RunError::Full(band, limit)) => Ok(Entered::At(Landing::Fault(self.note(
-                RunError::Full(band, limit),
-            )?))),
-            Err(RunError::Spent(by)) => Ok(Entered::At(Landing::Fault(self.note(RunError::Spent(
-                by,
-            ))?))),
-            Err(RunError::Lost(by)) => Ok(Entered::At(Landing::Fault(self.note(RunError::Lost(
-                by,
-            ))?))),
-            Err(RunError::NoWorker) => Ok(Entered::At(Landing::Fault(self.note(
-                RunError::NoWorker,
-            )?))),
-            Err(RunError::NoMemory) => Err(AllocError),
+        let row = &self.rows.items[world];
+        let before = self.current.take();
+        let current = set_up(self.alloc, before, &self.states, row)?;
+        match entered(self.alloc, current, &mut self.states, fiber) {
+            Ok(next) => {
+                let kept = keep(self.alloc, &mut self.rows, &next.row, most);
+                self.current = Some(next);
+                kept
+            }
+            Err(fault) => {
+                self.current = None;
+                fault_met(&mut self.faults, fault)
+            }
         }
     }
 
     fn same_report(&self, one: usize, other: usize) -> bool {
-        self.worlds[one].same_report(&self.worlds[other])
+        let first = &self.rows.items[one];
+        let second = &self.rows.items[other];
+        same_reports(&self.states.fibers, first.fibers(), second.fibers())
     }
 
     fn len(&self) -> usize {
-        self.worlds.len()
+        self.rows.items.len()
     }
 }

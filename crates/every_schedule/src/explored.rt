@@ -9,8 +9,9 @@ ghost use Rattle.fiber_frames.specs.Marks.{AreLawful};
 ghost use Rattle.cell_registry.specs.Cells.{AreLimits};
 ghost use Rattle.outcome_trace.specs.declared.report.Report.{Report as TheReport};
 ghost use Rattle.outcome_trace.specs.Core.{World, core, reported};
+ghost use Rattle.outcome_trace.specs.Finals.{IsSettled};
 ghost use Rattle.every_schedule.specs.Explored.{EndAlike, HasLawfulMarks, HasNoFault, HasOutcome};
-ghost use Rattle.every_schedule.specs.Explored.{IsAnswered, IsCovered, IsReached, IsSettled};
+ghost use Rattle.every_schedule.specs.Explored.{IsAnswered, IsCovered, IsReached};
 ghost use Rattle.every_schedule.specs.Private.Telling.{AreTold, IsEnd, IsTold, IsWithin};
 
 use crate::core_worlds::CoreWorlds;
@@ -19,7 +20,7 @@ use cell_registry::{Limits, RunError};
 use effect_term::Program;
 use outcome_trace::Report;
 use std::alloc::{AllocError, Global};
-use world_search::{Bounds, Landing, search};
+use world_search::{Bounds, Landing, Unwatched, Watcher, search_watched};
 
 /// All that can come of a program, whatever the schedule: the reports that no further entry changes, and the faults,
 /// each with a schedule under which it comes, as `replay` takes it.
@@ -56,8 +57,40 @@ pub fn explore(
     ensures lawful { IfOk result (λ it. All HasLawfulMarks it.answers) }
     ensures memory { IfErr result (λ e. e ≡ RunError.NoMemory) }
 {
+    explore_watched(alloc, program, limits, bounds, &mut Unwatched)
+}
+
+/// The same ([`explore`]), while the watcher is told from time to time how many worlds were found and how long the
+/// schedules are, at each ten-thousandth world.
+pub fn explore_watched<V: Watcher>(
+    alloc: Global,
+    program: &Program,
+    limits: Limits,
+    bounds: Bounds,
+    watcher: &mut V,
+) -> Result<Exploration, RunError>
+    requires limits { AreLimits limits }
+    ensures all { IfOk result (λ it. it.complete ≡ true → (schedule : List ℕ) →
+        IsCovered limits it.answers (core (code_of (source_of program.now)) limits schedule)) }
+    ensures each { IfOk result (λ it. All (IsReached (code_of (source_of program.now)) limits) it.answers) }
+    ensures onward { IfOk result (λ it. it.complete ≡ true → it.ends ≡ true → (schedule : List ℕ) →
+        (more : List ℕ) × IsAnswered limits it.answers
+        (core (code_of (source_of program.now)) limits (schedule ++ more))) }
+    ensures faultless { IfOk result (λ it. it.complete ≡ true → HasNoFault it.answers →
+        (schedule : List ℕ) (e : TheRunError) → core (code_of (source_of program.now)) limits schedule ≡ Fails e → ⊥) }
+    ensures alike { IfOk result (λ it. it.complete ≡ true → (end : TheResult TheReport TheRunError) → EndAlike it.answers end →
+        (schedule : List ℕ) (w : World) → core (code_of (source_of program.now)) limits schedule ≡ GoesWell w →
+        IsSettled limits w → reported (GoesWell w) ≡ end) }
+    ensures can_end { IfOk result (λ it. it.complete ≡ true → it.ends ≡ true → (f : ℕ) →
+        All (λ a. HasOutcome f a.end) it.answers → (schedule : List ℕ) → (more : List ℕ) ×
+        HasOutcome f (reported (core (code_of (source_of program.now)) limits (schedule ++ more)))) }
+    ensures numbers { IfOk result (λ it. All (λ a. All (λ f. f < 1000) a.schedule) it.answers) }
+    ensures short { IfOk result (λ it. All (λ a. length a.schedule ≤ bounds.entries) it.answers) }
+    ensures lawful { IfOk result (λ it. All HasLawfulMarks it.answers) }
+    ensures memory { IfErr result (λ e. e ≡ RunError.NoMemory) }
+{
     let mut worlds = CoreWorlds::new(alloc, program, limits)?;
-    let found = search(alloc, &mut worlds, bounds)?;
+    let found = search_watched(alloc, &mut worlds, bounds, watcher)?;
     let answers = told(alloc, &worlds, found.answers)?;
     Ok(Exploration {
         answers: Answers::new(answers),

@@ -8,9 +8,13 @@
 
 mod core_world;
 mod core_worlds;
+mod current;
 mod exploration;
 mod explored;
+mod pool;
+mod reports;
+mod row;
 
 pub use exploration::{Answer, Answers, Exploration, Schedule};
-pub use explored::explore;
-pub use world_search::Bounds;
+pub use explored::{explore, explore_watched};
+pub use world_search::{Bounds, Watcher};

@@ -8,10 +8,13 @@
 #![tactic(auto)]
 
 mod explore_texts;
+mod progress;
 mod texts;
 mod wants;
+mod watched_texts;
 
 pub use every_schedule::Bounds;
 pub use explore_texts::{ExploreOrder, explore_text};
 pub use texts::{exploration_status, text_of_exploration};
 pub use wants::{Want, read_want};
+pub use watched_texts::obey_explore_watched;

@@ -11,7 +11,11 @@ ghost use Rattle.world_search.specs.Private.Graphs.{Fits, Grows, CanEnter, Comes
 use crate::graphs::{Edge, Graph, Node, add_edge, keep, note, set_faulting, set_quiet};
 use crate::landings::{Entered, Landing};
 use crate::store::Worlds;
+use crate::watching::Watcher;
 use std::alloc::AllocError;
+
+// Of so many worlds, one is told of.
+const TOLD_EACH: usize = 10_000;
 
 /// How far the entries go.
 #[derive(Clone, Copy)]
@@ -34,10 +38,11 @@ pub enum Came {
 }
 
 /// Makes the entries at all worlds that are met, as far as the limits go. Whether there are no others.
-pub fn explore<W: Worlds>(
+pub fn explore<W: Worlds, V: Watcher>(
     worlds: &mut W,
     graph: &mut Graph,
     limits: Limits,
+    watcher: &mut V,
 ) -> Result<bool, AllocError>
     requires { Fits W.step W.report W.most_born limits.entries
         (W.worlds worlds.old) (W.faults worlds.old) (shape graph.old) }
@@ -53,12 +58,22 @@ pub fn explore<W: Worlds>(
     let mut whole = true;
     let mut index = 0;
     while index < graph.nodes.len() && index < limits.worlds as usize {
+        tell(&mut *watcher, &*graph, index);
         if !expand(&mut *worlds, &mut *graph, index, limits)? {
             whole = false;
         }
         index += 1;
     }
     Ok(whole && index >= graph.nodes.len())
+}
+
+// The watcher is told of a world, if it is its turn.
+fn tell<V: Watcher>(watcher: &mut V, graph: &Graph, index: usize)
+    requires { index < length graph.now.nodes.items }
+{
+    if index % TOLD_EACH == TOLD_EACH - 1 {
+        watcher.tell(graph.nodes.len(), graph.nodes[index].depth as usize);
+    }
 }
 
 // All entries at one world. Whether what comes of them is all among what was met.

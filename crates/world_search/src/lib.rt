@@ -19,8 +19,10 @@ mod schedules;
 mod searching;
 mod spread;
 mod store;
+mod watching;
 
 pub use answers::{Answer, Bounds, Found};
 pub use landings::{Entered, Landing};
-pub use searching::search;
+pub use searching::{search, search_watched};
 pub use store::Worlds;
+pub use watching::{Unwatched, Watcher};

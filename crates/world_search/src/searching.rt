@@ -13,6 +13,7 @@ use crate::graphs::begin;
 use crate::listing::{all_end, list_faults, list_worlds};
 use crate::spread::spread;
 use crate::store::Worlds;
+use crate::watching::{Unwatched, Watcher};
 use std::alloc::{AllocError, Global};
 
 /// Searches every schedule from the first world of a store, the one of number 0.
@@ -38,12 +39,40 @@ pub fn search<W: Worlds>(alloc: Global, worlds: &mut W, bounds: Bounds) -> Resul
     ensures room { OnOk result (length (W.worlds worlds.new) ≤ max bounds.worlds (length (W.worlds worlds.old))) }
     ensures count { IfOk result (λ it. it.worlds ≡ length (W.worlds worlds.new)) }
 {
+    search_watched(alloc, worlds, bounds, &mut Unwatched)
+}
+
+/// The same ([`search`]), while the watcher is told how far it has come, at each ten-thousandth world.
+pub fn search_watched<W: Worlds, V: Watcher>(
+    alloc: Global,
+    worlds: &mut W,
+    bounds: Bounds,
+    watcher: &mut V,
+) -> Result<Found, AllocError>
+    requires { 0 < length (W.worlds worlds.old) }
+    ensures grows { OnOk result (IsMore (W.worlds worlds.old) (W.worlds worlds.new)) }
+    ensures adds { OnOk result (IsMore (W.faults worlds.old) (W.faults worlds.new)) }
+    ensures all { IfOk result (λ it. it.complete ≡ true → (first : W.World) →
+        slice_get (W.worlds worlds.old) 0 ≡ Some first → (schedule : List ℕ) →
+        IsCovered W.step W.report (W.worlds worlds.new) (W.faults worlds.new) it.answers.items
+        (run W.step (GoesWell first) schedule)) }
+    ensures each { IfOk result (λ it. (first : W.World) → slice_get (W.worlds worlds.old) 0 ≡ Some first →
+        All (IsRight W.step W.report (W.worlds worlds.new) (W.faults worlds.new) first) it.answers.items) }
+    ensures onward { IfOk result (λ it. it.complete ≡ true → it.ends ≡ true → (first : W.World) →
+        slice_get (W.worlds worlds.old) 0 ≡ Some first → (schedule : List ℕ) →
+        (more : List ℕ) × IsEnd W.step W.report (W.worlds worlds.new) (W.faults worlds.new) it.answers.items
+        (run W.step (GoesWell first) (schedule ++ more))) }
+    ensures numbers { IfOk result (λ it. All (IsNumbered W.most_born) it.answers.items) }
+    ensures short { IfOk result (λ it. All (IsShort bounds.entries) it.answers.items) }
+    ensures room { OnOk result (length (W.worlds worlds.new) ≤ max bounds.worlds (length (W.worlds worlds.old))) }
+    ensures count { IfOk result (λ it. it.worlds ≡ length (W.worlds worlds.new)) }
+{
     let limits = Limits {
         worlds: capped(bounds.worlds),
         entries: capped(bounds.entries),
     };
     let mut graph = begin(alloc)?;
-    let complete = explore(&mut *worlds, &mut graph, limits)?;
+    let complete = explore(&mut *worlds, &mut graph, limits, watcher)?;
     spread(graph.edges.as_slice(), &mut graph.unsettled);
     let mut answers = Vec::new(alloc);
     list_worlds(alloc, &*worlds, &graph, &mut answers)?;

@@ -1,4 +1,4 @@
-use Rattle.std.proofs.Common.{◌≡◌, ◌<◌, length, Ok, sym, ap, subst}
+use Rattle.std.proofs.Common.{◌<◌, length, Ok, sym, ap, subst}
 use Rattle.world_search.specs.declared.landings.Landing.{Landing}
 use Rattle.every_schedule.specs.Private.Telling.{IsEnd, IsWithin}
 use Rattle.every_schedule.proofs.Told.{at_within}

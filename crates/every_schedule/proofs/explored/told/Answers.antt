@@ -1,10 +1,7 @@
 use Rattle.std.proofs.Common.{◌≡◌, ◌++◌, List, [], ◌∷◌, length, sym, ap, ◌∙◌, subst, arith, rules}
 use Rattle.std.specs.Vec.Iter.{into_iter_items}
 use Rattle.std.proofs.lemmas.List.Elements.{All-push, All-same}
-use Rattle.world_search.specs.declared.answers.Answer.{Answer as Found}
-use Rattle.every_schedule.specs.declared.exploration.Answer.{Answer}
 use Rattle.every_schedule.specs.Explored.{HasLawfulMarks}
-use Rattle.every_schedule.specs.Private.Telling.{IsWithin}
 use Rattle.every_schedule.proofs.Listing.{SoFar, all_told, next_within, told_next}
 use Rattle.every_schedule.proofs.explored.told.Goals as goal
 

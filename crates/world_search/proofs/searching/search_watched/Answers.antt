@@ -7,7 +7,7 @@ use Rattle.world_search.proofs.Answering.{answered_more}
 use Rattle.world_search.proofs.Lists.{more_get}
 use Rattle.world_search.proofs.Paths.{are_chained, are_noted_chained}
 use Rattle.world_search.proofs.Results.{within, all_covered, all_onward, all_right, all_numbered, all_short}
-use Rattle.world_search.proofs.searching.search.Goals as goal
+use Rattle.world_search.proofs.searching.search_watched.Goals as goal
 
 pub spread-requires : goal.spread-requires
 spread-requires g c =

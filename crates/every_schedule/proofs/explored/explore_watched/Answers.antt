@@ -11,19 +11,19 @@ use Rattle.every_schedule.specs.Places.{Kept, first_place, report_at, stepped}
 use Rattle.every_schedule.proofs.Placed.{core_run}
 use Rattle.every_schedule.proofs.Laws.{alike, ended, faultless}
 use Rattle.every_schedule.proofs.Told.{all_within, answered, covered, numbered, reached, short}
-use Rattle.every_schedule.proofs.explored.explore.Goals as goal
+use Rattle.every_schedule.proofs.explored.explore_watched.Goals as goal
 
 pub told-requires : goal.told-requires
-told-requires c =
+told-requires g c =
     let code = code_of (source_of c.args.program.now) in
     let first : slice_get c.in_ok-worlds.worlds.places 0 ≡ Some (first_place code c.args.limits) = ap (λ (s : Kept). slice_get s.places 0) c.in_ok-worlds.ensures in
-    all_within c.search.new.worlds (first_place code c.args.limits) c.in_ok-found.found.answers.items (c.in_ok-found.ensures.each (first_place code c.args.limits) first)
+    all_within c.search_watched.new.worlds (first_place code c.args.limits) c.in_ok-found.found.answers.items (c.in_ok-found.ensures.each (first_place code c.args.limits) first)
 
 pub returns-clause-all : goal.returns-clause-all
-returns-clause-all c = λ complete schedule.
+returns-clause-all g c = λ complete schedule.
     let code = code_of (source_of c.args.program.now) in
     let k = c.args.limits in
-    let kept = c.search.new.worlds in
+    let kept = c.search_watched.new.worlds in
     let found = c.in_ok-found.found.answers.items in
     let first : slice_get c.in_ok-worlds.worlds.places 0 ≡ Some (first_place code k) = ap (λ (s : Kept). slice_get s.places 0) c.in_ok-worlds.ensures in
     let all = c.in_ok-found.ensures.all complete (first_place code k) first schedule in
@@ -32,19 +32,19 @@ returns-clause-all c = λ complete schedule.
     (subst (search.IsCovered stepped report_at kept.places kept.faults found) (core_run code k schedule) all))
 
 pub returns-clause-each : goal.returns-clause-each
-returns-clause-each c =
+returns-clause-each g c =
     let code = code_of (source_of c.args.program.now) in
     let k = c.args.limits in
     let first : slice_get c.in_ok-worlds.worlds.places 0 ≡ Some (first_place code k) = ap (λ (s : Kept). slice_get s.places 0) c.in_ok-worlds.ensures in
     subst (λ (l : List Answer). All (IsReached code k) l) (sym c.new-2.ensures)
-    (reached c.search.new.worlds c.in_ok-found.found.answers.items c.in_ok-answers.answers.items c.in_ok-answers.ensures.told code k
+    (reached c.search_watched.new.worlds c.in_ok-found.found.answers.items c.in_ok-answers.answers.items c.in_ok-answers.ensures.told code k
     (c.in_ok-found.ensures.each (first_place code k) first))
 
 pub returns-clause-onward : goal.returns-clause-onward
-returns-clause-onward c = λ complete ends schedule.
+returns-clause-onward g c = λ complete ends schedule.
     let code = code_of (source_of c.args.program.now) in
     let k = c.args.limits in
-    let kept = c.search.new.worlds in
+    let kept = c.search_watched.new.worlds in
     let found = c.in_ok-found.found.answers.items in
     let first : slice_get c.in_ok-worlds.worlds.places 0 ≡ Some (first_place code k) = ap (λ (s : Kept). slice_get s.places 0) c.in_ok-worlds.ensures in
     let on = c.in_ok-found.ensures.onward complete ends (first_place code k) first schedule in (
@@ -55,24 +55,24 @@ returns-clause-onward c = λ complete ends schedule.
     )
 
 pub returns-clause-numbers : goal.returns-clause-numbers
-returns-clause-numbers c =
+returns-clause-numbers g c =
     subst (λ (l : List Answer). All (λ a. All (λ f. f < 1000) a.schedule) l) (sym c.new-2.ensures)
-    (numbered c.search.new.worlds c.in_ok-found.found.answers.items c.in_ok-answers.answers.items c.in_ok-answers.ensures.told 1000 c.in_ok-found.ensures.numbers)
+    (numbered c.search_watched.new.worlds c.in_ok-found.found.answers.items c.in_ok-answers.answers.items c.in_ok-answers.ensures.told 1000 c.in_ok-found.ensures.numbers)
 
 pub returns-clause-short : goal.returns-clause-short
-returns-clause-short c =
+returns-clause-short g c =
     subst (λ (l : List Answer). All (λ a. length a.schedule ≤ c.args.bounds.entries) l) (sym c.new-2.ensures)
-    (short c.search.new.worlds c.in_ok-found.found.answers.items c.in_ok-answers.answers.items c.in_ok-answers.ensures.told c.args.bounds.entries c.in_ok-found.ensures.short)
+    (short c.search_watched.new.worlds c.in_ok-found.found.answers.items c.in_ok-answers.answers.items c.in_ok-answers.ensures.told c.args.bounds.entries c.in_ok-found.ensures.short)
 
 pub returns-clause-faultless : goal.returns-clause-faultless
-returns-clause-faultless c = λ complete none schedule e is.
-    faultless c.args.limits c.new-2.result (core (code_of (source_of c.args.program.now)) c.args.limits schedule) e (returns-clause-all c complete schedule) none is
+returns-clause-faultless g c = λ complete none schedule e is.
+    faultless c.args.limits c.new-2.result (core (code_of (source_of c.args.program.now)) c.args.limits schedule) e (returns-clause-all g c complete schedule) none is
 
 pub returns-clause-alike : goal.returns-clause-alike
-returns-clause-alike c = λ complete end same schedule w is settled.
-    alike c.args.limits c.new-2.result (core (code_of (source_of c.args.program.now)) c.args.limits schedule) end w (returns-clause-all c complete schedule) same is settled
+returns-clause-alike g c = λ complete end same schedule w is settled.
+    alike c.args.limits c.new-2.result (core (code_of (source_of c.args.program.now)) c.args.limits schedule) end w (returns-clause-all g c complete schedule) same is settled
 
 pub returns-clause-can_end : goal.returns-clause-can_end
-returns-clause-can_end c = λ complete ends f all schedule.
-    let on = returns-clause-onward c complete ends schedule in
+returns-clause-can_end g c = λ complete ends f all schedule.
+    let on = returns-clause-onward g c complete ends schedule in
     (on.0, ended c.args.limits c.new-2.result f (core (code_of (source_of c.args.program.now)) c.args.limits (schedule ++ on.0)) all on.1)

@@ -1,0 +1,36 @@
+use Rattle.std.proofs.Common.{◌≡◌, ℕ, ◌<◌, List, length, map, sym, ap, ◌∙◌, subst, arith}
+use Rattle.std.specs.Prelude.{Some}
+use Rattle.std.specs.List.{All, slice_get}
+use Rattle.std.proofs.lemmas.Grind.{common_steps}
+use Rattle.std.proofs.lemmas.Option.{gets}
+use Rattle.fiber_frames.specs.Fiber.{Fiber}
+use Rattle.every_schedule.specs.Places.{Kept, report_at}
+use Rattle.every_schedule.specs.Private.Numbered.{AreAt, place_of}
+use Rattle.std.proofs.lemmas.Result.{IfOk-weaker}
+use Rattle.outcome_trace.specs.Core.{fiber_report}
+use Rattle.every_schedule.proofs.Alikeness.{told}
+use Rattle.every_schedule.proofs.Numbered.{fibers_there, picked_is}
+use Rattle.every_schedule.proofs.Entering.{place_at}
+use Rattle.every_schedule.proofs.core_worlds.CoreWorlds.report.Goals as goal
+
+pub fibers_of-requires : goal.fibers_of-requires
+fibers_of-requires c =
+    let s = c.self.inside in
+    let fs = s.states.fibers.items.items in
+    let row : slice_get s.rows.items.items c.args.world ≡ Some c.index-row.result.now = grind (arith, common_steps, gets) in
+    subst (λ (l : List ℕ). All (λ m. m < length fs) l) (sym c.fibers.ensures)
+    (fibers_there s.limits fs s.states.registries.items.items c.index-row.result.now (c.self.invariant.0 c.args.world c.index-row.result.now row))
+
+pub returns-clause-report : goal.returns-clause-report
+returns-clause-report c = IfOk-weaker c.report_of_fibers.result _ _ (λ it is. λ p at.
+    let s = c.self.inside in
+    let k = s.limits in
+    let fs = s.states.fibers.items.items in
+    let rs = s.states.registries.items.items in
+    let rows = s.rows.items.items in
+    let m = c.index-row.result.now in
+    let places : map (place_of k fs rs) rows ≡ c.args.self.now.places = ap (λ (x : Kept). x.places) c.self.view_is in
+    let row : slice_get rows c.args.world ≡ Some m = grind (arith, common_steps, gets) in
+    let here : place_of k fs rs m ≡ p = place_at k fs rs rows c.args.world m p row (ap (λ l. slice_get l c.args.world) places ∙ at) in
+    let are : AreAt fs m.fibers c.in_ok-fibers.fibers.items = subst (λ l. AreAt fs l c.in_ok-fibers.fibers.items) c.fibers.ensures c.in_ok-fibers.ensures in
+    is ∙ ap (λ (l : List Fiber). told (map fiber_report l)) (sym (picked_is fs m.fibers c.in_ok-fibers.fibers.items are)) ∙ ap report_at here) (c.report_of_fibers.ensures.reports)

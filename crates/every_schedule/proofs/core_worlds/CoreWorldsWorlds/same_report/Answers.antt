@@ -1,0 +1,61 @@
+use Rattle.std.proofs.Common.{◌≡◌, ℕ, ◌<◌, List, length, map, sym, ap, ◌∙◌, subst, arith}
+use Rattle.std.specs.Prelude.{Some}
+use Rattle.std.specs.List.{All, slice_get}
+use Rattle.std.proofs.lemmas.Grind.{common_steps}
+use Rattle.std.proofs.lemmas.Option.{gets}
+use Rattle.every_schedule.specs.Places.{Kept, report_at}
+use Rattle.every_schedule.specs.Private.Numbered.{place_of}
+use Rattle.every_schedule.specs.Private.Reporting.{AreAlike, AreOther}
+use Rattle.every_schedule.proofs.Numbered.{fibers_there}
+use Rattle.every_schedule.proofs.Entering.{place_at, reports_alike, reports_other}
+use Rattle.every_schedule.proofs.core_worlds.CoreWorldsWorlds.same_report.Goals as goal
+
+pub same_reports-requires-clause-one : goal.same_reports-requires-clause-one
+same_reports-requires-clause-one c =
+    let s = c.self.inside in
+    let fs = s.states.fibers.items.items in
+    let row : slice_get s.rows.items.items c.args.one ≡ Some c.index-first.result.now = grind (arith, common_steps, gets) in
+    subst (λ (l : List ℕ). All (λ m. m < length fs) l) (sym c.fibers.ensures)
+    (fibers_there s.limits fs s.states.registries.items.items c.index-first.result.now (c.self.invariant.0 c.args.one c.index-first.result.now row))
+
+pub same_reports-requires-clause-other : goal.same_reports-requires-clause-other
+same_reports-requires-clause-other c =
+    let s = c.self.inside in
+    let fs = s.states.fibers.items.items in
+    let row : slice_get s.rows.items.items c.args.other ≡ Some c.index-second.result.now = grind (arith, common_steps, gets) in
+    subst (λ (l : List ℕ). All (λ m. m < length fs) l) (sym c.fibers-2.ensures)
+    (fibers_there s.limits fs s.states.registries.items.items c.index-second.result.now (c.self.invariant.0 c.args.other c.index-second.result.now row))
+
+pub returns-clause-yes : goal.returns-clause-yes
+returns-clause-yes c = λ yes v w first second.
+    let s = c.self.inside in
+    let k = s.limits in
+    let fs = s.states.fibers.items.items in
+    let rs = s.states.registries.items.items in
+    let rows = s.rows.items.items in
+    let m = c.index-first.result.now in
+    let n = c.index-second.result.now in
+    let places : map (place_of k fs rs) rows ≡ c.args.self.now.places = ap (λ (x : Kept). x.places) c.self.view_is in
+    let one : slice_get rows c.args.one ≡ Some m = grind (arith, common_steps, gets) in
+    let two : slice_get rows c.args.other ≡ Some n = grind (arith, common_steps, gets) in
+    let left : place_of k fs rs m ≡ v = place_at k fs rs rows c.args.one m v one (ap (λ l. slice_get l c.args.one) places ∙ first) in
+    let right : place_of k fs rs n ≡ w = place_at k fs rs rows c.args.other n w two (ap (λ l. slice_get l c.args.other) places ∙ second) in
+    let told : AreAlike fs m.fibers n.fibers = subst (λ l. AreAlike fs l n.fibers) c.fibers.ensures (subst (λ l. AreAlike fs c.fibers.result.now l) c.fibers-2.ensures (c.same_reports.ensures.same yes)) in
+    sym (ap report_at left) ∙ reports_alike k fs rs m n (c.self.invariant.0 c.args.one m one) (c.self.invariant.0 c.args.other n two) told ∙ ap report_at right
+
+pub returns-clause-no : goal.returns-clause-no
+returns-clause-no c = λ no v w first second same.
+    let s = c.self.inside in
+    let k = s.limits in
+    let fs = s.states.fibers.items.items in
+    let rs = s.states.registries.items.items in
+    let rows = s.rows.items.items in
+    let m = c.index-first.result.now in
+    let n = c.index-second.result.now in
+    let places : map (place_of k fs rs) rows ≡ c.args.self.now.places = ap (λ (x : Kept). x.places) c.self.view_is in
+    let one : slice_get rows c.args.one ≡ Some m = grind (arith, common_steps, gets) in
+    let two : slice_get rows c.args.other ≡ Some n = grind (arith, common_steps, gets) in
+    let left : place_of k fs rs m ≡ v = place_at k fs rs rows c.args.one m v one (ap (λ l. slice_get l c.args.one) places ∙ first) in
+    let right : place_of k fs rs n ≡ w = place_at k fs rs rows c.args.other n w two (ap (λ l. slice_get l c.args.other) places ∙ second) in
+    let told : AreOther fs m.fibers n.fibers = subst (λ l. AreOther fs l n.fibers) c.fibers.ensures (subst (λ l. AreOther fs c.fibers.result.now l) c.fibers-2.ensures (c.same_reports.ensures.other no)) in
+    reports_other k fs rs m n (c.self.invariant.0 c.args.one m one) (c.self.invariant.0 c.args.other n two) told (ap report_at left ∙ same ∙ sym (ap report_at right))

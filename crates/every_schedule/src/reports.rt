@@ -1,0 +1,41 @@
+//! What the fibers of worlds have come to, by the numbers of their states.
+ghost use Rattle.std.specs.Prelude.{◌≡◌, ◌<◌, length, false, true};
+ghost use Rattle.std.specs.List.{All};
+ghost use Rattle.every_schedule.specs.Private.Reporting.{Alike, AreAlike, Differ, AreOther};
+
+use crate::pool::Pool;
+use fiber_frames::Config;
+use outcome_trace::same_report;
+use std::slice;
+
+// Whether the fibers of these numbers have come to the same as those of the others.
+pub(crate) fn same_reports(pool: &Pool<Config>, one: &[u32], other: &[u32]) -> bool
+    requires one { All (λ n. n < length pool.now.items.items) one.now }
+    requires other { All (λ n. n < length pool.now.items.items) other.now }
+    ensures same { result ≡ true → AreAlike pool.now.items.items one.now other.now }
+    ensures other { result ≡ false → AreOther pool.now.items.items one.now other.now }
+{
+    if one.len() != other.len() {
+        return false;
+    }
+    for i in 0..one.len() {
+        if !is_alike(pool, one[i], other[i]) {
+            return false;
+        }
+    }
+    true
+}
+
+// Whether two fibers have come to the same.
+fn is_alike(pool: &Pool<Config>, one: u32, other: u32) -> bool
+    requires one { one < length pool.now.items.items }
+    requires other { other < length pool.now.items.items }
+    ensures same { result ≡ true → Alike pool.now.items.items one other }
+    ensures other { result ≡ false → Differ pool.now.items.items one other }
+{
+    one == other
+        || same_report(
+            slice::from_ref(&pool.items[one as usize]),
+            slice::from_ref(&pool.items[other as usize]),
+        )
+}

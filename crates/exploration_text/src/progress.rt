@@ -1,0 +1,85 @@
+//! Lines that tell how far an exploration has come, while it goes.
+
+ghost use Rattle.std.specs.Prelude.{◌≡◌, false};
+
+use every_schedule::Watcher;
+use itoa::Buffer;
+use outcome_trace::{Status, TextFault, TextOut, tell_fault, write_text};
+use std::alloc::{AllocError, Global};
+use std::time::{Clock, Duration, Instant};
+
+/// Writes a line each time that it is told how far an exploration has come: how many worlds were found, how many of them
+/// a second since it began, and how long the schedules are. Where the clock fails no line is written, and after a write
+/// that failed no other.
+#[derive(Drop)]
+pub(crate) struct Progress<'c, 'e, C: Clock, E: TextOut> {
+    pub(crate) alloc: Global,
+    pub(crate) clock: &'c C,
+    pub(crate) begun: Option<Instant>,
+    pub(crate) err: &'e mut E,
+    pub(crate) failed: bool,
+    ghost healthy: { failed ≡ false → E.has_failed err.now ≡ false },
+}
+
+impl<'c, 'e, C: Clock, E: TextOut> Progress<'c, 'e, C, E> {
+    // How far it has come by now, if the clock tells.
+    fn line(&self, worlds: usize, depth: usize) -> Option<String> {
+        let time = self.begun?.elapsed(self.clock).ok()?;
+        progress_line(self.alloc, worlds, rate(worlds, time), depth).ok()
+    }
+
+    /// Tells of a fault, unless a write has failed already.
+    pub(crate) fn tell_fault(&mut self, fault: TextFault) -> Status
+        ensures { result ≡ Status.Fault }
+    {
+        if self.failed {
+            return Status::Fault;
+        }
+        self.failed = true;
+        tell_fault(fault, &mut *self.err)
+    }
+}
+
+impl<'c, 'e, C: Clock, E: TextOut> Watcher for Progress<'c, 'e, C, E> {
+    fn tell(&mut self, worlds: usize, depth: usize) {
+        if self.failed {
+            return;
+        }
+        let Some(line) = self.line(worlds, depth) else {
+            return;
+        };
+        self.failed = true;
+        if write_text(line.as_bytes(), &mut *self.err).is_ok() {
+            self.failed = false;
+        }
+    }
+}
+
+// So many in this time, a second; 0 where the time is too short to tell.
+fn rate(many: usize, time: Duration) -> u64 {
+    let seconds = time.as_secs().saturating_mul(1000);
+    let millis = seconds.saturating_add(u64::from(time.subsec_millis()));
+    match (many as u64).saturating_mul(1000).checked_div(millis) {
+        Some(rate) => rate,
+        None => 0,
+    }
+}
+
+// How far an exploration has come.
+fn progress_line(
+    alloc: Global,
+    worlds: usize,
+    rate: u64,
+    depth: usize,
+) -> Result<String, AllocError> {
+    let mut digits = Buffer::new();
+    let mut line = String::new(alloc);
+    line.push_str("explored ")?;
+    line.push_str(digits.format(worlds))?;
+    line.push_str(" worlds, ")?;
+    line.push_str(digits.format(rate))?;
+    line.push_str(" a second, depth ")?;
+    line.push_str(digits.format(depth))?;
+    line.push_str("\n")?;
+    Ok(line)
+}
