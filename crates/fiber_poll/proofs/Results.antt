@@ -62,7 +62,7 @@ pub ended_comes : (old new : TaskView) (budget : ℕ) (o : Outcome) → Turned o
 ended_comes old new budget o t i = record { replies = t.replies; last = new; went = t.went; lawful = i; is = t.answered.0 }
 
 pub spent_comes : (old new : TaskView) (budget : ℕ) → Turned old budget turn.OutOfMoves new → IsTask new → Comes old (Ok None)
-spent_comes old new budget t i = record { replies = t.replies; last = new; went = t.went; lawful = i; is = (t.answered.1, t.answered.2) }
+spent_comes old new budget t i = record { replies = t.replies; last = new; went = t.went; lawful = i; is = (t.answered.2, t.answered.3) }
 
 pub fault_comes : (old new : TaskView) (budget : ℕ) (e : RunError) → Stopped old budget e new → Comes old (Err e)
 fault_comes old new budget e s = record { replies = s.replies; last = s.before; went = s.went; lawful = s.lawful; is = (s.left, (new, s.failed)) }

@@ -61,8 +61,8 @@ loop_goes old mid new n a l m = record {
 pub loop_asked : (t now : TaskView) (a : Ask) → t ≡ now → IsAsked t.state a → IsAsked now.state a
 loop_asked t now a view k = subst (λ (x : TaskView). IsAsked x.state a) view k
 
-pub loop_out : (old now : TaskView) (n budget : ℕ) → Loops old n now → n ≤ budget → now.moves ≡ 0 → Turned old budget turn.OutOfMoves now
-loop_out old now n budget l less none = record { replies = l.replies; went = l.went; most = (let m = l.many in omega arith); answered = (l.quiet, none, outcome_going now.state l.going) }
+pub loop_out : (old now : TaskView) (n budget : ℕ) → Loops old n now → n < budget → now.moves ≡ 0 → Turned old budget turn.OutOfMoves now
+loop_out old now n budget l less none = record { replies = l.replies; went = l.went; most = (let m = l.many in omega arith); answered = (l.quiet, (let m = l.many in omega arith), none, outcome_going now.state l.going) }
 
 pub loop_ends : (old now : TaskView) (budget : ℕ) → Loops old budget now → Turned old budget turn.Cedes now
 loop_ends old now budget l = record { replies = l.replies; went = l.went; most = (let m = l.many in omega arith); answered = inl (l.quiet, l.many) }

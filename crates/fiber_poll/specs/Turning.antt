@@ -35,7 +35,8 @@ Answered old rs budget new turn.Cedes = (AreQuiet old.state rs × (length rs ≡
 Answered old rs budget new (turn.Started c) = Starts old rs new c
 Answered old rs budget new (turn.WakeFiber f) = TellsLast old.state rs (Wakes_fiber f)
 Answered old rs budget new (turn.WakeTopic t) = TellsLast old.state rs (Wakes_topic t)
-Answered old rs budget new turn.OutOfMoves = AreQuiet old.state rs × (new.moves ≡ 0) × (outcome_of new.state ≡ None)
+Answered old rs budget new turn.OutOfMoves =
+    AreQuiet old.state rs × (length rs < budget) × (new.moves ≡ 0) × (outcome_of new.state ≡ None)
 
 -- a turn of at most so many moves: these were made, with these replies, and the first event of them is the answer
 pub record Turned (old : TaskView) (budget : ℕ) (answer : Turn) (new : TaskView) : Type 0 where

@@ -12,6 +12,7 @@
 #![tactic(auto)]
 
 mod answer;
+mod call_log;
 mod future;
 mod opening;
 mod single;
@@ -20,6 +21,7 @@ mod task;
 mod topic;
 mod turn;
 
+pub use call_log::{CallLog, NoLog};
 pub use future::FiberFuture;
 pub use opening::first;
 pub use single::alone;

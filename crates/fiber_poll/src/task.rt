@@ -11,6 +11,7 @@ ghost use Rattle.fiber_poll.specs.Stepping.{Failed};
 ghost use Rattle.fiber_poll.specs.Private.Told.{Bears, IsAsked, Made};
 
 use crate::answer::{answer, fault};
+use crate::call_log::{CallLog, NoLog};
 use crate::step::{Step, step_of, told, wakes};
 use crate::turn::Turn;
 use cell_registry::{Outcome, Pass, Registry, RunError};
@@ -105,6 +106,11 @@ impl<'a> FiberTask<'a> {
         self.moves
     }
 
+    /// Whether a mask is active: the fiber doesn't look for a request before its next move.
+    pub fn is_masked(&self) -> bool {
+        self.config.is_masked()
+    }
+
     /// The task's pass and its fiber's state.
     pub fn into_parts(self) -> (Pass, Config)
         ensures pass { result.0 ≡ self.entry.pass }
@@ -142,17 +148,33 @@ impl<'a> FiberTask<'a> {
         ensures broken { ask_of self.old.state ≡ Ask.Broken → (result ≡ Fails RunError.NoMemory) ×
             (self.new ≡ self.old) }
     {
+        self.turn_noted(budget, &mut NoLog)
+    }
+
+    /// Makes a turn as [`FiberTask::turn`] does, and tells this log of the calls of its moves. What the log
+    /// does changes nothing of the turn.
+    pub fn turn_noted<L: CallLog>(&mut self, budget: u32, log: &mut L) -> Result<Turn<'a>, RunError>
+        requires budget { 1 < budget }
+        ensures turned { IfOk result (λ answer. Turned self.old budget answer self.new) }
+        ensures stopped { IfErr result (λ error. Stopped self.old budget error self.new) }
+        ensures ended { (o : Outcome) → outcome_of self.old.state ≡ Some o → (result ≡ GoesWell (Turn.Ended o)) ×
+            (self.new ≡ self.old) }
+        ensures stays { (home : RegistryView) (code : Tree) → IsTaskOf home code self.old →
+            StaysOf home code result self.new }
+        ensures broken { ask_of self.old.state ≡ Ask.Broken → (result ≡ Fails RunError.NoMemory) ×
+            (self.new ≡ self.old) }
+    {
         match self.config.ask() {
             Ask::Over(outcome) => Ok(Turn::Ended(outcome)),
             Ask::Broken => Err(RunError::NoMemory),
-            _ => self.go(budget),
+            _ => self.go(budget, log),
         }
     }
 
     // The moves of a fiber that goes on. A move without a shared call, and a look, are most of them. They
     // stand apart, since what is known of the ask saves the tests of its reply.
     #[inline(always)]
-    fn go(&mut self, budget: u32) -> Result<Turn<'a>, RunError>
+    fn go<L: CallLog>(&mut self, budget: u32, log: &mut L) -> Result<Turn<'a>, RunError>
         requires going { IsGoing (way_of self.old.state.running) }
         ensures turned { IfOk result (λ answer. Turned self.old budget answer self.new) }
         ensures stopped { IfErr result (λ error. Stopped self.old budget error self.new) }
@@ -162,16 +184,16 @@ impl<'a> FiberTask<'a> {
                 return Ok(Turn::OutOfMoves);
             }
             match self.config.ask() {
-                Ask::Silent => match self.step(&Ask::Silent)? {
+                Ask::Silent => match self.step(&Ask::Silent, log)? {
                     Step::Plain => {}
                     step => return Ok(told(Ask::Silent, step)),
                 },
-                Ask::Look => match self.step(&Ask::Look)? {
+                Ask::Look => match self.step(&Ask::Look, log)? {
                     Step::Plain => {}
                     step => return Ok(told(Ask::Look, step)),
                 },
-                Ask::Start => return Ok(Turn::Started(self.start()?)),
-                ask => match self.step(&ask)? {
+                Ask::Start => return Ok(Turn::Started(self.start(log)?)),
+                ask => match self.step(&ask, log)? {
                     Step::Plain => {}
                     step => return Ok(told(ask, step)),
                 },
@@ -182,7 +204,7 @@ impl<'a> FiberTask<'a> {
 
     // A move that asks so, and that starts nobody.
     #[inline(always)]
-    fn step(&mut self, ask: &Ask) -> Result<Step, RunError>
+    fn step<L: CallLog>(&mut self, ask: &Ask, log: &mut L) -> Result<Step, RunError>
         requires ask { ask.now ≡ ask_of self.old.state }
         requires asked { IsAsked self.old.state ask.now }
         requires going { IsGoing (way_of self.old.state.running) }
@@ -193,10 +215,12 @@ impl<'a> FiberTask<'a> {
         ensures failed { IfErr result (λ error. Failed self.old error self.new) }
     {
         let number = self.config.number();
+        let before = log.before(ask);
         let reply = match answer(self.registry, &mut self.pass, ask) {
             Ok(reply) => reply,
             Err(error) => return Err(fault(number, error)),
         };
+        log.made(number, self.moves, ask, &reply, before);
         let woke = wakes(number, ask, &reply);
         // The result is large, since a child stands in it: it is looked at where it is.
         let resumed = self.config.resume(reply);
@@ -210,7 +234,7 @@ impl<'a> FiberTask<'a> {
     }
 
     // A move that starts a fiber, whose task it gives.
-    fn start(&mut self) -> Result<FiberTask<'a>, RunError>
+    fn start<L: CallLog>(&mut self, log: &mut L) -> Result<FiberTask<'a>, RunError>
         requires wish { ask_of self.old.state ≡ Ask.Start }
         requires left { 0 < self.old.moves }
         ensures lawful { IsTask self.old }
@@ -223,7 +247,9 @@ impl<'a> FiberTask<'a> {
             Ok(child) => child,
             Err(error) => return Err(fault(number, error)),
         };
-        match self.config.resume(Reply::Number(child.number())) {
+        let reply = Reply::Number(child.number());
+        log.made(number, self.moves, &Ask::Start, &reply, 0);
+        match self.config.resume(reply) {
             Ok(Moved::Born(config)) => {
                 self.moves -= 1;
                 Ok(FiberTask::new(self.registry, child, config, self.moves))

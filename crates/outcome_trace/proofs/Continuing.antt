@@ -1,5 +1,5 @@
 -- Fibers that stand under one history go on in the core, beside the registry that the history leaves.
-use Rattle.std.proofs.Common.{◌≡◌, ◌≢◌, ℕ, ◌<◌, ◌≤◌, Bool, true, List, [], ◌∷◌, ◌++◌, length, map, Some, Result, Ok, refl, sym, ap, ◌∙◌, subst, arith, eqb, eq-eqb, ne_eqb, append_assoc, append-nil}
+use Rattle.std.proofs.Common.{◌≡◌, ℕ, Bool, List, [], ◌∷◌, ◌++◌, length, map, Some, Result, Ok, refl, sym, ap, ◌∙◌, subst, arith, eqb, eq-eqb, ne_eqb, append-nil}
 use Rattle.std.specs.Prelude.{cond}
 use Rattle.std.specs.List.{fold, slice_get}
 use Rattle.std.proofs.lemmas.List.{append_cancel_left}
@@ -12,7 +12,6 @@ use Rattle.derived_ops.specs.Naming.{IsMore}
 use Rattle.fiber_frames.specs.Fiber.{Fiber}
 use Rattle.cell_registry.specs.declared.limits.Limits.{Limits}
 use Rattle.cell_registry.specs.declared.limits.RunError.{RunError}
-use Rattle.cell_registry.specs.declared.cell.Stage.TheVariants.{Running}
 use Rattle.cell_registry.specs.declared.call.Entry.{Entry}
 use Rattle.cell_registry.specs.Cells.{Cells, after, cell_of, owned}
 use Rattle.cell_registry.specs.Histories.{IsLegal, calls_by, left, left_from}
@@ -23,7 +22,7 @@ use Rattle.outcome_trace.specs.Core.{World, core, entered, fiber_report, first_w
 use Rattle.outcome_trace.specs.Finals.{GoesOn, IsFinal, IsFinalReport, IsSettledReport}
 use Rattle.outcome_trace.specs.Fitting.{AllFit, Fits, cell_registered, given_by, pass_registered, world_of}
 use Rattle.outcome_trace.specs.Stands.{IsOfSomeSchedule, Stands}
-use Rattle.outcome_trace.proofs.Finality.{final_report, fold_parts}
+use Rattle.outcome_trace.proofs.Finality.{final_settled, fold_parts}
 use Rattle.outcome_trace.proofs.PlainFits.{fits_as, fits_more, plain_other}
 use Rattle.outcome_trace.proofs.Standing.Schedules.{some_schedules}
 
@@ -84,4 +83,10 @@ final_of code k w leads final = record { schedule = leads.0; world = w; leads = 
 
 -- a final report is a settled one
 pub settled_of : (code : Tree) (k : Limits) (report : Report) → IsFinalReport code k report → IsSettledReport code k report
-settled_of code k report h = record { schedule = h.schedule; stays = final_report code k report h }
+settled_of code k report h = record {
+  schedule = h.schedule;
+  world = h.world;
+  leads = h.leads;
+  settled = final_settled k h.world h.final;
+  reports = h.reports;
+}

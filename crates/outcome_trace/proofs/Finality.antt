@@ -1,5 +1,5 @@
 -- From a final world no entry changes the report.
-use Rattle.std.proofs.Common.{◌≡◌, ◌≢◌, inl, inr, ℕ, zero, suc, Bool, true, false, List, [], ◌∷◌, ◌++◌, map, set, Option, Some, None, Result, Ok, Err, refl, sym, ap, ap₂, ◌∙◌, subst, arith, append-nil}
+use Rattle.std.proofs.Common.{◌≡◌, ◌≢◌, inl, inr, ℕ, zero, suc, Bool, false, List, [], ◌∷◌, ◌++◌, map, set, Option, Some, None, Result, Ok, refl, sym, ap, ◌∙◌, subst, append-nil}
 use Rattle.std.specs.List.{fold, slice_get}
 use Rattle.std.proofs.lemmas.Option.{same_Some}
 use mathlib.Core.Logic.{dite}
@@ -7,32 +7,29 @@ use native.Mathlib.Decide.{ℕ_discrete}
 use Rattle.effect_term.specs.declared.reply.Outcome.{Outcome}
 use Rattle.effect_term.specs.declared.reply.Reply.{Reply}
 use Rattle.effect_term.specs.declared.reply.Reply.TheVariants as reply
-use Rattle.derived_ops.specs.Tree.{Mask, Tree}
+use Rattle.derived_ops.specs.Tree.{Mask}
 use Rattle.fiber_frames.specs.declared.ask.Ask.{Ask}
-use Rattle.fiber_frames.specs.declared.ask.Ask.TheVariants as ask
 use Rattle.fiber_frames.specs.declared.ask.Look.{Look}
 use Rattle.fiber_frames.specs.declared.ask.Look.TheVariants.{Due, Clear, Seen}
 use Rattle.fiber_frames.specs.declared.mark.Mark.{Mark}
 use Rattle.fiber_frames.specs.Path.{Running, Runs, Final, Over, Broken}
 use Rattle.fiber_frames.specs.Rows.{Waited}
-use Rattle.fiber_frames.specs.Fiber.{Fiber, Move_case, Looks, Cuts, Reduces, active_of, ask_in, ask_of, case_under, looked, move, move_case, move_in, outcome_in, outcome_of, reduced, row_of, seen, silent_move}
+use Rattle.fiber_frames.specs.Fiber.{Fiber, Looks, Reduces, active_of, ask_in, ask_of, case_under, looked, move, move_case, move_in, outcome_in, row_of}
 use Rattle.cell_registry.specs.declared.limits.Limits.{Limits}
 use Rattle.cell_registry.specs.declared.limits.RunError.{RunError}
 use Rattle.cell_registry.specs.declared.cell.Stage.{Stage}
 use Rattle.cell_registry.specs.declared.cell.Cell.{Cell}
 use Rattle.cell_registry.specs.declared.call.Call.{Call}
 use Rattle.cell_registry.specs.declared.call.Call.TheVariants as call
-use Rattle.cell_registry.specs.Cells.{Cells, after, awaited, cancel_reply, cell_of, fresh, join_reply, refusal, reply_of, with_cell}
+use Rattle.cell_registry.specs.Cells.{Cells, after, awaited, cancel_reply, cell_of, fresh, join_reply, refusal, reply_of}
 use Rattle.cell_registry.proofs.Lists.{get_or-set_kept}
 use Rattle.outcome_trace.specs.declared.report.FiberReport.{FiberReport}
-use Rattle.outcome_trace.specs.declared.report.Report.{Report}
 use Rattle.outcome_trace.specs.declared.wish.Wish.{Wish}
 use Rattle.outcome_trace.specs.declared.wish.Wish.TheVariants.{Shared, Alone, Nothing}
-use Rattle.outcome_trace.specs.Core.{World, core, entered, fiber_report, first_world, reported, turned, wish_of, wished}
-use Rattle.outcome_trace.specs.Finals.{HasEnded, IsAtRest, IsFinal, IsFinalReport, IsUnasked, reply_to, word_wish}
+use Rattle.outcome_trace.specs.Core.{World, entered, fiber_report, reported, turned, wish_of, wished}
+use Rattle.outcome_trace.specs.Finals.{HasEnded, IsAtRest, IsFinal, IsSettled, IsUnasked, reply_to, word_wish}
 use Rattle.outcome_trace.proofs.Lists.{slice_get-set_same, slice_get-set_other}
 use Rattle.outcome_trace.proofs.Resting.{IsWait, Silently, Joins, Reads, call_waits, due, row_is_due}
-use Rattle.derived_ops.specs.Tree as tree
 
 -- ---- that somebody waits changes no reply
 abbrev told : Cell → Stage × Bool
@@ -221,11 +218,8 @@ pub fold_parts : (k : Limits) (x : Result World RunError) (s t : List ℕ) → f
 fold_parts k x [] t = refl
 fold_parts k x (f ∷ s) t = fold_parts k (entered k x f) s t
 
--- a final report is that of each longer schedule
-pub final_report : (code : Tree) (k : Limits) (report : Report) (h : IsFinalReport code k report) (more : List ℕ) → reported (core code k (h.schedule ++ more)) ≡ Ok report
-unfolding core
-final_report code k report h more =
-    let still = final_stays k h.world more h.final in
-    ap reported (fold_parts k (Ok (first_world code k)) h.schedule more ∙ ap (λ (x : Result World RunError). fold (entered k) x more) h.leads ∙ still.is)
-    ∙ ap (λ (l : List FiberReport). Ok record { fibers = l }) still.reports
-    ∙ h.reports
+-- so a final world is a settled one
+pub final_settled : (k : Limits) (w : World) → IsFinal w → IsSettled k w
+final_settled k w fin more =
+    let still = final_stays k w more fin in
+    ap reported still.is ∙ ap (λ (l : List FiberReport). Ok record { fibers = l }) still.reports

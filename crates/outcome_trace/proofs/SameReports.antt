@@ -1,5 +1,5 @@
 -- When the reports of two fibers, and of two lists of fibers, are one.
-use Rattle.std.proofs.Common.{◌≡◌, ◌≢◌, ◌<◌, ℕ, zero, suc, Bool, false, List, [], ◌∷◌, length, get_or, map, Option, sym, ap, ap₂, ◌∙◌, arith}
+use Rattle.std.proofs.Common.{◌≡◌, ◌≢◌, ◌<◌, ℕ, zero, suc, Bool, false, true, List, [], ◌∷◌, length, get_or, map, Option, sym, ap, ap₂, ◌∙◌, arith}
 use Rattle.std.specs.Bool.{Decides}
 use Rattle.std.specs.Cmp.Lexicographic.{pointwise}
 use Rattle.std.proofs.lemmas.Bool.Decides.{Decides-eqb, Decides-int_eq, Decides-like, not_from_Decides}
@@ -40,6 +40,15 @@ reports_alike a b os ms = ap₂ told os ms
 pub reports_apart : (a b : Fiber) (xs ys : List Mark) (r : Bool) → xs ≡ a.marks → ys ≡ b.marks → r ≡ pointwise derived.eq-value.it xs ys → r ≡ false → fiber_report a ≢ fiber_report b
 reports_apart a b xs ys r ex ey is differs = λ same.
     not_from_Decides r (marks_decide xs ys r is) differs (ex ∙ ap (λ (f : FiberReport). f.marks) same ∙ sym ey)
+
+-- two reports of a fiber are one where their outcomes and their marks are
+pub fibers_same : (a b : FiberReport) → a.outcome ≡ b.outcome → a.marks ≡ b.marks → a ≡ b
+unfolding told
+fibers_same a b os ms = ap₂ told os ms
+
+-- what `==` tells of marks that were read
+pub marks_same : (a b xs ys : List Mark) (r : Bool) → xs ≡ a → ys ≡ b → r ≡ pointwise derived.eq-value.it xs ys → r ≡ true → a ≡ b
+marks_same a b xs ys r ex ey is same = sym ex ∙ (marks_decide xs ys r is).0 same ∙ ey
 
 -- two lists differ where what is told of two elements at one index does
 pub maps_apart : {A B : Type 0} (f : A → B) (xs ys : List A) (i : ℕ) (x y : A) → i < length xs → i < length ys → x ≡ get_or xs i x → y ≡ get_or ys i y → f x ≢ f y → map f xs ≢ map f ys

@@ -12,7 +12,7 @@ use Rattle.effect_term.specs.declared.reply.Outcome.{Outcome}
 use Rattle.effect_term.specs.declared.reply.Reply.{Reply}
 use Rattle.effect_term.specs.declared.reply.Reply.TheVariants as reply
 use Rattle.derived_ops.specs.Naming.{Given}
-use Rattle.derived_ops.specs.Tree.{Action, Add, Say, Cede, Never, Canceled, Request, Ending, Get, Set, Modify, Complete, Await, Operand, Pure, Raise, Act, Join, Mask, Tree, Make, New_ref, New_deferred, Poll}
+use Rattle.derived_ops.specs.Tree.{Action, Ending, Await, Operand, Pure, Raise, Act, Join, Mask, Tree, Make, New_ref, New_deferred, Poll}
 use Rattle.fiber_frames.specs.declared.ask.Ask.{Ask}
 use Rattle.fiber_frames.specs.declared.ask.Ask.TheVariants as ask
 use Rattle.fiber_frames.specs.declared.ask.Look.{Look}
@@ -21,19 +21,16 @@ use Rattle.fiber_frames.specs.declared.mark.Mark.{Mark}
 use Rattle.fiber_frames.specs.Path.{Running, Runs, Final, Over, Broken, Step, In_let, In_seq, In_handle, In_guarded, In_masked, In_polled, Root, At_term, At_final, active, leaf, path, focus, is_effective}
 use Rattle.fiber_frames.specs.Rows.{Waited, wait, outcome_in, read_in, action_row, word_row, value_row, error_row, row, row_at}
 use Rattle.fiber_frames.specs.Fiber.{Fiber, active_of, ask_in, ask_of, case_under, outcome_of, row_of}
-use Rattle.fiber_frames.specs.Leading.{Asked}
 use Rattle.fiber_frames.specs.Naming.{AskNamed, NamedRun}
 use Rattle.fiber_frames.proofs.NamedMoves.{ask_named}
 use Rattle.cell_registry.specs.declared.cell.Stage.{Stage}
 use Rattle.cell_registry.specs.declared.cell.Stage.TheVariants as at
-use Rattle.cell_registry.specs.declared.call.Call.TheVariants as call
 use Rattle.cell_registry.specs.Cells.{Cells, cell_of, deferred_of, join_reply, reply_of}
 use Rattle.cell_registry.specs.Words.{has_ended}
 use Rattle.outcome_trace.specs.Core.{World, entered, wish_of}
 use Rattle.outcome_trace.specs.Finals.{GoesOn, HasEnded, IsAtRest, IsUnasked, reply_to, word_wish}
 use Rattle.outcome_trace.specs.Fitting.{Fits, LookFits, cell_registered}
 use Rattle.outcome_trace.proofs.Finality.{fold_parts, knowing}
-use Rattle.outcome_trace.proofs.Reported.{outcome_asked}
 
 -- ---- a call that waits, under a reply that serves nothing
 abbrev pub IsUnserved : Ask → Reply → Type 0

@@ -1,5 +1,5 @@
 -- When a world is final: whatever entries follow, its report stays.
-use Rattle.std.specs.Prelude.{◌≡◌, ◌≢◌, ◌⊎◌, ℕ, List, [], ◌∷◌, ◌++◌, Bool, false, get_or, None, Ok, Some}
+use Rattle.std.specs.Prelude.{◌≡◌, ◌≢◌, ◌⊎◌, ℕ, List, [], ◌∷◌, Bool, false, get_or, None, Ok, Some}
 use Rattle.std.specs.List.{fold, slice_get}
 use Rattle.effect_term.specs.declared.reply.Outcome.{Outcome}
 use Rattle.effect_term.specs.declared.reply.Reply.{Reply}
@@ -52,10 +52,17 @@ pub record IsFinalReport (code : Tree) (k : Limits) (report : Report) : Type 0 w
   pub final : IsFinal world
   pub reports : reported (Ok world) ≡ Ok report
 
--- the report is that of some schedule, and whatever entries follow, it stays: no fault comes, either
+-- whatever entries follow, the report of the world stays what it is, and no fault comes
+abbrev pub IsSettled : Limits → World → Type 0
+IsSettled k w = (schedule : List ℕ) → reported (fold (entered k) (Ok w) schedule) ≡ reported (Ok w)
+
+-- the report is that of a settled world, to which some schedule leads
 pub record IsSettledReport (code : Tree) (k : Limits) (report : Report) : Type 0 where
   pub schedule : List ℕ
-  pub stays : (more : List ℕ) → reported (core code k (schedule ++ more)) ≡ Ok report
+  pub world : World
+  pub leads : core code k schedule ≡ Ok world
+  pub settled : IsSettled k world
+  pub reports : reported (Ok world) ≡ Ok report
 
 -- entries lead from one world to the other
 pub record GoesOn (k : Limits) (w v : World) : Type 0 where

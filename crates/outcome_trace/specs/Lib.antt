@@ -9,3 +9,4 @@ pub mod Permits
 pub mod Private
 pub mod Stands
 pub mod Finals
+pub mod Covers

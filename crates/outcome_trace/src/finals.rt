@@ -42,6 +42,39 @@ pub fn settle(
     ensures stopped { IfOk result (λ it. (f : ℕ) → it.stopped ≡ Somebody f →
         IsStopped fibers.new.items rests.new.items f) }
 {
+    settle_noted(fibers, registry, rests, &mut NoEntries)
+}
+
+/// Is told of the entries that [`settle_noted`] makes.
+pub trait EntryLog {
+    /// The entry of the fiber of this number is about to be made, and may be refused.
+    fn enters(&mut self, number: u16);
+}
+
+/// Notes nothing.
+#[derive(Clone, Copy)]
+pub struct NoEntries;
+
+impl EntryLog for NoEntries {
+    fn enters(&mut self, _number: u16) {}
+}
+
+/// Goes on with the fibers of a run as [`settle`] does, and tells this log of the entries, in their order.
+/// What the log does changes nothing of them.
+pub fn settle_noted<L: EntryLog>(
+    fibers: &mut Vec<Config>,
+    registry: &mut PlainRegistry,
+    rests: &mut Vec<u32>,
+    log: &mut L,
+) -> Result<Settled, RunError>
+    requires fits { AllFit (world_of fibers.old.items registry.old.state) }
+    ensures goes { OnOk result (GoesOn registry.old.limits (world_of fibers.old.items registry.old.state)
+        (world_of fibers.new.items registry.new.state)) }
+    ensures complete { IfOk result (λ it. it.stopped ≡ Nobody →
+        IsFinal (world_of fibers.new.items registry.new.state)) }
+    ensures stopped { IfOk result (λ it. (f : ℕ) → it.stopped ≡ Somebody f →
+        IsStopped fibers.new.items rests.new.items f) }
+{
     let mut finished = 0u64;
     loop {
         let Some(number) = next(fibers.as_slice(), registry, rests.as_slice()) else {
@@ -56,6 +89,7 @@ pub fn settle(
                 stopped: Some(number),
             });
         }
+        log.enters(number);
         go_on(fibers, registry, rests, number)?;
         finished = finished.saturating_add(1);
     }

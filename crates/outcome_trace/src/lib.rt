@@ -17,19 +17,21 @@ mod replay_texts;
 mod report;
 mod report_text;
 mod reports;
+mod same_ends;
 mod scheduled;
 mod wish;
 
 pub use answers::{CheckOrder, ShowOrder, read_program, refusal};
 pub use cell_registry::Limits;
-pub use finals::{Settled, settle};
+pub use finals::{EntryLog, NoEntries, Settled, settle, settle_noted};
 pub use lines::{Refused, line};
 pub use orders::{Order, obey};
 pub use replay_texts::{ReplayOrder, replay_text, report_answer};
 pub use report::{FiberReport, FiberReports, Marks, Report};
 pub use report_text::{print_report, text_of_report};
 pub use reports::{report_of_fibers, same_report};
-pub use scheduled::{enter, first_fiber, first_fibers, replay};
+pub use same_ends::same_end;
+pub use scheduled::{answer, enter, fault, first_fiber, first_fibers, replay};
 pub use text_io::{
     Answer, FromRead, MOST_ENTRIES, ReadError, ScheduleError, Sink, Source, Status, TEXT_BOUND,
     TextFault, TextIn, TextOrder, TextOut, ToWrite, WriteFailed, answer_text, obey_text,

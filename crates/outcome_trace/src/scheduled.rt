@@ -190,9 +190,10 @@ fn resumed(config: &mut Config, reply: Reply) -> Result<Option<Config>, RunError
     }
 }
 
-// The registry's answer to a call of a fiber.
+/// The answer of the registry for one thread to a call of a fiber, or its refusal: what each call of
+/// [`PlainRegistry`] gives, as one reply. The caller sees to what the registry asks for of that call.
 #[inline(always)]
-fn answer(registry: &mut PlainRegistry, by: u16, call: Call) -> Result<Reply, CellError>
+pub fn answer(registry: &mut PlainRegistry, by: u16, call: Call) -> Result<Reply, CellError>
     requires { IsInRange call → MayCall registry.old by call }
     ensures { MatchResult result (λ reply. IsMade registry.old registry.new by call reply)
         (λ e. IsRefused registry.old registry.new by call e) }
@@ -246,9 +247,10 @@ fn finish(registry: &mut PlainRegistry, by: u16, outcome: Outcome) -> Result<(),
     }
 }
 
-// The fault of a run in which this call of the fiber was refused.
+/// The fault of a run in which a call of this fiber was refused: [`RunError::Full`] as it is, and
+/// [`RunError::Spent`] with the fiber's number.
 #[inline(always)]
-fn fault(fiber: u16, error: CellError) -> RunError
+pub fn fault(fiber: u16, error: CellError) -> RunError
     ensures { result ≡ fault_of fiber error }
 {
     match error {

@@ -1,8 +1,7 @@
 -- Fibers that were gathered go on beside the registry that their run leaves.
-use Rattle.std.proofs.Common.{◌≡◌, ℕ, zero, suc, ◌+◌, List, [], ◌∷◌, ◌++◌, length, map, None, Some, Ok, inl, inr, refl, sym, ap, ◌∙◌, subst}
+use Rattle.std.proofs.Common.{◌≡◌, ℕ, ◌+◌, List, [], ◌∷◌, ◌++◌, length, map, Option, None, Some, ◌⊎◌, inl, inr, refl, sym, ap, ◌∙◌, subst}
 use Rattle.std.specs.List.{slice_get}
 use Rattle.std.proofs.lemmas.List.{length-append}
-use Rattle.std.proofs.lemmas.Option.{same_Some}
 use Rattle.derived_ops.specs.Tree.{Tree}
 use Rattle.fiber_frames.specs.Fiber.{Fiber}
 use Rattle.cell_registry.specs.declared.limits.Limits.{Limits}
@@ -11,7 +10,7 @@ use Rattle.cell_registry.specs.Histories.{left}
 use Rattle.cell_registry.specs.Passes.{PassView, RegistryView}
 use Rattle.cell_registry.specs.Plain.{IsLeftPlain, PlainView}
 use Rattle.outcome_trace.specs.declared.report.Report.{Report}
-use Rattle.outcome_trace.specs.Core.{core, fiber_report}
+use Rattle.outcome_trace.specs.Core.{fiber_report}
 use Rattle.outcome_trace.specs.Finals.{GoesOn, IsFinal, IsFinalReport, IsStopped}
 use Rattle.outcome_trace.specs.Fitting.{AllFit, Fits, cell_registered, world_of}
 use Rattle.outcome_trace.specs.Stands.{IsOfSomeSchedule, Stands}
@@ -22,13 +21,13 @@ use Rattle.fiber_poll.specs.Tasks.{IsBroken}
 use Rattle.steal_pool.specs.declared.finishing.RunEnd.{RunEnd}
 use Rattle.steal_pool.specs.Private.Gathered.{AreInOrder, Gathered, IsIn}
 use Rattle.steal_pool.specs.Runs.{IsEnd, TellsUnended}
+use Rattle.steal_pool.proofs.Lining.{reported_at}
 use Rattle.steal_pool.proofs.Meeting.{last_or}
 
--- what a fiber has come to stands at its number
-reported_at : (xs : List Fiber) (f : ℕ) (g : Fiber) → slice_get xs f ≡ Some g → slice_get (map fiber_report xs) f ≡ Some (fiber_report g)
-reported_at [] f g e = absurd (cc)
-reported_at (x ∷ xs) zero g e = ap (λ (y : Fiber). Some (fiber_report y)) (same_Some x g e)
-reported_at (x ∷ xs) (suc f) g e = reported_at xs f g e
+-- where nobody has stopped the report is final, else it tells who is unended
+pub final_or_unended : (o : Option ℕ) (F : Type 0) (U : ℕ → Type 0) → (o ≡ None → F) → ((f : ℕ) → o ≡ Some f → U f) → F ⊎ ((f : ℕ) × U f)
+final_or_unended None F U final stopped = inl (final refl)
+final_or_unended (Some f) F U final stopped = inr (f, stopped f refl)
 
 -- ---- the states in order
 pub none_in_order : (all fibers : List Fiber) → fibers ≡ [] → AreInOrder all 0 fibers

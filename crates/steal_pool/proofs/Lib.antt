@@ -5,3 +5,4 @@ pub mod Meeting
 pub mod Named
 pub mod Results
 pub mod Taking
+pub mod Recording

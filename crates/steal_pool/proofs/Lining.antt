@@ -1,12 +1,30 @@
 -- Lines of a report, one after another.
-use Rattle.std.proofs.Common.{◌≡◌, ℕ, zero, suc, ◌+◌, ◌<◌, List, [], ◌∷◌, ◌++◌, All, length, inl, inr, Some, refl, sym, ap, ◌∙◌, subst, arith}
+use Rattle.std.proofs.Common.{◌≡◌, ℕ, zero, suc, ◌+◌, ◌<◌, List, [], ◌∷◌, ◌++◌, All, length, map, inl, inr, Some, refl, sym, ap, ◌∙◌, subst, arith}
 use Rattle.std.specs.List.{slice_get}
 use Rattle.std.proofs.lemmas.List.{length-append, map-append}
+use Rattle.std.proofs.lemmas.Option.{same_Some}
 use Rattle.fiber_frames.specs.Fiber.{Fiber}
 use Rattle.outcome_trace.specs.declared.report.FiberReport.{FiberReport}
 use Rattle.outcome_trace.specs.Core.{fiber_report}
 use Rattle.steal_pool.specs.Private.Gathered.{AreLines, IsIn, IsLeast, IsNowhere}
 use Rattle.steal_pool.proofs.Meeting.{last_or}
+
+pub found : (xs : List Fiber) (g : ℕ) → g < length xs → (s : Fiber) × (slice_get xs g ≡ Some s)
+found [] g h = absurd (omega arith)
+found (x ∷ xs) zero h = (x, refl)
+found (x ∷ xs) (suc g) h = found xs g (omega arith)
+
+-- what a fiber has come to stands at its number
+pub reported_at : (xs : List Fiber) (f : ℕ) (g : Fiber) → slice_get xs f ≡ Some g → slice_get (map fiber_report xs) f ≡ Some (fiber_report g)
+reported_at [] f g e = absurd (cc)
+reported_at (x ∷ xs) zero g e = ap (λ (y : Fiber). Some (fiber_report y)) (same_Some x g e)
+reported_at (x ∷ xs) (suc f) g e = reported_at xs f g e
+
+-- and nothing else stands there
+pub report_of : (xs : List Fiber) (f : ℕ) (line : FiberReport) → slice_get (map fiber_report xs) f ≡ Some line → (s : Fiber) × (slice_get xs f ≡ Some s)
+report_of [] f line e = absurd (cc)
+report_of (x ∷ xs) zero line e = (x, refl)
+report_of (x ∷ xs) (suc f) line e = report_of xs f line e
 
 pub no_lines : (configs : List Fiber) → AreLines configs 0 []
 no_lines configs = record { finals = []; lines_are = refl; many = refl; each = λ f s e. absurd (cc) }
@@ -32,11 +50,6 @@ least configs n born lines a less nowhere = record {
       let s = found a.finals g long in
       (s.0, a.each g s.0 s.1);
 }
-  where
-    found : (xs : List Fiber) (g : ℕ) → g < length xs → (s : Fiber) × (slice_get xs g ≡ Some s)
-    found [] g h = absurd (omega arith)
-    found (x ∷ xs) zero h = (x, refl)
-    found (x ∷ xs) (suc g) h = found xs g (omega arith)
 
 -- what holds of each element of a list and of one more
 pub all_push : {A : Type 0} (P : A → Type 0) (xs : List A) (a : A) → All P xs → P a → All P (xs ++ a ∷ [])

@@ -19,12 +19,12 @@ use Rattle.outcome_trace.proofs.Standing.Schedules.{some_schedules}
 use Rattle.fiber_poll.specs.Tasks.{IsTask, IsTaskOf, TaskView}
 use Rattle.steal_pool.specs.Private.Gathered.{AreLines, Gathered, IsAtHome, IsMet}
 
-has-left : (xs ys : List ℕ) (f : ℕ) → Has xs f → Has (xs ++ ys) f
+pub has-left : (xs ys : List ℕ) (f : ℕ) → Has xs f → Has (xs ++ ys) f
 has-left [] ys f h = absurd h
 has-left (x ∷ xs) ys f (inl e) = inl e
 has-left (x ∷ xs) ys f (inr h) = inr (has-left xs ys f h)
 
-has-right : (xs ys : List ℕ) (f : ℕ) → Has ys f → Has (xs ++ ys) f
+pub has-right : (xs ys : List ℕ) (f : ℕ) → Has ys f → Has (xs ++ ys) f
 has-right [] ys f h = h
 has-right (x ∷ xs) ys f h = inr (has-right xs ys f h)
 

@@ -44,6 +44,10 @@ pub record TellsUnended (report : Report) (f : ℕ) : Type 0 where
   pub here : slice_get report.fibers f ≡ Some line
   pub unended : line.outcome ≡ None
 
+-- some fiber is unended in the report
+abbrev pub HasUnended : Report → Type 0
+HasUnended report = (f : ℕ) × TellsUnended report f
+
 -- The end of a run tells a report of some schedule, and of a fiber that stopped, if there is one: it is unended.
 -- Where there is none, the report is a final one
 pub record IsEnd (code : Tree) (k : Limits) (it : RunEnd) : Type 0 where

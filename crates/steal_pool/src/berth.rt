@@ -4,6 +4,7 @@ ghost use Rattle.wait_bay.specs.Bays.{IsSeatOf};
 ghost use Rattle.wait_bay.specs.Names.{IsNamed};
 ghost use Rattle.steal_pool.specs.Runs.{ChildIsNamed};
 
+use call_order::TurnLog;
 use cell_registry::RunError;
 use fiber_poll::{FiberTask, Topic, Turn};
 use std::marker::Model;
@@ -77,15 +78,23 @@ impl<'b, 'a> Berth<'b, 'a> {
         }
     }
 
-    /// Makes a turn of a task of this bay.
+    /// Makes a turn of a task of this bay, of which this log is told.
     #[inline(always)]
-    pub(crate) fn turn(&self, task: &mut FiberTask<'a>, budget: u32) -> Result<Turn<'a>, RunError>
+    pub(crate) fn turn<L: TurnLog>(
+        &self,
+        task: &mut FiberTask<'a>,
+        budget: u32,
+        log: &mut L,
+    ) -> Result<Turn<'a>, RunError>
         requires named { IsNamed self.now.named task.old }
         requires budget { 1 < budget }
         ensures named { IfOk result (λ _. IsNamed self.now.named task.new) }
         ensures child { IfOk result (ChildIsNamed self.now.named) }
     {
-        task.turn(budget)
+        log.begins(&*task);
+        let answer = task.turn_noted(budget, log);
+        log.turned(&*task, &answer);
+        answer
     }
 
     /// Wakes a fiber. Answers whether its number is to be queued.

@@ -1,5 +1,7 @@
 //! A worker's queue of ready numbers, from which the other workers steal.
 ghost use Rattle.std.specs.Prelude.{◌≡◌, ◌∷◌, [], IfErr, IfOk, MatchOption, OnOk};
+ghost use Rattle.crossbeam_deque.specs.Handles.{IsPassOf, stealer_deque, stealer_flavor, view as pass_view};
+ghost use Rattle.crossbeam_deque.specs.Handles.{worker_deque, worker_flavor};
 ghost use Rattle.steal_pool.specs.Ledger.{traffic};
 ghost use Rattle.steal_pool.specs.Moments.{PutLast, TookFirst, WasEmpty};
 ghost use Rattle.steal_pool.specs.Steals.{TellsOf};
@@ -9,10 +11,14 @@ use crossbeam_deque::{Pass, Steal, Stealer, Worker};
 use std::alloc::{AllocError, Global};
 use std::marker::Model;
 
+type Queue = Worker<u16, Global, Traffic, Ledgered>;
+
+type QueueStealer = Stealer<u16, Global, Traffic, Ledgered>;
+
 /// A worker's own end of its queue, which is first in, first out.
 #[derive(Drop)]
 pub struct ReadyDeque {
-    deque: Worker<u16, Global, Traffic, Ledgered>,
+    deque: Queue,
 }
 
 impl Model for ReadyDeque {
@@ -63,16 +69,27 @@ impl ReadyDeque {
     pub fn victim(&self) -> Result<Victim, AllocError>
         ensures { IfOk result (λ v. v ≡ traffic [] []) }
     {
-        let stealer = self.deque.stealer()?;
-        let pass = stealer.pass();
+        let (stealer, pass) = end_of(&self.deque)?;
         Ok(Victim { stealer, pass })
     }
+}
+
+// Another end of this queue: a stealer of it, and a pass of its own there.
+fn end_of(queue: &Queue) -> Result<(QueueStealer, Pass<u16, Traffic>), AllocError>
+    ensures queue { IfOk result (λ end. stealer_deque end.0 ≡ worker_deque queue.now) }
+    ensures flavor { IfOk result (λ end. stealer_flavor end.0 ≡ worker_flavor queue.now) }
+    ensures pass { IfOk result (λ end. IsPassOf (stealer_deque end.0) end.1) }
+    ensures nothing { IfOk result (λ end. pass_view end.1 ≡ traffic [] []) }
+{
+    let stealer = queue.stealer()?;
+    let pass = stealer.pass();
+    Ok((stealer, pass))
 }
 
 /// A worker's end of another's queue: the stealer, and this worker's own pass at the deque.
 #[derive(Drop)]
 pub struct Victim {
-    stealer: Stealer<u16, Global, Traffic, Ledgered>,
+    stealer: QueueStealer,
     pass: Pass<u16, Traffic>,
 }
 

@@ -11,7 +11,7 @@ use cell_registry::{Pass, PlainRegistry, Registry, RunError};
 use derived_ops::Code;
 use fiber_frames::{Ask, Config};
 use fiber_poll::FiberTask;
-use outcome_trace::{Report, report_of_fibers, settle};
+use outcome_trace::{EntryLog, Report, report_of_fibers, settle_noted};
 use std::alloc::{AllocError, Global};
 
 /// How a run has ended.
@@ -58,8 +58,14 @@ impl Leavings {
 
     /// The end of the run, whose registry is this one: the fibers go on by one thread until none can, and
     /// their report is read off them. `NoMemory` where memory is or was refused, `Full` and `Spent` as a
-    /// turn answers them, and `Lost` with the least number of a born fiber that has no task.
-    pub(crate) fn finish(self, alloc: Global, registry: Registry) -> Result<RunEnd, RunError>
+    /// turn answers them, and `Lost` with the least number of a born fiber that has no task. This log is told of the
+    /// moves.
+    pub(crate) fn finish<L: EntryLog>(
+        self,
+        alloc: Global,
+        registry: Registry,
+        log: &mut L,
+    ) -> Result<RunEnd, RunError>
         requires met { (code : Tree) × Gathered registry code self.met self.configs.items }
         ensures ends { IfOk result (λ it. (code : Tree) → Gathered registry code self.met self.configs.items →
             IsEnd code registry.limits it) }
@@ -73,7 +79,7 @@ impl Leavings {
         let mut registry = registry.into_plain(alloc, met)?;
         let mut fibers = in_order(alloc, configs, registry.born())?;
         let mut rests = rests;
-        let settled = settle(&mut fibers, &mut registry, &mut rests)?;
+        let settled = settle_noted(&mut fibers, &mut registry, &mut rests, log)?;
         let report = report_of_fibers(alloc, fibers)?;
         Ok(RunEnd {
             report,

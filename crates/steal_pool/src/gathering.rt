@@ -6,7 +6,7 @@ ghost use Rattle.fiber_poll.specs.Tasks.{IsTaskOf};
 ghost use Rattle.outcome_trace.specs.Core.{fiber_report};
 ghost use Rattle.outcome_trace.specs.Stands.{IsOfSomeSchedule};
 ghost use Rattle.steal_pool.specs.Private.Gathered.{AreLines, Gathered, IsAtHome, IsIn, IsLeast, IsNowhere, Taken};
-ghost use Rattle.steal_pool.specs.Gathering.{IsLawful, IsMissing};
+ghost use Rattle.steal_pool.specs.Gathering.{IsLawful, IsMissing, TellsEach, TellsNoOther};
 
 use cell_registry::{Pass, Registry, RunError};
 use derived_ops::Code;
@@ -19,8 +19,9 @@ use std::alloc::{AllocError, Global};
 /// each one's state is one that moves of this code led to.
 ///
 /// It doesn't matter who moved them, in whatever order: the report is that of the core under some
-/// schedule. The answer is [`RunError::Lost`] with the least number of a born fiber that has no task
-/// among these, which is 0 where there is no task, and [`RunError::NoMemory`] where memory is refused.
+/// schedule. It has a line for each task, at the number of its fiber, and no other. The answer is
+/// [`RunError::Lost`] with the least number of a born fiber that has no task among these, which is 0
+/// where there is no task, and [`RunError::NoMemory`] where memory is refused.
 /// The tasks are dropped.
 pub fn gather<'a>(
     alloc: Global,
@@ -31,6 +32,8 @@ pub fn gather<'a>(
     requires { All (IsTaskOf registry.now code.now) tasks.items }
     ensures schedule { IfOk result (λ report. IsOfSomeSchedule code.now registry.now.limits report) }
     ensures lawful { IfOk result (λ report. All IsLawful report.fibers) }
+    ensures each { IfOk result (TellsEach tasks.entry.items) }
+    ensures only { IfOk result (TellsNoOther tasks.entry.items) }
     ensures lost { IfErr result (λ error. (error ≡ RunError.NoMemory) ⊎
         ((f : ℕ) × (error ≡ RunError.Lost f) × IsMissing registry.now.limits tasks.entry.items f)) }
     ensures empty { tasks.entry.items ≡ [] → result ≡ Fails (RunError.Lost 0) }

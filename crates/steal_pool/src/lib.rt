@@ -25,13 +25,17 @@ mod inlet;
 pub mod laws;
 mod options;
 mod queues;
+mod recorded;
 mod running;
 mod serving;
+mod settled_entries;
 mod traffic;
+mod watch;
 mod worker;
 
 pub use finishing::RunEnd;
 pub use gate::{Gate, OpenGate};
 pub use gathering::gather;
 pub use options::Options;
+pub use recorded::{NoSchedule, Recorded, run_recorded};
 pub use running::{run, run_told};

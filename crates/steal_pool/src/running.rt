@@ -1,16 +1,17 @@
 //! A run: the registry, the bay and the workers come and go, and what is left goes on by one thread.
-ghost use Rattle.std.specs.Prelude.{◌≡◌, ◌<◌, ℕ, All, IfErr, IfOk, None as Nobody, Some as Somebody};
+ghost use Rattle.std.specs.Prelude.{◌≡◌, ◌⊎◌, ◌<◌, ℕ, All, IfErr, IfOk, None as Nobody, Some as Somebody};
 ghost use Rattle.once_cell.specs.Once.{cell_name};
 ghost use Rattle.cell_registry.specs.Cells.{AreLimits};
 ghost use Rattle.cell_registry.specs.Passes.{first_pass};
 ghost use Rattle.derived_ops.specs.Expansion.{code_of};
 ghost use Rattle.derived_ops.specs.Reading.{source_of};
+ghost use Rattle.outcome_trace.specs.Covers.{IsInEachCover};
 ghost use Rattle.outcome_trace.specs.Finals.{IsFinalReport, IsSettledReport};
 ghost use Rattle.outcome_trace.specs.Stands.{IsOfSomeSchedule};
 ghost use Rattle.steal_pool.specs.Gathering.{IsLawful};
 ghost use Rattle.wait_bay.specs.Bays.{IsSeatOf};
 ghost use Rattle.steal_pool.specs.Private.Gathered.{Gathered};
-ghost use Rattle.steal_pool.specs.Runs.{IsEnd, IsFaultWithin, TellsUnended, limits_of};
+ghost use Rattle.steal_pool.specs.Runs.{HasUnended, IsEnd, IsFaultWithin, TellsUnended, limits_of};
 
 use crate::crew::Crew;
 use crate::fault::{FaultCell, FirstFault, Learned};
@@ -19,13 +20,14 @@ use crate::gate::Gate;
 use crate::inlet::{InletEnd, empty_inlet};
 use crate::laws;
 use crate::options::Options;
+use crate::watch::{Unrecorded, Watch};
 use crate::worker::{Shared, Worker};
 use cell_registry::{Pass, Registry, RunError};
 use derived_ops::{Code, expand};
 use effect_term::Program;
 use fiber_poll::first;
 use once_cell::race::OnceBox;
-use outcome_trace::Report;
+use outcome_trace::{EntryLog, NoEntries, Report};
 use std::alloc::Global;
 use std::marker::Brand;
 use std::sync::Wait;
@@ -53,6 +55,8 @@ pub fn run<R: Threads + Wait + Sync, G: Gate>(
     requires budget { 1 < options.budget }
     ensures schedule { IfOk result (λ report. IsOfSomeSchedule (code_of (source_of program)) (limits_of options)
         report) }
+    ensures complete { IfOk result (λ report.
+        IsFinalReport (code_of (source_of program)) (limits_of options) report ⊎ HasUnended report) }
     ensures lawful { IfOk result (λ report. All IsLawful report.fibers) }
     ensures full { IfErr result (IsFaultWithin (limits_of options)) }
 {
@@ -68,7 +72,8 @@ pub fn run<R: Threads + Wait + Sync, G: Gate>(
 /// core after which each fiber has ended, or rests at a wait that nothing serves. Whatever entries
 /// follow, no fiber's outcome or marks change and no fault comes. It doesn't matter what the workers
 /// did: once they have ended, the fibers go on by one thread until none can. Where each wake arrived,
-/// that thread finds nothing to do.
+/// that thread finds nothing to do. A list that leaves out nothing to which any schedule leads, as a
+/// complete exploration gives it, has this report.
 pub fn run_told<R: Threads + Wait + Sync, G: Gate>(
     rt: &R,
     alloc: Global,
@@ -84,23 +89,33 @@ pub fn run_told<R: Threads + Wait + Sync, G: Gate>(
         IsFinalReport (code_of (source_of program)) (limits_of options) it.report) }
     ensures settled { IfOk result (λ it. it.stopped ≡ Nobody →
         IsSettledReport (code_of (source_of program)) (limits_of options) it.report) }
+    ensures listed { IfOk result (λ it. it.stopped ≡ Nobody →
+        IsInEachCover (code_of (source_of program)) (limits_of options) it.report) }
     ensures stopped { IfOk result (λ it. (f : ℕ) → it.stopped ≡ Somebody f → TellsUnended it.report f) }
     ensures lawful { IfOk result (λ it. All IsLawful it.report.fibers) }
     ensures full { IfErr result (IsFaultWithin (limits_of options)) }
 {
-    match attempt(rt, alloc, &program, options, gate) {
+    match attempt(
+        rt,
+        alloc,
+        &program,
+        options,
+        &Unrecorded { gate },
+        &mut NoEntries,
+    ) {
         Ok(end) => Ok(end),
         Err(fault) => Err(laws::within(options, fault)),
     }
 }
 
-// The registry of a run, and its end.
-fn attempt<R: Threads + Wait + Sync, G: Gate>(
+/// The registry of a run, and its end. This log is told of what one thread does at the end.
+pub(crate) fn attempt<R: Threads + Wait + Sync, W: Watch, L: EntryLog>(
     rt: &R,
     alloc: Global,
     program: &Program,
     options: Options,
-    gate: &G,
+    watch: &W,
+    log: &mut L,
 ) -> Result<RunEnd, RunError>
     requires limits { AreLimits (limits_of options) }
     requires budget { 1 < options.budget }
@@ -116,19 +131,19 @@ fn attempt<R: Threads + Wait + Sync, G: Gate>(
     } = options;
     let code = expand(alloc, program)?;
     let (registry, pass) = Registry::new(alloc, fibers, refs, deferreds, count)?;
-    let leavings = of_registry(rt, alloc, &registry, pass, &code, options, gate)?;
-    leavings.finish(alloc, registry)
+    let leavings = of_registry(rt, alloc, &registry, pass, &code, options, watch)?;
+    leavings.finish(alloc, registry, log)
 }
 
 // The bay of a run, and what the workers leave.
-fn of_registry<R: Threads + Wait + Sync, G: Gate>(
+fn of_registry<R: Threads + Wait + Sync, W: Watch>(
     rt: &R,
     alloc: Global,
     registry: &Registry,
     pass: Pass,
     code: &Code,
     options: Options,
-    gate: &G,
+    watch: &W,
 ) -> Result<Leavings, RunError>
     requires pass { pass ≡ first_pass registry.now }
     requires some { 0 < options.fibers }
@@ -141,20 +156,20 @@ fn of_registry<R: Threads + Wait + Sync, G: Gate>(
     if bay.put(rt, &mut seat, 0, task, true).is_err() {
         return Err(RunError::Lost(0));
     }
-    if let Some(fault) = drive(rt, alloc, &bay, seat, options, gate)? {
+    if let Some(fault) = drive(rt, alloc, &bay, seat, options, watch)? {
         return Err(fault);
     }
     Leavings::of(alloc, registry, code, bay.empty()?)
 }
 
 // Has workers run the tasks of a bay from fiber 0 on, and answers the first fault, if there was one.
-fn drive<'b, 'a, R: Threads + Wait + Sync, G: Gate>(
+fn drive<'b, 'a, R: Threads + Wait + Sync, W: Watch>(
     rt: &R,
     alloc: Global,
     bay: &'b Bay<'a>,
     seat: BaySeat<'a>,
     options: Options,
-    gate: &G,
+    watch: &W,
 ) -> Result<Option<RunError>, RunError>
     requires here { IsSeatOf bay.now seat }
     requires some { 0 < bay.now.fibers }
@@ -166,26 +181,26 @@ fn drive<'b, 'a, R: Threads + Wait + Sync, G: Gate>(
     }
     let crew = Crew::new(alloc, bay, seat, &inlet, options.workers)?;
     let cell = OnceBox::new(alloc);
-    hire::<Brand, R, G>(rt, alloc, crew, &cell, options.budget, gate)
+    hire::<Brand, R, W>(rt, alloc, crew, &cell, options.budget, watch)
 }
 
 // Has the workers of a crew run, with this cell for their first fault, and answers that fault, if
 // there was one.
-fn hire<'q, 'b, 'a, C: FaultCell + Send + Sync, R: Threads + Wait + Sync, G: Gate>(
+fn hire<'q, 'b, 'a, C: FaultCell + Send + Sync, R: Threads + Wait + Sync, W: Watch>(
     rt: &R,
     alloc: Global,
     crew: Crew<'q, 'b, 'a>,
     cell: &OnceBox<RunError>,
     budget: u32,
-    gate: &G,
+    watch: &W,
 ) -> Result<Option<RunError>, RunError>
     requires cell { cell_name cell.now ≡ C.name }
     requires budget { 1 < budget }
 {
     let Crew { workers, idle } = crew;
     let threads = Vec::with_capacity(alloc, workers.len())?;
-    let shared = Shared::<G, C> {
-        gate,
+    let shared = Shared::<W, C> {
+        watch,
         budget,
         active: AtomicU64::new(1),
         idle,
@@ -196,9 +211,9 @@ fn hire<'q, 'b, 'a, C: FaultCell + Send + Sync, R: Threads + Wait + Sync, G: Gat
 
 // Starts a thread for each worker, and answers the first fault, if there was one, once all have
 // ended. There is room for all threads.
-fn start_all<'q, 'b, 'a, C: FaultCell + Send + Sync, R: Threads + Wait + Sync, G: Gate>(
+fn start_all<'q, 'b, 'a, C: FaultCell + Send + Sync, R: Threads + Wait + Sync, W: Watch>(
     rt: &R,
-    shared: &Shared<'_, '_, G, C>,
+    shared: &Shared<'_, '_, W, C>,
     workers: Vec<Worker<'q, 'b, 'a>>,
     threads: Vec<JoinHandle<Learned<C>>>,
 ) -> Result<Option<RunError>, RunError> {

@@ -4,14 +4,14 @@ ghost use Rattle.wait_bay.specs.Names.{IsNamed};
 
 use crate::berth::Berth;
 use crate::fault::FaultCell;
-use crate::gate::Gate;
 use crate::queues::Queues;
+use crate::watch::Watch;
 use crate::worker::Shared;
 use cell_registry::RunError;
 use fiber_poll::{FiberTask, Topic, Turn};
 use std::sync::Wait;
 
-impl<'g, 'f, G: Gate, C: FaultCell> Shared<'g, 'f, G, C> {
+impl<'g, 'f, W: Watch, C: FaultCell> Shared<'g, 'f, W, C> {
     /// Makes turns of a fiber's task until it is put back. Answers the number that the worker took
     /// from its own queue meanwhile, and is to serve next.
     ///
@@ -27,6 +27,7 @@ impl<'g, 'f, G: Gate, C: FaultCell> Shared<'g, 'f, G, C> {
         queues: &mut Queues<'_>,
         berth: &mut Berth<'b, 'a>,
         number: u16,
+        log: &mut W::Log,
     ) -> Result<Option<u16>, RunError>
         ensures same { berth.new ≡ berth.old }
     {
@@ -38,10 +39,10 @@ impl<'g, 'f, G: Gate, C: FaultCell> Shared<'g, 'f, G, C> {
             if self.first_fault.is_known() {
                 return Ok(None);
             }
-            self.gate.enter(worker, task.number());
+            self.watch.enter(worker, task.number());
             let before = waited;
             waited = None;
-            match berth.turn(&mut task, self.budget)? {
+            match berth.turn(&mut task, self.budget, log)? {
                 Turn::Ended(_) => return self.end(rt, queues, berth, task),
                 Turn::Waits(topic) => {
                     if before == Some(topic) {

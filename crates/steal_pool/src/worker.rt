@@ -3,10 +3,10 @@ ghost use Rattle.std.specs.Prelude.{◌<◌};
 
 use crate::berth::Berth;
 use crate::fault::{FaultCell, FirstFault, Learned};
-use crate::gate::Gate;
 use crate::idle::{Bunk, Idle};
 use crate::laws;
 use crate::queues::Queues;
+use crate::watch::Watch;
 use cell_registry::RunError;
 use crossbeam_utils::Backoff;
 use crossbeam_utils::sync::Parker;
@@ -52,8 +52,8 @@ impl<'q, 'b, 'a> Worker<'q, 'b, 'a> {
 }
 
 /// What the workers share, beside the bay and the queues.
-pub(crate) struct Shared<'g, 'f, G: Gate, C: FaultCell> {
-    pub gate: &'g G,
+pub(crate) struct Shared<'g, 'f, W: Watch, C: FaultCell> {
+    pub watch: &'g W,
     pub budget: u32,
     /// How many numbers are queued or held.
     pub active: AtomicU64,
@@ -62,10 +62,10 @@ pub(crate) struct Shared<'g, 'f, G: Gate, C: FaultCell> {
     ghost some: { 1 < budget },
 }
 
-impl<'g, 'f, G: Gate, C: FaultCell> Drop for Shared<'g, 'f, G, C> {
+impl<'g, 'f, W: Watch, C: FaultCell> Drop for Shared<'g, 'f, W, C> {
     fn drop(self) {
         let Self {
-            gate: _,
+            watch: _,
             budget: _,
             active: _,
             idle,
@@ -83,7 +83,7 @@ enum Look {
     Over,
 }
 
-impl<'g, 'f, G: Gate, C: FaultCell> Shared<'g, 'f, G, C> {
+impl<'g, 'f, W: Watch, C: FaultCell> Shared<'g, 'f, W, C> {
     /// Works until the run is over, and answers what is known of the first fault then.
     pub(crate) fn work<'q, 'b, 'a, R: Wait>(
         &self,
@@ -97,7 +97,10 @@ impl<'g, 'f, G: Gate, C: FaultCell> Shared<'g, 'f, G, C> {
             parker,
             room,
         } = worker;
-        match self.serve_all(rt, number, &mut queues, &mut berth, &parker) {
+        let mut log = self.watch.log();
+        let ended = self.serve_all(rt, number, &mut queues, &mut berth, &parker, &mut log);
+        self.watch.keep(number, log);
+        match ended {
             Ok(()) => self.first_fault.learned(None),
             Err(fault) => self.tell(room, fault),
         }
@@ -111,13 +114,14 @@ impl<'g, 'f, G: Gate, C: FaultCell> Shared<'g, 'f, G, C> {
         queues: &mut Queues<'_>,
         berth: &mut Berth<'b, 'a>,
         parker: &Parker,
+        log: &mut W::Log,
     ) -> Result<(), RunError> {
         let mut next = None;
         for _ in rt.forever() {
             let Some(number) = self.next(rt, worker, next, queues, parker) else {
                 return Ok(());
             };
-            next = self.serve(rt, worker, queues, berth, number)?;
+            next = self.serve(rt, worker, queues, berth, number, log)?;
         }
         unreachable!()
     }

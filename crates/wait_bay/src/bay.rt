@@ -1,5 +1,5 @@
 //! The bay: its slots and lists, and what is done with the lists.
-ghost use Rattle.std.specs.Prelude.{◌≡◌, ◌<◌, ◌↔◌, IfOk, IsTrue, vec_len};
+ghost use Rattle.std.specs.Prelude.{◌≡◌, ◌<◌, ◌↔◌, [], IfOk, IsOk, IsTrue, vec_len};
 ghost use Rattle.wait_bay.specs.Names.{named_of};
 ghost use Rattle.wait_bay.specs.Bays.{IsSeatOf, IsWithin};
 
@@ -121,6 +121,7 @@ impl<'a> Bay<'a> {
     /// wakes it. Answers `AllocError` where there is no memory for it, and changes nothing then.
     pub fn register(&self, rt: &impl Wait, topic: Topic, f: u16) -> Result<(), AllocError>
         requires within { IsWithin self.now topic }
+        ensures never { topic ≡ Topic.Never → IsOk result }
     {
         match topic {
             Topic::Fiber(g) => self.fibers[g as usize].lock(rt).register(f),
@@ -133,6 +134,7 @@ impl<'a> Bay<'a> {
     /// then on. Takes no memory.
     pub fn drain_topic(&self, rt: &impl Wait, topic: Topic) -> Vec<u16>
         requires within { IsWithin self.now topic }
+        ensures never { topic ≡ Topic.Never → result.items ≡ [] }
     {
         match topic {
             Topic::Fiber(g) => self.fibers[g as usize].lock(rt).drain(),

@@ -38,8 +38,10 @@ impl<'a> Bay<'a> {
 
 // Keeps what was found in a slot, if it was at home. Answers whether there was memory for it.
 fn keep<'a>(tasks: &mut Vec<FiberTask<'a>>, found: Option<FiberTask<'a>>, home: bool) -> bool
-    ensures { (tasks.new.items ≡ tasks.old.items) ⊎ ((t : TaskView) × (home ≡ true) × (found.entry ≡ Some t) ×
+    ensures kept { (tasks.new.items ≡ tasks.old.items) ⊎ ((t : TaskView) × (home ≡ true) × (found.entry ≡ Some t) ×
         (tasks.new.items ≡ tasks.old.items ++ t ∷ [])) }
+    ensures whole { result ≡ true → home ≡ true → (t : TaskView) → found.entry ≡ Some t →
+        tasks.new.items ≡ tasks.old.items ++ t ∷ [] }
 {
     match found {
         Some(task) => { if home { tasks.push(task).is_ok() } else { true } }

@@ -4,7 +4,7 @@ use Rattle.std.specs.List.{slice_get}
 use mathlib.Core.List.{IsPrefix}
 use Rattle.derived_ops.specs.Tree.{Tree}
 use Rattle.fiber_frames.specs.Fiber.{Fiber}
-use Rattle.cell_registry.specs.Histories.{left}
+use Rattle.cell_registry.specs.Histories.{calls_by, left}
 use Rattle.cell_registry.specs.Passes.{IsOf, IsPass, PassView, RegistryView}
 use Rattle.cell_registry.specs.Rule.{Has}
 use Rattle.outcome_trace.specs.declared.report.FiberReport.{FiberReport}
@@ -30,13 +30,22 @@ pub record Gathered (r : RegistryView) (code : Tree) (met : PassView) (configs :
   pub pass : IsPass met
   pub at : (i : ℕ) (s : Fiber) → slice_get configs i ≡ Some s → IsMet code met s
 
--- of all these tasks the rest is still there, and the states of the others are these
+-- the task's state is one of these, and the pass has seen what the task's own had, without a further call of its fiber
+pub record IsOut (t : TaskView) (met : PassView) (configs : List Fiber) : Type 0 where
+  pub place : ℕ
+  pub here : slice_get configs place ≡ Some t.state
+  pub seen : IsPrefix t.pass.seen met.seen
+  pub own : calls_by t.state.number met.seen ≡ calls_by t.state.number t.pass.seen
+
+-- of all these tasks the rest is still there, and the states of the others are these, each of another fiber
 pub record Taken (all rest : List TaskView) (met : PassView) (configs : List Fiber) : Type 0 where
   pub still : (i : ℕ) (t : TaskView) → slice_get rest i ≡ Some t → slice_get all i ≡ Some t
-  pub out : (i : ℕ) (t : TaskView) → slice_get all i ≡ Some t → (slice_get rest i ≡ Some t) ⊎
-      ((j : ℕ) × (slice_get configs j ≡ Some t.state) × IsPrefix t.pass.seen met.seen)
+  pub out : (i : ℕ) (t : TaskView) → slice_get all i ≡ Some t → (slice_get rest i ≡ Some t) ⊎ IsOut t met configs
   pub from : (j : ℕ) (s : Fiber) → slice_get configs j ≡ Some s → (i : ℕ) × (t : TaskView) ×
       (slice_get all i ≡ Some t) × (t.state ≡ s)
+  pub has : (j : ℕ) (s : Fiber) → slice_get configs j ≡ Some s → Has met.fibers s.number
+  pub apart : (i j : ℕ) (s t : Fiber) → slice_get configs i ≡ Some s → slice_get configs j ≡ Some t →
+      s.number ≡ t.number → s ≡ t
 
 -- the state is one of these, and the fiber's
 pub record IsIn (s : Fiber) (configs : List Fiber) (f : ℕ) : Type 0 where

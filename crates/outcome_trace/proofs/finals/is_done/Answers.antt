@@ -1,7 +1,4 @@
-use Rattle.std.proofs.Common.{◌≡◌, inl, inr, ◌∙◌, sym, ap, arith, subst}
-use Rattle.fiber_frames.specs.declared.ask.Ask.{Ask}
-use Rattle.fiber_frames.specs.declared.ask.Ask.TheVariants as ask
-use Rattle.fiber_frames.specs.Leading.{Asked}
+use Rattle.std.proofs.Common.{inl, inr, ◌∙◌, sym, arith, subst}
 use Rattle.fiber_frames.specs.Naming.{AskNamed}
 use Rattle.outcome_trace.specs.Fitting.{given_by}
 use Rattle.outcome_trace.proofs.Settling.{at_rest, not_true, some_is, waits_join, waits_read, word_named}

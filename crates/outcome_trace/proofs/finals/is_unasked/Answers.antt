@@ -1,4 +1,4 @@
-use Rattle.std.proofs.Common.{◌≡◌, ◌<◌, inl, inr, ◌∙◌, Bool, true, false, sym, ap, arith, subst}
+use Rattle.std.proofs.Common.{inl, inr, ◌∙◌, sym, ap, arith}
 use Rattle.cell_registry.specs.Cells.{cell_of}
 use Rattle.outcome_trace.proofs.Settling.{not_true}
 use Rattle.outcome_trace.proofs.finals.is_unasked.Goals as goal

@@ -1,8 +1,7 @@
-use Rattle.std.proofs.Common.{◌≡◌, ◌⊎◌, inl, inr, ℕ, ◌<◌, length, None, Some, sym, ap, ◌∙◌, arith, subst}
+use Rattle.std.proofs.Common.{◌≡◌, ◌⊎◌, inl, inr, ℕ, None, Some, sym, ap, ◌∙◌, arith, subst}
 use Rattle.std.specs.List.{slice_get}
 use Rattle.std.proofs.lemmas.Grind.{common_steps}
 use Rattle.std.proofs.lemmas.Option.{gets, same_Some}
-use Rattle.fiber_frames.specs.Fiber.{Fiber}
 use Rattle.outcome_trace.specs.Finals.{HasEnded, IsAtRest}
 use Rattle.outcome_trace.specs.Fitting.{Fits, cell_registered}
 use Rattle.outcome_trace.proofs.Settling.{below_length, none_of, one_settled}

@@ -4,9 +4,9 @@ use Rattle.fiber_frames.specs.Fiber.{Fiber}
 use Rattle.outcome_trace.specs.declared.report.FiberReport.{FiberReport}
 use Rattle.outcome_trace.specs.Stands.{IsOfSomeSchedule}
 use Rattle.steal_pool.specs.Private.Gathered.{AreLines, IsLeast}
-use Rattle.steal_pool.specs.Gathering.{IsLawful}
+use Rattle.steal_pool.specs.Gathering.{IsLawful, TellsEach, TellsNoOther}
 use Rattle.steal_pool.proofs.Meeting.{each_home, gathered_report}
-use Rattle.steal_pool.proofs.Taking.{missing}
+use Rattle.steal_pool.proofs.Taking.{missing, tells_each, tells_no_other}
 use Rattle.steal_pool.proofs.gathering.gather.Goals as goal
 
 pub meet-requires : goal.meet-requires
@@ -33,3 +33,16 @@ returns-clause-schedule c =
 
 pub returns-clause-lawful : goal.returns-clause-lawful
 returns-clause-lawful c = subst (λ (l : List FiberReport). All IsLawful l) (sym c.new.ensures) c.in_ok-fibers.ensures.lawful
+
+pub returns-clause-each : goal.returns-clause-each
+returns-clause-each c =
+    subst (λ (l : List FiberReport). TellsEach c.args.tasks.items record { fibers = l }) (sym c.new.ensures)
+    (tells_each c.args.tasks.items c.in_ok-met.met c.born-born.new.pass c.in_ok-met.configs.items c.born-born.result c.in_ok-fibers.fibers.items c.in_ok-met.ensures.taken
+    (subst (λ (s : List Fiber). AreLines s c.born-born.result c.in_ok-fibers.fibers.items) c.as_slice.ensures.value c.in_ok-fibers.ensures.lines)
+    c.born-born.ensures.counted c.born-born.ensures.lawful c.born-born.ensures.same)
+
+pub returns-clause-only : goal.returns-clause-only
+returns-clause-only c =
+    subst (λ (l : List FiberReport). TellsNoOther c.args.tasks.items record { fibers = l }) (sym c.new.ensures)
+    (tells_no_other c.args.tasks.items c.in_ok-met.met c.born-born.new.pass c.in_ok-met.configs.items c.born-born.result c.in_ok-fibers.fibers.items c.in_ok-met.ensures.taken
+    (subst (λ (s : List Fiber). AreLines s c.born-born.result c.in_ok-fibers.fibers.items) c.as_slice.ensures.value c.in_ok-fibers.ensures.lines))

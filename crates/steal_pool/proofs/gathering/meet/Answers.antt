@@ -1,7 +1,7 @@
 use Rattle.std.proofs.Common.{◌∙◌, ◌++◌, ◌∷◌, [], ap}
 use Rattle.cell_registry.specs.Passes.{PassView}
 use Rattle.steal_pool.proofs.Meeting.{home_of, meets_first, meets_more, pass_here}
-use Rattle.steal_pool.proofs.Taking.{first_taken, one_taken, own_prefix}
+use Rattle.steal_pool.proofs.Taking.{first_taken, next_taken}
 use Rattle.steal_pool.proofs.gathering.meet.Goals as goal
 
 pub loop-task-init : goal.loop-task-init
@@ -9,7 +9,7 @@ loop-task-init c =
     let p = c.into_parts-pass.ensures in
     let later = c.in_ok-push.ensures.pushed ∙ ap (λ l. l ++ c.into_parts-pass.result.1 ∷ []) c.new-configs.ensures.items in (
       meets_first c.args.registry.now c.args.tasks.items c.pop.new.self.items c.in-Some.task c.requires c.in-Some.ensures.items p.lawful c.into_parts-pass.result.0 c.into_parts-pass.result.1 p.pass p.state c.push.new.configs.items later,
-      first_taken c.args.tasks.items c.pop.new.self.items c.in-Some.task c.into_parts-pass.result.0 c.push.new.configs.items c.into_parts-pass.result.1 c.in-Some.ensures.items p.state p.pass later,
+      first_taken c.args.tasks.items c.pop.new.self.items c.in-Some.task c.into_parts-pass.result.0 c.push.new.configs.items c.into_parts-pass.result.1 c.in-Some.ensures.items p.state p.pass later p.lawful,
       pass_here c.args.registry.now c.args.tasks.items c.pop.new.self.items c.in-Some.task c.requires c.in-Some.ensures.items p.lawful c.into_parts-pass.result.0 c.into_parts-pass.result.1 p.pass p.state,
       home_of c.args.registry.now c.args.tasks.items c.pop.new.self.items c.in-Some.task c.requires c.in-Some.ensures.items p.lawful,
     )
@@ -25,8 +25,8 @@ loop-task-preserved c =
     let i = c.loop-task.invariant in (
       meets_more c.args.registry.now c.loop-task.tasks.items c.pop-in-loop-task.new.self.items c.in-Some-pop.task i.3 c.in-Some-pop.ensures.items p.lawful c.into_parts-pass-in-Some-pop.result.0 c.into_parts-pass-in-Some-pop.result.1 p.pass p.state
           c.args.tasks.items c.loop-task.met c.meet-met.result c.loop-task.configs.items c.push-in-Some-pop.new.configs.items i.0 c.meet-met.ensures.met c.meet-met.ensures.lawful c.in_ok-push-2.ensures.pushed,
-      one_taken c.args.tasks.items c.loop-task.tasks.items c.pop-in-loop-task.new.self.items c.in-Some-pop.task c.loop-task.met c.meet-met.result c.loop-task.configs.items c.push-in-Some-pop.new.configs.items c.into_parts-pass-in-Some-pop.result.1 i.1 c.in-Some-pop.ensures.items p.state c.in_ok-push-2.ensures.pushed
-          c.meet-met.ensures.met.first (own_prefix c.in-Some-pop.task c.into_parts-pass-in-Some-pop.result.0 c.meet-met.result p.pass c.meet-met.ensures.met.second),
+      next_taken c.args.tasks.items c.loop-task.tasks.items c.pop-in-loop-task.new.self.items c.in-Some-pop.task c.into_parts-pass-in-Some-pop.result.0 c.loop-task.met c.meet-met.result c.loop-task.configs.items c.push-in-Some-pop.new.configs.items
+          c.into_parts-pass-in-Some-pop.result.1 i.1 c.in-Some-pop.ensures.items p.state p.pass c.in_ok-push-2.ensures.pushed p.lawful c.meet-met.ensures.met,
       ap (λ (x : PassView). x.registry) c.meet-met.ensures.met.same ∙ i.2,
       home_of c.args.registry.now c.loop-task.tasks.items c.pop-in-loop-task.new.self.items c.in-Some-pop.task i.3 c.in-Some-pop.ensures.items p.lawful,
     )

@@ -9,16 +9,16 @@ use Rattle.fiber_poll.proofs.task.FiberTask.go.Goals.{in_default+in_ok-step-in_d
 use Rattle.fiber_poll.proofs.task.FiberTask.go.Goals as goal
 
 pub loop-made-init : goal.loop-made-init
-loop-made-init c = loop_begins c.args.self.now c.requires.going
+loop-made-init g c = loop_begins c.args.self.now c.requires.going
 
 pub returns-in-Start-clause-turned : goal.returns-in-Start-clause-turned
-returns-in-Start-clause-turned c =
+returns-in-Start-clause-turned g c =
     loop_bears c.args.self.now c.loop-made.self c.start.new.self c.loop-made.made c.args.budget
     c.loop-made.invariant c.loop-made-test.true c.in_ok-start-in-Start.field-0
     c.in_ok-start-in-Start.ensures.born
 
 pub step-requires-clause-asked : goal.step-requires-clause-asked
-step-requires-clause-asked c =
+step-requires-clause-asked g c =
     loop_asked _ _ _ c.self.view_is (subst (λ a. IsAsked c.self.inside.config a) c.in-Silent.is (record {
       tells = c.ask.ensures.tells;
       leads = c.ask.ensures.leads;
@@ -28,7 +28,7 @@ step-requires-clause-asked c =
     }))
 
 pub step-requires-in-Look-clause-asked : goal.step-requires-in-Look-clause-asked
-step-requires-in-Look-clause-asked c =
+step-requires-in-Look-clause-asked g c =
     loop_asked _ _ _ c.self.view_is (subst (λ a. IsAsked c.self.inside.config a) c.in-Look.is (record {
       tells = c.ask.ensures.tells;
       leads = c.ask.ensures.leads;
@@ -38,7 +38,7 @@ step-requires-in-Look-clause-asked c =
     }))
 
 pub step-requires-in_default-clause-asked : goal.step-requires-in_default-clause-asked
-step-requires-in_default-clause-asked c =
+step-requires-in_default-clause-asked g c =
     loop_asked _ _ _ c.self.view_is (record {
       tells = c.ask.ensures.tells;
       leads = c.ask.ensures.leads;
@@ -48,7 +48,7 @@ step-requires-in_default-clause-asked c =
     })
 
 pub returns-in_default-2 : goal.returns-in_default-2
-returns-in_default-2 c = record {
+returns-in_default-2 g c = record {
   turned = loop_tells c.args.self.now c.loop-made.self c.step.new.self c.loop-made.made c.args.budget
       c.loop-made.invariant c.loop-made-test.true ask.Silent c.in_ok-step-in-Silent.step c.told.result
       c.in_ok-step-in-Silent.ensures.made c.told.ensures.event c.told.ensures.last;
@@ -56,7 +56,7 @@ returns-in_default-2 c = record {
 }
 
 pub returns-in_default-3 : goal.returns-in_default-3
-returns-in_default-3 c = record {
+returns-in_default-3 g c = record {
   turned = loop_tells c.args.self.now c.loop-made.self c.step-in-Look.new.self c.loop-made.made c.args.budget
       c.loop-made.invariant c.loop-made-test.true ask.Look c.in_ok-step-in-Look.step
       c.told-in_default-3.result c.in_ok-step-in-Look.ensures.made c.told-in_default-3.ensures.event
@@ -65,7 +65,7 @@ returns-in_default-3 c = record {
 }
 
 pub returns-in_default-4 : goal.returns-in_default-4
-returns-in_default-4 c = record {
+returns-in_default-4 g c = record {
   turned = loop_tells c.args.self.now c.loop-made.self c.step-in_default.new.self c.loop-made.made
       c.args.budget c.loop-made.invariant c.loop-made-test.true c.ask.result c.in_ok-step-in_default.step
       c.told-in_default-4.result c.in_ok-step-in_default.ensures.made c.told-in_default-4.ensures.event
@@ -74,7 +74,7 @@ returns-in_default-4 c = record {
 }
 
 pub loop-made-preserved : goal.loop-made-preserved
-loop-made-preserved c =
+loop-made-preserved g c =
     let mid = c.loop-made.self in
     let Next : TaskView → Type 0 = λ t. Loops c.args.self.now (c.loop-made.made + 1) t in
     elim c.match-ask.branch [

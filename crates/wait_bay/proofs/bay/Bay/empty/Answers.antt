@@ -24,7 +24,7 @@ loop-f-preserved c =
       (λ k lt. ap (λ (fs : List Bool). get_or fs k false) others.1 ∙ earlier_taken c.loop-f.closed.slots.filled f inv.4 k lt),
       subst (λ (n : Option Named). All (IsNamed n) c.keep.new.tasks.items) named
           (kept_task table.key closed.result.words.items closed.result.slots.items f c.word-home.result c.take-found.result c.loop-f.tasks.items c.keep.new.tasks.items
-          closed.ensures.values.2 at_word at_task (subst (λ (n : Option Named). All (IsNamed n) c.loop-f.tasks.items) (sym named) inv.5) c.keep.ensures),
-      kept_below f c.word-home.result c.take-found.result c.loop-f.tasks.items c.keep.new.tasks.items own inv.6 c.keep.ensures,
-      kept_order f c.word-home.result c.take-found.result c.loop-f.tasks.items c.keep.new.tasks.items own inv.6 inv.7 c.keep.ensures,
+          closed.ensures.values.2 at_word at_task (subst (λ (n : Option Named). All (IsNamed n) c.loop-f.tasks.items) (sym named) inv.5) c.keep.ensures.kept),
+      kept_below f c.word-home.result c.take-found.result c.loop-f.tasks.items c.keep.new.tasks.items own inv.6 c.keep.ensures.kept,
+      kept_order f c.word-home.result c.take-found.result c.loop-f.tasks.items c.keep.new.tasks.items own inv.6 inv.7 c.keep.ensures.kept,
     )

@@ -2,15 +2,15 @@ use Rattle.std.proofs.Common.{◌≡◌}
 use Rattle.outcome_trace.specs.Finals.{GoesOn}
 use Rattle.outcome_trace.specs.Fitting.{AllFit, world_of}
 use Rattle.outcome_trace.specs.Private.Settling.{moves_left}
-use Rattle.outcome_trace.proofs.finals.settle.Given as goal
+use Rattle.outcome_trace.proofs.finals.settle_noted.Given as goal
 
 -- the entries so far led to this world
 abbrev pub invariant-loop-number : goal.invariant-loop-number
-invariant-loop-number l = record {
+invariant-loop-number g l = record {
   limits : l.registry.limits ≡ l.initial.registry.limits;
   fits : AllFit (world_of l.fibers.items l.registry.state);
   goes : GoesOn l.initial.registry.limits (world_of l.initial.fibers.items l.initial.registry.state) (world_of l.fibers.items l.registry.state);
 }
 
 abbrev pub decreases-loop-number : goal.decreases-loop-number
-decreases-loop-number l = moves_left l.registry.limits.fibers l.rests.items
+decreases-loop-number g l = moves_left l.registry.limits.fibers l.rests.items

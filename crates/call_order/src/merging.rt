@@ -1,0 +1,245 @@
+//! The moves of all fibers as one schedule.
+
+use crate::notes::Kind;
+use crate::own_moves::{Own, Step};
+use crate::schedules::NoOrder;
+use std::alloc::{AllocError, Global};
+
+// How many entries a schedule may have.
+const MOST_ENTRIES: usize = 1_000_000;
+
+// The most numbers of refs, and of deferreds.
+const MOST_NUMBERS: usize = 1000;
+
+// How far a fiber has come.
+#[derive(Clone, Copy)]
+struct Course {
+    own: Own,
+    // The next step, and how many moves are made.
+    next: usize,
+    made: u32,
+    // How many requests for its cancellation are still to be made, and whether one was.
+    asks: u32,
+    asked: bool,
+    ended: bool,
+}
+
+// A schedule that is put together: the fibers, what is known of what they share, and the entries so far.
+#[derive(Drop)]
+pub(crate) struct Merge<'a> {
+    steps: &'a [Step],
+    // By the places of the calls on refs: how many on the same ref come before.
+    ranks: &'a [u32],
+    courses: Vec<Course>,
+    born: u16,
+    refs: u16,
+    deferreds: u16,
+    at_ref: Vec<u32>,
+    filled: Vec<bool>,
+    pub entries: Vec<u16>,
+}
+
+impl<'a> Merge<'a> {
+    // Before the first move.
+    pub(crate) fn new(
+        alloc: Global,
+        owns: &[Own],
+        steps: &'a [Step],
+        ranks: &'a [u32],
+    ) -> Result<Merge<'a>, AllocError> {
+        let mut merge = Merge {
+            steps,
+            ranks,
+            courses: courses(alloc, owns)?,
+            born: 1,
+            refs: 0,
+            deferreds: 0,
+            at_ref: Vec::new(alloc),
+            filled: Vec::new(alloc),
+            entries: Vec::new(alloc),
+        };
+        merge.at_ref.resize(MOST_NUMBERS, 0)?;
+        merge.filled.resize(MOST_NUMBERS, false)?;
+        for step in steps {
+            if step.kind == Kind::Asked || step.kind == Kind::Already {
+                if let Some(course) = merge.courses.get_mut(usize::from(step.named)) {
+                    course.asks = course.asks.saturating_add(1);
+                }
+            }
+        }
+        Ok(merge)
+    }
+
+    // The born fibers in turn, each as far as it can go, until none can. `NotFound` where moves are left.
+    pub(crate) fn sweep(&mut self) -> Result<(), NoOrder> {
+        let mut fiber = 0u16;
+        let mut idle = 0u16;
+        for _ in 0..u64::MAX {
+            if idle >= self.born {
+                break;
+            }
+            let made = self.go(fiber)?;
+            idle = if made { 0 } else { idle.saturating_add(1) };
+            let next = fiber.saturating_add(1);
+            fiber = if next < self.born { next } else { 0 };
+        }
+        for course in self.courses.iter() {
+            if course.made < course.own.len {
+                return Err(NoOrder::NotFound);
+            }
+        }
+        Ok(())
+    }
+
+    // An entry of a fiber, so many times.
+    pub(crate) fn enter(&mut self, fiber: u16, times: u32) -> Result<(), NoOrder> {
+        let len = self.entries.len().saturating_add(times as usize);
+        if len > MOST_ENTRIES {
+            return Err(NoOrder::TooLong);
+        }
+        self.entries.resize(len, fiber)?;
+        Ok(())
+    }
+
+    // Goes on with a fiber as far as it can go. Whether it made a move.
+    fn go(&mut self, fiber: u16) -> Result<bool, NoOrder> {
+        let place = usize::from(fiber);
+        let Some(mut course) = self.courses.get(place).copied() else {
+            return Ok(false);
+        };
+        let from = course.made;
+        for _ in 0..self.steps.len() {
+            let Some(step) = self.next_step(&course) else {
+                break;
+            };
+            course.made = step.at;
+            self.keep(place, course);
+            if !self.may(step) {
+                break;
+            }
+            course.made = step.at.saturating_add(1);
+            course.next = course.next.saturating_add(1);
+            self.does(&mut course, step);
+        }
+        if self.next_step(&course).is_none() {
+            course.made = course.own.len;
+        }
+        self.keep(place, course);
+        let made = course.made.saturating_sub(from);
+        self.enter(fiber, made)?;
+        Ok(made > 0)
+    }
+
+    // How far the fiber has come now. What others asked of it stays.
+    fn keep(&mut self, place: usize, course: Course) {
+        if let Some(slot) = self.courses.get_mut(place) {
+            slot.next = course.next;
+            slot.made = course.made;
+            slot.ended = course.ended;
+        }
+    }
+
+    // The fiber's next step.
+    fn next_step(&self, course: &Course) -> Option<Step> {
+        if course.next >= course.own.to {
+            return None;
+        }
+        self.steps.get(course.next).copied()
+    }
+
+    // Whether all has come that is to come before this step.
+    fn may(&self, step: Step) -> bool {
+        let named = usize::from(step.named);
+        match step.kind {
+            Kind::Start => self.born == step.named,
+            Kind::NewRef => self.refs == step.named,
+            Kind::NewDeferred => self.deferreds == step.named,
+            Kind::Asked => self.may_ask(named),
+            Kind::Already | Kind::SawRequest => self.is_asked(named),
+            Kind::CancelEnded | Kind::JoinEnded => self.has_ended(named),
+            Kind::Finish => self.asks_of(named) == 0,
+            Kind::Filled => self.filled.get(named).copied() == Some(true),
+            Kind::Get | Kind::Set | Kind::Modify => {
+                self.at_ref.get(named).copied() == self.ranks.get(step.place as usize).copied()
+            }
+            Kind::Complete | Kind::Wait => true,
+        }
+    }
+
+    // Whether the fiber of this number has made all looks that see no request.
+    fn may_ask(&self, named: usize) -> bool {
+        match self.courses.get(named) {
+            Some(course) => course.made >= course.own.before_request,
+            None => false,
+        }
+    }
+
+    fn is_asked(&self, named: usize) -> bool {
+        match self.courses.get(named) {
+            Some(course) => course.asked,
+            None => false,
+        }
+    }
+
+    fn has_ended(&self, named: usize) -> bool {
+        match self.courses.get(named) {
+            Some(course) => course.ended,
+            None => false,
+        }
+    }
+
+    fn asks_of(&self, named: usize) -> u32 {
+        match self.courses.get(named) {
+            Some(course) => course.asks,
+            None => 0,
+        }
+    }
+
+    // What a step of a fiber changes.
+    fn does(&mut self, course: &mut Course, step: Step) {
+        let named = usize::from(step.named);
+        match step.kind {
+            Kind::Start => self.born = self.born.saturating_add(1),
+            Kind::NewRef => self.refs = self.refs.saturating_add(1),
+            Kind::NewDeferred => self.deferreds = self.deferreds.saturating_add(1),
+            Kind::Asked => self.asks(named, true),
+            Kind::Already => self.asks(named, false),
+            Kind::Finish => course.ended = true,
+            Kind::Complete => {
+                if let Some(filled) = self.filled.get_mut(named) {
+                    *filled = true;
+                }
+            }
+            Kind::Get | Kind::Set | Kind::Modify => {
+                if let Some(at) = self.at_ref.get_mut(named) {
+                    *at = at.saturating_add(1);
+                }
+            }
+            Kind::CancelEnded | Kind::SawRequest | Kind::JoinEnded | Kind::Filled | Kind::Wait => {}
+        }
+    }
+
+    // A request for the cancellation of a fiber is made.
+    fn asks(&mut self, named: usize, first: bool) {
+        if let Some(course) = self.courses.get_mut(named) {
+            course.asks = course.asks.saturating_sub(1);
+            course.asked = course.asked || first;
+        }
+    }
+}
+
+// The fibers of these moves before their first.
+fn courses(alloc: Global, owns: &[Own]) -> Result<Vec<Course>, AllocError> {
+    let mut courses = Vec::with_capacity(alloc, owns.len())?;
+    for own in owns {
+        courses.push(Course {
+            own: *own,
+            next: own.from,
+            made: 0,
+            asks: 0,
+            asked: false,
+            ended: false,
+        })?;
+    }
+    Ok(courses)
+}

@@ -1,0 +1,216 @@
+//! The log of one worker.
+
+use crate::notes::{Kind, Noted, Notes, RefCall};
+use cell_registry::RunError;
+use effect_term::{CancelReply, JoinReply, Reply, Value};
+use fiber_frames::Ask;
+use fiber_poll::{CallLog, FiberTask, NoLog, Turn};
+use std::alloc::Global;
+use std::sync::atomic::{AtomicU64, Ordering};
+
+/// Is told of turns as well as of their calls.
+pub trait TurnLog: CallLog {
+    /// A turn of this task begins.
+    fn begins(&mut self, task: &FiberTask<'_>);
+
+    /// A turn of this task was made, and answers so.
+    fn turned(&mut self, task: &FiberTask<'_>, answer: &Result<Turn<'_>, RunError>);
+}
+
+impl TurnLog for NoLog {
+    #[inline(always)]
+    fn begins(&mut self, _task: &FiberTask<'_>) {}
+
+    #[inline(always)]
+    fn turned(&mut self, _task: &FiberTask<'_>, _answer: &Result<Turn<'_>, RunError>) {}
+}
+
+/// The log of one worker. All workers of a run share a clock, which counts the calls on refs that have
+/// ended.
+#[derive(Drop)]
+pub struct WorkerLog<'c> {
+    alloc: Global,
+    clock: &'c AtomicU64,
+    notes: Notes,
+    // How many marks the task had when its turn began.
+    marks: usize,
+}
+
+impl<'c> WorkerLog<'c> {
+    /// An empty log of a run with so many fibers at most.
+    pub fn new(alloc: Global, clock: &'c AtomicU64, fibers: u16) -> WorkerLog<'c> {
+        WorkerLog {
+            alloc,
+            clock,
+            notes: Notes::new(alloc, fibers),
+            marks: 0,
+        }
+    }
+
+    /// What was noted.
+    pub fn into_notes(self) -> Notes {
+        let WorkerLog { notes, .. } = self;
+        notes
+    }
+
+    /// A turn of the fiber of this number was made, which may still make so many moves. It made a mark or
+    /// none.
+    pub fn moved(&mut self, by: u16, left: u32, marked: bool) {
+        if let Some(seen) = self.notes.fibers.get_mut(usize::from(by)) {
+            seen.made = left;
+            if marked {
+                seen.marked = left;
+            }
+        }
+    }
+
+    /// The last move of the fiber of this number waited, and came behind a look unless a mask was active. The
+    /// fiber may still make so many moves.
+    pub fn waited(&mut self, by: u16, left: u32, masked: bool) {
+        let looked = if masked { 0 } else { 1 };
+        self.note(by, left.saturating_add(1), Kind::Wait, looked);
+    }
+
+    /// A call of the fiber of this number was refused with this fault.
+    pub fn refused(&mut self, by: u16, fault: RunError) {
+        self.notes.refused = Some((by, fault));
+    }
+
+    // Notes a call that isn't on a ref.
+    fn note(&mut self, by: u16, left: u32, kind: Kind, named: u16) {
+        let call = Noted {
+            left,
+            fiber: by,
+            named,
+            kind,
+        };
+        self.notes.note(self.alloc, call, None);
+    }
+
+    // Notes a call on a ref, which has ended.
+    fn note_ref(&mut self, call: Noted, found: Option<i64>, new: i64, begun: u64) {
+        let ended = self.clock.fetch_add(1, Ordering::SeqCst);
+        let on_ref = RefCall {
+            found,
+            left: new,
+            begun,
+            ended,
+        };
+        self.notes.note(self.alloc, call, Some(on_ref));
+    }
+
+    // The fiber looked, and wasn't asked.
+    fn saw_none(&mut self, by: u16, left: u32) {
+        if let Some(seen) = self.notes.fibers.get_mut(usize::from(by)) {
+            seen.look = left.saturating_sub(1);
+        }
+    }
+
+    // A request was made of a fiber.
+    fn canceled(&mut self, by: u16, left: u32, fiber: u16, reply: CancelReply) {
+        let kind = match reply {
+            CancelReply::Asked => Kind::Asked,
+            CancelReply::Already => Kind::Already,
+            CancelReply::Ended => Kind::CancelEnded,
+        };
+        self.note(by, left, kind, fiber);
+    }
+
+    // A call on a ref was answered.
+    fn on_ref(&mut self, by: u16, left: u32, ask: &Ask, reply: &Reply, begun: u64) {
+        let (named, kind) = match ask {
+            Ask::Get(named) => (*named, Kind::Get),
+            Ask::Set(named, _) => (*named, Kind::Set),
+            Ask::Modify(named, _) => (*named, Kind::Modify),
+            _ => return,
+        };
+        let found = match reply {
+            Reply::Value(value) => Some(value.get()),
+            _ => None,
+        };
+        let old = found.unwrap_or(0);
+        let new = match ask {
+            Ask::Set(_, value) => value.get(),
+            Ask::Modify(_, value) => sum(old, *value),
+            _ => old,
+        };
+        let call = Noted {
+            left,
+            fiber: by,
+            named,
+            kind,
+        };
+        self.note_ref(call, found, new, begun);
+    }
+
+    // A call that isn't on a ref was answered.
+    fn shared(&mut self, by: u16, left: u32, ask: &Ask, reply: &Reply) {
+        match (ask, reply) {
+            (Ask::Start, Reply::Number(number)) => self.note(by, left, Kind::Start, *number),
+            (Ask::NewRef, Reply::Number(number)) => self.note(by, left, Kind::NewRef, *number),
+            (Ask::NewDeferred, Reply::Number(number)) => {
+                self.note(by, left, Kind::NewDeferred, *number);
+            }
+            (Ask::Cancel(fiber), Reply::Cancel(found)) => self.canceled(by, left, *fiber, *found),
+            (Ask::Join(fiber), Reply::Join(JoinReply::Ended(_))) => {
+                self.note(by, left, Kind::JoinEnded, *fiber);
+            }
+            (Ask::Finish(_), _) => self.note(by, left, Kind::Finish, by),
+            (Ask::Complete(number, _), Reply::Completed(true)) => {
+                self.note(by, left, Kind::Complete, *number);
+            }
+            (Ask::Complete(number, _), _) => self.note(by, left, Kind::Filled, *number),
+            (Ask::Read(number), Reply::Read(Some(_))) => {
+                self.note(by, left, Kind::Filled, *number);
+            }
+            _ => {}
+        }
+    }
+}
+
+// The sum of two values modulo 2^63, as a ref takes it.
+fn sum(old: i64, by: Value) -> i64 {
+    (old.wrapping_add(by.get()) << 1) >> 1
+}
+
+impl<'c> CallLog for WorkerLog<'c> {
+    #[inline(always)]
+    fn before(&mut self, ask: &Ask) -> u64 {
+        match ask {
+            Ask::Get(_) | Ask::Set(_, _) | Ask::Modify(_, _) => self.clock.load(Ordering::SeqCst),
+            _ => 0,
+        }
+    }
+
+    #[inline(always)]
+    fn made(&mut self, by: u16, left: u32, ask: &Ask, reply: &Reply, before: u64) {
+        match ask {
+            Ask::Silent | Ask::Mask | Ask::Unmask | Ask::Cut => {}
+            Ask::Look => match reply {
+                Reply::Seen(true) => self.note(by, left, Kind::SawRequest, by),
+                _ => self.saw_none(by, left),
+            },
+            Ask::Get(_) | Ask::Set(_, _) | Ask::Modify(_, _) => {
+                self.on_ref(by, left, ask, reply, before);
+            }
+            _ => self.shared(by, left, ask, reply),
+        }
+    }
+}
+
+impl<'c> TurnLog for WorkerLog<'c> {
+    fn begins(&mut self, task: &FiberTask<'_>) {
+        self.marks = task.trace().len();
+    }
+
+    fn turned(&mut self, task: &FiberTask<'_>, answer: &Result<Turn<'_>, RunError>) {
+        let by = task.number();
+        let left = task.moves();
+        self.moved(by, left, task.trace().len() > self.marks);
+        match answer {
+            Ok(Turn::Waits(_)) => self.waited(by, left, task.is_masked()),
+            Ok(_) => {}
+            Err(fault) => self.refused(by, *fault),
+        }
+    }
+}

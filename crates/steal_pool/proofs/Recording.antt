@@ -1,0 +1,27 @@
+-- What a replay tells of the schedule of a run.
+use Rattle.std.proofs.Common.{◌≡◌, ◌≢◌, ◌⊎◌, inl, inr, ℕ, List, None, Result, Ok, Err, IfOk, sym, ◌∙◌}
+use Rattle.derived_ops.specs.Tree.{Tree}
+use Rattle.text_io.specs.Schedule.{SpellsEntries}
+use Rattle.cell_registry.specs.declared.limits.Limits.{Limits}
+use Rattle.cell_registry.specs.declared.limits.RunError.{RunError}
+use Rattle.cell_registry.specs.declared.limits.RunError.TheVariants as fault
+use Rattle.outcome_trace.specs.declared.report.Report.{Report}
+use Rattle.outcome_trace.specs.Core.{core, reported}
+use Rattle.outcome_trace.specs.Finals.{IsSettledReport}
+use Rattle.outcome_trace.proofs.Continuing.{settled_of}
+use Rattle.steal_pool.specs.declared.finishing.RunEnd.{RunEnd}
+use Rattle.steal_pool.specs.Records.{IsRecord}
+use Rattle.steal_pool.specs.Runs.{IsEnd}
+
+-- what a replay came to, for which there was memory, is what the core comes to
+pub replayed_comes : (came end of_core : Result Report RunError) → (came ≡ Err fault.NoMemory) ⊎ (came ≡ of_core) → came ≢ Err fault.NoMemory → came ≡ end → of_core ≡ end
+replayed_comes came end of_core (inl none) some same = absurd (some none)
+replayed_comes came end of_core (inr is) some same = sym is ∙ same
+
+pub record_of : (code : Tree) (k : Limits) (text entries : List ℕ) (end : Result Report RunError) → SpellsEntries text entries → reported (core code k entries) ≡ end → IsRecord code k text end
+record_of code k text entries end spelled comes = record { entries = entries; spelled = spelled; comes = comes }
+
+-- no entries change a complete end
+pub settled_end : (code : Tree) (k : Limits) (r : Result RunEnd RunError) → IfOk r (IsEnd code k) → IfOk r (λ it. it.stopped ≡ None → IsSettledReport code k it.report)
+settled_end code k (Ok it) ends = λ none. settled_of code k it.report (ends.complete none)
+settled_end code k (Err e) ends = tt

@@ -1,0 +1,5 @@
+use Rattle.steal_pool.proofs.Recording.{settled_end}
+use Rattle.steal_pool.proofs.recorded.run_recorded.Goals as goal
+
+pub returns-in-Ok-clause-settled : goal.returns-in-Ok-clause-settled
+returns-in-Ok-clause-settled g c = settled_end _ _ c.record_with.result.end c.record_with.ensures.ends
