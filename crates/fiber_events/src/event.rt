@@ -1,0 +1,63 @@
+//! What an entry of a schedule was.
+
+ghost use Rattle.std.specs.Prelude.{◌≡◌};
+
+use cell_registry::Call;
+use effect_term::Reply;
+use fiber_frames::Mark;
+use std::marker::Model;
+
+/// What the move of an entry did.
+#[derive(Clone, Copy, PartialEq, Eq, Debug)]
+pub enum Deed {
+    /// It made this shared call, and was answered so.
+    Called(Call, Reply),
+    /// It was the fiber's own: it made no shared call.
+    Alone,
+    /// It was the fiber's own, and waits for nothing that could come (`never`). The same move comes again.
+    Rested,
+}
+
+/// What an entry of a schedule was: one move of a fiber.
+#[derive(Clone, Copy, PartialEq, Eq, Debug)]
+pub struct Event {
+    /// The entry's number in the schedule, from 1 on.
+    pub entry: usize,
+    /// The fiber that moved.
+    pub fiber: u16,
+    /// What its move did.
+    pub deed: Deed,
+    /// What it noted, if it did.
+    pub mark: Option<Mark>,
+}
+
+/// Events, in the order of their entries.
+#[derive(Drop)]
+pub struct Events {
+    events: Vec<Event>,
+}
+
+impl Model for Events {
+    ghost use Rattle.std.specs.Prelude.{List};
+    ghost use Rattle.fiber_events.specs.declared.event.Event.{Event};
+
+    ghost Value = { List Event };
+
+    ghost view = { λ e. e.events.items };
+}
+
+impl Events {
+    /// These events.
+    pub fn new(events: Vec<Event>) -> Events
+        ensures { result ≡ events.items }
+    {
+        Events { events }
+    }
+
+    /// The events, from the first one on.
+    pub fn as_slice(&self) -> &[Event]
+        ensures { result.now ≡ self.now }
+    {
+        self.events.as_slice()
+    }
+}

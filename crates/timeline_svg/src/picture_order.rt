@@ -1,0 +1,75 @@
+//! What comes of a text under a schedule, as a picture.
+
+ghost use Rattle.std.specs.Prelude.{◌≡◌, IfOk};
+ghost use Rattle.cell_registry.specs.Cells.{AreLimits};
+ghost use Rattle.outcome_trace.specs.ReplayAnswers.{report_status};
+ghost use Rattle.timeline_svg.specs.PictureAnswers.{IsPictureAnswer, IsPicturedAnswer};
+
+use crate::drawing::picture;
+use cell_registry::Limits;
+use effect_term::{Outcome, Program};
+use fiber_events::replay_events;
+use outcome_trace::{Answer, Refused, Report, Status, TextOrder, line, read_program, refusal};
+use std::alloc::{AllocError, Global};
+
+/// Tells what the program that the text spells does under a schedule, by a picture ([`picture`]) in place of the
+/// report, with the report's status. Where there is no report, it answers as `ReplayOrder` of `outcome_trace` does: the
+/// line of the text's refusal, with `Status::Refused`, or of the run's fault, with `Status::Fault`.
+#[derive(Clone, Copy, Debug)]
+pub struct PictureOrder<'a> {
+    /// Whose move is next, from the first entry on.
+    pub schedule: &'a [u16],
+    /// How many fibers, refs and deferreds there may be (each 1 to 1000), and how often a fiber may
+    /// change its own state (1 to 1,099,511,627,775).
+    pub limits: Limits,
+    pub ghost ranges: { AreLimits limits },
+}
+
+impl TextOrder for PictureOrder<'_> {
+    ghost answers = { λ order. IsPictureAnswer order.schedule.now order.limits };
+
+    fn answer(&self, alloc: Global, text: &[u8]) -> Result<Answer, AllocError> {
+        match read_program(alloc, text) {
+            Ok(program) => pictured_answer(alloc, &program, self.schedule, self.limits),
+            Err(refused) => refusal(alloc, refused),
+        }
+    }
+}
+
+// What comes of a program under a schedule, as a picture.
+fn pictured_answer(
+    alloc: Global,
+    program: &Program,
+    schedule: &[u16],
+    limits: Limits,
+) -> Result<Answer, AllocError>
+    requires { AreLimits limits }
+    ensures { IfOk result (λ a. IsPicturedAnswer program.now schedule.now limits a.text.items a.status) }
+{
+    let told = replay_events(alloc, program, schedule, limits)?;
+    match &told.end {
+        Ok(report) => Ok(Answer {
+            text: picture(alloc, &told)?.into_bytes(),
+            status: report_status(report),
+        }),
+        Err(error) => Ok(Answer {
+            text: line(alloc, &Refused::Run(*error))?,
+            status: Status::Fault,
+        }),
+    }
+}
+
+// The status of a program that writes this report.
+fn report_status(report: &Report) -> Status
+    ensures { result ≡ report_status report.now.fibers }
+{
+    let Some(first) = report.fibers.as_slice().first() else {
+        return Status::Unended;
+    };
+    match first.outcome {
+        Some(Outcome::Succeeded(_)) => Status::Succeeded,
+        Some(Outcome::Errored(_)) => Status::Errored,
+        Some(Outcome::Canceled) => Status::Canceled,
+        None => Status::Unended,
+    }
+}

@@ -1,0 +1,79 @@
+//! What comes of a text under a schedule, with its timeline.
+
+ghost use Rattle.std.specs.Prelude.{◌≡◌, ◌++◌, ◌∷◌, IfOk};
+ghost use Rattle.cell_registry.specs.Cells.{AreLimits};
+ghost use Rattle.timeline_text.specs.TimelineAnswers.{IsTimelineAnswer, IsToldAnswer, end_status, end_text};
+
+use crate::timelines::timeline;
+use cell_registry::{Limits, RunError};
+use effect_term::Program;
+use fiber_events::replay_events;
+use outcome_trace::{
+    Answer, Refused, Report, Status, TextOrder, line, read_program, refusal, report_answer,
+};
+use std::alloc::{AllocError, Global};
+
+/// Tells what the program that the text spells comes to under a schedule, and how: what `ReplayOrder` of
+/// `outcome_trace` answers, then a blank line and the timeline ([`timeline`]), with the same status. A text that is
+/// refused is answered by the line of its refusal alone, with `Status::Refused`.
+#[derive(Clone, Copy, Debug)]
+pub struct TimelineOrder<'a> {
+    /// Whose move is next, from the first entry on.
+    pub schedule: &'a [u16],
+    /// How many fibers, refs and deferreds there may be (each 1 to 1000), and how often a fiber may
+    /// change its own state (1 to 1,099,511,627,775).
+    pub limits: Limits,
+    pub ghost ranges: { AreLimits limits },
+}
+
+impl TextOrder for TimelineOrder<'_> {
+    ghost answers = { λ order. IsTimelineAnswer order.schedule.now order.limits };
+
+    fn answer(&self, alloc: Global, text: &[u8]) -> Result<Answer, AllocError> {
+        match read_program(alloc, text) {
+            Ok(program) => told_answer(alloc, &program, self.schedule, self.limits),
+            Err(refused) => refusal(alloc, refused),
+        }
+    }
+}
+
+// What comes of a program under a schedule, with its timeline.
+fn told_answer(
+    alloc: Global,
+    program: &Program,
+    schedule: &[u16],
+    limits: Limits,
+) -> Result<Answer, AllocError>
+    requires { AreLimits limits }
+    ensures { IfOk result (λ a. IsToldAnswer program.now schedule.now limits a.text.items a.status) }
+{
+    let told = replay_events(alloc, program, schedule, limits)?;
+    let front = end_answer(alloc, &told.end)?;
+    let rows = timeline(alloc, &told)?;
+    with_rows(front, rows.as_bytes())
+}
+
+// An answer with a blank line and a timeline behind it.
+fn with_rows(front: Answer, rows: &[u8]) -> Result<Answer, AllocError>
+    ensures text { IfOk result (λ a. a.text.items ≡ front.text.items ++ 10 ∷ rows.now) }
+    ensures status { IfOk result (λ a. a.status ≡ front.status) }
+{
+    let Answer { mut text, status } = front;
+    text.push(b'\n')?;
+    text.extend_from_slice(rows)?;
+    Ok(Answer { text, status })
+}
+
+// The text of a report, or the line of a fault.
+fn end_answer(alloc: Global, end: &Result<Report, RunError>) -> Result<Answer, AllocError>
+    ensures text { IfOk result (λ a. a.text.items ≡ end_text end.now) }
+    ensures status { IfOk result (λ a. a.status ≡ end_status end.now) }
+{
+    match end {
+        Ok(report) => report_answer(alloc, report),
+        Err(error) => Ok(Answer {
+            text: line(alloc, &Refused::Run(*error))?,
+            status: Status::Fault,
+        }),
+    }
+}
