@@ -1,0 +1,48 @@
+-- What is known of fibers that wait, and of the lines that tell it.
+use Rattle.std.proofs.Common.{◌≡◌, ◌≢◌, ◌⊎◌, inl, inr, ℕ, Result, Ok, Err, IfOk, OnOk, Vec, Global, ◌+◌, ◌<◌, ◌≤◌, Bool, true, List, [], ◌∷◌, ◌++◌, length, drop, get_or, refl, sym, ap, ◌∙◌, subst, append_assoc, append-nil, add-one, suc}
+use Rattle.std.proofs.Math.Seq.{drop-cons}
+use Rattle.std.proofs.lemmas.List.{drop_all}
+use Rattle.cell_registry.specs.Cells.{Cells}
+use Rattle.fiber_frames.specs.Fiber.{Fiber}
+use Rattle.cell_registry.specs.declared.limits.Limits.{Limits}
+use Rattle.cell_registry.specs.declared.limits.RunError.{RunError}
+use Rattle.cell_registry.specs.declared.limits.RunError.TheVariants as run
+use Rattle.derived_ops.specs.Tree.{Tree}
+use Rattle.outcome_trace.specs.Core.{World, core}
+use Rattle.outcome_trace.specs.Finals.{HasEnded, IsAtRest}
+use Rattle.explanations.specs.declared.why.Why.{Why}
+use Rattle.explanations.specs.declared.why.Why.TheVariants as why
+use Rattle.explanations.specs.Whys.{AreWhyLines, IsUnendedText, IsWhy, fault, is_settled, why_line}
+
+pub settled_why : (s : Cells) (n : ℕ) (g : Fiber) (y : Why) → IsWhy s n g y → is_settled y ≡ true → HasEnded g ⊎ IsAtRest s n g
+settled_why s n g why.Ended h e = inl h
+settled_why s n g (why.WaitsForEnd f) h e = inr h.0
+settled_why s n g (why.WaitsForDeferred d) h e = inr h.0
+settled_why s n g why.WaitsWithoutEnd h e = inr h
+settled_why s n g why.CouldGoOn h e = absurd (cc)
+
+-- with the lines of the fibers from this one on behind them, they are those of all
+abbrev pub AreFront : Bool → Cells → List Fiber → ℕ → List ℕ → Type 0
+AreFront last s all i told =
+    (behind : List ℕ) → AreWhyLines last s i (drop i all) behind → AreWhyLines last s 0 all (told ++ behind)
+
+pub told_more : (last : Bool) (s : Cells) (all : List Fiber) (i : ℕ) (g : Fiber) (y : Why) (told new : List ℕ) → i < length all →
+    g ≡ get_or all i g → IsWhy s i g y → new ≡ told ++ why_line last i y → AreFront last s all i told → AreFront last s all (i + 1) new
+told_more last s all i g y told new low is why_is new_is front = λ behind h.
+    let here : drop i all ≡ g ∷ drop (i + 1) all = rw add-one (drop-cons all i g low ∙ ap (λ x. x ∷ drop (suc i) all) (sym is)) in
+    let line = why_line last i y in
+    let more : AreWhyLines last s i (g ∷ drop (i + 1) all) (line ++ behind) = (y, behind, why_is, refl, h) in
+    subst (λ t. AreWhyLines last s 0 all t) (sym (ap (λ t. t ++ behind) new_is ∙ append_assoc told line behind))
+    (front (line ++ behind) (subst (λ xs. AreWhyLines last s i xs (line ++ behind)) (sym here) more))
+
+pub all_told : (last : Bool) (s : Cells) (all : List Fiber) (i : ℕ) (told : List ℕ) → length all ≤ i → AreFront last s all i told → AreWhyLines last s 0 all told
+all_told last s all i told past front =
+    subst (λ t. AreWhyLines last s 0 all t) (append-nil told)
+    (front [] (subst (λ xs. AreWhyLines last s i xs []) (sym (drop_all i all past)) refl))
+
+pub faulty : {E : Type 0} (code : Tree) (k : Limits) (schedule : List ℕ) (e : RunError) (r : Result World RunError) → r ≡ core code k schedule →
+    (e ≡ run.NoMemory) ⊎ (r ≡ Err e) → (told : Result (Vec ℕ Global) E) → IfOk told (λ t. t.items ≡ []) → OnOk told (e ≢ run.NoMemory) →
+    IfOk told (λ t. IsUnendedText code k schedule t.items)
+faulty code k schedule e r is (inl memory) (Ok t) none other = absurd (other memory)
+faulty code k schedule e r is (inr same) (Ok t) none other = subst (λ xs. IsUnendedText code k schedule xs) (sym none) (fault e (sym is ∙ same))
+faulty code k schedule e r is stops (Err x) none other = tt

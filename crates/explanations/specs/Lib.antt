@@ -1,0 +1,7 @@
+pub mod Explained
+pub mod Place
+pub mod Reasons
+pub mod Refusals
+pub mod Schedules
+pub mod Shown
+pub mod Whys

@@ -1,0 +1,60 @@
+-- Why fibers haven't ended in a world.
+use Rattle.std.specs.Prelude.{◌≡◌, ◌+◌, ℕ, Bool, true, false, List, [], ◌∷◌, ◌++◌, codes, Ok, Err, None, if◌then◌else◌}
+use Rattle.std.specs.Fmt.{decimal}
+use Rattle.cell_registry.specs.declared.call.Call.TheVariants as call
+use Rattle.cell_registry.specs.declared.limits.Limits.{Limits}
+use Rattle.cell_registry.specs.declared.limits.RunError.{RunError}
+use Rattle.cell_registry.specs.Cells.{Cells}
+use Rattle.derived_ops.specs.Tree.{Tree}
+use Rattle.fiber_frames.specs.Fiber.{Fiber, outcome_of}
+use Rattle.outcome_trace.specs.declared.wish.Wish.TheVariants.{Shared}
+use Rattle.outcome_trace.specs.Core.{World, core}
+use Rattle.outcome_trace.specs.Finals.{HasEnded, IsAtRest, IsFinal, word_wish}
+use Rattle.explanations.specs.declared.why.Why.{Why}
+use Rattle.explanations.specs.declared.why.Why.TheVariants.{Ended, WaitsForEnd, WaitsForDeferred, WaitsWithoutEnd}
+use Rattle.explanations.specs.declared.why.Why.TheVariants.{CouldGoOn}
+
+-- It is so of fiber n, which is in state g beside these cells. Who is said to wait rests at that wait: nothing there
+-- serves it, and no request for its cancellation reaches it.
+abbrev pub IsWhy : Cells → ℕ → Fiber → Why → Type 0
+IsWhy s n g Ended = HasEnded g
+IsWhy s n g (WaitsForEnd f) = IsAtRest s n g × (word_wish g ≡ Shared (call.Join f))
+IsWhy s n g (WaitsForDeferred d) = IsAtRest s n g × (word_wish g ≡ Shared (call.Read d))
+IsWhy s n g WaitsWithoutEnd = IsAtRest s n g
+IsWhy s n g CouldGoOn = outcome_of g ≡ None
+
+-- whether a fiber has ended, or waits for what isn't there
+abbrev pub is_settled : Why → Bool
+is_settled Ended = true
+is_settled (WaitsForEnd f) = true
+is_settled (WaitsForDeferred d) = true
+is_settled WaitsWithoutEnd = true
+is_settled CouldGoOn = false
+
+-- what is said of a deferred that is waited for: that nobody completes it, where the world is final
+abbrev pub uncompleted : Bool → List ℕ
+uncompleted true = codes ", which nobody completes" ++ 10 ∷ []
+uncompleted false = codes ", which is empty when the schedule ends" ++ 10 ∷ []
+
+-- what is told of fiber n
+abbrev pub why_line : Bool → ℕ → Why → List ℕ
+why_line final n Ended = []
+why_line final n (WaitsForEnd f) =
+    codes "fiber " ++ (decimal n ++ (codes " waits for the end of fiber " ++ (decimal f ++ 10 ∷ [])))
+why_line final n (WaitsForDeferred d) =
+    codes "fiber " ++ (decimal n ++ (codes " waits for deferred " ++ (decimal d ++ uncompleted final)))
+why_line final n WaitsWithoutEnd = codes "fiber " ++ (decimal n ++ (codes " waits without end" ++ 10 ∷ []))
+why_line final n CouldGoOn = codes "the schedule ends before fiber " ++ (decimal n ++ (codes " does" ++ 10 ∷ []))
+
+-- a line for each of these fibers that hasn't ended, whose numbers go up from n
+abbrev pub AreWhyLines : Bool → Cells → ℕ → List Fiber → List ℕ → Type 0
+AreWhyLines final s n [] told = told ≡ []
+AreWhyLines final s n (g ∷ gs) told = (why : Why) × (behind : List ℕ) × IsWhy s n g why ×
+    (told ≡ why_line final n why ++ behind) × AreWhyLines final s (n + 1) gs behind
+
+-- What is told of a code under a schedule: why each fiber hasn't ended in the world that comes of it; nothing of a
+-- fault, whose line tells it.
+pub data IsUnendedText (code : Tree) (limits : Limits) (schedule : List ℕ) : List ℕ → Type 0 where
+  unended : (w : World) (final : Bool) (told : List ℕ) → core code limits schedule ≡ Ok w →
+      (final ≡ true → IsFinal w) → AreWhyLines final w.cells 0 w.fibers told → IsUnendedText code limits schedule told
+  fault : (e : RunError) → core code limits schedule ≡ Err e → IsUnendedText code limits schedule []

@@ -1,0 +1,195 @@
+//! The forms that are open at a place of a text, and the binders around it.
+
+use crate::language::{is_under, parts_of, spelling_of, words};
+use effect_term::Kind;
+use std::alloc::{AllocError, Global};
+use term_parse::{Part, Word};
+
+/// A name that a form binds.
+#[derive(Clone, Copy)]
+pub(crate) struct Binder {
+    /// Where the name begins.
+    pub start: usize,
+    /// Where it ends.
+    pub end: usize,
+    /// What it stands for.
+    pub kind: Kind,
+}
+
+/// A form whose closing bracket hasn't come.
+#[derive(Clone, Copy)]
+pub(crate) struct OpenForm {
+    /// Its word, if it has come.
+    pub word: Option<Word>,
+    /// How many of its parts have come.
+    pub next: usize,
+    /// How many binders stand before its own.
+    pub first: usize,
+}
+
+impl OpenForm {
+    /// The part that is wanted next.
+    pub fn part(&self) -> Option<Part> {
+        parts_of(self.word?).get(self.next).copied()
+    }
+
+    // One more part has come. Where any number of terms may stand, they still may.
+    fn count(&mut self) {
+        match self.part() {
+            Some(Part::More) => {}
+            _ => self.next = self.next.saturating_add(1),
+        }
+    }
+}
+
+/// What is around a place of a text.
+#[derive(Drop)]
+pub(crate) struct Around {
+    /// The forms that are open, the innermost last.
+    pub forms: Vec<OpenForm>,
+    /// The binders of these forms, the innermost last.
+    pub binders: Vec<Binder>,
+}
+
+/// What is around the end of a text that has no fault, as far as it goes.
+pub(crate) fn around_end(alloc: Global, front: &[u8]) -> Result<Around, AllocError> {
+    let mut around = Around {
+        forms: Vec::new(alloc),
+        binders: Vec::new(alloc),
+    };
+    let mut start = None;
+    for (at, byte) in front.iter().enumerate() {
+        if is_name_byte(*byte) && start.is_some() {
+            continue;
+        }
+        around.end_token(front, start, at)?;
+        start = start_at(*byte, at);
+        around.bracket(*byte)?;
+    }
+    around.end_token(front, start, front.len())?;
+    Ok(around)
+}
+
+// The token that begins with this byte, if it is no bracket and no space.
+fn start_at(byte: u8, at: usize) -> Option<usize> {
+    if is_name_byte(byte) || byte == b'-' {
+        Some(at)
+    } else {
+        None
+    }
+}
+
+// Whether a name or a number goes on with this byte.
+fn is_name_byte(byte: u8) -> bool {
+    (b'a' <= byte && byte <= b'z') || (b'0' <= byte && byte <= b'9')
+}
+
+/// The word that is spelled so, if there is one.
+pub(crate) fn word_of(spelled: &[u8]) -> Option<Word> {
+    for word in words() {
+        if spelling_of(*word) == spelled {
+            return Some(*word);
+        }
+    }
+    None
+}
+
+impl Around {
+    // A name or a number, where one has begun.
+    fn end_token(
+        &mut self,
+        front: &[u8],
+        start: Option<usize>,
+        end: usize,
+    ) -> Result<(), AllocError> {
+        let Some(start) = start else {
+            return Ok(());
+        };
+        let Some(spelled) = front.get(start..end) else {
+            return Ok(());
+        };
+        let Some(mut form) = self.forms.pop() else {
+            return Ok(());
+        };
+        if form.word.is_none() {
+            form.word = word_of(spelled);
+        } else {
+            self.bind(&form, start, end)?;
+            form.count();
+        }
+        self.forms.push(form)?;
+        Ok(())
+    }
+
+    // A name, where the form binds one.
+    fn bind(&mut self, form: &OpenForm, start: usize, end: usize) -> Result<(), AllocError> {
+        if let Some(Part::Bind(kind)) = form.part() {
+            self.binders.push(Binder { start, end, kind })?;
+        }
+        Ok(())
+    }
+
+    // A bracket, where this is one.
+    fn bracket(&mut self, byte: u8) -> Result<(), AllocError> {
+        match byte {
+            b'(' => self.forms.push(OpenForm {
+                word: None,
+                next: 0,
+                first: self.binders.len(),
+            })?,
+            b')' => self.close(),
+            _ => {}
+        }
+        Ok(())
+    }
+
+    // The closing bracket of the innermost form.
+    fn close(&mut self) {
+        let Some(form) = self.forms.pop() else {
+            return;
+        };
+        self.binders.truncate(form.first);
+        if let Some(outer) = self.forms.last_mut() {
+            outer.count();
+        }
+    }
+
+    /// The innermost form that is open.
+    pub fn innermost(&self) -> Option<OpenForm> {
+        self.forms.as_slice().last().copied()
+    }
+
+    /// The binders in whose parts the place is, the innermost last.
+    pub fn in_scope(&self, alloc: Global) -> Result<Vec<Binder>, AllocError> {
+        let mut seen = Vec::new(alloc);
+        for (at, form) in self.forms.iter().enumerate() {
+            let end = match self.forms.get(at.saturating_add(1)) {
+                Some(inner) => inner.first,
+                None => self.binders.len(),
+            };
+            if let Some(part) = form.part() {
+                self.add_those(&mut seen, part, form.first, end)?;
+            }
+        }
+        Ok(seen)
+    }
+
+    // Those of a form's binders that stand around this part of it.
+    fn add_those(
+        &self,
+        seen: &mut Vec<Binder>,
+        part: Part,
+        first: usize,
+        end: usize,
+    ) -> Result<(), AllocError> {
+        let Some(own) = self.binders.as_slice().get(first..end) else {
+            return Ok(());
+        };
+        for (number, binder) in own.iter().enumerate() {
+            if is_under(part, number) {
+                seen.push(*binder)?;
+            }
+        }
+        Ok(())
+    }
+}

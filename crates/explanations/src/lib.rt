@@ -1,0 +1,29 @@
+//! Reasons: what is told on the last device beside an answer, to whoever wants to know why.
+//!
+//! It stands on texts and devices (`text_io`), the language (`term_parse`, `effect_term`), and the core
+//! under a schedule (`outcome_trace`, `fiber_frames`, `cell_registry`). It promises that what is read,
+//! what goes out as the answer and the status are what they are without reasons, and that where there
+//! is a fault it is told as ever, with no reasons.
+#![tactic(auto)]
+
+mod around;
+mod excerpt;
+mod explained;
+mod language;
+mod names;
+mod nearness;
+mod place;
+mod refusals;
+mod schedules;
+mod shown;
+mod text_reasons;
+mod unended;
+mod wanting;
+mod why;
+
+pub use explained::{Reasons, obey_explained};
+pub use language::{form_of, parts_of, spelling_of, words};
+pub use place::{Position, position_at};
+pub use schedules::explain_schedule;
+pub use text_reasons::{ReplayReasons, TextReasons};
+pub use why::{Why, why_of};

@@ -1,0 +1,89 @@
+//! Why a fiber hasn't ended.
+
+ghost use Rattle.std.specs.Prelude.{◌≡◌, ◌≢◌, ◌⊎◌, [], false, true};
+ghost use Rattle.cell_registry.specs.Cells.{cell_of};
+ghost use Rattle.fiber_frames.specs.Fiber.{active_of, outcome_of};
+ghost use Rattle.outcome_trace.specs.Fitting.{Fits, cell_registered};
+ghost use Rattle.explanations.specs.Whys.{IsWhy};
+
+use cell_registry::{Outcome, PlainRegistry};
+use fiber_frames::{Ask, Config};
+
+/// Why a fiber hasn't ended, or that it has.
+#[derive(Clone, Copy)]
+pub enum Why {
+    /// It has ended.
+    Ended,
+    /// It waits for the end of the fiber of this number, which hasn't ended.
+    WaitsForEnd(u16),
+    /// It waits for the deferred of this number, which is empty.
+    WaitsForDeferred(u16),
+    /// It waits without end.
+    WaitsWithoutEnd,
+    /// It may be able to go on.
+    CouldGoOn,
+}
+
+/// Why a fiber that stands beside this registry hasn't ended. Where it is said to wait, no request for its
+/// cancellation reaches it.
+pub fn why_of(config: &Config, registry: &PlainRegistry) -> Why
+    requires { Fits (cell_registered registry.now.state config.now.number) config.now }
+    ensures { IsWhy registry.now.state config.now.number config.now result }
+{
+    // The registry is within its limits.
+    let _ = registry.limits();
+    if outcome(config).is_some() {
+        return Why::Ended;
+    }
+    if !is_unasked(config, registry) {
+        return Why::CouldGoOn;
+    }
+    match config.word_ask() {
+        Ask::Join(fiber) => {
+            if registry.has_ended(fiber) {
+                Why::CouldGoOn
+            } else {
+                Why::WaitsForEnd(fiber)
+            }
+        }
+        Ask::Read(number) => {
+            if registry.is_empty(number) {
+                Why::WaitsForDeferred(number)
+            } else {
+                Why::CouldGoOn
+            }
+        }
+        _ => {
+            if config.is_never() {
+                Why::WaitsWithoutEnd
+            } else {
+                Why::CouldGoOn
+            }
+        }
+    }
+}
+
+// How a fiber has ended, if it has.
+#[tactic(auto, using(outcome_trace::proofs::Reported::outcome_asked))]
+fn outcome(fiber: &Config) -> Option<Outcome>
+    ensures { result ≡ outcome_of fiber.now }
+{
+    match fiber.ask() {
+        Ask::Over(outcome) => Some(outcome),
+        _ => None,
+    }
+}
+
+// Whether no request for its cancellation reaches the fiber where it is.
+fn is_unasked(config: &Config, registry: &PlainRegistry) -> bool
+    requires { Fits (cell_registered registry.now.state config.now.number) config.now }
+    ensures { result ≡ true → (active_of config.now ≢ []) ⊎
+        ((cell_of registry.now.state config.now.number).request ≡ false) }
+{
+    // The registry is within its limits.
+    let _ = registry.limits();
+    if config.is_masked() {
+        return true;
+    }
+    !registry.is_requested(config.number())
+}

@@ -1,0 +1,7 @@
+use Rattle.std.proofs.Common.{◌∙◌, ap}
+use Rattle.serde_json.specs.Written.{has_float}
+use Rattle.json_answers.proofs.Plain.{parse_plain}
+use Rattle.json_answers.proofs.refusals.parse_answer.Goals as goal
+
+pub value_answer-requires : goal.value_answer-requires
+value_answer-requires c = ap has_float c.in_ok-value.ensures.value ∙ parse_plain c.args.error

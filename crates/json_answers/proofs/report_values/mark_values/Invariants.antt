@@ -1,0 +1,11 @@
+use Rattle.std.proofs.Common.{◌≡◌, List, drop}
+use Rattle.fiber_frames.specs.declared.mark.Mark.{Mark}
+use Rattle.serde_json.specs.View.{items_view}
+use Rattle.json_answers.specs.ReportData.{marks_items}
+use Rattle.json_answers.proofs.Behind.{items_behind}
+use Rattle.json_answers.proofs.report_values.mark_values.Given as goal
+
+-- with those of the marks that are left behind them, they are all
+abbrev pub invariant-loop-mark : goal.invariant-loop-mark
+invariant-loop-mark l =
+    items_behind (items_view l.values.items) (marks_items (drop l.mark-index l.marks)) ≡ marks_items l.marks

@@ -1,0 +1,52 @@
+-- Refusals and programs as JSON.
+use Rattle.std.specs.Prelude.{◌-◌, ◌^◌, ℕ, min, List, codes}
+use Rattle.effect_term.specs.declared.term.Term.{Term}
+use Rattle.effect_term.specs.declared.refusal.TermError.{TermError}
+use Rattle.effect_term.specs.declared.refusal.TermError.TheVariants as term
+use Rattle.effect_term.specs.Masks.{masks_of}
+use Rattle.effect_term.specs.Sizes.{size_of, nest_of}
+use Rattle.term_parse.specs.declared.error.ParseError.{ParseError}
+use Rattle.term_parse.specs.declared.error.ParseError.TheVariants as parse
+use Rattle.serde_json.specs.Data.{Data, null, string, object, no_members, member}
+use Rattle.json_answers.specs.ReportData.{count}
+
+-- a refusal of a text, with its name, its number and its place
+abbrev pub refused_at : List ℕ → ℕ → ℕ → Data
+refused_at name number place = object (member (codes "answer") (string (codes "refused"))
+    (member (codes "name") (string name) (member (codes "number") (count number)
+    (member (codes "place") (count place) no_members))))
+
+-- of a text that isn't one of the grammar
+abbrev pub parse_data : ParseError → Data
+parse_data parse.NoMemory = null
+parse_data (parse.BadByte p) = refused_at (codes "BadByte") 4 p
+parse_data (parse.End p) = refused_at (codes "End") 5 p
+parse_data (parse.UnknownWord p) = refused_at (codes "UnknownWord") 6 p
+parse_data (parse.Arity p) = refused_at (codes "Arity") 7 p
+parse_data (parse.BadNumber p) = refused_at (codes "BadNumber") 8 p
+parse_data (parse.UnknownName p) = refused_at (codes "UnknownName") 9 p
+parse_data (parse.NameKind p) = refused_at (codes "NameKind") 10 p
+parse_data (parse.TooDeep p) = refused_at (codes "TooDeep") 11 p
+parse_data (parse.TooLong p) = refused_at (codes "TooLong") 12 p
+parse_data (parse.Trailing p) = refused_at (codes "Trailing") 13 p
+
+-- of a text's term that is no program
+abbrev pub term_data : TermError → Data
+term_data term.NoMemory = null
+term_data (term.Unbound slot) = null
+term_data (term.WrongKind slot) = null
+term_data (term.DeepMasks n) = object (member (codes "answer") (string (codes "refused"))
+    (member (codes "masks") (count n) (member (codes "name") (string (codes "DeepMasks"))
+    (member (codes "number") (count 3) no_members))))
+term_data term.Large = object (member (codes "answer") (string (codes "refused"))
+    (member (codes "name") (string (codes "Large")) (member (codes "number") (count 26) no_members)))
+
+-- a count, which is the greatest of 64 bits where it is above that
+abbrev pub capped : ℕ → Data
+capped n = count (min n (2 ^ 64 - 1))
+
+-- the counts of a program
+abbrev pub program_data : Term → Data
+program_data t = object (member (codes "answer") (string (codes "program"))
+    (member (codes "masks") (capped (masks_of t)) (member (codes "nest") (capped (nest_of t))
+    (member (codes "size") (capped (size_of t)) no_members))))

@@ -1,0 +1,180 @@
+//! Texts that are answered with reasons, over devices that hold and that fail.
+
+use crate::limits::limits;
+use explanations::{ReplayReasons, TextReasons, obey_explained};
+use outcome_trace::{CheckOrder, FromRead, ReplayOrder, Status, ToWrite};
+use std::alloc::Global;
+use std::io;
+use std::io::{ErrorKind, Read, Write};
+
+/// Takes so many bytes, and then fails.
+#[derive(Drop)]
+struct Narrow {
+    room: usize,
+}
+
+impl Write for Narrow {
+    fn write(&mut self, bytes: &[u8]) -> io::Result<usize> {
+        if bytes.is_empty() {
+            return Ok(0);
+        }
+        if self.room == 0 {
+            return Err(io::Error::from(ErrorKind::BrokenPipe));
+        }
+        self.room -= 1;
+        Ok(1)
+    }
+
+    fn flush(&mut self) -> io::Result<()> {
+        Ok(())
+    }
+}
+
+/// Fails at each read.
+#[derive(Drop)]
+struct Broken;
+
+impl Read for Broken {
+    fn read(&mut self, _buffer: &mut [u8]) -> io::Result<usize> {
+        Err(io::Error::from(ErrorKind::BrokenPipe))
+    }
+}
+
+/// A text, its answer by `check`, its status, and what is told.
+const CHECKED: &[(&str, &str, Status, &str)] = &[
+    (
+        "(pure 1)",
+        "ok size 1 nest 1 masks 0\n",
+        Status::Succeeded,
+        "",
+    ),
+    (
+        "(pur 1)",
+        "refused 6 UnknownWord at 1\n",
+        Status::Refused,
+        "line 1, column 2: `pur` is no word of the language\n\
+            \x20 (pur 1)\n\
+            \x20  ^\n\
+            behind an opening bracket the word of a form was wanted\n\
+            did you mean `pure`?\n",
+    ),
+];
+
+#[test]
+fn answers_are_as_without_reasons(rt: HostRuntime) {
+    for (text, answer, want, reasons) in CHECKED {
+        let mut out = Vec::new(rt.alloc());
+        let mut err = Vec::new(rt.alloc());
+        let status = obey_explained(
+            rt.alloc(),
+            &CheckOrder,
+            &TextReasons,
+            &mut FromRead::new(text.as_bytes()),
+            &mut ToWrite::new(&mut out),
+            &mut ToWrite::new(&mut err),
+        );
+        assert_eq!(rt; status, *want);
+        assert_eq!(rt; out.as_slice(), answer.as_bytes());
+        assert_eq!(rt; err.as_slice(), reasons.as_bytes());
+    }
+}
+
+// What is told on the last device where the others fail so, and the status.
+fn told_of(alloc: Global, room: usize) -> (Vec<u8>, Status) {
+    let mut err = Vec::new(alloc);
+    let status = obey_explained(
+        alloc,
+        &CheckOrder,
+        &TextReasons,
+        &mut FromRead::new(b"(pur 1)" as &[u8]),
+        &mut ToWrite::new(Narrow { room }),
+        &mut ToWrite::new(&mut err),
+    );
+    (err, status)
+}
+
+#[test]
+fn a_failed_write_is_told_alone(rt: HostRuntime) {
+    let (told, status) = told_of(rt.alloc(), 5);
+    assert_eq!(rt; told.as_slice(), b"fault 24 WriteFault 5\n" as &[u8]);
+    assert_eq!(rt; status, Status::Fault);
+}
+
+#[test]
+fn a_failed_read_is_told_alone(rt: HostRuntime) {
+    let mut out = Vec::new(rt.alloc());
+    let mut err = Vec::new(rt.alloc());
+    let status = obey_explained(
+        rt.alloc(),
+        &CheckOrder,
+        &TextReasons,
+        &mut FromRead::new(Broken),
+        &mut ToWrite::new(&mut out),
+        &mut ToWrite::new(&mut err),
+    );
+    assert_eq!(rt; out.len(), 0);
+    assert_eq!(rt; err.as_slice(), b"fault 23 ReadFault\n" as &[u8]);
+    assert_eq!(rt; status, Status::Fault);
+}
+
+// Whether the answer with reasons, whose last device fails after so many bytes, is the answer without.
+fn is_answered(alloc: Global, room: usize) -> bool {
+    let mut out = Vec::new(alloc);
+    let status = obey_explained(
+        alloc,
+        &CheckOrder,
+        &TextReasons,
+        &mut FromRead::new(b"(pur 1)" as &[u8]),
+        &mut ToWrite::new(&mut out),
+        &mut ToWrite::new(Narrow { room }),
+    );
+    status == Status::Refused && out.as_slice() == b"refused 6 UnknownWord at 1\n".as_slice()
+}
+
+#[test]
+fn a_last_device_that_fails_changes_nothing(rt: HostRuntime) {
+    for room in 0..40usize {
+        assert!(rt; is_answered(rt.alloc(), room));
+    }
+}
+
+// What a replay answers, and what is told.
+fn replayed(alloc: Global, text: &str) -> (Vec<u8>, Vec<u8>, Status) {
+    let order = ReplayOrder {
+        schedule: &[0, 0, 0, 0],
+        limits: limits(16),
+    };
+    let reasons = ReplayReasons {
+        schedule: &[0, 0, 0, 0],
+        limits: limits(16),
+    };
+    let mut out = Vec::new(alloc);
+    let mut err = Vec::new(alloc);
+    let status = obey_explained(
+        alloc,
+        &order,
+        &reasons,
+        &mut FromRead::new(text.as_bytes()),
+        &mut ToWrite::new(&mut out),
+        &mut ToWrite::new(&mut err),
+    );
+    (out, err, status)
+}
+
+/// Holds whichever request for memory is refused: where one of the answer's is, that is told; where one of the
+/// reasons' is, the answer is the same, and they are left out.
+#[test]
+fn reasons_are_left_out_where_memory_runs_out(rt: HostRuntime) {
+    let (out, err, status) = replayed(rt.alloc(), "(deferred d (await d))");
+    if status == Status::Unended {
+        assert_eq!(rt; out.as_slice(), b"fiber 0 unended\n" as &[u8]);
+        assert!(rt;
+            err.is_empty()
+                || err.as_slice()
+                    == b"fiber 0 waits for deferred 0, which nobody completes\n".as_slice()
+        );
+    } else {
+        assert_eq!(rt; status, Status::Fault);
+        assert_eq!(rt; out.len(), 0);
+    }
+}
