@@ -1,0 +1,2 @@
+pub mod SampleText
+pub mod SampleAnswers

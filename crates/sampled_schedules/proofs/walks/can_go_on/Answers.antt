@@ -1,0 +1,12 @@
+use Rattle.std.proofs.Common.{◌≡◌, ℕ, Some, sym, arith, subst}
+use Rattle.std.specs.List.{slice_get}
+use Rattle.std.proofs.lemmas.Grind.{common_steps}
+use Rattle.std.proofs.lemmas.Option.{gets}
+use Rattle.outcome_trace.specs.Fitting.{Fits, cell_registered}
+use Rattle.sampled_schedules.proofs.walks.can_go_on.Goals as goal
+
+pub is_done-requires : goal.is_done-requires
+is_done-requires c =
+    let at : slice_get c.args.fibers.now c.from-place.result ≡ Some c.index-fibers-place.result = grind (arith, common_steps, gets) in
+    let fits = c.requires.each c.from-place.result c.index-fibers-place.result at in
+    subst (λ (n : ℕ). Fits (cell_registered c.args.registry.now.state n) c.index-fibers-place.result) (sym fits.number) fits

@@ -1,0 +1,17 @@
+//! Schedules of a program that are drawn at random: what they come to, and how often each comes.
+//!
+//! It stands on the core under a schedule (`outcome_trace`), and tells answers as an exploration of every schedule does
+//! (`every_schedule`). It promises that each answer is what its schedule leads to, that an answer of a schedule which
+//! wasn't cut short is one that no further entry changes, and that as many came as were drawn. It promises nothing of
+//! what wasn't drawn. The numbers are those of xoshiro256++, so that a seed gives the same answers on every machine.
+#![tactic(auto)]
+
+mod comings;
+mod draws;
+mod ends;
+mod resting;
+mod sampled;
+mod walks;
+
+pub use comings::{Coming, Comings, Sample};
+pub use sampled::sample;

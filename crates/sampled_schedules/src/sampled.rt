@@ -1,0 +1,161 @@
+//! What schedules come to that are drawn at random.
+ghost use Rattle.std.specs.Prelude.{◌≡◌, ◌≢◌, ◌+◌, ◌<◌, ◌≤◌, ◌^◌, ℕ, [], ◌∷◌, length, IfErr, IfNone, IfOk, IfSome, OnOk};
+ghost use Rattle.std.specs.Prelude.{Some as There, Err as Fails};
+ghost use Rattle.std.specs.List.{All, slice_get, sum_by};
+ghost use Rattle.derived_ops.specs.Expansion.{code_of};
+ghost use Rattle.derived_ops.specs.Reading.{source_of};
+ghost use Rattle.derived_ops.specs.Tree.{Tree};
+ghost use Rattle.fiber_frames.specs.Fiber.{begins};
+ghost use Rattle.fiber_frames.specs.Marks.{AreLawful};
+ghost use Rattle.cell_registry.specs.Cells.{AreLimits, Cells, opening};
+ghost use Rattle.outcome_trace.specs.Core.{core, reported};
+ghost use Rattle.outcome_trace.specs.Fitting.{AllFit, world_of};
+ghost use Rattle.every_schedule.specs.Explored.{HasLawfulMarks, IsReached};
+ghost use Rattle.sampled_schedules.specs.declared.comings.Coming.{Coming as TheComing};
+ghost use Rattle.sampled_schedules.specs.Sampled.{IsDrawn, IsSampleOf};
+ghost use Rattle.sampled_schedules.specs.Private.Noting.{IsNoted, came_in_all};
+ghost use Rattle.sampled_schedules.specs.Private.Walking.{came};
+
+use crate::comings::{Coming, Comings, Sample};
+use crate::draws::Draws;
+use crate::ends::same_end;
+use crate::walks::walk;
+use cell_registry::{Limits, PlainRegistry, RunError};
+use effect_term::Program;
+use every_schedule::{Answer, Schedule};
+use fiber_frames::Config;
+use outcome_trace::{Report, first_fibers, report_of_fibers};
+use std::alloc::{AllocError, Global};
+
+/// What so many schedules of a program come to that are drawn at random by a seed: the different reports and faults,
+/// how many schedules came to each, and the first that did, as `replay` takes it.
+///
+/// Each entry is of a fiber that can go on, chosen among all of these; one fiber has some entries in a row, mostly few
+/// and at times many. A schedule ends where every fiber has ended or rests, or with the call that is refused, or where
+/// it has as many entries as there may be. So a report whose schedule is shorter is one that no further entry changes,
+/// and an exploration that is complete lists it. A report that was cut short may be another. The same seed gives the
+/// same sample everywhere. The limits are in their ranges ([`Limits`]). [`RunError::NoMemory`] is the only error.
+pub fn sample(
+    alloc: Global,
+    program: &Program,
+    limits: Limits,
+    seed: u64,
+    times: u32,
+    entries: u32,
+) -> Result<Sample, RunError>
+    requires limits { AreLimits limits }
+    ensures each { IfOk result (λ it. All (λ c.
+        reported (core (code_of (source_of program.now)) limits c.answer.schedule) ≡ c.answer.end) it.comings) }
+    ensures stays { IfOk result (λ it. All (λ c. length c.answer.schedule < entries →
+        IsReached (code_of (source_of program.now)) limits c.answer) it.comings) }
+    ensures tally { IfOk result (λ it. IsSampleOf (code_of (source_of program.now)) limits entries times it.comings) }
+    ensures counted { IfOk result (λ it. sum_by (λ c. c.times) it.comings ≡ times) }
+    ensures schedules { IfOk result (λ it. it.schedules ≡ times) }
+    ensures numbers { IfOk result (λ it. All (λ c. All (λ f. f < 1000) c.answer.schedule) it.comings) }
+    ensures short { IfOk result (λ it. All (λ c. length c.answer.schedule ≤ entries) it.comings) }
+    ensures lawful { IfOk result (λ it. All (λ c. HasLawfulMarks c.answer) it.comings) }
+    ensures memory { IfErr result (λ e. e ≡ RunError.NoMemory) }
+{
+    let first = first_fibers(alloc, program)?;
+    let mut draws = Draws::new(seed);
+    let mut comings = Vec::new(alloc);
+    for _ in 0..times {
+        let drawn = draw(
+            alloc,
+            first.as_slice(),
+            limits,
+            &mut draws,
+            entries as usize,
+        )?;
+        note(&mut comings, drawn)?;
+    }
+    Ok(Sample {
+        schedules: times,
+        comings: Comings::new(comings),
+    })
+}
+
+// What one more schedule comes to.
+fn draw(
+    alloc: Global,
+    first: &[Config],
+    limits: Limits,
+    draws: &mut Draws,
+    most: usize,
+) -> Result<Answer, AllocError>
+    requires limits { AreLimits limits }
+    requires fits { AllFit (world_of first.now (opening limits)) }
+    ensures drawn { IfOk result (λ a. (code : Tree) → first.now ≡ begins 0 code ∷ [] → IsDrawn code limits most a) }
+    ensures lawful { IfOk result HasLawfulMarks }
+{
+    let mut fibers = copies(alloc, first)?;
+    let mut registry = PlainRegistry::new(
+        alloc,
+        limits.fibers,
+        limits.refs,
+        limits.deferreds,
+        limits.count,
+    )?;
+    let mut schedule = Vec::new(alloc);
+    let walked = walk(&mut fibers, &mut registry, &mut schedule, draws, most);
+    let end = end(alloc, walked, fibers)?;
+    Ok(Answer {
+        schedule: Schedule::new(schedule),
+        end,
+    })
+}
+
+// The same fibers once more.
+fn copies(alloc: Global, fibers: &[Config]) -> Result<Vec<Config>, AllocError>
+    ensures { IfOk result (λ copies. copies.items ≡ fibers.now) }
+{
+    let mut copies = Vec::with_capacity(alloc, fibers.len())?;
+    for fiber in fibers {
+        copies.push(fiber.copy(alloc)?)?;
+    }
+    Ok(copies)
+}
+
+// What the fibers have come to, or the fault that ended their schedule. Want of memory is no end.
+fn end(
+    alloc: Global,
+    walked: Result<(), RunError>,
+    fibers: Vec<Config>,
+) -> Result<Result<Report, RunError>, AllocError>
+    ensures end { IfOk result (λ end. (cells : Cells) → end ≡ reported (came walked (world_of fibers.items cells))) }
+    ensures memory { OnOk result (walked ≢ Fails RunError.NoMemory) }
+    ensures lawful { IfOk result (λ end. IfOk end (λ r. All (λ f. AreLawful f.marks f.outcome) r.fibers)) }
+{
+    match walked {
+        Ok(()) => Ok(Ok(report_of_fibers(alloc, fibers)?)),
+        Err(RunError::NoMemory) => Err(AllocError),
+        Err(fault) => Ok(Err(fault)),
+    }
+}
+
+// One more schedule came to this.
+fn note(comings: &mut Vec<Coming>, answer: Answer) -> Result<(), AllocError>
+    requires { came_in_all comings.old.items + 1 < 2 ^ 32 }
+    ensures { OnOk result (IsNoted comings.old.items answer comings.new.items) }
+{
+    match place(comings.as_slice(), &answer) {
+        Some(place) => comings[place].times += 1,
+        None => comings.push(Coming { answer, times: 1 })?,
+    }
+    Ok(())
+}
+
+// Where an answer with the same end stands.
+fn place(comings: &[Coming], answer: &Answer) -> Option<usize>
+    ensures some { IfSome result (λ i. (c : TheComing) × (slice_get comings.now i ≡ There c) ×
+        (c.answer.end ≡ answer.now.end)) }
+    ensures none { IfNone result ((i : ℕ) (c : TheComing) → slice_get comings.now i ≡ There c →
+        c.answer.end ≢ answer.now.end) }
+{
+    for (index, coming) in comings.iter().enumerate() {
+        if same_end(&coming.answer.end, &answer.end) {
+            return Some(index);
+        }
+    }
+    None
+}

@@ -1,0 +1,127 @@
+//! One schedule, drawn entry by entry while the fibers make their moves.
+ghost use Rattle.std.specs.Prelude.{◌≡◌, ◌⊎◌, ◌+◌, ◌++◌, ◌<◌, ◌≤◌, [], ◌∷◌, length, IfNone, IfSome, OnOk, Err as Fails};
+ghost use Rattle.outcome_trace.specs.Finals.{IsFinal};
+ghost use Rattle.outcome_trace.specs.Fitting.{AllFit, world_of};
+ghost use Rattle.sampled_schedules.specs.Private.Walking.{IsWalk, came};
+
+use crate::draws::Draws;
+use crate::resting::is_done;
+use cell_registry::{PlainRegistry, RunError};
+use fiber_frames::Config;
+use outcome_trace::enter;
+use std::alloc::AllocError;
+
+// Entries to the end, where no fiber can go on, or as many as there may be.
+pub(crate) fn walk(
+    fibers: &mut Vec<Config>,
+    registry: &mut PlainRegistry,
+    schedule: &mut Vec<u16>,
+    draws: &mut Draws,
+    most: usize,
+) -> Result<(), RunError>
+    requires fits { AllFit (world_of fibers.old.items registry.old.state) }
+    requires start { schedule.old.items ≡ [] }
+    ensures walked { (result ≡ Fails RunError.NoMemory) ⊎
+        IsWalk registry.old.limits (world_of fibers.old.items registry.old.state) schedule.old.items
+        (came result (world_of fibers.new.items registry.new.state)) schedule.new.items most }
+    ensures ended { OnOk result (length schedule.new.items < most →
+        IsFinal (world_of fibers.new.items registry.new.state)) }
+{
+    for _ in 0..most {
+        let made = schedule.len();
+        if made >= most {
+            return Ok(());
+        }
+        let Some(number) = pick(fibers.as_slice(), registry, draws) else {
+            return Ok(());
+        };
+        let many = (draws.row() as usize).min(most - made);
+        make_row(fibers, registry, schedule, number, many)?;
+    }
+    Ok(())
+}
+
+// One of the fibers that can go on, each as likely as another. `None` where none can.
+fn pick(fibers: &[Config], registry: &PlainRegistry, draws: &mut Draws) -> Option<u16>
+    requires { AllFit (world_of fibers.now registry.now.state) }
+    ensures none { IfNone result (IsFinal (world_of fibers.now registry.now.state)) }
+    ensures number { IfSome result (λ f. f < 1000) }
+{
+    // The registry is within its limits.
+    let _ = registry.limits();
+    let mut picked = None;
+    let mut able = 0;
+    for (index, config) in fibers.iter().enumerate() {
+        if !is_done(config, registry) {
+            able += 1;
+            if picked.is_none() || draws.below(able) == 0 {
+                picked = Some(index as u16);
+            }
+        }
+    }
+    picked
+}
+
+// Entries of one fiber in a row, as many as it can make at once, but at least one.
+fn make_row(
+    fibers: &mut Vec<Config>,
+    registry: &mut PlainRegistry,
+    schedule: &mut Vec<u16>,
+    number: u16,
+    many: usize,
+) -> Result<(), RunError>
+    requires fits { AllFit (world_of fibers.old.items registry.old.state) }
+    requires number { number < 1000 }
+    requires many { 1 ≤ many }
+    ensures limits { OnOk result (registry.new.limits ≡ registry.old.limits) }
+    ensures fits { OnOk result (AllFit (world_of fibers.new.items registry.new.state)) }
+    ensures grows { OnOk result (length schedule.old.items + 1 ≤ length schedule.new.items) }
+    ensures walked { (result ≡ Fails RunError.NoMemory) ⊎
+        IsWalk registry.old.limits (world_of fibers.old.items registry.old.state) schedule.old.items
+        (came result (world_of fibers.new.items registry.new.state)) schedule.new.items many }
+{
+    make_entry(fibers, registry, schedule, number)?;
+    for _ in 1..many {
+        if !can_go_on(fibers.as_slice(), registry, number) {
+            return Ok(());
+        }
+        make_entry(fibers, registry, schedule, number)?;
+    }
+    Ok(())
+}
+
+// Whether the fiber of this number is born and can go on.
+fn can_go_on(fibers: &[Config], registry: &PlainRegistry, number: u16) -> bool
+    requires { AllFit (world_of fibers.now registry.now.state) }
+{
+    let place = usize::from(number);
+    place < fibers.len() && !is_done(&fibers[place], registry)
+}
+
+// One more entry, which stands in the schedule before it is made: so a fault is in its schedule.
+fn make_entry(
+    fibers: &mut Vec<Config>,
+    registry: &mut PlainRegistry,
+    schedule: &mut Vec<u16>,
+    number: u16,
+) -> Result<(), RunError>
+    requires fits { AllFit (world_of fibers.old.items registry.old.state) }
+    requires number { number < 1000 }
+    ensures limits { OnOk result (registry.new.limits ≡ registry.old.limits) }
+    ensures fits { OnOk result (AllFit (world_of fibers.new.items registry.new.state)) }
+    ensures grows { OnOk result (length schedule.old.items + 1 ≤ length schedule.new.items) }
+    ensures walked { (result ≡ Fails RunError.NoMemory) ⊎
+        IsWalk registry.old.limits (world_of fibers.old.items registry.old.state) schedule.old.items
+        (came result (world_of fibers.new.items registry.new.state)) schedule.new.items 1 }
+{
+    note(schedule, number)?;
+    enter(fibers, registry, number)
+}
+
+// The entry, behind the others.
+fn note(schedule: &mut Vec<u16>, number: u16) -> Result<(), AllocError>
+    ensures { OnOk result (schedule.new.items ≡ schedule.old.items ++ number ∷ []) }
+{
+    schedule.push(number)?;
+    Ok(())
+}
