@@ -13,7 +13,8 @@ use Rattle.text_io.specs.FaultLines.{fault_line}
 use Rattle.text_io.specs.Telling.{Told}
 use Rattle.text_io.specs.Text.{GoesOut, OnlyWriteFaults, is_write_fault}
 use Rattle.command_line.specs.declared.requests.Request.{Request}
-use Rattle.command_line.specs.Requests.{AsksHelp, GivesRequest, LacksMemory, ObeysRequest, Runs, ShowsText, TellsKind, TellsWrong, no_memory, no_request, no_words, refused, request, shown, wrong}
+use Rattle.command_line.specs.Requests.{GivesRequest, HasScheduleInInput, ObeysRequest, Runs, TakesSchedule, no_request, no_words, refused, request}
+use Rattle.command_line.specs.Telling.{AsksHelp, LacksMemory, ShowsText, TellsKind, TellsWrong, no_memory, shown, wrong}
 use Rattle.command_line.specs.Words.{program}
 
 -- the command is one of those of which `clap` says how a parse fails
@@ -30,6 +31,13 @@ runs_request a words m r before after status same h right gives obeys = request 
   right = sym (ap (λ (x : App). fault_of x words) same) ∙ right;
   gives = subst (λ (s : Option (Text × List Row)). GivesRequest s (Some r)) (said_so a words m same h) gives;
   obeys = obeys;
+}
+
+pub takes_input : (a : App) (words : List Text) (m : ArgMatches) (r : Request) → a ≡ program → HasMatchesOf a words m → GivesRequest (subcommand_rows_of m) (Some r) → TakesSchedule r → HasScheduleInInput words
+takes_input a words m r same h gives takes = record {
+  request = r;
+  gives = subst (λ (s : Option (Text × List Row)). GivesRequest s (Some r)) (said_so a words m same h) gives;
+  takes_schedule = takes;
 }
 
 pub runs_no_request : (a : App) (words : List Text) (m : ArgMatches) (before after : Devices) (status : Status) → a ≡ program → HasMatchesOf a words m → GivesRequest (subcommand_rows_of m) None → after.input ≡ before.input → after.out ≡ before.out → TellsWrong before.err after.err status ⊎ LacksMemory before.err after.err status → Runs words before after status

@@ -1,34 +1,41 @@
 -- The request that the words of a command line give, and what comes of the words.
-use Rattle.std.specs.Prelude.{◌≡◌, ◌≢◌, ◌<◌, ◌≤◌, ◌⊎◌, ℕ, true, List, [], map, Option, Some, None, codes, Result, IfOk}
+use Rattle.std.specs.Prelude.{◌≡◌, ◌≢◌, ◌<◌, ◌≤◌, ◌⊎◌, ℕ, true, List, [], map, Option, Some, None, codes}
 use Rattle.std.specs.Str.Parse.{IsNumeral, digits_value, without_leading_plus}
 use Rattle.std.specs.List.{All}
 use Rattle.std.specs.Option.{unwrap_or}
 use Rattle.clap.specs.Words.{IsAmong, Row, Text, all_of, fault_of, first_of, subcommand_of, takes}
 use Rattle.clap.specs.declared.error.kind.ErrorKind.{ErrorKind}
-use Rattle.clap.specs.declared.error.kind.ErrorKind.TheVariants as kind
 use Rattle.cell_registry.specs.declared.limits.Limits.{Limits}
 use Rattle.cell_registry.specs.Cells.{AreLimits}
-use Rattle.text_io.specs.declared.fault.TextFault.{TextFault}
-use Rattle.text_io.specs.declared.fault.TextFault.TheVariants.{NoMemory}
-use Rattle.outcome_trace.specs.declared.orders.Order.TheVariants.{Check, Show, Replay}
 use Rattle.text_io.specs.declared.status.Status.{Status}
-use Rattle.text_io.specs.declared.status.Status.TheVariants.{Succeeded, Usage, Fault}
-use Rattle.text_io.specs.Devices.{Devices, Writer}
-use Rattle.text_io.specs.FaultLines.{fault_line}
-use Rattle.outcome_trace.specs.Orders.{HasLimits, Obeys}
-use Rattle.text_io.specs.Telling.{Answered, TellsResult, Told, status_of}
-use Rattle.text_io.specs.Text.{GoesOut, OnlyWriteFaults, is_write_fault}
+use Rattle.text_io.specs.Devices.{Devices}
+use Rattle.text_io.specs.Telling.{Answered}
+use Rattle.outcome_trace.specs.Answers.{IsCheckAnswer, IsShowAnswer}
 use Rattle.exploration_text.specs.declared.explore_texts.ExploreOrder.{ExploreOrder}
 use Rattle.exploration_text.specs.declared.wants.Want.{Want}
 use Rattle.exploration_text.specs.ExploreAnswers.{IsExploreAnswer}
 use Rattle.exploration_text.specs.Wants.{IsInRange, want_text}
+use Rattle.explanations.specs.Explained.{Explained}
+use Rattle.explanations.specs.Refusals.{IsTextReasons}
+use Rattle.sample_text.specs.declared.sample_texts.SampleOrder.{SampleOrder}
+use Rattle.sample_text.specs.SampleAnswers.{IsSampleAnswer}
+use Rattle.json_answers.specs.Answers.{IsJsonCheck}
 use Rattle.steal_pool.specs.declared.options.Options.{Options}
 use Rattle.steal_pool.specs.Runs.{limits_of}
 use Rattle.command_line.specs.declared.ranges.NumberRange.{NumberRange}
+use Rattle.command_line.specs.declared.replay.Form.{Form}
+use Rattle.command_line.specs.declared.replay.Form.TheVariants.{Report, Timeline, Picture, Json}
+use Rattle.command_line.specs.declared.replay.Replay.{Replay as ReplayFields}
 use Rattle.command_line.specs.declared.requests.Request.{Request}
-use Rattle.command_line.specs.declared.requests.Request.TheVariants.{Order, Explore, Run}
+use Rattle.command_line.specs.declared.requests.Request.TheVariants.{Check, Show, Replay, Explore, Run, CheckWhy, ShowWhy, ReplayWhy, ExploreWhy}
+use Rattle.command_line.specs.declared.requests.Request.TheVariants.{Sample}
+use Rattle.command_line.specs.declared.requests.Request.TheVariants.{Record}
+use Rattle.command_line.specs.Recording.{ObeysRecord}
+use Rattle.command_line.specs.declared.requests.Request.TheVariants.{CheckJson, CheckJsonWhy}
+use Rattle.command_line.specs.Replays.{ExplainsReplay, ObeysReplay}
+use Rattle.command_line.specs.Telling.{LacksMemory, TellsKind, TellsWrong}
 use Rattle.command_line.specs.Words.{band_range, budget_range, count_range, entries_range, few_range, moves_range}
-use Rattle.command_line.specs.Words.{program, workers_range, worlds_range}
+use Rattle.command_line.specs.Words.{program, seed_range, times_range, workers_range, worlds_range}
 use Rattle.command_line.specs.Workers.{ObeysRun}
 
 -- ---- the request
@@ -43,7 +50,35 @@ abbrev pub SaysNumber : NumberRange → Option Text → ℕ → Type 0
 SaysNumber range None n = n ≡ range.usual
 SaysNumber range (Some text) n = IsNumberOf range text × (n ≡ digits_value 10 (without_leading_plus text))
 
--- the limits that the options of `replay`, of `explore` or of `run` say, with this range of fibers, refs and deferreds
+-- the flag stands in the words
+abbrev pub IsGiven : Text → List Row → Type 0
+IsGiven name options = first_of name options ≡ Some (codes "true")
+
+-- reasons aren't asked for
+abbrev pub AsksNoReasons : List Row → Type 0
+AsksNoReasons options = IsGiven (codes "explain") options → ⊥
+
+-- the flag doesn't stand in the words
+abbrev pub IsLeftOut : Text → List Row → Type 0
+IsLeftOut name options = IsGiven name options → ⊥
+
+-- the form that the options of `replay` say: that of the one flag of these three that is given, or a report
+abbrev pub SaysForm : List Row → Form → Type 0
+SaysForm options Report =
+    IsLeftOut (codes "timeline") options × IsLeftOut (codes "svg") options × IsLeftOut (codes "json") options
+SaysForm options Timeline =
+    IsGiven (codes "timeline") options × IsLeftOut (codes "svg") options × IsLeftOut (codes "json") options
+SaysForm options Picture =
+    IsLeftOut (codes "timeline") options × IsGiven (codes "svg") options × IsLeftOut (codes "json") options
+SaysForm options Json =
+    IsLeftOut (codes "timeline") options × IsLeftOut (codes "svg") options × IsGiven (codes "json") options
+
+-- the schedule of a run isn't asked for
+abbrev pub AsksNoRecord : List Row → Type 0
+AsksNoRecord options = IsGiven (codes "record") options → ⊥
+
+-- the limits that the options of `replay`, of `explore`, of `run` or of `sample` say, with this range of fibers, refs
+-- and deferreds
 pub record SaysLimits (band : NumberRange) (options : List Row) (limits : Limits) : Type 0 where
   pub fibers : SaysNumber band (first_of (codes "fibers") options) limits.fibers
   pub refs : SaysNumber band (first_of (codes "refs") options) limits.refs
@@ -77,15 +112,38 @@ pub record SaysExplore (options : List Row) (order : ExploreOrder) : Type 0 wher
   pub bounds : SaysBounds options order.bounds.worlds order.bounds.entries
   pub wants : AreWants (texts_said (codes "want") options) order.wants.items
 
+-- what the options of `sample` say that schedules are drawn by, and how many, under which limits
+pub record SaysSample (options : List Row) (order : SampleOrder) : Type 0 where
+  pub seed : SaysNumber seed_range (first_of (codes "seed") options) order.seed
+  pub times : SaysNumber times_range (first_of (codes "times") options) order.times
+  pub entries : SaysNumber entries_range (first_of (codes "entries") options) order.entries
+  pub limits : SaysLimits few_range options order.limits
+
+-- the replay that the options of `replay` say
+pub record SaysReplay (options : List Row) (replay : ReplayFields) : Type 0 where
+  pub schedule : first_of (codes "schedule") options ≡ Some replay.schedule.now
+  pub form : SaysForm options replay.form
+  pub limits : SaysLimits band_range options replay.limits
+
 -- the request that a subcommand with its options says
 abbrev pub Says : Text × List Row → Request → Type 0
-Says said (Order Check) = said.0 ≡ codes "check"
-Says said (Order Show) = said.0 ≡ codes "show"
-Says said (Order (Replay schedule limits)) =
-    (said.0 ≡ codes "replay") × (first_of (codes "schedule") said.1 ≡ Some schedule.now) ×
-    SaysLimits band_range said.1 limits
-Says said (Explore order) = (said.0 ≡ codes "explore") × SaysExplore said.1 order
-Says said (Run options) = (said.0 ≡ codes "run") × SaysRun said.1 options
+Says said Check = (said.0 ≡ codes "check") × IsLeftOut (codes "json") said.1 × AsksNoReasons said.1
+Says said Show = (said.0 ≡ codes "show") × AsksNoReasons said.1
+Says said (Replay replay) = (said.0 ≡ codes "replay") × SaysReplay said.1 replay × AsksNoReasons said.1
+Says said (Explore order) = (said.0 ≡ codes "explore") × SaysExplore said.1 order × AsksNoReasons said.1
+Says said (Run options) = (said.0 ≡ codes "run") × SaysRun said.1 options × AsksNoRecord said.1
+Says said CheckWhy =
+    (said.0 ≡ codes "check") × IsLeftOut (codes "json") said.1 × IsGiven (codes "explain") said.1
+Says said ShowWhy = (said.0 ≡ codes "show") × IsGiven (codes "explain") said.1
+Says said (ReplayWhy replay) =
+    (said.0 ≡ codes "replay") × SaysReplay said.1 replay × IsGiven (codes "explain") said.1
+Says said (ExploreWhy order) =
+    (said.0 ≡ codes "explore") × SaysExplore said.1 order × IsGiven (codes "explain") said.1
+Says said (Sample order) = (said.0 ≡ codes "sample") × SaysSample said.1 order
+Says said (Record options) = (said.0 ≡ codes "run") × SaysRun said.1 options × IsGiven (codes "record") said.1
+Says said CheckJson = (said.0 ≡ codes "check") × IsGiven (codes "json") said.1 × AsksNoReasons said.1
+Says said CheckJsonWhy =
+    (said.0 ≡ codes "check") × IsGiven (codes "json") said.1 × IsGiven (codes "explain") said.1
 
 -- the request of the words, where a subcommand with its options stands in them that says one
 abbrev pub GivesRequest : Option (Text × List Row) → Option Request → Type 0
@@ -96,50 +154,60 @@ GivesRequest (Some said) None = (request : Request) → Says said request → �
 
 -- the numbers of a request are within their ranges
 abbrev pub HasRanges : Request → Type 0
-HasRanges (Order order) = HasLimits order
+HasRanges Check = Unit {0}
+HasRanges Show = Unit {0}
+HasRanges (Replay replay) = Unit {0}
 HasRanges (Explore order) = Unit {0}
 HasRanges (Run options) = AreLimits (limits_of options) × (1 < options.budget)
+HasRanges CheckWhy = Unit {0}
+HasRanges ShowWhy = Unit {0}
+HasRanges (ReplayWhy replay) = Unit {0}
+HasRanges (ExploreWhy order) = Unit {0}
+HasRanges (Sample order) = Unit {0}
+HasRanges (Record options) = AreLimits (limits_of options) × (1 < options.budget)
+HasRanges CheckJson = Unit {0}
+HasRanges CheckJsonWhy = Unit {0}
 
 -- what a request comes to
 abbrev pub ObeysRequest : Request → Devices → Devices → Status → Type 0
-ObeysRequest (Order order) before after status = Obeys order before after status
+ObeysRequest Check before after status = Answered IsCheckAnswer before after status
+ObeysRequest Show before after status = Answered IsShowAnswer before after status
+ObeysRequest (Replay replay) before after status = ObeysReplay replay before after status
 ObeysRequest (Explore order) before after status =
     Answered (IsExploreAnswer order.limits order.wants.items) before after status
 ObeysRequest (Run options) before after status = ObeysRun options before after status
+ObeysRequest CheckWhy before after status = Explained IsCheckAnswer IsTextReasons before after status
+ObeysRequest ShowWhy before after status = Explained IsShowAnswer IsTextReasons before after status
+ObeysRequest (ReplayWhy replay) before after status = ExplainsReplay replay before after status
+ObeysRequest (ExploreWhy order) before after status =
+    Explained (IsExploreAnswer order.limits order.wants.items) IsTextReasons before after status
+ObeysRequest (Sample order) before after status =
+    Answered (IsSampleAnswer order.limits order.times order.entries) before after status
+ObeysRequest (Record options) before after status = ObeysRecord options before after status
+ObeysRequest CheckJson before after status = Answered IsJsonCheck before after status
+ObeysRequest CheckJsonWhy before after status = Explained IsJsonCheck IsTextReasons before after status
 
--- ---- words that give no request
--- help or the version was asked for
-abbrev pub AsksHelp : ErrorKind → Type 0
-AsksHelp k = (k ≡ kind.DisplayHelp) ⊎ (k ≡ kind.DisplayVersion)
+-- the schedule of the request comes in the input
+abbrev pub TakesSchedule : Request → Type 0
+TakesSchedule Check = ⊥
+TakesSchedule Show = ⊥
+TakesSchedule (Replay replay) = replay.schedule.now ≡ codes "-"
+TakesSchedule (Explore order) = ⊥
+TakesSchedule (Run options) = ⊥
+TakesSchedule CheckWhy = ⊥
+TakesSchedule ShowWhy = ⊥
+TakesSchedule (ReplayWhy replay) = replay.schedule.now ≡ codes "-"
+TakesSchedule (ExploreWhy order) = ⊥
+TakesSchedule (Sample order) = ⊥
+TakesSchedule (Record options) = ⊥
+TakesSchedule CheckJson = ⊥
+TakesSchedule CheckJsonWhy = ⊥
 
--- the text that was asked for goes out, and a fault of that device is told on the last one
-pub record ShowsText (out out' err err' : Writer) (status : Status) : Type 0 where
-  pub text : List ℕ
-  pub result : Result Status TextFault
-  pub succeeded : IfOk result (λ s. s ≡ Succeeded)
-  pub goes : GoesOut out.contents out'.contents text result
-  pub only : OnlyWriteFaults result
-  pub failed : out'.failed ≡ is_write_fault result
-  pub told : TellsResult result err err'
-  pub status_is : status ≡ status_of result
-
--- there is no memory, which is told
-pub record LacksMemory (err err' : Writer) (status : Status) : Type 0 where
-  pub told : Told (fault_line NoMemory) err err'
-  pub status_is : status ≡ Fault
-
--- what is wrong with the words is told on the last device
-pub record TellsWrong (err err' : Writer) (status : Status) : Type 0 where
-  pub text : List ℕ
-  pub told : Told text err err'
-  pub status_is : status ≡ Usage
-
--- what comes of an error of this kind: the text that was asked for, or what is wrong, or that there is no memory
-pub data TellsKind (k : ErrorKind) (out out' err err' : Writer) (status : Status) : Type 0 where
-  shown : AsksHelp k → ShowsText out out' err err' status → TellsKind k out out' err err' status
-  wrong : (AsksHelp k → ⊥) → k ≢ kind.OutOfMemory → out' ≡ out → TellsWrong err err' status →
-      TellsKind k out out' err err' status
-  no_memory : out' ≡ out → LacksMemory err err' status → TellsKind k out out' err err' status
+-- the words ask for a schedule that comes in the input
+pub record HasScheduleInInput (words : List Text) : Type 0 where
+  pub request : Request
+  pub gives : GivesRequest (subcommand_of program words) (Some request)
+  pub takes_schedule : TakesSchedule request
 
 -- ---- what comes of words
 -- Nothing is wrong with the words, and the request that they give is obeyed.

@@ -1,6 +1,6 @@
 -- What the words of a command line may be.
 use Rattle.std.specs.Prelude.{true, codes, Some}
-use Rattle.clap.specs.declared.builder.action.ArgAction.TheVariants.{Append, Set}
+use Rattle.clap.specs.declared.builder.action.ArgAction.TheVariants.{Append, Set, SetTrue}
 use Rattle.clap.specs.declared.builder.value_parser.ValueParser.TheVariants.{Unsigned}
 use Rattle.clap.specs.Simple.{on_top}
 use Rattle.clap.specs.Words.{App, Rule, Text, new_app, new_rule, with_rule, with_subcommand}
@@ -34,9 +34,17 @@ moves_range = record { least = 1; most = 1000000; usual = 100000 }
 abbrev pub worlds_range : NumberRange
 worlds_range = record { least = 1; most = 1000000; usual = 100000 }
 
--- of entries that the schedules of an exploration have
+-- of entries that the schedules of an exploration have, and those of a sample
 abbrev pub entries_range : NumberRange
 entries_range = record { least = 1; most = 1000000; usual = 10000 }
+
+-- what the schedules of a sample are drawn by
+abbrev pub seed_range : NumberRange
+seed_range = record { least = 0; most = 9223372036854775807; usual = 0 }
+
+-- of schedules that a sample draws
+abbrev pub times_range : NumberRange
+times_range = record { least = 1; most = 1000000; usual = 1000 }
 
 -- ---- the options
 -- an option that takes a whole number of this range
@@ -46,6 +54,13 @@ number_option id range = record (new_rule id) {
   value_names = 1;
   action = Some Set;
   parser = Some (Unsigned range.least range.most);
+}
+
+-- a flag, which takes no value
+abbrev pub flag : Text → Rule
+flag id = record (new_rule id) {
+  long = Some id;
+  action = Some SetTrue;
 }
 
 abbrev pub schedule_option : Rule
@@ -72,34 +87,57 @@ with_limits app =
     (number_option (codes "deferreds") band_range))
     (number_option (codes "count") count_range)
 
+-- with the flags that ask for another form than a report
+abbrev pub with_forms : App → App
+with_forms app =
+    with_rule (with_rule (with_rule app (flag (codes "timeline"))) (flag (codes "svg"))) (flag (codes "json"))
+
 -- ---- the commands
+abbrev pub check_command : App
+check_command = with_rule (with_rule (new_app (codes "check")) (flag (codes "json"))) (flag (codes "explain"))
+
+abbrev pub show_command : App
+show_command = with_rule (new_app (codes "show")) (flag (codes "explain"))
+
 abbrev pub replay_command : App
-replay_command = with_limits (with_rule (new_app (codes "replay")) schedule_option)
+replay_command =
+    with_rule (with_forms (with_limits (with_rule (new_app (codes "replay")) schedule_option)))
+    (flag (codes "explain"))
 
 abbrev pub explore_command : App
 explore_command =
-    with_rule (with_rule (with_rule (with_limits (new_app (codes "explore")))
+    with_rule (with_rule (with_rule (with_rule (with_limits (new_app (codes "explore")))
     (number_option (codes "worlds") worlds_range))
     (number_option (codes "entries") entries_range))
-    want_option
+    want_option)
+    (flag (codes "explain"))
 
 abbrev pub run_command : App
 run_command =
-    with_rule (with_rule (with_limits (with_rule (new_app (codes "run"))
+    with_rule (with_rule (with_rule (with_limits (with_rule (new_app (codes "run"))
     (number_option (codes "workers") workers_range)))
     (number_option (codes "budget") budget_range))
-    (number_option (codes "moves") moves_range)
+    (number_option (codes "moves") moves_range))
+    (flag (codes "record"))
 
--- the command, which wants one of five subcommands, and tells its version
+abbrev pub sample_command : App
+sample_command =
+    with_limits (with_rule (with_rule (with_rule (new_app (codes "sample"))
+    (number_option (codes "seed") seed_range))
+    (number_option (codes "times") times_range))
+    (number_option (codes "entries") entries_range))
+
+-- the command, which wants one of six subcommands, and tells its version
 abbrev pub program : App
 program =
-    with_subcommand (with_subcommand (with_subcommand
+    with_subcommand (with_subcommand (with_subcommand (with_subcommand
     (with_subcommand (with_subcommand (on_top (λ s. record s {
       subcommand_required = true;
       has_version = true;
     }) (new_app (codes "fiber_cli")))
-    (new_app (codes "check")).top)
-    (new_app (codes "show")).top)
+    check_command.top)
+    show_command.top)
     replay_command.top)
     explore_command.top)
-    run_command.top
+    run_command.top)
+    sample_command.top

@@ -1,24 +1,34 @@
 //! One command line, over devices.
 
-ghost use Rattle.std.specs.Prelude.{◌≡◌, ◌⊎◌, ◌<◌, ◌^◌, false, map};
+ghost use Rattle.std.specs.Prelude.{◌≡◌, ◌<◌, ◌^◌, false, map};
 ghost use Rattle.clap.specs.Words.{kind_of};
-ghost use Rattle.command_line.specs.Requests.{HasRanges, LacksMemory, ObeysRequest, Runs, TellsKind, TellsWrong};
+ghost use Rattle.command_line.specs.Requests.{HasScheduleInInput, HasRanges, ObeysRequest, Runs, TakesSchedule};
+ghost use Rattle.command_line.specs.Telling.{TellsKind};
 ghost use Rattle.text_io.specs.Devices.{devices, reader, writer};
 
+use crate::record_order::obey_record;
+use crate::replay_order::{explain_replay, obey_replay};
 use crate::requests::{Request, request_of};
 use crate::run_order::obey_run;
 use crate::words::all_words;
+use crate::wrong_words::refuse_words;
 use clap::Error;
 use clap::error::ErrorKind;
-use outcome_trace::{Status, TextFault, TextIn, TextOut, obey, obey_text, tell_fault, write_text};
+use explanations::{TextReasons, obey_explained};
+use json_answers::CheckJson;
+use outcome_trace::{
+    CheckOrder, ShowOrder, Status, TextFault, TextIn, TextOut, obey_text, tell_fault, write_text,
+};
 use std::alloc::Global;
 use std::convert::AsStr;
 use std::sync::Wait;
 use std::thread::Threads;
 
-/// What is told where the words give no request. `clap` looks at each of them but the outcomes.
-const NO_OUTCOME: &str =
-    "an outcome of '--want <OUTCOME>' is none of 'succeeded V', 'errored C', 'canceled' and 'unended'";
+/// What is told where the words give no request. `clap` looks at each of them but the outcomes, and not at
+/// whether flags go together.
+const NO_REQUEST: &str =
+    "an outcome of '--want <OUTCOME>' is none of 'succeeded V', 'errored C', 'canceled' and 'unended',
+or more than one of '--timeline', '--svg' and '--json' is given";
 
 /// Tells help or the version that was asked for, or what is wrong with the words, in `clap`'s words.
 /// Where help can't be written, that is told as any other fault.
@@ -45,27 +55,8 @@ fn usage<O: TextOut, E: TextOut>(alloc: Global, error: &Error, out: &mut O, err:
     }
 }
 
-/// Tells what is wrong with words that `clap` doesn't see, or that it takes and that give no request.
-pub fn refuse_words<E: TextOut>(alloc: Global, message: &str, err: &mut E) -> Status
-    requires { E.has_failed err.old ≡ false }
-    ensures { let before = writer (E.contents err.old) (E.has_failed err.old) in
-        let after = writer (E.contents err.new) (E.has_failed err.new) in
-        TellsWrong before after result ⊎ LacksMemory before after result }
-{
-    let Ok(mut all) = all_words(alloc) else {
-        return tell_fault(TextFault::NoMemory, err);
-    };
-    let Ok(error) = all.error(ErrorKind::ValueValidation, message) else {
-        return tell_fault(TextFault::NoMemory, err);
-    };
-    let Ok(text) = error.to_string(alloc) else {
-        return tell_fault(TextFault::NoMemory, err);
-    };
-    let _ = write_text(text.as_bytes(), err);
-    Status::Usage
-}
-
-/// Does what was asked for ([`obey`], [`obey_text`], [`obey_run`]), and gives the status.
+/// Does what was asked for ([`obey_text`], [`obey_replay`], [`obey_run`], [`obey_record`]), and gives the
+/// status.
 fn obey_request<R, I, O, E>(
     rt: &R,
     request: Request<'_>,
@@ -91,20 +82,34 @@ where
         (writer (E.contents err.new) (E.has_failed err.new)) in
         ObeysRequest request.entry before after result }
 
-    // A bad schedule is told before the text is read.
-    ensures unread { result ≡ Status.Usage → input.new ≡ input.old }
+    // A bad schedule among the words is told before the text is read.
+    ensures unread { result ≡ Status.Usage → (TakesSchedule request.entry → ⊥) → input.new ≡ input.old }
 {
     match request {
-        Request::Order(order) => obey(rt.alloc(), order, input, out, err),
+        Request::Check => obey_text(rt.alloc(), &CheckOrder, input, out, err),
+        Request::Show => obey_text(rt.alloc(), &ShowOrder, input, out, err),
+        Request::Replay(replay) => obey_replay(rt.alloc(), replay, input, out, err),
         Request::Explore(order) => obey_text(rt.alloc(), &order, input, out, err),
         Request::Run(options) => obey_run(rt, rt.alloc(), options, input, out, err),
+        Request::CheckWhy => obey_explained(rt.alloc(), &CheckOrder, &TextReasons, input, out, err),
+        Request::ShowWhy => obey_explained(rt.alloc(), &ShowOrder, &TextReasons, input, out, err),
+        Request::ReplayWhy(replay) => explain_replay(rt.alloc(), replay, input, out, err),
+        Request::ExploreWhy(order) => {
+            obey_explained(rt.alloc(), &order, &TextReasons, input, out, err)
+        }
+        Request::Sample(order) => obey_text(rt.alloc(), &order, input, out, err),
+        Request::Record(options) => obey_record(rt, rt.alloc(), options, input, out, err),
+        Request::CheckJson => obey_text(rt.alloc(), &CheckJson, input, out, err),
+        Request::CheckJsonWhy => {
+            obey_explained(rt.alloc(), &CheckJson, &TextReasons, input, out, err)
+        }
     }
 }
 
 /// Runs one command line over these devices, and gives the status of the program: that of what the
-/// words ask for ([`obey`], [`obey_text`], [`obey_run`]), `Status::Succeeded` where help or the version was asked
-/// for, `Status::Usage` where the words or the schedule are wrong, and `Status::Fault` where memory
-/// ran out or a device failed.
+/// words ask for ([`obey_text`], [`obey_replay`], [`obey_run`]), `Status::Succeeded` where help or the
+/// version was asked for, `Status::Usage` where the words or the schedule are wrong, and `Status::Fault`
+/// where memory ran out or a device failed.
 ///
 /// What was asked for goes to the output, what is wrong with the words to the last device, both in
 /// `clap`'s words.
@@ -133,8 +138,9 @@ where
         (writer (E.contents err.new) (E.has_failed err.new)) in
         Runs (map S.text words.entry.now) before after result }
 
-    // Wrong words and a bad schedule are told before the text is read.
-    ensures unread { result ≡ Status.Usage → input.new ≡ input.old }
+    // Wrong words and a bad schedule among them are told before the input is read.
+    ensures unread { result ≡ Status.Usage → (HasScheduleInInput (map S.text words.entry.now) → ⊥) →
+        input.new ≡ input.old }
 {
     let alloc = rt.alloc();
     let Ok(all) = all_words(alloc) else {
@@ -143,7 +149,7 @@ where
     match all.try_get_matches_from(words) {
         Ok(matches) => match request_of(alloc, &matches) {
             Ok(Some(request)) => obey_request(rt, request, input, out, err),
-            Ok(None) => refuse_words(alloc, NO_OUTCOME, err),
+            Ok(None) => refuse_words(alloc, NO_REQUEST, err),
             Err(_) => tell_fault(TextFault::NoMemory, err),
         },
         Err(error) => usage(alloc, &error, out, err),

@@ -5,9 +5,17 @@
 #![tactic(auto)]
 
 mod cli;
+mod first_line;
+mod help;
 mod ranges;
+mod record_order;
+mod replay;
+mod replay_forms;
+mod replay_order;
 mod requests;
 mod run_order;
 mod words;
+mod wrong_words;
 
-pub use cli::{command, refuse_words};
+pub use cli::command;
+pub use wrong_words::refuse_words;

@@ -59,9 +59,23 @@ pub const WORLDS: NumberRange = NumberRange {
     usual: 100_000,
 };
 
-/// How many entries the schedules of an exploration have at most.
+/// How many entries the schedules of an exploration have at most, and those of a sample.
 pub const ENTRIES: NumberRange = NumberRange {
     least: 1,
     most: 1_000_000,
     usual: 10_000,
+};
+
+/// What the schedules of a sample are drawn by. The end of a range of `clap` is a number with a sign.
+pub const SEED: NumberRange = NumberRange {
+    least: 0,
+    most: 9_223_372_036_854_775_807,
+    usual: 0,
+};
+
+/// How many schedules a sample draws.
+pub const TIMES: NumberRange = NumberRange {
+    least: 1,
+    most: 1_000_000,
+    usual: 1000,
 };

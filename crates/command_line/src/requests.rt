@@ -1,34 +1,62 @@
 //! The request that the words of a command line give.
 
-ghost use Rattle.std.specs.Prelude.{◌≡◌, ◌≢◌, ◌≤◌, ◌<◌, ℕ, codes, IfOk, IfSome, IfNone, List, Some, map, option_map};
+ghost use Rattle.std.specs.Prelude.{◌≡◌, ◌≢◌, ◌≤◌, ◌<◌, ℕ, codes, IfOk, IfSome, IfNone, List, Some, false, map};
+ghost use Rattle.std.specs.Prelude.{option_map, true};
 ghost use Rattle.cell_registry.specs.declared.limits.Limits.{Limits};
 ghost use Rattle.cell_registry.specs.Cells.{AreLimits};
 ghost use Rattle.clap.specs.Words.{first_of, found_of, rows_of, subcommand_rows_of};
 ghost use Rattle.exploration_text.specs.declared.explore_texts.ExploreOrder.{ExploreOrder};
 ghost use Rattle.exploration_text.specs.declared.wants.Want.{Want};
 ghost use Rattle.exploration_text.specs.Wants.{IsInRange, want_text};
+ghost use Rattle.command_line.specs.declared.replay.Form.{Form};
+ghost use Rattle.command_line.specs.declared.replay.Replay.{Replay};
+ghost use Rattle.sample_text.specs.declared.sample_texts.SampleOrder.{SampleOrder};
 ghost use Rattle.steal_pool.specs.declared.options.Options.{Options};
 ghost use Rattle.steal_pool.specs.Runs.{limits_of};
-ghost use Rattle.outcome_trace.specs.Orders.{HasLimits};
-ghost use Rattle.command_line.specs.Requests.{AreWants, GivesRequest, HasRanges, IsNumberOf, Says, SaysBounds};
-ghost use Rattle.command_line.specs.Requests.{SaysExplore, SaysLimits, SaysNumber, SaysRun, texts_said};
+ghost use Rattle.command_line.specs.Requests.{AreWants, GivesRequest, HasRanges, IsGiven, IsNumberOf, Says, SaysBounds};
+ghost use Rattle.command_line.specs.Requests.{SaysExplore, SaysForm, SaysLimits, SaysNumber, SaysReplay, SaysRun};
+ghost use Rattle.command_line.specs.Requests.{SaysSample, texts_said};
 
-use crate::ranges::{BAND, BUDGET, COUNT, ENTRIES, FEW, MOVES, NumberRange, WORKERS, WORLDS};
+use crate::ranges::{
+    BAND, BUDGET, COUNT, ENTRIES, FEW, MOVES, NumberRange, SEED, TIMES, WORKERS, WORLDS,
+};
+use crate::replay::{Form, Replay};
 use clap::ArgMatches;
 use exploration_text::{Bounds, ExploreOrder, Want, read_want};
-use outcome_trace::{Limits, Order};
+use outcome_trace::Limits;
+use sample_text::SampleOrder;
 use std::alloc::{AllocError, Global};
 use steal_pool::Options;
 
 /// What the words of a command line ask for.
 #[derive(Drop)]
 pub enum Request<'a> {
-    /// An order that needs no worker.
-    Order(Order<'a>),
+    /// To tell whether the text is a program.
+    Check,
+    /// To print the expansion of the text's program.
+    Show,
+    /// To run the text's program under a schedule, and report what each fiber came to.
+    Replay(Replay<'a>),
     /// To explore every schedule of the text's program.
     Explore(ExploreOrder),
     /// To run the text's program on workers, and report what each fiber came to.
     Run(Options),
+    /// The same as `Check`, with reasons.
+    CheckWhy,
+    /// The same as `Show`, with reasons.
+    ShowWhy,
+    /// The same as `Replay`, with reasons.
+    ReplayWhy(Replay<'a>),
+    /// The same as `Explore`, with reasons.
+    ExploreWhy(ExploreOrder),
+    /// To tell what schedules of the text's program come to that are drawn at random.
+    Sample(SampleOrder),
+    /// The same as `Run`, and to tell a schedule that leads to that report.
+    Record(Options),
+    /// The same as `Check`, answered as JSON.
+    CheckJson,
+    /// The same as `CheckJson`, with reasons.
+    CheckJsonWhy,
 }
 
 /// The text of an option, where it is given.
@@ -36,6 +64,17 @@ fn text_of<'a>(matches: &ArgMatches<'a>, name: &str) -> Option<&'a str>
     ensures { option_map (λ s. s.now) result ≡ first_of name.now (rows_of (found_of matches.now)) }
 {
     matches.get_str(name)
+}
+
+/// Whether a flag is given.
+fn given(options: &ArgMatches<'_>, name: &str) -> bool
+    ensures given { result ≡ true → IsGiven name.now (rows_of (found_of options.now)) }
+    ensures other { result ≡ false → IsGiven name.now (rows_of (found_of options.now)) → ⊥ }
+{
+    match text_of(options, name) {
+        Some("true") => true,
+        _ => false,
+    }
 }
 
 /// The number of the range that a text spells.
@@ -64,8 +103,8 @@ fn number_of(matches: &ArgMatches<'_>, name: &str, range: NumberRange) -> Option
     }
 }
 
-/// The limits that the options of `replay`, of `explore` or of `run` say, with this range of fibers, of
-/// refs and of deferreds.
+/// The limits that the options of `replay`, of `explore`, of `run` or of `sample` say, with this range of
+/// fibers, of refs and of deferreds.
 fn limits_of(options: &ArgMatches<'_>, band: NumberRange) -> Option<Limits>
     requires least { band.least ≡ 1 }
     requires most { band.most ≡ 1000 }
@@ -108,16 +147,60 @@ fn run_options(run: &ArgMatches<'_>) -> Option<Options>
     })
 }
 
-/// The order that the options of `replay` give.
-fn replay_order<'a>(replay: &ArgMatches<'a>) -> Option<Order<'a>>
-    ensures said { IfSome result (λ order. Says (codes "replay", rows_of (found_of replay.now)) (Request.Order order)) }
-    ensures none { IfNone result ((schedule : _) (limits : Limits) →
-        Says (codes "replay", rows_of (found_of replay.now)) (Request.Order (Order.Replay schedule limits)) → ⊥) }
-    ensures limits { IfSome result HasLimits }
+/// The form that the options of `replay` say, where they say no two.
+#[tactic(auto, using(crate::proofs::FormLemmas::timeline_with_svg, crate::proofs::FormLemmas::timeline_with_json, crate::proofs::FormLemmas::svg_with_json))]
+fn form_of(options: &ArgMatches<'_>) -> Option<Form>
+    ensures said { IfSome result (SaysForm (rows_of (found_of options.now))) }
+    ensures none { IfNone result ((form : Form) → SaysForm (rows_of (found_of options.now)) form → ⊥) }
+{
+    let timeline = given(options, "timeline");
+    let svg = given(options, "svg");
+    let json = given(options, "json");
+    if timeline {
+        if svg || json {
+            None
+        } else {
+            Some(Form::Timeline)
+        }
+    } else if svg {
+        if json { None } else { Some(Form::Picture) }
+    } else if json {
+        Some(Form::Json)
+    } else {
+        Some(Form::Report)
+    }
+}
+
+/// The replay that the options of `replay` say.
+fn replay_of<'a>(replay: &ArgMatches<'a>) -> Option<Replay<'a>>
+    ensures said { IfSome result (SaysReplay (rows_of (found_of replay.now))) }
+    ensures none { IfNone result ((said : Replay) → SaysReplay (rows_of (found_of replay.now)) said → ⊥) }
 {
     let schedule = text_of(replay, "schedule")?;
+    let form = form_of(replay)?;
     let limits = limits_of(replay, BAND)?;
-    Some(Order::Replay { schedule, limits })
+    Some(Replay {
+        schedule,
+        form,
+        limits,
+    })
+}
+
+/// What the options of `sample` say that schedules are drawn by, and how many, under which limits.
+fn sample_order(sample: &ArgMatches<'_>) -> Option<SampleOrder>
+    ensures said { IfSome result (SaysSample (rows_of (found_of sample.now))) }
+    ensures none { IfNone result ((order : SampleOrder) → SaysSample (rows_of (found_of sample.now)) order → ⊥) }
+{
+    let seed = number_of(sample, "seed", SEED)?;
+    let times = number_of(sample, "times", TIMES)?;
+    let entries = number_of(sample, "entries", ENTRIES)?;
+    let limits = limits_of(sample, FEW)?;
+    Some(SampleOrder {
+        limits,
+        seed,
+        times: times as u32,
+        entries: entries as u32,
+    })
 }
 
 /// How far the options of `explore` say that the search goes.
@@ -190,6 +273,62 @@ fn explore_order(
     }))
 }
 
+/// The request that `check` gives with its options.
+fn check_request<'a>(options: &ArgMatches<'a>) -> Request<'a>
+    ensures said { Says (codes "check", rows_of (found_of options.now)) result }
+    ensures ranges { HasRanges result }
+{
+    if given(options, "json") {
+        if given(options, "explain") {
+            Request::CheckJsonWhy
+        } else {
+            Request::CheckJson
+        }
+    } else if given(options, "explain") {
+        Request::CheckWhy
+    } else {
+        Request::Check
+    }
+}
+
+/// The request that `show` gives with its options.
+fn show_request<'a>(options: &ArgMatches<'a>) -> Request<'a>
+    ensures said { Says (codes "show", rows_of (found_of options.now)) result }
+    ensures ranges { HasRanges result }
+{
+    if given(options, "explain") {
+        Request::ShowWhy
+    } else {
+        Request::Show
+    }
+}
+
+/// The request that `replay` gives with its options.
+fn replay_request<'a>(options: &ArgMatches<'a>) -> Option<Request<'a>>
+    ensures request { GivesRequest (Some (codes "replay", rows_of (found_of options.now))) result }
+    ensures ranges { IfSome result HasRanges }
+{
+    let replay = replay_of(options)?;
+    if given(options, "explain") {
+        Some(Request::ReplayWhy(replay))
+    } else {
+        Some(Request::Replay(replay))
+    }
+}
+
+/// The request that `run` gives with its options.
+fn run_request<'a>(options: &ArgMatches<'a>) -> Option<Request<'a>>
+    ensures request { GivesRequest (Some (codes "run", rows_of (found_of options.now))) result }
+    ensures ranges { IfSome result HasRanges }
+{
+    let run = run_options(options)?;
+    if given(options, "record") {
+        Some(Request::Record(run))
+    } else {
+        Some(Request::Run(run))
+    }
+}
+
 /// The request that a subcommand other than `explore` gives with its options.
 fn plain_request<'a>(name: &str, options: &ArgMatches<'a>) -> Option<Request<'a>>
     requires { name.now ≢ codes "explore" }
@@ -197,10 +336,11 @@ fn plain_request<'a>(name: &str, options: &ArgMatches<'a>) -> Option<Request<'a>
     ensures ranges { IfSome result HasRanges }
 {
     match name {
-        "check" => Some(Request::Order(Order::Check)),
-        "show" => Some(Request::Order(Order::Show)),
-        "replay" => Some(Request::Order(replay_order(options)?)),
-        "run" => Some(Request::Run(run_options(options)?)),
+        "check" => Some(check_request(options)),
+        "show" => Some(show_request(options)),
+        "replay" => replay_request(options),
+        "run" => run_request(options),
+        "sample" => Some(Request::Sample(sample_order(options)?)),
         _ => None,
     }
 }
@@ -214,7 +354,13 @@ fn explore_request<'a>(
     ensures ranges { IfOk result (λ found. IfSome found HasRanges) }
 {
     match explore_order(alloc, options)? {
-        Some(order) => Ok(Some(Request::Explore(order))),
+        Some(order) => {
+            if given(options, "explain") {
+                Ok(Some(Request::ExploreWhy(order)))
+            } else {
+                Ok(Some(Request::Explore(order)))
+            }
+        }
         None => Ok(None),
     }
 }

@@ -23,7 +23,7 @@ use std::thread::Threads;
 use steal_pool::{OpenGate, Options, run};
 
 /// The answer where a run ended with a fault. Want of memory in the run has its line, too.
-fn fault_answer(alloc: Global, error: RunError) -> Result<Answer, AllocError>
+pub fn fault_answer(alloc: Global, error: RunError) -> Result<Answer, AllocError>
     ensures line { IfOk result (λ a. a.text.items ≡ run_line error) }
     ensures status { IfOk result (λ a. a.status ≡ Status.Fault) }
 {

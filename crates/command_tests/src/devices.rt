@@ -17,6 +17,9 @@ const SHOW: &[&str] = &["fiber_cli", "show"];
 
 const RUN: &[&str] = &["fiber_cli", "run"];
 
+/// The words of a replay whose schedule is the first line of the input.
+const FROM_INPUT: &[&str] = &["fiber_cli", "replay", "--schedule", "-"];
+
 /// Gives one byte for a read, and fails once it has given so many.
 #[derive(Drop)]
 struct Drops<'a> {
@@ -132,8 +135,17 @@ fn refuses_each_front_of_a_program(rt: HostRuntime) -> Result<(), Fail> {
 }
 
 #[test]
+fn reads_an_input_byte_by_byte(rt: HostRuntime) {
+    let drops = Drops {
+        left: b"0*2\n(pure 7)",
+        fails: false,
+    };
+    expect_of(&rt, FROM_INPUT, drops, 0, "fiber 0 succeeded 7\n", "");
+}
+
+#[test]
 fn tells_failed_readers(rt: HostRuntime) {
-    for words in [CHECK, SHOW, LONG, RUN] {
+    for words in [CHECK, SHOW, LONG, RUN, FROM_INPUT] {
         let drops = Drops {
             left: b"(pure 7)",
             fails: true,
@@ -141,6 +153,7 @@ fn tells_failed_readers(rt: HostRuntime) {
         expect_of(&rt, words, drops, 70, "", "fault 23 ReadFault\n");
     }
     expect_of(&rt, CHECK, Restless, 70, "", "fault 25 TurnBound\n");
+    expect_of(&rt, FROM_INPUT, Restless, 70, "", "fault 25 TurnBound\n");
 }
 
 /// Runs a command line whose output is full after so many bytes, and asks that this be told.

@@ -10,9 +10,21 @@ mod answers;
 #[cfg(test)]
 mod devices;
 #[cfg(test)]
+mod forms;
+#[cfg(test)]
+mod helps;
+#[cfg(test)]
+mod inputs;
+#[cfg(test)]
+mod reasons;
+#[cfg(test)]
+mod records;
+#[cfg(test)]
 mod replays;
 #[cfg(test)]
 mod runs;
+#[cfg(test)]
+mod samples;
 #[cfg(test)]
 mod texts;
 #[cfg(test)]

@@ -9,10 +9,11 @@ use std::sync::Wait;
 use std::test::Fail;
 use std::thread::Threads;
 
-/// What is told of an outcome that is wanted and is none.
-const NO_OUTCOME: &str =
+/// What is told of an outcome that is wanted and is none, and of flags that don't go together.
+const NO_REQUEST: &str =
     "error: an outcome of '--want <OUTCOME>' is none of 'succeeded V', 'errored C', 'canceled' and \
-    'unended'\
+    'unended',\
+    \nor more than one of '--timeline', '--svg' and '--json' is given\
     \n\nUsage: fiber_cli <COMMAND>\
     \n\nFor more information, try '--help'.\
     \n";
@@ -41,6 +42,11 @@ const WRONG: &[(&str, &[&str], &str)] = &[
         "fault 27 BadSchedule 0\n",
     ),
     (
+        "two forms at once",
+        &["fiber_cli", "replay", "--svg", "--schedule", "0", "--json"],
+        NO_REQUEST,
+    ),
+    (
         "a schedule is required",
         &["fiber_cli", "replay"],
         "error: the following required arguments were not provided:\
@@ -53,7 +59,7 @@ const WRONG: &[(&str, &[&str], &str)] = &[
         "a subcommand is required",
         &["fiber_cli"],
         "error: 'fiber_cli' requires a subcommand but one was not provided\
-        \n  [subcommands: check, show, replay, explore, run, help]\
+        \n  [subcommands: check, show, replay, explore, run, sample, help]\
         \n\nUsage: fiber_cli <COMMAND>\
         \n\nFor more information, try '--help'.\
         \n",
@@ -67,7 +73,7 @@ const WRONG: &[(&str, &[&str], &str)] = &[
         "check takes no option",
         &["fiber_cli", "check", "--schedule", "0"],
         "error: unexpected argument '--schedule' found\
-        \n\nUsage: fiber_cli check\
+        \n\nUsage: fiber_cli check [OPTIONS]\
         \n\nFor more information, try '--help'.\
         \n",
     ),
@@ -105,17 +111,17 @@ const WRONG: &[(&str, &[&str], &str)] = &[
     (
         "no such outcome",
         &["fiber_cli", "explore", "--want", "done"],
-        NO_OUTCOME,
+        NO_REQUEST,
     ),
     (
         "an outcome without its value",
         &["fiber_cli", "explore", "--want", "succeeded"],
-        NO_OUTCOME,
+        NO_REQUEST,
     ),
     (
         "a zero in front of an outcome's value",
         &["fiber_cli", "explore", "--want", "succeeded 07"],
-        NO_OUTCOME,
+        NO_REQUEST,
     ),
     (
         "an outcome's value that is out of range",
@@ -125,7 +131,7 @@ const WRONG: &[(&str, &[&str], &str)] = &[
             "--want",
             "errored 4611686018427387904",
         ],
-        NO_OUTCOME,
+        NO_REQUEST,
     ),
     (
         "one wrong outcome behind others",
@@ -139,7 +145,16 @@ const WRONG: &[(&str, &[&str], &str)] = &[
             "--want",
             "Canceled",
         ],
-        NO_OUTCOME,
+        NO_REQUEST,
+    ),
+    (
+        "sample takes no schedule",
+        &["fiber_cli", "sample", "--schedule", "0"],
+        "error: unexpected argument '--schedule' found\
+        \n\n  tip: a similar argument exists: '--seed'\
+        \n\nUsage: fiber_cli sample --seed <N>\
+        \n\nFor more information, try '--help'.\
+        \n",
     ),
     (
         "replay has no workers",
@@ -171,170 +186,6 @@ const WRONG: &[(&str, &[&str], &str)] = &[
         \n",
     ),
 ];
-
-/// Help: the words, and the text.
-const HELP: &[(&[&str], &str)] = &[
-    (
-        &["fiber_cli", "--help"],
-        "Runs effect programs on fibers. The program's text is read from standard input\
-        \n\nUsage: fiber_cli <COMMAND>\
-        \n\nCommands:\
-        \n  check    Tells whether the text is a program\
-        \n  show     Prints the expansion of the program\
-        \n  replay   Runs the program under a schedule, and prints its report\
-        \n  explore  Explores every schedule, and prints all that can come of the program\
-        \n  run      Runs the program on work-stealing threads, and prints its report\
-        \n  help     Print this message or the help of the given subcommand(s)\
-        \n\nOptions:\
-        \n  -h, --help     Print help\
-        \n  -V, --version  Print version\
-        \n\nExit status:\
-        \n   0  fiber 0 succeeded, the text was checked or shown, or help was asked for\
-        \n   1  fiber 0 errored\
-        \n   2  fiber 0 was canceled\
-        \n   3  fiber 0 has not ended\
-        \n  64  the words or the schedule are wrong\
-        \n  65  the text is refused\
-        \n  70  a run or a device failed, or memory ran out\
-        \n\nExit status of explore, where it is not 64, 65 or 70:\
-        \n   0  every schedule was explored, and nothing unwanted was found\
-        \n   1  something unwanted was found; without --want, a fault\
-        \n   3  a bound was reached, and nothing unwanted was found\
-        \n",
-    ),
-    (
-        &["fiber_cli", "check", "--help"],
-        "Tells whether the text is a program\
-        \n\nUsage: fiber_cli check\
-        \n\nOptions:\
-        \n  -h, --help  Print help\
-        \n\nExit status:\
-        \n   0  fiber 0 succeeded, the text was checked or shown, or help was asked for\
-        \n   1  fiber 0 errored\
-        \n   2  fiber 0 was canceled\
-        \n   3  fiber 0 has not ended\
-        \n  64  the words or the schedule are wrong\
-        \n  65  the text is refused\
-        \n  70  a run or a device failed, or memory ran out\
-        \n\nExit status of explore, where it is not 64, 65 or 70:\
-        \n   0  every schedule was explored, and nothing unwanted was found\
-        \n   1  something unwanted was found; without --want, a fault\
-        \n   3  a bound was reached, and nothing unwanted was found\
-        \n",
-    ),
-    (
-        &["fiber_cli", "show", "--help"],
-        "Prints the expansion of the program\
-        \n\nUsage: fiber_cli show\
-        \n\nOptions:\
-        \n  -h, --help  Print help\
-        \n\nExit status:\
-        \n   0  fiber 0 succeeded, the text was checked or shown, or help was asked for\
-        \n   1  fiber 0 errored\
-        \n   2  fiber 0 was canceled\
-        \n   3  fiber 0 has not ended\
-        \n  64  the words or the schedule are wrong\
-        \n  65  the text is refused\
-        \n  70  a run or a device failed, or memory ran out\
-        \n\nExit status of explore, where it is not 64, 65 or 70:\
-        \n   0  every schedule was explored, and nothing unwanted was found\
-        \n   1  something unwanted was found; without --want, a fault\
-        \n   3  a bound was reached, and nothing unwanted was found\
-        \n",
-    ),
-    (
-        &["fiber_cli", "replay", "--help"],
-        "Runs the program under a schedule, and prints its report\
-        \n\nUsage: fiber_cli replay [OPTIONS] --schedule <TEXT>\
-        \n\nOptions:\
-        \n      --schedule <TEXT>  Whose move is next: items F or F*K (K moves of fiber F) with one space between, as \
-        in \"0*2 1*9\". F is 0 to 999, K is 1 to 100000\
-        \n      --fibers <N>       How many fibers there may be: 1 to 1000, 1000 if not given\
-        \n      --refs <N>         How many refs there may be: 1 to 1000, 1000 if not given\
-        \n      --deferreds <N>    How many deferreds there may be: 1 to 1000, 1000 if not given\
-        \n      --count <N>        How often a fiber may change its own state: 1 to 1099511627775, 1099511627775 if \
-        not given\
-        \n  -h, --help             Print help\
-        \n\nExit status:\
-        \n   0  fiber 0 succeeded, the text was checked or shown, or help was asked for\
-        \n   1  fiber 0 errored\
-        \n   2  fiber 0 was canceled\
-        \n   3  fiber 0 has not ended\
-        \n  64  the words or the schedule are wrong\
-        \n  65  the text is refused\
-        \n  70  a run or a device failed, or memory ran out\
-        \n\nExit status of explore, where it is not 64, 65 or 70:\
-        \n   0  every schedule was explored, and nothing unwanted was found\
-        \n   1  something unwanted was found; without --want, a fault\
-        \n   3  a bound was reached, and nothing unwanted was found\
-        \n",
-    ),
-    (
-        &["fiber_cli", "explore", "--help"],
-        "Explores every schedule, and prints all that can come of the program\
-        \n\nUsage: fiber_cli explore [OPTIONS]\
-        \n\nOptions:\
-        \n      --fibers <N>      How many fibers there may be: 1 to 1000, 16 if not given\
-        \n      --refs <N>        How many refs there may be: 1 to 1000, 16 if not given\
-        \n      --deferreds <N>   How many deferreds there may be: 1 to 1000, 16 if not given\
-        \n      --count <N>       How often a fiber may change its own state: 1 to 1099511627775, 1099511627775 if not \
-        given\
-        \n      --worlds <N>      How many worlds are kept, each a state of all fibers and cells: 1 to 1000000, 100000 \
-        if not given\
-        \n      --entries <N>     How many entries a schedule may have: 1 to 1000000, 10000 if not given\
-        \n      --want <OUTCOME>  An outcome of fiber 0 that is wanted, as a report spells it: \"succeeded V\", \
-        \"errored C\", canceled or unended. It may be given more than once. A report with another outcome, and a fault, \
-        is then not wanted\
-        \n  -h, --help            Print help\
-        \n\nExit status:\
-        \n   0  fiber 0 succeeded, the text was checked or shown, or help was asked for\
-        \n   1  fiber 0 errored\
-        \n   2  fiber 0 was canceled\
-        \n   3  fiber 0 has not ended\
-        \n  64  the words or the schedule are wrong\
-        \n  65  the text is refused\
-        \n  70  a run or a device failed, or memory ran out\
-        \n\nExit status of explore, where it is not 64, 65 or 70:\
-        \n   0  every schedule was explored, and nothing unwanted was found\
-        \n   1  something unwanted was found; without --want, a fault\
-        \n   3  a bound was reached, and nothing unwanted was found\
-        \n",
-    ),
-    (
-        &["fiber_cli", "run", "--help"],
-        "Runs the program on work-stealing threads, and prints its report\
-        \n\nUsage: fiber_cli run [OPTIONS]\
-        \n\nOptions:\
-        \n      --workers <N>    How many workers there are, threads that move fibers and steal them from one \
-        another: 1 to 16, 4 if not given\
-        \n      --fibers <N>     How many fibers there may be: 1 to 1000, 1000 if not given\
-        \n      --refs <N>       How many refs there may be: 1 to 1000, 1000 if not given\
-        \n      --deferreds <N>  How many deferreds there may be: 1 to 1000, 1000 if not given\
-        \n      --count <N>      How often a fiber may change its own state: 1 to 1099511627775, 1099511627775 if not \
-        given\
-        \n      --budget <N>     How many moves a worker makes of a fiber in one turn at most, after which another \
-        that is ready has its turn: 2 to 10000, 64 if not given\
-        \n      --moves <N>      How many moves fiber 0 may make, and each other fiber with those of its parent \
-        before it: 1 to 1000000, 100000 if not given. A fiber that has made them is reported as unended\
-        \n  -h, --help           Print help\
-        \n\nExit status:\
-        \n   0  fiber 0 succeeded, the text was checked or shown, or help was asked for\
-        \n   1  fiber 0 errored\
-        \n   2  fiber 0 was canceled\
-        \n   3  fiber 0 has not ended\
-        \n  64  the words or the schedule are wrong\
-        \n  65  the text is refused\
-        \n  70  a run or a device failed, or memory ran out\
-        \n\nExit status of explore, where it is not 64, 65 or 70:\
-        \n   0  every schedule was explored, and nothing unwanted was found\
-        \n   1  something unwanted was found; without --want, a fault\
-        \n   3  a bound was reached, and nothing unwanted was found\
-        \n",
-    ),
-];
-
-/// The version: the words, and the text.
-const TOLD_VERSION: (&[&str], &str) = (&["fiber_cli", "--version"], "fiber_cli 0.1.0\n");
 
 /// An option that takes a number: texts of numbers that it takes, and of numbers that it doesn't, with
 /// its range as it is told of those.
@@ -412,17 +263,44 @@ const EXPLORING: &[Numbers] = &[
     },
 ];
 
+/// What `sample` has besides. Each schedule of `(pure 7)` has two entries, whatever is drawn.
+const SAMPLING: &[Numbers] = &[
+    Numbers {
+        name: "seed",
+        taken: &["0", "00", "+7", "9223372036854775807"],
+        refused: &["9223372036854775808", "18446744073709551615"],
+        range: "0..=9223372036854775807",
+    },
+    Numbers {
+        name: "times",
+        taken: &["1000", "01000", "+1000"],
+        refused: &["0", "1000001", "4294968296"],
+        range: "1..=1000000",
+    },
+    Numbers {
+        name: "entries",
+        taken: &["100", "0100", "+100", "1000000"],
+        refused: &["0", "1000001", "4294967396"],
+        range: "1..=1000000",
+    },
+];
+
 const REPLAY: &[&str] = &["fiber_cli", "replay", "--schedule", "0*2"];
 
 const RUN: &[&str] = &["fiber_cli", "run"];
 
 const EXPLORE: &[&str] = &["fiber_cli", "explore"];
 
+const SAMPLE: &[&str] = &["fiber_cli", "sample"];
+
 /// What each of them answers to `(pure 7)`.
 const REPORTED: &str = "fiber 0 succeeded 7\n";
 
 const EXPLORED: &str =
     "explored 3 worlds: 1 report, 0 faults\n\nunder \"0*2\"\nfiber 0 succeeded 7\n";
+
+const SAMPLED: &str = "sampled 1000 schedules: 1 report, 0 faults\n\n\
+    came 1000 times, first under \"0*2\"\nfiber 0 succeeded 7\n";
 
 /// Each command that takes numbers, with its options that do, and its answer.
 const COMMANDS: &[(&[&str], &[Numbers], &str)] = &[
@@ -431,6 +309,8 @@ const COMMANDS: &[(&[&str], &[Numbers], &str)] = &[
     (EXPLORE, EXPLORING, EXPLORED),
     (RUN, LIMITS, REPORTED),
     (RUN, RUNNING, REPORTED),
+    (SAMPLE, LIMITS, SAMPLED),
+    (SAMPLE, SAMPLING, SAMPLED),
 ];
 
 #[test]
@@ -532,15 +412,6 @@ fn takes_numbers_of_their_range_alone(rt: HostRuntime) -> Result<(), Fail> {
         }
     }
     Ok(())
-}
-
-#[test]
-fn helps(rt: HostRuntime) {
-    for (words, text) in HELP {
-        expect(&rt, "help", words, "(pure 7)", 0, text, "");
-    }
-    let (words, text) = TOLD_VERSION;
-    expect(&rt, "the version", words, "(pure 7)", 0, text, "");
 }
 
 #[test]

@@ -2,7 +2,7 @@ use Rattle.std.proofs.Common.{◌≡◌, Option, Some, None, refl, rules, subst}
 use Rattle.clap.specs.Words.{subcommand_rows_of}
 use Rattle.command_line.specs.declared.requests.Request.{Request}
 use Rattle.command_line.specs.Requests.{GivesRequest}
-use Rattle.command_line.proofs.RunLemmas.{free_built, runs_request, runs_no_request, runs_error, runs_no_words}
+use Rattle.command_line.proofs.RunLemmas.{free_built, runs_request, runs_no_request, runs_error, runs_no_words, takes_input}
 use Rattle.command_line.proofs.cli.command.Goals as goal
 
 pub returns-in_default-clause-runs : goal.returns-in_default-clause-runs
@@ -14,6 +14,13 @@ returns-in-Ok-Some-clause-runs g c =
     let same : c.in-Ok-Some.field-0 ≡ Some c.in-Ok-Some.request = search rules in
     let gives = subst (λ (r : Option Request). GivesRequest (subcommand_rows_of c.in-Ok-try_get_matches_from.matches) r) same c.in-Ok-Some.ensures.request in
     runs_request _ _ c.in-Ok-try_get_matches_from.matches c.in-Ok-Some.request _ _ _ c.in-Ok.ensures ok.matches (ok.kinds (free_built _ c.in-Ok.ensures)) gives c.obey_request.ensures.obeyed
+
+pub returns-in-Ok-Some-clause-unread : goal.returns-in-Ok-Some-clause-unread
+returns-in-Ok-Some-clause-unread g c = λ usage none.
+    let ok = c.in-Ok-try_get_matches_from.ensures in
+    let same : c.in-Ok-Some.field-0 ≡ Some c.in-Ok-Some.request = search rules in
+    let gives = subst (λ (r : Option Request). GivesRequest (subcommand_rows_of c.in-Ok-try_get_matches_from.matches) r) same c.in-Ok-Some.ensures.request in
+    c.obey_request.ensures.unread usage (λ takes. none (takes_input _ _ c.in-Ok-try_get_matches_from.matches c.in-Ok-Some.request c.in-Ok.ensures ok.matches gives takes))
 
 pub returns-in-Ok-None-clause-runs : goal.returns-in-Ok-None-clause-runs
 returns-in-Ok-None-clause-runs g c =

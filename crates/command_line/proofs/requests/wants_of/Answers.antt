@@ -1,4 +1,4 @@
-use Rattle.std.proofs.Common.{◌≡◌, ◌∙◌, ap, rules}
+use Rattle.std.proofs.Common.{◌∙◌, ap, rules}
 use Rattle.command_line.proofs.WantLemmas.{next_read, none_of}
 use Rattle.command_line.proofs.requests.wants_of.Goals.{in-Some-Ended+in_ok-push-in-Some-Ended, in-Some-Unended+in_ok-push-in-Some-Unended}
 use Rattle.command_line.proofs.requests.wants_of.Goals as goal

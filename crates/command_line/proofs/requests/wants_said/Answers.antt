@@ -1,9 +1,9 @@
-use Rattle.std.proofs.Common.{◌≡◌, ◌∙◌, ℕ, List, [], map, codes, sym, subst}
+use Rattle.std.proofs.Common.{◌∙◌, List, map, codes, sym, subst}
 use Rattle.std.specs.Prelude.{IfOk, IfNone, IfSome}
 use Rattle.clap.specs.Words.{Text, found_of, rows_of}
 use Rattle.clap.proofs.WalkLemmas.{raw_values-rows}
 use Rattle.exploration_text.specs.declared.wants.Want.{Want}
-use Rattle.command_line.specs.Requests.{AreWants, texts_said}
+use Rattle.command_line.specs.Requests.{AreWants}
 use Rattle.command_line.proofs.WantLemmas.{none_given, none_wanted, texts_given}
 use Rattle.command_line.proofs.requests.wants_said.Goals as goal
 

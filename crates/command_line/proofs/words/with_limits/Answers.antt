@@ -1,7 +1,8 @@
-use Rattle.std.proofs.Common.{rules, ap₂, ◌≡◌, ◌∙◌, ◌||◌, Bool, true, false, codes, refl}
+use Rattle.std.proofs.Common.{rules, ap₂, ◌≡◌, ◌∙◌, codes, refl}
 use Rattle.std.proofs.lemmas.Result.{IfOk-weaker}
 use Rattle.clap.specs.Words.{rule_of, with_rule}
 use Rattle.command_line.specs.Words.{band_range, count_range, number_option}
+use Rattle.command_line.proofs.WordLemmas.{kept}
 use Rattle.command_line.proofs.words.with_limits.Goals as goal
 
 pub returns-clause-shape : goal.returns-clause-shape
@@ -14,11 +15,6 @@ returns-clause-shape c =
     let two = c.in_ok-arg-2.ensures.shape c.number_option-refs.ensures.local ∙ ap₂ with_rule one refs_is in
     let three = c.in_ok-arg-3.ensures.shape c.number_option-deferreds.ensures.local ∙ ap₂ with_rule two deferreds_is in
     IfOk-weaker c.arg-4.result _ _ (λ m h. h.shape c.number_option-count.ensures.local ∙ ap₂ with_rule three count_is) c.arg-4.ensures
-
--- a command to which an option of its own is added has as many options for its subcommands as before
-kept : (new old global base : Bool) → new ≡ (old || global) → old ≡ base → global ≡ false → new ≡ base
-kept new old global true e same local = e ∙ ap₂ (λ a b. a || b) same local
-kept new old global false e same local = e ∙ ap₂ (λ a b. a || b) same local
 
 pub returns-clause-local : goal.returns-clause-local
 returns-clause-local c =

@@ -1,0 +1,85 @@
+-- What is answered to a text whose program workers run while their schedule is noted.
+use Rattle.std.specs.Prelude.{◌≡◌, ℕ, All, List, [], ◌∷◌, ◌++◌, Result, Ok, Err, String, codes, string_bytes}
+use Rattle.std.specs.declared.alloc.Global.{Global}
+use Rattle.cell_registry.specs.declared.limits.RunError.{RunError}
+use Rattle.cell_registry.specs.declared.limits.RunError.TheVariants as fault
+use Rattle.derived_ops.specs.Expansion.{code_of}
+use Rattle.derived_ops.specs.Reading.{source_of}
+use Rattle.effect_term.specs.declared.term.Term.{Term}
+use Rattle.effect_term.specs.Programs.{IsProgram}
+use Rattle.term_parse.specs.Atoms.{atoms_of}
+use Rattle.term_parse.specs.Reading.{reading}
+use Rattle.outcome_trace.specs.declared.report.Report.{Report}
+use Rattle.text_io.specs.declared.status.Status.{Status}
+use Rattle.text_io.specs.declared.status.Status.TheVariants.{Fault}
+use Rattle.outcome_trace.specs.Answers.{IsRefusalAnswer}
+use Rattle.text_io.specs.Devices.{Devices}
+use Rattle.outcome_trace.specs.Lines.{run_line}
+use Rattle.text_io.specs.Telling.{Answered}
+use Rattle.outcome_trace.specs.ReplayAnswers.{report_status}
+use Rattle.outcome_trace.specs.ReportText.{text_of_fibers}
+use Rattle.outcome_trace.specs.Stands.{IsOfSomeSchedule}
+use Rattle.steal_pool.specs.declared.options.Options.{Options}
+use Rattle.steal_pool.specs.declared.recorded.NoSchedule.{NoSchedule}
+use Rattle.steal_pool.specs.declared.recorded.NoSchedule.TheVariants.{TooLong, NotFound, NoMemory}
+use Rattle.steal_pool.specs.Gathering.{IsLawful}
+use Rattle.steal_pool.specs.Records.{IsRecord}
+use Rattle.steal_pool.specs.Runs.{IsFaultWithin, limits_of}
+
+-- the line that tells the text of a schedule
+abbrev pub schedule_line : List ℕ → List ℕ
+schedule_line text = codes "schedule " ++ (text ++ 10 ∷ [])
+
+-- the line that tells why there is none
+abbrev pub no_schedule_line : NoSchedule → List ℕ
+no_schedule_line TooLong = codes "no schedule: it has more than 1000000 entries" ++ 10 ∷ []
+no_schedule_line NotFound = codes "no schedule: none was found" ++ 10 ∷ []
+no_schedule_line NoMemory = codes "no schedule: memory ran out" ++ 10 ∷ []
+
+-- the line of what a recorded run hands out
+abbrev pub told_line : Result (String Global) NoSchedule → List ℕ
+told_line (Ok text) = schedule_line (string_bytes text)
+told_line (Err why) = no_schedule_line why
+
+-- the same behind the line of a fault: nothing where no schedule comes to that one
+abbrev pub line_behind : RunError → Result (String Global) NoSchedule → List ℕ
+line_behind (fault.Full band n) schedule = told_line schedule
+line_behind (fault.Spent f) schedule = told_line schedule
+line_behind fault.NoMemory schedule = []
+line_behind (fault.Lost f) schedule = []
+line_behind fault.NoWorker schedule = []
+
+-- The line tells a schedule under which the core, within the limits of the run, comes to exactly this end, or that there
+-- is none to tell.
+pub data IsScheduleLine (t : Term) (options : Options) (end : Result Report RunError) : List ℕ → Type 0 where
+  schedules : (text : List ℕ) → IsRecord (code_of (source_of t)) (limits_of options) text end →
+      IsScheduleLine t options end (schedule_line text)
+  no_schedule : (why : NoSchedule) → IsScheduleLine t options end (no_schedule_line why)
+
+-- what stands behind the line of a fault: of the core's faults but want of memory that of a schedule, of others nothing
+abbrev pub IsBehindFault : Term → Options → RunError → List ℕ → Type 0
+IsBehindFault t options (fault.Full band n) line = IsScheduleLine t options (Err (fault.Full band n)) line
+IsBehindFault t options (fault.Spent f) line = IsScheduleLine t options (Err (fault.Spent f)) line
+IsBehindFault t options fault.NoMemory line = line ≡ []
+IsBehindFault t options (fault.Lost f) line = line ≡ []
+IsBehindFault t options fault.NoWorker line = line ≡ []
+
+-- What comes of a program on workers that note their schedule, with its status: what comes of it without that, and the
+-- line of the schedule behind it.
+pub data IsRecordedAnswer (t : Term) (options : Options) : List ℕ → Status → Type 0 where
+  reports : (r : Report) (line : List ℕ) → IsOfSomeSchedule (code_of (source_of t)) (limits_of options) r →
+      All IsLawful r.fibers → IsScheduleLine t options (Ok r) line →
+      IsRecordedAnswer t options (text_of_fibers r.fibers ++ line) (report_status r.fibers)
+  faults : (e : RunError) (line : List ℕ) → IsFaultWithin (limits_of options) e → IsBehindFault t options e line →
+      IsRecordedAnswer t options (run_line e ++ line) Fault
+
+-- what `run --record` answers, with its status: a refusal, or what comes of the program that the text spells
+pub data IsRecordTextAnswer (options : Options) : List ℕ → List ℕ → Status → Type 0 where
+  refuses : (text answer : List ℕ) (status : Status) → IsRefusalAnswer text answer status →
+      IsRecordTextAnswer options text answer status
+  records : (text answer : List ℕ) (status : Status) (t : Term) → reading text ≡ Ok (atoms_of t) → IsProgram t →
+      IsRecordedAnswer t options answer status → IsRecordTextAnswer options text answer status
+
+-- what an order to run the text's program on workers and to tell the schedule comes to
+abbrev pub ObeysRecord : Options → Devices → Devices → Status → Type 0
+ObeysRecord options before after status = Answered (IsRecordTextAnswer options) before after status

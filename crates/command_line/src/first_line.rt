@@ -1,0 +1,72 @@
+//! An input that has the text of a schedule in its first line, and the text of a program behind it.
+
+ghost use Rattle.std.specs.Prelude.{◌≡◌, ◌≢◌, ◌<◌, ◌^◌, ℕ, false, IfOk, vec_len};
+ghost use Rattle.text_io.specs.Devices.{reader};
+ghost use Rattle.text_io.specs.Text.{is_read_fault};
+ghost use Rattle.command_line.specs.FirstLine.{IsFirstLine, IsInput};
+
+use memchr::memchr;
+use outcome_trace::{ReadError, TextFault, TextIn};
+use std::alloc::{AllocError, Global};
+
+/// How many bytes of such an input are read at most, and how many reads are made. A schedule's text has fewer than
+/// 6,000,000, since each of its 1,000,000 entries takes no more than 6, and of a program's text no more than 65,537 are
+/// looked at.
+const INPUT_BOUND: usize = 6_065_537;
+
+/// How many bytes one read takes at most.
+const PIECE: usize = 65_536;
+
+// Room for one read.
+fn room(alloc: Global) -> Result<Vec<u8>, AllocError>
+    ensures { IfOk result (λ piece. vec_len piece ≡ 65536) }
+{
+    vec![in alloc; 0u8; PIECE]
+}
+
+/// What is left of the input, up to `INPUT_BOUND` bytes, and what came with them in one read. An interrupted read is
+/// tried again.
+///
+/// The faults are `ReadFault` where a read failed, `TurnBound` where `INPUT_BOUND` reads neither found the end of the
+/// input nor gave as many bytes, and `NoMemory` where memory ran out.
+pub fn read_input<T: TextIn>(alloc: Global, input: &mut T) -> Result<Vec<u8>, TextFault>
+    requires healthy { T.has_failed input.old ≡ false }
+    requires countable { T.reads input.old < 2 ^ 63 }
+    ensures read { let before = reader (T.remaining input.old) (T.has_failed input.old) (T.has_ended input.old)
+        (T.reads input.old) in
+        let after = reader (T.remaining input.new) (T.has_failed input.new) (T.has_ended input.new)
+        (T.reads input.new) in
+        IfOk result (λ bytes. IsInput before after bytes.items) }
+
+    // The fault is told exactly where the reader failed.
+    ensures failed { T.has_failed input.new ≡ is_read_fault result }
+    ensures nothing_written { (written : ℕ) → result ≢ Err (TextFault.WriteFault written) }
+{
+    let mut piece = room(alloc)?;
+    let mut bytes = Vec::new(alloc);
+    for _ in 0..INPUT_BOUND {
+        match input.read_some(piece.as_mut_slice()) {
+            Ok(0) => return Ok(bytes),
+            Ok(count) => {
+                bytes.extend_from_slice(&piece[..count])?;
+                if bytes.len() >= INPUT_BOUND {
+                    return Ok(bytes);
+                }
+            }
+            Err(ReadError::Interrupted) => {}
+            Err(ReadError::Failed) => return Err(TextFault::ReadFault),
+        }
+    }
+    Err(TextFault::TurnBound)
+}
+
+/// The first line of some bytes, and what stands behind its line feed. Where there is no line feed, that is all of
+/// them, and nothing.
+pub fn first_line(bytes: &[u8]) -> (&[u8], &[u8])
+    ensures { IsFirstLine bytes.now result.0.now result.1.now }
+{
+    match memchr(b'\n', bytes) {
+        Some(at) => (&bytes[..at], &bytes[at + 1..]),
+        None => (bytes, &[]),
+    }
+}

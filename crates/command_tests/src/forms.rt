@@ -1,0 +1,86 @@
+//! Other forms than a report, which are asked for by a flag.
+
+use crate::answers::expect;
+
+/// What comes of words with such a flag: the rule, the words, the input, the status, what is written, and what is told.
+const FORMED: &[(&str, &[&str], &str, u8, &str, &str)] = &[
+    (
+        "a timeline stands behind the report",
+        &["fiber_cli", "replay", "--timeline", "--schedule", "0*3"],
+        "(pure 1)",
+        0,
+        "fiber 0 succeeded 1\n\n\
+            \x20entry  fiber 0\n\
+            \x20    2  ends: succeeded 1\n\n\
+            1 entry moved nobody\n",
+        "",
+    ),
+    (
+        "under a schedule that the input has",
+        &["fiber_cli", "replay", "--schedule", "-", "--timeline"],
+        "1 0 7*2\n(pure 1)",
+        3,
+        "fiber 0 unended\n\n\
+            \x20entry  fiber 0\n\n\
+            3 entries moved nobody\n",
+        "",
+    ),
+    (
+        "a picture stands in place of a report alone",
+        &["fiber_cli", "replay", "--svg", "--schedule", "0*9"],
+        "(pur 1)",
+        65,
+        "refused 6 UnknownWord at 1\n",
+        "",
+    ),
+    (
+        "a report as JSON",
+        &["fiber_cli", "replay", "--schedule", "0*9", "--json"],
+        "(raise 3)",
+        1,
+        "{\"answer\":\"report\",\"fibers\":[{\"fiber\":0,\"marks\":[],\"outcome\":{\"errored\":3}}]}\n",
+        "",
+    ),
+    (
+        "with reasons beside it",
+        &[
+            "fiber_cli",
+            "replay",
+            "--explain",
+            "--schedule",
+            "0*9",
+            "--json",
+        ],
+        "(never)",
+        3,
+        "{\"answer\":\"report\",\"fibers\":[{\"fiber\":0,\"marks\":[],\"outcome\":\"unended\"}]}\n",
+        "fiber 0 waits without end\n",
+    ),
+    (
+        "a program's counts as JSON",
+        &["fiber_cli", "check", "--json"],
+        "(pure 1)",
+        0,
+        "{\"answer\":\"program\",\"masks\":0,\"nest\":1,\"size\":1}\n",
+        "",
+    ),
+    (
+        "a refusal as JSON, and its reasons in words",
+        &["fiber_cli", "check", "--json", "--explain"],
+        "(pur 1)",
+        65,
+        "{\"answer\":\"refused\",\"name\":\"UnknownWord\",\"number\":6,\"place\":1}\n",
+        "line 1, column 2: `pur` is no word of the language\n\
+            \x20 (pur 1)\n\
+            \x20  ^\n\
+            behind an opening bracket the word of a form was wanted\n\
+            did you mean `pure`?\n",
+    ),
+];
+
+#[test]
+fn answers_in_the_form_that_is_asked_for(rt: HostRuntime) {
+    for (rule, words, input, status, out, err) in FORMED {
+        expect(&rt, rule, words, input, *status, out, err);
+    }
+}

@@ -1,0 +1,250 @@
+//! Help, and the version.
+
+use crate::answers::expect;
+
+/// Help: the words, and the text.
+const HELP: &[(&[&str], &str)] = &[
+    (
+        &["fiber_cli", "--help"],
+        "Runs effect programs on fibers\
+        \n\nUsage: fiber_cli <COMMAND>\
+        \n\nCommands:\
+        \n  check    Tells whether the text is a program\
+        \n  show     Prints the expansion of the program\
+        \n  replay   Runs the program under a schedule, and prints its report\
+        \n  explore  Explores every schedule, and prints all that can come of the program\
+        \n  run      Runs the program on work-stealing threads, and prints its report\
+        \n  sample   Draws schedules at random, and prints what came of them and how often\
+        \n  help     Print this message or the help of the given subcommand(s)\
+        \n\nOptions:\
+        \n  -h, --help     Print help\
+        \n  -V, --version  Print version\
+        \n\nThe program's text is read from standard input.\
+        \n\nExamples, of which the first finds all that can come of a race:\
+        \n  echo '(race (pure 1) (pure 2))' | fiber_cli explore\
+        \n  fiber_cli run < FILE\
+        \n\nA report has a line for each fiber: its number, its outcome, and its marks in their order. M is the\
+        \nnumber of one of the fiber's masks, V a value, C the code of an error:\
+        \n  enter M      the fiber enters the mask M: until it leaves it, it is cut in its poll alone\
+        \n  leave M      it leaves the mask M\
+        \n  in M         it enters a poll of the mask M\
+        \n  out M        it leaves that poll\
+        \n  acquired M   a bracket has acquired, under the mask M\
+        \n  releasing M  this bracket begins to release\
+        \n  released M   it has released\
+        \n  cut          the fiber is canceled here: from here on its finalizers run, and nothing else\
+        \n  say V        the word (say V)\
+        \n  dropped C    a finalizer raised C, which changes nothing\
+        \n\nExit status:\
+        \n   0  fiber 0 succeeded, the text was checked or shown, or help was asked for\
+        \n   1  fiber 0 errored\
+        \n   2  fiber 0 was canceled\
+        \n   3  fiber 0 has not ended\
+        \n  64  the words or the schedule are wrong\
+        \n  65  the text is refused\
+        \n  70  a run or a device failed, or memory ran out\
+        \n\nExit status of explore, where it is not 64, 65 or 70:\
+        \n   0  every schedule was explored, and nothing unwanted was found\
+        \n   1  something unwanted was found; without --want, a fault\
+        \n   3  a bound was reached, and nothing unwanted was found\
+        \n\nExit status of sample, where it is not 64, 65 or 70:\
+        \n   0  no schedule came to a fault\
+        \n   1  some schedule came to a fault\
+        \n",
+    ),
+    (
+        &["fiber_cli", "check", "--help"],
+        "Tells whether the text is a program\
+        \n\nUsage: fiber_cli check [OPTIONS]\
+        \n\nOptions:\
+        \n      --json     Print the answer as JSON, on one line\
+        \n      --explain  Tell reasons on standard error: where a text or a schedule is refused, and\
+        \n                 why a fiber of a replay hasn't ended\
+        \n  -h, --help     Print help\
+        \n\nThe text is read from standard input.\
+        \n\nExample:\
+        \n  echo '(seq (say 1) (pure 2))' | fiber_cli check\
+        \n\nExit status:\
+        \n   0  the text is a program\
+        \n  64  the words are wrong\
+        \n  65  the text is refused\
+        \n  70  a device failed, or memory ran out\
+        \n",
+    ),
+    (
+        &["fiber_cli", "show", "--help"],
+        "Prints the expansion of the program\
+        \n\nUsage: fiber_cli show [OPTIONS]\
+        \n\nOptions:\
+        \n      --explain  Tell reasons on standard error: where a text or a schedule is refused, and\
+        \n                 why a fiber of a replay hasn't ended\
+        \n  -h, --help     Print help\
+        \n\nThe program's text is read from standard input.\
+        \n\nExample:\
+        \n  echo '(guarantee (say 1) (say 2))' | fiber_cli show\
+        \n\nExit status:\
+        \n   0  the expansion was printed\
+        \n  64  the words are wrong\
+        \n  65  the text is refused\
+        \n  70  a device failed, or memory ran out\
+        \n",
+    ),
+    (
+        &["fiber_cli", "replay", "--help"],
+        "Runs the program under a schedule, and prints its report\
+        \n\nUsage: fiber_cli replay [OPTIONS] --schedule <TEXT>\
+        \n\nOptions:\
+        \n      --schedule <TEXT>  Whose move is next: items F or F*K (K moves of fiber F) with one space\
+        \n                         between, as in \"0*2 1*9\". F is 0 to 999, K is 1 to 100000. Where it is\
+        \n                         -, it is the first line of the input\
+        \n      --fibers <N>       How many fibers there may be, 1 to 1000 [default: 1000]\
+        \n      --refs <N>         How many refs there may be, 1 to 1000 [default: 1000]\
+        \n      --deferreds <N>    How many deferreds there may be, 1 to 1000 [default: 1000]\
+        \n      --count <N>        How often a fiber may change its own state, 1 to 1099511627775\
+        \n                         [default: 1099511627775]\
+        \n      --timeline         Print a timeline behind the report: a row for each entry that did something\
+        \n      --svg              Print a picture of the run in place of the report, as SVG\
+        \n      --json             Print the answer as JSON, on one line\
+        \n      --explain          Tell reasons on standard error: where a text or a schedule is refused, and\
+        \n                         why a fiber of a replay hasn't ended\
+        \n  -h, --help             Print help\
+        \n\nThe program's text is read from standard input. With --schedule - the schedule is its first line,\
+        \nand the text is what stands behind it.\
+        \n\nExample, of a fiber that is canceled where it polls:\
+        \n  echo '(uncancelable p (seq (canceled) (poll p (say 2))))' | fiber_cli replay --schedule \"0*99\"\
+        \n\n'fiber_cli --help' explains the report.\
+        \n\nExit status:\
+        \n   0  fiber 0 succeeded\
+        \n   1  fiber 0 errored\
+        \n   2  fiber 0 was canceled\
+        \n   3  fiber 0 has not ended\
+        \n  64  the words or the schedule are wrong\
+        \n  65  the text is refused\
+        \n  70  the replay came to a fault, a device failed, or memory ran out\
+        \n",
+    ),
+    (
+        &["fiber_cli", "explore", "--help"],
+        "Explores every schedule, and prints all that can come of the program\
+        \n\nUsage: fiber_cli explore [OPTIONS]\
+        \n\nOptions:\
+        \n      --fibers <N>      How many fibers there may be, 1 to 1000 [default: 16]\
+        \n      --refs <N>        How many refs there may be, 1 to 1000 [default: 16]\
+        \n      --deferreds <N>   How many deferreds there may be, 1 to 1000 [default: 16]\
+        \n      --count <N>       How often a fiber may change its own state, 1 to 1099511627775\
+        \n                        [default: 1099511627775]\
+        \n      --worlds <N>      How many worlds are kept, each a state of all fibers and cells,\
+        \n                        1 to 1000000 [default: 100000]\
+        \n      --entries <N>     How many entries a schedule may have, 1 to 1000000 [default: 10000]\
+        \n      --want <OUTCOME>  An outcome of fiber 0 that is wanted, as a report spells it:\
+        \n                        \"succeeded V\", \"errored C\", canceled or unended. It may be given more\
+        \n                        than once. A report with another outcome, and a fault, is then not wanted\
+        \n      --explain         Tell reasons on standard error: where a text or a schedule is refused, and\
+        \n                        why a fiber of a replay hasn't ended\
+        \n  -h, --help            Print help\
+        \n\nThe program's text is read from standard input.\
+        \n\nExample, which finds a release that is lost:\
+        \n  echo '(ref r 0 (start f (let c (modify r 1) (guarantee (never) (modify r -1)))\
+        \n    (seq (cancel f) (get r))))' | fiber_cli explore --want \"succeeded 0\"\
+        \n\n'fiber_cli --help' explains the reports. Each stands below a schedule, under which replay gives it.\
+        \n\nExit status:\
+        \n   0  every schedule was explored, and nothing unwanted was found\
+        \n   1  something unwanted was found; without --want, a fault\
+        \n   3  a bound was reached, and nothing unwanted was found\
+        \n  64  the words are wrong\
+        \n  65  the text is refused\
+        \n  70  a device failed, or memory ran out\
+        \n",
+    ),
+    (
+        &["fiber_cli", "run", "--help"],
+        "Runs the program on work-stealing threads, and prints its report\
+        \n\nUsage: fiber_cli run [OPTIONS]\
+        \n\nOptions:\
+        \n      --workers <N>    How many workers there are, threads that move fibers and steal them from\
+        \n                       one another, 1 to 16 [default: 4]\
+        \n      --fibers <N>     How many fibers there may be, 1 to 1000 [default: 1000]\
+        \n      --refs <N>       How many refs there may be, 1 to 1000 [default: 1000]\
+        \n      --deferreds <N>  How many deferreds there may be, 1 to 1000 [default: 1000]\
+        \n      --count <N>      How often a fiber may change its own state, 1 to 1099511627775\
+        \n                       [default: 1099511627775]\
+        \n      --budget <N>     How many moves a worker makes of a fiber in one turn at most, after which\
+        \n                       another that is ready has its turn, 2 to 10000 [default: 64]\
+        \n      --moves <N>      How many moves fiber 0 may make, and each other fiber with those of its\
+        \n                       parent before it, 1 to 1000000 [default: 100000]. A fiber that has made\
+        \n                       them is reported as unended\
+        \n      --record         Tell a schedule behind the report, under which replay gives it, or why\
+        \n                       there is none\
+        \n  -h, --help           Print help\
+        \n\nThe program's text is read from standard input.\
+        \n\nExample, of a race whose loser has a finalizer:\
+        \n  echo '(race (pure 4) (oncancel (never) (say 9)))' | fiber_cli run --workers 4\
+        \n\n'fiber_cli --help' explains the report, which is one that some schedule gives.\
+        \n\nExit status:\
+        \n   0  fiber 0 succeeded\
+        \n   1  fiber 0 errored\
+        \n   2  fiber 0 was canceled\
+        \n   3  fiber 0 has not ended\
+        \n  64  the words are wrong\
+        \n  65  the text is refused\
+        \n  70  the run or a device failed, or memory ran out\
+        \n",
+    ),
+    (
+        &["fiber_cli", "sample", "--help"],
+        "Draws schedules at random, and prints what came of them and how often\
+        \n\nUsage: fiber_cli sample [OPTIONS]\
+        \n\nOptions:\
+        \n      --seed <N>       What the schedules are drawn by, 0 to 9223372036854775807 [default: 0]\
+        \n      --times <N>      How many schedules are drawn, 1 to 1000000 [default: 1000]\
+        \n      --entries <N>    How many entries a schedule may have, 1 to 1000000 [default: 10000]\
+        \n      --fibers <N>     How many fibers there may be, 1 to 1000 [default: 16]\
+        \n      --refs <N>       How many refs there may be, 1 to 1000 [default: 16]\
+        \n      --deferreds <N>  How many deferreds there may be, 1 to 1000 [default: 16]\
+        \n      --count <N>      How often a fiber may change its own state, 1 to 1099511627775\
+        \n                       [default: 1099511627775]\
+        \n  -h, --help           Print help\
+        \n\nThe program's text is read from standard input.\
+        \n\nExample, which draws the same hundred schedules of a race each time:\
+        \n  echo '(race (say 1) (say 2))' | fiber_cli sample --times 100 --seed 7\
+        \n\n'fiber_cli --help' explains the reports. Each stands below the first schedule that came to it, under\
+        \nwhich replay gives it. The same seed draws the same schedules.\
+        \n\nExit status:\
+        \n   0  the sample was printed, and no schedule came to a fault\
+        \n   1  some schedule came to a fault\
+        \n  64  the words are wrong\
+        \n  65  the text is refused\
+        \n  70  a device failed, or memory ran out\
+        \n",
+    ),
+];
+
+#[test]
+fn helps(rt: HostRuntime) {
+    for (words, text) in HELP {
+        expect(&rt, "help", words, "(pure 7)", 0, text, "");
+    }
+}
+
+#[test]
+fn no_line_of_help_is_longer_than_100_columns(rt: HostRuntime) {
+    for (words, text) in HELP {
+        for line in text.lines() {
+            assert!(rt; line.len() <= 100, "{words:?}: {line}");
+        }
+    }
+}
+
+#[test]
+fn tells_its_version(rt: HostRuntime) {
+    let words = &["fiber_cli", "--version"];
+    expect(
+        &rt,
+        "version",
+        words,
+        "(pure 7)",
+        0,
+        "fiber_cli 0.1.0\n",
+        "",
+    );
+}

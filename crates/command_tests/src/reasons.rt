@@ -1,0 +1,86 @@
+//! Reasons, which are told on standard error, and change nothing else.
+
+use crate::answers::expect;
+
+/// What comes of words with `--explain`: the rule, the words, the input, the status, what is written, and what is told.
+const EXPLAINED: &[(&str, &[&str], &str, u8, &str, &str)] = &[
+    (
+        "why a text is no program",
+        &["fiber_cli", "check", "--explain"],
+        "(pur 1)",
+        65,
+        "refused 6 UnknownWord at 1\n",
+        "line 1, column 2: `pur` is no word of the language\n\
+            \x20 (pur 1)\n\
+            \x20  ^\n\
+            behind an opening bracket the word of a form was wanted\n\
+            did you mean `pure`?\n",
+    ),
+    (
+        "of a program nothing is told",
+        &["fiber_cli", "check", "--explain"],
+        "(pure 1)",
+        0,
+        "ok size 1 nest 1 masks 0\n",
+        "",
+    ),
+    (
+        "why nothing is shown",
+        &["fiber_cli", "show", "--explain"],
+        "(pure (pure 1))",
+        65,
+        "refused 7 Arity at 6\n",
+        "line 1, column 7: something else is wanted here\n\
+            \x20 (pure (pure 1))\n\
+            \x20       ^\n\
+            a number or the name of a value was wanted: `v` of `(pure v)`\n",
+    ),
+    (
+        "why a fiber hasn't ended",
+        &["fiber_cli", "replay", "--schedule", "0*9", "--explain"],
+        "(deferred d (await d))",
+        3,
+        "fiber 0 unended\n",
+        "fiber 0 waits for deferred 0, which nobody completes\n",
+    ),
+    (
+        "why a schedule is bad",
+        &["fiber_cli", "replay", "--explain", "--schedule", "0 01"],
+        "(pure 7)",
+        64,
+        "",
+        "fault 27 BadSchedule 2\n\
+            line 1, column 3: `01` can't be the next item\n\
+            \x20 0 01\n\
+            \x20   ^\n\
+            the number of a fiber is 0 to 999, in digits and without zeros in front\n\
+            items are `f` or `f*k`, with one space between two of them\n",
+    ),
+    (
+        "why a fiber hasn't ended under a schedule that the input has",
+        &["fiber_cli", "replay", "--explain", "--schedule", "-"],
+        "0*9\n(never)",
+        3,
+        "fiber 0 unended\n",
+        "fiber 0 waits without end\n",
+    ),
+    (
+        "why nothing is explored",
+        &["fiber_cli", "explore", "--explain"],
+        "(pur 1)",
+        65,
+        "refused 6 UnknownWord at 1\n",
+        "line 1, column 2: `pur` is no word of the language\n\
+            \x20 (pur 1)\n\
+            \x20  ^\n\
+            behind an opening bracket the word of a form was wanted\n\
+            did you mean `pure`?\n",
+    ),
+];
+
+#[test]
+fn tells_reasons_beside_the_answer(rt: HostRuntime) {
+    for (rule, words, input, status, out, err) in EXPLAINED {
+        expect(&rt, rule, words, input, *status, out, err);
+    }
+}

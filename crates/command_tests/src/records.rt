@@ -1,0 +1,90 @@
+//! Runs that are recorded: what a run writes, and the line of a schedule behind it, under which a replay gives
+//! the same.
+
+use crate::answers::{answered, expect};
+use std::process::Abort;
+use std::sync::Wait;
+use std::thread::Threads;
+
+/// A run on one worker that is recorded, and what comes of it.
+struct Recorded<'a> {
+    /// What the run shows.
+    rule: &'a str,
+    option: &'a str,
+    program: &'a str,
+    status: u8,
+    out: &'a str,
+}
+
+/// Runs whose schedule has no moves but those that their report or their fault needs.
+const RECORDED: &[Recorded<'static>] = &[
+    Recorded {
+        rule: "a value takes two moves",
+        option: "--budget=64",
+        program: "(pure 7)",
+        status: 0,
+        out: "fiber 0 succeeded 7\nschedule 0*2\n",
+    },
+    Recorded {
+        rule: "a fiber too many is refused behind the look before its start",
+        option: "--fibers=1",
+        program: "(start f (pure 5) (pure 6))",
+        status: 70,
+        out: "fault 18 Full fibers 1\nschedule 0*2\n",
+    },
+    Recorded {
+        rule: "a text that is refused has no schedule",
+        option: "--budget=64",
+        program: "(pure x)",
+        status: 65,
+        out: "refused 9 UnknownName at 6\n",
+    },
+];
+
+#[test]
+fn tells_the_schedule_of_a_run(rt: HostRuntime) {
+    for run in RECORDED {
+        expect(
+            &rt,
+            run.rule,
+            &["fiber_cli", "run", "--record", "--workers=1", run.option],
+            run.program,
+            run.status,
+            run.out,
+            "",
+        );
+    }
+}
+
+const REPLAYED: &[&str] = &[
+    "(start f (pure 5) (join f x (pure x) e (raise e) (pure -1)))",
+    "(race (pure 4) (oncancel (never) (say 9)))",
+    "(ref r 0 (start f (set r 3) (let x (get r) (seq (cancel f) (pure x)))))",
+    "(bracket a (pure 1) (bracket b (pure 2) (canceled) (say b)) (say a))",
+    "(uncancelable p (canceled))",
+];
+
+/// Runs a program on so many workers, and compares what a replay under its schedule gives with its report.
+fn expect_replayed<R: Abort + AllocGlobal + Threads + Wait + Sync>(
+    rt: &R,
+    workers: &str,
+    program: &str,
+) {
+    let words = ["fiber_cli", "run", "--record", "--workers", workers];
+    let run = answered(rt, &words, program.as_bytes());
+    let text = std::str::from_utf8(run.out.as_slice()).unwrap_or("");
+    let Some((report, line)) = text.split_once("schedule ") else {
+        assert!(rt; false, "no schedule: {program}");
+        return;
+    };
+    let schedule = line.trim_end_matches('\n');
+    let replay = ["fiber_cli", "replay", "--schedule", schedule];
+    expect(rt, "replayed", &replay, program, run.status, report, "");
+}
+
+#[test]
+fn a_replay_under_the_schedule_gives_the_report(rt: HostRuntime) {
+    for program in REPLAYED {
+        expect_replayed(&rt, "1", program);
+    }
+}
