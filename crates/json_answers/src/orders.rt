@@ -11,8 +11,8 @@ use crate::refusals::{program_value, refusal_answer};
 use crate::report_values::{fault_json, report_json};
 use crate::values::value_answer;
 use cell_registry::{Limits, RunError};
-use effect_term::{Outcome, Program};
-use outcome_trace::{Answer, Report, Status, TextOrder, read_program, replay};
+use effect_term::Program;
+use outcome_trace::{Answer, Report, Status, TextOrder, read_program, replay, report_status};
 use std::alloc::{AllocError, Global};
 
 /// Tells in JSON whether the text spells a program, as `CheckOrder` does in words: its counts, or why it is refused,
@@ -109,19 +109,4 @@ pub fn fault_json_answer(alloc: Global, error: RunError) -> Result<Answer, Alloc
 {
     let value = fault_json(alloc, error)?;
     value_answer(alloc, &value, Status::Fault)
-}
-
-// The status of a program that comes to this report.
-fn report_status(report: &Report) -> Status
-    ensures { result ≡ report_status report.now.fibers }
-{
-    let Some(first) = report.fibers.as_slice().first() else {
-        return Status::Unended;
-    };
-    match first.outcome {
-        Some(Outcome::Succeeded(_)) => Status::Succeeded,
-        Some(Outcome::Errored(_)) => Status::Errored,
-        Some(Outcome::Canceled) => Status::Canceled,
-        None => Status::Unended,
-    }
 }

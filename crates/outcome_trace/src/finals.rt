@@ -172,8 +172,9 @@ fn add(rests: &mut Vec<u32>, rest: u32) -> Result<(), AllocError>
     Ok(())
 }
 
-// Whether the fiber has ended, or rests. It makes no call.
-fn is_done(config: &Config, registry: &PlainRegistry) -> bool
+/// Whether the fiber has ended, or rests at a wait that nothing in this registry serves, and no request for its
+/// cancellation reaches it there: an entry of it changes nothing. It makes no call.
+pub fn is_done(config: &Config, registry: &PlainRegistry) -> bool
     requires { Fits (cell_registered registry.now.state config.now.number) config.now }
     ensures done { result ≡ true → HasEnded config.now ⊎ IsAtRest registry.now.state config.now.number config.now }
     ensures unended { result ≡ false → outcome_of config.now ≡ Nobody }

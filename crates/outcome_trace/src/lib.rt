@@ -23,10 +23,10 @@ mod wish;
 
 pub use answers::{CheckOrder, ShowOrder, read_program, refusal};
 pub use cell_registry::Limits;
-pub use finals::{EntryLog, NoEntries, Settled, settle, settle_noted};
+pub use finals::{EntryLog, NoEntries, Settled, is_done, settle, settle_noted};
 pub use lines::{Refused, line};
 pub use orders::{Order, obey};
-pub use replay_texts::{ReplayOrder, replay_text, report_answer};
+pub use replay_texts::{ReplayOrder, replay_text, report_answer, report_status};
 pub use report::{FiberReport, FiberReports, Marks, Report};
 pub use report_text::{print_report, text_of_report};
 pub use reports::{report_of_fibers, same_report};

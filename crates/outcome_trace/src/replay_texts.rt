@@ -18,8 +18,9 @@ use effect_term::{Outcome, Program};
 use std::alloc::{AllocError, Global};
 use text_io::{Answer, Status, TextFault, TextIn, TextOrder, TextOut, answer_text};
 
-/// The status of a program that writes this report.
-fn report_status(report: &Report) -> Status
+/// The status of a program that writes this report: that of fiber 0's end, which is `Status::Unended` where it has
+/// none.
+pub fn report_status(report: &Report) -> Status
     ensures { result ≡ report_status report.now.fibers }
 {
     let Some(first) = report.fibers.as_slice().first() else {

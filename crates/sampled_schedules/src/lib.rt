@@ -9,7 +9,6 @@
 mod comings;
 mod draws;
 mod ends;
-mod resting;
 mod sampled;
 mod walks;
 

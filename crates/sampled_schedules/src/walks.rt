@@ -5,10 +5,9 @@ ghost use Rattle.outcome_trace.specs.Fitting.{AllFit, world_of};
 ghost use Rattle.sampled_schedules.specs.Private.Walking.{IsWalk, came};
 
 use crate::draws::Draws;
-use crate::resting::is_done;
 use cell_registry::{PlainRegistry, RunError};
 use fiber_frames::Config;
-use outcome_trace::enter;
+use outcome_trace::{enter, is_done};
 use std::alloc::AllocError;
 
 // Entries to the end, where no fiber can go on, or as many as there may be.

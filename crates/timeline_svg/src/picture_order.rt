@@ -2,14 +2,15 @@
 
 ghost use Rattle.std.specs.Prelude.{◌≡◌, IfOk};
 ghost use Rattle.cell_registry.specs.Cells.{AreLimits};
-ghost use Rattle.outcome_trace.specs.ReplayAnswers.{report_status};
 ghost use Rattle.timeline_svg.specs.PictureAnswers.{IsPictureAnswer, IsPicturedAnswer};
 
 use crate::drawing::picture;
 use cell_registry::Limits;
-use effect_term::{Outcome, Program};
+use effect_term::Program;
 use fiber_events::replay_events;
-use outcome_trace::{Answer, Refused, Report, Status, TextOrder, line, read_program, refusal};
+use outcome_trace::{
+    Answer, Refused, Status, TextOrder, line, read_program, refusal, report_status,
+};
 use std::alloc::{AllocError, Global};
 
 /// Tells what the program that the text spells does under a schedule, by a picture ([`picture`]) in place of the
@@ -56,20 +57,5 @@ fn pictured_answer(
             text: line(alloc, &Refused::Run(*error))?,
             status: Status::Fault,
         }),
-    }
-}
-
-// The status of a program that writes this report.
-fn report_status(report: &Report) -> Status
-    ensures { result ≡ report_status report.now.fibers }
-{
-    let Some(first) = report.fibers.as_slice().first() else {
-        return Status::Unended;
-    };
-    match first.outcome {
-        Some(Outcome::Succeeded(_)) => Status::Succeeded,
-        Some(Outcome::Errored(_)) => Status::Errored,
-        Some(Outcome::Canceled) => Status::Canceled,
-        None => Status::Unended,
     }
 }
