@@ -20,6 +20,15 @@ fn limits(fibers: u16) -> Limits
     }
 }
 
+/// An exploration with at most so many fibers (1 to 16), worlds and entries, in which nothing is unwanted but a fault.
+pub fn exploring(alloc: Global, fibers: u16, worlds: usize, entries: usize) -> ExploreOrder {
+    ExploreOrder {
+        limits: limits(fibers),
+        bounds: Bounds { worlds, entries },
+        wants: Vec::new(alloc),
+    }
+}
+
 /// What is answered to a program that is explored with at most so many fibers (1 to 16) and worlds.
 pub fn explored(
     alloc: Global,
@@ -28,16 +37,8 @@ pub fn explored(
     worlds: usize,
     words: &[&str],
 ) -> Result<Answer, Fail> {
-    let mut wants = Vec::new(alloc);
-    push_wants(&mut wants, words)?;
-    let order = ExploreOrder {
-        limits: limits(fibers),
-        bounds: Bounds {
-            worlds,
-            entries: 1000,
-        },
-        wants,
-    };
+    let mut order = exploring(alloc, fibers, worlds, 1000);
+    push_wants(&mut order.wants, words)?;
     Ok(order.answer(alloc, program.as_bytes())?)
 }
 

@@ -15,3 +15,5 @@ mod listed;
 mod texts;
 #[cfg(test)]
 mod wants;
+#[cfg(test)]
+mod watched;

@@ -39,7 +39,7 @@ loop-index-preserved c =
       }
       | else-not-is_done w ↦ record {
         none = λ e. one_settled (λ f x. HasEnded x ⊎ IsAtRest c.args.registry.now.state f x) c.args.fibers.now c.loop-index.index g (i.none (sym w.picked-is ∙ e)) at
-            (subst (λ n. HasEnded g ⊎ IsAtRest c.args.registry.now.state n g) number (c.is_done.done w.if-not-is_done.false));
+            (subst (λ n. HasEnded g ⊎ IsAtRest c.args.registry.now.state n g) number (c.is_done.ensures.done w.if-not-is_done.false));
         number = λ f e. i.number f (sym w.picked-is ∙ e);
         able = let able = w.able-is in omega arith;
       }
