@@ -94,17 +94,41 @@ fn expect<R: Abort + AllocGlobal>(
 #[test]
 fn each_ten_thousandth_world_is_told(rt: HostRuntime) {
     let still = Still { fails: false };
-    expect(&rt, "a long one", LONG, &still, (Status::Unended, STOPPED, TOLD));
+    expect(
+        &rt,
+        "a long one",
+        LONG,
+        &still,
+        (Status::Unended, STOPPED, TOLD),
+    );
     let short = "explored 3 worlds: 1 report, 0 faults\n\nunder \"0*2\"\nfiber 0 succeeded 1\n";
-    expect(&rt, "a short one", "(pure 1)", &still, (Status::Succeeded, short, ""));
+    expect(
+        &rt,
+        "a short one",
+        "(pure 1)",
+        &still,
+        (Status::Succeeded, short, ""),
+    );
     let refused = "refused 6 UnknownWord at 1\n";
-    expect(&rt, "no program", "(pur 1)", &still, (Status::Refused, refused, ""));
+    expect(
+        &rt,
+        "no program",
+        "(pur 1)",
+        &still,
+        (Status::Refused, refused, ""),
+    );
 }
 
 #[test]
 fn a_clock_that_fails_tells_nothing(rt: HostRuntime) {
     let fails = Still { fails: true };
-    expect(&rt, "a clock fails", LONG, &fails, (Status::Unended, STOPPED, ""));
+    expect(
+        &rt,
+        "a clock fails",
+        LONG,
+        &fails,
+        (Status::Unended, STOPPED, ""),
+    );
 }
 
 #[test]
@@ -112,5 +136,8 @@ fn a_last_device_that_fails_changes_nothing_else(rt: HostRuntime) {
     let mut out = Vec::new(rt.alloc());
     let still = Still { fails: false };
     let status = watched(rt.alloc(), LONG, &still, &mut out, Closed);
-    assert_eq!(rt; (status, out.as_slice()), (Status::Unended, STOPPED.as_bytes()));
+    assert_eq!(rt;
+        (status, out.as_slice()),
+        (Status::Unended, STOPPED.as_bytes())
+    );
 }
