@@ -5,26 +5,26 @@
 //! sleeper where it was the last one. So a burst of pushes costs few wakes, and yet nobody sleeps
 //! beside a queue for long.
 //!
-//! No wake is lost. Every step is sequentially consistent. A worker lies down, gives up its search,
+//! No wake is lost. Every step is sequentially consistent. A worker parks, gives up its search,
 //! and only then looks at all queues once more. So a push that comes before that look is seen by it,
-//! and one that comes after it finds the worker lying. And what a worker pushed on its own queue it
+//! and one that comes after it finds the worker parked. And what a worker pushed on its own queue it
 //! serves itself at the latest.
 use crossbeam_utils::sync::Unparker;
 use std::sync::atomic::{AtomicBool, AtomicU64, Ordering};
 
-/// Where one worker sleeps.
+/// Whether one worker sleeps, and how it is woken.
 #[derive(Drop)]
-pub(crate) struct Bunk {
-    /// Whether the worker lies here, and nobody has called it up yet.
-    taken: AtomicBool,
+pub(crate) struct Sleeper {
+    /// Whether the worker is parked, and nobody has called it up yet.
+    parked: AtomicBool,
     unparker: Unparker,
 }
 
-impl Bunk {
-    /// An empty bunk of the worker that this wakes.
-    pub(crate) fn new(unparker: Unparker) -> Bunk {
-        Bunk {
-            taken: AtomicBool::new(false),
+impl Sleeper {
+    /// The worker that this wakes. It is awake.
+    pub(crate) fn new(unparker: Unparker) -> Sleeper {
+        Sleeper {
+            parked: AtomicBool::new(false),
             unparker,
         }
     }
@@ -35,16 +35,16 @@ impl Bunk {
 pub(crate) struct Idle {
     searching: AtomicU64,
     sleeping: AtomicU64,
-    bunks: Vec<Bunk>,
+    sleepers: Vec<Sleeper>,
 }
 
 impl Idle {
-    /// Nobody searches or sleeps. The bunks are in the order of the workers.
-    pub(crate) fn new(bunks: Vec<Bunk>) -> Idle {
+    /// Nobody searches or sleeps. The sleepers are in the order of the workers.
+    pub(crate) fn new(sleepers: Vec<Sleeper>) -> Idle {
         Idle {
             searching: AtomicU64::new(0),
             sleeping: AtomicU64::new(0),
-            bunks,
+            sleepers,
         }
     }
 
@@ -53,9 +53,9 @@ impl Idle {
         if self.sleeping.load(Ordering::SeqCst) == 0 || self.searching.load(Ordering::SeqCst) != 0 {
             return;
         }
-        for bunk in self.bunks.iter() {
-            if self.call_up(bunk) {
-                bunk.unparker.unpark();
+        for sleeper in self.sleepers.iter() {
+            if self.call_up(sleeper) {
+                sleeper.unparker.unpark();
                 return;
             }
         }
@@ -63,8 +63,8 @@ impl Idle {
 
     /// The run is over. Wakes all workers.
     pub(crate) fn wake_all(&self) {
-        for bunk in self.bunks.iter() {
-            bunk.unparker.unpark();
+        for sleeper in self.sleepers.iter() {
+            sleeper.unparker.unpark();
         }
     }
 
@@ -80,25 +80,25 @@ impl Idle {
         }
     }
 
-    /// A worker that searched lies down. It is to look at all queues once more before it sleeps.
-    pub(crate) fn lie_down(&self, worker: u8) {
+    /// A worker that searched is parked from now on. It is to look at all queues once more before it sleeps.
+    pub(crate) fn park(&self, worker: u8) {
         self.sleeping.fetch_add(1, Ordering::SeqCst);
-        if let Some(bunk) = self.bunks.get(worker as usize) {
-            bunk.taken.store(true, Ordering::SeqCst);
+        if let Some(sleeper) = self.sleepers.get(worker as usize) {
+            sleeper.parked.store(true, Ordering::SeqCst);
         }
         self.searching.fetch_sub(1, Ordering::SeqCst);
     }
 
-    /// A worker that lay searches again, whether somebody called it up or it woke by itself.
+    /// A worker that was parked searches again, whether somebody called it up or it woke by itself.
     pub(crate) fn get_up(&self, worker: u8) {
-        if let Some(bunk) = self.bunks.get(worker as usize) {
-            self.call_up(bunk);
+        if let Some(sleeper) = self.sleepers.get(worker as usize) {
+            self.call_up(sleeper);
         }
     }
 
-    // Counts the worker of a bunk among those that search, if it lies there.
-    fn call_up(&self, bunk: &Bunk) -> bool {
-        if !bunk.taken.load(Ordering::SeqCst) || !bunk.taken.swap(false, Ordering::SeqCst) {
+    // Counts a sleeper among those that search, if it is parked.
+    fn call_up(&self, sleeper: &Sleeper) -> bool {
+        if !sleeper.parked.load(Ordering::SeqCst) || !sleeper.parked.swap(false, Ordering::SeqCst) {
             return false;
         }
         self.searching.fetch_add(1, Ordering::SeqCst);

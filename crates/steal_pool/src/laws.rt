@@ -4,7 +4,7 @@ ghost use Rattle.once_cell.specs.Once.{cell_name};
 ghost use Rattle.steal_pool.specs.Runs.{IsFaultWithin, fault_within, limits_of};
 
 pub use crate::deque::{ReadyDeque, Victim};
-pub use crate::inlet::{Inlet, InletEnd, empty_inlet};
+pub use crate::injector::{InjectorEnd, ReadyInjector, empty_injector};
 use crate::options::Options;
 pub use crate::traffic::{Ledgered, Traffic};
 use cell_registry::{Band, RunError};

@@ -13,15 +13,13 @@
 //! once is tested only.
 #![tactic(auto)]
 
-mod berth;
-mod crew;
 mod deque;
 mod fault;
 mod finishing;
 mod gate;
 mod gathering;
 mod idle;
-mod inlet;
+mod injector;
 pub mod laws;
 mod options;
 mod queues;
@@ -32,6 +30,8 @@ mod settled_entries;
 mod traffic;
 mod watch;
 mod worker;
+mod worker_seat;
+mod workers;
 
 pub use finishing::RunEnd;
 pub use gate::{Gate, OpenGate};

@@ -1,20 +1,20 @@
 //! The queues as one worker sees them.
 use crate::deque::{ReadyDeque, Victim};
-use crate::inlet::InletEnd;
+use crate::injector::InjectorEnd;
 use crossbeam_deque::Steal;
 use std::sync::Wait;
 
 /// A worker's own queue, its ends of the others' queues, of which the next worker's stands first,
-/// and its end of the inlet.
+/// and its end of the injector.
 #[derive(Drop)]
 pub(crate) struct Queues<'q> {
     pub own: ReadyDeque,
     pub victims: Vec<Victim>,
-    pub inlet: InletEnd<'q>,
+    pub injector: InjectorEnd<'q>,
 }
 
 impl<'q> Queues<'q> {
-    /// A number of another worker's queue, or of the inlet. Answers `None` where it found each of
+    /// A number of another worker's queue, or of the injector. Answers `None` where it found each of
     /// them empty, one after the other.
     pub(crate) fn steal<R: Wait>(&mut self, rt: &R) -> Option<u16> {
         for victim in self.victims.iter_mut() {
@@ -22,7 +22,7 @@ impl<'q> Queues<'q> {
                 return Some(number);
             }
         }
-        take_from(rt, &mut self.inlet)
+        take_from(rt, &mut self.injector)
     }
 }
 
@@ -38,10 +38,10 @@ fn steal_from<R: Wait>(rt: &R, victim: &mut Victim) -> Option<u16> {
     unreachable!()
 }
 
-// Takes from the inlet, as often as somebody else is faster.
-fn take_from<R: Wait>(rt: &R, inlet: &mut InletEnd<'_>) -> Option<u16> {
+// Takes from the injector, as often as somebody else is faster.
+fn take_from<R: Wait>(rt: &R, injector: &mut InjectorEnd<'_>) -> Option<u16> {
     for _ in rt.forever() {
-        match inlet.take(rt) {
+        match injector.take(rt) {
             Steal::Success(number) => return Some(number),
             Steal::Empty => return None,
             Steal::Retry => {}

@@ -13,15 +13,15 @@ ghost use Rattle.wait_bay.specs.Bays.{IsSeatOf};
 ghost use Rattle.steal_pool.specs.Private.Gathered.{Gathered};
 ghost use Rattle.steal_pool.specs.Runs.{HasUnended, IsEnd, IsFaultWithin, TellsUnended, limits_of};
 
-use crate::crew::Crew;
 use crate::fault::{FaultCell, FirstFault, Learned};
 use crate::finishing::{Leavings, RunEnd};
 use crate::gate::Gate;
-use crate::inlet::{InletEnd, empty_inlet};
+use crate::injector::{InjectorEnd, empty_injector};
 use crate::laws;
 use crate::options::Options;
 use crate::watch::{Unrecorded, Watch};
 use crate::worker::{Shared, Worker};
+use crate::workers::Workers;
 use cell_registry::{Pass, Registry, RunError};
 use derived_ops::{Code, expand};
 use effect_term::Program;
@@ -175,21 +175,21 @@ fn drive<'b, 'a, R: Threads + Wait + Sync, W: Watch>(
     requires some { 0 < bay.now.fibers }
     requires budget { 1 < options.budget }
 {
-    let inlet = empty_inlet(alloc)?;
-    if InletEnd::of(&inlet).push(rt, 0).is_err() {
+    let injector = empty_injector(alloc)?;
+    if InjectorEnd::of(&injector).push(rt, 0).is_err() {
         return Err(RunError::NoMemory);
     }
-    let crew = Crew::new(alloc, bay, seat, &inlet, options.workers)?;
+    let workers = Workers::new(alloc, bay, seat, &injector, options.workers)?;
     let cell = OnceBox::new(alloc);
-    hire::<Brand, R, W>(rt, alloc, crew, &cell, options.budget, watch)
+    start::<Brand, R, W>(rt, alloc, workers, &cell, options.budget, watch)
 }
 
-// Has the workers of a crew run, with this cell for their first fault, and answers that fault, if
+// Has these workers run, with this cell for their first fault, and answers that fault, if
 // there was one.
-fn hire<'q, 'b, 'a, C: FaultCell + Send + Sync, R: Threads + Wait + Sync, W: Watch>(
+fn start<'q, 'b, 'a, C: FaultCell + Send + Sync, R: Threads + Wait + Sync, W: Watch>(
     rt: &R,
     alloc: Global,
-    crew: Crew<'q, 'b, 'a>,
+    all: Workers<'q, 'b, 'a>,
     cell: &OnceBox<RunError>,
     budget: u32,
     watch: &W,
@@ -197,7 +197,7 @@ fn hire<'q, 'b, 'a, C: FaultCell + Send + Sync, R: Threads + Wait + Sync, W: Wat
     requires cell { cell_name cell.now ≡ C.name }
     requires budget { 1 < budget }
 {
-    let Crew { workers, idle } = crew;
+    let Workers { workers, idle } = all;
     let threads = Vec::with_capacity(alloc, workers.len())?;
     let shared = Shared::<W, C> {
         watch,

@@ -2,11 +2,11 @@
 ghost use Rattle.std.specs.Prelude.{◌≡◌, ◌<◌};
 ghost use Rattle.wait_bay.specs.Names.{IsNamed};
 
-use crate::berth::Berth;
 use crate::fault::FaultCell;
 use crate::queues::Queues;
 use crate::watch::Watch;
 use crate::worker::Shared;
+use crate::worker_seat::WorkerSeat;
 use cell_registry::RunError;
 use fiber_poll::{FiberTask, Topic, Turn};
 use std::sync::Wait;
@@ -25,13 +25,13 @@ impl<'g, 'f, W: Watch, C: FaultCell> Shared<'g, 'f, W, C> {
         rt: &R,
         worker: u8,
         queues: &mut Queues<'_>,
-        berth: &mut Berth<'b, 'a>,
+        seat: &mut WorkerSeat<'b, 'a>,
         number: u16,
         log: &mut W::Log,
     ) -> Result<Option<u16>, RunError>
-        ensures same { berth.new ≡ berth.old }
+        ensures same { seat.new ≡ seat.old }
     {
-        let Some(mut task) = berth.take(rt, number) else {
+        let Some(mut task) = seat.take(rt, number) else {
             return Err(RunError::Lost(number));
         };
         let mut waited = None;
@@ -42,35 +42,35 @@ impl<'g, 'f, W: Watch, C: FaultCell> Shared<'g, 'f, W, C> {
             self.watch.enter(worker, task.number());
             let before = waited;
             waited = None;
-            match berth.turn(&mut task, self.budget, log)? {
-                Turn::Ended(_) => return self.end(rt, queues, berth, task),
+            match seat.turn(&mut task, self.budget, log)? {
+                Turn::Ended(_) => return self.end(rt, queues, seat, task),
                 Turn::Waits(topic) => {
                     if before == Some(topic) {
-                        return self.rest(rt, queues, berth, task);
+                        return self.rest(rt, queues, seat, task);
                     }
-                    berth.register(rt, topic, task.number())?;
+                    seat.register(rt, topic, task.number())?;
                     waited = Some(topic);
                     continue;
                 }
-                Turn::OutOfMoves => return self.rest(rt, queues, berth, task),
+                Turn::OutOfMoves => return self.rest(rt, queues, seat, task),
                 Turn::Cedes => {}
                 Turn::Started(child) => {
                     if let Some(next) = queues.own.take() {
-                        self.put_ready(rt, queues, berth, child)?;
-                        return self.make_way(rt, queues, berth, task, next);
+                        self.put_ready(rt, queues, seat, child)?;
+                        return self.make_way(rt, queues, seat, task, next);
                     }
                     // The child is held in its parent's place.
-                    self.put_ready(rt, queues, berth, task)?;
+                    self.put_ready(rt, queues, seat, task)?;
                     task = child;
                     continue;
                 }
-                Turn::WakeFiber(other) => self.wake(rt, queues, berth, other)?,
+                Turn::WakeFiber(other) => self.wake(rt, queues, seat, other)?,
                 Turn::WakeTopic(topic) => {
-                    self.wake_all_of(rt, queues, berth, topic, task.number())?;
+                    self.wake_all_of(rt, queues, seat, topic, task.number())?;
                 }
             }
             if let Some(next) = queues.own.take() {
-                return self.make_way(rt, queues, berth, task, next);
+                return self.make_way(rt, queues, seat, task, next);
             }
         }
         unreachable!()
@@ -83,15 +83,15 @@ impl<'g, 'f, W: Watch, C: FaultCell> Shared<'g, 'f, W, C> {
         &self,
         rt: &R,
         queues: &mut Queues<'_>,
-        berth: &mut Berth<'b, 'a>,
+        seat: &mut WorkerSeat<'b, 'a>,
         task: FiberTask<'a>,
         next: u16,
     ) -> Result<Option<u16>, RunError>
-        requires named { IsNamed berth.old.named task }
-        ensures same { berth.new ≡ berth.old }
+        requires named { IsNamed seat.old.named task }
+        ensures same { seat.new ≡ seat.old }
     {
         let number = task.number();
-        berth.put(rt, task, true)?;
+        seat.put(rt, task, true)?;
         self.pass_on(queues, number)?;
         Ok(Some(next))
     }
@@ -102,14 +102,14 @@ impl<'g, 'f, W: Watch, C: FaultCell> Shared<'g, 'f, W, C> {
         &self,
         rt: &R,
         queues: &mut Queues<'_>,
-        berth: &mut Berth<'b, 'a>,
+        seat: &mut WorkerSeat<'b, 'a>,
         task: FiberTask<'a>,
     ) -> Result<Option<u16>, RunError>
-        requires named { IsNamed berth.old.named task }
-        ensures same { berth.new ≡ berth.old }
+        requires named { IsNamed seat.old.named task }
+        ensures same { seat.new ≡ seat.old }
     {
         let number = task.number();
-        if berth.put(rt, task, false)? {
+        if seat.put(rt, task, false)? {
             self.pass_on(queues, number)?;
         } else {
             self.release();
@@ -123,15 +123,15 @@ impl<'g, 'f, W: Watch, C: FaultCell> Shared<'g, 'f, W, C> {
         &self,
         rt: &R,
         queues: &mut Queues<'_>,
-        berth: &mut Berth<'b, 'a>,
+        seat: &mut WorkerSeat<'b, 'a>,
         task: FiberTask<'a>,
     ) -> Result<Option<u16>, RunError>
-        requires named { IsNamed berth.old.named task }
-        ensures same { berth.new ≡ berth.old }
+        requires named { IsNamed seat.old.named task }
+        ensures same { seat.new ≡ seat.old }
     {
         let number = task.number();
-        let woken = berth.put(rt, task, false)?;
-        self.wake_all_of(rt, queues, berth, Topic::Fiber(number), number)?;
+        let woken = seat.put(rt, task, false)?;
+        self.wake_all_of(rt, queues, seat, Topic::Fiber(number), number)?;
         if woken {
             self.pass_on(queues, number)?;
         } else {
@@ -145,14 +145,14 @@ impl<'g, 'f, W: Watch, C: FaultCell> Shared<'g, 'f, W, C> {
         &self,
         rt: &R,
         queues: &mut Queues<'_>,
-        berth: &mut Berth<'b, 'a>,
+        seat: &mut WorkerSeat<'b, 'a>,
         task: FiberTask<'a>,
     ) -> Result<(), RunError>
-        requires named { IsNamed berth.old.named task }
-        ensures same { berth.new ≡ berth.old }
+        requires named { IsNamed seat.old.named task }
+        ensures same { seat.new ≡ seat.old }
     {
         let number = task.number();
-        berth.put(rt, task, true)?;
+        seat.put(rt, task, true)?;
         self.queue(queues, number)
     }
 
@@ -161,10 +161,10 @@ impl<'g, 'f, W: Watch, C: FaultCell> Shared<'g, 'f, W, C> {
         &self,
         rt: &R,
         queues: &mut Queues<'_>,
-        berth: &Berth<'b, 'a>,
+        seat: &WorkerSeat<'b, 'a>,
         other: u16,
     ) -> Result<(), RunError> {
-        if berth.wake(rt, other)? {
+        if seat.wake(rt, other)? {
             self.queue(queues, other)?;
         }
         Ok(())
@@ -175,12 +175,12 @@ impl<'g, 'f, W: Watch, C: FaultCell> Shared<'g, 'f, W, C> {
         &self,
         rt: &R,
         queues: &mut Queues<'_>,
-        berth: &Berth<'b, 'a>,
+        seat: &WorkerSeat<'b, 'a>,
         topic: Topic,
         number: u16,
     ) -> Result<(), RunError> {
-        for waiter in berth.drain(rt, topic, number)? {
-            self.wake(rt, queues, berth, waiter)?;
+        for waiter in seat.drain(rt, topic, number)? {
+            self.wake(rt, queues, seat, waiter)?;
         }
         Ok(())
     }

@@ -1,12 +1,12 @@
 //! One worker: where its numbers come from, and its life.
 ghost use Rattle.std.specs.Prelude.{◌<◌};
 
-use crate::berth::Berth;
 use crate::fault::{FaultCell, FirstFault, Learned};
-use crate::idle::{Bunk, Idle};
+use crate::idle::{Idle, Sleeper};
 use crate::laws;
 use crate::queues::Queues;
 use crate::watch::Watch;
+use crate::worker_seat::WorkerSeat;
 use cell_registry::RunError;
 use crossbeam_utils::Backoff;
 use crossbeam_utils::sync::Parker;
@@ -18,36 +18,36 @@ use std::sync::atomic::{AtomicU64, Ordering};
 // How often an idle worker looks at all queues before it sleeps, which takes some microseconds.
 const LOOKS: u32 = 10;
 
-/// One worker: its queues, its place at the bay, where it sleeps, and room for the fault that it may
+/// One worker: its queues, its seat at the bay, how it sleeps, and room for the fault that it may
 /// meet.
 #[derive(Drop)]
 pub(crate) struct Worker<'q, 'b, 'a> {
     number: u8,
     queues: Queues<'q>,
-    berth: Berth<'b, 'a>,
+    seat: WorkerSeat<'b, 'a>,
     parker: Parker,
     room: Box<RunError>,
 }
 
 impl<'q, 'b, 'a> Worker<'q, 'b, 'a> {
-    /// A worker, and its bunk. Answers `AllocError` where there is no memory for them.
+    /// A worker, and what wakes it. Answers `AllocError` where there is no memory for them.
     pub(crate) fn new(
         alloc: Global,
         number: u8,
         queues: Queues<'q>,
-        berth: Berth<'b, 'a>,
-    ) -> Result<(Worker<'q, 'b, 'a>, Bunk), AllocError> {
+        seat: WorkerSeat<'b, 'a>,
+    ) -> Result<(Worker<'q, 'b, 'a>, Sleeper), AllocError> {
         let parker = Parker::new(alloc)?;
-        let bunk = Bunk::new(parker.unparker().clone()?);
+        let sleeper = Sleeper::new(parker.unparker().clone()?);
         let room = Box::new(alloc, RunError::NoWorker).map_err(AllocError::from)?;
         let worker = Worker {
             number,
             queues,
-            berth,
+            seat,
             parker,
             room,
         };
-        Ok((worker, bunk))
+        Ok((worker, sleeper))
     }
 }
 
@@ -93,12 +93,12 @@ impl<'g, 'f, W: Watch, C: FaultCell> Shared<'g, 'f, W, C> {
         let Worker {
             number,
             mut queues,
-            mut berth,
+            mut seat,
             parker,
             room,
         } = worker;
         let mut log = self.watch.log();
-        let ended = self.serve_all(rt, number, &mut queues, &mut berth, &parker, &mut log);
+        let ended = self.serve_all(rt, number, &mut queues, &mut seat, &parker, &mut log);
         self.watch.keep(number, log);
         match ended {
             Ok(()) => self.first_fault.learned(None),
@@ -112,7 +112,7 @@ impl<'g, 'f, W: Watch, C: FaultCell> Shared<'g, 'f, W, C> {
         rt: &R,
         worker: u8,
         queues: &mut Queues<'_>,
-        berth: &mut Berth<'b, 'a>,
+        seat: &mut WorkerSeat<'b, 'a>,
         parker: &Parker,
         log: &mut W::Log,
     ) -> Result<(), RunError> {
@@ -121,7 +121,7 @@ impl<'g, 'f, W: Watch, C: FaultCell> Shared<'g, 'f, W, C> {
             let Some(number) = self.next(rt, worker, next, queues, parker) else {
                 return Ok(());
             };
-            next = self.serve(rt, worker, queues, berth, number, log)?;
+            next = self.serve(rt, worker, queues, seat, number, log)?;
         }
         unreachable!()
     }
@@ -173,7 +173,7 @@ impl<'g, 'f, W: Watch, C: FaultCell> Shared<'g, 'f, W, C> {
                 Look::Over => return None,
                 Look::Nothing => {}
             }
-            self.idle.lie_down(worker);
+            self.idle.park(worker);
             let last = self.look(rt, queues);
             if let Look::Nothing = last {
                 parker.park(rt);

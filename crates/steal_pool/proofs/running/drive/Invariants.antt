@@ -1,5 +1,5 @@
 use Rattle.once_cell.specs.Once.{cell_name}
 use Rattle.steal_pool.proofs.running.drive.Given as goal
 
-abbrev pub ghosts-hire : goal.ghosts-hire
-ghosts-hire g a = record { name = cell_name a.cell.now }
+abbrev pub ghosts-start : goal.ghosts-start
+ghosts-start g a = record { name = cell_name a.cell.now }

@@ -5,4 +5,4 @@ use Rattle.steal_pool.proofs.worker.Shared.serve.Given as goal
 abbrev pub invariant-loop : goal.invariant-loop
 invariant-loop g l =
     (goal.iterator-loop g).can_next l.iterator' × (goal.iterator-loop g).is_finite l.iterator'
-    × (l.berth ≡ l.initial.berth) × IsNamed l.berth.named l.task
+    × (l.seat ≡ l.initial.seat) × IsNamed l.seat.named l.task

@@ -11,16 +11,16 @@ use std::marker::Model;
 use std::sync::Wait;
 
 /// A queue that all workers push to and take from alike.
-pub type Inlet = Injector<u16, Global, Traffic, Ledgered>;
+pub type ReadyInjector = Injector<u16, Global, Traffic, Ledgered>;
 
-/// One worker's end of an inlet.
+/// One worker's end of an injector.
 #[derive(Drop)]
-pub struct InletEnd<'q> {
-    inlet: &'q Inlet,
+pub struct InjectorEnd<'q> {
+    injector: &'q ReadyInjector,
     pass: InjectorPass<u16, Traffic>,
 }
 
-impl<'q> Model for InletEnd<'q> {
+impl<'q> Model for InjectorEnd<'q> {
     ghost use Rattle.crossbeam_deque.specs.Injected.{IsInjectorPassOf, injector_view};
     ghost use Rattle.steal_pool.specs.declared.traffic.Traffic.{Traffic};
 
@@ -28,23 +28,23 @@ impl<'q> Model for InletEnd<'q> {
 
     ghost view = { λ e. injector_view e.pass };
 
-    // the pass is one at this inlet
-    ghost invariant = { λ e. IsInjectorPassOf e.inlet.now e.pass };
+    // the pass is one at this injector
+    ghost invariant = { λ e. IsInjectorPassOf e.injector.now e.pass };
 }
 
-/// An empty inlet. Answers `AllocError` where there is no memory for it.
-pub fn empty_inlet(alloc: Global) -> Result<Inlet, AllocError> {
-    let (inlet, _pass) = Injector::new_as(alloc)?;
-    Ok(inlet)
+/// An empty injector. Answers `AllocError` where there is no memory for it.
+pub fn empty_injector(alloc: Global) -> Result<ReadyInjector, AllocError> {
+    let (injector, _pass) = Injector::new_as(alloc)?;
+    Ok(injector)
 }
 
-impl<'q> InletEnd<'q> {
-    /// A new end of this inlet.
-    pub fn of(inlet: &'q Inlet) -> InletEnd<'q>
+impl<'q> InjectorEnd<'q> {
+    /// A new end of this injector.
+    pub fn of(injector: &'q ReadyInjector) -> InjectorEnd<'q>
         ensures { result ≡ traffic [] [] }
     {
-        let pass = inlet.pass();
-        InletEnd { inlet, pass }
+        let pass = injector.pass();
+        InjectorEnd { injector, pass }
     }
 
     /// Puts a number last. Where there is no memory for it, the number comes back and nothing has
@@ -54,14 +54,14 @@ impl<'q> InletEnd<'q> {
         ensures back { IfErr result (λ n. n ≡ number) }
         ensures unchanged { IfErr result (λ _. self.new ≡ self.old) }
     {
-        self.inlet.push_as::<Puts, R>(rt, &mut self.pass, number)
+        self.injector.push_as::<Puts, R>(rt, &mut self.pass, number)
     }
 
-    /// Takes the first number. Answers `Empty` only where the inlet was empty at a moment of the
+    /// Takes the first number. Answers `Empty` only where the injector was empty at a moment of the
     /// call. `Retry` asks to be tried again.
     pub fn take<R: Wait>(&mut self, rt: &R) -> Steal<u16>
         ensures { TellsOf result self.old self.new }
     {
-        self.inlet.steal_as::<Takes, R>(rt, &mut self.pass)
+        self.injector.steal_as::<Takes, R>(rt, &mut self.pass)
     }
 }

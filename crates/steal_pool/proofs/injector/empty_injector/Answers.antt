@@ -1,5 +1,5 @@
 use Rattle.steal_pool.proofs.Ledgers.{begins}
-use Rattle.steal_pool.proofs.inlet.empty_inlet.Goals as goal
+use Rattle.steal_pool.proofs.injector.empty_injector.Goals as goal
 
 pub new_as-requires : goal.new_as-requires
 new_as-requires c = begins

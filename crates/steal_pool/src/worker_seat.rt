@@ -1,4 +1,4 @@
-//! A worker's place at the bay.
+//! A worker's seat at the bay.
 ghost use Rattle.std.specs.Prelude.{◌≡◌, ◌<◌, IfOk, IfSome};
 ghost use Rattle.wait_bay.specs.Bays.{IsSeatOf};
 ghost use Rattle.wait_bay.specs.Names.{IsNamed};
@@ -14,12 +14,12 @@ use wait_bay::{Bay, BaySeat};
 /// A bay and one worker's seat at it, through which the worker takes tasks, moves them and puts them
 /// back. A fiber or a topic beyond the bay is `Lost`.
 #[derive(Drop)]
-pub(crate) struct Berth<'b, 'a> {
+pub(crate) struct WorkerSeat<'b, 'a> {
     bay: &'b Bay<'a>,
     seat: BaySeat<'a>,
 }
 
-impl<'b, 'a> Model for Berth<'b, 'a> {
+impl<'b, 'a> Model for WorkerSeat<'b, 'a> {
     ghost use Rattle.std.specs.Coded.{codes};
     ghost use Rattle.derived_ops.specs.Stored.{tree_code};
     ghost use Rattle.atomic_table.specs.Seated.{table_id_coded};
@@ -34,13 +34,13 @@ impl<'b, 'a> Model for Berth<'b, 'a> {
     ghost invariant = { λ b. IsSeatOf b.bay.now b.seat };
 }
 
-impl<'b, 'a> Berth<'b, 'a> {
-    /// A place at this bay.
-    pub(crate) fn new(bay: &'b Bay<'a>, seat: BaySeat<'a>) -> Berth<'b, 'a>
+impl<'b, 'a> WorkerSeat<'b, 'a> {
+    /// A seat at this bay.
+    pub(crate) fn new(bay: &'b Bay<'a>, seat: BaySeat<'a>) -> WorkerSeat<'b, 'a>
         requires here { IsSeatOf bay.now seat }
         ensures { result ≡ bay.now }
     {
-        Berth { bay, seat }
+        WorkerSeat { bay, seat }
     }
 
     /// Takes the task of a fiber, if it is in its slot.

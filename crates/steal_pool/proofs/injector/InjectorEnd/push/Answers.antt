@@ -3,7 +3,7 @@ use Rattle.steal_pool.specs.Moments.{PutLast}
 use Rattle.crossbeam_deque.specs.Injected.{injector_view}
 use Rattle.steal_pool.proofs.Ledgers.{puts}
 use Rattle.steal_pool.proofs.Results.{ok_of}
-use Rattle.steal_pool.proofs.inlet.InletEnd.push.Goals as goal
+use Rattle.steal_pool.proofs.injector.InjectorEnd.push.Goals as goal
 
 pub push_as-requires-clause-rule : goal.push_as-requires-clause-rule
 push_as-requires-clause-rule g c = puts _ _ _

@@ -2,85 +2,85 @@
 ghost use Rattle.std.specs.Prelude.{◌≡◌, ◌<◌};
 ghost use Rattle.wait_bay.specs.Bays.{IsSeatOf};
 
-use crate::berth::Berth;
 use crate::deque::{ReadyDeque, Victim};
-use crate::idle::{Bunk, Idle};
-use crate::inlet::{Inlet, InletEnd};
+use crate::idle::{Idle, Sleeper};
+use crate::injector::{InjectorEnd, ReadyInjector};
 use crate::queues::Queues;
 use crate::worker::Worker;
+use crate::worker_seat::WorkerSeat;
 use std::alloc::{AllocError, Global};
 use wait_bay::{Bay, BaySeat};
 
 // For how many numbers a worker's queue has room at first.
 const ROOM: usize = 64;
 
-/// The workers before they start, and where they will sleep.
+/// The workers before they start, and who of them sleeps.
 #[derive(Drop)]
-pub(crate) struct Crew<'q, 'b, 'a> {
+pub(crate) struct Workers<'q, 'b, 'a> {
     pub workers: Vec<Worker<'q, 'b, 'a>>,
     pub idle: Idle,
 }
 
-impl<'q, 'b, 'a> Crew<'q, 'b, 'a> {
-    /// So many workers of this bay, with a queue each, and this inlet.
+impl<'q, 'b, 'a> Workers<'q, 'b, 'a> {
+    /// So many workers of this bay, with a queue each, and this injector.
     pub(crate) fn new(
         alloc: Global,
         bay: &'b Bay<'a>,
         seat: BaySeat<'a>,
-        inlet: &'q Inlet,
+        injector: &'q ReadyInjector,
         workers: u8,
-    ) -> Result<Crew<'q, 'b, 'a>, AllocError>
+    ) -> Result<Workers<'q, 'b, 'a>, AllocError>
         requires here { IsSeatOf bay.now seat }
         requires some { 0 < bay.now.fibers }
     {
         let mut seat = seat;
         let deques = deques(alloc, workers)?;
         let ends = ends(alloc, deques.as_slice())?;
-        let mut hired = Vec::new(alloc);
-        let mut bunks = Vec::new(alloc);
+        let mut all = Vec::new(alloc);
+        let mut sleepers = Vec::new(alloc);
         let mut number = 0u8;
         for (own, victims) in deques.into_iter().zip(ends) {
             let queues = Queues {
                 own,
                 victims,
-                inlet: InletEnd::of(inlet),
+                injector: InjectorEnd::of(injector),
             };
-            let one = hired_one(alloc, bay, &mut seat, number, queues)?;
-            add(&mut hired, &mut bunks, one)?;
+            let one = new_worker(alloc, bay, &mut seat, number, queues)?;
+            add(&mut all, &mut sleepers, one)?;
             number = number.wrapping_add(1);
         }
-        Ok(Crew {
-            workers: hired,
-            idle: Idle::new(bunks),
+        Ok(Workers {
+            workers: all,
+            idle: Idle::new(sleepers),
         })
     }
 }
 
-// A worker of this bay with these queues, and its bunk.
-fn hired_one<'q, 'b, 'a>(
+// A worker of this bay with these queues, and what wakes it.
+fn new_worker<'q, 'b, 'a>(
     alloc: Global,
     bay: &'b Bay<'a>,
     seat: &mut BaySeat<'a>,
     number: u8,
     queues: Queues<'q>,
-) -> Result<(Worker<'q, 'b, 'a>, Bunk), AllocError>
+) -> Result<(Worker<'q, 'b, 'a>, Sleeper), AllocError>
     requires here { IsSeatOf bay.now seat.old }
     requires some { 0 < bay.now.fibers }
     ensures { seat.new ≡ seat.old }
 {
-    let berth = Berth::new(bay, bay.split(seat));
-    Worker::new(alloc, number, queues, berth)
+    let seat = WorkerSeat::new(bay, bay.split(seat));
+    Worker::new(alloc, number, queues, seat)
 }
 
-// One worker more, and where it sleeps.
+// One worker more, and what wakes it.
 fn add<'q, 'b, 'a>(
     workers: &mut Vec<Worker<'q, 'b, 'a>>,
-    bunks: &mut Vec<Bunk>,
-    one: (Worker<'q, 'b, 'a>, Bunk),
+    sleepers: &mut Vec<Sleeper>,
+    one: (Worker<'q, 'b, 'a>, Sleeper),
 ) -> Result<(), AllocError> {
-    let (worker, bunk) = one;
+    let (worker, sleeper) = one;
     workers.push(worker)?;
-    bunks.push(bunk)?;
+    sleepers.push(sleeper)?;
     Ok(())
 }
 
