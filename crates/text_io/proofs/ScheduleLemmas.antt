@@ -47,6 +47,17 @@ decimal_plain n small = elim (cases_lt n 10) [
   | inl low ↦ rw (decimal_digit n low) (plain_digit n)
 ]
 
+-- a number that is spelled by one byte
+pub one_digit : (b n : ℕ) → n < 2 ^ 32 → b ∷ [] ≡ decimal n → (n < 10) × (b ≡ 48 + n)
+one_digit b n small e = elim (cases_lt n 10) [
+  | inr big ↦
+      let some : 0 < length (decimal (n / 10)) = decimal_nonempty (n / 10) (omega arith) in
+      let two : 1 < length (decimal n) = rw (decimal_step n big (omega arith)) (omega (arith, length-append (decimal (n / 10)) ((48 + n % 10) ∷ []))) in
+      let one : length (decimal n) ≡ 1 = sym (ap length e) in
+      absurd (omega arith)
+  | inl low ↦ (low, ap (λ bs. get_or bs 0 0) (e ∙ decimal_digit n low))
+]
+
 -- what was parsed is the text of its number
 pub parsed : {E : Type 0} (bs : List ℕ) (r : Result ℕ E) → is_plain bs ≡ true → ParsesUnsigned 32 10 bs r → IfOk r (λ n. bs ≡ decimal n)
 parsed bs (Err e) p h = tt

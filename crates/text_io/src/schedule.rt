@@ -50,6 +50,29 @@ fn number(digits: &str, most: u32) -> Option<u32>
     ensures found { IfSome result (λ n. (n ≤ most) × (digits.now ≡ decimal n)) }
     ensures none { IfNone result ((n : ℕ) → n ≤ most → digits.now ≡ decimal n → ⊥) }
 {
+    match digits.as_bytes() {
+        [only] => digit(*only, most),
+        _ => long_number(digits, most),
+    }
+}
+
+/// The number of one digit, where it is at most `most`.
+fn digit(byte: u8, most: u32) -> Option<u32>
+    ensures found { IfSome result (λ n. (n ≤ most) × (byte ∷ [] ≡ decimal n)) }
+    ensures none { IfNone result ((n : ℕ) → n ≤ most → byte ∷ [] ≡ decimal n → ⊥) }
+{
+    if byte < b'0' || b'9' < byte {
+        return None;
+    }
+    let number = u32::from(byte - b'0');
+    if number <= most { Some(number) } else { None }
+}
+
+/// A number in digits, of however many, with no zero in front, and at most `most`.
+fn long_number(digits: &str, most: u32) -> Option<u32>
+    ensures found { IfSome result (λ n. (n ≤ most) × (digits.now ≡ decimal n)) }
+    ensures none { IfNone result ((n : ℕ) → n ≤ most → digits.now ≡ decimal n → ⊥) }
+{
     if !is_plain(digits.as_bytes()) {
         return None;
     }
@@ -101,21 +124,18 @@ fn push_times(entries: &mut Vec<u16>, fiber: u16, times: u32) -> Result<(), Allo
     requires { vec_len entries.old ≤ MOST_ENTRIES }
     ensures { OnOk result (entries.new.items ≡ entries.old.items ++ replicate times fiber) }
 {
+    if times == 1 {
+        entries.push(fiber)?;
+        return Ok(());
+    }
     let len = entries.len() + times as usize;
     entries.resize(len, fiber)
 }
 
-/// How many entries the items of a text have, up to `MOST_ENTRIES`, so that their vector is made once.
-/// An item that is bad counts as none.
-fn count_entries(text: &str) -> usize
-    ensures { result ≤ MOST_ENTRIES }
-{
-    let mut count = 0usize;
-    for part in text.split(' ') {
-        let (_, times) = item(part).unwrap_or((0, 0));
-        count = MOST_ENTRIES.min(count + times as usize);
-    }
-    count
+/// For how many entries room is made at first: where each item is one entry, for all, since an item and its
+/// space are two bytes at least.
+fn first_room(text: &str) -> usize {
+    MOST_ENTRIES.min(text.len() / 2 + 1)
 }
 
 /// The entries of a text that isn't empty.
@@ -124,7 +144,7 @@ fn read_items(alloc: Global, text: &str) -> Result<Vec<u16>, ScheduleError>
     ensures found { IfOk result (λ schedule. SpellsEntries text.now schedule.items) }
     ensures place { (place : ℕ) → IsErrOf result (ScheduleError.BadSchedule place) → IsFirstBad text.now place }
 {
-    let mut entries = Vec::with_capacity(alloc, count_entries(text))?;
+    let mut entries = Vec::with_capacity(alloc, first_room(text))?;
     let mut rest = text;
     'items: loop {
         let (first, behind) = first_item(rest);
