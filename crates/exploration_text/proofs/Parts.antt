@@ -12,7 +12,7 @@ abbrev pub IsFront : Bool → List Want → List Answer → ℕ → List ℕ →
 IsFront u wants all i text =
     (behind : List ℕ) → IsPartText u wants (drop i all) behind → IsPartText u wants all (text ++ behind)
 
-from_here : (all : List Answer) (i : ℕ) (a : Answer) → i < length all → a ≡ get_or all i a → drop i all ≡ a ∷ drop (i + 1) all
+pub from_here : {A : Type 0} (all : List A) (i : ℕ) (a : A) → i < length all → a ≡ get_or all i a → drop i all ≡ a ∷ drop (i + 1) all
 from_here all i a low is = rw add-one (drop-cons all i a low ∙ ap (λ x. x ∷ drop (suc i) all) (sym is))
 
 pub listed : (u : Bool) (wants : List Want) (all : List Answer) (i : ℕ) (a : Answer) (text part new : List ℕ) → i < length all →

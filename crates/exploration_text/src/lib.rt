@@ -15,6 +15,8 @@ mod watched_texts;
 
 pub use every_schedule::Bounds;
 pub use explore_texts::{ExploreOrder, explore_text};
-pub use texts::{exploration_status, text_of_exploration};
+pub use texts::{
+    exploration_status, first_line, is_listed_so, text_of_answer, text_of_exploration,
+};
 pub use wants::{Want, read_want};
 pub use watched_texts::obey_explore_watched;

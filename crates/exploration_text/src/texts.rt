@@ -102,8 +102,9 @@ fn is_unwanted(answer: &Answer, wants: &[Want]) -> bool
     !wants.is_empty() && is_failure(&answer.end, wants)
 }
 
-// Whether an answer is one of those that are listed as not wanted, or one of the others.
-fn is_listed_so(answer: &Answer, wants: &[Want], unwanted: bool) -> bool
+/// Whether an answer is one of those that are listed as not wanted, where these are asked for, or else one of the others.
+/// Not wanted are, where outcomes of fiber 0 are wanted, a report that has another one, and a fault.
+pub fn is_listed_so(answer: &Answer, wants: &[Want], unwanted: bool) -> bool
     ensures { result ≡ is_listed_so unwanted wants.now answer.now }
 {
     if unwanted {
@@ -126,15 +127,18 @@ fn part_text(
     let mut text = Vec::new(alloc);
     for answer in answers {
         if is_listed_so(answer, wants, unwanted) {
-            let part = answer_text(alloc, answer, unwanted)?;
+            let part = text_of_answer(alloc, answer, unwanted)?;
             text.extend_from_slice(part.as_slice())?;
         }
     }
     Ok(text)
 }
 
-// The text of an answer behind its schedule.
-fn answer_text(alloc: Global, answer: &Answer, unwanted: bool) -> Result<Vec<u8>, AllocError>
+/// The text of one answer in the text of its exploration: a blank line, its schedule, headed as not wanted where it is
+/// listed so, and then the report or the fault, as a replay under the schedule writes it.
+///
+/// The entries of the schedule are at most 999, and it has at most 1,000,000. `AllocError` where memory is refused.
+pub fn text_of_answer(alloc: Global, answer: &Answer, unwanted: bool) -> Result<Vec<u8>, AllocError>
     requires { IsSpellable answer.now }
     ensures { IfOk result (λ text. IsAnswerText unwanted answer.now text.items) }
 {
@@ -169,8 +173,9 @@ fn end_text(alloc: Global, end: &Result<Report, RunError>) -> Result<Vec<u8>, Al
     }
 }
 
-// How far the exploration came.
-fn first_line(alloc: Global, exploration: &Exploration) -> Result<String, AllocError>
+/// The first line of the text of an exploration: whether all was explored, how many worlds were found and how many
+/// reports and faults are listed. `AllocError` where memory is refused.
+pub fn first_line(alloc: Global, exploration: &Exploration) -> Result<String, AllocError>
     ensures { IfOk result (λ line. string_bytes line ≡ first_line exploration.now) }
 {
     let answers = exploration.answers.as_slice();

@@ -1,9 +1,9 @@
 -- Items behind others, one more at a time.
-use Rattle.std.proofs.Common.{◌≡◌, ℕ, ◌+◌, ◌<◌, ◌≤◌, List, [], ◌∷◌, ◌++◌, length, drop, get_or, map, refl, sym, ap, ◌∙◌, subst, add-one, suc}
-use Rattle.std.proofs.Math.Seq.{drop-cons}
+use Rattle.std.proofs.Common.{◌≡◌, ℕ, ◌+◌, ◌<◌, ◌≤◌, List, [], ◌∷◌, ◌++◌, length, drop, get_or, map, refl, sym, ap, ◌∙◌}
 use Rattle.std.proofs.lemmas.List.{drop_all}
 use Rattle.fiber_frames.specs.declared.mark.Mark.{Mark}
 use Rattle.outcome_trace.specs.declared.report.FiberReport.{FiberReport}
+use Rattle.exploration_text.proofs.Parts.{from_here}
 use Rattle.serde_json.specs.Data.{Data, Items, no_items, item}
 use Rattle.serde_json.specs.View.{items_of, items_view, view}
 use Rattle.serde_json.specs.declared.value.Value.{Value}
@@ -20,9 +20,6 @@ behind_one (x ∷ vs) v more = ap (λ ds. item (view x) ds) (behind_one vs v mor
 pub behind_none : (ds : Items) → items_behind ds no_items ≡ ds
 behind_none no_items = refl
 behind_none (item d ds) = ap (λ es. item d es) (behind_none ds)
-
-from_here : {A : Type 0} (all : List A) (i : ℕ) (a : A) → i < length all → a ≡ get_or all i a → drop i all ≡ a ∷ drop (i + 1) all
-from_here all i a low is = rw add-one (drop-cons all i a low ∙ ap (λ x. x ∷ drop (suc i) all) (sym is))
 
 pub one_mark : (all : List Mark) (i : ℕ) (m : Mark) (vs new : List Value) (v : Value) → i < length all → m ≡ get_or all i m →
     view v ≡ mark_data m → new ≡ vs ++ v ∷ [] → items_behind (items_view vs) (marks_items (drop i all)) ≡ marks_items all →

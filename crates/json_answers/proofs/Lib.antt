@@ -1,3 +1,6 @@
 pub mod AnswerLemmas
 pub mod Behind
+pub mod FoundLemmas
+pub mod FoundPlain
+pub mod FoundValues
 pub mod Plain

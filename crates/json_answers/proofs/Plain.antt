@@ -21,7 +21,7 @@ integer_plain : (z : ℤ) → is_float (of_integer z) ≡ false
 integer_plain (pos n) = refl
 integer_plain (negsuc n) = refl
 
-or_plain : (a b : Bool) → a ≡ false → b ≡ false → (a || b) ≡ false
+pub or_plain : (a b : Bool) → a ≡ false → b ≡ false → (a || b) ≡ false
 or_plain a b h k = ap₂ (λ x y. x || y) h k
 
 mark_plain : (m : Mark) → has_float (mark_data m) ≡ false

@@ -1,8 +1,10 @@
 //! Answers in JSON.
 
 use crate::limits::limits;
-use json_answers::{CheckJson, ReplayJson};
+use exploration_text::{Bounds, ExploreOrder, Want, read_want};
+use json_answers::{CheckJson, ExploreJson, ReplayJson, SampleJson};
 use outcome_trace::{Answer, Status, TextOrder};
+use sample_text::SampleOrder;
 use std::alloc::{AllocError, Global};
 use std::str;
 use std::test::Fail;
@@ -85,6 +87,104 @@ const REPLAYED: &[(&str, &str, Status)] = &[
     ),
 ];
 
+/// A program, how many worlds are kept, an outcome that is wanted if any is, what an exploration of it answers in JSON,
+/// and its status.
+const EXPLORED: &[(&str, usize, &[&str], &str, Status)] = &[
+    (
+        "(pure 1)",
+        100,
+        &[],
+        "{\"answer\":\"exploration\",\"answers\":[{\"report\":{\"answer\":\"report\",\"fibers\":[{\"fiber\":0,\
+            \"marks\":[],\"outcome\":{\"succeeded\":1}}]},\"schedule\":\"0*2\",\"wanted\":true}],\
+            \"complete\":true,\"worlds\":3}\n",
+        Status::Succeeded,
+    ),
+    (
+        "(pure 1)",
+        2,
+        &[],
+        "{\"answer\":\"exploration\",\"answers\":[],\"complete\":false,\"worlds\":2}\n",
+        Status::Unended,
+    ),
+    (
+        "(raise 7)",
+        100,
+        &["succeeded 7"],
+        "{\"answer\":\"exploration\",\"answers\":[{\"report\":{\"answer\":\"report\",\"fibers\":[{\"fiber\":0,\
+            \"marks\":[],\"outcome\":{\"errored\":7}}]},\"schedule\":\"0*2\",\"wanted\":false}],\
+            \"complete\":true,\"worlds\":3}\n",
+        Status::Errored,
+    ),
+    (
+        "(ref r 1 (ref s 2 (never)))",
+        100,
+        &[],
+        "{\"answer\":\"exploration\",\"answers\":[{\"fault\":{\"answer\":\"fault\",\"band\":\"refs\",\"limit\":1,\
+            \"name\":\"Full\",\"number\":18},\"schedule\":\"0*8\",\"wanted\":true}],\
+            \"complete\":true,\"worlds\":8}\n",
+        Status::Errored,
+    ),
+    (
+        "(ref r 1 (ref s 2 (never)))",
+        100,
+        &["unended"],
+        "{\"answer\":\"exploration\",\"answers\":[{\"fault\":{\"answer\":\"fault\",\"band\":\"refs\",\"limit\":1,\
+            \"name\":\"Full\",\"number\":18},\"schedule\":\"0*8\",\"wanted\":false}],\
+            \"complete\":true,\"worlds\":8}\n",
+        Status::Errored,
+    ),
+    (
+        "(never)",
+        100,
+        &["unended"],
+        "{\"answer\":\"exploration\",\"answers\":[{\"report\":{\"answer\":\"report\",\"fibers\":[{\"fiber\":0,\
+            \"marks\":[],\"outcome\":\"unended\"}]},\"schedule\":\"\",\"wanted\":true}],\
+            \"complete\":true,\"worlds\":2}\n",
+        Status::Succeeded,
+    ),
+    (
+        "(pure x)",
+        100,
+        &[],
+        "{\"answer\":\"refused\",\"name\":\"UnknownName\",\"number\":9,\"place\":6}\n",
+        Status::Refused,
+    ),
+];
+
+/// A program, a seed, how many schedules are drawn, what a sample of them answers in JSON, and its status.
+const SAMPLED: &[(&str, u64, u32, &str, Status)] = &[
+    (
+        "(pure 1)",
+        9,
+        5,
+        "{\"answer\":\"sample\",\"answers\":[{\"came\":5,\"report\":{\"answer\":\"report\",\"fibers\":[{\"fiber\":0,\
+            \"marks\":[],\"outcome\":{\"succeeded\":1}}]},\"schedule\":\"0*2\"}],\"seed\":9,\"times\":5}\n",
+        Status::Succeeded,
+    ),
+    (
+        "(ref r 1 (ref s 2 (never)))",
+        18446744073709551615,
+        3,
+        "{\"answer\":\"sample\",\"answers\":[{\"came\":3,\"fault\":{\"answer\":\"fault\",\"band\":\"refs\",\"limit\":1,\
+            \"name\":\"Full\",\"number\":18},\"schedule\":\"0*8\"}],\"seed\":18446744073709551615,\"times\":3}\n",
+        Status::Errored,
+    ),
+    (
+        "(pure 1)",
+        1,
+        0,
+        "{\"answer\":\"sample\",\"answers\":[],\"seed\":1,\"times\":0}\n",
+        Status::Succeeded,
+    ),
+    (
+        "",
+        1,
+        4,
+        "{\"answer\":\"refused\",\"name\":\"End\",\"number\":5,\"place\":0}\n",
+        Status::Refused,
+    ),
+];
+
 #[test]
 fn checks_are_told_in_json(rt: HostRuntime) -> Result<(), Fail> {
     for (text, want, status) in CHECKED {
@@ -109,6 +209,68 @@ fn replayed(alloc: Global, program: &str) -> Result<Answer, AllocError> {
 fn replays_are_told_in_json(rt: HostRuntime) -> Result<(), Fail> {
     for (program, want, status) in REPLAYED {
         let answer = replayed(rt.alloc(), *program)?;
+        assert_eq!(rt; str::from_utf8(answer.text.as_slice()), Ok(*want));
+        assert_eq!(rt; answer.status, *status);
+    }
+    Ok(())
+}
+
+// Adds the outcomes that words spell.
+fn push_wants(wants: &mut Vec<Want>, words: &[&str]) -> Result<(), Fail> {
+    for word in words {
+        match read_want(word) {
+            Some(Want::Ended(outcome)) => wants.push(Want::Ended(outcome))?,
+            Some(Want::Unended) => wants.push(Want::Unended)?,
+            None => return Err(Fail::new("no outcome is spelled so")),
+        }
+    }
+    Ok(())
+}
+
+// What an exploration answers, where these outcomes are wanted.
+fn explored(alloc: Global, program: &str, worlds: usize, words: &[&str]) -> Result<Answer, Fail> {
+    let mut wants = Vec::new(alloc);
+    push_wants(&mut wants, words)?;
+    let order = ExploreJson {
+        order: ExploreOrder {
+            limits: limits(1),
+            bounds: Bounds {
+                worlds,
+                entries: 1000,
+            },
+            wants,
+        },
+    };
+    Ok(order.answer(alloc, program.as_bytes())?)
+}
+
+#[test]
+fn explorations_are_told_in_json(rt: HostRuntime) -> Result<(), Fail> {
+    for (program, worlds, words, want, status) in EXPLORED {
+        let answer = explored(rt.alloc(), *program, *worlds, *words)?;
+        assert_eq!(rt; str::from_utf8(answer.text.as_slice()), Ok(*want));
+        assert_eq!(rt; answer.status, *status);
+    }
+    Ok(())
+}
+
+// What a sample answers.
+fn sampled(alloc: Global, program: &str, seed: u64, times: u32) -> Result<Answer, AllocError> {
+    let order = SampleJson {
+        order: SampleOrder {
+            limits: limits(1),
+            seed,
+            times,
+            entries: 1000,
+        },
+    };
+    order.answer(alloc, program.as_bytes())
+}
+
+#[test]
+fn samples_are_told_in_json(rt: HostRuntime) -> Result<(), Fail> {
+    for (program, seed, times, want, status) in SAMPLED {
+        let answer = sampled(rt.alloc(), *program, *seed, *times)?;
         assert_eq!(rt; str::from_utf8(answer.text.as_slice()), Ok(*want));
         assert_eq!(rt; answer.status, *status);
     }

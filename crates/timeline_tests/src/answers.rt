@@ -2,11 +2,12 @@
 
 ghost use Rattle.cell_registry.specs.Cells.{AreLimits};
 
+use exploration_text::{Bounds, ExploreOrder, Want, read_want};
 use outcome_trace::{Answer, Limits, TextOrder, read_schedule};
 use std::alloc::Global;
 use std::test::Fail;
 use timeline_svg::PictureOrder;
-use timeline_text::TimelineOrder;
+use timeline_text::{ExploreTimelineOrder, TimelineOrder};
 
 /// Limits that small programs keep, with so many fibers (1 to 16).
 pub fn limits(fibers: u16) -> Limits
@@ -41,6 +42,45 @@ pub fn pictured(alloc: Global, program: &str, schedule: &str, fibers: u16) -> Re
     let order = PictureOrder {
         schedule: entries.as_slice(),
         limits: limits(fibers),
+    };
+    Ok(order.answer(alloc, program.as_bytes())?)
+}
+
+// Adds the outcomes that words spell.
+fn push_wants(wants: &mut Vec<Want>, words: &[&str]) -> Result<(), Fail> {
+    for word in words {
+        match read_want(word) {
+            Some(Want::Ended(outcome)) => wants.push(Want::Ended(outcome))?,
+            Some(Want::Unended) => wants.push(Want::Unended)?,
+            None => return Err(Fail::new("no outcome is spelled so")),
+        }
+    }
+    Ok(())
+}
+
+/// The order to explore with at most so many fibers (1 to 16), where these outcomes are wanted.
+pub fn exploration(alloc: Global, fibers: u16, words: &[&str]) -> Result<ExploreOrder, Fail> {
+    let mut wants = Vec::new(alloc);
+    push_wants(&mut wants, words)?;
+    Ok(ExploreOrder {
+        limits: limits(fibers),
+        bounds: Bounds {
+            worlds: 100_000,
+            entries: 1000,
+        },
+        wants,
+    })
+}
+
+/// What is answered to a program that is explored, with its timelines.
+pub fn explored_with_timelines(
+    alloc: Global,
+    program: &str,
+    fibers: u16,
+    words: &[&str],
+) -> Result<Answer, Fail> {
+    let order = ExploreTimelineOrder {
+        order: exploration(alloc, fibers, words)?,
     };
     Ok(order.answer(alloc, program.as_bytes())?)
 }

@@ -13,6 +13,8 @@ mod blocks;
 #[cfg(test)]
 mod events;
 #[cfg(test)]
+mod explorations;
+#[cfg(test)]
 mod pictures;
 #[cfg(test)]
 mod timelines;

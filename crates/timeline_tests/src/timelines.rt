@@ -190,6 +190,112 @@ const ALONE: &[Told<'static>] = &[
     },
 ];
 
+/// Fibers alone that touch nothing shared but their own masks and requests.
+const UNSHARED: &[Told<'static>] = &[
+    Told {
+        rule: "moves of the fiber's own have no row",
+        program: "(forever (cede))",
+        schedule: "0*6",
+        fibers: 16,
+        status: Status::Unended,
+        text: "fiber 0 unended\n\n entry  fiber 0\n",
+    },
+    Told {
+        rule: "nor has the choice of a branch",
+        program: "(if0 0 (say 1) (say 2))",
+        schedule: "0*6",
+        fibers: 16,
+        status: Status::Succeeded,
+        text: "fiber 0 succeeded 0: say 1\n\n\
+            \x20entry  fiber 0\n\
+            \x20    4  say 1\n\
+            \x20    6  ends: succeeded 0\n",
+    },
+    Told {
+        rule: "nor an error that is handled",
+        program: "(handle (add 4611686018427387903 1) c (say c))",
+        schedule: "0*8",
+        fibers: 16,
+        status: Status::Succeeded,
+        text: "fiber 0 succeeded 0: say 1001\n\n\
+            \x20entry  fiber 0\n\
+            \x20    6  say 1001\n\
+            \x20    8  ends: succeeded 0\n",
+    },
+    Told {
+        rule: "what is repeated has a row each time",
+        program: "(repeat 2 (say 7))",
+        schedule: "0*16",
+        fibers: 16,
+        status: Status::Succeeded,
+        text: "fiber 0 succeeded 0: say 7, say 7\n\n\
+            \x20entry  fiber 0\n\
+            \x20    4  say 7\n\
+            \x20   10  say 7\n\
+            \x20   16  ends: succeeded 0\n",
+    },
+    Told {
+        rule: "a poll of the outer mask does nothing in the inner one",
+        program: "(uncancelable p (uncancelable q (poll p (say 1))))",
+        schedule: "0*10",
+        fibers: 16,
+        status: Status::Succeeded,
+        text: "fiber 0 succeeded 0: enter 0, enter 1, say 1, leave 1, leave 0\n\n\
+            \x20entry  fiber 0\n\
+            \x20    2  enter 0\n\
+            \x20    3  enter 1\n\
+            \x20    5  say 1\n\
+            \x20    7  leave 1\n\
+            \x20    8  leave 0\n\
+            \x20   10  ends: succeeded 0\n",
+    },
+    Told {
+        rule: "what is guaranteed comes behind an error",
+        program: "(guarantee (raise 3) (say 8))",
+        schedule: "0*15",
+        fibers: 16,
+        status: Status::Errored,
+        text: "fiber 0 errored 3: enter 0, in 0, out 0, say 8, leave 0\n\n\
+            \x20entry  fiber 0\n\
+            \x20    2  enter 0\n\
+            \x20    4  in 0\n\
+            \x20    6  out 0\n\
+            \x20    9  say 8\n\
+            \x20   13  leave 0\n\
+            \x20   15  ends: errored 3\n",
+    },
+    Told {
+        rule: "a finalizer behind the cut",
+        program: "(oncancel (seq (canceled) (say 1)) (say 2))",
+        schedule: "0*9",
+        fibers: 16,
+        status: Status::Canceled,
+        text: "fiber 0 canceled: cut, say 2\n\n\
+            \x20entry  fiber 0\n\
+            \x20    4  requests cancel 0\n\
+            \x20    5  sees the request\n\
+            \x20    6  cut\n\
+            \x20    7  say 2\n\
+            \x20    9  ends: canceled\n",
+    },
+    Told {
+        rule: "a request in a mask is seen behind it",
+        program: "(uncancelable p (seq (canceled) (say 4)))",
+        schedule: "0*9",
+        fibers: 16,
+        status: Status::Canceled,
+        text: "fiber 0 canceled: enter 0, say 4, leave 0, cut\n\n\
+            \x20entry  fiber 0\n\
+            \x20    2  enter 0\n\
+            \x20    3  requests cancel 0\n\
+            \x20    5  say 4\n\
+            \x20    6  leave 0\n\
+            \x20    7  sees the request\n\
+            \x20    8  cut\n\
+            \x20    9  ends: canceled\n",
+    },
+];
+
 const TOGETHER: &[Told<'static>] = &[
     Told {
         rule: "a join waits, and then takes the value",
@@ -263,6 +369,71 @@ const TOGETHER: &[Told<'static>] = &[
             \x20   12  ends: succeeded 4\n",
     },
     Told {
+        rule: "an error is taken from who ended with it",
+        program: "(start f (raise 6) (join f x (pure x) y (say y) (never)))",
+        schedule: "0*2 1*2 0*6",
+        fibers: 16,
+        status: Status::Succeeded,
+        text: "fiber 0 succeeded 0: say 6\nfiber 1 errored 6\n\n\
+            \x20entry  fiber 0                   fiber 1\n\
+            \x20    2  starts fiber 1\n\
+            \x20    4                            ends: errored 6\n\
+            \x20    6  joins fiber 1: errored 6\n\
+            \x20    8  say 6\n\
+            \x20   10  ends: succeeded 0\n",
+    },
+    Told {
+        rule: "two fibers write one ref",
+        program: "(ref r 0 (start f (modify r 2) (modify r 3)))",
+        schedule: "0*8 1*2 0*4 1*2",
+        fibers: 16,
+        status: Status::Succeeded,
+        text: "fiber 0 succeeded 2\nfiber 1 succeeded 0\n\n\
+            \x20entry  fiber 0               fiber 1\n\
+            \x20    2  makes ref 0\n\
+            \x20    4  set ref 0: 0\n\
+            \x20    8  starts fiber 1\n\
+            \x20   10                        modify ref 0: 0 -> 2\n\
+            \x20   12  modify ref 0: 2 -> 5\n\
+            \x20   14  ends: succeeded 2\n\
+            \x20   16                        ends: succeeded 0\n",
+    },
+    Told {
+        rule: "two fibers wait for one another",
+        program: "(deferred a (deferred b (start f (seq (await a) (complete b 1)) (seq (await b) (complete a 1)))))",
+        schedule: "0*8 1*2 0*2 1*2",
+        fibers: 16,
+        status: Status::Unended,
+        text: "fiber 0 unended\nfiber 1 unended\n\n\
+            \x20entry  fiber 0               fiber 1\n\
+            \x20    2  makes deferred 0\n\
+            \x20    4  makes deferred 1\n\
+            \x20    6  starts fiber 1\n\
+            \x20    8  waits for deferred 1\n\
+            \x20   10                        waits for deferred 0\n",
+    },
+    Told {
+        rule: "who cancels waits for the finalizers",
+        program: "(start f (oncancel (never) (say 5)) (cancel f))",
+        schedule: "0*2 1*4 0*4 1*5 0*4",
+        fibers: 16,
+        status: Status::Succeeded,
+        text: "fiber 0 succeeded 0: enter 0, leave 0\nfiber 1 canceled: cut, say 5\n\n\
+            \x20entry  fiber 0                  fiber 1\n\
+            \x20    2  starts fiber 1\n\
+            \x20    6                           waits for nothing\n\
+            \x20    8  enter 0\n\
+            \x20    9  requests cancel 1\n\
+            \x20   10  waits for fiber 1\n\
+            \x20   11                           sees the request\n\
+            \x20   12                           cut\n\
+            \x20   13                           say 5\n\
+            \x20   15                           ends: canceled\n\
+            \x20   16  joins fiber 1: canceled\n\
+            \x20   17  leave 0\n\
+            \x20   19  ends: succeeded 0\n",
+    },
+    Told {
         rule: "a fiber that has ended is asked in vain",
         program: "(start f (pure 1) (cancel f))",
         schedule: "0*3 1*2 0*5",
@@ -303,6 +474,14 @@ fn is_told(alloc: Global, it: &Told<'_>) -> Result<bool, Fail> {
 #[test]
 fn fibers_alone_have_timelines(rt: HostRuntime) -> Result<(), Fail> {
     for it in ALONE {
+        assert!(rt; is_told(rt.alloc(), it)?, "{}", it.rule);
+    }
+    Ok(())
+}
+
+#[test]
+fn fibers_that_touch_nothing_shared_have_timelines(rt: HostRuntime) -> Result<(), Fail> {
+    for it in UNSHARED {
         assert!(rt; is_told(rt.alloc(), it)?, "{}", it.rule);
     }
     Ok(())

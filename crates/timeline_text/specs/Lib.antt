@@ -1,1 +1,2 @@
 pub mod TimelineAnswers
+pub mod ExploreTimelines

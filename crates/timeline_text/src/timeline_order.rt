@@ -1,6 +1,6 @@
 //! What comes of a text under a schedule, with its timeline.
 
-ghost use Rattle.std.specs.Prelude.{◌≡◌, ◌++◌, ◌∷◌, IfOk};
+ghost use Rattle.std.specs.Prelude.{◌≡◌, ◌++◌, ◌∷◌, IfOk, OnOk};
 ghost use Rattle.cell_registry.specs.Cells.{AreLimits};
 ghost use Rattle.timeline_text.specs.TimelineAnswers.{IsTimelineAnswer, IsToldAnswer, end_status, end_text};
 
@@ -59,9 +59,16 @@ fn with_rows(front: Answer, rows: &[u8]) -> Result<Answer, AllocError>
     ensures status { IfOk result (λ a. a.status ≡ front.status) }
 {
     let Answer { mut text, status } = front;
-    text.push(b'\n')?;
-    text.extend_from_slice(rows)?;
+    push_rows(&mut text, rows)?;
     Ok(Answer { text, status })
+}
+
+/// Puts a blank line and a timeline behind a text.
+pub(crate) fn push_rows(text: &mut Vec<u8>, rows: &[u8]) -> Result<(), AllocError>
+    ensures { OnOk result (text.new.items ≡ text.old.items ++ 10 ∷ rows.now) }
+{
+    text.push(b'\n')?;
+    text.extend_from_slice(rows)
 }
 
 // The text of a report, or the line of a fault.

@@ -1,5 +1,4 @@
-use Rattle.std.proofs.Common.{◌≡◌, List, drop}
-use Rattle.fiber_frames.specs.declared.mark.Mark.{Mark}
+use Rattle.std.proofs.Common.{◌≡◌, drop}
 use Rattle.serde_json.specs.View.{items_view}
 use Rattle.json_answers.specs.ReportData.{marks_items}
 use Rattle.json_answers.proofs.Behind.{items_behind}

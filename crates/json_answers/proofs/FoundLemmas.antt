@@ -1,0 +1,75 @@
+-- Answers in JSON to texts whose programs are explored, or whose schedules are sampled.
+use Rattle.std.proofs.Common.{◌≡◌, ℕ, List, Result, Ok, Err, IfOk, ◌∙◌, subst}
+use Rattle.cell_registry.specs.declared.limits.Limits.{Limits}
+use Rattle.derived_ops.specs.Expansion.{code_of}
+use Rattle.derived_ops.specs.Reading.{source_of}
+use Rattle.effect_term.specs.declared.term.Term.{Term}
+use Rattle.effect_term.specs.Programs.{IsProgram}
+use Rattle.term_parse.specs.Atoms.{atoms_of}
+use Rattle.term_parse.specs.Reading.{reading}
+use Rattle.text_io.specs.declared.status.Status.{Status}
+use Rattle.text_io.specs.declared.text_order.Answer.{Answer}
+use Rattle.every_schedule.specs.declared.exploration.Exploration.{Exploration}
+use Rattle.exploration_text.specs.declared.wants.Want.{Want}
+use Rattle.exploration_text.specs.ExplorationText.{exploration_status}
+use Rattle.exploration_text.specs.ExploreAnswers.{IsExplorationOf}
+use Rattle.sampled_schedules.specs.declared.comings.Sample.{Sample}
+use Rattle.sample_text.specs.SampleAnswers.{IsSampleAt}
+use Rattle.sample_text.specs.SampleText.{sample_status}
+use Rattle.serde_json.specs.Data.{Data}
+use Rattle.json_answers.specs.Answers.{IsJsonRefusal}
+use Rattle.json_answers.specs.ExplorationData.{IsExplorationData}
+use Rattle.json_answers.specs.FoundAnswers.{IsJsonExplore, IsJsonExplored, IsJsonSample, IsJsonSampled, explores, samples, unexplored, unsampled}
+use Rattle.json_answers.specs.ReportData.{line_of_data}
+use Rattle.json_answers.specs.SampleData.{IsSampleData}
+
+pub exploration_answers : {E : Type 0} (t : Term) (limits : Limits) (wants seen : List Want) (e : Exploration) (d : Data) (status : Status)
+    (a : Result Answer E) → seen ≡ wants → IsExplorationOf (code_of (source_of t)) limits e → IsExplorationData seen e d →
+    status ≡ exploration_status seen e → IfOk a (λ a. a.text.items ≡ line_of_data d) → IfOk a (λ a. a.status ≡ status) →
+    IfOk a (λ a. IsJsonExplored t limits wants a.text.items a.status)
+exploration_answers t limits wants seen e d status (Ok a) same explored is ends line so = record {
+  exploration = e;
+  explored = explored;
+  value = d;
+  value_is = subst (λ ws. IsExplorationData ws e d) same is;
+  text_is = line;
+  status_is = subst (λ ws. a.status ≡ exploration_status ws e) same (so ∙ ends);
+}
+exploration_answers t limits wants seen e d status (Err x) same explored is ends line so = tt
+
+pub program_explored : {E : Type 0} (text : List ℕ) (limits : Limits) (wants : List Want) (t : Term) (a : Result Answer E) →
+    reading text ≡ Ok (atoms_of t) → IsProgram t → IfOk a (λ a. IsJsonExplored t limits wants a.text.items a.status) →
+    IfOk a (λ a. IsJsonExplore limits wants text a.text.items a.status)
+program_explored text limits wants t (Ok a) e p h = explores text a.text.items a.status t e p h
+program_explored text limits wants t (Err x) e p h = tt
+
+pub refusal_explored : {E : Type 0} (text : List ℕ) (limits : Limits) (wants : List Want) (a : Result Answer E) →
+    IfOk a (λ a. IsJsonRefusal text a.text.items a.status) → IfOk a (λ a. IsJsonExplore limits wants text a.text.items a.status)
+refusal_explored text limits wants (Ok a) h = unexplored text a.text.items a.status h
+refusal_explored text limits wants (Err x) h = tt
+
+pub sample_answers : {E : Type 0} (t : Term) (limits : Limits) (seed times entries : ℕ) (s : Sample) (d : Data) (status : Status)
+    (a : Result Answer E) → IsSampleAt (code_of (source_of t)) limits times entries s → IsSampleData seed s d →
+    status ≡ sample_status s → IfOk a (λ a. a.text.items ≡ line_of_data d) → IfOk a (λ a. a.status ≡ status) →
+    IfOk a (λ a. IsJsonSampled t limits seed times entries a.text.items a.status)
+sample_answers t limits seed times entries s d status (Ok a) sampled is ends line so = record {
+  sample = s;
+  sampled = sampled;
+  value = d;
+  value_is = is;
+  text_is = line;
+  status_is = so ∙ ends;
+}
+sample_answers t limits seed times entries s d status (Err x) sampled is ends line so = tt
+
+pub program_sampled : {E : Type 0} (text : List ℕ) (limits : Limits) (seed times entries : ℕ) (t : Term) (a : Result Answer E) →
+    reading text ≡ Ok (atoms_of t) → IsProgram t → IfOk a (λ a. IsJsonSampled t limits seed times entries a.text.items a.status) →
+    IfOk a (λ a. IsJsonSample limits seed times entries text a.text.items a.status)
+program_sampled text limits seed times entries t (Ok a) e p h = samples text a.text.items a.status t e p h
+program_sampled text limits seed times entries t (Err x) e p h = tt
+
+pub refusal_sampled : {E : Type 0} (text : List ℕ) (limits : Limits) (seed times entries : ℕ) (a : Result Answer E) →
+    IfOk a (λ a. IsJsonRefusal text a.text.items a.status) →
+    IfOk a (λ a. IsJsonSample limits seed times entries text a.text.items a.status)
+refusal_sampled text limits seed times entries (Ok a) h = unsampled text a.text.items a.status h
+refusal_sampled text limits seed times entries (Err x) h = tt

@@ -1,0 +1,107 @@
+-- The values of answers, one answer at a time.
+use Rattle.std.proofs.Common.{◌≡◌, ◌+◌, ◌<◌, ◌≤◌, ℕ, Bool, true, false, not, cond, List, [], ◌∷◌, ◌++◌, Result, Ok, Err, IfOk, length, drop, get_or, map, refl, sym, ap, ◌∙◌, subst, append_assoc, append-nil}
+use Rattle.std.specs.List.{filter}
+use Rattle.std.proofs.lemmas.List.{drop_all, map-append}
+use Rattle.text_io.specs.Schedule.{SpellsEntries}
+use Rattle.every_schedule.specs.declared.exploration.Answer.{Answer}
+use Rattle.every_schedule.specs.declared.exploration.Exploration.{Exploration}
+use Rattle.exploration_text.specs.declared.wants.Want.{Want}
+use Rattle.exploration_text.specs.ExplorationText.{is_listed_so}
+use Rattle.exploration_text.proofs.Parts.{from_here}
+use Rattle.sampled_schedules.specs.declared.comings.Coming.{Coming}
+use Rattle.sampled_schedules.specs.declared.comings.Sample.{Sample}
+use Rattle.serde_json.specs.Data.{Data}
+use Rattle.serde_json.specs.View.{items_of, items_view, view}
+use Rattle.serde_json.specs.declared.value.Value.{Value}
+use Rattle.json_answers.specs.ExplorationData.{AreAnswersData, IsAnswerData, IsExplorationData, IsPartData, exploration_data, found_data}
+use Rattle.json_answers.specs.SampleData.{AreComingsData, IsComingData, IsSampleData, came_data, sample_data}
+
+pub one_more : (vs new : List Value) (v : Value) → new ≡ vs ++ v ∷ [] → map view new ≡ map view vs ++ view v ∷ []
+one_more vs new v is = ap (λ xs. map view xs) is ∙ map-append view vs (v ∷ [])
+
+-- with the values of the answers from this one on behind them, they are those of all
+abbrev pub IsFront : Bool → List Want → List Answer → ℕ → List Data → Type 0
+IsFront u wants all i ds =
+    (behind : List Data) → IsPartData u wants (drop i all) behind → IsPartData u wants all (ds ++ behind)
+
+pub listed : (u : Bool) (wants : List Want) (all : List Answer) (i : ℕ) (a : Answer) (ds new : List Data) (d : Data) → i < length all →
+    a ≡ get_or all i a → is_listed_so u wants a ≡ true → IsAnswerData u a d → new ≡ ds ++ d ∷ [] →
+    IsFront u wants all i ds → IsFront u wants all (i + 1) new
+listed u wants all i a ds new d low at so is new_is front = λ behind h.
+    let rest = filter (λ x. is_listed_so u wants x) (drop (i + 1) all) in
+    let first : AreAnswersData u (a ∷ rest) (d ∷ behind) = (d, behind, refl, is, h) in
+    let whole : IsPartData u wants (a ∷ drop (i + 1) all) (d ∷ behind) =
+    subst (λ b. AreAnswersData u (cond b (a ∷ rest) rest) (d ∷ behind)) (sym so) first in
+    let here : IsPartData u wants (drop i all) (d ∷ behind) =
+    subst (λ xs. IsPartData u wants xs (d ∷ behind)) (sym (from_here all i a low at)) whole in
+    subst (λ t. IsPartData u wants all t) (sym (ap (λ t. t ++ behind) new_is ∙ append_assoc ds (d ∷ []) behind))
+    (front (d ∷ behind) here)
+
+pub passed : (u : Bool) (wants : List Want) (all : List Answer) (i : ℕ) (a : Answer) (ds new : List Data) → i < length all →
+    a ≡ get_or all i a → is_listed_so u wants a ≡ false → new ≡ ds → IsFront u wants all i ds → IsFront u wants all (i + 1) new
+passed u wants all i a ds new low at so new_is front = λ behind h.
+    let rest = filter (λ x. is_listed_so u wants x) (drop (i + 1) all) in
+    let whole : IsPartData u wants (a ∷ drop (i + 1) all) behind =
+    subst (λ b. AreAnswersData u (cond b (a ∷ rest) rest) behind) (sym so) h in
+    let here : IsPartData u wants (drop i all) behind =
+    subst (λ xs. IsPartData u wants xs behind) (sym (from_here all i a low at)) whole in
+    subst (λ t. IsPartData u wants all (t ++ behind)) (sym new_is) (front behind here)
+
+pub all_listed : (u : Bool) (wants : List Want) (all : List Answer) (i : ℕ) (ds : List Data) → length all ≤ i →
+    IsFront u wants all i ds → IsPartData u wants all ds
+all_listed u wants all i ds past front =
+    let none : IsPartData u wants (drop i all) [] =
+    subst (λ xs. IsPartData u wants xs []) (sym (drop_all i all past)) refl in
+    subst (λ t. IsPartData u wants all t) (append-nil ds) (front [] none)
+
+-- with the values of what schedules came to from this one on behind them, they are those of all
+abbrev pub IsCameFront : List Coming → ℕ → List Data → Type 0
+IsCameFront all i ds = (behind : List Data) → AreComingsData (drop i all) behind → AreComingsData all (ds ++ behind)
+
+pub came : (all : List Coming) (i : ℕ) (c : Coming) (ds new : List Data) (d : Data) → i < length all → c ≡ get_or all i c →
+    IsComingData c d → new ≡ ds ++ d ∷ [] → IsCameFront all i ds → IsCameFront all (i + 1) new
+came all i c ds new d low at is new_is front = λ behind h.
+    let first : AreComingsData (c ∷ drop (i + 1) all) (d ∷ behind) = (d, behind, refl, is, h) in
+    let here : AreComingsData (drop i all) (d ∷ behind) =
+    subst (λ xs. AreComingsData xs (d ∷ behind)) (sym (from_here all i c low at)) first in
+    subst (λ t. AreComingsData all t) (sym (ap (λ t. t ++ behind) new_is ∙ append_assoc ds (d ∷ []) behind))
+    (front (d ∷ behind) here)
+
+pub all_came : (all : List Coming) (i : ℕ) (ds : List Data) → length all ≤ i → IsCameFront all i ds → AreComingsData all ds
+all_came all i ds past front =
+    let none : AreComingsData (drop i all) [] = subst (λ xs. AreComingsData xs []) (sym (drop_all i all past)) refl in
+    subst (λ t. AreComingsData all t) (append-nil ds) (front [] none)
+
+pub answer_found : {E : Type 0} (u : Bool) (a : Answer) (schedule : List ℕ) (r : Result Value E) → SpellsEntries schedule a.schedule →
+    IfOk r (λ v. view v ≡ found_data schedule (not u) a.end) → IfOk r (λ v. IsAnswerData u a (view v))
+answer_found u a schedule (Ok v) spelled made = record { schedule = schedule; spelled = spelled; data_is = made }
+answer_found u a schedule (Err e) spelled made = tt
+
+pub coming_found : {E : Type 0} (c : Coming) (schedule : List ℕ) (r : Result Value E) → SpellsEntries schedule c.answer.schedule →
+    IfOk r (λ v. view v ≡ came_data c.times schedule c.answer.end) → IfOk r (λ v. IsComingData c (view v))
+coming_found c schedule (Ok v) spelled made = record { schedule = schedule; spelled = spelled; data_is = made }
+coming_found c schedule (Err e) spelled made = tt
+
+pub exploration_found : {E : Type 0} (wants : List Want) (e : Exploration) (answers : List Answer) (all some others : List Value)
+    (r : Result Value E) → answers ≡ e.answers → all ≡ some ++ others → IsPartData true wants answers (map view some) →
+    IsPartData false wants answers (map view others) → IfOk r (λ v. view v ≡ exploration_data (items_view all) e.complete e.worlds) →
+    IfOk r (λ v. IsExplorationData wants e (view v))
+exploration_found wants e answers all some others (Ok v) same is unwanted rest made = record {
+  unwanted = map view some;
+  others = map view others;
+  data_is = made ∙ ap (λ ds. exploration_data (items_of ds) e.complete e.worlds)
+      (ap (λ xs. map view xs) is ∙ map-append view some others);
+  unwanted_is = subst (λ xs. IsPartData true wants xs (map view some)) same unwanted;
+  others_are = subst (λ xs. IsPartData false wants xs (map view others)) same rest;
+}
+exploration_found wants e answers all some others (Err x) same is unwanted rest made = tt
+
+pub sample_found : {E : Type 0} (seed : ℕ) (s : Sample) (comings : List Coming) (all : List Value) (r : Result Value E) →
+    comings ≡ s.comings → AreComingsData comings (map view all) →
+    IfOk r (λ v. view v ≡ sample_data (items_view all) seed s.schedules) → IfOk r (λ v. IsSampleData seed s (view v))
+sample_found seed s comings all (Ok v) same are made = record {
+  comings = map view all;
+  data_is = made;
+  comings_are = subst (λ xs. AreComingsData xs (map view all)) same are;
+}
+sample_found seed s comings all (Err x) same are made = tt

@@ -1,0 +1,13 @@
+use Rattle.json_answers.proofs.FoundLemmas.{exploration_answers}
+use Rattle.json_answers.proofs.FoundPlain.{exploration_plain}
+use Rattle.json_answers.proofs.explore_orders.explored_answer.Goals as goal
+
+pub value_answer-requires : goal.value_answer-requires
+value_answer-requires c = exploration_plain _ _ _ c.in_ok-value.ensures
+
+pub returns : goal.returns
+returns c =
+    let order = c.args.order.now in
+    exploration_answers c.args.program.now order.limits order.wants.items _ c.in-Ok.exploration _ c.exploration_status.result c.value_answer.result
+    c.as_slice-wants.ensures.value (record { all = c.in-Ok.ensures.all; each = c.in-Ok.ensures.each }) c.in_ok-value.ensures c.exploration_status.ensures
+    c.value_answer.ensures.line c.value_answer.ensures.status

@@ -1,0 +1,11 @@
+use Rattle.std.proofs.Common.{List, ◌++◌, drop, map}
+use Rattle.serde_json.specs.Data.{Data}
+use Rattle.serde_json.specs.View.{view}
+use Rattle.json_answers.specs.SampleData.{AreComingsData}
+use Rattle.json_answers.proofs.sample_values.coming_values.Given as goal
+
+-- with the values of what is left behind them, they are those of all
+abbrev pub invariant-loop-coming : goal.invariant-loop-coming
+invariant-loop-coming l =
+    (behind : List Data) → AreComingsData (drop l.coming-index l.comings) behind →
+    AreComingsData l.comings (map view l.values.items ++ behind)

@@ -1,0 +1,80 @@
+//! Samples as JSON.
+
+ghost use Rattle.std.specs.Prelude.{◌≡◌, IfOk, map};
+ghost use Rattle.std.specs.List.{All};
+ghost use Rattle.serde_json.specs.View.{items_view, view};
+ghost use Rattle.exploration_text.specs.ExplorationText.{IsSpellable};
+ghost use Rattle.json_answers.specs.SampleData.{AreComingsData, IsComingData, IsSampleData, came_data, sample_data};
+
+use crate::report_values::{fault_json, report_json};
+use cell_registry::RunError;
+use outcome_trace::{Report, schedule_text};
+use sampled_schedules::{Coming, Sample};
+use serde_json::{Value, json};
+use std::alloc::{AllocError, Global};
+
+/// A sample: what its schedules came to, in the order in which it came first, the seed and how many were drawn.
+/// `AllocError` where memory ran out.
+pub(crate) fn sample_json(alloc: Global, sample: &Sample, seed: u64) -> Result<Value, AllocError>
+    requires { All (λ c. IsSpellable c.answer) sample.now.comings }
+    ensures { IfOk result (λ value. IsSampleData seed sample.now (view value)) }
+{
+    let answers = coming_values(alloc, sample.comings.as_slice())?;
+    sample_value(alloc, answers, seed, sample.schedules)
+}
+
+// What schedules came to, the seed and how many were drawn.
+fn sample_value(
+    alloc: Global,
+    answers: Vec<Value>,
+    seed: u64,
+    times: u32,
+) -> Result<Value, AllocError>
+    ensures { IfOk result (λ value. view value ≡ sample_data (items_view answers.items) seed times) }
+{
+    let answers = Value::Array(answers);
+    json!(in alloc; {"answer": "sample", "answers": answers, "seed": seed, "times": times})
+}
+
+// What schedules came to, in its order.
+fn coming_values(alloc: Global, comings: &[Coming]) -> Result<Vec<Value>, AllocError>
+    requires { All (λ c. IsSpellable c.answer) comings.now }
+    ensures { IfOk result (λ values. AreComingsData comings.now (map view values.items)) }
+{
+    let mut values = Vec::new(alloc);
+    for coming in comings {
+        let value = coming_value(alloc, coming)?;
+        values.push(value)?;
+    }
+    Ok(values)
+}
+
+// What some of the schedules came to.
+fn coming_value(alloc: Global, coming: &Coming) -> Result<Value, AllocError>
+    requires { IsSpellable coming.now.answer }
+    ensures { IfOk result (λ value. IsComingData coming.now (view value)) }
+{
+    let schedule = schedule_text(alloc, coming.answer.schedule.as_slice())?;
+    came_value(alloc, coming.times, schedule.as_str(), &coming.answer.end)
+}
+
+// How many schedules came to a report or a fault, and the first that did.
+fn came_value(
+    alloc: Global,
+    times: u32,
+    schedule: &str,
+    end: &Result<Report, RunError>,
+) -> Result<Value, AllocError>
+    ensures { IfOk result (λ value. view value ≡ came_data times schedule.now end.now) }
+{
+    match end {
+        Ok(report) => {
+            let report = report_json(alloc, report)?;
+            json!(in alloc; {"came": times, "report": report, "schedule": schedule})
+        }
+        Err(error) => {
+            let fault = fault_json(alloc, *error)?;
+            json!(in alloc; {"came": times, "fault": fault, "schedule": schedule})
+        }
+    }
+}
