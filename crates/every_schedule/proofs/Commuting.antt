@@ -1,5 +1,5 @@
 -- A fiber's own move commutes with each move of another fiber.
-use Rattle.std.proofs.Common.{◌≡◌, ◌≢◌, ℕ, zero, suc, true, List, [], ◌∷◌, ◌++◌, set, Some, None, Option, Result, Ok, Err, refl, sym, ap, ◌∙◌, subst, append-nil}
+use Rattle.std.proofs.Common.{◌≡◌, ◌≢◌, ℕ, zero, suc, true, List, [], ◌∷◌, ◌++◌, set, Some, None, Option, Result, Ok, refl, sym, ap, ◌∙◌, subst, append-nil}
 use Rattle.std.specs.List.{slice_get}
 use Rattle.effect_term.specs.declared.reply.Reply.{Reply}
 use Rattle.fiber_frames.specs.Fiber.{Fiber, ask_of, move, silent_move}
@@ -11,7 +11,7 @@ use Rattle.cell_registry.specs.declared.call.Call.TheVariants.{Look, Mask, Unmas
 use Rattle.cell_registry.specs.Cells.{Cells, after, refusal, reply_of}
 use Rattle.outcome_trace.specs.declared.wish.Wish.{Wish}
 use Rattle.outcome_trace.specs.declared.wish.Wish.TheVariants.{Shared, Alone, Nothing}
-use Rattle.outcome_trace.specs.Core.{World, answered, born, called, fault_of, turned, wish_of, wished}
+use Rattle.outcome_trace.specs.Core.{World, answered, born, called, turned, wish_of, wished}
 use Rattle.outcome_trace.specs.Finals.{reply_to}
 use Rattle.outcome_trace.proofs.Lists.{slice_get-set_other}
 use Rattle.outcome_trace.proofs.Standing.Lists.{get_early}

@@ -1,5 +1,5 @@
 -- Reports grow: each entry leaves the report as it is, or makes it larger.
-use Rattle.std.proofs.Common.{◌≡◌, ◌⊎◌, inl, inr, ℕ, zero, suc, ◌+◌, ◌<◌, List, [], ◌∷◌, ◌++◌, length, map, set, Some, None, Option, Ok, Err, refl, sym, ap, ◌∙◌, subst, arith, append-nil, length-append}
+use Rattle.std.proofs.Common.{◌≡◌, ◌⊎◌, inl, inr, ℕ, zero, suc, ◌+◌, ◌<◌, List, [], ◌∷◌, ◌++◌, length, map, set, Some, None, Option, Ok, refl, sym, ap, ◌∙◌, subst, arith, append-nil, length-append}
 use Rattle.std.specs.List.{slice_get}
 use Rattle.effect_term.specs.declared.reply.Outcome.{Outcome}
 use Rattle.effect_term.specs.declared.reply.Reply.{Reply}
@@ -10,7 +10,7 @@ use Rattle.fiber_frames.specs.declared.mark.Mark.{Mark}
 use Rattle.fiber_frames.specs.declared.mark.Mark.TheVariants as mark
 use Rattle.fiber_frames.specs.Path.{Running, Runs, Final, Over, Broken}
 use Rattle.fiber_frames.specs.Rows.{Row}
-use Rattle.fiber_frames.specs.Fiber.{Fiber, Move_case, Looks, Cuts, Reduces, Rests, active_of, ask_of, case_in, cut, move, move_case, move_in, outcome_in, outcome_of, reduced, row_of, silent_move}
+use Rattle.fiber_frames.specs.Fiber.{Fiber, Move_case, Looks, Cuts, Reduces, Rests, active_of, ask_of, case_in, move, move_case, move_in, outcome_in, outcome_of, reduced, row_of, silent_move}
 use Rattle.cell_registry.specs.declared.limits.Limits.{Limits}
 use Rattle.cell_registry.specs.declared.limits.CellError.{CellError}
 use Rattle.cell_registry.specs.declared.call.Call.{Call}

@@ -97,6 +97,7 @@ fn are_among(ones: &[Answer], others: &[Answer]) -> bool {
 }
 
 /// The full exploration of a program, and the reduced one.
+#[derive(Drop)]
 struct Both {
     full: Exploration,
     reduced: Exploration,

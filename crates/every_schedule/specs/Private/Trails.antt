@@ -1,5 +1,5 @@
 -- The entries that lead to a world, one by one.
-use Rattle.std.specs.Prelude.{◌≡◌, ◌++◌, ◌<◌, ◌≤◌, ℕ, Bool, true, List, length, Some, Result, Ok}
+use Rattle.std.specs.Prelude.{◌≡◌, ◌++◌, ◌<◌, ◌≤◌, ℕ, List, length, Some, Result, Ok}
 use Rattle.std.specs.List.{All, slice_get}
 use Rattle.cell_registry.specs.declared.limits.RunError.{RunError}
 use Rattle.world_search.specs.declared.answers.Answer.{Answer as Found}

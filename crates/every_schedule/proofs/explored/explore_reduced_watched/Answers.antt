@@ -8,9 +8,8 @@ use Rattle.world_search.specs.declared.answers.Answer.{Answer as Found}
 use Rattle.world_search.specs.Answers as search
 use Rattle.every_schedule.specs.declared.exploration.Answer.{Answer}
 use Rattle.every_schedule.specs.Explored.{IsAnswered, IsCovered, IsReached}
-use Rattle.every_schedule.specs.Places.{Kept, Place, first_place, report_at, stepped}
-use Rattle.every_schedule.specs.Reduced.{leapt}
-use Rattle.every_schedule.specs.Private.Trails.{AreUnfolded, IsKeptIn}
+use Rattle.every_schedule.specs.Places.{Kept, first_place, report_at, stepped}
+use Rattle.every_schedule.specs.Private.Trails.{AreUnfolded}
 use Rattle.every_schedule.proofs.Placed.{core_run}
 use Rattle.every_schedule.proofs.Laws.{alike, ended, faultless}
 use Rattle.every_schedule.proofs.Told.{all_within, answered, covered, numbered, reached, short}

@@ -1,4 +1,4 @@
-use Rattle.std.proofs.Common.{◌≡◌, ℕ, ◌<◌, List, Ok, sym, subst, arith}
+use Rattle.std.proofs.Common.{ℕ, ◌<◌, List, Ok, sym, subst, arith}
 use Rattle.every_schedule.specs.Private.Trails.{IsTrail}
 use Rattle.every_schedule.proofs.Trails.{trail_more, trail_one}
 use Rattle.every_schedule.proofs.leaping.leap.Goals as goal

@@ -1,4 +1,4 @@
-use Rattle.std.proofs.Common.{sym, subst}
+use Rattle.std.proofs.Common.{subst}
 use Rattle.std.proofs.lemmas.Result.{IfOk-weaker}
 use Rattle.world_search.specs.Landings.{EntersAt}
 use Rattle.every_schedule.proofs.Leaps.{leapt_none}
