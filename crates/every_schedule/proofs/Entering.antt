@@ -1,5 +1,5 @@
 -- What an entry makes of the worlds that are kept.
-use Rattle.std.proofs.Common.{◌≡◌, ◌≢◌, ℕ, zero, suc, ◌≤◌, List, [], ◌∷◌, length, map, Some, Ok, Err, Result, sym, ap, ◌∙◌, subst, arith}
+use Rattle.std.proofs.Common.{◌≡◌, ◌≢◌, ℕ, zero, suc, ◌≤◌, List, [], ◌∷◌, length, map, Option, Some, None, Ok, Err, Result, refl, sym, ap, ◌∙◌, subst, arith}
 use Rattle.std.specs.Prelude.{IfOk, max}
 use Rattle.std.specs.List.{slice_get}
 use Rattle.std.proofs.lemmas.List.{length-map}
@@ -19,6 +19,7 @@ use Rattle.world_search.specs.Landings.{EntersAt}
 use Rattle.world_search.specs.Lists.{IsMore}
 use Rattle.world_search.proofs.Lists.{more_same}
 use Rattle.every_schedule.specs.Places.{Place, placed, report_at, stepped}
+use Rattle.every_schedule.specs.Reduced.{after_own, behind, leapt, leapt_by, or_stays, own_in, pushed, pushed_once}
 use Rattle.every_schedule.specs.Private.Keeping.{IsKept}
 use Rattle.every_schedule.specs.Private.Numbered.{AreAt, AreWorlds, IsWorld, IsWorldOf, MayAdd, Numbers, picked, place_of}
 use Rattle.every_schedule.specs.Private.Reporting.{AreAlike, AreOther}
@@ -29,6 +30,30 @@ use Rattle.every_schedule.proofs.Numbered.{is_place, map_get, one_world, picked_
 limits_kept : (k : Limits) (x : Result World RunError) (q : Place) → placed k x ≡ Ok q → q.limits ≡ k
 limits_kept k (Ok w) q e = let same : record { limits = k; world = w } ≡ q = cc in sym (ap (λ (p : Place). p.limits) same)
 limits_kept k (Err d) q e = absurd (cc)
+
+-- and so are own moves
+once_limits : (p : Place) (o : Option ℕ) → (after_own p o).limits ≡ p.limits
+once_limits p None = refl
+once_limits p (Some f) = by (stepped p f) refl
+  where
+    by : (y : Result Place RunError) → stepped p f ≡ y → (or_stays p y).limits ≡ p.limits
+    by (Ok q) e = limits_kept p.limits (entered p.limits (Ok p.world) f) q e
+    by (Err d) e = refl
+
+pushed_limits : (n : ℕ) (p : Place) → (pushed n p).limits ≡ p.limits
+unfolding pushed
+pushed_limits zero p = refl
+pushed_limits (suc n) p = pushed_limits n (pushed_once p) ∙ once_limits p (own_in p)
+
+behind_limits : (n : ℕ) (p : Place) (f : ℕ) (y : Result Place RunError) (q : Place) → stepped p f ≡ y → behind n y ≡ Ok q → q.limits ≡ p.limits
+behind_limits n p f (Ok x) q is e =
+    let same : pushed n x ≡ q = cc in
+    ap (λ (r : Place). r.limits) (sym same) ∙ pushed_limits n x ∙ limits_kept p.limits (entered p.limits (Ok p.world) f) x is
+behind_limits n p f (Err d) q is e = absurd (cc)
+
+leapt_limits : (n : ℕ) (p : Place) (f : ℕ) (q : Place) (o : Option Fiber) → leapt_by n p f o ≡ Ok q → q.limits ≡ p.limits
+leapt_limits n p f q None e = let same : p ≡ q = cc in ap (λ (r : Place). r.limits) (sym same)
+leapt_limits n p f q (Some g) e = behind_limits n p f (stepped p f) q refl e
 
 -- the place of this number
 pub place_at : (k : Limits) (fs : List Fiber) (rs : List PlainView) (rows : List Numbers) (i : ℕ) (m : Numbers) (x : Place) → slice_get rows i ≡ Some m → slice_get (map (place_of k fs rs) rows) i ≡ Some x → place_of k fs rs m ≡ x
@@ -49,9 +74,9 @@ module _ (k : Limits) (fs fs' : List Fiber) (rs rs' : List PlainView) (mf : IsMo
   pub places_stay : IsMore (map (place_of k fs rs) rows) (map (place_of k fs' rs') rows)
   places_stay = subst (IsMore (map (place_of k fs rs) rows)) (places_more fs fs' rs rs' mf mr k rows worlds) (more_same (map (place_of k fs rs) rows))
 
-  module _ (f : ℕ) (n : Numbers) (next : Place) (goes : stepped now f ≡ Ok next) (is_next : IsWorldOf fs' rs' n next) (fits : AllFit next.world) (rows' : List Numbers) (adds : MayAdd rows rows' n) where
+  module _ (a f : ℕ) (n : Numbers) (next : Place) (goes : leapt a now f ≡ Ok next) (is_next : IsWorldOf fs' rs' n next) (fits : AllFit next.world) (rows' : List Numbers) (adds : MayAdd rows rows' n) where
     next_limits : next.limits ≡ k
-    next_limits = limits_kept now.limits (entered now.limits (Ok now.world) f) next goes ∙ now_limits
+    next_limits = leapt_limits a now f next (slice_get now.world.fibers f) goes ∙ now_limits
 
     pub rows_hold : AreWorlds k fs' rs' rows'
     rows_hold = rows_added k fs' rs' rows rows' n adds rows_stay record { place = next; limits = next_limits; is = is_next; fits = fits }
@@ -59,10 +84,10 @@ module _ (k : Limits) (fs fs' : List Fiber) (rs rs' : List PlainView) (mf : IsMo
     pub places_hold : IsMore (map (place_of k fs rs) rows) (map (place_of k fs' rs') rows')
     places_hold = subst (λ l. IsMore l (map (place_of k fs' rs') rows')) (sym (places_more fs fs' rs rs' mf mr k rows worlds)) (places_added (place_of k fs' rs') rows rows' n adds)
 
-    pub lands : (es : List RunError) (it : Entered) → IsKept rows' it n → (x : Place) → slice_get (map (place_of k fs rs) rows) i ≡ Some x → EntersAt (map (place_of k fs' rs') rows') es it (stepped x f)
+    pub lands : (es : List RunError) (it : Entered) → IsKept rows' it n → (x : Place) → slice_get (map (place_of k fs rs) rows) i ≡ Some x → EntersAt (map (place_of k fs' rs') rows') es it (leapt a x f)
     lands es (came.At (to.World j)) kept x e =
         let there : slice_get (map (place_of k fs' rs') rows') j ≡ Some next = map_get (place_of k fs' rs') rows' j n kept ∙ ap Some (world_is k fs' rs' n next is_next next_limits) in
-        (next, there, ap (λ (p : Place). stepped p f) (is_here x e) ∙ goes)
+        (next, there, ap (λ (p : Place). leapt a p f) (is_here x e) ∙ goes)
     lands es (came.At (to.Fault j)) kept x e = absurd kept
     lands es came.Full kept x e = tt
 

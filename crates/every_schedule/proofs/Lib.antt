@@ -7,3 +7,8 @@ pub mod Bringing
 pub mod Apart
 pub mod Alikeness
 pub mod Entering
+pub mod OwnCalls
+pub mod Commuting
+pub mod Growing
+pub mod Leaps
+pub mod Trails

@@ -74,6 +74,11 @@ one_world k fs rs n p q h l g =
     let limits : q.limits ≡ k = sym (ap (λ (r : PlainView). r.limits) registries) ∙ l in
     sym (world_is k fs rs n q g limits) ∙ world_is k fs rs n p h l
 
+-- a world that is made once more of its numbers
+pub one_rebuilt : (fs fs' : List Fiber) (rs rs' : List PlainView) → IsMore fs fs' → IsMore rs rs' → (n m r : Numbers) (p q : Place) → IsWorldOf fs rs n p → m ≡ n → r ≡ m → IsWorldOf fs' rs' r q → q ≡ p
+one_rebuilt fs fs' rs rs' mf mr n m r p q h e d g =
+    one_world p.limits fs' rs' n p q (of_more fs fs' rs rs' mf mr n p h) refl (subst (λ (x : Numbers). IsWorldOf fs' rs' x q) (d ∙ e) g)
+
 pub fits_so : (k : Limits) (fs : List Fiber) (rs : List PlainView) (n : Numbers) (q : Place) → IsWorld k fs rs n → IsWorldOf fs rs n q → AllFit q.world
 fits_so k fs rs n q h g = subst (λ (p : Place). AllFit p.world) (sym (one_world k fs rs n h.place q h.is h.limits g)) h.fits
 

@@ -1,3 +1,4 @@
 pub mod Explored
 pub mod Places
+pub mod Reduced
 pub mod Private

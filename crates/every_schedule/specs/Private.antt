@@ -4,3 +4,4 @@ pub mod Keeping
 pub mod Numbered
 pub mod Standing
 pub mod Reporting
+pub mod Trails

@@ -10,11 +10,13 @@ ghost use Rattle.cell_registry.specs.Cells.{AreLimits};
 ghost use Rattle.world_search.specs.Landings.{EntersAt};
 ghost use Rattle.world_search.specs.Lists.{IsMore};
 ghost use Rattle.every_schedule.specs.Places.{Place, first_place, report_at};
+ghost use Rattle.every_schedule.specs.Reduced.{leapt};
 ghost use Rattle.every_schedule.specs.Private.Keeping.{IsKept};
 ghost use Rattle.every_schedule.specs.Private.Numbered.{MayAdd};
 
 use crate::core_world::CoreWorld;
-use crate::current::{Current, States, begun, entered, fibers_of, set_up};
+use crate::current::{Current, States, begun, fibers_of, set_up};
+use crate::leaping::leap;
 use crate::pool::{Pool, Pooled};
 use crate::reports::same_reports;
 use crate::row::Row;
@@ -34,6 +36,8 @@ pub(crate) struct CoreWorlds {
     states: States,
     rows: Pool<Row>,
     current: Option<Current>,
+    // The entries that led from the last world to the current one.
+    trail: Vec<u16>,
     faults: Vec<RunError>,
 }
 
@@ -89,6 +93,7 @@ impl CoreWorlds {
             states,
             rows,
             current: Some(current),
+            trail: Vec::new(alloc),
             faults: Vec::new(alloc),
         })
     }
@@ -110,6 +115,51 @@ impl CoreWorlds {
         ensures { slice_get self.now.faults number ≡ Some result }
     {
         self.faults[number]
+    }
+
+    // How many fibers a world has.
+    pub(crate) fn born_at(&self, world: usize) -> u16
+        requires { world < length self.now.places }
+        ensures born { (p : Place) → slice_get self.now.places world ≡ Some p → result ≡ length p.world.fibers }
+        ensures few { result ≤ 1000 }
+    {
+        let row = &self.rows.items[world];
+        // The registry is within its limits, and has given each of the fibers its number.
+        let registry = &self.states.registries.items[row.registry() as usize];
+        let _ = registry.limits();
+        row.fibers().len() as u16
+    }
+
+    // Makes the entry of a fiber at a world, with at most so many own moves behind it.
+    pub(crate) fn entry(
+        &mut self,
+        world: usize,
+        fiber: u16,
+        most: usize,
+        at_once: usize,
+    ) -> Result<Entered, AllocError>
+        requires { world < length self.old.places }
+        ensures worlds { OnOk result (IsMore self.old.places self.new.places) }
+        ensures faults { OnOk result (IsMore self.old.faults self.new.faults) }
+        ensures lands { IfOk result (λ it. (p : Place) → slice_get self.old.places world ≡ Some p →
+            EntersAt self.new.places self.new.faults it (leapt at_once p fiber)) }
+        ensures room { OnOk result (length self.new.places ≤ max most (length self.old.places)) }
+    {
+        let row = &self.rows.items[world];
+        let before = self.current.take();
+        let current = set_up(self.alloc, before, &self.states, row)?;
+        self.trail.clear();
+        match leap(self.alloc, current, &mut self.states, fiber, at_once, &mut self.trail) {
+            Ok(next) => {
+                let kept = keep(self.alloc, &mut self.rows, &next.row, most);
+                self.current = Some(next);
+                kept
+            }
+            Err(fault) => {
+                self.current = None;
+                fault_met(&mut self.faults, fault)
+            }
+        }
     }
 }
 
@@ -182,28 +232,11 @@ impl Worlds for CoreWorlds {
     ghost most_born = { 1000 };
 
     fn born(&self, world: usize) -> u16 {
-        let row = &self.rows.items[world];
-        // The registry is within its limits, and has given each of the fibers its number.
-        let registry = &self.states.registries.items[row.registry() as usize];
-        let _ = registry.limits();
-        row.fibers().len() as u16
+        self.born_at(world)
     }
 
     fn enter(&mut self, world: usize, fiber: u16, most: usize) -> Result<Entered, AllocError> {
-        let row = &self.rows.items[world];
-        let before = self.current.take();
-        let current = set_up(self.alloc, before, &self.states, row)?;
-        match entered(self.alloc, current, &mut self.states, fiber) {
-            Ok(next) => {
-                let kept = keep(self.alloc, &mut self.rows, &next.row, most);
-                self.current = Some(next);
-                kept
-            }
-            Err(fault) => {
-                self.current = None;
-                fault_met(&mut self.faults, fault)
-            }
-        }
+        self.entry(world, fiber, most, 0)
     }
 
     fn same_report(&self, one: usize, other: usize) -> bool {

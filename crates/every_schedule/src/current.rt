@@ -50,7 +50,7 @@ pub(crate) fn set_up(
 }
 
 // The world of a row.
-fn fresh(alloc: Global, states: &States, row: &Row) -> Result<Current, AllocError>
+pub(crate) fn fresh(alloc: Global, states: &States, row: &Row) -> Result<Current, AllocError>
     requires row { (k : TheLimits) × IsWorld k states.now.fibers.items.items states.now.registries.items.items row.now }
     ensures current { IfOk result (IsCurrent states.now.fibers.items.items states.now.registries.items.items) }
     ensures row { IfOk result (λ c. c.row ≡ row.now) }

@@ -11,10 +11,13 @@ mod core_worlds;
 mod current;
 mod exploration;
 mod explored;
+mod leaping;
 mod pool;
+mod reduced_worlds;
 mod reports;
 mod row;
+mod unfolding;
 
 pub use exploration::{Answer, Answers, Exploration, Schedule};
-pub use explored::{explore, explore_watched};
+pub use explored::{explore, explore_reduced, explore_reduced_watched, explore_watched};
 pub use world_search::{Bounds, Watcher};

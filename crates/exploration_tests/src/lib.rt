@@ -12,6 +12,8 @@ mod answers;
 #[cfg(test)]
 mod listed;
 #[cfg(test)]
+mod reduced;
+#[cfg(test)]
 mod texts;
 #[cfg(test)]
 mod wants;

@@ -7,3 +7,4 @@ pub mod Meeting
 pub mod Entries
 pub mod Answering
 pub mod Results
+pub mod Free

@@ -2,4 +2,5 @@ pub mod Lists
 pub mod Systems
 pub mod Landings
 pub mod Answers
+pub mod Free
 pub mod Private

@@ -1,0 +1,149 @@
+-- A fiber's own move commutes with each move of another fiber.
+use Rattle.std.proofs.Common.{◌≡◌, ◌≢◌, ℕ, zero, suc, true, List, [], ◌∷◌, ◌++◌, set, Some, None, Option, Result, Ok, refl, sym, ap, ◌∙◌, subst, append-nil}
+use Rattle.std.specs.List.{slice_get}
+use Rattle.effect_term.specs.declared.reply.Reply.{Reply}
+use Rattle.fiber_frames.specs.Fiber.{Fiber, ask_of, move, silent_move}
+use Rattle.cell_registry.specs.declared.limits.Limits.{Limits}
+use Rattle.cell_registry.specs.declared.limits.CellError.{CellError}
+use Rattle.cell_registry.specs.declared.limits.RunError.{RunError}
+use Rattle.cell_registry.specs.declared.call.Call.{Call}
+use Rattle.cell_registry.specs.declared.call.Call.TheVariants.{Look, Mask, Unmask, Cut}
+use Rattle.cell_registry.specs.Cells.{Cells, after, refusal, reply_of}
+use Rattle.outcome_trace.specs.declared.wish.Wish.{Wish}
+use Rattle.outcome_trace.specs.declared.wish.Wish.TheVariants.{Shared, Alone, Nothing}
+use Rattle.outcome_trace.specs.Core.{World, answered, born, called, turned, wish_of, wished}
+use Rattle.outcome_trace.specs.Finals.{reply_to}
+use Rattle.outcome_trace.proofs.Lists.{slice_get-set_other}
+use Rattle.outcome_trace.proofs.Standing.Lists.{get_early}
+use Rattle.world_search.specs.Free.{AreFree, Commutes}
+use Rattle.every_schedule.specs.Places.{Place, placed, stepped}
+use Rattle.every_schedule.specs.Reduced.{IsOwn, has_own, is_own}
+use Rattle.every_schedule.proofs.OwnCalls.{IsAdmitted, left_by, other_refusal, other_reply, own_reply, own_stays, room_stays, swaps}
+
+-- ---- lists
+-- a change of an element that is there, and one more change and some more elements, in either order
+set_early : {A : Type 0} (xs ys : List A) (f : ℕ) (a b : A) → slice_get xs f ≡ Some a → set (xs ++ ys) f b ≡ set xs f b ++ ys
+set_early [] ys f a b e = absurd (cc)
+set_early (x ∷ xs) ys zero a b e = refl
+set_early (x ∷ xs) ys (suc f) a b e = ap (λ l. x ∷ l) (set_early xs ys f a b e)
+
+set_apart : {A : Type 0} (xs : List A) (f g : ℕ) (a b : A) → f ≢ g → set (set xs f a) g b ≡ set (set xs g b) f a
+set_apart [] f g a b apart = refl
+set_apart (x ∷ xs) zero zero a b apart = absurd (apart refl)
+set_apart (x ∷ xs) zero (suc g) a b apart = refl
+set_apart (x ∷ xs) (suc f) zero a b apart = refl
+set_apart (x ∷ xs) (suc f) (suc g) a b apart = ap (λ l. x ∷ l) (set_apart xs f g a b (λ e. apart (ap suc e)))
+
+-- ---- the own move
+-- a call of its own makes no child
+childless : (a : Fiber) (s : Cells) (f : ℕ) (c : Call) (r : Reply) → is_own s f (Shared c) ≡ true → born a c r ≡ []
+childless a s f Look r own = refl
+childless a s f Mask r own = refl
+childless a s f Unmask r own = refl
+childless a s f Cut r own = refl
+childless a s f _ r own = absurd (cc)
+
+module _ (k : Limits) (f : ℕ) (a : Fiber) where
+  abbrev pub place : World → Place
+  place w = record { limits = k; world = w }
+
+  -- the world behind the fiber's own move
+  abbrev pub moved : World → Wish → World
+  moved w x = record { fibers = set w.fibers f (move a (reply_to w.cells f x)); cells = left_by w.cells f x }
+
+  own_wished : (w : World) (x : Wish) → is_own w.cells f x ≡ true → IsAdmitted k w.cells f x → wished k w f a x ≡ Ok (moved w x)
+  own_wished w (Shared c) own room =
+      ap (answered w f a c) room
+      ∙ ap (λ l. Ok record { fibers = l; cells = after w.cells f c })
+      (ap (λ b. set w.fibers f (move a (reply_of w.cells f c)) ++ b) (childless a w.cells f c (reply_of w.cells f c) own) ∙ append-nil (set w.fibers f (move a (reply_of w.cells f c))))
+  own_wished w Alone own room = refl
+  own_wished w Nothing own room = absurd (cc)
+
+  module _ (x : Wish) (is : wish_of (ask_of a) ≡ x) where
+    pub own_step : (w : World) → slice_get w.fibers f ≡ Some a → is_own w.cells f x ≡ true → IsAdmitted k w.cells f x → stepped (place w) f ≡ Ok (place (moved w x))
+    own_step w at own room = ap (placed k) (ap (turned k w f) at ∙ ap (wished k w f a) is ∙ own_wished w x own room)
+
+    pub own_free : (w : World) → slice_get w.fibers f ≡ Some a → is_own w.cells f x ≡ true → IsAdmitted k w.cells f x → IsOwn (place w) f
+    own_free w at own room = record {
+      own = ap (has_own w.cells f) at ∙ ap (is_own w.cells f) is ∙ own;
+      next = place (moved w x);
+      goes = own_step w at own room;
+    }
+
+    module _ (w : World) (g : ℕ) (apart : g ≢ f) (at : slice_get w.fibers f ≡ Some a) (own : is_own w.cells f x ≡ true) (room : IsAdmitted k w.cells f x) where
+      abbrev on : World
+      on = moved w x
+
+      abbrev Com : Result Place RunError → Type 0
+      Com y = Commutes stepped IsOwn f (place on) g y
+
+      turn_over : (b : Fiber) (more : List Fiber) (c : Fiber) → set (set w.fibers g b ++ more) f c ≡ set (set w.fibers f c) g b ++ more
+      turn_over b more c =
+          let here : slice_get (set w.fibers g b) f ≡ Some a = slice_get-set_other w.fibers g f b apart ∙ at in
+          set_early (set w.fibers g b) more f a c here ∙ ap (λ l. l ++ more) (set_apart w.fibers g f b c apart)
+
+      by_answer : (b : Fiber) (d : Call) (o : Option CellError) → stepped (place on) g ≡ placed k (answered on g b d o) → Com (placed k (answered w g b d o))
+      by_answer b d None goes =
+          let q = reply_of w.cells g d in
+          let r = reply_to w.cells f x in
+          let y : World = called w g b d q in
+          let z : World = called on g b d q in
+          let here : slice_get y.fibers f ≡ Some a = get_early (set w.fibers g (move b q)) (born b d q) f a (slice_get-set_other w.fibers g f (move b q) apart ∙ at) in
+          let own' : is_own y.cells f x ≡ true = own_stays w.cells f g d apart x own in
+          let room' : IsAdmitted k y.cells f x = room_stays w.cells f g d apart k x own room in (
+            own_free y here own' room',
+            place z,
+            own_step y here own' room'
+                ∙ ap (λ s. Ok (place (record { fibers = set y.fibers f (move a s); cells = left_by y.cells f x }))) (own_reply w.cells f g d apart x own)
+                ∙ ap (λ l. Ok (place (record { fibers = l; cells = left_by y.cells f x }))) (turn_over (move b q) (born b d q) (move a r))
+                ∙ ap (λ s. Ok (place (record { fibers = z.fibers; cells = s }))) (sym (swaps w.cells f g d apart x own)),
+            goes ∙ ap (λ s. Ok (place (called on g b d s))) (other_reply w.cells f g d apart x own),
+          )
+      by_answer b d (Some e) goes = goes
+
+      by_wish : (b : Fiber) (v : Wish) → stepped (place on) g ≡ placed k (wished k on g b v) → Com (placed k (wished k w g b v))
+      by_wish b (Shared d) goes = by_answer b d (refusal k w.cells g d) (goes ∙ ap (λ o. placed k (answered on g b d o)) (other_refusal w.cells f g d apart k x own))
+      by_wish b Alone goes =
+          let y : World = record { fibers = set w.fibers g (silent_move b); cells = w.cells } in
+          let here : slice_get y.fibers f ≡ Some a = slice_get-set_other w.fibers g f (silent_move b) apart ∙ at in (
+            own_free y here own room,
+            place (record { fibers = set on.fibers g (silent_move b); cells = on.cells }),
+            own_step y here own room ∙ ap (λ l. Ok (place (record { fibers = l; cells = on.cells }))) (set_apart w.fibers g f (silent_move b) (move a (reply_to w.cells f x)) apart),
+            goes,
+          )
+      by_wish b Nothing goes = (own_free w at own room, place on, own_step w at own room, goes)
+
+      by_place : (o : Option Fiber) → slice_get w.fibers g ≡ o → Com (placed k (turned k w g o))
+      by_place None e = (own_free w at own room, place on, own_step w at own room, ap (λ o. placed k (turned k on g o)) (slice_get-set_other w.fibers f g (move a (reply_to w.cells f x)) (λ e. apart (sym e)) ∙ e))
+      by_place (Some b) e =
+          by_wish b (wish_of (ask_of b)) (ap (λ o. placed k (turned k on g o)) (slice_get-set_other w.fibers f g (move a (reply_to w.cells f x)) (λ e. apart (sym e)) ∙ e))
+
+      pub own_commutes : Com (stepped (place w) g)
+      own_commutes = by_place (slice_get w.fibers g) refl
+
+-- ---- what a place tells of the own move
+module _ (k : Limits) (w : World) (f : ℕ) (q : Place) where
+  admitted_by : (a : Fiber) (c : Call) (o : Option CellError) → placed k (answered w f a c o) ≡ Ok q → o ≡ None
+  admitted_by a c None goes = refl
+  admitted_by a c (Some e) goes = absurd (cc)
+
+  admitted : (a : Fiber) (x : Wish) → placed k (wished k w f a x) ≡ Ok q → IsAdmitted k w.cells f x
+  admitted a (Shared c) goes = admitted_by a c (refusal k w.cells f c) goes
+  admitted a Alone goes = tt
+  admitted a Nothing goes = tt
+
+  own_commutes_at : (o : Option Fiber) → slice_get w.fibers f ≡ o → has_own w.cells f o ≡ true → placed k (turned k w f o) ≡ Ok q → (y : Place) → stepped record { limits = k; world = w } f ≡ Ok y → (g : ℕ) → g ≢ f → Commutes stepped IsOwn f y g (stepped record { limits = k; world = w } g)
+  own_commutes_at None at own goes y is g apart = absurd (cc)
+  own_commutes_at (Some a) at own goes y is g apart =
+      let x = wish_of (ask_of a) in
+      let room : IsAdmitted k w.cells f x = admitted a x goes in
+      let led : Ok (place k f a (moved k f a w x)) ≡ Ok y = sym (own_step k f a x refl w at own room) ∙ is in
+      let same : place k f a (moved k f a w x) ≡ y = cc in
+      subst (λ v. Commutes stepped IsOwn f v g (stepped record { limits = k; world = w } g)) same (own_commutes k f a x refl w g apart at own room)
+
+-- own moves are free
+pub own_are_free : AreFree stepped IsOwn
+own_are_free = record {
+  goes = λ p f h. (h.next, h.goes);
+  commutes = λ p f y h is g apart. own_commutes_at p.limits p.world f h.next (slice_get p.world.fibers f) refl h.own h.goes y is g apart;
+}

@@ -1,0 +1,123 @@
+-- The reduced exploration makes own moves behind each entry, and no others.
+use Rattle.std.proofs.Common.{◌≡◌, ◌≢◌, ◌⊎◌, inl, inr, ℕ, zero, suc, ◌<◌, ◌≤◌, Bool, true, false, List, length, Some, None, Option, Result, Ok, Err, refl, sym, ap, ◌∙◌, subst}
+use Rattle.std.specs.List.{slice_get}
+use Rattle.std.proofs.lemmas.Option.{slice_get_past, same_Some}
+use Rattle.cell_registry.specs.declared.limits.RunError.{RunError}
+use Rattle.cell_registry.specs.declared.limits.RunError.TheVariants as run
+use Rattle.cell_registry.specs.Cells.{Cells}
+use Rattle.fiber_frames.specs.Fiber.{Fiber}
+use Rattle.world_search.proofs.Lists.{get_low}
+use Rattle.world_search.specs.Free.{IsReduced, Leads, Leaps}
+use Rattle.world_search.specs.Free.Leads.{Here, On}
+use Rattle.outcome_trace.specs.Core.{turned}
+use Rattle.every_schedule.specs.Places.{Place, placed, stepped}
+use Rattle.every_schedule.specs.Reduced.{IsOwn, after_own, behind, has_own, last_own, leapt, leapt_by, or_stays, own_in, pushed, pushed_once, this_or}
+use Rattle.every_schedule.proofs.Commuting.{own_are_free}
+
+-- ---- several own moves
+pub pushed_none : (p : Place) → pushed 0 p ≡ p
+unfolding pushed
+pushed_none p = refl
+
+pub pushed_more : (n : ℕ) (p : Place) → pushed (suc n) p ≡ pushed n (pushed_once p)
+unfolding pushed
+pushed_more n p = refl
+
+pub pushed_next : (n m : ℕ) (p q : Place) → n ≡ suc m → q ≡ pushed_once p → pushed n p ≡ pushed m q
+pushed_next n m p q e h = ap (λ i. pushed i p) e ∙ pushed_more m p ∙ ap (pushed m) (sym h)
+
+-- where no own move is made, none is made later
+pub pushed_stays : (n : ℕ) (p : Place) → pushed_once p ≡ p → pushed n p ≡ p
+unfolding pushed
+pushed_stays zero p e = refl
+pushed_stays (suc n) p e = ap (pushed n) e ∙ pushed_stays n p e
+
+-- ---- the fiber that is chosen has an own move
+chosen : (s : Cells) (gs : List Fiber) (n : ℕ) (b : Bool) (f : ℕ) → has_own s n (slice_get gs n) ≡ b → (last_own s gs n ≡ Some f → has_own s f (slice_get gs f) ≡ true) → this_or b n (last_own s gs n) ≡ Some f → has_own s f (slice_get gs f) ≡ true
+chosen s gs n true f own rest e = subst (λ i. has_own s i (slice_get gs i) ≡ true) (same_Some n f e) own
+chosen s gs n false f own rest e = rest e
+
+pub last_own_is : (s : Cells) (gs : List Fiber) (n f : ℕ) → last_own s gs n ≡ Some f → has_own s f (slice_get gs f) ≡ true
+last_own_is s gs zero f e = absurd (cc)
+last_own_is s gs (suc n) f e = chosen s gs n (has_own s n (slice_get gs n)) f refl (last_own_is s gs n f) e
+
+pub last_own_passes : (s : Cells) (gs : List Fiber) (n : ℕ) → has_own s n (slice_get gs n) ≡ false → last_own s gs (suc n) ≡ last_own s gs n
+last_own_passes s gs n other = ap (λ b. this_or b n (last_own s gs n)) other
+
+pub last_own_here : (s : Cells) (gs : List Fiber) (n : ℕ) → has_own s n (slice_get gs n) ≡ true → last_own s gs (suc n) ≡ Some n
+last_own_here s gs n own = ap (λ b. this_or b n (last_own s gs n)) own
+
+-- ---- one own move
+module _ (p : Place) where
+  pub once_none : own_in p ≡ None → pushed_once p ≡ p
+  once_none e = ap (after_own p) e
+
+  pub once_made : (f : ℕ) (q : Place) → own_in p ≡ Some f → stepped p f ≡ Ok q → pushed_once p ≡ q
+  once_made f q e goes = ap (after_own p) e ∙ ap (or_stays p) goes
+
+  pub once_refused : (f : ℕ) (d : RunError) → own_in p ≡ Some f → stepped p f ≡ Err d → pushed_once p ≡ p
+  once_refused f d e stops = ap (after_own p) e ∙ ap (or_stays p) stops
+
+module _ (p : Place) where
+  led_once : (q : Place) (f : ℕ) (y : Result Place RunError) → has_own p.world.cells f (slice_get p.world.fibers f) ≡ true → stepped p f ≡ y → Leads stepped IsOwn (or_stays p y) q → Leads stepped IsOwn p q
+  led_once q f (Ok x) own e on = On p f x q (record { own = own; next = x; goes = e }) e on
+  led_once q f (Err d) own e on = on
+
+  led_from : (q : Place) (o : Option ℕ) → own_in p ≡ o → Leads stepped IsOwn (after_own p o) q → Leads stepped IsOwn p q
+  led_from q None e on = on
+  led_from q (Some f) e on = led_once q f (stepped p f) (last_own_is p.world.cells p.world.fibers (length p.world.fibers) f e) refl on
+
+pushed_leads : (n : ℕ) (p : Place) → Leads stepped IsOwn p (pushed n p)
+unfolding pushed
+pushed_leads zero p = Here p p refl
+pushed_leads (suc n) p = led_from p (pushed n (pushed_once p)) (own_in p) refl (pushed_leads n (pushed_once p))
+
+-- an unborn fiber makes no move
+unborn_stays : (p : Place) (f : ℕ) → slice_get p.world.fibers f ≡ None → stepped p f ≡ Ok p
+unborn_stays p f e = ap (λ o. placed p.limits (turned p.limits p.world f o)) e
+
+behind_leaps : (n : ℕ) (y : Result Place RunError) → Leaps stepped IsOwn y (behind n y)
+behind_leaps n (Ok q) = (pushed n q, pushed_leads n q, refl)
+behind_leaps n (Err e) = refl
+
+leaps_by : (n : ℕ) (p : Place) (f : ℕ) (o : Option Fiber) → slice_get p.world.fibers f ≡ o → Leaps stepped IsOwn (stepped p f) (leapt_by n p f o)
+leaps_by n p f None e = subst (λ y. Leaps stepped IsOwn y (Ok p)) (sym (unborn_stays p f e)) (p, Here p p refl, refl)
+leaps_by n p f (Some g) e = behind_leaps n (stepped p f)
+
+pub leaps : (n : ℕ) (p : Place) (f : ℕ) → Leaps stepped IsOwn (stepped p f) (leapt n p f)
+leaps n p f = leaps_by n p f (slice_get p.world.fibers f) refl
+
+-- it is a reduced system
+pub leapt_reduced : (n : ℕ) → IsReduced stepped (leapt n)
+leapt_reduced n = record { Free = IsOwn; free = own_are_free; leaps = leaps n }
+
+-- an unborn fiber leaves all as it is
+pub leapt_rests : (n : ℕ) (p : Place) (f : ℕ) → length p.world.fibers ≤ f → leapt n p f ≡ Ok p
+leapt_rests n p f past = ap (leapt_by n p f) (slice_get_past p.world.fibers f past)
+
+-- with no own moves behind it, an entry is as it was
+pub leapt_none : (p : Place) (f : ℕ) → leapt 0 p f ≡ stepped p f
+leapt_none p f = none_by (slice_get p.world.fibers f) refl
+  where
+    none_behind : (y : Result Place RunError) → behind 0 y ≡ y
+    none_behind (Ok q) = ap Ok (pushed_none q)
+    none_behind (Err e) = refl
+
+    none_by : (o : Option Fiber) → slice_get p.world.fibers f ≡ o → leapt_by 0 p f o ≡ stepped p f
+    none_by None e = sym (unborn_stays p f e)
+    none_by (Some g) e = none_behind (stepped p f)
+
+-- what isn't want of memory is the fault that is told
+pub refused_with : (d : RunError) (P : Type 0) → d ≢ run.NoMemory → (d ≡ run.NoMemory) ⊎ P → P
+refused_with d P apart (inl memory) = absurd (apart memory)
+refused_with d P apart (inr told) = told
+
+pub refused : (d : RunError) (y : Result Place RunError) → d ≢ run.NoMemory → (d ≡ run.NoMemory) ⊎ (y ≡ Err d) → y ≡ Err d
+refused d y apart h = refused_with d (y ≡ Err d) apart h
+
+-- where the entry of a born fiber leads
+pub leapt_goes : (n : ℕ) (p : Place) (f : ℕ) (q last : Place) → f < length p.world.fibers → stepped p f ≡ Ok q → last ≡ pushed n q → leapt n p f ≡ Ok last
+leapt_goes n p f q last low goes e = ap (leapt_by n p f) (get_low p.world.fibers f low).1 ∙ ap (behind n) goes ∙ ap Ok (sym e)
+
+pub leapt_stops : (n : ℕ) (p : Place) (f : ℕ) (e : RunError) → f < length p.world.fibers → stepped p f ≡ Err e → leapt n p f ≡ Err e
+leapt_stops n p f e low stops = ap (leapt_by n p f) (get_low p.world.fibers f low).1 ∙ ap (behind n) stops

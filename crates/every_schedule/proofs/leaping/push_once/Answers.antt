@@ -1,0 +1,65 @@
+use Rattle.std.proofs.Common.{◌≡◌, Some, Ok, Err, refl, sym, ◌∙◌, subst}
+use Rattle.every_schedule.specs.Places.{Place, stepped}
+use Rattle.every_schedule.specs.Reduced.{own_in, pushed_once}
+use Rattle.every_schedule.specs.Private.Numbered.{IsWorldOf, Numbers}
+use Rattle.every_schedule.specs.Private.Trails.{IsTrail}
+use Rattle.every_schedule.proofs.Leaps.{once_refused, refused}
+use Rattle.every_schedule.proofs.Numbered.{of_more, one_rebuilt}
+use Rattle.every_schedule.proofs.Trails.{trail_none}
+use Rattle.every_schedule.proofs.leaping.push_once.Goals as goal
+
+pub fresh-requires : goal.fresh-requires
+fresh-requires c =
+    let fs = c.args.states.now.fibers.items.items in
+    let rs = c.args.states.now.registries.items.items in
+    let fs' = c.entered.new.states.fibers.items.items in
+    let rs' = c.entered.new.states.registries.items.items in
+    let p = c.args.current.world in
+    record { row = (p.limits, record {
+      place = p;
+      limits = refl;
+      is = subst (λ (n : Numbers). IsWorldOf fs' rs' n p) (sym c.in_ok-row.ensures) (of_more fs fs' rs rs' c.entered.ensures.fibers c.entered.ensures.registries c.args.current.row p c.requires);
+      fits = c.last_own.ensures.fits;
+    }) }
+
+pub returns-clause-goes : goal.returns-clause-goes
+returns-clause-goes c =
+    let fs = c.args.states.now.fibers.items.items in
+    let rs = c.args.states.now.registries.items.items in
+    let fs' = c.entered.new.states.fibers.items.items in
+    let rs' = c.entered.new.states.registries.items.items in
+    let p = c.args.current.world in
+    let last = c.in_ok-before-in-Err.before in
+    let same : last.world ≡ p = one_rebuilt fs fs' rs rs' c.entered.ensures.fibers c.entered.ensures.registries c.args.current.row c.in_ok-row.row last.row p last.world c.requires c.in_ok-row.ensures c.in_ok-before-in-Err.ensures.row c.in_ok-before-in-Err.ensures.current in
+    let own : own_in p ≡ Some c.in-Some.fiber = sym c.last_own.ensures.own ∙ c.in-Some.is in
+    let stops : stepped p c.in-Some.fiber ≡ Err c.in-Err.fault = refused c.in-Err.fault (stepped p c.in-Some.fiber) (c.is_memory.ensures c.if-is_memory.false) c.in-Err.ensures.stops in
+    let once : pushed_once p ≡ p = once_refused p c.in-Some.fiber c.in-Err.fault own stops in
+    same ∙ sym once
+
+pub returns-clause-stays : goal.returns-clause-stays
+returns-clause-stays c = λ other.
+    let fs = c.args.states.now.fibers.items.items in
+    let rs = c.args.states.now.registries.items.items in
+    let fs' = c.entered.new.states.fibers.items.items in
+    let rs' = c.entered.new.states.registries.items.items in
+    let p = c.args.current.world in
+    let last = c.in_ok-before-in-Err.before in
+    let same : last.world ≡ p = one_rebuilt fs fs' rs rs' c.entered.ensures.fibers c.entered.ensures.registries c.args.current.row c.in_ok-row.row last.row p last.world c.requires c.in_ok-row.ensures c.in_ok-before-in-Err.ensures.row c.in_ok-before-in-Err.ensures.current in
+    let own : own_in p ≡ Some c.in-Some.fiber = sym c.last_own.ensures.own ∙ c.in-Some.is in
+    let stops : stepped p c.in-Some.fiber ≡ Err c.in-Err.fault = refused c.in-Err.fault (stepped p c.in-Some.fiber) (c.is_memory.ensures c.if-is_memory.false) c.in-Err.ensures.stops in
+    let once : pushed_once p ≡ p = once_refused p c.in-Some.fiber c.in-Err.fault own stops in
+    subst (λ (x : Place). pushed_once x ≡ x) (sym same) once
+
+pub returns-clause-trail : goal.returns-clause-trail
+returns-clause-trail c =
+    let fs = c.args.states.now.fibers.items.items in
+    let rs = c.args.states.now.registries.items.items in
+    let fs' = c.entered.new.states.fibers.items.items in
+    let rs' = c.entered.new.states.registries.items.items in
+    let p = c.args.current.world in
+    let last = c.in_ok-before-in-Err.before in
+    let same : last.world ≡ p = one_rebuilt fs fs' rs rs' c.entered.ensures.fibers c.entered.ensures.registries c.args.current.row c.in_ok-row.row last.row p last.world c.requires c.in_ok-row.ensures c.in_ok-before-in-Err.ensures.row c.in_ok-before-in-Err.ensures.current in
+    let own : own_in p ≡ Some c.in-Some.fiber = sym c.last_own.ensures.own ∙ c.in-Some.is in
+    let stops : stepped p c.in-Some.fiber ≡ Err c.in-Err.fault = refused c.in-Err.fault (stepped p c.in-Some.fiber) (c.is_memory.ensures c.if-is_memory.false) c.in-Err.ensures.stops in
+    let once : pushed_once p ≡ p = once_refused p c.in-Some.fiber c.in-Err.fault own stops in
+    subst (λ (x : Place). IsTrail c.args.trail.now.items c.args.trail.now.items p (Ok x)) (sym same) (trail_none c.args.trail.now.items p)

@@ -1,0 +1,48 @@
+use Rattle.std.proofs.Common.{◌≡◌, ℕ, List, sym, ◌∙◌, subst, refl, arith}
+use Rattle.std.specs.Prelude.{Some}
+use Rattle.std.specs.List.{slice_get}
+use Rattle.std.proofs.lemmas.Grind.{common_steps}
+use Rattle.std.proofs.lemmas.Option.{gets, slice_get_within}
+use Rattle.derived_ops.specs.Expansion.{code_of}
+use Rattle.derived_ops.specs.Reading.{source_of}
+use Rattle.world_search.specs.declared.answers.Answer.{Answer as Found}
+use Rattle.every_schedule.specs.Places.{first_place}
+use Rattle.every_schedule.specs.Private.Trails.{AreUnfolded, IsKeptIn, IsUnfolded}
+use Rattle.every_schedule.proofs.Trails.{kept_next, unfolded_next}
+use Rattle.every_schedule.proofs.unfolding.unfold_all.Goals as goal
+use Rattle.every_schedule.proofs.unfolding.unfold_all.Goals.{then-not-branch, else-not-branch}
+
+pub loop-i-preserved : goal.loop-i-preserved
+loop-i-preserved c =
+    let known = c.loop-i.invariant in
+    let told = c.in_ok-add.ensures in
+    let n = c.args.at_once in
+    let first = first_place (code_of (source_of c.args.program.now)) c.args.limits in
+    let found : List Found = c.args.found.now in
+    let old : List Found = c.loop-i.answers.items in
+    let new : List Found = c.add.new.answers.items in
+    let it : Found = c.index-found-i.result in
+    let s = c.in_ok-schedule.schedule in
+    let one : Found = record { schedule = s; end = it.end } in
+    let at : slice_get found c.loop-i.i ≡ Some it = grind (arith, common_steps, gets) in
+    let entries : IsUnfolded n first it.schedule.items s.items = subst (λ (l : List ℕ). IsUnfolded n first l s.items) c.as_slice.ensures.value c.in_ok-schedule.ensures.entries in
+    record {
+      each = elim c.if-not-branch.branch [
+        | then-not-branch w ↦ subst (AreUnfolded n c.args.most first found) (sym (told.same w.if-not-branch.true)) known.each
+        | else-not-branch w ↦
+            subst (AreUnfolded n c.args.most first found) (sym (told.added w.if-not-branch.false))
+            (unfolded_next n c.args.most first found old one known.each
+            (record { number = c.loop-i.i; answer = it; at = at; end = refl; entries = entries; short = told.short w.if-not-branch.false }))
+      ];
+      whole = λ whole. elim c.if-not-branch.branch [
+        | then-not-branch w ↦ absurd (cc (w.whole-is, whole))
+        | else-not-branch w ↦ λ j a low e.
+            subst (λ (l : List Found). IsKeptIn l a) (sym (told.added w.if-not-branch.false))
+            (kept_next found old c.loop-i.i it one at refl (known.whole (sym w.whole-is ∙ whole)) j a low e)
+      ];
+    }
+
+pub returns-clause-whole : goal.returns-clause-whole
+returns-clause-whole c = λ whole i a at.
+    let low = slice_get_within c.args.found.now i a at in
+    c.loop-i.invariant.whole whole i a (omega arith) at

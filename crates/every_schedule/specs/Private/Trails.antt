@@ -1,0 +1,38 @@
+-- The entries that lead to a world, one by one.
+use Rattle.std.specs.Prelude.{◌≡◌, ◌++◌, ◌<◌, ◌≤◌, ℕ, List, length, Some, Result, Ok}
+use Rattle.std.specs.List.{All, slice_get}
+use Rattle.cell_registry.specs.declared.limits.RunError.{RunError}
+use Rattle.world_search.specs.declared.answers.Answer.{Answer as Found}
+use Rattle.world_search.specs.Lists.{IsIn}
+use Rattle.world_search.specs.Systems.{run}
+use Rattle.every_schedule.specs.Places.{Place, stepped}
+use Rattle.every_schedule.specs.Reduced.{leapt}
+
+-- the entries that were added lead there
+pub record IsTrail (old new : List ℕ) (p : Place) (y : Result Place RunError) : Type 0 where
+  pub added : List ℕ
+  pub is : new ≡ old ++ added
+  pub leads : run stepped (Ok p) added ≡ y
+  pub few : All (λ f. f < 1000) added
+
+-- these entries lead to where the entries of the reduced exploration lead, each with at most n own moves behind it
+pub record IsUnfolded (n : ℕ) (first : Place) (schedule entries : List ℕ) : Type 0 where
+  pub leads : run stepped (Ok first) entries ≡ run (leapt n) (Ok first) schedule
+  pub few : All (λ f. f < 1000) entries
+
+-- an answer that was found, with such entries, which are at most so many
+pub record IsUnfoldedOf (n most : ℕ) (first : Place) (found : List Found) (a : Found) : Type 0 where
+  pub number : ℕ
+  pub answer : Found
+  pub at : slice_get found number ≡ Some answer
+  pub end : a.end ≡ answer.end
+  pub entries : IsUnfolded n first answer.schedule.items a.schedule.items
+  pub short : length a.schedule.items ≤ most
+
+-- each of these is such an answer
+abbrev pub AreUnfolded : ℕ → ℕ → Place → List Found → List Found → Type 0
+AreUnfolded n most first found answers = (i : ℕ) (a : Found) → slice_get answers i ≡ Some a → IsUnfoldedOf n most first found a
+
+-- one of them ends as that answer does
+abbrev pub IsKeptIn : List Found → Found → Type 0
+IsKeptIn answers a = (b : Found) × IsIn b answers × (b.end ≡ a.end)

@@ -1,0 +1,194 @@
+//! Entries with own moves behind them.
+ghost use Rattle.std.specs.Prelude.{◌≡◌, ◌≢◌, ◌⊎◌, ◌++◌, ◌<◌, ◌≤◌, [], ◌∷◌, length, false, IfErr, IfOk, IfSome, OnOk, Some};
+ghost use Rattle.std.specs.Prelude.{Ok as GoesWell, Err as Fails};
+ghost use Rattle.cell_registry.specs.Cells.{cell_of};
+ghost use Rattle.fiber_frames.specs.Fiber.{ask_of};
+ghost use Rattle.outcome_trace.specs.Core.{wish_of};
+ghost use Rattle.outcome_trace.specs.Fitting.{AllFit};
+ghost use Rattle.world_search.specs.Lists.{IsMore};
+ghost use Rattle.every_schedule.specs.Reduced.{is_own, is_own_call as is_so, leapt, own_in, pushed, pushed_once};
+ghost use Rattle.every_schedule.specs.Private.Standing.{IsCurrent};
+ghost use Rattle.every_schedule.specs.Private.Trails.{IsTrail};
+
+use crate::core_world::CoreWorld;
+use crate::current::{Current, States, entered, fresh};
+use crate::pool::Pooled;
+use cell_registry::{Call, PlainRegistry, RunError};
+use fiber_frames::Config;
+use outcome_trace::Wish;
+use std::alloc::{AllocError, Global};
+
+// The world to which the entry of a fiber leads, with at most so many own moves behind it. The entries that were made
+// are added to the trail: one that ends in a fault too, and none of a fiber that isn't born.
+pub(crate) fn leap(
+    alloc: Global,
+    current: Current,
+    states: &mut States,
+    fiber: u16,
+    at_once: usize,
+    trail: &mut Vec<u16>,
+) -> Result<Current, RunError>
+    requires { IsCurrent states.old.fibers.items.items states.old.registries.items.items current }
+    ensures fibers { IsMore states.old.fibers.items.items states.new.fibers.items.items }
+    ensures registries { IsMore states.old.registries.items.items states.new.registries.items.items }
+    ensures goes { IfOk result (λ c. leapt at_once current.world fiber ≡ GoesWell c.world) }
+    ensures current { IfOk result (IsCurrent states.new.fibers.items.items states.new.registries.items.items) }
+    ensures fits { IfOk result (λ c. AllFit c.world.world) }
+    ensures trail { IfOk result (λ c. IsTrail trail.old.items trail.new.items current.world (GoesWell c.world)) }
+    ensures stops { IfErr result (λ e. (e ≡ RunError.NoMemory) ⊎
+        ((leapt at_once current.world fiber ≡ Fails e) ×
+        IsTrail trail.old.items trail.new.items current.world (Fails e))) }
+{
+    if usize::from(fiber) >= born(&current.world) {
+        return Ok(current);
+    }
+    add(&mut *trail, fiber)?;
+    let next = entered(alloc, current, &mut *states, fiber)?;
+    let last = push(alloc, next, states, at_once, trail)?;
+    Ok(last)
+}
+
+// One more entry.
+fn add(trail: &mut Vec<u16>, fiber: u16) -> Result<(), AllocError>
+    ensures { OnOk result (trail.new.items ≡ trail.old.items ++ fiber ∷ []) }
+{
+    trail.push(fiber)?;
+    Ok(())
+}
+
+// How many fibers are born.
+fn born(world: &CoreWorld) -> usize
+    ensures born { result ≡ length world.now.world.fibers }
+    ensures few { result ≤ 1000 }
+    ensures within { result ≤ world.now.limits.fibers }
+    ensures fits { AllFit world.now.world }
+{
+    // The registry is within its limits, and has given each of the fibers its number.
+    let _ = world.registry().limits();
+    world.fibers().len()
+}
+
+// At most so many own moves, one after another.
+fn push(
+    alloc: Global,
+    current: Current,
+    states: &mut States,
+    at_once: usize,
+    trail: &mut Vec<u16>,
+) -> Result<Current, AllocError>
+    requires { IsCurrent states.old.fibers.items.items states.old.registries.items.items current }
+    ensures fibers { IsMore states.old.fibers.items.items states.new.fibers.items.items }
+    ensures registries { IsMore states.old.registries.items.items states.new.registries.items.items }
+    ensures goes { IfOk result (λ c. c.world ≡ pushed at_once current.world) }
+    ensures current { IfOk result (IsCurrent states.new.fibers.items.items states.new.registries.items.items) }
+    ensures fits { AllFit current.world.world → IfOk result (λ c. AllFit c.world.world) }
+    ensures trail { IfOk result (λ c. IsTrail trail.old.items trail.new.items current.world (GoesWell c.world)) }
+{
+    let mut now = current;
+    for _move in 0..at_once {
+        let (next, moved) = push_once(alloc, now, &mut *states, &mut *trail)?;
+        now = next;
+        if !moved {
+            return Ok(now);
+        }
+    }
+    Ok(now)
+}
+
+// One own move, if there is one and its call isn't refused. Whether it was made.
+fn push_once(
+    alloc: Global,
+    current: Current,
+    states: &mut States,
+    trail: &mut Vec<u16>,
+) -> Result<(Current, bool), AllocError>
+    requires { IsCurrent states.old.fibers.items.items states.old.registries.items.items current }
+    ensures fibers { IsMore states.old.fibers.items.items states.new.fibers.items.items }
+    ensures registries { IsMore states.old.registries.items.items states.new.registries.items.items }
+    ensures goes { IfOk result (λ r. r.0.world ≡ pushed_once current.world) }
+    ensures stays { IfOk result (λ r. r.1 ≡ false → pushed_once r.0.world ≡ r.0.world) }
+    ensures current { IfOk result (λ r.
+        IsCurrent states.new.fibers.items.items states.new.registries.items.items r.0) }
+    ensures fits { IfOk result (λ r. AllFit r.0.world.world) }
+    ensures trail { IfOk result (λ r. IsTrail trail.old.items trail.new.items current.world (GoesWell r.0.world)) }
+{
+    let Some(fiber) = last_own(&current.world) else {
+        return Ok((current, false));
+    };
+    let row = current.row.again(alloc)?;
+    match entered(alloc, current, &mut *states, fiber) {
+        Ok(next) => {
+            add(trail, fiber)?;
+            Ok((next, true))
+        }
+        Err(fault) => {
+            if is_memory(fault) {
+                return Err(AllocError);
+            }
+            let before = fresh(alloc, &*states, &row)?;
+            Ok((before, false))
+        }
+    }
+}
+
+// Whether this is want of memory.
+pub(crate) fn is_memory(fault: RunError) -> bool
+    ensures { result ≡ false → fault ≢ RunError.NoMemory }
+{
+    match fault {
+        RunError::NoMemory => true,
+        RunError::Full(_, _) | RunError::Spent(_) | RunError::Lost(_) | RunError::NoWorker => false,
+    }
+}
+
+// The last fiber that has an own move.
+fn last_own(world: &CoreWorld) -> Option<u16>
+    ensures own { result ≡ own_in world.now }
+    ensures few { IfSome result (λ f. f < 1000) }
+    ensures fits { AllFit world.now.world }
+{
+    let born = born(world);
+    let fibers = world.fibers();
+    for done in 0..born {
+        let place = born - 1 - done;
+        if is_own_move(world.registry(), place as u16, &fibers[place]) {
+            return Some(place as u16);
+        }
+    }
+    None
+}
+
+// Whether the next move of this fiber is an own one.
+fn is_own_move(registry: &PlainRegistry, by: u16, fiber: &Config) -> bool
+    requires { by < registry.now.limits.fibers }
+    ensures { result ≡ is_own registry.now.state by (wish_of (ask_of fiber.now)) }
+{
+    match Wish::of(fiber.ask()) {
+        Wish::Alone => true,
+        Wish::Nothing => false,
+        Wish::Shared(call) => is_own_call(registry, by, call),
+    }
+}
+
+// Whether this call of a fiber is an own one.
+fn is_own_call(registry: &PlainRegistry, by: u16, call: Call) -> bool
+    requires { by < registry.now.limits.fibers }
+    ensures { result ≡ is_so (cell_of registry.now.state by) call }
+{
+    match call {
+        Call::Look => registry.is_requested(by),
+        Call::Mask | Call::Unmask => true,
+        Call::Cut => !registry.has_ended(by),
+        Call::Start
+        | Call::Cancel(_)
+        | Call::Join(_)
+        | Call::Finish(_)
+        | Call::NewRef
+        | Call::NewDeferred
+        | Call::Get(_)
+        | Call::Set(_, _)
+        | Call::Modify(_, _)
+        | Call::Complete(_, _)
+        | Call::Read(_) => false,
+    }
+}

@@ -1,0 +1,78 @@
+//! The worlds that a reduced exploration has found, each with a number.
+ghost use Rattle.std.specs.Prelude.{◌≡◌, [], ◌∷◌, IfOk};
+ghost use Rattle.derived_ops.specs.Expansion.{code_of};
+ghost use Rattle.derived_ops.specs.Reading.{source_of};
+ghost use Rattle.cell_registry.specs.Cells.{AreLimits};
+ghost use Rattle.every_schedule.specs.Places.{first_place};
+
+use crate::core_world::CoreWorld;
+use crate::core_worlds::CoreWorlds;
+use cell_registry::{Limits, RunError};
+use effect_term::Program;
+use outcome_trace::Report;
+use std::alloc::{AllocError, Global};
+use world_search::{Entered, Worlds};
+
+// So many own moves are made at once behind an entry.
+pub(crate) const AT_ONCE: usize = 100;
+
+// All worlds and faults that were found, where each entry has its own moves behind it.
+#[derive(Drop)]
+pub(crate) struct ReducedWorlds {
+    pub(crate) worlds: CoreWorlds,
+}
+
+impl ReducedWorlds {
+    // The first world of a program, alone.
+    pub(crate) fn new(
+        alloc: Global,
+        program: &Program,
+        limits: Limits,
+    ) -> Result<ReducedWorlds, AllocError>
+        requires { AreLimits limits }
+        ensures { IfOk result (λ s. s.worlds ≡ record {
+          places = first_place (code_of (source_of program.now)) limits ∷ [];
+          faults = [];
+        }) }
+    {
+        let worlds = CoreWorlds::new(alloc, program, limits)?;
+        Ok(ReducedWorlds { worlds })
+    }
+}
+
+impl Worlds for ReducedWorlds {
+    type World = CoreWorld;
+
+    type Fault = RunError;
+
+    type Report = Report;
+
+    ghost use Rattle.every_schedule.specs.Places.{report_at as the_report};
+    ghost use Rattle.every_schedule.specs.Reduced.{leapt};
+
+    ghost worlds = { λ s. s.worlds.places };
+
+    ghost faults = { λ s. s.worlds.faults };
+
+    ghost step = { leapt 100 };
+
+    ghost report = { the_report };
+
+    ghost most_born = { 1000 };
+
+    fn born(&self, world: usize) -> u16 {
+        self.worlds.born_at(world)
+    }
+
+    fn enter(&mut self, world: usize, fiber: u16, most: usize) -> Result<Entered, AllocError> {
+        self.worlds.entry(world, fiber, most, AT_ONCE)
+    }
+
+    fn same_report(&self, one: usize, other: usize) -> bool {
+        self.worlds.same_report(one, other)
+    }
+
+    fn len(&self) -> usize {
+        self.worlds.len()
+    }
+}

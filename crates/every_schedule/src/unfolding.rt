@@ -1,0 +1,107 @@
+//! The answers of a reduced search, with schedules of which each entry is one move.
+ghost use Rattle.std.specs.Prelude.{◌≡◌, ◌≤◌, ◌++◌, ℕ, [], ◌∷◌, length, true, false, IfErr, IfOk, Some};
+ghost use Rattle.std.specs.List.{slice_get};
+ghost use Rattle.derived_ops.specs.Expansion.{code_of};
+ghost use Rattle.derived_ops.specs.Reading.{source_of};
+ghost use Rattle.cell_registry.specs.Cells.{AreLimits};
+ghost use Rattle.world_search.specs.declared.answers.Answer.{Answer as Found};
+ghost use Rattle.every_schedule.specs.Places.{first_place};
+ghost use Rattle.every_schedule.specs.Private.Trails.{AreUnfolded, IsKeptIn, IsUnfolded};
+
+use crate::core_world::CoreWorld;
+use crate::current::{States, begun};
+use crate::leaping::{is_memory, leap};
+use crate::pool::Pool;
+use cell_registry::{Limits, RunError};
+use effect_term::Program;
+use std::alloc::{AllocError, Global};
+use world_search::{Answer, Landing};
+
+// Answers with such schedules.
+#[derive(Drop)]
+pub(crate) struct Unfolded {
+    pub(crate) answers: Vec<Answer>,
+    // None was left out.
+    pub(crate) whole: bool,
+}
+
+// The answers whose schedules are at most so many entries long.
+pub(crate) fn unfold_all(
+    alloc: Global,
+    program: &Program,
+    limits: Limits,
+    found: &[Answer],
+    at_once: usize,
+    most: usize,
+) -> Result<Unfolded, RunError>
+    requires { AreLimits limits }
+    ensures each { IfOk result (λ it.
+        AreUnfolded at_once most (first_place (code_of (source_of program.now)) limits) found.now it.answers.items) }
+    ensures whole { IfOk result (λ it. it.whole ≡ true → (i : ℕ) (a : Found) → slice_get found.now i ≡ Some a →
+        IsKeptIn it.answers.items a) }
+    ensures memory { IfErr result (λ e. e ≡ RunError.NoMemory) }
+{
+    let mut answers = Vec::new(alloc);
+    let mut whole = true;
+    for i in 0..found.len() {
+        let it = &found[i];
+        let schedule = unfold(alloc, program, limits, it.schedule.as_slice(), at_once)?;
+        if !add(&mut answers, schedule, it.end, most)? {
+            whole = false;
+        }
+    }
+    Ok(Unfolded { answers, whole })
+}
+
+// One more answer, if its schedule is at most so many entries long. Whether it is.
+fn add(
+    answers: &mut Vec<Answer>,
+    schedule: Vec<u16>,
+    end: Landing,
+    most: usize,
+) -> Result<bool, AllocError>
+    ensures short { IfOk result (λ it. it ≡ true → length schedule.items ≤ most) }
+    ensures added { IfOk result (λ it. it ≡ true → answers.new.items ≡
+        answers.old.items ++ record { schedule = schedule; end = end } ∷ []) }
+    ensures same { IfOk result (λ it. it ≡ false → answers.new.items ≡ answers.old.items) }
+{
+    if schedule.len() > most {
+        return Ok(false);
+    }
+    answers.push(Answer { schedule, end })?;
+    Ok(true)
+}
+
+// The entries that a schedule of the reduced search makes, one by one.
+fn unfold(
+    alloc: Global,
+    program: &Program,
+    limits: Limits,
+    schedule: &[u16],
+    at_once: usize,
+) -> Result<Vec<u16>, RunError>
+    requires { AreLimits limits }
+    ensures entries { IfOk result (λ it.
+        IsUnfolded at_once (first_place (code_of (source_of program.now)) limits) schedule.now it.items) }
+    ensures memory { IfErr result (λ e. e ≡ RunError.NoMemory) }
+{
+    let mut states = States {
+        fibers: Pool::new(alloc),
+        registries: Pool::new(alloc),
+    };
+    let first = CoreWorld::first(alloc, program, limits)?;
+    let mut current = begun(alloc, first, &mut states)?;
+    let mut trail = Vec::new(alloc);
+    for fiber in schedule {
+        match leap(alloc, current, &mut states, *fiber, at_once, &mut trail) {
+            Ok(next) => current = next,
+            Err(fault) => {
+                if is_memory(fault) {
+                    return Err(RunError::NoMemory);
+                }
+                return Ok(trail);
+            }
+        }
+    }
+    Ok(trail)
+}

@@ -1,0 +1,199 @@
+//! Explorations with moves that are made at once, beside those without.
+
+ghost use Rattle.cell_registry.specs.Cells.{AreLimits};
+
+use every_schedule::{Answer, Bounds, Exploration, explore, explore_reduced};
+use outcome_trace::{Limits, read_program, same_end};
+use std::alloc::Global;
+use std::test::Fail;
+
+/// A program, whose answers are the same in both.
+struct Compared<'a> {
+    /// What it shows.
+    rule: &'a str,
+    program: &'a str,
+    fibers: u16,
+    count: u64,
+    /// How many answers there are.
+    answers: usize,
+}
+
+const COMPARED: &[Compared<'static>] = &[
+    Compared {
+        rule: "a release that is lost where the request comes between acquisition and guarantee",
+        program: "(ref open 0 (start worker (let connection (modify open 1) (guarantee (never) (modify open -1))) \
+            (seq (cancel worker) (get open))))",
+        fibers: 16,
+        count: 1000,
+        answers: 3,
+    },
+    Compared {
+        rule: "two fibers that each wait for the other never end",
+        program: "(deferred d (deferred e (start f (seq (await d) (complete e 1)) (seq (await e) (complete d 1)))))",
+        fibers: 16,
+        count: 1000,
+        answers: 1,
+    },
+    Compared {
+        rule: "two fibers that change a ref, in either order",
+        program: "(ref r 1 (start f (modify r 1) (let a (modify r 2) (join f x (pure a) y (raise y) (never)))))",
+        fibers: 16,
+        count: 1000,
+        answers: 2,
+    },
+    Compared {
+        rule: "a fiber that is canceled while it isn't masked, and cut or not",
+        program: "(start f (seq (say 1) (say 2)) (cancel f))",
+        fibers: 16,
+        count: 1000,
+        answers: 4,
+    },
+    Compared {
+        rule: "a masked fiber that is canceled says all it has to say",
+        program: "(start f (uncancelable p (seq (say 1) (say 2))) (cancel f))",
+        fibers: 16,
+        count: 1000,
+        answers: 3,
+    },
+    Compared {
+        rule: "a fault of a start, and none without it",
+        program: "(ref r 0 (start f (modify r 1) (let a (get r) (seq (start g (pure 1) (pure a)) (pure a)))))",
+        fibers: 2,
+        count: 1000,
+        answers: 1,
+    },
+    Compared {
+        rule: "a mask that can't be left is a fault, and moves that are made at once end before it",
+        program: "(uncancelable p (pure 1))",
+        fibers: 16,
+        count: 1,
+        answers: 1,
+    },
+    Compared {
+        rule: "a fiber that goes round under a mask",
+        program: "(ref r 0 (start f (uncancelable p (forever (pure 1))) (start g (set r 1) (get r))))",
+        fibers: 16,
+        count: 1000,
+        answers: 2,
+    },
+];
+
+// Limits that small programs keep, with so many fibers (1 to 16) and own changes (1 to 1000).
+fn limits(fibers: u16, count: u64) -> Limits
+    ensures { AreLimits result }
+{
+    Limits {
+        fibers: fibers.max(1).min(16),
+        refs: 16,
+        deferreds: 16,
+        count: count.max(1).min(1000),
+    }
+}
+
+// Whether each of these ends as one of the others does.
+fn are_among(ones: &[Answer], others: &[Answer]) -> bool {
+    ones.iter()
+        .all(|one| others.iter().any(|other| same_end(&one.end, &other.end)))
+}
+
+/// The full exploration of a program, and the reduced one.
+#[derive(Drop)]
+struct Both {
+    full: Exploration,
+    reduced: Exploration,
+}
+
+// Both explorations.
+fn both(alloc: Global, text: &str, limits: Limits) -> Result<Both, Fail>
+    requires { AreLimits limits }
+{
+    let Ok(program) = read_program(alloc, text.as_bytes()) else {
+        return Err(Fail::new("the text is refused"));
+    };
+    let bounds = Bounds {
+        worlds: 10_000,
+        entries: 1000,
+    };
+    let Ok(full) = explore(alloc, &program, limits, bounds) else {
+        return Err(Fail::new("memory ran out"));
+    };
+    let Ok(reduced) = explore_reduced(alloc, &program, limits, bounds) else {
+        return Err(Fail::new("memory ran out"));
+    };
+    Ok(Both { full, reduced })
+}
+
+// Whether both are complete and have the same ends, so many, and the reduced one has no more worlds.
+fn is_same(alloc: Global, it: &Compared<'_>) -> Result<bool, Fail> {
+    let both = both(alloc, it.program, limits(it.fibers, it.count))?;
+    let ones = both.full.answers.as_slice();
+    let others = both.reduced.answers.as_slice();
+    Ok(
+        both.full.complete
+            && both.reduced.complete
+            && both.full.ends == both.reduced.ends
+            && both.reduced.worlds <= both.full.worlds
+            && ones.len() == it.answers
+            && others.len() == it.answers
+            && are_among(ones, others)
+            && are_among(others, ones),
+    )
+}
+
+#[test]
+fn reduced_explorations_find_the_same(rt: HostRuntime) -> Result<(), Fail> {
+    for it in COMPARED {
+        assert!(rt; is_same(rt.alloc(), it)?, "{}", it.rule);
+    }
+    Ok(())
+}
+
+/// A fiber alone, whose worlds are counted by hand.
+struct Counted<'a> {
+    program: &'a str,
+    /// One after each entry, and the first.
+    full: usize,
+    /// The same without those from which an own move leads on.
+    reduced: usize,
+}
+
+const COUNTED: &[Counted<'static>] = &[
+    // A look, and the end.
+    Counted {
+        program: "(pure 1)",
+        full: 3,
+        reduced: 3,
+    },
+    // A look, a move without a shared call; a look, and the end.
+    Counted {
+        program: "(seq (pure 1) (pure 2))",
+        full: 5,
+        reduced: 4,
+    },
+    // A look, a mask entered, and left; a look, and the end.
+    Counted {
+        program: "(uncancelable p (pure 1))",
+        full: 6,
+        reduced: 4,
+    },
+    // A look and a request for its own cancellation; a look that sees it, the cut, and the end.
+    Counted {
+        program: "(canceled)",
+        full: 6,
+        reduced: 4,
+    },
+];
+
+// Whether there are so many worlds.
+fn is_counted(alloc: Global, it: &Counted<'_>) -> Result<bool, Fail> {
+    let both = both(alloc, it.program, limits(16, 1000))?;
+    Ok(both.full.worlds == it.full && both.reduced.worlds == it.reduced)
+}
+
+#[test]
+fn worlds_are_counted(rt: HostRuntime) -> Result<(), Fail> {
+    for it in COUNTED {
+        assert!(rt; is_counted(rt.alloc(), it)?, "{}", it.program);
+    }
+    Ok(())
+}
