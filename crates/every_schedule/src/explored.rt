@@ -22,7 +22,7 @@ use cell_registry::{Limits, RunError};
 use effect_term::Program;
 use outcome_trace::Report;
 use std::alloc::{AllocError, Global};
-use world_search::{Bounds, Landing, Unwatched, Watcher, search_watched};
+use world_search::{Bounds, Landing, Unwatched, Watcher, search, search_watched};
 
 /// All that can come of a program, whatever the schedule: the reports that no further entry changes, and the faults,
 /// each with a schedule under which it comes, as `replay` takes it.
@@ -31,8 +31,15 @@ use world_search::{Bounds, Landing, Unwatched, Watcher, search_watched};
 /// isn't, since there are more worlds or longer schedules than the bounds allow, each answer is right all the same.
 /// So of a complete exploration: where no fault is listed, no schedule faults; where all answers end alike, the report
 /// doesn't hang on the schedule; and where a fiber has ended in each answer, it can still end wherever a schedule has
-/// led. A report is listed once, and so is a fault. The limits are in their ranges ([`Limits`]); a world takes memory for
-/// each of its numbers. [`RunError::NoMemory`] is the only error.
+/// led. A report is listed once, and so is a fault. The limits are in their ranges ([`Limits`]); a world takes memory
+/// for each of its numbers. [`RunError::NoMemory`] is the only error.
+///
+/// It is a search with partial-order reduction. Behind each entry, the moves are made at once of which no other fiber
+/// sees anything and which nothing that another fiber does can change: those without a shared call, masks entered and
+/// left, looks where the request is set, and cuts; up to a hundred of them behind an entry. They count as entries of a
+/// schedule that is told, and not against the bound while the search goes. An answer whose schedule is longer than the
+/// bound is left out, and the exploration isn't complete then. The schedules aren't the shortest: [`explore_full`]
+/// tells those.
 pub fn explore(
     alloc: Global,
     program: &Program,
@@ -91,83 +98,6 @@ pub fn explore_watched<V: Watcher>(
     ensures lawful { IfOk result (λ it. All HasLawfulMarks it.answers) }
     ensures memory { IfErr result (λ e. e ≡ RunError.NoMemory) }
 {
-    let mut worlds = CoreWorlds::new(alloc, program, limits)?;
-    let found = search_watched(alloc, &mut worlds, bounds, watcher)?;
-    let answers = told(alloc, &worlds, found.answers)?;
-    Ok(Exploration {
-        answers: Answers::new(answers),
-        worlds: found.worlds,
-        complete: found.complete,
-        ends: found.ends,
-    })
-}
-
-/// The same ([`explore`]), with far fewer worlds: by partial-order reduction, as it is called.
-///
-/// Behind each entry, the moves are made at once of which no other fiber sees anything and which nothing that another
-/// fiber does can change: those without a shared call, masks entered and left, looks where the request is set, and
-/// cuts; up to a hundred of them behind an entry. No report that stays and no fault is lost by it, and wherever a
-/// schedule has led, some entries more lead to a world of this exploration. The schedules of the answers have each move
-/// as an entry; they aren't the shortest. An answer whose schedule is longer than the bound is left out, and the
-/// exploration isn't complete then. The bound counts no more than the entries that aren't made at once while it goes.
-pub fn explore_reduced(
-    alloc: Global,
-    program: &Program,
-    limits: Limits,
-    bounds: Bounds,
-) -> Result<Exploration, RunError>
-    requires limits { AreLimits limits }
-    ensures all { IfOk result (λ it. it.complete ≡ true → (schedule : List ℕ) →
-        IsCovered limits it.answers (core (code_of (source_of program.now)) limits schedule)) }
-    ensures each { IfOk result (λ it. All (IsReached (code_of (source_of program.now)) limits) it.answers) }
-    ensures onward { IfOk result (λ it. it.complete ≡ true → it.ends ≡ true → (schedule : List ℕ) →
-        (more : List ℕ) × IsAnswered limits it.answers
-        (core (code_of (source_of program.now)) limits (schedule ++ more))) }
-    ensures faultless { IfOk result (λ it. it.complete ≡ true → HasNoFault it.answers →
-        (schedule : List ℕ) (e : TheRunError) → core (code_of (source_of program.now)) limits schedule ≡ Fails e → ⊥) }
-    ensures alike { IfOk result (λ it. it.complete ≡ true → (end : TheResult TheReport TheRunError) → EndAlike it.answers end →
-        (schedule : List ℕ) (w : World) → core (code_of (source_of program.now)) limits schedule ≡ GoesWell w →
-        IsSettled limits w → reported (GoesWell w) ≡ end) }
-    ensures can_end { IfOk result (λ it. it.complete ≡ true → it.ends ≡ true → (f : ℕ) →
-        All (λ a. HasOutcome f a.end) it.answers → (schedule : List ℕ) → (more : List ℕ) ×
-        HasOutcome f (reported (core (code_of (source_of program.now)) limits (schedule ++ more)))) }
-    ensures numbers { IfOk result (λ it. All (λ a. All (λ f. f < 1000) a.schedule) it.answers) }
-    ensures short { IfOk result (λ it. All (λ a. length a.schedule ≤ bounds.entries) it.answers) }
-    ensures lawful { IfOk result (λ it. All HasLawfulMarks it.answers) }
-    ensures memory { IfErr result (λ e. e ≡ RunError.NoMemory) }
-{
-    explore_reduced_watched(alloc, program, limits, bounds, &mut Unwatched)
-}
-
-/// The same ([`explore_reduced`]), while the watcher is told from time to time how many worlds were found and how long the
-/// schedules are, at each ten-thousandth world.
-pub fn explore_reduced_watched<V: Watcher>(
-    alloc: Global,
-    program: &Program,
-    limits: Limits,
-    bounds: Bounds,
-    watcher: &mut V,
-) -> Result<Exploration, RunError>
-    requires limits { AreLimits limits }
-    ensures all { IfOk result (λ it. it.complete ≡ true → (schedule : List ℕ) →
-        IsCovered limits it.answers (core (code_of (source_of program.now)) limits schedule)) }
-    ensures each { IfOk result (λ it. All (IsReached (code_of (source_of program.now)) limits) it.answers) }
-    ensures onward { IfOk result (λ it. it.complete ≡ true → it.ends ≡ true → (schedule : List ℕ) →
-        (more : List ℕ) × IsAnswered limits it.answers
-        (core (code_of (source_of program.now)) limits (schedule ++ more))) }
-    ensures faultless { IfOk result (λ it. it.complete ≡ true → HasNoFault it.answers →
-        (schedule : List ℕ) (e : TheRunError) → core (code_of (source_of program.now)) limits schedule ≡ Fails e → ⊥) }
-    ensures alike { IfOk result (λ it. it.complete ≡ true → (end : TheResult TheReport TheRunError) → EndAlike it.answers end →
-        (schedule : List ℕ) (w : World) → core (code_of (source_of program.now)) limits schedule ≡ GoesWell w →
-        IsSettled limits w → reported (GoesWell w) ≡ end) }
-    ensures can_end { IfOk result (λ it. it.complete ≡ true → it.ends ≡ true → (f : ℕ) →
-        All (λ a. HasOutcome f a.end) it.answers → (schedule : List ℕ) → (more : List ℕ) ×
-        HasOutcome f (reported (core (code_of (source_of program.now)) limits (schedule ++ more)))) }
-    ensures numbers { IfOk result (λ it. All (λ a. All (λ f. f < 1000) a.schedule) it.answers) }
-    ensures short { IfOk result (λ it. All (λ a. length a.schedule ≤ bounds.entries) it.answers) }
-    ensures lawful { IfOk result (λ it. All HasLawfulMarks it.answers) }
-    ensures memory { IfErr result (λ e. e ≡ RunError.NoMemory) }
-{
     let mut worlds = ReducedWorlds::new(alloc, program, limits)?;
     let found = search_watched(alloc, &mut worlds, bounds, watcher)?;
     let unfolded = unfold_all(
@@ -193,6 +123,45 @@ fn are_both(one: bool, other: bool) -> bool
     ensures other { result ≡ true → other ≡ true }
 {
     one && other
+}
+
+/// The same ([`explore`]), without the reduction: each entry of each fiber is made alone, so there are far more worlds,
+/// and each report has a shortest schedule.
+pub fn explore_full(
+    alloc: Global,
+    program: &Program,
+    limits: Limits,
+    bounds: Bounds,
+) -> Result<Exploration, RunError>
+    requires limits { AreLimits limits }
+    ensures all { IfOk result (λ it. it.complete ≡ true → (schedule : List ℕ) →
+        IsCovered limits it.answers (core (code_of (source_of program.now)) limits schedule)) }
+    ensures each { IfOk result (λ it. All (IsReached (code_of (source_of program.now)) limits) it.answers) }
+    ensures onward { IfOk result (λ it. it.complete ≡ true → it.ends ≡ true → (schedule : List ℕ) →
+        (more : List ℕ) × IsAnswered limits it.answers
+        (core (code_of (source_of program.now)) limits (schedule ++ more))) }
+    ensures faultless { IfOk result (λ it. it.complete ≡ true → HasNoFault it.answers →
+        (schedule : List ℕ) (e : TheRunError) → core (code_of (source_of program.now)) limits schedule ≡ Fails e → ⊥) }
+    ensures alike { IfOk result (λ it. it.complete ≡ true → (end : TheResult TheReport TheRunError) → EndAlike it.answers end →
+        (schedule : List ℕ) (w : World) → core (code_of (source_of program.now)) limits schedule ≡ GoesWell w →
+        IsSettled limits w → reported (GoesWell w) ≡ end) }
+    ensures can_end { IfOk result (λ it. it.complete ≡ true → it.ends ≡ true → (f : ℕ) →
+        All (λ a. HasOutcome f a.end) it.answers → (schedule : List ℕ) → (more : List ℕ) ×
+        HasOutcome f (reported (core (code_of (source_of program.now)) limits (schedule ++ more)))) }
+    ensures numbers { IfOk result (λ it. All (λ a. All (λ f. f < 1000) a.schedule) it.answers) }
+    ensures short { IfOk result (λ it. All (λ a. length a.schedule ≤ bounds.entries) it.answers) }
+    ensures lawful { IfOk result (λ it. All HasLawfulMarks it.answers) }
+    ensures memory { IfErr result (λ e. e ≡ RunError.NoMemory) }
+{
+    let mut worlds = CoreWorlds::new(alloc, program, limits)?;
+    let found = search(alloc, &mut worlds, bounds)?;
+    let answers = told(alloc, &worlds, found.answers)?;
+    Ok(Exploration {
+        answers: Answers::new(answers),
+        worlds: found.worlds,
+        complete: found.complete,
+        ends: found.ends,
+    })
 }
 
 // The answers of a search, each with its report or fault.

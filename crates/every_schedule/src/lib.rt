@@ -19,5 +19,5 @@ mod row;
 mod unfolding;
 
 pub use exploration::{Answer, Answers, Exploration, Schedule};
-pub use explored::{explore, explore_reduced, explore_reduced_watched, explore_watched};
+pub use explored::{explore, explore_full, explore_watched};
 pub use world_search::{Bounds, Watcher};

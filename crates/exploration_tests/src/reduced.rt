@@ -2,7 +2,7 @@
 
 ghost use Rattle.cell_registry.specs.Cells.{AreLimits};
 
-use every_schedule::{Answer, Bounds, Exploration, explore, explore_reduced};
+use every_schedule::{Answer, Bounds, Exploration, explore, explore_full};
 use outcome_trace::{Limits, read_program, same_end};
 use std::alloc::Global;
 use std::test::Fail;
@@ -114,10 +114,10 @@ fn both(alloc: Global, text: &str, limits: Limits) -> Result<Both, Fail>
         worlds: 10_000,
         entries: 1000,
     };
-    let Ok(full) = explore(alloc, &program, limits, bounds) else {
+    let Ok(full) = explore_full(alloc, &program, limits, bounds) else {
         return Err(Fail::new("memory ran out"));
     };
-    let Ok(reduced) = explore_reduced(alloc, &program, limits, bounds) else {
+    let Ok(reduced) = explore(alloc, &program, limits, bounds) else {
         return Err(Fail::new("memory ran out"));
     };
     Ok(Both { full, reduced })

@@ -4,29 +4,42 @@ use Rattle.std.specs.List.{All, slice_get}
 use Rattle.derived_ops.specs.Expansion.{code_of}
 use Rattle.derived_ops.specs.Reading.{source_of}
 use Rattle.outcome_trace.specs.Core.{core}
+use Rattle.world_search.specs.declared.answers.Answer.{Answer as Found}
 use Rattle.world_search.specs.Answers as search
 use Rattle.every_schedule.specs.declared.exploration.Answer.{Answer}
 use Rattle.every_schedule.specs.Explored.{IsAnswered, IsCovered, IsReached}
 use Rattle.every_schedule.specs.Places.{Kept, first_place, report_at, stepped}
+use Rattle.every_schedule.specs.Private.Trails.{AreUnfolded}
 use Rattle.every_schedule.proofs.Placed.{core_run}
 use Rattle.every_schedule.proofs.Laws.{alike, ended, faultless}
 use Rattle.every_schedule.proofs.Told.{all_within, answered, covered, numbered, reached, short}
+use Rattle.every_schedule.proofs.Trails.{all_covered, all_onward, brief, few, right}
 use Rattle.every_schedule.proofs.explored.explore_watched.Goals as goal
 
 pub told-requires : goal.told-requires
 told-requires g c =
     let code = code_of (source_of c.args.program.now) in
-    let first : slice_get c.in_ok-worlds.worlds.places 0 ≡ Some (first_place code c.args.limits) = ap (λ (s : Kept). slice_get s.places 0) c.in_ok-worlds.ensures in
-    all_within c.search_watched.new.worlds (first_place code c.args.limits) c.in_ok-found.found.answers.items (c.in_ok-found.ensures.each (first_place code c.args.limits) first)
+    let k = c.args.limits in
+    let start = first_place code k in
+    let kept = c.search_watched.new.worlds.worlds in
+    let raw = c.in_ok-found.found.answers.items in
+    let found = c.in_ok-unfolded.unfolded.answers.items in
+    let first : slice_get c.in_ok-worlds.worlds.worlds.places 0 ≡ Some start = ap (λ (s : Kept). slice_get s.places 0) c.in_ok-worlds.ensures in
+    let each : AreUnfolded 100 c.args.bounds.entries start raw found = subst (λ (l : List Found). AreUnfolded 100 c.args.bounds.entries start l found) c.as_slice.ensures.value c.in_ok-unfolded.ensures.each in
+    all_within kept start found (right kept start 100 c.args.bounds.entries raw found each (c.in_ok-found.ensures.each start first))
 
 pub returns-clause-all : goal.returns-clause-all
 returns-clause-all g c = λ complete schedule.
     let code = code_of (source_of c.args.program.now) in
     let k = c.args.limits in
-    let kept = c.search_watched.new.worlds in
-    let found = c.in_ok-found.found.answers.items in
-    let first : slice_get c.in_ok-worlds.worlds.places 0 ≡ Some (first_place code k) = ap (λ (s : Kept). slice_get s.places 0) c.in_ok-worlds.ensures in
-    let all = c.in_ok-found.ensures.all complete (first_place code k) first schedule in
+    let start = first_place code k in
+    let kept = c.search_watched.new.worlds.worlds in
+    let raw = c.in_ok-found.found.answers.items in
+    let found = c.in_ok-unfolded.unfolded.answers.items in
+    let first : slice_get c.in_ok-worlds.worlds.worlds.places 0 ≡ Some start = ap (λ (s : Kept). slice_get s.places 0) c.in_ok-worlds.ensures in
+    let each : AreUnfolded 100 c.args.bounds.entries start raw found = subst (λ (l : List Found). AreUnfolded 100 c.args.bounds.entries start l found) c.as_slice.ensures.value c.in_ok-unfolded.ensures.each in
+    let whole = λ (i : _) (a : Found) (at : slice_get raw i ≡ Some a). c.in_ok-unfolded.ensures.whole (c.are_both.ensures.other complete) i a (subst (λ (l : List Found). slice_get l i ≡ Some a) (sym c.as_slice.ensures.value) at) in
+    let all = all_covered kept start 100 c.args.bounds.entries raw found each whole (c.in_ok-found.ensures.all (c.are_both.ensures.one complete) start first) schedule in
     subst (λ (l : List Answer). IsCovered k l (core code k schedule)) (sym c.new-2.ensures)
     (covered kept found c.in_ok-answers.answers.items c.in_ok-answers.ensures.told k (core code k schedule)
     (subst (search.IsCovered stepped report_at kept.places kept.faults found) (core_run code k schedule) all))
@@ -35,19 +48,28 @@ pub returns-clause-each : goal.returns-clause-each
 returns-clause-each g c =
     let code = code_of (source_of c.args.program.now) in
     let k = c.args.limits in
-    let first : slice_get c.in_ok-worlds.worlds.places 0 ≡ Some (first_place code k) = ap (λ (s : Kept). slice_get s.places 0) c.in_ok-worlds.ensures in
+    let start = first_place code k in
+    let kept = c.search_watched.new.worlds.worlds in
+    let raw = c.in_ok-found.found.answers.items in
+    let found = c.in_ok-unfolded.unfolded.answers.items in
+    let first : slice_get c.in_ok-worlds.worlds.worlds.places 0 ≡ Some start = ap (λ (s : Kept). slice_get s.places 0) c.in_ok-worlds.ensures in
+    let each : AreUnfolded 100 c.args.bounds.entries start raw found = subst (λ (l : List Found). AreUnfolded 100 c.args.bounds.entries start l found) c.as_slice.ensures.value c.in_ok-unfolded.ensures.each in
     subst (λ (l : List Answer). All (IsReached code k) l) (sym c.new-2.ensures)
-    (reached c.search_watched.new.worlds c.in_ok-found.found.answers.items c.in_ok-answers.answers.items c.in_ok-answers.ensures.told code k
-    (c.in_ok-found.ensures.each (first_place code k) first))
+    (reached kept found c.in_ok-answers.answers.items c.in_ok-answers.ensures.told code k
+    (right kept start 100 c.args.bounds.entries raw found each (c.in_ok-found.ensures.each start first)))
 
 pub returns-clause-onward : goal.returns-clause-onward
 returns-clause-onward g c = λ complete ends schedule.
     let code = code_of (source_of c.args.program.now) in
     let k = c.args.limits in
-    let kept = c.search_watched.new.worlds in
-    let found = c.in_ok-found.found.answers.items in
-    let first : slice_get c.in_ok-worlds.worlds.places 0 ≡ Some (first_place code k) = ap (λ (s : Kept). slice_get s.places 0) c.in_ok-worlds.ensures in
-    let on = c.in_ok-found.ensures.onward complete ends (first_place code k) first schedule in (
+    let start = first_place code k in
+    let kept = c.search_watched.new.worlds.worlds in
+    let raw = c.in_ok-found.found.answers.items in
+    let found = c.in_ok-unfolded.unfolded.answers.items in
+    let first : slice_get c.in_ok-worlds.worlds.worlds.places 0 ≡ Some start = ap (λ (s : Kept). slice_get s.places 0) c.in_ok-worlds.ensures in
+    let each : AreUnfolded 100 c.args.bounds.entries start raw found = subst (λ (l : List Found). AreUnfolded 100 c.args.bounds.entries start l found) c.as_slice.ensures.value c.in_ok-unfolded.ensures.each in
+    let whole = λ (i : _) (a : Found) (at : slice_get raw i ≡ Some a). c.in_ok-unfolded.ensures.whole (c.are_both.ensures.other complete) i a (subst (λ (l : List Found). slice_get l i ≡ Some a) (sym c.as_slice.ensures.value) at) in
+    let on = all_onward kept start 100 c.args.bounds.entries raw found each whole (c.in_ok-found.ensures.onward (c.are_both.ensures.one complete) ends start first) schedule in (
       on.0,
       subst (λ (l : List Answer). IsAnswered k l (core code k (schedule ++ on.0))) (sym c.new-2.ensures)
           (answered kept found c.in_ok-answers.answers.items c.in_ok-answers.ensures.told k (core code k (schedule ++ on.0))
@@ -56,13 +78,29 @@ returns-clause-onward g c = λ complete ends schedule.
 
 pub returns-clause-numbers : goal.returns-clause-numbers
 returns-clause-numbers g c =
+    let code = code_of (source_of c.args.program.now) in
+    let k = c.args.limits in
+    let start = first_place code k in
+    let kept = c.search_watched.new.worlds.worlds in
+    let raw = c.in_ok-found.found.answers.items in
+    let found = c.in_ok-unfolded.unfolded.answers.items in
+    let first : slice_get c.in_ok-worlds.worlds.worlds.places 0 ≡ Some start = ap (λ (s : Kept). slice_get s.places 0) c.in_ok-worlds.ensures in
+    let each : AreUnfolded 100 c.args.bounds.entries start raw found = subst (λ (l : List Found). AreUnfolded 100 c.args.bounds.entries start l found) c.as_slice.ensures.value c.in_ok-unfolded.ensures.each in
     subst (λ (l : List Answer). All (λ a. All (λ f. f < 1000) a.schedule) l) (sym c.new-2.ensures)
-    (numbered c.search_watched.new.worlds c.in_ok-found.found.answers.items c.in_ok-answers.answers.items c.in_ok-answers.ensures.told 1000 c.in_ok-found.ensures.numbers)
+    (numbered kept found c.in_ok-answers.answers.items c.in_ok-answers.ensures.told 1000 (few kept start 100 c.args.bounds.entries raw found each))
 
 pub returns-clause-short : goal.returns-clause-short
 returns-clause-short g c =
+    let code = code_of (source_of c.args.program.now) in
+    let k = c.args.limits in
+    let start = first_place code k in
+    let kept = c.search_watched.new.worlds.worlds in
+    let raw = c.in_ok-found.found.answers.items in
+    let found = c.in_ok-unfolded.unfolded.answers.items in
+    let first : slice_get c.in_ok-worlds.worlds.worlds.places 0 ≡ Some start = ap (λ (s : Kept). slice_get s.places 0) c.in_ok-worlds.ensures in
+    let each : AreUnfolded 100 c.args.bounds.entries start raw found = subst (λ (l : List Found). AreUnfolded 100 c.args.bounds.entries start l found) c.as_slice.ensures.value c.in_ok-unfolded.ensures.each in
     subst (λ (l : List Answer). All (λ a. length a.schedule ≤ c.args.bounds.entries) l) (sym c.new-2.ensures)
-    (short c.search_watched.new.worlds c.in_ok-found.found.answers.items c.in_ok-answers.answers.items c.in_ok-answers.ensures.told c.args.bounds.entries c.in_ok-found.ensures.short)
+    (short kept found c.in_ok-answers.answers.items c.in_ok-answers.ensures.told c.args.bounds.entries (brief kept start 100 c.args.bounds.entries raw found each))
 
 pub returns-clause-faultless : goal.returns-clause-faultless
 returns-clause-faultless g c = λ complete none schedule e is.
