@@ -149,7 +149,14 @@ impl CoreWorlds {
         let before = self.current.take();
         let current = set_up(self.alloc, before, &self.states, row)?;
         self.trail.clear();
-        match leap(self.alloc, current, &mut self.states, fiber, at_once, &mut self.trail) {
+        match leap(
+            self.alloc,
+            current,
+            &mut self.states,
+            fiber,
+            at_once,
+            &mut self.trail,
+        ) {
             Ok(next) => {
                 let kept = keep(self.alloc, &mut self.rows, &next.row, most);
                 self.current = Some(next);

@@ -104,12 +104,13 @@ pub fn explore_watched<V: Watcher>(
 
 /// The same ([`explore`]), with far fewer worlds: by partial-order reduction, as it is called.
 ///
-/// Behind each entry, the moves are made at once of which no other fiber sees anything and which nothing that another
-/// fiber does can change: those without a shared call, masks entered and left, looks where the request is set, and
-/// cuts; up to a hundred of them behind an entry. No report that stays and no fault is lost by it, and wherever a
-/// schedule has led, some entries more lead to a world of this exploration. The schedules of the answers have each move
-/// as an entry; they aren't the shortest. An answer whose schedule is longer than the bound is left out, and the
-/// exploration isn't complete then. The bound counts no more than the entries that aren't made at once while it goes.
+/// Behind each entry, up to a hundred moves are made at once of which no other fiber sees anything, and which nothing
+/// that another fiber does can change: those without a shared call, masks that are entered and left, looks where the
+/// request is set, and cuts. No report that stays and no fault is lost by it.
+///
+/// In the schedules of the answers each move is an entry; they needn't be the shortest. While it explores, the bound
+/// counts the entries alone, without the moves behind them. An answer whose schedule has more entries than the bound
+/// is left out then, and the exploration isn't complete.
 pub fn explore_reduced(
     alloc: Global,
     program: &Program,
@@ -139,8 +140,8 @@ pub fn explore_reduced(
     explore_reduced_watched(alloc, program, limits, bounds, &mut Unwatched)
 }
 
-/// The same ([`explore_reduced`]), while the watcher is told from time to time how many worlds were found and how long the
-/// schedules are, at each ten-thousandth world.
+/// The same ([`explore_reduced`]), while the watcher is told from time to time how many worlds were found and how long
+/// the schedules are, at each ten-thousandth world.
 pub fn explore_reduced_watched<V: Watcher>(
     alloc: Global,
     program: &Program,

@@ -15,12 +15,17 @@ fresh-requires c =
     let fs' = c.entered.new.states.fibers.items.items in
     let rs' = c.entered.new.states.registries.items.items in
     let p = c.args.current.world in
-    record { row = (p.limits, record {
-      place = p;
-      limits = refl;
-      is = subst (λ (n : Numbers). IsWorldOf fs' rs' n p) (sym c.in_ok-row.ensures) (of_more fs fs' rs rs' c.entered.ensures.fibers c.entered.ensures.registries c.args.current.row p c.requires);
-      fits = c.last_own.ensures.fits;
-    }) }
+    record {
+      row = (
+        p.limits,
+        record {
+          place = p;
+          limits = refl;
+          is = subst (λ (n : Numbers). IsWorldOf fs' rs' n p) (sym c.in_ok-row.ensures) (of_more fs fs' rs rs' c.entered.ensures.fibers c.entered.ensures.registries c.args.current.row p c.requires);
+          fits = c.last_own.ensures.fits;
+        },
+      );
+    }
 
 pub returns-clause-goes : goal.returns-clause-goes
 returns-clause-goes c =
