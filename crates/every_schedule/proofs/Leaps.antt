@@ -6,7 +6,6 @@ use Rattle.cell_registry.specs.declared.limits.RunError.{RunError}
 use Rattle.cell_registry.specs.declared.limits.RunError.TheVariants as run
 use Rattle.cell_registry.specs.Cells.{Cells}
 use Rattle.fiber_frames.specs.Fiber.{Fiber}
-use Rattle.world_search.proofs.Lists.{get_low}
 use Rattle.world_search.specs.Free.{IsReduced, Leads, Leaps}
 use Rattle.world_search.specs.Free.Leads.{Here, On}
 use Rattle.outcome_trace.specs.Core.{turned}
@@ -43,9 +42,6 @@ last_own_is s gs (suc n) f e = chosen s gs n (has_own s n (slice_get gs n)) f re
 
 pub last_own_passes : (s : Cells) (gs : List Fiber) (n : ℕ) → has_own s n (slice_get gs n) ≡ false → last_own s gs (suc n) ≡ last_own s gs n
 last_own_passes s gs n other = ap (λ b. this_or b n (last_own s gs n)) other
-
-pub last_own_here : (s : Cells) (gs : List Fiber) (n : ℕ) → has_own s n (slice_get gs n) ≡ true → last_own s gs (suc n) ≡ Some n
-last_own_here s gs n own = ap (λ b. this_or b n (last_own s gs n)) own
 
 -- ---- one own move
 module _ (p : Place) where
@@ -114,10 +110,3 @@ refused_with d P apart (inr told) = told
 
 pub refused : (d : RunError) (y : Result Place RunError) → d ≢ run.NoMemory → (d ≡ run.NoMemory) ⊎ (y ≡ Err d) → y ≡ Err d
 refused d y apart h = refused_with d (y ≡ Err d) apart h
-
--- where the entry of a born fiber leads
-pub leapt_goes : (n : ℕ) (p : Place) (f : ℕ) (q last : Place) → f < length p.world.fibers → stepped p f ≡ Ok q → last ≡ pushed n q → leapt n p f ≡ Ok last
-leapt_goes n p f q last low goes e = ap (leapt_by n p f) (get_low p.world.fibers f low).1 ∙ ap (behind n) goes ∙ ap Ok (sym e)
-
-pub leapt_stops : (n : ℕ) (p : Place) (f : ℕ) (e : RunError) → f < length p.world.fibers → stepped p f ≡ Err e → leapt n p f ≡ Err e
-leapt_stops n p f e low stops = ap (leapt_by n p f) (get_low p.world.fibers f low).1 ∙ ap (behind n) stops

@@ -1,6 +1,7 @@
 -- Moves that the reduced exploration makes at once, behind each entry: those that no other fiber sees anything of, and
 -- that nothing which another fiber does can change.
-use Rattle.std.specs.Prelude.{◌≡◌, ℕ, zero, suc, Bool, true, false, not, List, length, Option, Some, None, Result, Ok, Err}
+use Rattle.std.specs.Prelude.{◌≡◌, ℕ, zero, suc, Bool, true, false, not, List, length, Option, Some, None}
+use Rattle.std.specs.Prelude.{Result, Ok, Err}
 use Rattle.std.specs.List.{slice_get}
 use Rattle.cell_registry.specs.declared.cell.Cell.{Cell}
 use Rattle.cell_registry.specs.declared.call.Call.{Call}

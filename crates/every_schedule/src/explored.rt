@@ -34,12 +34,13 @@ use world_search::{Bounds, Landing, Unwatched, Watcher, search, search_watched};
 /// led. A report is listed once, and so is a fault. The limits are in their ranges ([`Limits`]); a world takes memory
 /// for each of its numbers. [`RunError::NoMemory`] is the only error.
 ///
-/// It is a search with partial-order reduction. Behind each entry, the moves are made at once of which no other fiber
-/// sees anything and which nothing that another fiber does can change: those without a shared call, masks entered and
-/// left, looks where the request is set, and cuts; up to a hundred of them behind an entry. They count as entries of a
-/// schedule that is told, and not against the bound while the search goes. An answer whose schedule is longer than the
-/// bound is left out, and the exploration isn't complete then. The schedules aren't the shortest: [`explore_full`]
-/// tells those.
+/// It is a search with partial-order reduction: behind each entry, up to a hundred moves are made at once of which no
+/// other fiber sees anything, and which nothing that another fiber does can change. These are moves without a shared
+/// call, masks that are entered and left, looks where the request is set, and cuts.
+///
+/// In the schedules of the answers each move is an entry; they needn't be the shortest, which [`explore_full`] tells.
+/// While it explores, the bound counts the entries alone, without the moves behind them. An answer whose schedule has
+/// more entries than the bound is left out then, and the exploration isn't complete.
 pub fn explore(
     alloc: Global,
     program: &Program,

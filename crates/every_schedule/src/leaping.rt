@@ -1,5 +1,6 @@
 //! Entries with own moves behind them.
-ghost use Rattle.std.specs.Prelude.{◌≡◌, ◌≢◌, ◌⊎◌, ◌++◌, ◌<◌, ◌≤◌, [], ◌∷◌, length, false, IfErr, IfOk, IfSome, OnOk, Some};
+ghost use Rattle.std.specs.Prelude.{◌≡◌, ◌≢◌, ◌⊎◌, ◌++◌, ◌<◌, ◌≤◌, [], ◌∷◌, length, false};
+ghost use Rattle.std.specs.Prelude.{IfErr, IfOk, IfSome, OnOk, Some};
 ghost use Rattle.std.specs.Prelude.{Ok as GoesWell, Err as Fails};
 ghost use Rattle.cell_registry.specs.Cells.{cell_of};
 ghost use Rattle.fiber_frames.specs.Fiber.{ask_of};

@@ -92,8 +92,7 @@ fn limits(fibers: u16, count: u64) -> Limits
 
 // Whether each of these ends as one of the others does.
 fn are_among(ones: &[Answer], others: &[Answer]) -> bool {
-    ones.iter()
-        .all(|one| others.iter().any(|other| same_end(&one.end, &other.end)))
+    ones.iter().all(|one| others.iter().any(|other| same_end(&one.end, &other.end)))
 }
 
 /// The full exploration of a program, and the reduced one.

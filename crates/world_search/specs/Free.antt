@@ -13,7 +13,8 @@ module _ {W E : Type 0} (step : W → ℕ → Result W E) where
   -- other fiber does the same before them and behind them
   pub record AreFree (Free : W → ℕ → Type 0) : Type 0 where
     pub goes : (w : W) (f : ℕ) → Free w f → (x : W) × (step w f ≡ Ok x)
-    pub commutes : (w : W) (f : ℕ) (x : W) → Free w f → step w f ≡ Ok x → (g : ℕ) → g ≢ f → Commutes Free f x g (step w g)
+    pub commutes : (w : W) (f : ℕ) (x : W) → Free w f → step w f ≡ Ok x → (g : ℕ) → g ≢ f →
+        Commutes Free f x g (step w g)
 
   -- free moves lead from one world to the other
   pub data Leads (Free : W → ℕ → Type 0) : W → W → Type 0 where
@@ -33,4 +34,5 @@ module _ {W E : Type 0} (step : W → ℕ → Result W E) where
 
   -- each entry leaves the report as it is, or makes it larger
   abbrev pub AreGrowing : {R : Type 0} → (W → R) → (R → ℕ) → Type 0
-  AreGrowing report size = (w : W) (f : ℕ) (x : W) → step w f ≡ Ok x → (report x ≡ report w) ⊎ (size (report w) < size (report x))
+  AreGrowing report size = (w : W) (f : ℕ) (x : W) → step w f ≡ Ok x →
+      (report x ≡ report w) ⊎ (size (report w) < size (report x))

@@ -31,7 +31,8 @@ pub record IsUnfoldedOf (n most : ℕ) (first : Place) (found : List Found) (a :
 
 -- each of these is such an answer
 abbrev pub AreUnfolded : ℕ → ℕ → Place → List Found → List Found → Type 0
-AreUnfolded n most first found answers = (i : ℕ) (a : Found) → slice_get answers i ≡ Some a → IsUnfoldedOf n most first found a
+AreUnfolded n most first found answers =
+    (i : ℕ) (a : Found) → slice_get answers i ≡ Some a → IsUnfoldedOf n most first found a
 
 -- one of them ends as that answer does
 abbrev pub IsKeptIn : List Found → Found → Type 0
