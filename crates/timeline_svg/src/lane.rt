@@ -26,6 +26,8 @@ pub(crate) struct Lane {
     waits: Option<usize>,
     /// Where brackets acquired that haven't released, the innermost last.
     spans: Vec<usize>,
+    /// The signs and words so far, which are drawn over the bars.
+    signs: String,
     /// Where the last sign stands.
     signed: usize,
     /// How the fiber ended, if it did.
@@ -43,6 +45,7 @@ impl Lane {
             cut: false,
             waits: None,
             spans: Vec::new(alloc),
+            signs: String::new(alloc),
             signed: 0,
             outcome: None,
         }
@@ -190,23 +193,23 @@ impl Lane {
             x,
             y: scale.top(self.fiber),
         };
-        push_said(text, scale, place, event)?;
-        self.push_sign(text, place, event)
+        push_said(&mut self.signs, scale, place, event)?;
+        self.push_sign(place, event)
     }
 
     // The sign of an event, unless one stands there already.
-    fn push_sign(
-        &mut self,
-        text: &mut String,
-        place: Place,
-        event: &Event,
-    ) -> Result<(), AllocError> {
+    fn push_sign(&mut self, place: Place, event: &Event) -> Result<(), AllocError> {
         let sign = sign_of(event);
         if place.x == self.signed && sign.class == "tick" {
             return Ok(());
         }
         self.signed = place.x;
-        push_event_sign(text, sign.class, place, sign.drawing, event)
+        push_event_sign(&mut self.signs, sign.class, place, sign.drawing, event)
+    }
+
+    /// The signs and words, behind all bars.
+    pub(crate) fn push_signs(&self, text: &mut String) -> Result<(), AllocError> {
+        text.push_str(self.signs.as_str())
     }
 
     /// All that is still open goes up to here.

@@ -49,6 +49,7 @@ fn push_lane(
     if lane.outcome.is_none() {
         lane.close(text, scale, scale.at(scale.entries))?;
     }
+    lane.push_signs(text)?;
     push_end(alloc, text, scale, fiber, lane.outcome)
 }
 

@@ -67,11 +67,15 @@ pub(crate) fn push_axis(text: &mut String, scale: Scale) -> Result<(), AllocErro
     Ok(())
 }
 
-// How many entries are from one number to the next: 1, 2 or 5 and zeros, so that there are 20 at most.
+// How many entries are from one number to the next: 1 where all have one digit, which have room side by side; else 1,
+// 2 or 5 and zeros, so that there are 20 at most.
 fn step(entries: usize) -> usize {
-    let mut step = 1usize;
+    if entries < 10 {
+        return 1;
+    }
+    let mut step = 2usize;
     for factor in [
-        2usize, 5, 10, 20, 50, 100, 200, 500, 1000, 2000, 5000, 10_000, 20_000, 50_000,
+        5usize, 10, 20, 50, 100, 200, 500, 1000, 2000, 5000, 10_000, 20_000, 50_000,
     ] {
         if entries > step.saturating_mul(20) {
             step = factor;

@@ -2,7 +2,7 @@
 
 ghost use Rattle.cell_registry.specs.Cells.{AreLimits};
 
-use exploration_text::{Bounds, ExploreOrder, read_want};
+use exploration_text::{Bounds, ExploreOrder, Want, read_want};
 use outcome_trace::{Answer, Limits, TextOrder, read_schedule};
 use std::alloc::Global;
 use std::test::Fail;
@@ -46,15 +46,22 @@ pub fn pictured(alloc: Global, program: &str, schedule: &str, fibers: u16) -> Re
     Ok(order.answer(alloc, program.as_bytes())?)
 }
 
+// Adds the outcomes that words spell.
+fn push_wants(wants: &mut Vec<Want>, words: &[&str]) -> Result<(), Fail> {
+    for word in words {
+        match read_want(word) {
+            Some(Want::Ended(outcome)) => wants.push(Want::Ended(outcome))?,
+            Some(Want::Unended) => wants.push(Want::Unended)?,
+            None => return Err(Fail::new("no outcome is spelled so")),
+        }
+    }
+    Ok(())
+}
+
 /// The order to explore with at most so many fibers (1 to 16), where these outcomes are wanted.
 pub fn exploration(alloc: Global, fibers: u16, words: &[&str]) -> Result<ExploreOrder, Fail> {
     let mut wants = Vec::new(alloc);
-    for word in words {
-        let Some(want) = read_want(word) else {
-            return Err(Fail::new("no outcome is spelled so"));
-        };
-        wants.push(want)?;
-    }
+    push_wants(&mut wants, words)?;
     Ok(ExploreOrder {
         limits: limits(fibers),
         bounds: Bounds {

@@ -81,6 +81,25 @@ const SHOWN: &[Shown<'static>] = &[
         shapes: &[("class=\"span\"", 1), ("class=\"open\"", 1)],
     },
     Shown {
+        rule: "of eleven entries each second one has its number",
+        program: "(forever (cede))",
+        schedule: "0*11",
+        status: Status::Unended,
+        shapes: &[
+            (">8</text>", 1),
+            (">9</text>", 0),
+            (">10</text>", 1),
+            (">11</text>", 0),
+        ],
+    },
+    Shown {
+        rule: "of nine entries each one has its number",
+        program: "(forever (cede))",
+        schedule: "0*9",
+        status: Status::Unended,
+        shapes: &[(">7</text>", 1), (">8</text>", 1), (">9</text>", 1)],
+    },
+    Shown {
         rule: "a text that is refused has no picture",
         program: "(pure 01)",
         schedule: "0*2",
@@ -173,6 +192,21 @@ fn a_small_picture_is_drawn_whole(rt: HostRuntime) -> Result<(), Fail> {
     let answer = pictured(rt.alloc(), "(pure 1)", "0*2", 16)?;
     assert!(rt; behind_style(answer.text.as_slice()) == SMALL);
     assert!(rt; answer.status == Status::Succeeded);
+    Ok(())
+}
+
+/// A mark that a finalizer notes stands behind the bar of the finalizers, and so is drawn over it.
+#[test]
+fn signs_are_drawn_over_their_bars(rt: HostRuntime) -> Result<(), Fail> {
+    let program = "(oncancel (seq (canceled) (say 1)) (say 2))";
+    let answer = pictured(rt.alloc(), program, "0*9", 16)?;
+    let lane = behind_style(answer.text.as_slice());
+    let Some((before, _)) = lane.split_once("<path class=\"says\"") else {
+        return Err(Fail::new("nothing is said"));
+    };
+    assert!(rt;
+        before.contains("<rect class=\"final\" x=\"168\" y=\"40\" width=\"42\" height=\"18\"/>")
+    );
     Ok(())
 }
 
