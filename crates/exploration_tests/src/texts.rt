@@ -17,7 +17,8 @@ struct Explored<'a> {
     text: &'a str,
 }
 
-/// A fiber alone: its worlds are those after each of its entries.
+/// A fiber alone: its worlds are those after each of its entries, with the moves behind it that are made at once. A look
+/// isn't one of these while no request is there, nor is an end or a call that others see.
 const EXPLORED: &[Explored<'static>] = &[
     Explored {
         rule: "a look and an end",
@@ -35,7 +36,7 @@ const EXPLORED: &[Explored<'static>] = &[
         worlds: 100,
         wants: &[],
         status: Status::Succeeded,
-        text: "explored 2 worlds: 1 report, 0 faults\n\nunder \"\"\nfiber 0 unended\n",
+        text: "explored 1 world: 1 report, 0 faults\n\nunder \"\"\nfiber 0 unended\n",
     },
     Explored {
         rule: "exactly as many worlds as there may be",

@@ -1,7 +1,7 @@
 //! What is told of an exploration while it goes.
 //!
-//! A fiber alone has one way on, so each entry leads to one world more: at the world with the number n, counted from 0,
-//! n + 1 worlds are known, and n entries lead there.
+//! A fiber alone has one way on, so each entry leads, with the moves that are made at once behind it, to one world more:
+//! at the world with the number n, counted from 0, n + 1 worlds are known, and n entries lead there.
 
 use crate::answers::exploring;
 use exploration_text::obey_explore_watched;
@@ -14,7 +14,7 @@ use std::test::Fail;
 use std::time::{Clock, Duration};
 
 /// A fiber alone that goes on for more worlds than there may be.
-const LONG: &str = "(repeat 9000 (cede))";
+const LONG: &str = "(repeat 90000 (cede))";
 
 /// What is told of it, by a clock that stands still.
 const TOLD: &str = "explored 10000 worlds, 0 a second, depth 9999\n\

@@ -121,7 +121,7 @@ const EXPLORED: &[(&str, usize, &[&str], &str, Status)] = &[
         &[],
         "{\"answer\":\"exploration\",\"answers\":[{\"fault\":{\"answer\":\"fault\",\"band\":\"refs\",\"limit\":1,\
             \"name\":\"Full\",\"number\":18},\"schedule\":\"0*8\",\"wanted\":true}],\
-            \"complete\":true,\"worlds\":8}\n",
+            \"complete\":true,\"worlds\":7}\n",
         Status::Errored,
     ),
     (
@@ -130,7 +130,7 @@ const EXPLORED: &[(&str, usize, &[&str], &str, Status)] = &[
         &["unended"],
         "{\"answer\":\"exploration\",\"answers\":[{\"fault\":{\"answer\":\"fault\",\"band\":\"refs\",\"limit\":1,\
             \"name\":\"Full\",\"number\":18},\"schedule\":\"0*8\",\"wanted\":false}],\
-            \"complete\":true,\"worlds\":8}\n",
+            \"complete\":true,\"worlds\":7}\n",
         Status::Errored,
     ),
     (
@@ -139,7 +139,7 @@ const EXPLORED: &[(&str, usize, &[&str], &str, Status)] = &[
         &["unended"],
         "{\"answer\":\"exploration\",\"answers\":[{\"report\":{\"answer\":\"report\",\"fibers\":[{\"fiber\":0,\
             \"marks\":[],\"outcome\":\"unended\"}]},\"schedule\":\"\",\"wanted\":true}],\
-            \"complete\":true,\"worlds\":2}\n",
+            \"complete\":true,\"worlds\":1}\n",
         Status::Succeeded,
     ),
     (
