@@ -1,7 +1,7 @@
 //! Answers in JSON.
 
 use crate::limits::limits;
-use exploration_text::{Bounds, ExploreOrder, read_want};
+use exploration_text::{Bounds, ExploreOrder, Want, read_want};
 use json_answers::{CheckJson, ExploreJson, ReplayJson, SampleJson};
 use outcome_trace::{Answer, Status, TextOrder};
 use sample_text::SampleOrder;
@@ -215,15 +215,22 @@ fn replays_are_told_in_json(rt: HostRuntime) -> Result<(), Fail> {
     Ok(())
 }
 
+// Adds the outcomes that words spell.
+fn push_wants(wants: &mut Vec<Want>, words: &[&str]) -> Result<(), Fail> {
+    for word in words {
+        match read_want(word) {
+            Some(Want::Ended(outcome)) => wants.push(Want::Ended(outcome))?,
+            Some(Want::Unended) => wants.push(Want::Unended)?,
+            None => return Err(Fail::new("no outcome is spelled so")),
+        }
+    }
+    Ok(())
+}
+
 // What an exploration answers, where these outcomes are wanted.
 fn explored(alloc: Global, program: &str, worlds: usize, words: &[&str]) -> Result<Answer, Fail> {
     let mut wants = Vec::new(alloc);
-    for word in words {
-        let Some(want) = read_want(word) else {
-            return Err(Fail::new("no outcome is spelled so"));
-        };
-        wants.push(want)?;
-    }
+    push_wants(&mut wants, words)?;
     let order = ExploreJson {
         order: ExploreOrder {
             limits: limits(1),
