@@ -1,18 +1,18 @@
-//! What a run and a replay of a program answer, as texts.
-ghost use Rattle.std.specs.Prelude.{◌<◌};
+//! What a run and a replay of a program answer, as texts, and that a recorded run's replay answers the same.
+ghost use Rattle.std.specs.Prelude.{◌≡◌, ◌<◌};
 ghost use Rattle.cell_registry.specs.Cells.{AreLimits};
 ghost use Rattle.steal_pool.specs.Runs.{limits_of};
 
 use cell_registry::{Limits, RunError};
 use derived_ops::program_of;
 use effect_term::Program;
-use outcome_trace::{Refused, Report, line, replay, text_of_report};
+use outcome_trace::{Refused, Report, line, read_schedule, replay, text_of_report};
 use std::alloc::{AllocError, Global};
 use std::process::Abort;
 use std::sync::Wait;
 use std::test::Fail;
 use std::thread::Threads;
-use steal_pool::{Gate, OpenGate, Options, RunEnd, run_told};
+use steal_pool::{Gate, NoSchedule, OpenGate, Options, Recorded, RunEnd, run_recorded, run_told};
 use term_parse::parse;
 
 /// The options by default.
@@ -98,6 +98,62 @@ pub fn run_past<R: Threads + Wait + Sync, G: Gate>(
     told(alloc, run_told(rt, alloc, program, options, gate))
 }
 
+/// What a recorded run of the program that this text spells answers, with this gate, and what a replay under
+/// its schedule does. Where it hands out none, the second text says why.
+pub fn recorded_past<R: Threads + Wait + Sync, G: Gate>(
+    rt: &R,
+    alloc: Global,
+    text: &str,
+    options: Options,
+    gate: &G,
+) -> Result<(String, String), Fail>
+    requires limits { AreLimits (limits_of options) }
+    requires budget { 1 < options.budget }
+{
+    let program = program(alloc, text)?;
+    let Recorded { end, schedule } = run_recorded(rt, alloc, program, options, gate);
+    let run = told(alloc, end)?;
+    let replay = replayed(alloc, text, options, schedule)?;
+    Ok((run, replay))
+}
+
+/// What a replay under this schedule answers, or why there is none.
+fn replayed(
+    alloc: Global,
+    text: &str,
+    options: Options,
+    schedule: Result<String, NoSchedule>,
+) -> Result<String, Fail>
+    requires limits { AreLimits (limits_of options) }
+{
+    match schedule {
+        Ok(schedule) => replay_under(alloc, text, schedule.as_str(), options),
+        Err(why) => Ok(format!(in alloc; "no schedule: {why:?}")?),
+    }
+}
+
+/// What a replay of the program that this text spells answers, under a schedule's text and within the limits
+/// of these options.
+fn replay_under(alloc: Global, text: &str, schedule: &str, options: Options) -> Result<String, Fail>
+    requires limits { AreLimits (limits_of options) }
+{
+    let program = program(alloc, text)?;
+    let entries = read_schedule(alloc, schedule)?;
+    replay_within(alloc, &program, entries.as_slice(), limits(options))
+}
+
+/// The limits of a run with these options.
+fn limits(options: Options) -> Limits
+    ensures { result ≡ limits_of options }
+{
+    Limits {
+        fibers: options.fibers,
+        refs: options.refs,
+        deferreds: options.deferreds,
+        count: options.count,
+    }
+}
+
 /// Which fiber a run of the program that this text spells is told to have used its moves, if any is.
 pub fn stopped_in<R: Threads + Wait + Sync>(
     rt: &R,
@@ -123,7 +179,19 @@ pub fn replay_of(alloc: Global, program: &Program, schedule: &[u16]) -> Result<S
         deferreds: 1000,
         count: 1_099_511_627_775,
     };
-    spelled(alloc, replay(alloc, program, schedule, widest))
+    replay_within(alloc, program, schedule, widest)
+}
+
+/// What a replay of a program under a schedule answers, within these limits.
+fn replay_within(
+    alloc: Global,
+    program: &Program,
+    schedule: &[u16],
+    limits: Limits,
+) -> Result<String, Fail>
+    requires limits { AreLimits limits }
+{
+    spelled(alloc, replay(alloc, program, schedule, limits))
 }
 
 /// Adds a piece to a text that is made piece by piece.
@@ -160,7 +228,26 @@ fn expect_run<R: Abort + Threads + Wait + Sync>(
     Ok(())
 }
 
-/// Runs a text so often, and asks that each answer be one of these.
+/// Runs a text once and records it, and asks that a replay under its schedule answer just what the run did.
+pub fn expect_recorded<R: Abort + Threads + Wait + Sync>(
+    rt: &R,
+    alloc: Global,
+    text: &str,
+    options: Options,
+) -> Result<(), Fail>
+    requires limits { AreLimits (limits_of options) }
+    requires budget { 1 < options.budget }
+{
+    let (run, replay) = recorded_past(rt, alloc, text, options, &OpenGate)?;
+    assert!(rt;
+        run.as_str() == replay.as_str(),
+        "{text} with {options:?}: {run}but its replay: {replay}"
+    );
+    Ok(())
+}
+
+/// Runs a text so often, and asks that each answer be one of these. One more run on each number of workers
+/// with each number of moves a turn is recorded.
 pub fn expect_runs<R: Abort + Threads + Wait + Sync>(
     rt: &R,
     alloc: Global,
@@ -170,15 +257,11 @@ pub fn expect_runs<R: Abort + Threads + Wait + Sync>(
 ) -> Result<(), Fail> {
     for workers in runs.workers {
         for budget in runs.budgets {
+            let options = within(runs.options, *workers, *budget);
             for _ in 0..runs.times {
-                expect_run(
-                    rt,
-                    alloc,
-                    text,
-                    within(runs.options, *workers, *budget),
-                    wanted,
-                )?;
+                expect_run(rt, alloc, text, options, wanted)?;
             }
+            expect_recorded(rt, alloc, text, options)?;
         }
     }
     Ok(())

@@ -1,4 +1,4 @@
-//! Gates, which show how workers are inside: two at once, and none after a fault.
+//! Gates, which hold fibers, and show how workers are inside: two at once, and none after a fault.
 
 use crate::answers::{USUAL, run_past, within};
 use std::process::Abort;
@@ -11,31 +11,57 @@ use std::thread::Threads;
 use std::time::{Duration, Instant};
 use steal_pool::{Gate, Options};
 
-// How often a worker looks for the other one.
+// How often a worker looks for the other fiber.
 const LOOKS: u32 = 200_000_000;
 
-// Holds fibers 1 and 2 until both have entered, or one of them gives up.
+/// A fiber, a turn of it, another fiber and a turn of that one: the turn of the first is held until the other has
+/// come to that of its own, so that it has made the one before. The turns of a fiber are numbered from 1.
+pub type Hold = (u16, u64, u16, u64);
+
+/// Holds turns of fibers 0 to 2, until it gives up.
 #[derive(Drop)]
-struct Meeting {
-    first: AtomicBool,
-    second: AtomicBool,
+pub struct Holding<'a> {
+    holds: &'a [Hold],
+    // To which turn each fiber has come.
+    turns: [AtomicU64; 3],
     gave_up: AtomicBool,
 }
 
-impl Meeting {
-    fn new() -> Meeting {
-        Meeting {
-            first: AtomicBool::new(false),
-            second: AtomicBool::new(false),
+impl<'a> Holding<'a> {
+    /// No fiber has come to a turn.
+    pub fn new(holds: &'a [Hold]) -> Holding<'a> {
+        Holding {
+            holds,
+            turns: [AtomicU64::new(0), AtomicU64::new(0), AtomicU64::new(0)],
             gave_up: AtomicBool::new(false),
         }
     }
 
-    // Tells that one is here, and looks for the other one.
-    fn meet(&self, own: &AtomicBool, other: &AtomicBool) {
-        own.store(true, Ordering::SeqCst);
+    /// Whether a turn was held in vain.
+    pub fn gave_up(&self) -> bool {
+        self.gave_up.load(Ordering::SeqCst)
+    }
+
+    // To which turn a fiber comes now.
+    fn come(&self, fiber: u16) -> u64 {
+        match self.turns.get(usize::from(fiber)) {
+            Some(turn) => turn.fetch_add(1, Ordering::SeqCst).wrapping_add(1),
+            None => 0,
+        }
+    }
+
+    // To which turn a fiber has come.
+    fn turn_of(&self, fiber: u16) -> u64 {
+        match self.turns.get(usize::from(fiber)) {
+            Some(turn) => turn.load(Ordering::SeqCst),
+            None => 0,
+        }
+    }
+
+    // Looks for a fiber to come to a turn.
+    fn wait(&self, fiber: u16, turn: u64) {
         for _ in 0..LOOKS {
-            if other.load(Ordering::SeqCst) {
+            if self.turn_of(fiber) >= turn {
                 return;
             }
         }
@@ -43,15 +69,19 @@ impl Meeting {
     }
 }
 
-impl Gate for Meeting {
+impl<'a> Gate for Holding<'a> {
     fn enter(&self, _worker: u8, fiber: u16) {
-        match fiber {
-            1 => self.meet(&self.first, &self.second),
-            2 => self.meet(&self.second, &self.first),
-            _ => {}
+        let turn = self.come(fiber);
+        for (held, at, other, until) in self.holds {
+            if *held == fiber && *at == turn {
+                self.wait(*other, *until);
+            }
         }
     }
 }
+
+// Fibers 1 and 2 wait for each other.
+const MEETING: &[Hold] = &[(1, 1, 2, 1), (2, 1, 1, 1)];
 
 // Runs two fibers that meet.
 fn expect_meeting<R: Abort + AllocGlobal + Threads + Wait + Sync>(
@@ -60,9 +90,9 @@ fn expect_meeting<R: Abort + AllocGlobal + Threads + Wait + Sync>(
 ) -> Result<(), Fail> {
     let text = "(start f (say 1) (start g (say 2) (pure 0)))";
     let want = "fiber 0 succeeded 0\nfiber 1 succeeded 0: say 1\nfiber 2 succeeded 0: say 2\n";
-    let gate = Meeting::new();
+    let gate = Holding::new(MEETING);
     let report = run_past(rt, rt.alloc(), text, within(USUAL, workers, 64), &gate)?;
-    assert!(rt; !gate.gave_up.load(Ordering::SeqCst), "on {workers}");
+    assert!(rt; !gate.gave_up(), "on {workers}");
     assert!(rt; report.as_str() == want, "on {workers}: {report}");
     Ok(())
 }

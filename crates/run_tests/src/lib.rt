@@ -19,6 +19,8 @@ mod limits;
 #[cfg(test)]
 mod races;
 #[cfg(test)]
+mod recorded;
+#[cfg(test)]
 mod rings;
 #[cfg(test)]
 mod schedules;

@@ -13,7 +13,7 @@ use steal_pool::Options;
 const RUNS: Runs<'static> = Runs {
     options: USUAL,
     workers: &[1, 2, 4, 16],
-    budgets: &[64],
+    budgets: &[2, 64],
     times: 1,
 };
 
