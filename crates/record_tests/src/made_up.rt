@@ -24,7 +24,9 @@ enum Made {
     Ends,
     // Of ref 0, and of deferred 0.
     GetsMost,
+    GetsZero,
     SetsMost,
+    SetsZero,
     ReadsZero,
     Completes,
 }
@@ -174,6 +176,24 @@ const LOGS: &[MadeUp<'static>] = &[
         want: Err(NoOrder::NotFound),
     },
     MadeUp {
+        rule: "where the order that is tried first leads nowhere, the search goes back",
+        moves: 10,
+        told: &[
+            Told::Call(0, 10, Made::NewRef, 0),
+            Told::Call(0, 9, Made::Start, 0),
+            Told::Call(0, 8, Made::SetsMost, 0),
+            Told::Call(1, 8, Made::SetsZero, 0),
+            Told::Call(0, 7, Made::GetsMost, 2),
+            Told::Call(0, 6, Made::SetsZero, 3),
+            Told::Call(0, 5, Made::GetsZero, 4),
+            Told::Turn(0, 4, true),
+            Told::Turn(1, 7, false),
+        ],
+        fault: None,
+        settled: &[],
+        want: Ok(&[0, 0, 1, 0, 0, 0, 0]),
+    },
+    MadeUp {
         rule: "a deferred is found full behind its completion",
         moves: 10,
         told: &[
@@ -208,7 +228,9 @@ fn asked(made: Made) -> (Ask, Reply) {
         }
         Made::Ends => (Ask::Finish(Outcome::Canceled), Reply::Done),
         Made::GetsMost => (Ask::Get(0), Reply::Value(Value::MAX)),
+        Made::GetsZero => (Ask::Get(0), Reply::Value(Value::ZERO)),
         Made::SetsMost => (Ask::Set(0, Value::MAX), Reply::Done),
+        Made::SetsZero => (Ask::Set(0, Value::ZERO), Reply::Done),
         Made::ReadsZero => (Ask::Read(0), Reply::Read(Some(Value::ZERO))),
         Made::Completes => (Ask::Complete(0, Value::ZERO), Reply::Completed(true)),
     }
@@ -266,4 +288,17 @@ fn each_rule_is_kept(rt: HostRuntime) -> Result<(), Fail> {
         expect_schedule(&rt, rt.alloc(), row);
     }
     Ok(())
+}
+
+// Whether each schedule is as it should be, unless memory ran out.
+fn are_right_or_lack_memory(alloc: Global) -> bool {
+    LOGS.iter().all(|row| {
+        let found = put_together(alloc, row);
+        is_wanted(&found, row.want) || is_wanted(&found, Err(NoOrder::NoMemory))
+    })
+}
+
+#[test]
+fn each_schedule_is_right_or_memory_ran_out(rt: HostRuntime) {
+    assert!(rt; are_right_or_lack_memory(rt.alloc()));
 }
