@@ -107,8 +107,8 @@ const REQUESTS: &[Row<'static>] = &[
     ),
     (
         "finalizers cancel other fibers",
-        "(repeat 6 (start f (oncancel (never) (say 1)) (start g (oncancel (seq (cancel f) (never)) (cancel f)) (start h \
-        (oncancel (canceled) (seq (cancel g) (cancel f))) (seq (cancel h) (cancel g) (cancel f))))))",
+        "(repeat 6 (start f (oncancel (never) (say 1)) (start g (oncancel (seq (cancel f) (never)) (cancel f)) (start \
+        h (oncancel (canceled) (seq (cancel g) (cancel f))) (seq (cancel h) (cancel g) (cancel f))))))",
     ),
     (
         "a fiber is canceled by many",
@@ -150,8 +150,8 @@ const SHARED: &[Row<'static>] = &[
     ),
     (
         "a deferred is completed by many",
-        "(repeat 10 (deferred d (start f (complete d 1) (start g (let x (await d) (say x)) (start h (complete d 2) (let \
-        y (await d) (say y)))))))",
+        "(repeat 10 (deferred d (start f (complete d 1) (start g (let x (await d) (say x)) (start h (complete d 2) \
+        (let y (await d) (say y)))))))",
     ),
     (
         "values of a ref come again",
