@@ -103,7 +103,7 @@ struct Both {
 }
 
 // Both explorations.
-fn both(alloc: Global, text: &str, limits: Limits) -> Result<Both, Fail>
+fn explored_twice(alloc: Global, text: &str, limits: Limits) -> Result<Both, Fail>
     requires { AreLimits limits }
 {
     let Ok(program) = read_program(alloc, text.as_bytes()) else {
@@ -124,7 +124,7 @@ fn both(alloc: Global, text: &str, limits: Limits) -> Result<Both, Fail>
 
 // Whether both are complete and have the same ends, so many, and the reduced one has no more worlds.
 fn is_same(alloc: Global, it: &Compared<'_>) -> Result<bool, Fail> {
-    let both = both(alloc, it.program, limits(it.fibers, it.count))?;
+    let both = explored_twice(alloc, it.program, limits(it.fibers, it.count))?;
     let ones = both.full.answers.as_slice();
     let others = both.reduced.answers.as_slice();
     Ok(
@@ -185,7 +185,7 @@ const COUNTED: &[Counted<'static>] = &[
 
 // Whether there are so many worlds.
 fn is_counted(alloc: Global, it: &Counted<'_>) -> Result<bool, Fail> {
-    let both = both(alloc, it.program, limits(16, 1000))?;
+    let both = explored_twice(alloc, it.program, limits(16, 1000))?;
     Ok(both.full.worlds == it.full && both.reduced.worlds == it.reduced)
 }
 
