@@ -70,6 +70,21 @@ const COMPARED: &[Compared<'static>] = &[
         answers: 1,
     },
     Compared {
+        rule: "a race, whose loser is cut before it has registered its finalizer, or has its finalizer run",
+        program: "(race (pure 4) (oncancel (never) (say 9)))",
+        fibers: 16,
+        count: 1000,
+        answers: 3,
+    },
+    Compared {
+        rule: "brackets in a fiber that is canceled: cut before, within or behind each of them, or not cut",
+        program: "(start f (bracket a (pure 1) (bracket b (pure 2) (bracket c (pure 3) (say c) (say c)) (say b)) \
+            (say a)) (cancel f))",
+        fibers: 16,
+        count: 1000,
+        answers: 9,
+    },
+    Compared {
         rule: "a fiber that goes round under a mask",
         program: "(ref r 0 (start f (uncancelable p (forever (pure 1))) (start g (set r 1) (get r))))",
         fibers: 16,
