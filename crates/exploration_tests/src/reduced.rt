@@ -70,6 +70,21 @@ const COMPARED: &[Compared<'static>] = &[
         answers: 1,
     },
     Compared {
+        rule: "a race, whose loser is cut before it has registered its finalizer, or has its finalizer run",
+        program: "(race (pure 4) (oncancel (never) (say 9)))",
+        fibers: 16,
+        count: 1000,
+        answers: 3,
+    },
+    Compared {
+        rule: "brackets in a fiber that is canceled: cut before, within or behind each of them, or not cut",
+        program: "(start f (bracket a (pure 1) (bracket b (pure 2) (bracket c (pure 3) (say c) (say c)) (say b)) \
+            (say a)) (cancel f))",
+        fibers: 16,
+        count: 1000,
+        answers: 9,
+    },
+    Compared {
         rule: "a fiber that goes round under a mask",
         program: "(ref r 0 (start f (uncancelable p (forever (pure 1))) (start g (set r 1) (get r))))",
         fibers: 16,
@@ -103,7 +118,7 @@ struct Both {
 }
 
 // Both explorations.
-fn both(alloc: Global, text: &str, limits: Limits) -> Result<Both, Fail>
+fn explored_twice(alloc: Global, text: &str, limits: Limits) -> Result<Both, Fail>
     requires { AreLimits limits }
 {
     let Ok(program) = read_program(alloc, text.as_bytes()) else {
@@ -124,7 +139,7 @@ fn both(alloc: Global, text: &str, limits: Limits) -> Result<Both, Fail>
 
 // Whether both are complete and have the same ends, so many, and the reduced one has no more worlds.
 fn is_same(alloc: Global, it: &Compared<'_>) -> Result<bool, Fail> {
-    let both = both(alloc, it.program, limits(it.fibers, it.count))?;
+    let both = explored_twice(alloc, it.program, limits(it.fibers, it.count))?;
     let ones = both.full.answers.as_slice();
     let others = both.reduced.answers.as_slice();
     Ok(
@@ -185,7 +200,7 @@ const COUNTED: &[Counted<'static>] = &[
 
 // Whether there are so many worlds.
 fn is_counted(alloc: Global, it: &Counted<'_>) -> Result<bool, Fail> {
-    let both = both(alloc, it.program, limits(16, 1000))?;
+    let both = explored_twice(alloc, it.program, limits(16, 1000))?;
     Ok(both.full.worlds == it.full && both.reduced.worlds == it.reduced)
 }
 
