@@ -102,8 +102,8 @@ fn is_unwanted(answer: &Answer, wants: &[Want]) -> bool
     !wants.is_empty() && is_failure(&answer.end, wants)
 }
 
-/// Whether an answer is one of those that are listed as not wanted, where these are asked for, or else one of the others.
-/// Not wanted are, where outcomes of fiber 0 are wanted, a report that has another one, and a fault.
+/// Whether an answer is one of those that are listed as not wanted, where these are asked for, or else one of the
+/// others. Not wanted are, where outcomes of fiber 0 are wanted, a report that has another one, and a fault.
 pub fn is_listed_so(answer: &Answer, wants: &[Want], unwanted: bool) -> bool
     ensures { result ≡ is_listed_so unwanted wants.now answer.now }
 {

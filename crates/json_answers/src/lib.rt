@@ -2,9 +2,9 @@
 //! answer, each as one value on one line.
 //!
 //! It stands on texts and their answers (`outcome_trace`, `exploration_text`, `sample_text`, `text_io`), on what these
-//! tell (`every_schedule`, `sampled_schedules`), and on the kit's `serde_json`. It promises that what goes out is the text
-//! of the value that the definitions make of the same report, refusal, fault, exploration or sample, with the status that
-//! goes with the lines of these.
+//! tell (`every_schedule`, `sampled_schedules`), and on the kit's `serde_json`. It promises that what goes out is the
+//! text of the value that the definitions make of the same report, refusal, fault, exploration or sample, with the
+//! status that goes with the lines of these.
 #![tactic(auto)]
 
 mod exploration_values;

@@ -12,8 +12,9 @@ use sample_text::{SampleOrder, sample_status};
 use sampled_schedules::sample;
 use std::alloc::{AllocError, Global};
 
-/// Tells in JSON what schedules of the program that the text spells come to, which are drawn at random, as `SampleOrder`
-/// does in words: the answers of the sample with its seed, or why the text is refused, with the same status.
+/// Tells in JSON what schedules of the program that the text spells come to, which are drawn at random, as
+/// `SampleOrder` does in words: the answers of the sample with its seed, or why the text is refused, with the same
+/// status.
 #[derive(Clone, Copy, Debug)]
 pub struct SampleJson {
     /// What is sampled, by which seed, how often and how far.

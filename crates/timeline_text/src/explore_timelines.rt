@@ -46,7 +46,8 @@ fn explored_answer(
     program: &Program,
     order: &ExploreOrder,
 ) -> Result<outcome_trace::Answer, AllocError>
-    ensures { IfOk result (λ a. IsToldExplored program.now order.now.limits order.now.wants.items a.text.items a.status) }
+    ensures { IfOk result (λ a. IsToldExplored program.now order.now.limits order.now.wants.items a.text.items
+        a.status) }
 {
     let Ok(exploration) = explore(alloc, program, order.limits, order.bounds) else {
         return Err(AllocError);
