@@ -1,7 +1,9 @@
 -- Trails that go on, and the answers of the reduced search with the entries of their schedules one by one.
 use Rattle.std.proofs.Common.{◌≡◌, inl, inr, ℕ, ◌+◌, ◌<◌, List, [], ◌∷◌, ◌++◌, length, Some, Result, Ok, Err, refl, sym, ap, ◌∙◌, subst, arith, append-nil, append_assoc}
 use Rattle.std.specs.List.{All, slice_get}
+use Rattle.std.specs.List.Sorted.{IsPermutation}
 use Rattle.std.proofs.lemmas.List.Elements.{All-push}
+use Rattle.std.proofs.lemmas.List.Sorted.{All-permutation, IsPermutation-sym}
 use Rattle.std.proofs.lemmas.Option.{same_Some}
 use mathlib.Core.Logic.{dite}
 use native.Mathlib.Decide.{ℕ_discrete}
@@ -10,6 +12,7 @@ use Rattle.outcome_trace.proofs.Lists.{parted}
 use Rattle.world_search.specs.declared.answers.Answer.{Answer as Found}
 use Rattle.world_search.specs.declared.landings.Landing.{Landing}
 use Rattle.world_search.specs.Answers as search
+use Rattle.world_search.specs.Lists.{IsIn}
 use Rattle.world_search.specs.Systems.{run}
 use Rattle.world_search.proofs.Closed.{run-append}
 use Rattle.world_search.proofs.Lists.{get_end, get_last, more_by, more_in}
@@ -70,6 +73,17 @@ kept_next found old i it b at same h j a low e = dite (ℕ_discrete j i)
     (λ isnt.
     let k = h j a (omega arith) e in
     (k.0, more_in old (old ++ b ∷ []) k.0 (more_by old (b ∷ [])) k.1, k.2))
+
+pub unfolded_sorted : (n most : ℕ) (first : Place) (found xs ys : List Found) → IsPermutation xs ys → AreUnfolded n most first found xs → AreUnfolded n most first found ys
+unfolded_sorted n most first found xs ys moved h i a e =
+    all_at (IsUnfoldedOf n most first found) ys i a e
+    (All-permutation (IsUnfoldedOf n most first found) xs ys moved (all_from (IsUnfoldedOf n most first found) xs h))
+
+pub kept_sorted : (xs ys : List Found) (a : Found) → IsPermutation xs ys → IsKeptIn xs a → IsKeptIn ys a
+kept_sorted xs ys a moved k =
+    let there = all_from (λ (x : Found). IsIn x ys) ys (λ i x e. (i, e)) in
+    let here = All-permutation (λ (x : Found). IsIn x ys) ys xs (IsPermutation-sym xs ys moved) there in
+    (k.0, all_at (λ (x : Found). IsIn x ys) xs k.1.0 k.0 k.1.1 here, k.2)
 
 module _ (kept : Kept) (first : Place) (n most : ℕ) (found answers : List Found) (each : AreUnfolded n most first found answers) where
   pub right : All (search.IsRight (leapt n) report_at kept.places kept.faults first) found → All (search.IsRight stepped report_at kept.places kept.faults first) answers

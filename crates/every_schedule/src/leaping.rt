@@ -119,6 +119,10 @@ fn push_once(
     let row = current.row.again(alloc)?;
     match entered(alloc, current, &mut *states, fiber) {
         Ok(next) => {
+            // A wait that goes on changes nothing.
+            if next.row.is(&row) {
+                return Ok((next, false));
+            }
             add(trail, fiber)?;
             Ok((next, true))
         }

@@ -1,6 +1,7 @@
 //! The answers of a reduced search, with schedules of which each entry is one move.
 ghost use Rattle.std.specs.Prelude.{◌≡◌, ◌≤◌, ◌++◌, ℕ, [], ◌∷◌, length, true, false, IfErr, IfOk, Some};
 ghost use Rattle.std.specs.List.{slice_get};
+ghost use Rattle.std.specs.List.Sorted.{IsPermutation};
 ghost use Rattle.derived_ops.specs.Expansion.{code_of};
 ghost use Rattle.derived_ops.specs.Reading.{source_of};
 ghost use Rattle.cell_registry.specs.Cells.{AreLimits};
@@ -17,6 +18,9 @@ use effect_term::Program;
 use std::alloc::{AllocError, Global};
 use world_search::{Answer, Landing};
 
+// More than any schedule is long.
+const FAULTS: usize = 1 << 62;
+
 // Answers with such schedules.
 #[derive(Drop)]
 pub(crate) struct Unfolded {
@@ -25,7 +29,7 @@ pub(crate) struct Unfolded {
     pub(crate) whole: bool,
 }
 
-// The answers whose schedules are at most so many entries long.
+// The answers whose schedules are at most so many entries long, in order.
 pub(crate) fn unfold_all(
     alloc: Global,
     program: &Program,
@@ -50,7 +54,25 @@ pub(crate) fn unfold_all(
             whole = false;
         }
     }
+    sort(alloc, &mut answers)?;
     Ok(Unfolded { answers, whole })
+}
+
+// Reports before faults, and those of short schedules first. Where two are of one length, their order stays.
+fn sort(alloc: Global, answers: &mut Vec<Answer>) -> Result<(), AllocError>
+    ensures { IsPermutation answers.old.items answers.new.items }
+{
+    answers
+        .as_mut_slice()
+        .sort_by_key(alloc, |it: &Answer| rank(it))
+}
+
+// Where an answer stands among others.
+fn rank(it: &Answer) -> usize {
+    match it.end {
+        Landing::World(_) => it.schedule.len(),
+        Landing::Fault(_) => it.schedule.len() | FAULTS,
+    }
 }
 
 // One more answer, if its schedule is at most so many entries long. Whether it is.

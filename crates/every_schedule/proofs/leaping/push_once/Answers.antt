@@ -3,7 +3,7 @@ use Rattle.every_schedule.specs.Places.{Place, stepped}
 use Rattle.every_schedule.specs.Reduced.{own_in, pushed_once}
 use Rattle.every_schedule.specs.Private.Numbered.{IsWorldOf, Numbers}
 use Rattle.every_schedule.specs.Private.Trails.{IsTrail}
-use Rattle.every_schedule.proofs.Leaps.{once_refused, refused}
+use Rattle.every_schedule.proofs.Leaps.{once_made, once_refused, refused}
 use Rattle.every_schedule.proofs.Numbered.{of_more, one_rebuilt}
 use Rattle.every_schedule.proofs.Trails.{trail_none, trail_one}
 use Rattle.every_schedule.proofs.leaping.push_once.Goals as goal
@@ -73,4 +73,28 @@ returns-clause-trail c =
     let own : own_in p ≡ Some c.in-Some.fiber = sym c.last_own.ensures.own ∙ c.in-Some.is in
     let stops : stepped p c.in-Some.fiber ≡ Err c.in-Err.fault = refused c.in-Err.fault (stepped p c.in-Some.fiber) (c.is_memory.ensures c.if-is_memory.false) c.in-Err.ensures.stops in
     let once : pushed_once p ≡ p = once_refused p c.in-Some.fiber c.in-Err.fault own stops in
+    subst (λ (x : Place). IsTrail c.args.trail.now.items c.args.trail.now.items p (Ok x)) (sym same) (trail_none c.args.trail.now.items p)
+
+pub returns-then-is-clause-stays : goal.returns-then-is-clause-stays
+returns-then-is-clause-stays c = λ stays.
+    let fs = c.args.states.now.fibers.items.items in
+    let rs = c.args.states.now.registries.items.items in
+    let fs' = c.entered.new.states.fibers.items.items in
+    let rs' = c.entered.new.states.registries.items.items in
+    let p = c.args.current.world in
+    let next = c.in-Ok.next in
+    let same : next.world ≡ p = one_rebuilt fs fs' rs rs' c.entered.ensures.fibers c.entered.ensures.registries c.args.current.row c.in_ok-row.row next.row p next.world c.requires c.in_ok-row.ensures (c.is.ensures c.if-is.true) c.in-Ok.ensures.current in
+    let own : own_in p ≡ Some c.in-Some.fiber = sym c.last_own.ensures.own ∙ c.in-Some.is in
+    let once : pushed_once p ≡ next.world = once_made p c.in-Some.fiber next.world own c.in-Ok.ensures.goes in
+    subst (λ (x : Place). pushed_once x ≡ x) (sym same) (once ∙ same)
+
+pub returns-then-is-clause-trail : goal.returns-then-is-clause-trail
+returns-then-is-clause-trail c =
+    let fs = c.args.states.now.fibers.items.items in
+    let rs = c.args.states.now.registries.items.items in
+    let fs' = c.entered.new.states.fibers.items.items in
+    let rs' = c.entered.new.states.registries.items.items in
+    let p = c.args.current.world in
+    let next = c.in-Ok.next in
+    let same : next.world ≡ p = one_rebuilt fs fs' rs rs' c.entered.ensures.fibers c.entered.ensures.registries c.args.current.row c.in_ok-row.row next.row p next.world c.requires c.in_ok-row.ensures (c.is.ensures c.if-is.true) c.in-Ok.ensures.current in
     subst (λ (x : Place). IsTrail c.args.trail.now.items c.args.trail.now.items p (Ok x)) (sym same) (trail_none c.args.trail.now.items p)

@@ -8,7 +8,7 @@ use Rattle.derived_ops.specs.Reading.{source_of}
 use Rattle.world_search.specs.declared.answers.Answer.{Answer as Found}
 use Rattle.every_schedule.specs.Places.{first_place}
 use Rattle.every_schedule.specs.Private.Trails.{AreUnfolded, IsKeptIn, IsUnfolded}
-use Rattle.every_schedule.proofs.Trails.{kept_next, unfolded_next}
+use Rattle.every_schedule.proofs.Trails.{kept_next, kept_sorted, unfolded_next, unfolded_sorted}
 use Rattle.every_schedule.proofs.unfolding.unfold_all.Goals as goal
 use Rattle.every_schedule.proofs.unfolding.unfold_all.Goals.{then-not-branch, else-not-branch}
 
@@ -45,4 +45,8 @@ loop-i-preserved c =
 pub returns-clause-whole : goal.returns-clause-whole
 returns-clause-whole c = λ whole i a at.
     let low = slice_get_within c.args.found.now i a at in
-    c.loop-i.invariant.whole whole i a (omega arith) at
+    kept_sorted c.loop-i.answers.items c.sort.new.answers.items a c.sort.ensures (c.loop-i.invariant.whole whole i a (omega arith) at)
+
+pub returns-clause-each : goal.returns-clause-each
+returns-clause-each c =
+    unfolded_sorted c.args.at_once c.args.most (first_place (code_of (source_of c.args.program.now)) c.args.limits) c.args.found.now c.loop-i.answers.items c.sort.new.answers.items c.sort.ensures c.loop-i.invariant.each
