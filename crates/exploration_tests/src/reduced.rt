@@ -105,9 +105,24 @@ fn limits(fibers: u16, count: u64) -> Limits
     }
 }
 
-// Whether each of these ends as one of the others does.
+// Whether an answer ends as one of the others does.
+fn is_among(one: &Answer, others: &[Answer]) -> bool {
+    for other in others {
+        if same_end(&one.end, &other.end) {
+            return true;
+        }
+    }
+    false
+}
+
+// Whether each of these does.
 fn are_among(ones: &[Answer], others: &[Answer]) -> bool {
-    ones.iter().all(|one| others.iter().any(|other| same_end(&one.end, &other.end)))
+    for one in ones {
+        if !is_among(one, others) {
+            return false;
+        }
+    }
+    true
 }
 
 /// The full exploration of a program, and the reduced one.
