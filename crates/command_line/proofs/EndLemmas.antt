@@ -1,5 +1,7 @@
 -- No answer to a text ends as wrong usage does.
-use Rattle.std.proofs.Common.{◌≢◌, ◌∙◌, if◌then◌else◌, Bool, true, false, ℕ, List, [], ◌∷◌, Option, Some, None, Result, Ok, Err, sym}
+use Rattle.std.proofs.Common.{◌≢◌, ◌==◌, ◌∙◌, if◌then◌else◌, Bool, true, false, ℕ, List, [], ◌∷◌, Option, Some, None, Result, Ok, Err, sym}
+use Rattle.std.specs.Prelude.{count_by}
+use Rattle.std.specs.Result.{is_err}
 use Rattle.cell_registry.specs.declared.limits.Limits.{Limits}
 use Rattle.effect_term.specs.declared.reply.Outcome.{Outcome}
 use Rattle.effect_term.specs.declared.reply.Outcome.TheVariants.{Succeeded, Errored, Canceled}
@@ -19,10 +21,24 @@ use Rattle.exploration_text.specs.ExploreAnswers.{IsExploreAnswer, explores, une
 use Rattle.explanations.specs.Explained.{Explained}
 use Rattle.json_answers.specs.Answers.{IsJsonCheck, IsJsonRefusal, IsJsonReplay, IsJsonRun, counted as counted_json, faults as faults_json, no_program as no_program_json, no_term as no_term_json, refused as refused_json, replays as replays_json, reports as reports_json, unreplayed as unreplayed_json}
 use Rattle.timeline_svg.specs.PictureAnswers.{IsPictureAnswer, IsPicturedAnswer, draws, faults as faults_drawn, pictures, unpictured}
+use Rattle.json_answers.specs.FoundAnswers.{IsJsonExplore, IsJsonSample, explores as explores_json, samples as samples_json, unexplored as unexplored_json, unsampled as unsampled_json}
+use Rattle.timeline_text.specs.ExploreTimelines.{IsExploreTimeline, explores as explores_told, unexplored as unexplored_told}
 use Rattle.timeline_text.specs.TimelineAnswers.{IsTimelineAnswer, tells, unreplayed as untold}
+use Rattle.sample_text.specs.SampleAnswers.{IsSampleAnswer, samples, unsampled}
+use Rattle.sample_text.specs.declared.sample_texts.SampleOrder.{SampleOrder}
+use Rattle.steal_pool.specs.declared.options.Options.{Options}
 use Rattle.command_line.specs.declared.replay.Form.{Form}
 use Rattle.command_line.specs.declared.replay.Form.TheVariants.{Report, Timeline, Picture, Json}
+use Rattle.command_line.specs.declared.running.RunForm.{RunForm}
+use Rattle.command_line.specs.declared.running.RunForm.TheVariants as ran
+use Rattle.command_line.specs.Checks.{checks_as}
+use Rattle.command_line.specs.Orders.{ObeysOrder}
+use Rattle.command_line.specs.Recording.{IsRecordedAnswer, IsTimedAnswer, alone, timed, reports as reports_recorded, faults as faults_recorded}
 use Rattle.command_line.specs.Replays.{answers_as}
+use Rattle.command_line.specs.RunReasons.{ExplainsRun}
+use Rattle.command_line.specs.Runs.{comes_as, ran_as, refused_as}
+use Rattle.command_line.specs.Samplings.{samples_as}
+use Rattle.command_line.specs.Workers.{IsJsonWorkersAnswer, IsWorkersAnswer, refuses, runs as runs_program, value_of_fault, values, reports as reports_worked, faults as faults_worked}
 
 outcome_ends : (o : Option Outcome) → outcome_status o ≢ ends.Usage
 outcome_ends (Some (Succeeded v)) = λ u. cc
@@ -46,7 +62,7 @@ pub replay_ends : {schedule : List ℕ} {limits : Limits} {text answer : List �
 replay_ends (unreplayed text answer status h) = refusal_ends h
 replay_ends (replays text answer status t reads program runs) = run_ends runs
 
-pub check_ends : {text answer : List ℕ} {status : Status} → IsCheckAnswer text answer status → status ≢ ends.Usage
+check_ends : {text answer : List ℕ} {status : Status} → IsCheckAnswer text answer status → status ≢ ends.Usage
 check_ends (refused text answer status h) = refusal_ends h
 check_ends (counted text t reads program) = λ u. cc
 
@@ -80,7 +96,7 @@ json_refusal_ends : {text answer : List ℕ} {status : Status} → IsJsonRefusal
 json_refusal_ends (no_term_json text e reads) = λ u. cc
 json_refusal_ends (no_program_json text t e reads past) = λ u. cc
 
-pub json_check_ends : {text answer : List ℕ} {status : Status} → IsJsonCheck text answer status → status ≢ ends.Usage
+json_check_ends : {text answer : List ℕ} {status : Status} → IsJsonCheck text answer status → status ≢ ends.Usage
 json_check_ends (refused_json text answer status h) = json_refusal_ends h
 json_check_ends (counted_json text t reads program) = λ u. cc
 
@@ -108,3 +124,76 @@ explained_ends never h = λ u. answered_ends _ _ _ _ _ h.result never h.answered
 
 pub told_ends : {Answers : List ℕ → List ℕ → Status → Type 0} {before after : Devices} {status : Status} → ((text answer : List ℕ) (status : Status) → Answers text answer status → status ≢ ends.Usage) → Answered Answers before after status → status ≢ ends.Usage
 told_ends never h = λ u. answered_ends _ _ _ _ _ h.result never h.answered (sym h.status_is ∙ u)
+
+-- with reasons or without
+pub order_ends : (Answers : List ℕ → List ℕ → Status → Type 0) (Tells : List ℕ → List ℕ → Type 0) (explain : Bool) (before after : Devices) (status : Status) → ((text answer : List ℕ) (status : Status) → Answers text answer status → status ≢ ends.Usage) → ObeysOrder Answers Tells explain before after status → status ≢ ends.Usage
+order_ends Answers Tells true before after status never h = explained_ends never h
+order_ends Answers Tells false before after status never h = told_ends never h
+
+pub check_as_ends : (json : Bool) (text answer : List ℕ) (status : Status) → checks_as json text answer status → status ≢ ends.Usage
+check_as_ends true text answer status h = json_check_ends h
+check_as_ends false text answer status h = check_ends h
+
+-- ---- of samples
+two_ends : (none : Bool) → (if none then ends.Succeeded else ends.Errored) ≢ ends.Usage
+two_ends true = λ u. cc
+two_ends false = λ u. cc
+
+pub sample_ends : {limits : Limits} {times entries : ℕ} (text answer : List ℕ) (status : Status) → IsSampleAnswer limits times entries text answer status → status ≢ ends.Usage
+sample_ends text answer status (unsampled _ _ _ h) = refusal_ends h
+sample_ends text answer status (samples _ _ _ t reads program h) = λ u. two_ends (count_by (λ c. is_err c.answer.end) h.sample.comings == 0) (sym h.status_is ∙ u)
+
+json_sample_ends : {limits : Limits} {seed times entries : ℕ} (text answer : List ℕ) (status : Status) → IsJsonSample limits seed times entries text answer status → status ≢ ends.Usage
+json_sample_ends text answer status (unsampled_json _ _ _ h) = json_refusal_ends h
+json_sample_ends text answer status (samples_json _ _ _ t reads program h) = λ u. two_ends (count_by (λ c. is_err c.answer.end) h.sample.comings == 0) (sym h.status_is ∙ u)
+
+pub sample_as_ends : (json : Bool) (order : SampleOrder) (text answer : List ℕ) (status : Status) → samples_as json order text answer status → status ≢ ends.Usage
+sample_as_ends true order text answer status h = json_sample_ends text answer status h
+sample_as_ends false order text answer status h = sample_ends text answer status h
+
+-- ---- of explorations
+pub explore_timeline_ends : {limits : Limits} {wants : List Want} {text answer : List ℕ} {status : Status} → IsExploreTimeline limits wants text answer status → status ≢ ends.Usage
+explore_timeline_ends (unexplored_told text answer status h) = refusal_ends h
+explore_timeline_ends {limits} {wants} (explores_told text answer status t reads program h) =
+    λ u. chosen_ends (has_failure wants h.exploration.answers) h.exploration.complete (sym h.status_is ∙ u)
+
+pub json_explore_ends : {limits : Limits} {wants : List Want} {text answer : List ℕ} {status : Status} → IsJsonExplore limits wants text answer status → status ≢ ends.Usage
+json_explore_ends (unexplored_json text answer status h) = json_refusal_ends h
+json_explore_ends {limits} {wants} (explores_json text answer status t reads program h) =
+    λ u. chosen_ends (has_failure wants h.exploration.answers) h.exploration.complete (sym h.status_is ∙ u)
+
+-- ---- of runs on workers
+refused_ends : (form : RunForm) (text answer : List ℕ) (status : Status) → refused_as form text answer status → status ≢ ends.Usage
+refused_ends ran.Report text answer status h = refusal_ends h
+refused_ends ran.Record text answer status h = refusal_ends h
+refused_ends ran.Timeline text answer status h = refusal_ends h
+refused_ends ran.Json text answer status h = json_refusal_ends h
+
+workers_end : {t : Term} {options : Options} {answer : List ℕ} {status : Status} → IsWorkersAnswer t options answer status → status ≢ ends.Usage
+workers_end (reports_worked r some lawful) = report_ends r.fibers
+workers_end (faults_worked e within) = λ u. cc
+
+recorded_ends : {t : Term} {options : Options} {answer : List ℕ} {status : Status} → IsRecordedAnswer t options answer status → status ≢ ends.Usage
+recorded_ends (reports_recorded r line some lawful told) = report_ends r.fibers
+recorded_ends (faults_recorded e line within told) = λ u. cc
+
+timed_ends : {t : Term} {options : Options} {answer : List ℕ} {status : Status} → IsTimedAnswer t options answer status → status ≢ ends.Usage
+timed_ends (alone answer status h) = recorded_ends h
+timed_ends (timed answer timeline status h) = recorded_ends h
+
+values_end : {t : Term} {options : Options} {answer : List ℕ} {status : Status} → IsJsonWorkersAnswer t options answer status → status ≢ ends.Usage
+values_end (values r some lawful) = report_ends r.fibers
+values_end (value_of_fault e within) = λ u. cc
+
+comes_ends : (form : RunForm) (options : Options) (t : Term) (answer : List ℕ) (status : Status) → comes_as form options t answer status → status ≢ ends.Usage
+comes_ends ran.Report options t answer status h = workers_end h
+comes_ends ran.Record options t answer status h = recorded_ends h
+comes_ends ran.Timeline options t answer status h = timed_ends h
+comes_ends ran.Json options t answer status h = values_end h
+
+pub ran_ends : (form : RunForm) (options : Options) (text answer : List ℕ) (status : Status) → ran_as form options text answer status → status ≢ ends.Usage
+ran_ends form options text answer status (refuses _ _ _ h) = refused_ends form text answer status h
+ran_ends form options text answer status (runs_program _ _ _ t reads program h) = comes_ends form options t answer status h
+
+pub explained_run_ends : {options : Options} {before after : Devices} {status : Status} → ExplainsRun options before after status → status ≢ ends.Usage
+explained_run_ends {options} h = λ u. answered_ends _ _ _ _ _ h.result (ran_ends ran.Report options) h.answered (sym h.status_is ∙ u)

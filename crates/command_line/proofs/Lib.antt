@@ -1,6 +1,7 @@
 pub mod EndLemmas
 pub mod FormLemmas
 pub mod RangeLemmas
+pub mod ReasonLemmas
 pub mod RecordLemmas
 pub mod RunLemmas
 pub mod WantLemmas

@@ -1,22 +1,17 @@
 -- Answers to texts whose programs workers run while their schedule is noted.
-use Rattle.std.proofs.Common.{◌≡◌, ◌++◌, ℕ, All, List, Result, Ok, Err, IfOk, refl, subst}
-use Rattle.std.specs.Prelude.{IfErr, String, string_bytes}
+use Rattle.std.proofs.Common.{◌≡◌, ◌++◌, ◌∷◌, ℕ, All, List, Option, Some, None, Result, Ok, Err, IfOk, refl, subst, sym}
+use Rattle.std.specs.Prelude.{IfErr, IfSome, String, string_bytes}
 use Rattle.std.specs.declared.alloc.Global.{Global}
 use Rattle.cell_registry.specs.declared.limits.RunError.{RunError}
 use Rattle.cell_registry.specs.declared.limits.RunError.TheVariants as fault
 use Rattle.derived_ops.specs.Expansion.{code_of}
 use Rattle.derived_ops.specs.Reading.{source_of}
 use Rattle.effect_term.specs.declared.term.Term.{Term}
-use Rattle.effect_term.specs.Programs.{IsProgram}
-use Rattle.term_parse.specs.Atoms.{atoms_of}
-use Rattle.term_parse.specs.Reading.{reading}
 use Rattle.outcome_trace.specs.declared.report.Report.{Report}
-use Rattle.text_io.specs.declared.status.Status.TheVariants.{Fault}
 use Rattle.text_io.specs.declared.text_order.Answer.{Answer}
-use Rattle.outcome_trace.specs.Answers.{IsRefusalAnswer}
-use Rattle.outcome_trace.specs.Lines.{run_line}
-use Rattle.outcome_trace.specs.ReplayAnswers.{report_status}
-use Rattle.outcome_trace.specs.ReportText.{text_of_fibers}
+use Rattle.text_io.specs.Schedule.{SpellsEntries}
+use Rattle.outcome_trace.specs.Core.{core, reported}
+use Rattle.outcome_trace.specs.ReplayAnswers.{IsRunAnswer, faults as faults_replayed, reports as reports_replayed}
 use Rattle.outcome_trace.specs.Stands.{IsOfSomeSchedule}
 use Rattle.steal_pool.specs.declared.finishing.RunEnd.{RunEnd}
 use Rattle.steal_pool.specs.declared.options.Options.{Options}
@@ -24,7 +19,8 @@ use Rattle.steal_pool.specs.declared.recorded.NoSchedule.{NoSchedule}
 use Rattle.steal_pool.specs.Gathering.{IsLawful}
 use Rattle.steal_pool.specs.Records.{IsRecord, came_to}
 use Rattle.steal_pool.specs.Runs.{IsFaultWithin, limits_of}
-use Rattle.command_line.specs.Recording.{IsBehindFault, IsRecordTextAnswer, IsRecordedAnswer, IsScheduleLine, line_behind, told_line, faults, no_schedule, records, refuses, reports, schedules}
+use Rattle.command_line.specs.Recording.{AreEntriesOf, IsBehindFault, IsRecordedAnswer, IsScheduleLine, IsTimedAnswer, ended_status, ended_text, line_behind, record_text, told_line, faults, no_schedule, reports, schedules, timed}
+use Rattle.command_line.specs.Workers.{IsWorkersAnswer, faults as faults_worked, reports as reports_worked}
 
 -- the line that is told is that of a schedule which leads to the end, or of none
 pub line_told : (t : Term) (options : Options) (end : Result Report RunError) (s : Result (String Global) NoSchedule) → IfOk s (λ text. IsRecord (code_of (source_of t)) (limits_of options) (string_bytes text) end) → IsScheduleLine t options end (told_line s)
@@ -39,32 +35,38 @@ line_behind_told t options fault.NoMemory s h = refl
 line_behind_told t options (fault.Lost f) s h = refl
 line_behind_told t options fault.NoWorker s h = refl
 
-pub report_records : {E : Type 0} (t : Term) (options : Options) (r : Report) (s : Result (String Global) NoSchedule) (a : Result Answer E) → IsOfSomeSchedule (code_of (source_of t)) (limits_of options) r → All IsLawful r.fibers → IfOk s (λ text. IsRecord (code_of (source_of t)) (limits_of options) (string_bytes text) (Ok r)) → IfOk a (λ a. a.text.items ≡ text_of_fibers r.fibers ++ told_line s) → IfOk a (λ a. a.status ≡ report_status r.fibers) → IfOk a (λ a. IsRecordedAnswer t options a.text.items a.status)
-report_records t options r s (Ok a) some lawful recorded line status = rw (line, status) (reports r (told_line s) some lawful (line_told t options (Ok r) s recorded))
-report_records t options r s (Err x) some lawful recorded line status = tt
+-- what a recorded run comes to, with the line of its schedule
+pub recorded_answer : (t : Term) (options : Options) (end : Result RunEnd RunError) (s : Result (String Global) NoSchedule) (a : Answer) → IfOk end (λ it. IsOfSomeSchedule (code_of (source_of t)) (limits_of options) it.report) → IfOk end (λ it. All IsLawful it.report.fibers) → IfErr end (IsFaultWithin (limits_of options)) → IfOk s (λ text. IsRecord (code_of (source_of t)) (limits_of options) (string_bytes text) (came_to end)) → a.text.items ≡ record_text end s → a.status ≡ ended_status end → IsRecordedAnswer t options a.text.items a.status
+recorded_answer t options (Ok it) s a some lawful within recorded line status = rw (line, status) (reports it.report (told_line s) some lawful (line_told t options (Ok it.report) s recorded))
+recorded_answer t options (Err f) s a some lawful within recorded line status = rw (line, status) (faults f (line_behind f s) within (line_behind_told t options f s recorded))
 
-pub fault_records : {E : Type 0} (t : Term) (options : Options) (f : RunError) (s : Result (String Global) NoSchedule) (a : Result Answer E) → IsFaultWithin (limits_of options) f → IfOk s (λ text. IsRecord (code_of (source_of t)) (limits_of options) (string_bytes text) (Err f)) → IfOk a (λ a. a.text.items ≡ run_line f ++ line_behind f s) → IfOk a (λ a. a.status ≡ Fault) → IfOk a (λ a. IsRecordedAnswer t options a.text.items a.status)
-fault_records t options f s (Ok a) within recorded line status = rw (line, status) (faults f (line_behind f s) within (line_behind_told t options f s recorded))
-fault_records t options f s (Err x) within recorded line status = tt
+pub recorded_answers : {E : Type 0} (t : Term) (options : Options) (end : Result RunEnd RunError) (s : Result (String Global) NoSchedule) (a : Result Answer E) → IfOk end (λ it. IsOfSomeSchedule (code_of (source_of t)) (limits_of options) it.report) → IfOk end (λ it. All IsLawful it.report.fibers) → IfErr end (IsFaultWithin (limits_of options)) → IfOk s (λ text. IsRecord (code_of (source_of t)) (limits_of options) (string_bytes text) (came_to end)) → IfOk a (λ a. a.text.items ≡ record_text end s) → IfOk a (λ a. a.status ≡ ended_status end) → IfOk a (λ a. IsRecordedAnswer t options a.text.items a.status)
+recorded_answers t options end s (Ok a) some lawful within recorded line status = recorded_answer t options end s a some lawful within recorded line status
+recorded_answers t options end s (Err x) some lawful within recorded line status = tt
 
--- the same of the end that a recorded run tells
-pub report_recorded : {E : Type 0} (t : Term) (options : Options) (end : Result RunEnd RunError) (it : RunEnd) (s : Result (String Global) NoSchedule) (a : Result Answer E) → end ≡ Ok it → IfOk end (λ it. IsOfSomeSchedule (code_of (source_of t)) (limits_of options) it.report) → IfOk end (λ it. All IsLawful it.report.fibers) → IfOk s (λ text. IsRecord (code_of (source_of t)) (limits_of options) (string_bytes text) (came_to end)) → IfOk a (λ a. a.text.items ≡ text_of_fibers it.report.fibers ++ told_line s) → IfOk a (λ a. a.status ≡ report_status it.report.fibers) → IfOk a (λ a. IsRecordedAnswer t options a.text.items a.status)
-report_recorded t options end it s a is some lawful recorded line status = report_records t options it.report s a
-    (subst (λ (e : Result RunEnd RunError). IfOk e (λ it. IsOfSomeSchedule (code_of (source_of t)) (limits_of options) it.report)) is some)
-    (subst (λ (e : Result RunEnd RunError). IfOk e (λ it. All IsLawful it.report.fibers)) is lawful)
-    (subst (λ (e : Result RunEnd RunError). IfOk s (λ text. IsRecord (code_of (source_of t)) (limits_of options) (string_bytes text) (came_to e))) is recorded)
-    line status
+-- what was read of a schedule that was found
+pub entries_found : (s : Result (String Global) NoSchedule) (text : String Global) (bytes entries : List ℕ) → s ≡ Ok text → bytes ≡ string_bytes text → ((others : List ℕ) → SpellsEntries bytes others → others ≡ entries) → AreEntriesOf s entries
+entries_found s text bytes entries is same one = subst (λ (r : Result (String Global) NoSchedule). AreEntriesOf r entries) (sym is) (λ others spells. one others (subst (λ (bs : List ℕ). SpellsEntries bs others) (sym same) spells))
 
-pub fault_recorded : {E : Type 0} (t : Term) (options : Options) (end : Result RunEnd RunError) (f : RunError) (s : Result (String Global) NoSchedule) (a : Result Answer E) → end ≡ Err f → IfErr end (IsFaultWithin (limits_of options)) → IfOk s (λ text. IsRecord (code_of (source_of t)) (limits_of options) (string_bytes text) (came_to end)) → IfOk a (λ a. a.text.items ≡ run_line f ++ line_behind f s) → IfOk a (λ a. a.status ≡ Fault) → IfOk a (λ a. IsRecordedAnswer t options a.text.items a.status)
-fault_recorded t options end f s a is within recorded line status = fault_records t options f s a
-    (subst (λ (e : Result RunEnd RunError). IfErr e (IsFaultWithin (limits_of options))) is within)
-    (subst (λ (e : Result RunEnd RunError). IfOk s (λ text. IsRecord (code_of (source_of t)) (limits_of options) (string_bytes text) (came_to e))) is recorded)
-    line status
+-- ---- with a timeline
+pub timed_answers : {E : Type 0} (t : Term) (options : Options) (front : Answer) (rows : List ℕ) (a : Result Answer E) → IsRecordedAnswer t options front.text.items front.status → IfOk a (λ a. a.text.items ≡ front.text.items ++ 10 ∷ rows) → IfOk a (λ a. a.status ≡ front.status) → IfOk a (λ a. IsTimedAnswer t options a.text.items a.status)
+timed_answers t options front rows (Ok a) h line status = rw (line, status) (timed front.text.items rows front.status h)
+timed_answers t options front rows (Err x) h line status = tt
 
-pub refusal_records : {E : Type 0} (text : List ℕ) (options : Options) (a : Result Answer E) → IfOk a (λ a. IsRefusalAnswer text a.text.items a.status) → IfOk a (λ a. IsRecordTextAnswer options text a.text.items a.status)
-refusal_records text options (Ok a) h = refuses text a.text.items a.status h
-refusal_records text options (Err e) h = tt
+-- ---- without the line of the schedule
+pub ended_answers : (t : Term) (options : Options) (end : Result RunEnd RunError) (a : Answer) → IfOk end (λ it. IsOfSomeSchedule (code_of (source_of t)) (limits_of options) it.report) → IfOk end (λ it. All IsLawful it.report.fibers) → IfErr end (IsFaultWithin (limits_of options)) → a.text.items ≡ ended_text end → a.status ≡ ended_status end → IsWorkersAnswer t options a.text.items a.status
+ended_answers t options (Ok it) a some lawful within line status = rw (line, status) (reports_worked it.report some lawful)
+ended_answers t options (Err f) a some lawful within line status = rw (line, status) (faults_worked f within)
 
-pub program_records : {E : Type 0} (text : List ℕ) (options : Options) (t : Term) (a : Result Answer E) → reading text ≡ Ok (atoms_of t) → IsProgram t → IfOk a (λ a. IsRecordedAnswer t options a.text.items a.status) → IfOk a (λ a. IsRecordTextAnswer options text a.text.items a.status)
-program_records text options t (Ok a) e p h = records text a.text.items a.status t e p h
-program_records text options t (Err x) e p h = tt
+-- a replay under the entries of the schedule comes to the same
+replay_comes : (t : Term) (options : Options) (end : Result RunEnd RunError) (entries : List ℕ) → reported (core (code_of (source_of t)) (limits_of options) entries) ≡ came_to end → IsRunAnswer t entries (limits_of options) (ended_text end) (ended_status end)
+replay_comes t options (Ok it) entries e = reports_replayed it.report e
+replay_comes t options (Err f) entries e = faults_replayed f e
+
+pub replayed_answers : {V : Type 0} (items : V → List ℕ) (t : Term) (options : Options) (end : Result RunEnd RunError) (s : Result (String Global) NoSchedule) (found : Option V) (a : Answer) → IfOk s (λ text. IsRecord (code_of (source_of t)) (limits_of options) (string_bytes text) (came_to end)) → a.text.items ≡ ended_text end → a.status ≡ ended_status end → IfSome found (λ v. AreEntriesOf s (items v)) → IfSome found (λ v. IsRunAnswer t (items v) (limits_of options) a.text.items a.status)
+replayed_answers items t options end (Ok text) (Some v) a recorded line status one =
+    let comes : reported (core (code_of (source_of t)) (limits_of options) (items v)) ≡ came_to end = subst (λ (es : List ℕ). reported (core (code_of (source_of t)) (limits_of options) es) ≡ came_to end) (one recorded.entries recorded.spelled) recorded.comes in
+    rw (line, status) (replay_comes t options end (items v) comes)
+replayed_answers items t options end (Err why) (Some v) a recorded line status one = absurd one
+replayed_answers items t options end (Ok text) None a recorded line status one = tt
+replayed_answers items t options end (Err why) None a recorded line status one = tt

@@ -6,19 +6,15 @@ use Rattle.cell_registry.specs.declared.limits.RunError.TheVariants as fault
 use Rattle.derived_ops.specs.Expansion.{code_of}
 use Rattle.derived_ops.specs.Reading.{source_of}
 use Rattle.effect_term.specs.declared.term.Term.{Term}
-use Rattle.effect_term.specs.Programs.{IsProgram}
-use Rattle.term_parse.specs.Atoms.{atoms_of}
-use Rattle.term_parse.specs.Reading.{reading}
 use Rattle.outcome_trace.specs.declared.report.Report.{Report}
 use Rattle.text_io.specs.declared.status.Status.{Status}
 use Rattle.text_io.specs.declared.status.Status.TheVariants.{Fault}
-use Rattle.outcome_trace.specs.Answers.{IsRefusalAnswer}
-use Rattle.text_io.specs.Devices.{Devices}
+use Rattle.text_io.specs.Schedule.{SpellsEntries}
 use Rattle.outcome_trace.specs.Lines.{run_line}
-use Rattle.text_io.specs.Telling.{Answered}
 use Rattle.outcome_trace.specs.ReplayAnswers.{report_status}
 use Rattle.outcome_trace.specs.ReportText.{text_of_fibers}
 use Rattle.outcome_trace.specs.Stands.{IsOfSomeSchedule}
+use Rattle.steal_pool.specs.declared.finishing.RunEnd.{RunEnd}
 use Rattle.steal_pool.specs.declared.options.Options.{Options}
 use Rattle.steal_pool.specs.declared.recorded.NoSchedule.{NoSchedule}
 use Rattle.steal_pool.specs.declared.recorded.NoSchedule.TheVariants.{TooLong, NotFound, NoMemory}
@@ -73,13 +69,28 @@ pub data IsRecordedAnswer (t : Term) (options : Options) : List ℕ → Status �
   faults : (e : RunError) (line : List ℕ) → IsFaultWithin (limits_of options) e → IsBehindFault t options e line →
       IsRecordedAnswer t options (run_line e ++ line) Fault
 
--- what `run --record` answers, with its status: a refusal, or what comes of the program that the text spells
-pub data IsRecordTextAnswer (options : Options) : List ℕ → List ℕ → Status → Type 0 where
-  refuses : (text answer : List ℕ) (status : Status) → IsRefusalAnswer text answer status →
-      IsRecordTextAnswer options text answer status
-  records : (text answer : List ℕ) (status : Status) (t : Term) → reading text ≡ Ok (atoms_of t) → IsProgram t →
-      IsRecordedAnswer t options answer status → IsRecordTextAnswer options text answer status
+-- What comes of it with a timeline: the same, behind which a blank line and a timeline may stand.
+pub data IsTimedAnswer (t : Term) (options : Options) : List ℕ → Status → Type 0 where
+  alone : (answer : List ℕ) (status : Status) → IsRecordedAnswer t options answer status →
+      IsTimedAnswer t options answer status
+  timed : (answer timeline : List ℕ) (status : Status) → IsRecordedAnswer t options answer status →
+      IsTimedAnswer t options (answer ++ 10 ∷ timeline) status
 
--- what an order to run the text's program on workers and to tell the schedule comes to
-abbrev pub ObeysRecord : Options → Devices → Devices → Status → Type 0
-ObeysRecord options before after status = Answered (IsRecordTextAnswer options) before after status
+-- the text of what a recorded run hands out, and its status
+abbrev pub record_text : Result RunEnd RunError → Result (String Global) NoSchedule → List ℕ
+record_text (Ok it) schedule = text_of_fibers it.report.fibers ++ told_line schedule
+record_text (Err e) schedule = run_line e ++ line_behind e schedule
+
+abbrev pub ended_status : Result RunEnd RunError → Status
+ended_status (Ok it) = report_status it.report.fibers
+ended_status (Err e) = Fault
+
+-- the same without the line of the schedule
+abbrev pub ended_text : Result RunEnd RunError → List ℕ
+ended_text (Ok it) = text_of_fibers it.report.fibers
+ended_text (Err e) = run_line e
+
+-- the schedule that was found has no other entries
+abbrev pub AreEntriesOf : Result (String Global) NoSchedule → List ℕ → Type 0
+AreEntriesOf (Ok text) entries = (others : List ℕ) → SpellsEntries (string_bytes text) others → others ≡ entries
+AreEntriesOf (Err why) entries = ⊥

@@ -1,20 +1,18 @@
 -- What a replay comes to.
-use Rattle.std.specs.Prelude.{◌≡◌, ◌≢◌, ◌⊎◌, ℕ, false, List, Some, codes, Err}
+use Rattle.std.specs.Prelude.{◌≡◌, ◌≢◌, ◌⊎◌, ℕ, Bool, true, false, List, Some, codes, Err}
 use Rattle.std.specs.Str.{IsUtf8}
 use Rattle.cell_registry.specs.declared.limits.Limits.{Limits}
 use Rattle.text_io.specs.declared.fault.TextFault.{TextFault}
 use Rattle.text_io.specs.declared.status.Status.{Status}
 use Rattle.text_io.specs.declared.status.Status.TheVariants.{Fault}
-use Rattle.text_io.specs.Devices.{Devices, Reader, devices, reader}
+use Rattle.text_io.specs.Devices.{Devices, Reader, Writer, devices, reader}
 use Rattle.text_io.specs.FaultLines.{fault_line}
-use Rattle.text_io.specs.Telling.{Answered, Told}
+use Rattle.text_io.specs.Telling.{RefusesSchedule, Told}
 use Rattle.text_io.specs.Text.{is_read_fault}
-use Rattle.outcome_trace.specs.Orders.{Unscheduled}
 use Rattle.outcome_trace.specs.ReplayAnswers.{IsReplayAnswer}
 use Rattle.text_io.specs.declared.schedule.ScheduleError.{ScheduleError}
 use Rattle.text_io.specs.declared.schedule.ScheduleError.TheVariants.{BadSchedule}
 use Rattle.text_io.specs.Schedule.{IsFirstBad, SpellsEntries}
-use Rattle.explanations.specs.Explained.{Explained}
 use Rattle.explanations.specs.Reasons.{IsReplayReasons}
 use Rattle.explanations.specs.Schedules.{ExplainsSchedule}
 use Rattle.json_answers.specs.Answers.{IsJsonReplay}
@@ -24,6 +22,7 @@ use Rattle.command_line.specs.declared.replay.Form.{Form}
 use Rattle.command_line.specs.declared.replay.Form.TheVariants.{Report, Timeline, Picture, Json}
 use Rattle.command_line.specs.declared.replay.Replay.{Replay}
 use Rattle.command_line.specs.FirstLine.{IsFirstLine, IsInput}
+use Rattle.command_line.specs.Orders.{ObeysOrder}
 use Rattle.command_line.specs.Telling.{LacksMemory, TellsWrong}
 
 -- what is answered to a text under these entries, in this form
@@ -33,31 +32,46 @@ answers_as Timeline entries limits = IsTimelineAnswer entries limits
 answers_as Picture entries limits = IsPictureAnswer entries limits
 answers_as Json entries limits = IsJsonReplay entries limits
 
--- The schedule is well formed, and the text is answered under its entries, in this form.
-pub record ScheduledAs (form : Form) (schedule : List ℕ) (limits : Limits) (before after : Devices) (status : Status) :
-    Type 0 where
+-- The schedule is well formed, and the text is answered under its entries, in this form, with reasons or without.
+pub record ScheduledAs (form : Form) (explain : Bool) (schedule : List ℕ) (limits : Limits) (before after : Devices)
+    (status : Status) : Type 0 where
   pub entries : List ℕ
   pub spelled : SpellsEntries schedule entries
-  pub answered : Answered (answers_as form entries limits) before after status
+  pub answered :
+      ObeysOrder (answers_as form entries limits) (IsReplayReasons entries limits) explain before after status
+
+-- it is told that a schedule is bad, or that there is no memory for it, with reasons or without
+abbrev pub RefusesAs : Bool → ScheduleError → Writer → Writer → Status → Type 0
+RefusesAs true error before after status = ExplainsSchedule error before after status
+RefusesAs false error before after status = RefusesSchedule error before after status
+
+-- The schedule isn't well formed, or there is no memory for it: that is told, and nothing is read or answered.
+pub record UnscheduledAs (explain : Bool) (schedule : List ℕ) (before after : Devices) (status : Status) : Type 0 where
+  pub error : ScheduleError
+  pub place : (p : ℕ) → error ≡ BadSchedule p → IsFirstBad schedule p
+  pub unread : after.input ≡ before.input
+  pub unanswered : after.out ≡ before.out
+  pub told : RefusesAs explain error before.err after.err status
 
 -- the text is answered under the schedule of this text, or that one is bad, and nothing is read
-abbrev pub ObeysSchedule : Form → List ℕ → Limits → Devices → Devices → Status → Type 0
-ObeysSchedule form schedule limits before after status =
-    ScheduledAs form schedule limits before after status ⊎ Unscheduled schedule before after status
+abbrev pub ObeysSchedule : Form → Bool → List ℕ → Limits → Devices → Devices → Status → Type 0
+ObeysSchedule form explain schedule limits before after status =
+    ScheduledAs form explain schedule limits before after status ⊎ UnscheduledAs explain schedule before after status
 
 -- a text that lies in memory, of which nothing has been read
 abbrev pub held : List ℕ → Reader
 held text = reader (Some text) false false 0
 
 -- The first line of the input is the text of the schedule, and the program's text is what stands behind it.
-pub record ObeysFirstLine (form : Form) (limits : Limits) (before after : Devices) (status : Status) : Type 0 where
+pub record ObeysFirstLine (form : Form) (explain : Bool) (limits : Limits) (before after : Devices) (status : Status) :
+    Type 0 where
   pub bytes : List ℕ
   pub line : List ℕ
   pub text : List ℕ
   pub read : IsInput before.input after.input bytes
   pub parts : IsFirstLine bytes line text
   pub left : Reader
-  pub obeyed : ObeysSchedule form line limits (devices (held text) before.out before.err)
+  pub obeyed : ObeysSchedule form explain line limits (devices (held text) before.out before.err)
       (devices left after.out after.err) status
 
 -- The first line of the input isn't text, which is told as what is wrong with words is.
@@ -80,60 +94,17 @@ pub record HasNoInput (before after : Devices) (status : Status) : Type 0 where
   pub status_is : status ≡ Fault
 
 -- what comes of an input that has a schedule in its first line
-pub data ObeysInput (form : Form) (limits : Limits) (before after : Devices) (status : Status) : Type 0 where
-  scheduled : ObeysFirstLine form limits before after status → ObeysInput form limits before after status
-  unscheduled : HasNoSchedule before after status → ObeysInput form limits before after status
-  unread : HasNoInput before after status → ObeysInput form limits before after status
+pub data ObeysInput (form : Form) (explain : Bool) (limits : Limits) (before after : Devices) (status : Status) :
+    Type 0 where
+  scheduled : ObeysFirstLine form explain limits before after status →
+      ObeysInput form explain limits before after status
+  unscheduled : HasNoSchedule before after status → ObeysInput form explain limits before after status
+  unread : HasNoInput before after status → ObeysInput form explain limits before after status
 
 -- what a replay comes to: under the schedule that is among the words, or in the input where that is `-`
 abbrev pub ObeysReplay : Replay → Devices → Devices → Status → Type 0
 ObeysReplay replay before after status =
     ((replay.schedule.now ≢ codes "-") ×
-    ObeysSchedule replay.form replay.schedule.now replay.limits before after status) ⊎
-    ((replay.schedule.now ≡ codes "-") × ObeysInput replay.form replay.limits before after status)
-
--- ---- with reasons
--- The schedule is well formed, and the text is answered under its entries, with reasons.
-pub record ScheduledWhy (form : Form) (schedule : List ℕ) (limits : Limits) (before after : Devices) (status : Status) :
-    Type 0 where
-  pub entries : List ℕ
-  pub spelled : SpellsEntries schedule entries
-  pub answered : Explained (answers_as form entries limits) (IsReplayReasons entries limits) before after status
-
--- The schedule isn't well formed, or there is no memory for it: that is told with reasons, and nothing is read or
--- answered.
-pub record UnscheduledWhy (schedule : List ℕ) (before after : Devices) (status : Status) : Type 0 where
-  pub error : ScheduleError
-  pub place : (p : ℕ) → error ≡ BadSchedule p → IsFirstBad schedule p
-  pub unread : after.input ≡ before.input
-  pub unanswered : after.out ≡ before.out
-  pub told : ExplainsSchedule error before.err after.err status
-
--- the text is answered under the schedule of this text with reasons, or that one is bad, and nothing is read
-abbrev pub ExplainsUnder : Form → List ℕ → Limits → Devices → Devices → Status → Type 0
-ExplainsUnder form schedule limits before after status =
-    ScheduledWhy form schedule limits before after status ⊎ UnscheduledWhy schedule before after status
-
--- The first line of the input is the text of the schedule, and the program's text is what stands behind it.
-pub record ExplainsFirstLine (form : Form) (limits : Limits) (before after : Devices) (status : Status) : Type 0 where
-  pub bytes : List ℕ
-  pub line : List ℕ
-  pub text : List ℕ
-  pub read : IsInput before.input after.input bytes
-  pub parts : IsFirstLine bytes line text
-  pub left : Reader
-  pub obeyed : ExplainsUnder form line limits (devices (held text) before.out before.err)
-      (devices left after.out after.err) status
-
--- what comes of an input that has a schedule in its first line, with reasons
-pub data ExplainsInput (form : Form) (limits : Limits) (before after : Devices) (status : Status) : Type 0 where
-  explained : ExplainsFirstLine form limits before after status → ExplainsInput form limits before after status
-  no_schedule : HasNoSchedule before after status → ExplainsInput form limits before after status
-  no_input : HasNoInput before after status → ExplainsInput form limits before after status
-
--- what a replay comes to with reasons
-abbrev pub ExplainsReplay : Replay → Devices → Devices → Status → Type 0
-ExplainsReplay replay before after status =
-    ((replay.schedule.now ≢ codes "-") ×
-    ExplainsUnder replay.form replay.schedule.now replay.limits before after status) ⊎
-    ((replay.schedule.now ≡ codes "-") × ExplainsInput replay.form replay.limits before after status)
+    ObeysSchedule replay.form replay.explain replay.schedule.now replay.limits before after status) ⊎
+    ((replay.schedule.now ≡ codes "-") ×
+    ObeysInput replay.form replay.explain replay.limits before after status)

@@ -1,42 +1,35 @@
 -- The request that the words of a command line give, and what comes of the words.
-use Rattle.std.specs.Prelude.{◌≡◌, ◌≢◌, ◌<◌, ◌≤◌, ◌⊎◌, ℕ, true, List, [], map, Option, Some, None, codes}
+use Rattle.std.specs.Prelude.{◌≡◌, ◌≢◌, ◌≤◌, ◌⊎◌, ℕ, true, List, [], map, Option, Some, None, codes}
 use Rattle.std.specs.Str.Parse.{IsNumeral, digits_value, without_leading_plus}
 use Rattle.std.specs.List.{All}
 use Rattle.std.specs.Option.{unwrap_or}
 use Rattle.clap.specs.Words.{IsAmong, Row, Text, all_of, fault_of, first_of, subcommand_of, takes}
 use Rattle.clap.specs.declared.error.kind.ErrorKind.{ErrorKind}
 use Rattle.cell_registry.specs.declared.limits.Limits.{Limits}
-use Rattle.cell_registry.specs.Cells.{AreLimits}
 use Rattle.text_io.specs.declared.status.Status.{Status}
 use Rattle.text_io.specs.Devices.{Devices}
-use Rattle.text_io.specs.Telling.{Answered}
-use Rattle.outcome_trace.specs.Answers.{IsCheckAnswer, IsShowAnswer}
 use Rattle.exploration_text.specs.declared.explore_texts.ExploreOrder.{ExploreOrder}
 use Rattle.exploration_text.specs.declared.wants.Want.{Want}
-use Rattle.exploration_text.specs.ExploreAnswers.{IsExploreAnswer}
 use Rattle.exploration_text.specs.Wants.{IsInRange, want_text}
-use Rattle.explanations.specs.Explained.{Explained}
-use Rattle.explanations.specs.Refusals.{IsTextReasons}
 use Rattle.sample_text.specs.declared.sample_texts.SampleOrder.{SampleOrder}
-use Rattle.sample_text.specs.SampleAnswers.{IsSampleAnswer}
-use Rattle.json_answers.specs.Answers.{IsJsonCheck}
 use Rattle.steal_pool.specs.declared.options.Options.{Options}
 use Rattle.steal_pool.specs.Runs.{limits_of}
+use Rattle.command_line.specs.declared.exploring.Exploring.{Exploring}
 use Rattle.command_line.specs.declared.ranges.NumberRange.{NumberRange}
-use Rattle.command_line.specs.declared.replay.Form.{Form}
-use Rattle.command_line.specs.declared.replay.Form.TheVariants.{Report, Timeline, Picture, Json}
 use Rattle.command_line.specs.declared.replay.Replay.{Replay as ReplayFields}
 use Rattle.command_line.specs.declared.requests.Request.{Request}
-use Rattle.command_line.specs.declared.requests.Request.TheVariants.{Check, Show, Replay, Explore, Run, CheckWhy, ShowWhy, ReplayWhy, ExploreWhy}
-use Rattle.command_line.specs.declared.requests.Request.TheVariants.{Sample}
-use Rattle.command_line.specs.declared.requests.Request.TheVariants.{Record}
-use Rattle.command_line.specs.Recording.{ObeysRecord}
-use Rattle.command_line.specs.declared.requests.Request.TheVariants.{CheckJson, CheckJsonWhy}
-use Rattle.command_line.specs.Replays.{ExplainsReplay, ObeysReplay}
+use Rattle.command_line.specs.declared.requests.Request.TheVariants.{Check, Show, Replay, Explore, Run, Sample}
+use Rattle.command_line.specs.declared.running.Running.{Running}
+use Rattle.command_line.specs.declared.sampling.Sampling.{Sampling}
+use Rattle.command_line.specs.Checks.{ObeysCheck, ObeysShow}
+use Rattle.command_line.specs.Explorings.{ObeysExplore}
+use Rattle.command_line.specs.Flags.{SaysExploreForm, SaysFlag, SaysForm, SaysRunForm}
+use Rattle.command_line.specs.Replays.{ObeysReplay}
+use Rattle.command_line.specs.Runs.{ObeysRun}
+use Rattle.command_line.specs.Samplings.{ObeysSample}
 use Rattle.command_line.specs.Telling.{LacksMemory, TellsKind, TellsWrong}
 use Rattle.command_line.specs.Words.{band_range, budget_range, count_range, entries_range, few_range, moves_range}
 use Rattle.command_line.specs.Words.{program, seed_range, times_range, workers_range, worlds_range}
-use Rattle.command_line.specs.Workers.{ObeysRun}
 
 -- ---- the request
 -- the text is a number of the range in decimal digits, with or without a plus in front
@@ -49,33 +42,6 @@ IsNumberOf range text =
 abbrev pub SaysNumber : NumberRange → Option Text → ℕ → Type 0
 SaysNumber range None n = n ≡ range.usual
 SaysNumber range (Some text) n = IsNumberOf range text × (n ≡ digits_value 10 (without_leading_plus text))
-
--- the flag stands in the words
-abbrev pub IsGiven : Text → List Row → Type 0
-IsGiven name options = first_of name options ≡ Some (codes "true")
-
--- reasons aren't asked for
-abbrev pub AsksNoReasons : List Row → Type 0
-AsksNoReasons options = IsGiven (codes "explain") options → ⊥
-
--- the flag doesn't stand in the words
-abbrev pub IsLeftOut : Text → List Row → Type 0
-IsLeftOut name options = IsGiven name options → ⊥
-
--- the form that the options of `replay` say: that of the one flag of these three that is given, or a report
-abbrev pub SaysForm : List Row → Form → Type 0
-SaysForm options Report =
-    IsLeftOut (codes "timeline") options × IsLeftOut (codes "svg") options × IsLeftOut (codes "json") options
-SaysForm options Timeline =
-    IsGiven (codes "timeline") options × IsLeftOut (codes "svg") options × IsLeftOut (codes "json") options
-SaysForm options Picture =
-    IsLeftOut (codes "timeline") options × IsGiven (codes "svg") options × IsLeftOut (codes "json") options
-SaysForm options Json =
-    IsLeftOut (codes "timeline") options × IsLeftOut (codes "svg") options × IsGiven (codes "json") options
-
--- the schedule of a run isn't asked for
-abbrev pub AsksNoRecord : List Row → Type 0
-AsksNoRecord options = IsGiven (codes "record") options → ⊥
 
 -- the limits that the options of `replay`, of `explore`, of `run` or of `sample` say, with this range of fibers, refs
 -- and deferreds
@@ -123,27 +89,34 @@ pub record SaysSample (options : List Row) (order : SampleOrder) : Type 0 where
 pub record SaysReplay (options : List Row) (replay : ReplayFields) : Type 0 where
   pub schedule : first_of (codes "schedule") options ≡ Some replay.schedule.now
   pub form : SaysForm options replay.form
+  pub explain : SaysFlag (codes "explain") options replay.explain
   pub limits : SaysLimits band_range options replay.limits
+
+-- the exploration that the options of `explore` say
+pub record SaysExploring (options : List Row) (exploring : Exploring) : Type 0 where
+  pub order : SaysExplore options exploring.order
+  pub form : SaysExploreForm options exploring.form exploring.explain
+
+-- the run that the options of `run` say
+pub record SaysRunning (options : List Row) (running : Running) : Type 0 where
+  pub run : SaysRun options running.options
+  pub form : SaysRunForm options running.form running.explain
+
+-- the sample that the options of `sample` say
+pub record SaysSampling (options : List Row) (sampling : Sampling) : Type 0 where
+  pub order : SaysSample options sampling.order
+  pub json : SaysFlag (codes "json") options sampling.json
 
 -- the request that a subcommand with its options says
 abbrev pub Says : Text × List Row → Request → Type 0
-Says said Check = (said.0 ≡ codes "check") × IsLeftOut (codes "json") said.1 × AsksNoReasons said.1
-Says said Show = (said.0 ≡ codes "show") × AsksNoReasons said.1
-Says said (Replay replay) = (said.0 ≡ codes "replay") × SaysReplay said.1 replay × AsksNoReasons said.1
-Says said (Explore order) = (said.0 ≡ codes "explore") × SaysExplore said.1 order × AsksNoReasons said.1
-Says said (Run options) = (said.0 ≡ codes "run") × SaysRun said.1 options × AsksNoRecord said.1
-Says said CheckWhy =
-    (said.0 ≡ codes "check") × IsLeftOut (codes "json") said.1 × IsGiven (codes "explain") said.1
-Says said ShowWhy = (said.0 ≡ codes "show") × IsGiven (codes "explain") said.1
-Says said (ReplayWhy replay) =
-    (said.0 ≡ codes "replay") × SaysReplay said.1 replay × IsGiven (codes "explain") said.1
-Says said (ExploreWhy order) =
-    (said.0 ≡ codes "explore") × SaysExplore said.1 order × IsGiven (codes "explain") said.1
-Says said (Sample order) = (said.0 ≡ codes "sample") × SaysSample said.1 order
-Says said (Record options) = (said.0 ≡ codes "run") × SaysRun said.1 options × IsGiven (codes "record") said.1
-Says said CheckJson = (said.0 ≡ codes "check") × IsGiven (codes "json") said.1 × AsksNoReasons said.1
-Says said CheckJsonWhy =
-    (said.0 ≡ codes "check") × IsGiven (codes "json") said.1 × IsGiven (codes "explain") said.1
+Says said (Check checking) =
+    (said.0 ≡ codes "check") × SaysFlag (codes "json") said.1 checking.json ×
+    SaysFlag (codes "explain") said.1 checking.explain
+Says said (Show showing) = (said.0 ≡ codes "show") × SaysFlag (codes "explain") said.1 showing.explain
+Says said (Replay replay) = (said.0 ≡ codes "replay") × SaysReplay said.1 replay
+Says said (Explore exploring) = (said.0 ≡ codes "explore") × SaysExploring said.1 exploring
+Says said (Run running) = (said.0 ≡ codes "run") × SaysRunning said.1 running
+Says said (Sample sampling) = (said.0 ≡ codes "sample") × SaysSampling said.1 sampling
 
 -- the request of the words, where a subcommand with its options stands in them that says one
 abbrev pub GivesRequest : Option (Text × List Row) → Option Request → Type 0
@@ -152,56 +125,23 @@ GivesRequest None None = Unit {0}
 GivesRequest (Some said) (Some request) = Says said request
 GivesRequest (Some said) None = (request : Request) → Says said request → ⊥
 
--- the numbers of a request are within their ranges
-abbrev pub HasRanges : Request → Type 0
-HasRanges Check = Unit {0}
-HasRanges Show = Unit {0}
-HasRanges (Replay replay) = Unit {0}
-HasRanges (Explore order) = Unit {0}
-HasRanges (Run options) = AreLimits (limits_of options) × (1 < options.budget)
-HasRanges CheckWhy = Unit {0}
-HasRanges ShowWhy = Unit {0}
-HasRanges (ReplayWhy replay) = Unit {0}
-HasRanges (ExploreWhy order) = Unit {0}
-HasRanges (Sample order) = Unit {0}
-HasRanges (Record options) = AreLimits (limits_of options) × (1 < options.budget)
-HasRanges CheckJson = Unit {0}
-HasRanges CheckJsonWhy = Unit {0}
-
 -- what a request comes to
 abbrev pub ObeysRequest : Request → Devices → Devices → Status → Type 0
-ObeysRequest Check before after status = Answered IsCheckAnswer before after status
-ObeysRequest Show before after status = Answered IsShowAnswer before after status
+ObeysRequest (Check checking) before after status = ObeysCheck checking before after status
+ObeysRequest (Show showing) before after status = ObeysShow showing before after status
 ObeysRequest (Replay replay) before after status = ObeysReplay replay before after status
-ObeysRequest (Explore order) before after status =
-    Answered (IsExploreAnswer order.limits order.wants.items) before after status
-ObeysRequest (Run options) before after status = ObeysRun options before after status
-ObeysRequest CheckWhy before after status = Explained IsCheckAnswer IsTextReasons before after status
-ObeysRequest ShowWhy before after status = Explained IsShowAnswer IsTextReasons before after status
-ObeysRequest (ReplayWhy replay) before after status = ExplainsReplay replay before after status
-ObeysRequest (ExploreWhy order) before after status =
-    Explained (IsExploreAnswer order.limits order.wants.items) IsTextReasons before after status
-ObeysRequest (Sample order) before after status =
-    Answered (IsSampleAnswer order.limits order.times order.entries) before after status
-ObeysRequest (Record options) before after status = ObeysRecord options before after status
-ObeysRequest CheckJson before after status = Answered IsJsonCheck before after status
-ObeysRequest CheckJsonWhy before after status = Explained IsJsonCheck IsTextReasons before after status
+ObeysRequest (Explore exploring) before after status = ObeysExplore exploring before after status
+ObeysRequest (Run running) before after status = ObeysRun running before after status
+ObeysRequest (Sample sampling) before after status = ObeysSample sampling before after status
 
 -- the schedule of the request comes in the input
 abbrev pub TakesSchedule : Request → Type 0
-TakesSchedule Check = ⊥
-TakesSchedule Show = ⊥
+TakesSchedule (Check checking) = ⊥
+TakesSchedule (Show showing) = ⊥
 TakesSchedule (Replay replay) = replay.schedule.now ≡ codes "-"
-TakesSchedule (Explore order) = ⊥
-TakesSchedule (Run options) = ⊥
-TakesSchedule CheckWhy = ⊥
-TakesSchedule ShowWhy = ⊥
-TakesSchedule (ReplayWhy replay) = replay.schedule.now ≡ codes "-"
-TakesSchedule (ExploreWhy order) = ⊥
-TakesSchedule (Sample order) = ⊥
-TakesSchedule (Record options) = ⊥
-TakesSchedule CheckJson = ⊥
-TakesSchedule CheckJsonWhy = ⊥
+TakesSchedule (Explore exploring) = ⊥
+TakesSchedule (Run running) = ⊥
+TakesSchedule (Sample sampling) = ⊥
 
 -- the words ask for a schedule that comes in the input
 pub record HasScheduleInInput (words : List Text) : Type 0 where

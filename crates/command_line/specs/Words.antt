@@ -104,28 +104,48 @@ replay_command =
     with_rule (with_forms (with_limits (with_rule (new_app (codes "replay")) schedule_option)))
     (flag (codes "explain"))
 
-abbrev pub explore_command : App
-explore_command =
-    with_rule (with_rule (with_rule (with_rule (with_limits (new_app (codes "explore")))
+-- with the flags that ask for another form of an exploration than a list
+abbrev pub with_explore_forms : App → App
+with_explore_forms app =
+    with_rule (with_rule (with_rule app (flag (codes "progress"))) (flag (codes "timeline"))) (flag (codes "json"))
+
+-- `explore` without its flags
+abbrev pub explore_options : App
+explore_options =
+    with_rule (with_rule (with_rule (with_limits (new_app (codes "explore")))
     (number_option (codes "worlds") worlds_range))
     (number_option (codes "entries") entries_range))
-    want_option)
-    (flag (codes "explain"))
+    want_option
 
-abbrev pub run_command : App
-run_command =
-    with_rule (with_rule (with_rule (with_limits (with_rule (new_app (codes "run"))
+abbrev pub explore_command : App
+explore_command = with_rule (with_explore_forms explore_options) (flag (codes "explain"))
+
+-- with the flags that ask for another form of a run than a report
+abbrev pub with_run_forms : App → App
+with_run_forms app =
+    with_rule (with_rule (with_rule app (flag (codes "record"))) (flag (codes "timeline"))) (flag (codes "json"))
+
+-- `run` without its flags
+abbrev pub run_options : App
+run_options =
+    with_rule (with_rule (with_limits (with_rule (new_app (codes "run"))
     (number_option (codes "workers") workers_range)))
     (number_option (codes "budget") budget_range))
-    (number_option (codes "moves") moves_range))
-    (flag (codes "record"))
+    (number_option (codes "moves") moves_range)
 
-abbrev pub sample_command : App
-sample_command =
+abbrev pub run_command : App
+run_command = with_rule (with_run_forms run_options) (flag (codes "explain"))
+
+-- `sample` without its flag
+abbrev pub sample_options : App
+sample_options =
     with_limits (with_rule (with_rule (with_rule (new_app (codes "sample"))
     (number_option (codes "seed") seed_range))
     (number_option (codes "times") times_range))
     (number_option (codes "entries") entries_range))
+
+abbrev pub sample_command : App
+sample_command = with_rule sample_options (flag (codes "json"))
 
 -- the command, which wants one of six subcommands, and tells its version
 abbrev pub program : App

@@ -10,10 +10,9 @@ use Rattle.term_parse.specs.Reading.{reading}
 use Rattle.outcome_trace.specs.declared.report.Report.{Report}
 use Rattle.text_io.specs.declared.status.Status.{Status}
 use Rattle.text_io.specs.declared.status.Status.TheVariants.{Fault}
+use Rattle.json_answers.specs.ReportData.{fault_data, line_of_data, report_data}
 use Rattle.outcome_trace.specs.Answers.{IsRefusalAnswer}
-use Rattle.text_io.specs.Devices.{Devices}
 use Rattle.outcome_trace.specs.Lines.{run_line}
-use Rattle.text_io.specs.Telling.{Answered}
 use Rattle.outcome_trace.specs.ReplayAnswers.{report_status}
 use Rattle.outcome_trace.specs.ReportText.{text_of_fibers}
 use Rattle.outcome_trace.specs.Stands.{IsOfSomeSchedule}
@@ -28,13 +27,21 @@ pub data IsWorkersAnswer (t : Term) (options : Options) : List ℕ → Status �
       IsWorkersAnswer t options (text_of_fibers r.fibers) (report_status r.fibers)
   faults : (e : RunError) → IsFaultWithin (limits_of options) e → IsWorkersAnswer t options (run_line e) Fault
 
--- what `run` answers, with its status: a refusal, or what comes of the program that the text spells
-pub data IsRunTextAnswer (options : Options) : List ℕ → List ℕ → Status → Type 0 where
-  refuses : (text answer : List ℕ) (status : Status) → IsRefusalAnswer text answer status →
-      IsRunTextAnswer options text answer status
-  runs : (text answer : List ℕ) (status : Status) (t : Term) → reading text ≡ Ok (atoms_of t) → IsProgram t →
-      IsWorkersAnswer t options answer status → IsRunTextAnswer options text answer status
+-- the same as JSON
+pub data IsJsonWorkersAnswer (t : Term) (options : Options) : List ℕ → Status → Type 0 where
+  values : (r : Report) → IsOfSomeSchedule (code_of (source_of t)) (limits_of options) r → All IsLawful r.fibers →
+      IsJsonWorkersAnswer t options (line_of_data (report_data r.fibers)) (report_status r.fibers)
+  value_of_fault : (e : RunError) → IsFaultWithin (limits_of options) e →
+      IsJsonWorkersAnswer t options (line_of_data (fault_data e)) Fault
 
--- what an order to run the text's program on workers comes to
-abbrev pub ObeysRun : Options → Devices → Devices → Status → Type 0
-ObeysRun options before after status = Answered (IsRunTextAnswer options) before after status
+-- what is answered to a text, with its status: a refusal, or what comes of the program that the text spells
+pub data IsProgramAnswer (Refuses : List ℕ → List ℕ → Status → Type 0) (Comes : Term → List ℕ → Status → Type 0) :
+    List ℕ → List ℕ → Status → Type 0 where
+  refuses : (text answer : List ℕ) (status : Status) → Refuses text answer status →
+      IsProgramAnswer Refuses Comes text answer status
+  runs : (text answer : List ℕ) (status : Status) (t : Term) → reading text ≡ Ok (atoms_of t) → IsProgram t →
+      Comes t answer status → IsProgramAnswer Refuses Comes text answer status
+
+-- what `run` answers to a text
+abbrev pub IsRunTextAnswer : Options → List ℕ → List ℕ → Status → Type 0
+IsRunTextAnswer options = IsProgramAnswer IsRefusalAnswer (λ t. IsWorkersAnswer t options)

@@ -2,33 +2,35 @@
 
 ghost use Rattle.std.specs.Prelude.{◌≡◌, ◌<◌, ◌^◌, false, map};
 ghost use Rattle.clap.specs.Words.{kind_of};
-ghost use Rattle.command_line.specs.Requests.{HasScheduleInInput, HasRanges, ObeysRequest, Runs, TakesSchedule};
+ghost use Rattle.command_line.specs.Requests.{HasScheduleInInput, ObeysRequest, Runs, TakesSchedule};
 ghost use Rattle.command_line.specs.Telling.{TellsKind};
 ghost use Rattle.text_io.specs.Devices.{devices, reader, writer};
 
-use crate::record_order::obey_record;
-use crate::replay_order::{explain_replay, obey_replay};
+use crate::check_order::{obey_check, obey_show};
+use crate::explore_order::obey_explore;
+use crate::replay_order::obey_replay;
 use crate::requests::{Request, request_of};
 use crate::run_order::obey_run;
+use crate::sample_order::obey_sample;
 use crate::words::all_words;
 use crate::wrong_words::refuse_words;
 use clap::Error;
 use clap::error::ErrorKind;
-use explanations::{TextReasons, obey_explained};
-use json_answers::CheckJson;
-use outcome_trace::{
-    CheckOrder, ShowOrder, Status, TextFault, TextIn, TextOut, obey_text, tell_fault, write_text,
-};
+use outcome_trace::{Status, TextFault, TextIn, TextOut, tell_fault, write_text};
 use std::alloc::Global;
 use std::convert::AsStr;
 use std::sync::Wait;
 use std::thread::Threads;
+use std::time::Clock;
 
 /// What is told where the words give no request. `clap` looks at each of them but the outcomes, and not at
 /// whether flags go together.
 const NO_REQUEST: &str =
     "an outcome of '--want <OUTCOME>' is none of 'succeeded V', 'errored C', 'canceled' and 'unended',
-or more than one of '--timeline', '--svg' and '--json' is given";
+or flags don't go together, of which these do:
+  replay   one of '--timeline', '--svg' and '--json', and '--explain'
+  explore  one of '--timeline' and '--json', and '--explain'; or '--progress' alone
+  run      '--record', and '--timeline' beside it; or '--json' alone; or '--explain' alone";
 
 /// Tells help or the version that was asked for, or what is wrong with the words, in `clap`'s words.
 /// Where help can't be written, that is told as any other fault.
@@ -55,8 +57,7 @@ fn usage<O: TextOut, E: TextOut>(alloc: Global, error: &Error, out: &mut O, err:
     }
 }
 
-/// Does what was asked for ([`obey_text`], [`obey_replay`], [`obey_run`], [`obey_record`]), and gives the
-/// status.
+/// Does what was asked for, and gives the status.
 fn obey_request<R, I, O, E>(
     rt: &R,
     request: Request<'_>,
@@ -65,7 +66,7 @@ fn obey_request<R, I, O, E>(
     err: &mut E,
 ) -> Status
 where
-    R: AllocGlobal + Threads + Wait + Sync,
+    R: AllocGlobal + Clock + Threads + Wait + Sync,
     I: TextIn,
     O: TextOut,
     E: TextOut,
@@ -73,7 +74,6 @@ where
     requires countable { I.reads input.old < 2 ^ 63 }
     requires out { O.has_failed out.old ≡ false }
     requires err { E.has_failed err.old ≡ false }
-    requires ranges { HasRanges request }
     ensures obeyed { let before = devices (reader (I.remaining input.old) (I.has_failed input.old)
         (I.has_ended input.old) (I.reads input.old)) (writer (O.contents out.old) (O.has_failed out.old))
         (writer (E.contents err.old) (E.has_failed err.old)) in
@@ -86,28 +86,17 @@ where
     ensures unread { result ≡ Status.Usage → (TakesSchedule request.entry → ⊥) → input.new ≡ input.old }
 {
     match request {
-        Request::Check => obey_text(rt.alloc(), &CheckOrder, input, out, err),
-        Request::Show => obey_text(rt.alloc(), &ShowOrder, input, out, err),
+        Request::Check(checking) => obey_check(rt.alloc(), checking, input, out, err),
+        Request::Show(showing) => obey_show(rt.alloc(), showing, input, out, err),
         Request::Replay(replay) => obey_replay(rt.alloc(), replay, input, out, err),
-        Request::Explore(order) => obey_text(rt.alloc(), &order, input, out, err),
-        Request::Run(options) => obey_run(rt, rt.alloc(), options, input, out, err),
-        Request::CheckWhy => obey_explained(rt.alloc(), &CheckOrder, &TextReasons, input, out, err),
-        Request::ShowWhy => obey_explained(rt.alloc(), &ShowOrder, &TextReasons, input, out, err),
-        Request::ReplayWhy(replay) => explain_replay(rt.alloc(), replay, input, out, err),
-        Request::ExploreWhy(order) => {
-            obey_explained(rt.alloc(), &order, &TextReasons, input, out, err)
-        }
-        Request::Sample(order) => obey_text(rt.alloc(), &order, input, out, err),
-        Request::Record(options) => obey_record(rt, rt.alloc(), options, input, out, err),
-        Request::CheckJson => obey_text(rt.alloc(), &CheckJson, input, out, err),
-        Request::CheckJsonWhy => {
-            obey_explained(rt.alloc(), &CheckJson, &TextReasons, input, out, err)
-        }
+        Request::Explore(exploring) => obey_explore(rt, rt.alloc(), exploring, input, out, err),
+        Request::Run(running) => obey_run(rt, rt.alloc(), running, input, out, err),
+        Request::Sample(sampling) => obey_sample(rt.alloc(), sampling, input, out, err),
     }
 }
 
 /// Runs one command line over these devices, and gives the status of the program: that of what the
-/// words ask for ([`obey_text`], [`obey_replay`], [`obey_run`]), `Status::Succeeded` where help or the
+/// words ask for, `Status::Succeeded` where help or the
 /// version was asked for, `Status::Usage` where the words or the schedule are wrong, and `Status::Fault`
 /// where memory ran out or a device failed.
 ///
@@ -121,7 +110,7 @@ pub fn command<'a, R, S, I, O, E>(
     err: &mut E,
 ) -> Status
 where
-    R: AllocGlobal + Threads + Wait + Sync,
+    R: AllocGlobal + Clock + Threads + Wait + Sync,
     S: AsStr,
     I: TextIn,
     O: TextOut,

@@ -105,6 +105,12 @@ Example, which finds a release that is lost:
   echo '(ref r 0 (start f (let c (modify r 1) (guarantee (never) (modify r -1)))
     (seq (cancel f) (get r))))' | fiber_cli explore --want \"succeeded 0\"
 
+Example of all that can come of a race, with how it came:
+  echo '(race (pure 1) (pure 2))' | fiber_cli explore --timeline
+
+Example of a long search, which tells how far it has come:
+  fiber_cli explore --worlds 1000000 --progress < FILE
+
 'fiber_cli --help' explains the reports. Each stands below a schedule, under which replay gives it.
 
 Exit status:
@@ -120,8 +126,11 @@ pub const RUN: CommandHelp<'static> = CommandHelp {
     about: "Runs the program on work-stealing threads, and prints its report",
     after: "The program's text is read from standard input.
 
-Example, of a race whose loser has a finalizer:
+Examples, of a race whose loser has a finalizer, of one that can be replayed, with its timeline, and
+of a fiber that waits for nothing:
   echo '(race (pure 4) (oncancel (never) (say 9)))' | fiber_cli run --workers 4
+  echo '(race (pure 4) (oncancel (never) (say 9)))' | fiber_cli run --record --timeline
+  echo '(deferred d (await d))' | fiber_cli run --explain
 
 'fiber_cli --help' explains the report, which is one that some schedule gives.
 
@@ -141,6 +150,7 @@ pub const SAMPLE: CommandHelp<'static> = CommandHelp {
 
 Example, which draws the same hundred schedules of a race each time:
   echo '(race (say 1) (say 2))' | fiber_cli sample --times 100 --seed 7
+  echo '(race (say 1) (say 2))' | fiber_cli sample --times 100 --seed 7 --json
 
 'fiber_cli --help' explains the reports. Each stands below the first schedule that came to it, under
 which replay gives it. The same seed draws the same schedules.
@@ -207,13 +217,20 @@ pub const TIMES: &str = "How many schedules are drawn, 1 to 1000000 [default: 10
 
 pub const EXPLAIN: &str =
     "Tell reasons on standard error: where a text or a schedule is refused, and
-why a fiber of a replay hasn't ended";
+why a fiber of a replay or a run hasn't ended";
 
 pub const RECORD: &str = "Tell a schedule behind the report, under which replay gives it, or why
 there is none";
 
 pub const TIMELINE: &str =
     "Print a timeline behind the report: a row for each entry that did something";
+
+pub const RUN_TIMELINE: &str =
+    "With --record: print a timeline behind the schedule, of the replay under it";
+
+pub const EXPLORE_TIMELINE: &str = "Print a timeline behind each report and each fault";
+
+pub const PROGRESS: &str = "Tell on standard error how far the search has come, while it goes on";
 
 pub const SVG: &str = "Print a picture of the run in place of the report, as SVG";
 

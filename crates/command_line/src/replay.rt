@@ -24,6 +24,8 @@ pub struct Replay<'a> {
     pub schedule: &'a str,
     /// In what form it is told.
     pub form: Form,
+    /// Whether reasons are told.
+    pub explain: bool,
     /// How many fibers, refs and deferreds there may be, and how often a fiber may change its own state.
     pub limits: Limits,
     pub ghost ranges: { AreLimits limits },

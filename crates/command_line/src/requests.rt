@@ -1,26 +1,32 @@
 //! The request that the words of a command line give.
 
-ghost use Rattle.std.specs.Prelude.{◌≡◌, ◌≢◌, ◌≤◌, ◌<◌, ℕ, codes, IfOk, IfSome, IfNone, List, Some, false, map};
-ghost use Rattle.std.specs.Prelude.{option_map, true};
+ghost use Rattle.std.specs.Prelude.{◌≡◌, ◌≢◌, ◌≤◌, ◌<◌, ℕ, codes, IfOk, IfSome, IfNone, List, Some, map};
 ghost use Rattle.cell_registry.specs.declared.limits.Limits.{Limits};
 ghost use Rattle.cell_registry.specs.Cells.{AreLimits};
 ghost use Rattle.clap.specs.Words.{first_of, found_of, rows_of, subcommand_rows_of};
 ghost use Rattle.exploration_text.specs.declared.explore_texts.ExploreOrder.{ExploreOrder};
 ghost use Rattle.exploration_text.specs.declared.wants.Want.{Want};
 ghost use Rattle.exploration_text.specs.Wants.{IsInRange, want_text};
-ghost use Rattle.command_line.specs.declared.replay.Form.{Form};
+ghost use Rattle.command_line.specs.declared.exploring.Exploring.{Exploring};
 ghost use Rattle.command_line.specs.declared.replay.Replay.{Replay};
+ghost use Rattle.command_line.specs.declared.running.Running.{Running};
+ghost use Rattle.command_line.specs.declared.sampling.Sampling.{Sampling};
 ghost use Rattle.sample_text.specs.declared.sample_texts.SampleOrder.{SampleOrder};
 ghost use Rattle.steal_pool.specs.declared.options.Options.{Options};
 ghost use Rattle.steal_pool.specs.Runs.{limits_of};
-ghost use Rattle.command_line.specs.Requests.{AreWants, GivesRequest, HasRanges, IsGiven, IsNumberOf, Says, SaysBounds};
-ghost use Rattle.command_line.specs.Requests.{SaysExplore, SaysForm, SaysLimits, SaysNumber, SaysReplay, SaysRun};
-ghost use Rattle.command_line.specs.Requests.{SaysSample, texts_said};
+ghost use Rattle.command_line.specs.Requests.{AreWants, GivesRequest, IsNumberOf, Says, SaysBounds, SaysExplore};
+ghost use Rattle.command_line.specs.Requests.{SaysExploring, SaysLimits, SaysNumber, SaysReplay, SaysRun};
+ghost use Rattle.command_line.specs.Requests.{SaysRunning, SaysSample, SaysSampling, texts_said};
 
+use crate::checking::{Checking, Showing};
+use crate::exploring::Exploring;
+use crate::flags::{explore_form, given, replay_form, run_form, text_of};
 use crate::ranges::{
     BAND, BUDGET, COUNT, ENTRIES, FEW, MOVES, NumberRange, SEED, TIMES, WORKERS, WORLDS,
 };
-use crate::replay::{Form, Replay};
+use crate::replay::Replay;
+use crate::running::Running;
+use crate::sampling::Sampling;
 use clap::ArgMatches;
 use exploration_text::{Bounds, ExploreOrder, Want, read_want};
 use outcome_trace::Limits;
@@ -32,49 +38,17 @@ use steal_pool::Options;
 #[derive(Drop)]
 pub enum Request<'a> {
     /// To tell whether the text is a program.
-    Check,
+    Check(Checking),
     /// To print the expansion of the text's program.
-    Show,
-    /// To run the text's program under a schedule, and report what each fiber came to.
+    Show(Showing),
+    /// To run the text's program under a schedule, and tell what each fiber came to.
     Replay(Replay<'a>),
     /// To explore every schedule of the text's program.
-    Explore(ExploreOrder),
-    /// To run the text's program on workers, and report what each fiber came to.
-    Run(Options),
-    /// The same as `Check`, with reasons.
-    CheckWhy,
-    /// The same as `Show`, with reasons.
-    ShowWhy,
-    /// The same as `Replay`, with reasons.
-    ReplayWhy(Replay<'a>),
-    /// The same as `Explore`, with reasons.
-    ExploreWhy(ExploreOrder),
+    Explore(Exploring),
+    /// To run the text's program on workers, and tell what each fiber came to.
+    Run(Running),
     /// To tell what schedules of the text's program come to that are drawn at random.
-    Sample(SampleOrder),
-    /// The same as `Run`, and to tell a schedule that leads to that report.
-    Record(Options),
-    /// The same as `Check`, answered as JSON.
-    CheckJson,
-    /// The same as `CheckJson`, with reasons.
-    CheckJsonWhy,
-}
-
-/// The text of an option, where it is given.
-fn text_of<'a>(matches: &ArgMatches<'a>, name: &str) -> Option<&'a str>
-    ensures { option_map (λ s. s.now) result ≡ first_of name.now (rows_of (found_of matches.now)) }
-{
-    matches.get_str(name)
-}
-
-/// Whether a flag is given.
-fn given(options: &ArgMatches<'_>, name: &str) -> bool
-    ensures given { result ≡ true → IsGiven name.now (rows_of (found_of options.now)) }
-    ensures other { result ≡ false → IsGiven name.now (rows_of (found_of options.now)) → ⊥ }
-{
-    match text_of(options, name) {
-        Some("true") => true,
-        _ => false,
-    }
+    Sample(Sampling),
 }
 
 /// The number of the range that a text spells.
@@ -147,28 +121,18 @@ fn run_options(run: &ArgMatches<'_>) -> Option<Options>
     })
 }
 
-/// The form that the options of `replay` say, where they say no two.
-#[tactic(auto, using(crate::proofs::FormLemmas::timeline_with_svg, crate::proofs::FormLemmas::timeline_with_json, crate::proofs::FormLemmas::svg_with_json))]
-fn form_of(options: &ArgMatches<'_>) -> Option<Form>
-    ensures said { IfSome result (SaysForm (rows_of (found_of options.now))) }
-    ensures none { IfNone result ((form : Form) → SaysForm (rows_of (found_of options.now)) form → ⊥) }
+/// The run that the options of `run` say.
+fn running_of(run: &ArgMatches<'_>) -> Option<Running>
+    ensures said { IfSome result (SaysRunning (rows_of (found_of run.now))) }
+    ensures none { IfNone result ((said : Running) → SaysRunning (rows_of (found_of run.now)) said → ⊥) }
 {
-    let timeline = given(options, "timeline");
-    let svg = given(options, "svg");
-    let json = given(options, "json");
-    if timeline {
-        if svg || json {
-            None
-        } else {
-            Some(Form::Timeline)
-        }
-    } else if svg {
-        if json { None } else { Some(Form::Picture) }
-    } else if json {
-        Some(Form::Json)
-    } else {
-        Some(Form::Report)
-    }
+    let (form, explain) = run_form(run)?;
+    let options = run_options(run)?;
+    Some(Running {
+        options,
+        form,
+        explain,
+    })
 }
 
 /// The replay that the options of `replay` say.
@@ -177,11 +141,12 @@ fn replay_of<'a>(replay: &ArgMatches<'a>) -> Option<Replay<'a>>
     ensures none { IfNone result ((said : Replay) → SaysReplay (rows_of (found_of replay.now)) said → ⊥) }
 {
     let schedule = text_of(replay, "schedule")?;
-    let form = form_of(replay)?;
+    let form = replay_form(replay)?;
     let limits = limits_of(replay, BAND)?;
     Some(Replay {
         schedule,
         form,
+        explain: given(replay, "explain"),
         limits,
     })
 }
@@ -200,6 +165,18 @@ fn sample_order(sample: &ArgMatches<'_>) -> Option<SampleOrder>
         seed,
         times: times as u32,
         entries: entries as u32,
+    })
+}
+
+/// The sample that the options of `sample` say.
+fn sampling_of(sample: &ArgMatches<'_>) -> Option<Sampling>
+    ensures said { IfSome result (SaysSampling (rows_of (found_of sample.now))) }
+    ensures none { IfNone result ((said : Sampling) → SaysSampling (rows_of (found_of sample.now)) said → ⊥) }
+{
+    let order = sample_order(sample)?;
+    Some(Sampling {
+        order,
+        json: given(sample, "json"),
     })
 }
 
@@ -273,74 +250,55 @@ fn explore_order(
     }))
 }
 
+/// The exploration that the options of `explore` say.
+fn exploring_of(alloc: Global, explore: &ArgMatches<'_>) -> Result<Option<Exploring>, AllocError>
+    ensures said { IfOk result (λ found. IfSome found (SaysExploring (rows_of (found_of explore.now)))) }
+    ensures none { IfOk result (λ found. IfNone found ((said : Exploring) →
+        SaysExploring (rows_of (found_of explore.now)) said → ⊥)) }
+{
+    let Some((form, explain)) = explore_form(explore) else {
+        return Ok(None);
+    };
+    match explore_order(alloc, explore)? {
+        Some(order) => Ok(Some(Exploring {
+            order,
+            form,
+            explain,
+        })),
+        None => Ok(None),
+    }
+}
+
 /// The request that `check` gives with its options.
 fn check_request<'a>(options: &ArgMatches<'a>) -> Request<'a>
-    ensures said { Says (codes "check", rows_of (found_of options.now)) result }
-    ensures ranges { HasRanges result }
+    ensures { Says (codes "check", rows_of (found_of options.now)) result }
 {
-    if given(options, "json") {
-        if given(options, "explain") {
-            Request::CheckJsonWhy
-        } else {
-            Request::CheckJson
-        }
-    } else if given(options, "explain") {
-        Request::CheckWhy
-    } else {
-        Request::Check
-    }
+    Request::Check(Checking {
+        json: given(options, "json"),
+        explain: given(options, "explain"),
+    })
 }
 
 /// The request that `show` gives with its options.
 fn show_request<'a>(options: &ArgMatches<'a>) -> Request<'a>
-    ensures said { Says (codes "show", rows_of (found_of options.now)) result }
-    ensures ranges { HasRanges result }
+    ensures { Says (codes "show", rows_of (found_of options.now)) result }
 {
-    if given(options, "explain") {
-        Request::ShowWhy
-    } else {
-        Request::Show
-    }
-}
-
-/// The request that `replay` gives with its options.
-fn replay_request<'a>(options: &ArgMatches<'a>) -> Option<Request<'a>>
-    ensures request { GivesRequest (Some (codes "replay", rows_of (found_of options.now))) result }
-    ensures ranges { IfSome result HasRanges }
-{
-    let replay = replay_of(options)?;
-    if given(options, "explain") {
-        Some(Request::ReplayWhy(replay))
-    } else {
-        Some(Request::Replay(replay))
-    }
-}
-
-/// The request that `run` gives with its options.
-fn run_request<'a>(options: &ArgMatches<'a>) -> Option<Request<'a>>
-    ensures request { GivesRequest (Some (codes "run", rows_of (found_of options.now))) result }
-    ensures ranges { IfSome result HasRanges }
-{
-    let run = run_options(options)?;
-    if given(options, "record") {
-        Some(Request::Record(run))
-    } else {
-        Some(Request::Run(run))
-    }
+    Request::Show(Showing {
+        explain: given(options, "explain"),
+    })
 }
 
 /// The request that a subcommand other than `explore` gives with its options.
 fn plain_request<'a>(name: &str, options: &ArgMatches<'a>) -> Option<Request<'a>>
     requires { name.now ≢ codes "explore" }
-    ensures request { GivesRequest (Some (name.now, rows_of (found_of options.now))) result }
-    ensures ranges { IfSome result HasRanges }
+    ensures { GivesRequest (Some (name.now, rows_of (found_of options.now))) result }
 {
     match name {
         "check" => Some(check_request(options)),
         "show" => Some(show_request(options)),
-        "replay" => replay_request(options),
-        "run" => run_request(options),
-        "sample" => Some(Request::Sample(sample_order(options)?)),
+        "replay" => Some(Request::Replay(replay_of(options)?)),
+        "run" => Some(Request::Run(running_of(options)?)),
+        "sample" => Some(Request::Sample(sampling_of(options)?)),
         _ => None,
     }
 }
@@ -350,17 +308,10 @@ fn explore_request<'a>(
     alloc: Global,
     options: &ArgMatches<'a>,
 ) -> Result<Option<Request<'a>>, AllocError>
-    ensures request { IfOk result (GivesRequest (Some (codes "explore", rows_of (found_of options.now)))) }
-    ensures ranges { IfOk result (λ found. IfSome found HasRanges) }
+    ensures { IfOk result (GivesRequest (Some (codes "explore", rows_of (found_of options.now)))) }
 {
-    match explore_order(alloc, options)? {
-        Some(order) => {
-            if given(options, "explain") {
-                Ok(Some(Request::ExploreWhy(order)))
-            } else {
-                Ok(Some(Request::Explore(order)))
-            }
-        }
+    match exploring_of(alloc, options)? {
+        Some(exploring) => Ok(Some(Request::Explore(exploring))),
         None => Ok(None),
     }
 }
@@ -371,7 +322,6 @@ pub fn request_of<'a>(
     matches: &ArgMatches<'a>,
 ) -> Result<Option<Request<'a>>, AllocError>
     ensures request { IfOk result (GivesRequest (subcommand_rows_of matches.now)) }
-    ensures ranges { IfOk result (λ found. IfSome found HasRanges) }
 {
     let Some((name, options)) = matches.subcommand() else {
         return Ok(None);

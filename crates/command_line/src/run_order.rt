@@ -1,78 +1,97 @@
-//! What comes of a text whose program workers run: its report, or why there is none.
+//! What comes of a text whose program workers run, in the form that is asked for, or why there is none.
 //!
 //! This is no `TextOrder`: threads share the runtime, and a trait's method can't ask for one that they
 //! may share.
 
-ghost use Rattle.std.specs.Prelude.{◌≡◌, ◌<◌, ◌^◌, false, IfOk};
+ghost use Rattle.std.specs.Prelude.{◌≡◌, ◌≢◌, ◌<◌, ◌^◌, false, IfOk};
 ghost use Rattle.cell_registry.specs.Cells.{AreLimits};
-ghost use Rattle.command_line.specs.Workers.{IsRunTextAnswer, IsWorkersAnswer, ObeysRun};
+ghost use Rattle.command_line.specs.Runs.{ObeysRun, comes_as, ran_as, refused_as};
+ghost use Rattle.outcome_trace.specs.Answers.{IsRefused};
+ghost use Rattle.steal_pool.specs.Runs.{limits_of};
 ghost use Rattle.text_io.specs.Devices.{devices, reader, writer};
 ghost use Rattle.text_io.specs.Exchange.{IsAnswered};
-ghost use Rattle.outcome_trace.specs.Lines.{run_line};
-ghost use Rattle.steal_pool.specs.Runs.{limits_of};
+ghost use Rattle.text_io.specs.Telling.{Answered};
 
-use cell_registry::RunError;
+use crate::record_answers::{record_answer, timed_answer};
+use crate::run_answers::{json_answer, run_answer, text_refusal};
+use crate::run_reasons::explain_run;
+use crate::running::{RunForm, Running};
 use effect_term::Program;
+use json_answers::refusal_answer;
 use outcome_trace::{
-    Answer, Refused, Status, TextFault, TextIn, TextOut, line, read_program, read_text, refusal,
-    report_answer, tell_fault, write_text,
+    Answer, Refused, Status, TextFault, TextIn, TextOut, read_program, read_text, tell_fault,
+    write_text,
 };
 use std::alloc::{AllocError, Global};
 use std::sync::Wait;
 use std::thread::Threads;
-use steal_pool::{OpenGate, Options, run};
+use steal_pool::Options;
 
-/// The answer where a run ended with a fault. Want of memory in the run has its line, too.
-pub fn fault_answer(alloc: Global, error: RunError) -> Result<Answer, AllocError>
-    ensures line { IfOk result (λ a. a.text.items ≡ run_line error) }
-    ensures status { IfOk result (λ a. a.status ≡ Status.Fault) }
-{
-    Ok(Answer {
-        text: line(alloc, &Refused::Run(error))?,
-        status: Status::Fault,
-    })
-}
-
-/// What comes of a program on workers. `AllocError` where memory ran out for the text of the answer.
-fn run_answer<R: Threads + Wait + Sync>(
+// What comes of the program that the text spells on workers, in this form. `AllocError` where memory ran out
+// outside of the run.
+fn program_answer<R: Threads + Wait + Sync>(
     rt: &R,
     alloc: Global,
+    text: &[u8],
     program: Program,
+    form: RunForm,
     options: Options,
 ) -> Result<Answer, AllocError>
     requires limits { AreLimits (limits_of options) }
     requires budget { 1 < options.budget }
-    ensures { IfOk result (λ a. IsWorkersAnswer program options a.text.items a.status) }
+    ensures { IfOk result (λ a. comes_as form options program a.text.items a.status) }
 {
-    match run(rt, alloc, program, options, &OpenGate) {
-        Ok(report) => report_answer(alloc, &report),
-        Err(error) => fault_answer(alloc, error),
+    match form {
+        RunForm::Report => run_answer(rt, alloc, program, options),
+        RunForm::Record => record_answer(rt, alloc, program, options),
+        RunForm::Timeline => timed_answer(rt, alloc, text, program, options),
+        RunForm::Json => json_answer(rt, alloc, program, options),
     }
 }
 
-/// The answer to a text: its refusal, or what comes of its program. `AllocError` where memory ran out
-/// outside of the run.
+// The answer to a text that is refused so, in this form. `AllocError` where memory ran out, also where that is why.
+fn refused_answer(
+    alloc: Global,
+    text: &[u8],
+    form: RunForm,
+    refused: Refused,
+) -> Result<Answer, AllocError>
+    requires { IsRefused text.now refused }
+    ensures { IfOk result (λ a. refused_as form text.now a.text.items a.status) }
+{
+    match form {
+        RunForm::Report => text_refusal(alloc, text, refused),
+        RunForm::Record => text_refusal(alloc, text, refused),
+        RunForm::Timeline => text_refusal(alloc, text, refused),
+        RunForm::Json => refusal_answer(alloc, text, refused),
+    }
+}
+
+// The answer to a text: its refusal, or what comes of its program. `AllocError` where memory ran out
+// outside of the run.
 fn text_answer<R: Threads + Wait + Sync>(
     rt: &R,
     alloc: Global,
     text: &[u8],
+    form: RunForm,
     options: Options,
 ) -> Result<Answer, AllocError>
     requires limits { AreLimits (limits_of options) }
     requires budget { 1 < options.budget }
-    ensures { IfOk result (λ a. IsRunTextAnswer options text.now a.text.items a.status) }
+    ensures { IfOk result (λ a. ran_as form options text.now a.text.items a.status) }
 {
     match read_program(alloc, text) {
-        Ok(program) => run_answer(rt, alloc, program, options),
-        Err(refused) => refusal(alloc, refused),
+        Ok(program) => program_answer(rt, alloc, text, program, form, options),
+        Err(refused) => refused_answer(alloc, text, form, refused),
     }
 }
 
-/// Reads a text, and writes its answer. Gives the answer's status. Where memory runs out outside of
-/// the run, the reader fails, or the input doesn't end within `TEXT_BOUND` reads, nothing is written.
+// Reads a text, and writes its answer. Gives the answer's status. Where memory runs out outside of
+// the run, the reader fails, or the input doesn't end within `TEXT_BOUND` reads, nothing is written.
 fn run_text<R: Threads + Wait + Sync, I: TextIn, O: TextOut>(
     rt: &R,
     alloc: Global,
+    form: RunForm,
     options: Options,
     input: &mut I,
     out: &mut O,
@@ -88,26 +107,19 @@ fn run_text<R: Threads + Wait + Sync, I: TextIn, O: TextOut>(
         (I.reads input.new) in
         let old = writer (O.contents out.old) (O.has_failed out.old) in
         let new = writer (O.contents out.new) (O.has_failed out.new) in
-        IsAnswered (IsRunTextAnswer options) before after old new result }
+        IsAnswered (ran_as form options) before after old new result }
 {
     let text = read_text(alloc, input)?;
-    let answer = text_answer(rt, alloc, text.as_slice(), options)?;
+    let answer = text_answer(rt, alloc, text.as_slice(), form, options)?;
     write_text(answer.text.as_slice(), out)?;
     Ok(answer.status)
 }
 
-/// Reads a text, has workers run its program, and writes the report or the line of the run's fault, or
-/// the line of the text's refusal. Gives the answer's status: that of fiber 0's end, `Status::Fault`
-/// where the run had a fault, want of memory in it too, and `Status::Refused` where the text is
-/// refused.
-///
-/// The status is also `Status::Fault` where a device failed, the input didn't end within `TEXT_BOUND`
-/// reads, or memory ran out outside of the run, which is told on the last device.
-///
-/// It asks for options within the limits of a run and for a budget of at least 2 moves.
-pub fn obey_run<R: Threads + Wait + Sync, I: TextIn, O: TextOut, E: TextOut>(
+// The same, with the fault told.
+fn answer_run<R: Threads + Wait + Sync, I: TextIn, O: TextOut, E: TextOut>(
     rt: &R,
     alloc: Global,
+    form: RunForm,
     options: Options,
     input: &mut I,
     out: &mut O,
@@ -119,16 +131,54 @@ pub fn obey_run<R: Threads + Wait + Sync, I: TextIn, O: TextOut, E: TextOut>(
     requires err { E.has_failed err.old ≡ false }
     requires limits { AreLimits (limits_of options) }
     requires budget { 1 < options.budget }
-    ensures { let before = devices (reader (I.remaining input.old) (I.has_failed input.old) (I.has_ended input.old)
-        (I.reads input.old)) (writer (O.contents out.old) (O.has_failed out.old))
+    ensures { let before = devices (reader (I.remaining input.old) (I.has_failed input.old)
+        (I.has_ended input.old) (I.reads input.old)) (writer (O.contents out.old) (O.has_failed out.old))
         (writer (E.contents err.old) (E.has_failed err.old)) in
         let after = devices (reader (I.remaining input.new) (I.has_failed input.new) (I.has_ended input.new)
         (I.reads input.new)) (writer (O.contents out.new) (O.has_failed out.new))
         (writer (E.contents err.new) (E.has_failed err.new)) in
-        ObeysRun options before after result }
+        Answered (ran_as form options) before after result }
 {
-    match run_text(rt, alloc, options, input, out) {
+    match run_text(rt, alloc, form, options, input, out) {
         Ok(status) => status,
         Err(fault) => tell_fault(fault, err),
+    }
+}
+
+/// Reads a text, has workers run its program, and writes the report or the line of the run's fault, or
+/// the line of the text's refusal, in the form that is asked for. Gives the answer's status: that of fiber 0's end,
+/// `Status::Fault` where the run had a fault, want of memory in it too, and `Status::Refused` where the text is
+/// refused.
+///
+/// Where a record is asked for, behind a report and behind a fault 18 or 19 stands the line of a schedule under which
+/// the core comes to exactly that, or why there is none to tell. Where reasons are asked for, [`explain_run`] tells them.
+///
+/// The status is also `Status::Fault` where a device failed, the input didn't end within `TEXT_BOUND`
+/// reads, or memory ran out outside of the run, which is told on the last device.
+pub fn obey_run<R: Threads + Wait + Sync, I: TextIn, O: TextOut, E: TextOut>(
+    rt: &R,
+    alloc: Global,
+    running: Running,
+    input: &mut I,
+    out: &mut O,
+    err: &mut E,
+) -> Status
+    requires input { I.has_failed input.old ≡ false }
+    requires countable { I.reads input.old < 2 ^ 63 }
+    requires out { O.has_failed out.old ≡ false }
+    requires err { E.has_failed err.old ≡ false }
+    ensures obeyed { let before = devices (reader (I.remaining input.old) (I.has_failed input.old)
+        (I.has_ended input.old) (I.reads input.old)) (writer (O.contents out.old) (O.has_failed out.old))
+        (writer (E.contents err.old) (E.has_failed err.old)) in
+        let after = devices (reader (I.remaining input.new) (I.has_failed input.new) (I.has_ended input.new)
+        (I.reads input.new)) (writer (O.contents out.new) (O.has_failed out.new))
+        (writer (E.contents err.new) (E.has_failed err.new)) in
+        ObeysRun running before after result }
+    ensures ends { result ≢ Status.Usage }
+{
+    if running.explain {
+        explain_run(rt, alloc, running.options, input, out, err)
+    } else {
+        answer_run(rt, alloc, running.form, running.options, input, out, err)
     }
 }

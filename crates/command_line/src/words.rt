@@ -3,9 +3,10 @@
 ghost use Rattle.std.specs.Prelude.{◌≡◌, ◌<◌, ◌^◌, codes, false, IfOk};
 ghost use Rattle.clap.specs.Words.{app_of, new_app, rule_of, with_rule};
 ghost use Rattle.clap.specs.declared.builder.command.Command.TheViews.{out-Command};
-ghost use Rattle.command_line.specs.Words.{check_command, explore_command, flag, number_option, program, replay_command};
-ghost use Rattle.command_line.specs.Words.{run_command, sample_command, schedule_option, show_command};
-ghost use Rattle.command_line.specs.Words.{want_option, with_forms, with_limits};
+ghost use Rattle.command_line.specs.Words.{check_command, explore_command, explore_options, flag, number_option, program};
+ghost use Rattle.command_line.specs.Words.{replay_command, run_command, run_options, sample_command, sample_options};
+ghost use Rattle.command_line.specs.Words.{schedule_option, show_command, want_option, with_explore_forms, with_forms};
+ghost use Rattle.command_line.specs.Words.{with_limits, with_run_forms};
 
 use crate::help;
 use crate::help::{CommandHelp, LimitsHelp};
@@ -54,22 +55,26 @@ fn flag<'a>(alloc: Global, name: &'a str, help: &'a str) -> Arg<'a>
         .action(ArgAction::SetTrue)
 }
 
+/// Adds a flag.
+fn with_flag<'a>(
+    alloc: Global,
+    command: Command<'a>,
+    name: &'a str,
+    help: &'a str,
+) -> Result<Command<'a>, AllocError>
+    ensures shape { IfOk result (λ c. app_of c ≡ with_rule (app_of command.entry) (flag name.entry.now)) }
+    ensures local { IfOk result (λ c. (out-Command c).has_globals ≡ (out-Command command.entry).has_globals) }
+{
+    let flag = flag(alloc, name, help);
+    command.arg(flag)
+}
+
 /// Adds the flag that asks for reasons.
 fn with_reasons<'a>(alloc: Global, command: Command<'a>) -> Result<Command<'a>, AllocError>
     ensures shape { IfOk result (λ c. app_of c ≡ with_rule (app_of command.entry) (flag (codes "explain"))) }
     ensures local { IfOk result (λ c. (out-Command c).has_globals ≡ (out-Command command.entry).has_globals) }
 {
-    let explain = flag(alloc, "explain", help::EXPLAIN);
-    command.arg(explain)
-}
-
-/// Adds the flag that asks for the schedule of a run.
-fn with_record<'a>(alloc: Global, command: Command<'a>) -> Result<Command<'a>, AllocError>
-    ensures shape { IfOk result (λ c. app_of c ≡ with_rule (app_of command.entry) (flag (codes "record"))) }
-    ensures local { IfOk result (λ c. (out-Command c).has_globals ≡ (out-Command command.entry).has_globals) }
-{
-    let record = flag(alloc, "record", help::RECORD);
-    command.arg(record)
+    with_flag(alloc, command, "explain", help::EXPLAIN)
 }
 
 /// Adds the flags that ask for another form than a report.
@@ -77,10 +82,29 @@ fn with_forms<'a>(alloc: Global, command: Command<'a>) -> Result<Command<'a>, Al
     ensures shape { IfOk result (λ c. app_of c ≡ with_forms (app_of command.entry)) }
     ensures local { IfOk result (λ c. (out-Command c).has_globals ≡ (out-Command command.entry).has_globals) }
 {
-    let timeline = flag(alloc, "timeline", help::TIMELINE);
-    let svg = flag(alloc, "svg", help::SVG);
-    let json = flag(alloc, "json", help::JSON);
-    command.arg(timeline)?.arg(svg)?.arg(json)
+    let command = with_flag(alloc, command, "timeline", help::TIMELINE)?;
+    let command = with_flag(alloc, command, "svg", help::SVG)?;
+    with_flag(alloc, command, "json", help::JSON)
+}
+
+/// Adds the flags that ask for another form of an exploration than a list.
+fn with_explore_forms<'a>(alloc: Global, command: Command<'a>) -> Result<Command<'a>, AllocError>
+    ensures shape { IfOk result (λ c. app_of c ≡ with_explore_forms (app_of command.entry)) }
+    ensures local { IfOk result (λ c. (out-Command c).has_globals ≡ (out-Command command.entry).has_globals) }
+{
+    let watched = with_flag(alloc, command, "progress", help::PROGRESS)?;
+    let timed = with_flag(alloc, watched, "timeline", help::EXPLORE_TIMELINE)?;
+    with_flag(alloc, timed, "json", help::JSON)
+}
+
+/// Adds the flags that ask for another form of a run than a report.
+fn with_run_forms<'a>(alloc: Global, command: Command<'a>) -> Result<Command<'a>, AllocError>
+    ensures shape { IfOk result (λ c. app_of c ≡ with_run_forms (app_of command.entry)) }
+    ensures local { IfOk result (λ c. (out-Command c).has_globals ≡ (out-Command command.entry).has_globals) }
+{
+    let recorded = with_flag(alloc, command, "record", help::RECORD)?;
+    let timed = with_flag(alloc, recorded, "timeline", help::RUN_TIMELINE)?;
+    with_flag(alloc, timed, "json", help::JSON)
 }
 
 /// The option that takes a schedule's text, which must be given.
@@ -128,8 +152,8 @@ fn check_command<'a>(alloc: Global) -> Result<Command<'a>, AllocError>
     ensures shape { IfOk result (λ c. app_of c ≡ check_command) }
     ensures local { IfOk result (λ c. (out-Command c).has_globals ≡ false) }
 {
-    let json = flag(alloc, "json", help::JSON);
-    with_reasons(alloc, new_command(alloc, "check", help::CHECK).arg(json)?)
+    let command = new_command(alloc, "check", help::CHECK);
+    with_reasons(alloc, with_flag(alloc, command, "json", help::JSON)?)
 }
 
 fn show_command<'a>(alloc: Global) -> Result<Command<'a>, AllocError>
@@ -148,36 +172,53 @@ fn replay_command<'a>(alloc: Global) -> Result<Command<'a>, AllocError>
     with_reasons(alloc, with_forms(alloc, command)?)
 }
 
-fn explore_command<'a>(alloc: Global) -> Result<Command<'a>, AllocError>
-    ensures shape { IfOk result (λ c. app_of c ≡ explore_command) }
+/// `explore` without its flags.
+fn explore_options<'a>(alloc: Global) -> Result<Command<'a>, AllocError>
+    ensures shape { IfOk result (λ c. app_of c ≡ explore_options) }
     ensures local { IfOk result (λ c. (out-Command c).has_globals ≡ false) }
 {
     let worlds = number_option(alloc, "worlds", help::WORLDS, WORLDS);
     let entries = number_option(alloc, "entries", help::ENTRIES, ENTRIES);
     let command = new_command(alloc, "explore", help::EXPLORE);
-    let command = with_limits(alloc, command, help::FEW)?
+    with_limits(alloc, command, help::FEW)?
         .arg(worlds)?
         .arg(entries)?
-        .arg(want_option(alloc))?;
-    with_reasons(alloc, command)
+        .arg(want_option(alloc))
 }
 
-fn run_command<'a>(alloc: Global) -> Result<Command<'a>, AllocError>
-    ensures shape { IfOk result (λ c. app_of c ≡ run_command) }
+fn explore_command<'a>(alloc: Global) -> Result<Command<'a>, AllocError>
+    ensures shape { IfOk result (λ c. app_of c ≡ explore_command) }
+    ensures local { IfOk result (λ c. (out-Command c).has_globals ≡ false) }
+{
+    let command = explore_options(alloc)?;
+    with_reasons(alloc, with_explore_forms(alloc, command)?)
+}
+
+/// `run` without its flags.
+fn run_options<'a>(alloc: Global) -> Result<Command<'a>, AllocError>
+    ensures shape { IfOk result (λ c. app_of c ≡ run_options) }
     ensures local { IfOk result (λ c. (out-Command c).has_globals ≡ false) }
 {
     let workers = number_option(alloc, "workers", help::WORKERS, WORKERS);
     let budget = number_option(alloc, "budget", help::BUDGET, BUDGET);
     let moves = number_option(alloc, "moves", help::MOVES, MOVES);
     let command = new_command(alloc, "run", help::RUN).arg(workers)?;
-    let command = with_limits(alloc, command, help::MANY)?
+    with_limits(alloc, command, help::MANY)?
         .arg(budget)?
-        .arg(moves)?;
-    with_record(alloc, command)
+        .arg(moves)
 }
 
-fn sample_command<'a>(alloc: Global) -> Result<Command<'a>, AllocError>
-    ensures shape { IfOk result (λ c. app_of c ≡ sample_command) }
+fn run_command<'a>(alloc: Global) -> Result<Command<'a>, AllocError>
+    ensures shape { IfOk result (λ c. app_of c ≡ run_command) }
+    ensures local { IfOk result (λ c. (out-Command c).has_globals ≡ false) }
+{
+    let command = run_options(alloc)?;
+    with_reasons(alloc, with_run_forms(alloc, command)?)
+}
+
+/// `sample` without its flag.
+fn sample_options<'a>(alloc: Global) -> Result<Command<'a>, AllocError>
+    ensures shape { IfOk result (λ c. app_of c ≡ sample_options) }
     ensures local { IfOk result (λ c. (out-Command c).has_globals ≡ false) }
 {
     let seed = number_option(alloc, "seed", help::SEED, SEED);
@@ -185,6 +226,14 @@ fn sample_command<'a>(alloc: Global) -> Result<Command<'a>, AllocError>
     let entries = number_option(alloc, "entries", help::ENTRIES, ENTRIES);
     let command = new_command(alloc, "sample", help::SAMPLE).arg(seed)?;
     with_limits(alloc, command.arg(times)?.arg(entries)?, help::FEW)
+}
+
+fn sample_command<'a>(alloc: Global) -> Result<Command<'a>, AllocError>
+    ensures shape { IfOk result (λ c. app_of c ≡ sample_command) }
+    ensures local { IfOk result (λ c. (out-Command c).has_globals ≡ false) }
+{
+    let command = sample_options(alloc)?;
+    with_flag(alloc, command, "json", help::JSON)
 }
 
 /// The command, with all that its words may be.

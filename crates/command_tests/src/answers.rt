@@ -7,6 +7,7 @@ use std::io::{Read, Write};
 use std::process::Abort;
 use std::sync::Wait;
 use std::thread::Threads;
+use std::time::Clock;
 
 /// The words of a replay under which short programs end.
 pub const LONG: &[&str] = &["fiber_cli", "replay", "--schedule", "0*99"];
@@ -20,7 +21,7 @@ pub struct Answer {
 }
 
 /// Runs a command line whose output goes there. Gives what it tells, and its status.
-pub fn told<R: AllocGlobal + Threads + Wait + Sync, S: Read + Drop, T: Write + Drop>(
+pub fn told<R: AllocGlobal + Clock + Threads + Wait + Sync, S: Read + Drop, T: Write + Drop>(
     rt: &R,
     words: &[&str],
     input: S,
@@ -38,7 +39,7 @@ pub fn told<R: AllocGlobal + Threads + Wait + Sync, S: Read + Drop, T: Write + D
 }
 
 /// Runs a command line.
-pub fn answered<R: AllocGlobal + Threads + Wait + Sync, S: Read + Drop>(
+pub fn answered<R: AllocGlobal + Clock + Threads + Wait + Sync, S: Read + Drop>(
     rt: &R,
     words: &[&str],
     input: S,
@@ -50,7 +51,7 @@ pub fn answered<R: AllocGlobal + Threads + Wait + Sync, S: Read + Drop>(
 
 /// Runs a command line, and compares all that it writes and its status. Where that isn't what is
 /// wanted, the rule is printed.
-pub fn expect<R: Abort + AllocGlobal + Threads + Wait + Sync>(
+pub fn expect<R: Abort + AllocGlobal + Clock + Threads + Wait + Sync>(
     rt: &R,
     rule: &str,
     words: &[&str],

@@ -10,12 +10,15 @@ use std::process::Abort;
 use std::sync::Wait;
 use std::test::Fail;
 use std::thread::Threads;
+use std::time::Clock;
 
 const CHECK: &[&str] = &["fiber_cli", "check"];
 
 const SHOW: &[&str] = &["fiber_cli", "show"];
 
 const RUN: &[&str] = &["fiber_cli", "run"];
+
+const RUN_WHY: &[&str] = &["fiber_cli", "run", "--explain"];
 
 /// The words of a replay whose schedule is the first line of the input.
 const FROM_INPUT: &[&str] = &["fiber_cli", "replay", "--schedule", "-"];
@@ -106,7 +109,7 @@ fn cut_at(alloc: Global, bytes: usize) -> Result<String, AllocError> {
 }
 
 /// Runs a command line over a reader, and compares all that it writes and its status.
-fn expect_of<R: Abort + AllocGlobal + Threads + Wait + Sync, S: Read + Drop>(
+fn expect_of<R: Abort + AllocGlobal + Clock + Threads + Wait + Sync, S: Read + Drop>(
     rt: &R,
     words: &[&str],
     input: S,
@@ -145,7 +148,7 @@ fn reads_an_input_byte_by_byte(rt: HostRuntime) {
 
 #[test]
 fn tells_failed_readers(rt: HostRuntime) {
-    for words in [CHECK, SHOW, LONG, RUN, FROM_INPUT] {
+    for words in [CHECK, SHOW, LONG, RUN, RUN_WHY, FROM_INPUT] {
         let drops = Drops {
             left: b"(pure 7)",
             fails: true,
@@ -157,7 +160,7 @@ fn tells_failed_readers(rt: HostRuntime) {
 }
 
 /// Runs a command line whose output is full after so many bytes, and asks that this be told.
-fn expect_write_fault<R: Abort + AllocGlobal + Threads + Wait + Sync>(
+fn expect_write_fault<R: Abort + AllocGlobal + Clock + Threads + Wait + Sync>(
     rt: &R,
     words: &[&str],
     room: usize,
@@ -175,6 +178,7 @@ const WRITING: &[(&[&str], usize)] = &[
     (SHOW, "(pure 7)\n".len()),
     (LONG, "fiber 0 succeeded 7\n".len()),
     (RUN, "fiber 0 succeeded 7\n".len()),
+    (RUN_WHY, "fiber 0 succeeded 7\n".len()),
 ];
 
 #[test]

@@ -78,9 +78,103 @@ const FORMED: &[(&str, &[&str], &str, u8, &str, &str)] = &[
     ),
 ];
 
+/// The same of runs and of explorations.
+const FOUND: &[(&str, &[&str], &str, u8, &str, &str)] = &[
+    (
+        "the report of a run as JSON",
+        &["fiber_cli", "run", "--json"],
+        "(uncancelable p (raise 3))",
+        1,
+        "{\"answer\":\"report\",\"fibers\":[{\"fiber\":0,\"marks\":[{\"enter\":0},{\"leave\":0}],\
+            \"outcome\":{\"errored\":3}}]}\n",
+        "",
+    ),
+    (
+        "the fault of a run as JSON",
+        &["fiber_cli", "run", "--fibers", "1", "--json"],
+        "(start f (pure 5) (pure 6))",
+        70,
+        "{\"answer\":\"fault\",\"band\":\"fibers\",\"limit\":1,\"name\":\"Full\",\"number\":18}\n",
+        "",
+    ),
+    (
+        "a text that a run refuses as JSON",
+        &["fiber_cli", "run", "--json"],
+        "(pur 1)",
+        65,
+        "{\"answer\":\"refused\",\"name\":\"UnknownWord\",\"number\":6,\"place\":1}\n",
+        "",
+    ),
+    (
+        "a short search ends before its progress is told",
+        &["fiber_cli", "explore", "--progress"],
+        "(raise 7)",
+        0,
+        "explored 3 worlds: 1 report, 0 faults\n\nunder \"0*2\"\nfiber 0 errored 7\n",
+        "",
+    ),
+    (
+        "an exploration with timelines",
+        &["fiber_cli", "explore", "--timeline"],
+        "(raise 7)",
+        0,
+        "explored 3 worlds: 1 report, 0 faults\n\nunder \"0*2\"\nfiber 0 errored 7\n\n\
+            \x20entry  fiber 0\n\
+            \x20    2  ends: errored 7\n",
+        "",
+    ),
+    (
+        "an exploration as JSON, with reasons beside it, of which there are none",
+        &["fiber_cli", "explore", "--json", "--explain"],
+        "(raise 7)",
+        0,
+        "{\"answer\":\"exploration\",\"answers\":[{\"report\":{\"answer\":\"report\",\"fibers\":\
+            [{\"fiber\":0,\"marks\":[],\"outcome\":{\"errored\":7}}]},\"schedule\":\"0*2\",\"wanted\":true}],\
+            \"complete\":true,\"worlds\":3}\n",
+        "",
+    ),
+    (
+        "reasons beside an exploration with timelines",
+        &["fiber_cli", "explore", "--explain", "--timeline"],
+        "(pur 1)",
+        65,
+        "refused 6 UnknownWord at 1\n",
+        "line 1, column 2: `pur` is no word of the language\n\
+            \x20 (pur 1)\n\
+            \x20  ^\n\
+            behind an opening bracket the word of a form was wanted\n\
+            did you mean `pure`?\n",
+    ),
+    (
+        "a sample as JSON",
+        &["fiber_cli", "sample", "--json", "--times=3", "--seed=9"],
+        "(raise 7)",
+        0,
+        "{\"answer\":\"sample\",\"answers\":[{\"came\":3,\"report\":{\"answer\":\"report\",\"fibers\":\
+            [{\"fiber\":0,\"marks\":[],\"outcome\":{\"errored\":7}}]},\"schedule\":\"0*2\"}],\
+            \"seed\":9,\"times\":3}\n",
+        "",
+    ),
+    (
+        "a text that isn't explored",
+        &["fiber_cli", "explore", "--progress"],
+        "(pur 1)",
+        65,
+        "refused 6 UnknownWord at 1\n",
+        "",
+    ),
+];
+
 #[test]
 fn answers_in_the_form_that_is_asked_for(rt: HostRuntime) {
     for (rule, words, input, status, out, err) in FORMED {
+        expect(&rt, rule, words, input, *status, out, err);
+    }
+}
+
+#[test]
+fn answers_what_is_found_in_the_form_that_is_asked_for(rt: HostRuntime) {
+    for (rule, words, input, status, out, err) in FOUND {
         expect(&rt, rule, words, input, *status, out, err);
     }
 }

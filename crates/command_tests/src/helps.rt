@@ -59,7 +59,7 @@ const HELP: &[(&[&str], &str)] = &[
         \n\nOptions:\
         \n      --json     Print the answer as JSON, on one line\
         \n      --explain  Tell reasons on standard error: where a text or a schedule is refused, and\
-        \n                 why a fiber of a replay hasn't ended\
+        \n                 why a fiber of a replay or a run hasn't ended\
         \n  -h, --help     Print help\
         \n\nThe text is read from standard input.\
         \n\nExample:\
@@ -77,7 +77,7 @@ const HELP: &[(&[&str], &str)] = &[
         \n\nUsage: fiber_cli show [OPTIONS]\
         \n\nOptions:\
         \n      --explain  Tell reasons on standard error: where a text or a schedule is refused, and\
-        \n                 why a fiber of a replay hasn't ended\
+        \n                 why a fiber of a replay or a run hasn't ended\
         \n  -h, --help     Print help\
         \n\nThe program's text is read from standard input.\
         \n\nExample:\
@@ -106,7 +106,7 @@ const HELP: &[(&[&str], &str)] = &[
         \n      --svg              Print a picture of the run in place of the report, as SVG\
         \n      --json             Print the answer as JSON, on one line\
         \n      --explain          Tell reasons on standard error: where a text or a schedule is refused, and\
-        \n                         why a fiber of a replay hasn't ended\
+        \n                         why a fiber of a replay or a run hasn't ended\
         \n  -h, --help             Print help\
         \n\nThe program's text is read from standard input. With --schedule - the schedule is its first line,\
         \nand the text is what stands behind it.\
@@ -139,13 +139,20 @@ const HELP: &[(&[&str], &str)] = &[
         \n      --want <OUTCOME>  An outcome of fiber 0 that is wanted, as a report spells it:\
         \n                        \"succeeded V\", \"errored C\", canceled or unended. It may be given more\
         \n                        than once. A report with another outcome, and a fault, is then not wanted\
+        \n      --progress        Tell on standard error how far the search has come, while it goes on\
+        \n      --timeline        Print a timeline behind each report and each fault\
+        \n      --json            Print the answer as JSON, on one line\
         \n      --explain         Tell reasons on standard error: where a text or a schedule is refused, and\
-        \n                        why a fiber of a replay hasn't ended\
+        \n                        why a fiber of a replay or a run hasn't ended\
         \n  -h, --help            Print help\
         \n\nThe program's text is read from standard input.\
         \n\nExample, which finds a release that is lost:\
         \n  echo '(ref r 0 (start f (let c (modify r 1) (guarantee (never) (modify r -1)))\
         \n    (seq (cancel f) (get r))))' | fiber_cli explore --want \"succeeded 0\"\
+        \n\nExample of all that can come of a race, with how it came:\
+        \n  echo '(race (pure 1) (pure 2))' | fiber_cli explore --timeline\
+        \n\nExample of a long search, which tells how far it has come:\
+        \n  fiber_cli explore --worlds 1000000 --progress < FILE\
         \n\n'fiber_cli --help' explains the reports. Each stands below a schedule, under which replay gives it.\
         \n\nExit status:\
         \n   0  every schedule was explored, and nothing unwanted was found\
@@ -175,10 +182,17 @@ const HELP: &[(&[&str], &str)] = &[
         \n                       them is reported as unended\
         \n      --record         Tell a schedule behind the report, under which replay gives it, or why\
         \n                       there is none\
+        \n      --timeline       With --record: print a timeline behind the schedule, of the replay under it\
+        \n      --json           Print the answer as JSON, on one line\
+        \n      --explain        Tell reasons on standard error: where a text or a schedule is refused, and\
+        \n                       why a fiber of a replay or a run hasn't ended\
         \n  -h, --help           Print help\
         \n\nThe program's text is read from standard input.\
-        \n\nExample, of a race whose loser has a finalizer:\
+        \n\nExamples, of a race whose loser has a finalizer, of one that can be replayed, with its timeline, and\
+        \nof a fiber that waits for nothing:\
         \n  echo '(race (pure 4) (oncancel (never) (say 9)))' | fiber_cli run --workers 4\
+        \n  echo '(race (pure 4) (oncancel (never) (say 9)))' | fiber_cli run --record --timeline\
+        \n  echo '(deferred d (await d))' | fiber_cli run --explain\
         \n\n'fiber_cli --help' explains the report, which is one that some schedule gives.\
         \n\nExit status:\
         \n   0  fiber 0 succeeded\
@@ -203,10 +217,12 @@ const HELP: &[(&[&str], &str)] = &[
         \n      --deferreds <N>  How many deferreds there may be, 1 to 1000 [default: 16]\
         \n      --count <N>      How often a fiber may change its own state, 1 to 1099511627775\
         \n                       [default: 1099511627775]\
+        \n      --json           Print the answer as JSON, on one line\
         \n  -h, --help           Print help\
         \n\nThe program's text is read from standard input.\
         \n\nExample, which draws the same hundred schedules of a race each time:\
         \n  echo '(race (say 1) (say 2))' | fiber_cli sample --times 100 --seed 7\
+        \n  echo '(race (say 1) (say 2))' | fiber_cli sample --times 100 --seed 7 --json\
         \n\n'fiber_cli --help' explains the reports. Each stands below the first schedule that came to it, under\
         \nwhich replay gives it. The same seed draws the same schedules.\
         \n\nExit status:\

@@ -78,6 +78,69 @@ const EXPLAINED: &[(&str, &[&str], &str, u8, &str, &str)] = &[
     ),
 ];
 
+/// The same of runs.
+const RUN: &[(&str, &[&str], &str, u8, &str, &str)] = &[
+    (
+        "why a fiber of a run hasn't ended",
+        &["fiber_cli", "run", "--explain"],
+        "(deferred d (await d))",
+        3,
+        "fiber 0 unended\n",
+        "fiber 0 waits for deferred 0, which nobody completes\n",
+    ),
+    (
+        "why each fiber of a run hasn't ended",
+        &["fiber_cli", "run", "--explain", "--workers", "2"],
+        "(start f (never) (join f x (pure x) e (raise e) (pure -1)))",
+        3,
+        "fiber 0 unended\nfiber 1 unended\n",
+        "fiber 0 waits for the end of fiber 1\nfiber 1 waits without end\n",
+    ),
+    (
+        "moves that show nothing are made before it is told",
+        &["fiber_cli", "run", "--explain", "--workers", "1"],
+        "(seq (say 1) (pure 2) (pure 3) (never))",
+        3,
+        "fiber 0 unended: say 1\n",
+        "fiber 0 waits without end\n",
+    ),
+    (
+        "of a run whose fibers have ended nothing is told",
+        &["fiber_cli", "run", "--explain"],
+        "(raise 3)",
+        1,
+        "fiber 0 errored 3\n",
+        "",
+    ),
+    (
+        "why nothing is run",
+        &["fiber_cli", "run", "--explain"],
+        "(pur 1)",
+        65,
+        "refused 6 UnknownWord at 1\n",
+        "line 1, column 2: `pur` is no word of the language\n\
+            \x20 (pur 1)\n\
+            \x20  ^\n\
+            behind an opening bracket the word of a form was wanted\n\
+            did you mean `pure`?\n",
+    ),
+    (
+        "of a fault of a run its line tells all",
+        &["fiber_cli", "run", "--explain", "--fibers", "1"],
+        "(start f (pure 5) (pure 6))",
+        70,
+        "fault 18 Full fibers 1\n",
+        "",
+    ),
+];
+
+#[test]
+fn tells_reasons_beside_a_report(rt: HostRuntime) {
+    for (rule, words, input, status, out, err) in RUN {
+        expect(&rt, rule, words, input, *status, out, err);
+    }
+}
+
 #[test]
 fn tells_reasons_beside_the_answer(rt: HostRuntime) {
     for (rule, words, input, status, out, err) in EXPLAINED {

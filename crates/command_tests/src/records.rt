@@ -5,6 +5,7 @@ use crate::answers::{answered, expect};
 use std::process::Abort;
 use std::sync::Wait;
 use std::thread::Threads;
+use std::time::Clock;
 
 /// A run on one worker that is recorded, and what comes of it.
 struct Recorded<'a> {
@@ -56,6 +57,57 @@ fn tells_the_schedule_of_a_run(rt: HostRuntime) {
     }
 }
 
+/// The same with timelines.
+const TIMED: &[Recorded<'static>] = &[
+    Recorded {
+        rule: "the entry that ends the fiber",
+        option: "--budget=64",
+        program: "(pure 7)",
+        status: 0,
+        out: "fiber 0 succeeded 7\nschedule 0*2\n\n\
+            \x20entry  fiber 0\n\
+            \x20    2  ends: succeeded 7\n",
+    },
+    Recorded {
+        rule: "the entry that is refused",
+        option: "--fibers=1",
+        program: "(start f (pure 5) (pure 6))",
+        status: 70,
+        out: "fault 18 Full fibers 1\nschedule 0*2\n\n\
+            \x20entry  fiber 0\n\n\
+            entry 2 was refused\n",
+    },
+    Recorded {
+        rule: "a text that is refused has no timeline",
+        option: "--budget=64",
+        program: "(pure x)",
+        status: 65,
+        out: "refused 9 UnknownName at 6\n",
+    },
+];
+
+#[test]
+fn tells_the_timeline_of_a_run(rt: HostRuntime) {
+    for run in TIMED {
+        expect(
+            &rt,
+            run.rule,
+            &[
+                "fiber_cli",
+                "run",
+                "--timeline",
+                "--record",
+                "--workers=1",
+                run.option,
+            ],
+            run.program,
+            run.status,
+            run.out,
+            "",
+        );
+    }
+}
+
 const REPLAYED: &[&str] = &[
     "(start f (pure 5) (join f x (pure x) e (raise e) (pure -1)))",
     "(race (pure 4) (oncancel (never) (say 9)))",
@@ -65,7 +117,7 @@ const REPLAYED: &[&str] = &[
 ];
 
 /// Runs a program on so many workers, and compares what a replay under its schedule gives with its report.
-fn expect_replayed<R: Abort + AllocGlobal + Threads + Wait + Sync>(
+fn expect_replayed<R: Abort + AllocGlobal + Clock + Threads + Wait + Sync>(
     rt: &R,
     workers: &str,
     program: &str,

@@ -4,6 +4,7 @@ use crate::answers::expect;
 use std::process::Abort;
 use std::sync::Wait;
 use std::thread::Threads;
+use std::time::Clock;
 
 mod brackets;
 mod cells;
@@ -27,7 +28,10 @@ struct Replay<'a> {
 }
 
 /// Replays a program under its schedule, and compares the report and the status.
-fn expect_replay<R: Abort + AllocGlobal + Threads + Wait + Sync>(rt: &R, replay: &Replay<'_>) {
+fn expect_replay<R: Abort + AllocGlobal + Clock + Threads + Wait + Sync>(
+    rt: &R,
+    replay: &Replay<'_>,
+) {
     expect(
         rt,
         replay.rule,
@@ -40,7 +44,10 @@ fn expect_replay<R: Abort + AllocGlobal + Threads + Wait + Sync>(rt: &R, replay:
 }
 
 /// The same of each of these.
-fn expect_replays<R: Abort + AllocGlobal + Threads + Wait + Sync>(rt: &R, replays: &[Replay<'_>]) {
+fn expect_replays<R: Abort + AllocGlobal + Clock + Threads + Wait + Sync>(
+    rt: &R,
+    replays: &[Replay<'_>],
+) {
     for replay in replays {
         expect_replay(rt, replay);
     }

@@ -4,6 +4,7 @@ use crate::answers::expect;
 use std::process::Abort;
 use std::sync::Wait;
 use std::thread::Threads;
+use std::time::Clock;
 
 mod limits;
 mod reports;
@@ -23,7 +24,11 @@ struct Run<'a> {
 }
 
 /// Runs a program with this option on one worker and on more, and compares the report and the status.
-fn expect_run<R: Abort + AllocGlobal + Threads + Wait + Sync>(rt: &R, option: &str, run: &Run<'_>) {
+fn expect_run<R: Abort + AllocGlobal + Clock + Threads + Wait + Sync>(
+    rt: &R,
+    option: &str,
+    run: &Run<'_>,
+) {
     for workers in WORKERS {
         expect(
             rt,

@@ -6,6 +6,7 @@ use std::process::Abort;
 use std::sync::Wait;
 use std::test::Fail;
 use std::thread::Threads;
+use std::time::Clock;
 
 /// The rule that a text shows, the text, and what is answered to it.
 type Case<'a> = (&'a str, &'a str, &'a str);
@@ -259,7 +260,10 @@ const ANSWERS: &[Answers<'static>] = &[
 ];
 
 /// Answers these texts.
-fn expect_answers<R: Abort + AllocGlobal + Threads + Wait + Sync>(rt: &R, answers: &Answers<'_>) {
+fn expect_answers<R: Abort + AllocGlobal + Clock + Threads + Wait + Sync>(
+    rt: &R,
+    answers: &Answers<'_>,
+) {
     for (rule, text, out) in answers.cases {
         expect(rt, rule, answers.words, text, answers.status, out, "");
     }
@@ -412,7 +416,7 @@ const DEEP: &[Deep<'static>] = &[
 ];
 
 /// Checks a text that goes so deep.
-fn expect_deep<R: Abort + AllocGlobal + Threads + Wait + Sync>(
+fn expect_deep<R: Abort + AllocGlobal + Clock + Threads + Wait + Sync>(
     rt: &R,
     deep: &Deep<'_>,
 ) -> Result<(), AllocError> {

@@ -8,15 +8,45 @@ use std::process::Abort;
 use std::sync::Wait;
 use std::test::Fail;
 use std::thread::Threads;
+use std::time::Clock;
 
 /// What is told of an outcome that is wanted and is none, and of flags that don't go together.
 const NO_REQUEST: &str =
     "error: an outcome of '--want <OUTCOME>' is none of 'succeeded V', 'errored C', 'canceled' and \
     'unended',\
-    \nor more than one of '--timeline', '--svg' and '--json' is given\
+    \nor flags don't go together, of which these do:\
+    \n  replay   one of '--timeline', '--svg' and '--json', and '--explain'\
+    \n  explore  one of '--timeline' and '--json', and '--explain'; or '--progress' alone\
+    \n  run      '--record', and '--timeline' beside it; or '--json' alone; or '--explain' alone\
     \n\nUsage: fiber_cli <COMMAND>\
     \n\nFor more information, try '--help'.\
     \n";
+
+/// Words whose flags don't go together.
+const APART: &[&[&str]] = &[
+    &["fiber_cli", "replay", "--svg", "--schedule", "0", "--json"],
+    &["fiber_cli", "replay", "--timeline", "--svg", "--schedule=0"],
+    &[
+        "fiber_cli",
+        "replay",
+        "--schedule=0",
+        "--json",
+        "--timeline",
+    ],
+    &["fiber_cli", "explore", "--progress", "--explain"],
+    &["fiber_cli", "explore", "--timeline", "--progress"],
+    &["fiber_cli", "explore", "--progress", "--json"],
+    &["fiber_cli", "explore", "--json", "--timeline"],
+    &["fiber_cli", "explore", "--json", "--explain", "--timeline"],
+    &["fiber_cli", "run", "--timeline"],
+    &["fiber_cli", "run", "--record", "--json"],
+    &["fiber_cli", "run", "--explain", "--record"],
+    &["fiber_cli", "run", "--json", "--timeline"],
+    &["fiber_cli", "run", "--explain", "--timeline"],
+    &["fiber_cli", "run", "--json", "--explain"],
+    &["fiber_cli", "run", "--record", "--timeline", "--json"],
+    &["fiber_cli", "run", "--explain", "--timeline", "--record"],
+];
 
 /// Words that are refused with status 64, before the text is read: the rule, the words, and what is
 /// told.
@@ -40,11 +70,6 @@ const WRONG: &[(&str, &[&str], &str)] = &[
         "more entries than an item may have",
         &["fiber_cli", "replay", "--schedule", "0*100001"],
         "fault 27 BadSchedule 0\n",
-    ),
-    (
-        "two forms at once",
-        &["fiber_cli", "replay", "--svg", "--schedule", "0", "--json"],
-        NO_REQUEST,
     ),
     (
         "a schedule is required",
@@ -320,8 +345,15 @@ fn tells_wrong_words(rt: HostRuntime) {
     }
 }
 
+#[test]
+fn tells_flags_that_do_not_go_together(rt: HostRuntime) {
+    for words in APART {
+        expect(&rt, "flags apart", words, "(pure 7)", 64, "", NO_REQUEST);
+    }
+}
+
 /// Runs a command with an option that takes a number, and compares what comes of it.
-fn expect_number<R: Abort + AllocGlobal + Threads + Wait + Sync>(
+fn expect_number<R: Abort + AllocGlobal + Clock + Threads + Wait + Sync>(
     rt: &R,
     command: &[&str],
     option: (&str, &str),
@@ -347,7 +379,7 @@ fn expect_number<R: Abort + AllocGlobal + Threads + Wait + Sync>(
 }
 
 /// The same of a number that is refused, for this reason.
-fn refuses<R: Abort + AllocGlobal + Threads + Wait + Sync>(
+fn refuses<R: Abort + AllocGlobal + Clock + Threads + Wait + Sync>(
     rt: &R,
     command: &[&str],
     option: (&str, &str),
@@ -361,7 +393,7 @@ fn refuses<R: Abort + AllocGlobal + Threads + Wait + Sync>(
 }
 
 /// The same of one that isn't in this range.
-fn refuses_beyond<R: Abort + AllocGlobal + Threads + Wait + Sync>(
+fn refuses_beyond<R: Abort + AllocGlobal + Clock + Threads + Wait + Sync>(
     rt: &R,
     command: &[&str],
     option: (&str, &str),
@@ -385,7 +417,7 @@ const NO_NUMBERS: &[(&str, &str)] = &[
 ];
 
 /// A command takes the numbers of an option's range, with this answer, and nothing else.
-fn expect_range<R: Abort + AllocGlobal + Threads + Wait + Sync>(
+fn expect_range<R: Abort + AllocGlobal + Clock + Threads + Wait + Sync>(
     rt: &R,
     command: &[&str],
     option: &Numbers,

@@ -98,8 +98,9 @@ fn keep_answered<A: TextOrder, I: TextIn, O: TextOut>(
     })
 }
 
-// Tells the reasons of a text, where there is memory for them.
-fn tell_reasons<X: Reasons, E: TextOut>(alloc: Global, reasons: &X, text: &[u8], err: &mut E)
+/// Tells the reasons of a text on a device. Where memory runs out for them, they are left out, and where the device
+/// fails, nothing more is said.
+pub fn tell_reasons<X: Reasons, E: TextOut>(alloc: Global, reasons: &X, text: &[u8], err: &mut E)
     requires { E.has_failed err.old ≡ false }
     ensures { TellsReasons (X.tells reasons.now text.now) (writer (E.contents err.old) (E.has_failed err.old))
         (writer (E.contents err.new) (E.has_failed err.new)) }

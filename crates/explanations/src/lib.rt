@@ -21,7 +21,7 @@ mod unended;
 mod wanting;
 mod why;
 
-pub use explained::{Reasons, obey_explained};
+pub use explained::{Reasons, obey_explained, tell_reasons};
 pub use language::{form_of, parts_of, spelling_of, words};
 pub use place::{Position, position_at};
 pub use schedules::explain_schedule;

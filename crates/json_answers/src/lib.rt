@@ -18,5 +18,6 @@ mod values;
 
 pub use explore_orders::ExploreJson;
 pub use orders::{CheckJson, ReplayJson, fault_json_answer, report_json_answer};
+pub use refusals::refusal_answer;
 pub use report_values::{fault_json, report_json};
 pub use sample_orders::SampleJson;

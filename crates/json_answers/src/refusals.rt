@@ -14,8 +14,9 @@ use serde_json::{Value, json};
 use std::alloc::{AllocError, Global};
 use term_parse::ParseError;
 
-/// The answer to a text that is refused so. `AllocError` where memory ran out, also where that is why.
-pub(crate) fn refusal_answer(
+/// The answer to a text that is refused so, as `refusal` is in words: the value of the refusal, with
+/// `Status::Refused`. `AllocError` where memory ran out, also where that is why.
+pub fn refusal_answer(
     alloc: Global,
     text: &[u8],
     refused: Refused,

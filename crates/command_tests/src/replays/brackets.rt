@@ -7,6 +7,7 @@ use std::process::Abort;
 use std::sync::Wait;
 use std::test::Fail;
 use std::thread::Threads;
+use std::time::Clock;
 
 /// Releases from the inside out.
 const ORDER: &[Replay<'static>] = &[Replay {
@@ -166,7 +167,7 @@ fn guarantees_marks(alloc: Global, depth: usize) -> Result<String, AllocError> {
 }
 
 /// Replays a program that goes so deep around `(pure 0)`.
-fn expect_deep<R: Abort + AllocGlobal + Threads + Wait + Sync>(
+fn expect_deep<R: Abort + AllocGlobal + Clock + Threads + Wait + Sync>(
     rt: &R,
     rule: &str,
     front: &str,

@@ -6,6 +6,7 @@ use std::process::Abort;
 use std::sync::Wait;
 use std::test::Fail;
 use std::thread::Threads;
+use std::time::Clock;
 
 /// A handler takes errors alone.
 const HANDLERS: &[Replay<'static>] = &[
@@ -121,7 +122,7 @@ fn said(alloc: Global, outcome: &str, times: usize) -> Result<String, AllocError
 }
 
 /// Replays ten thousand times round, of which each says 1.
-fn expect_times_round<R: Abort + AllocGlobal + Threads + Wait + Sync>(
+fn expect_times_round<R: Abort + AllocGlobal + Clock + Threads + Wait + Sync>(
     rt: &R,
     schedule: &str,
     outcome: &str,

@@ -5,6 +5,7 @@ use crate::answers::expect;
 use std::process::Abort;
 use std::sync::Wait;
 use std::thread::Threads;
+use std::time::Clock;
 
 /// A replay under an option, and what comes of it.
 struct Limited<'a> {
@@ -224,7 +225,10 @@ const LATE: &[Limited<'static>] = &[
 ];
 
 /// Replays each program under its schedule and option, and compares what is written and the status.
-fn expect_limited<R: Abort + AllocGlobal + Threads + Wait + Sync>(rt: &R, replays: &[Limited<'_>]) {
+fn expect_limited<R: Abort + AllocGlobal + Clock + Threads + Wait + Sync>(
+    rt: &R,
+    replays: &[Limited<'_>],
+) {
     for replay in replays {
         let words = [
             "fiber_cli",

@@ -5,6 +5,7 @@ use super::{Run, expect_run};
 use std::process::Abort;
 use std::sync::Wait;
 use std::thread::Threads;
+use std::time::Clock;
 
 const MASK: &str = "(uncancelable p (canceled))";
 
@@ -169,7 +170,10 @@ const TOO_FEW: &[(&str, Run<'static>)] = &[
 ];
 
 /// Runs each program under its option, and compares the fault.
-fn expect_faults<R: Abort + AllocGlobal + Threads + Wait + Sync>(rt: &R, all: &[Faults<'_>]) {
+fn expect_faults<R: Abort + AllocGlobal + Clock + Threads + Wait + Sync>(
+    rt: &R,
+    all: &[Faults<'_>],
+) {
     for faults in all {
         for (rule, program) in faults.programs {
             let run = Run {
@@ -184,7 +188,10 @@ fn expect_faults<R: Abort + AllocGlobal + Threads + Wait + Sync>(rt: &R, all: &[
 }
 
 /// Runs each program under its option, and compares the report and the status.
-fn expect_each<R: Abort + AllocGlobal + Threads + Wait + Sync>(rt: &R, runs: &[(&str, Run<'_>)]) {
+fn expect_each<R: Abort + AllocGlobal + Clock + Threads + Wait + Sync>(
+    rt: &R,
+    runs: &[(&str, Run<'_>)],
+) {
     for (option, run) in runs {
         expect_run(rt, option, run);
     }

@@ -6,6 +6,7 @@ use std::process::Abort;
 use std::sync::Wait;
 use std::test::Fail;
 use std::thread::Threads;
+use std::time::Clock;
 
 const ON_FOUR: &[&str] = &["fiber_cli", "run", "--workers", "4"];
 
@@ -49,7 +50,7 @@ const REPORTS: &[&[u8]] = &[
 ];
 
 /// Runs the program on four workers, and asks that its report be one of the five.
-fn expect_one_of_five<R: Abort + AllocGlobal + Threads + Wait + Sync>(rt: &R) {
+fn expect_one_of_five<R: Abort + AllocGlobal + Clock + Threads + Wait + Sync>(rt: &R) {
     let answer = answered(rt, ON_FOUR, CANCELED_ANYWHERE.as_bytes());
     assert_eq!(rt; (answer.status, answer.err.len()), (0, 0));
     assert!(rt; REPORTS.contains(&answer.out.as_slice()));

@@ -1,15 +1,11 @@
-use Rattle.outcome_trace.proofs.AnswerLemmas.{refusal_answers}
+use Rattle.command_line.specs.Runs.{comes_as, refused_as}
 use Rattle.command_line.proofs.WorkerLemmas.{program_runs, refusal_runs}
 use Rattle.command_line.proofs.run_order.text_answer.Goals as goal
 
 pub returns-in-Ok : goal.returns-in-Ok
 returns-in-Ok g c =
-    program_runs c.args.text.now c.args.options c.in-Ok.program c.run_answer.result c.in-Ok.ensures.program c.in-Ok.ensures.limits c.run_answer.ensures
+    program_runs (refused_as c.args.form) (comes_as c.args.form c.args.options) c.args.text.now c.in-Ok.program c.program_answer.result c.in-Ok.ensures.program c.in-Ok.ensures.limits c.program_answer.ensures
 
 pub returns-in-Err : goal.returns-in-Err
 returns-in-Err g c =
-    refusal_runs c.args.text.now c.args.options c.refusal.result
-    (refusal_answers c.args.text.now c.in-Err.refused c.refusal.result c.in-Err.ensures.refused c.refusal.ensures.line c.refusal.ensures.status c.refusal.ensures.told)
-
-pub refusal-requires : goal.refusal-requires
-refusal-requires g c = record { text = c.args.text.now; is = c.in-Err.ensures.refused }
+    refusal_runs (refused_as c.args.form) (comes_as c.args.form c.args.options) c.args.text.now c.refused_answer.result c.refused_answer.ensures

@@ -1,0 +1,35 @@
+-- Reasons of a text whose program workers run.
+use Rattle.std.proofs.Common.{◌≡◌, ℕ, List, Option, Some, None, Ok, inl, inr}
+use Rattle.std.specs.Prelude.{IfSome}
+use Rattle.cell_registry.specs.declared.limits.Limits.{Limits}
+use Rattle.effect_term.specs.declared.term.Term.{Term}
+use Rattle.effect_term.specs.Programs.{IsProgram}
+use Rattle.explanations.specs.Explained.{TellsReasons}
+use Rattle.explanations.specs.Reasons.{IsReplayReasons}
+use Rattle.outcome_trace.specs.Answers.{IsRefusalAnswer}
+use Rattle.outcome_trace.specs.ReplayAnswers.{IsReplayAnswer, IsRunAnswer, replays, unreplayed}
+use Rattle.term_parse.specs.Atoms.{atoms_of}
+use Rattle.term_parse.specs.Reading.{reading}
+use Rattle.text_io.specs.declared.status.Status.{Status}
+use Rattle.text_io.specs.Devices.{Writer}
+use Rattle.text_io.specs.Telling.{Told}
+use Rattle.command_line.specs.RunReasons.{AreRunReasons, no_reasons_line, replayed, untold}
+
+-- what answers the program answers its text
+pub text_replayed : {V : Type 0} (items : V → List ℕ) (text answer : List ℕ) (status : Status) (limits : Limits) (t : Term) (found : Option V) → reading text ≡ Ok (atoms_of t) → IsProgram t → IfSome found (λ v. IsRunAnswer t (items v) limits answer status) → IfSome found (λ v. IsReplayAnswer (items v) limits text answer status)
+text_replayed items text answer status limits t (Some v) e p h = replays text answer status t e p h
+text_replayed items text answer status limits t None e p h = tt
+
+-- so does a refusal, under any entries
+pub refusal_replayed : {V : Type 0} (items : V → List ℕ) (text answer : List ℕ) (status : Status) (limits : Limits) (found : Option V) → IsRefusalAnswer text answer status → IfSome found (λ v. IsReplayAnswer (items v) limits text answer status)
+refusal_replayed items text answer status limits (Some v) h = unreplayed text answer status h
+refusal_replayed items text answer status limits None h = tt
+
+-- the reasons of such a replay are those of the run
+pub reasons_told : (limits : Limits) (text answer entries : List ℕ) (status : Status) (before after : Writer) → IsReplayAnswer entries limits text answer status → TellsReasons (IsReplayReasons entries limits text) before after → TellsReasons (AreRunReasons limits text answer status) before after
+reasons_told limits text answer entries status before after same (inl told) = inl (told.0, replayed entries told.0 same told.1, told.2)
+reasons_told limits text answer entries status before after same (inr nothing) = inr nothing
+
+-- where there is no such replay, that is told
+pub none_told : (limits : Limits) (text answer : List ℕ) (status : Status) (before after : Writer) → Told no_reasons_line before after → TellsReasons (AreRunReasons limits text answer status) before after
+none_told limits text answer status before after told = inl (no_reasons_line, untold, told)

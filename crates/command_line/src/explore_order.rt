@@ -1,0 +1,58 @@
+//! What comes of a text whose program is explored.
+
+ghost use Rattle.std.specs.Prelude.{◌≡◌, ◌≢◌, ◌<◌, ◌^◌, false};
+ghost use Rattle.command_line.specs.Explorings.{ObeysExplore};
+ghost use Rattle.text_io.specs.Devices.{devices, reader, writer};
+
+use crate::exploring::{ExploreForm, Exploring};
+use crate::order::obey_order;
+use explanations::TextReasons;
+use exploration_text::obey_explore_watched;
+use json_answers::ExploreJson;
+use outcome_trace::{Status, TextIn, TextOut};
+use std::alloc::Global;
+use std::time::Clock;
+use timeline_text::ExploreTimelineOrder;
+
+/// Tells all that can come of a text's program, and gives the status: that of the answer, and `Status::Fault` where a
+/// device failed or memory ran out. All but the answer is told on the last device. The clock tells how fast the search
+/// goes, and changes nothing else.
+pub fn obey_explore<C: Clock, I: TextIn, O: TextOut, E: TextOut>(
+    clock: &C,
+    alloc: Global,
+    exploring: Exploring,
+    input: &mut I,
+    out: &mut O,
+    err: &mut E,
+) -> Status
+    requires input { I.has_failed input.old ≡ false }
+    requires countable { I.reads input.old < 2 ^ 63 }
+    requires out { O.has_failed out.old ≡ false }
+    requires err { E.has_failed err.old ≡ false }
+    ensures obeyed { let before = devices (reader (I.remaining input.old) (I.has_failed input.old)
+        (I.has_ended input.old) (I.reads input.old)) (writer (O.contents out.old) (O.has_failed out.old))
+        (writer (E.contents err.old) (E.has_failed err.old)) in
+        let after = devices (reader (I.remaining input.new) (I.has_failed input.new) (I.has_ended input.new)
+        (I.reads input.new)) (writer (O.contents out.new) (O.has_failed out.new))
+        (writer (E.contents err.new) (E.has_failed err.new)) in
+        ObeysExplore exploring before after result }
+    ensures ends { result ≢ Status.Usage }
+{
+    let Exploring {
+        order,
+        form,
+        explain,
+    } = exploring;
+    match form {
+        ExploreForm::Report => { obey_order(alloc, &order, &TextReasons, explain, input, out, err) }
+        ExploreForm::Timeline => {
+            let order = ExploreTimelineOrder { order };
+            obey_order(alloc, &order, &TextReasons, explain, input, out, err)
+        }
+        ExploreForm::Json => {
+            let order = ExploreJson { order };
+            obey_order(alloc, &order, &TextReasons, explain, input, out, err)
+        }
+        ExploreForm::Progress => obey_explore_watched(clock, alloc, &order, input, out, err),
+    }
+}

@@ -1,0 +1,275 @@
+//! The reasons of a text whose program workers run.
+
+ghost use Rattle.std.specs.Prelude.{◌≡◌, ◌<◌, ◌^◌, false, Err as Fails, IfErr, IfOk, IfSome};
+ghost use Rattle.cell_registry.specs.Cells.{AreLimits};
+ghost use Rattle.command_line.specs.Recording.{ended_status, ended_text};
+ghost use Rattle.command_line.specs.RunReasons.{AreRunReasons, ExplainsRun, IsRunKept};
+ghost use Rattle.command_line.specs.Workers.{IsRunTextAnswer, IsWorkersAnswer};
+ghost use Rattle.explanations.specs.Explained.{TellsReasons};
+ghost use Rattle.outcome_trace.specs.Answers.{IsRefusalAnswer, IsRefused};
+ghost use Rattle.outcome_trace.specs.ReplayAnswers.{IsReplayAnswer, IsRunAnswer};
+ghost use Rattle.steal_pool.specs.Runs.{limits_of};
+ghost use Rattle.text_io.specs.Devices.{devices, reader, writer};
+ghost use Rattle.text_io.specs.Exchange.{IsAnswered};
+
+use crate::record_answers::entries_of;
+use crate::run_answers::{fault_answer, text_refusal};
+use crate::running::limits_of;
+use cell_registry::RunError;
+use effect_term::Program;
+use explanations::{ReplayReasons, tell_reasons};
+use outcome_trace::{
+    Answer, Limits, Refused, ReplayOrder, Status, TextFault, TextIn, TextOrder, TextOut,
+    read_program, read_text, report_answer, tell_fault, write_text,
+};
+use std::alloc::{AllocError, Global};
+use std::sync::Wait;
+use std::thread::Threads;
+use steal_pool::{OpenGate, Options, Recorded, RunEnd, run_recorded};
+
+/// What is told where no schedule of the run was found.
+const NO_REASONS: &[u8] = b"reasons can't be told: no schedule of this run was found\n";
+
+/// How many entries are tried behind the schedule of a run, so that each fiber comes to where it waits: a schedule that
+/// a run hands out leaves out what shows nothing.
+const MORE_ENTRIES: usize = 100_000;
+
+/// The answer to a text, and the entries of a schedule under which a replay answers it so, if some were found.
+#[derive(Drop)]
+struct Ran {
+    answer: Answer,
+    entries: Option<Vec<u16>>,
+}
+
+/// A text that was answered.
+#[derive(Drop)]
+struct Kept {
+    text: Vec<u8>,
+    ran: Ran,
+}
+
+// The answer where a recorded run ended so.
+fn ended_answer(alloc: Global, end: &Result<RunEnd, RunError>) -> Result<Answer, AllocError>
+    ensures text { IfOk result (λ a. a.text.items ≡ ended_text end.now) }
+    ensures status { IfOk result (λ a. a.status ≡ ended_status end.now) }
+{
+    match end {
+        Ok(ended) => report_answer(alloc, &ended.report),
+        Err(error) => fault_answer(alloc, *error),
+    }
+}
+
+// What comes of a program on workers that note their schedule.
+fn program_ran<R: Threads + Wait + Sync>(
+    rt: &R,
+    alloc: Global,
+    program: Program,
+    options: Options,
+) -> Result<Ran, AllocError>
+    requires limits { AreLimits (limits_of options) }
+    requires budget { 1 < options.budget }
+    ensures answers { IfOk result (λ ran. IsWorkersAnswer program options ran.answer.text.items ran.answer.status) }
+    ensures replayed { IfOk result (λ ran. IfSome ran.entries (λ entries.
+        IsRunAnswer program entries.items (limits_of options) ran.answer.text.items ran.answer.status)) }
+{
+    let Recorded { end, schedule } = run_recorded(rt, alloc, program, options, &OpenGate);
+    let answer = ended_answer(alloc, &end)?;
+    let entries = entries_of(alloc, &schedule)?;
+    Ok(Ran { answer, entries })
+}
+
+// The answer to a text that is refused so. A replay under any schedule gives the same.
+fn refused_ran(alloc: Global, text: &[u8], refused: Refused) -> Result<Ran, AllocError>
+    requires { IsRefused text.now refused }
+    ensures { IfOk result (λ ran. IsRefusalAnswer text.now ran.answer.text.items ran.answer.status) }
+{
+    let answer = text_refusal(alloc, text, refused)?;
+    let entries = Some(Vec::new(alloc));
+    Ok(Ran { answer, entries })
+}
+
+// The answer to a text: its refusal, or what comes of its program.
+fn text_ran<R: Threads + Wait + Sync>(
+    rt: &R,
+    alloc: Global,
+    text: &[u8],
+    options: Options,
+) -> Result<Ran, AllocError>
+    requires limits { AreLimits (limits_of options) }
+    requires budget { 1 < options.budget }
+    ensures answers { IfOk result (λ ran. IsRunTextAnswer options text.now ran.answer.text.items ran.answer.status) }
+    ensures replayed { IfOk result (λ ran. IfSome ran.entries (λ entries.
+        IsReplayAnswer entries.items (limits_of options) text.now ran.answer.text.items ran.answer.status)) }
+{
+    match read_program(alloc, text) {
+        Ok(program) => program_ran(rt, alloc, program, options),
+        Err(refused) => refused_ran(alloc, text, refused),
+    }
+}
+
+// Reads a text and writes its answer, and keeps both.
+fn keep_run<R: Threads + Wait + Sync, I: TextIn, O: TextOut>(
+    rt: &R,
+    alloc: Global,
+    options: Options,
+    input: &mut I,
+    out: &mut O,
+) -> Result<Kept, TextFault>
+    requires input { I.has_failed input.old ≡ false }
+    requires countable { I.reads input.old < 2 ^ 63 }
+    requires out { O.has_failed out.old ≡ false }
+    requires limits { AreLimits (limits_of options) }
+    requires budget { 1 < options.budget }
+    ensures kept { let before = reader (I.remaining input.old) (I.has_failed input.old) (I.has_ended input.old)
+        (I.reads input.old) in
+        let after = reader (I.remaining input.new) (I.has_failed input.new) (I.has_ended input.new)
+        (I.reads input.new) in
+        let old = writer (O.contents out.old) (O.has_failed out.old) in
+        let new = writer (O.contents out.new) (O.has_failed out.new) in
+        IfOk result (λ kept. IsRunKept options before after old new kept.text.items kept.ran.answer.text.items
+        kept.ran.answer.status) }
+    ensures replayed { IfOk result (λ kept. IfSome kept.ran.entries (λ entries. IsReplayAnswer entries.items
+        (limits_of options) kept.text.items kept.ran.answer.text.items kept.ran.answer.status)) }
+    ensures fault { let before = reader (I.remaining input.old) (I.has_failed input.old) (I.has_ended input.old)
+        (I.reads input.old) in
+        let after = reader (I.remaining input.new) (I.has_failed input.new) (I.has_ended input.new)
+        (I.reads input.new) in
+        let old = writer (O.contents out.old) (O.has_failed out.old) in
+        let new = writer (O.contents out.new) (O.has_failed out.new) in
+        IfErr result (λ e. IsAnswered (IsRunTextAnswer options) before after old new (Fails e)) }
+{
+    let text = read_text(alloc, input)?;
+    let ran = text_ran(rt, alloc, text.as_slice(), options)?;
+    write_text(ran.answer.text.as_slice(), out)?;
+    Ok(Kept { text, ran })
+}
+
+// These entries, and so many rounds of one for each fiber behind them.
+fn with_rounds(alloc: Global, entries: &[u16], fibers: u16) -> Result<Vec<u16>, AllocError> {
+    let mut longer = Vec::new(alloc);
+    longer.extend_from_slice(entries)?;
+    for _ in 0..MORE_ENTRIES / usize::from(fibers).max(1) {
+        for fiber in 0..fibers {
+            longer.push(fiber)?;
+        }
+    }
+    Ok(longer)
+}
+
+// How many fibers a report of this text tells of: it has a line for each.
+fn fibers_of(report: &[u8]) -> u16 {
+    let mut fibers = 0u16;
+    for byte in report {
+        if *byte == b'\n' {
+            fibers = fibers.saturating_add(1);
+        }
+    }
+    fibers
+}
+
+// The answer of a replay of the text under these entries and rounds behind them, if it is this one.
+fn rounds_under(
+    alloc: Global,
+    text: &[u8],
+    entries: &[u16],
+    answer: &Answer,
+    limits: Limits,
+) -> Result<Option<Vec<u16>>, AllocError>
+    requires { AreLimits limits }
+    ensures { IfOk result (λ found. IfSome found (λ longer.
+        IsReplayAnswer longer.items limits text.now answer.now.text.items answer.now.status)) }
+{
+    let longer = with_rounds(alloc, entries, fibers_of(answer.text.as_slice()))?;
+    let schedule = longer.as_slice();
+    let replayed = ReplayOrder { schedule, limits }.answer(alloc, text)?;
+    if replayed.text.as_slice() == answer.text.as_slice() && replayed.status == answer.status {
+        Ok(Some(longer))
+    } else {
+        Ok(None)
+    }
+}
+
+// The entries under which reasons are told: those of a longer schedule that comes to the same, where there is one.
+fn rested(
+    alloc: Global,
+    text: &[u8],
+    entries: Vec<u16>,
+    answer: &Answer,
+    limits: Limits,
+) -> Vec<u16>
+    requires limits { AreLimits limits }
+    requires replayed { IsReplayAnswer entries.items limits text.now answer.now.text.items answer.now.status }
+    ensures { IsReplayAnswer result.items limits text.now answer.now.text.items answer.now.status }
+{
+    match rounds_under(alloc, text, entries.as_slice(), answer, limits) {
+        Ok(Some(longer)) => longer,
+        Ok(None) | Err(_) => entries,
+    }
+}
+
+// Tells the reasons of what was kept: those of a replay that answers the text so, where there is one.
+fn tell_kept<E: TextOut>(
+    alloc: Global,
+    limits: Limits,
+    text: &[u8],
+    answer: &Answer,
+    entries: Option<Vec<u16>>,
+    err: &mut E,
+)
+    requires err { E.has_failed err.old ≡ false }
+    requires limits { AreLimits limits }
+    requires replayed { IfSome entries (λ entries. IsReplayAnswer entries.items limits text.now
+        answer.now.text.items answer.now.status) }
+    ensures { TellsReasons (AreRunReasons limits text.now answer.now.text.items answer.now.status)
+        (writer (E.contents err.old) (E.has_failed err.old)) (writer (E.contents err.new) (E.has_failed err.new)) }
+{
+    match entries {
+        Some(entries) => {
+            let longer = rested(alloc, text, entries, answer, limits);
+            let schedule = longer.as_slice();
+            tell_reasons(alloc, &ReplayReasons { schedule, limits }, text, err)
+        }
+        None => {
+            let _ = write_text(NO_REASONS, err);
+        }
+    }
+}
+
+/// Reads a text, has workers run its program, and writes what `run` writes of it without reasons. Then it tells on the
+/// last device why the text is refused, or why each fiber hasn't ended under a schedule that comes to the same; or that
+/// this can't be told, where no such schedule was found.
+///
+/// The status is that of `run`. Where there is a fault, it is told as ever, and nothing else is. Where memory runs out
+/// for the reasons, they are left out, and where the last device fails, nothing more is said.
+pub fn explain_run<R: Threads + Wait + Sync, I: TextIn, O: TextOut, E: TextOut>(
+    rt: &R,
+    alloc: Global,
+    options: Options,
+    input: &mut I,
+    out: &mut O,
+    err: &mut E,
+) -> Status
+    requires input { I.has_failed input.old ≡ false }
+    requires countable { I.reads input.old < 2 ^ 63 }
+    requires out { O.has_failed out.old ≡ false }
+    requires err { E.has_failed err.old ≡ false }
+    requires limits { AreLimits (limits_of options) }
+    requires budget { 1 < options.budget }
+    ensures { let before = devices (reader (I.remaining input.old) (I.has_failed input.old)
+        (I.has_ended input.old) (I.reads input.old)) (writer (O.contents out.old) (O.has_failed out.old))
+        (writer (E.contents err.old) (E.has_failed err.old)) in
+        let after = devices (reader (I.remaining input.new) (I.has_failed input.new) (I.has_ended input.new)
+        (I.reads input.new)) (writer (O.contents out.new) (O.has_failed out.new))
+        (writer (E.contents err.new) (E.has_failed err.new)) in
+        ExplainsRun options before after result }
+{
+    match keep_run(rt, alloc, options, input, out) {
+        Ok(Kept { text, ran }) => {
+            let Ran { answer, entries } = ran;
+            let limits = limits_of(options);
+            tell_kept(alloc, limits, text.as_slice(), &answer, entries, err);
+            answer.status
+        }
+        Err(fault) => tell_fault(fault, err),
+    }
+}
