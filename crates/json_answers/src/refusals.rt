@@ -16,11 +16,7 @@ use term_parse::ParseError;
 
 /// The answer to a text that is refused so, as `refusal` is in words: the value of the refusal, with
 /// `Status::Refused`. `AllocError` where memory ran out, also where that is why.
-pub fn refusal_answer(
-    alloc: Global,
-    text: &[u8],
-    refused: Refused,
-) -> Result<Answer, AllocError>
+pub fn refusal_answer(alloc: Global, text: &[u8], refused: Refused) -> Result<Answer, AllocError>
     requires { IsRefused text.now refused }
     ensures { IfOk result (λ a. IsJsonRefusal text.now a.text.items a.status) }
 {
