@@ -1,5 +1,6 @@
 //! The answers to texts that are explored or replayed.
 
+ghost use Rattle.std.specs.Prelude.{◌≤◌};
 ghost use Rattle.cell_registry.specs.Cells.{AreLimits};
 
 use crate::wants::push_wants;
@@ -20,8 +21,11 @@ fn limits(fibers: u16) -> Limits
     }
 }
 
-/// An exploration with at most so many fibers (1 to 16), worlds and entries, in which nothing is unwanted but a fault.
-pub fn exploring(alloc: Global, fibers: u16, worlds: usize, entries: usize) -> ExploreOrder {
+/// An exploration with at most so many fibers (1 to 16), worlds and entries (up to 1,000,000), in which nothing is
+/// unwanted but a fault.
+pub fn exploring(alloc: Global, fibers: u16, worlds: usize, entries: usize) -> ExploreOrder
+    requires { entries ≤ 1000000 }
+{
     ExploreOrder {
         limits: limits(fibers),
         bounds: Bounds { worlds, entries },
