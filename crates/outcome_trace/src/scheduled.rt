@@ -87,12 +87,15 @@ pub fn first_fibers(alloc: Global, program: &Program) -> Result<Vec<Config>, All
 }
 
 // All entries of a schedule.
+#[inline(never)]
 fn entries(
     fibers: &mut Vec<Config>,
     registry: &mut PlainRegistry,
     schedule: &[u16],
 ) -> Result<(), RunError>
     requires { AllFit (world_of fibers.old.items registry.old.state) }
+    ensures limits { OnOk result (registry.new.limits ≡ registry.old.limits) }
+    ensures fits { OnOk result (AllFit (world_of fibers.new.items registry.new.state)) }
     ensures goes { OnOk result
         (fold (entered registry.old.limits) (GoesWell (world_of fibers.old.items registry.old.state))
         schedule.now ≡ GoesWell (world_of fibers.new.items registry.new.state)) }
@@ -101,7 +104,7 @@ fn entries(
         schedule.now ≡ Fails e)) }
 {
     for number in schedule {
-        enter(fibers, registry, *number)?;
+        entry(fibers, registry, *number)?;
     }
     Ok(())
 }
@@ -113,10 +116,28 @@ fn entries(
 /// that the registry refuses is answered with [`RunError::Full`] or [`RunError::Spent`], the fault of
 /// the core; where memory runs out, the answer is [`RunError::NoMemory`]. After an error nothing is
 /// known of the fibers and the registry.
-// What most entries call is inlined into the loop over them: a result that holds fields goes through
+// It goes through the loop over entries, so that what makes a move stands once in a program: where it stands more
+// often, the compiler makes a call of it.
+pub fn enter(
+    fibers: &mut Vec<Config>,
+    registry: &mut PlainRegistry,
+    number: u16,
+) -> Result<(), RunError>
+    requires { AllFit (world_of fibers.old.items registry.old.state) }
+    ensures limits { OnOk result (registry.new.limits ≡ registry.old.limits) }
+    ensures fits { OnOk result (AllFit (world_of fibers.new.items registry.new.state)) }
+    ensures goes { OnOk result (entered registry.old.limits (GoesWell (world_of fibers.old.items registry.old.state))
+        number ≡ GoesWell (world_of fibers.new.items registry.new.state)) }
+    ensures stops { IfErr result (λ e. (e ≡ RunError.NoMemory) ⊎
+        (entered registry.old.limits (GoesWell (world_of fibers.old.items registry.old.state)) number ≡ Fails e)) }
+{
+    entries(fibers, registry, &[number])
+}
+
+// An entry. What most entries call is inlined into the loop over them: a result that holds fields goes through
 // memory where its function isn't. What few call stands apart, so that the loop keeps its registers.
 #[inline(always)]
-pub fn enter(
+fn entry(
     fibers: &mut Vec<Config>,
     registry: &mut PlainRegistry,
     number: u16,

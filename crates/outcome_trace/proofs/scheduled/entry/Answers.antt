@@ -9,7 +9,7 @@ use Rattle.fiber_frames.specs.Fiber.{Fiber}
 use Rattle.outcome_trace.specs.Fitting.{AllFit, Fits, cell_registered, world_of}
 use Rattle.outcome_trace.specs.Private.Moving.{Moves, Refuses}
 use Rattle.outcome_trace.proofs.Moves.{moved_entered, refused_entered, unborn_entered}
-use Rattle.outcome_trace.proofs.scheduled.enter.Goals as goal
+use Rattle.outcome_trace.proofs.scheduled.entry.Goals as goal
 
 pub make_move-requires : goal.make_move-requires
 make_move-requires c =
