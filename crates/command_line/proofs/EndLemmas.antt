@@ -19,9 +19,14 @@ use Rattle.exploration_text.specs.declared.wants.Want.{Want}
 use Rattle.exploration_text.specs.ExplorationText.{has_failure}
 use Rattle.exploration_text.specs.ExploreAnswers.{IsExploreAnswer, explores, unexplored}
 use Rattle.explanations.specs.Explained.{Explained}
-use Rattle.json_answers.specs.Answers.{IsJsonCheck, IsJsonRefusal, IsJsonReplay, IsJsonRun, counted as counted_json, faults as faults_json, no_program as no_program_json, no_term as no_term_json, refused as refused_json, replays as replays_json, reports as reports_json, unreplayed as unreplayed_json}
+use Rattle.json_answers.specs.Answers.{IsJsonCheck, IsJsonRefusal, IsJsonReplay, IsJsonRun, counted as counted_json}
+use Rattle.json_answers.specs.Answers.{faults as faults_json, no_program as no_program_json, no_term as no_term_json}
+use Rattle.json_answers.specs.Answers.{refused as refused_json, replays as replays_json, reports as reports_json}
+use Rattle.json_answers.specs.Answers.{unreplayed as unreplayed_json}
 use Rattle.timeline_svg.specs.PictureAnswers.{IsPictureAnswer, IsPicturedAnswer, draws, faults as faults_drawn, pictures, unpictured}
-use Rattle.json_answers.specs.FoundAnswers.{IsJsonExplore, IsJsonSample, explores as explores_json, samples as samples_json, unexplored as unexplored_json, unsampled as unsampled_json}
+use Rattle.json_answers.specs.FoundAnswers.{IsJsonExplore, IsJsonSample, explores as explores_json}
+use Rattle.json_answers.specs.FoundAnswers.{samples as samples_json, unexplored as unexplored_json}
+use Rattle.json_answers.specs.FoundAnswers.{unsampled as unsampled_json}
 use Rattle.timeline_text.specs.ExploreTimelines.{IsExploreTimeline, explores as explores_told, unexplored as unexplored_told}
 use Rattle.timeline_text.specs.TimelineAnswers.{IsTimelineAnswer, tells, unreplayed as untold}
 use Rattle.sample_text.specs.SampleAnswers.{IsSampleAnswer, samples, unsampled}
@@ -38,7 +43,8 @@ use Rattle.command_line.specs.Replays.{answers_as}
 use Rattle.command_line.specs.RunReasons.{ExplainsRun}
 use Rattle.command_line.specs.Runs.{comes_as, ran_as, refused_as}
 use Rattle.command_line.specs.Samplings.{samples_as}
-use Rattle.command_line.specs.Workers.{IsJsonWorkersAnswer, IsWorkersAnswer, refuses, runs as runs_program, value_of_fault, values, reports as reports_worked, faults as faults_worked}
+use Rattle.command_line.specs.Workers.{IsJsonWorkersAnswer, IsWorkersAnswer, refuses, runs as runs_program}
+use Rattle.command_line.specs.Workers.{value_of_fault, values, reports as reports_worked, faults as faults_worked}
 
 outcome_ends : (o : Option Outcome) → outcome_status o ≢ ends.Usage
 outcome_ends (Some (Succeeded v)) = λ u. cc
@@ -54,11 +60,13 @@ pub refusal_ends : {text answer : List ℕ} {status : Status} → IsRefusalAnswe
 refusal_ends (no_term text e reads) = λ u. cc
 refusal_ends (no_program text t e reads past) = λ u. cc
 
-pub run_ends : {t : Term} {schedule : List ℕ} {limits : Limits} {answer : List ℕ} {status : Status} → IsRunAnswer t schedule limits answer status → status ≢ ends.Usage
+pub run_ends : {t : Term} {schedule : List ℕ} {limits : Limits} {answer : List ℕ} {status : Status} → IsRunAnswer t schedule limits answer status →
+    status ≢ ends.Usage
 run_ends (reports r core) = report_ends r.fibers
 run_ends (faults e core) = λ u. cc
 
-pub replay_ends : {schedule : List ℕ} {limits : Limits} {text answer : List ℕ} {status : Status} → IsReplayAnswer schedule limits text answer status → status ≢ ends.Usage
+pub replay_ends : {schedule : List ℕ} {limits : Limits} {text answer : List ℕ} {status : Status} →
+    IsReplayAnswer schedule limits text answer status → status ≢ ends.Usage
 replay_ends (unreplayed text answer status h) = refusal_ends h
 replay_ends (replays text answer status t reads program runs) = run_ends runs
 
@@ -75,20 +83,24 @@ chosen_ends true complete = λ u. cc
 chosen_ends false true = λ u. cc
 chosen_ends false false = λ u. cc
 
-pub explore_ends : {limits : Limits} {wants : List Want} {text answer : List ℕ} {status : Status} → IsExploreAnswer limits wants text answer status → status ≢ ends.Usage
+pub explore_ends : {limits : Limits} {wants : List Want} {text answer : List ℕ} {status : Status} → IsExploreAnswer limits wants text answer status →
+    status ≢ ends.Usage
 explore_ends (unexplored text answer status h) = refusal_ends h
 explore_ends {limits} {wants} (explores text answer status t reads program h) =
     λ u. chosen_ends (has_failure wants h.exploration.answers) h.exploration.complete (sym h.status_is ∙ u)
 
-timeline_ends : {schedule : List ℕ} {limits : Limits} {text answer : List ℕ} {status : Status} → IsTimelineAnswer schedule limits text answer status → status ≢ ends.Usage
+timeline_ends : {schedule : List ℕ} {limits : Limits} {text answer : List ℕ} {status : Status} →
+    IsTimelineAnswer schedule limits text answer status → status ≢ ends.Usage
 timeline_ends (untold text answer status h) = refusal_ends h
 timeline_ends (tells text answer status t reads program told) = run_ends told.runs
 
-pictured_ends : {t : Term} {schedule : List ℕ} {limits : Limits} {answer : List ℕ} {status : Status} → IsPicturedAnswer t schedule limits answer status → status ≢ ends.Usage
+pictured_ends : {t : Term} {schedule : List ℕ} {limits : Limits} {answer : List ℕ} {status : Status} →
+    IsPicturedAnswer t schedule limits answer status → status ≢ ends.Usage
 pictured_ends (pictures r picture core) = report_ends r.fibers
 pictured_ends (faults_drawn e core) = λ u. cc
 
-picture_ends : {schedule : List ℕ} {limits : Limits} {text answer : List ℕ} {status : Status} → IsPictureAnswer schedule limits text answer status → status ≢ ends.Usage
+picture_ends : {schedule : List ℕ} {limits : Limits} {text answer : List ℕ} {status : Status} → IsPictureAnswer schedule limits text answer status →
+    status ≢ ends.Usage
 picture_ends (unpictured text answer status h) = refusal_ends h
 picture_ends (draws text answer status t reads program drawn) = pictured_ends drawn
 
@@ -100,33 +112,44 @@ json_check_ends : {text answer : List ℕ} {status : Status} → IsJsonCheck tex
 json_check_ends (refused_json text answer status h) = json_refusal_ends h
 json_check_ends (counted_json text t reads program) = λ u. cc
 
-json_run_ends : {t : Term} {schedule : List ℕ} {limits : Limits} {answer : List ℕ} {status : Status} → IsJsonRun t schedule limits answer status → status ≢ ends.Usage
+json_run_ends : {t : Term} {schedule : List ℕ} {limits : Limits} {answer : List ℕ} {status : Status} → IsJsonRun t schedule limits answer status →
+    status ≢ ends.Usage
 json_run_ends (reports_json r core) = report_ends r.fibers
 json_run_ends (faults_json e core) = λ u. cc
 
-json_ends : {schedule : List ℕ} {limits : Limits} {text answer : List ℕ} {status : Status} → IsJsonReplay schedule limits text answer status → status ≢ ends.Usage
+json_ends : {schedule : List ℕ} {limits : Limits} {text answer : List ℕ} {status : Status} → IsJsonReplay schedule limits text answer status →
+    status ≢ ends.Usage
 json_ends (unreplayed_json text answer status h) = json_refusal_ends h
 json_ends (replays_json text answer status t reads program runs) = json_run_ends runs
 
-pub form_ends : (form : Form) (schedule : List ℕ) (limits : Limits) (text answer : List ℕ) (status : Status) → answers_as form schedule limits text answer status → status ≢ ends.Usage
+pub form_ends : (form : Form) (schedule : List ℕ) (limits : Limits) (text answer : List ℕ) (status : Status) →
+    answers_as form schedule limits text answer status → status ≢ ends.Usage
 form_ends Report schedule limits text answer status h = replay_ends h
 form_ends Timeline schedule limits text answer status h = timeline_ends h
 form_ends Picture schedule limits text answer status h = picture_ends h
 form_ends Json schedule limits text answer status h = json_ends h
 
 -- where no answer has the status of wrong usage, nothing that is answered ends with it
-pub answered_ends : (Answers : List ℕ → List ℕ → Status → Type 0) (before after : Reader) (old new : Writer) (result : Result Status TextFault) → ((text answer : List ℕ) (status : Status) → Answers text answer status → status ≢ ends.Usage) → IsAnswered Answers before after old new result → status_of result ≢ ends.Usage
-answered_ends Answers before after old new (Ok s) never h = λ u. never h.exchange.text h.exchange.answer h.exchange.status h.exchange.answers (sym h.exchange.told ∙ u)
+pub answered_ends : (Answers : List ℕ → List ℕ → Status → Type 0) (before after : Reader) (old new : Writer) (result : Result Status TextFault) →
+    ((text answer : List ℕ) (status : Status) → Answers text answer status → status ≢ ends.Usage) → IsAnswered Answers before after old new result →
+    status_of result ≢ ends.Usage
+answered_ends Answers before after old new (Ok s) never h =
+    λ u. never h.exchange.text h.exchange.answer h.exchange.status h.exchange.answers (sym h.exchange.told ∙ u)
 answered_ends Answers before after old new (Err f) never h = λ u. cc
 
-pub explained_ends : {Answers : List ℕ → List ℕ → Status → Type 0} {Tells : List ℕ → List ℕ → Type 0} {before after : Devices} {status : Status} → ((text answer : List ℕ) (status : Status) → Answers text answer status → status ≢ ends.Usage) → Explained Answers Tells before after status → status ≢ ends.Usage
+pub explained_ends : {Answers : List ℕ → List ℕ → Status → Type 0} {Tells : List ℕ → List ℕ → Type 0} {before after : Devices} {status : Status} →
+    ((text answer : List ℕ) (status : Status) → Answers text answer status → status ≢ ends.Usage) → Explained Answers Tells before after status →
+    status ≢ ends.Usage
 explained_ends never h = λ u. answered_ends _ _ _ _ _ h.result never h.answered (sym h.status_is ∙ u)
 
-pub told_ends : {Answers : List ℕ → List ℕ → Status → Type 0} {before after : Devices} {status : Status} → ((text answer : List ℕ) (status : Status) → Answers text answer status → status ≢ ends.Usage) → Answered Answers before after status → status ≢ ends.Usage
+pub told_ends : {Answers : List ℕ → List ℕ → Status → Type 0} {before after : Devices} {status : Status} →
+    ((text answer : List ℕ) (status : Status) → Answers text answer status → status ≢ ends.Usage) → Answered Answers before after status → status ≢ ends.Usage
 told_ends never h = λ u. answered_ends _ _ _ _ _ h.result never h.answered (sym h.status_is ∙ u)
 
 -- with reasons or without
-pub order_ends : (Answers : List ℕ → List ℕ → Status → Type 0) (Tells : List ℕ → List ℕ → Type 0) (explain : Bool) (before after : Devices) (status : Status) → ((text answer : List ℕ) (status : Status) → Answers text answer status → status ≢ ends.Usage) → ObeysOrder Answers Tells explain before after status → status ≢ ends.Usage
+pub order_ends : (Answers : List ℕ → List ℕ → Status → Type 0) (Tells : List ℕ → List ℕ → Type 0) (explain : Bool) (before after : Devices)
+    (status : Status) → ((text answer : List ℕ) (status : Status) → Answers text answer status → status ≢ ends.Usage) →
+    ObeysOrder Answers Tells explain before after status → status ≢ ends.Usage
 order_ends Answers Tells true before after status never h = explained_ends never h
 order_ends Answers Tells false before after status never h = told_ends never h
 
@@ -139,25 +162,32 @@ two_ends : (none : Bool) → (if none then ends.Succeeded else ends.Errored) ≢
 two_ends true = λ u. cc
 two_ends false = λ u. cc
 
-pub sample_ends : {limits : Limits} {times entries : ℕ} (text answer : List ℕ) (status : Status) → IsSampleAnswer limits times entries text answer status → status ≢ ends.Usage
+pub sample_ends : {limits : Limits} {times entries : ℕ} (text answer : List ℕ) (status : Status) →
+    IsSampleAnswer limits times entries text answer status → status ≢ ends.Usage
 sample_ends text answer status (unsampled _ _ _ h) = refusal_ends h
-sample_ends text answer status (samples _ _ _ t reads program h) = λ u. two_ends (count_by (λ c. is_err c.answer.end) h.sample.comings == 0) (sym h.status_is ∙ u)
+sample_ends text answer status (samples _ _ _ t reads program h) =
+    λ u. two_ends (count_by (λ c. is_err c.answer.end) h.sample.comings == 0) (sym h.status_is ∙ u)
 
-json_sample_ends : {limits : Limits} {seed times entries : ℕ} (text answer : List ℕ) (status : Status) → IsJsonSample limits seed times entries text answer status → status ≢ ends.Usage
+json_sample_ends : {limits : Limits} {seed times entries : ℕ} (text answer : List ℕ) (status : Status) →
+    IsJsonSample limits seed times entries text answer status → status ≢ ends.Usage
 json_sample_ends text answer status (unsampled_json _ _ _ h) = json_refusal_ends h
-json_sample_ends text answer status (samples_json _ _ _ t reads program h) = λ u. two_ends (count_by (λ c. is_err c.answer.end) h.sample.comings == 0) (sym h.status_is ∙ u)
+json_sample_ends text answer status (samples_json _ _ _ t reads program h) =
+    λ u. two_ends (count_by (λ c. is_err c.answer.end) h.sample.comings == 0) (sym h.status_is ∙ u)
 
-pub sample_as_ends : (json : Bool) (order : SampleOrder) (text answer : List ℕ) (status : Status) → samples_as json order text answer status → status ≢ ends.Usage
+pub sample_as_ends : (json : Bool) (order : SampleOrder) (text answer : List ℕ) (status : Status) → samples_as json order text answer status →
+    status ≢ ends.Usage
 sample_as_ends true order text answer status h = json_sample_ends text answer status h
 sample_as_ends false order text answer status h = sample_ends text answer status h
 
 -- ---- of explorations
-pub explore_timeline_ends : {limits : Limits} {wants : List Want} {text answer : List ℕ} {status : Status} → IsExploreTimeline limits wants text answer status → status ≢ ends.Usage
+pub explore_timeline_ends : {limits : Limits} {wants : List Want} {text answer : List ℕ} {status : Status} →
+    IsExploreTimeline limits wants text answer status → status ≢ ends.Usage
 explore_timeline_ends (unexplored_told text answer status h) = refusal_ends h
 explore_timeline_ends {limits} {wants} (explores_told text answer status t reads program h) =
     λ u. chosen_ends (has_failure wants h.exploration.answers) h.exploration.complete (sym h.status_is ∙ u)
 
-pub json_explore_ends : {limits : Limits} {wants : List Want} {text answer : List ℕ} {status : Status} → IsJsonExplore limits wants text answer status → status ≢ ends.Usage
+pub json_explore_ends : {limits : Limits} {wants : List Want} {text answer : List ℕ} {status : Status} →
+    IsJsonExplore limits wants text answer status → status ≢ ends.Usage
 json_explore_ends (unexplored_json text answer status h) = json_refusal_ends h
 json_explore_ends {limits} {wants} (explores_json text answer status t reads program h) =
     λ u. chosen_ends (has_failure wants h.exploration.answers) h.exploration.complete (sym h.status_is ∙ u)

@@ -16,5 +16,6 @@ most_kept : (n : ℕ) → n < 9223372036854775808 → ord_min nat_cmp 1844674407
 most_kept n small = grind (arith, common_steps)
 
 -- the parser of whole numbers, narrowed to a range
-pub narrowed : (least most : ℕ) → least < 9223372036854775808 → most < 9223372036854775808 → unsigned_up_to (ord_max nat_cmp 0 (saturate_unsigned w64 (pos least))) 18446744073709551615 (Some (pos most)) ≡ Unsigned least most
+pub narrowed : (least most : ℕ) → least < 9223372036854775808 → most < 9223372036854775808 →
+    unsigned_up_to (ord_max nat_cmp 0 (saturate_unsigned w64 (pos least))) 18446744073709551615 (Some (pos most)) ≡ Unsigned least most
 narrowed least most small small' = ap₂ Unsigned (ap (λ n. ord_max nat_cmp 0 n) (saturated least small) ∙ least_kept least) (most_kept most small')

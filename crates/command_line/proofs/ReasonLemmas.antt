@@ -16,20 +16,26 @@ use Rattle.text_io.specs.Telling.{Told}
 use Rattle.command_line.specs.RunReasons.{AreRunReasons, no_reasons_line, replayed, untold}
 
 -- what answers the program answers its text
-pub text_replayed : {V : Type 0} (items : V → List ℕ) (text answer : List ℕ) (status : Status) (limits : Limits) (t : Term) (found : Option V) → reading text ≡ Ok (atoms_of t) → IsProgram t → IfSome found (λ v. IsRunAnswer t (items v) limits answer status) → IfSome found (λ v. IsReplayAnswer (items v) limits text answer status)
+pub text_replayed : {V : Type 0} (items : V → List ℕ) (text answer : List ℕ) (status : Status) (limits : Limits) (t : Term) (found : Option V) →
+    reading text ≡ Ok (atoms_of t) → IsProgram t → IfSome found (λ v. IsRunAnswer t (items v) limits answer status) →
+    IfSome found (λ v. IsReplayAnswer (items v) limits text answer status)
 text_replayed items text answer status limits t (Some v) e p h = replays text answer status t e p h
 text_replayed items text answer status limits t None e p h = tt
 
 -- so does a refusal, under any entries
-pub refusal_replayed : {V : Type 0} (items : V → List ℕ) (text answer : List ℕ) (status : Status) (limits : Limits) (found : Option V) → IsRefusalAnswer text answer status → IfSome found (λ v. IsReplayAnswer (items v) limits text answer status)
+pub refusal_replayed : {V : Type 0} (items : V → List ℕ) (text answer : List ℕ) (status : Status) (limits : Limits) (found : Option V) →
+    IsRefusalAnswer text answer status → IfSome found (λ v. IsReplayAnswer (items v) limits text answer status)
 refusal_replayed items text answer status limits (Some v) h = unreplayed text answer status h
 refusal_replayed items text answer status limits None h = tt
 
 -- the reasons of such a replay are those of the run
-pub reasons_told : (limits : Limits) (text answer entries : List ℕ) (status : Status) (before after : Writer) → IsReplayAnswer entries limits text answer status → TellsReasons (IsReplayReasons entries limits text) before after → TellsReasons (AreRunReasons limits text answer status) before after
+pub reasons_told : (limits : Limits) (text answer entries : List ℕ) (status : Status) (before after : Writer) →
+    IsReplayAnswer entries limits text answer status → TellsReasons (IsReplayReasons entries limits text) before after →
+    TellsReasons (AreRunReasons limits text answer status) before after
 reasons_told limits text answer entries status before after same (inl told) = inl (told.0, replayed entries told.0 same told.1, told.2)
 reasons_told limits text answer entries status before after same (inr nothing) = inr nothing
 
 -- where there is no such replay, that is told
-pub none_told : (limits : Limits) (text answer : List ℕ) (status : Status) (before after : Writer) → Told no_reasons_line before after → TellsReasons (AreRunReasons limits text answer status) before after
+pub none_told : (limits : Limits) (text answer : List ℕ) (status : Status) (before after : Writer) → Told no_reasons_line before after →
+    TellsReasons (AreRunReasons limits text answer status) before after
 none_told limits text answer status before after told = inl (no_reasons_line, untold, told)

@@ -19,16 +19,20 @@ use Rattle.steal_pool.specs.declared.recorded.NoSchedule.{NoSchedule}
 use Rattle.steal_pool.specs.Gathering.{IsLawful}
 use Rattle.steal_pool.specs.Records.{IsRecord, came_to}
 use Rattle.steal_pool.specs.Runs.{IsFaultWithin, limits_of}
-use Rattle.command_line.specs.Recording.{AreEntriesOf, IsBehindFault, IsRecordedAnswer, IsScheduleLine, IsTimedAnswer, ended_status, ended_text, line_behind, record_text, told_line, faults, no_schedule, reports, schedules, timed}
+use Rattle.command_line.specs.Recording.{AreEntriesOf, IsBehindFault, IsRecordedAnswer, IsScheduleLine, IsTimedAnswer}
+use Rattle.command_line.specs.Recording.{ended_status, ended_text, line_behind, record_text, told_line, faults}
+use Rattle.command_line.specs.Recording.{no_schedule, reports, schedules, timed}
 use Rattle.command_line.specs.Workers.{IsWorkersAnswer, faults as faults_worked, reports as reports_worked}
 
 -- the line that is told is that of a schedule which leads to the end, or of none
-pub line_told : (t : Term) (options : Options) (end : Result Report RunError) (s : Result (String Global) NoSchedule) → IfOk s (λ text. IsRecord (code_of (source_of t)) (limits_of options) (string_bytes text) end) → IsScheduleLine t options end (told_line s)
+pub line_told : (t : Term) (options : Options) (end : Result Report RunError) (s : Result (String Global) NoSchedule) →
+    IfOk s (λ text. IsRecord (code_of (source_of t)) (limits_of options) (string_bytes text) end) → IsScheduleLine t options end (told_line s)
 line_told t options end (Ok text) h = schedules (string_bytes text) h
 line_told t options end (Err why) h = no_schedule why
 
 -- the same behind the line of a fault
-pub line_behind_told : (t : Term) (options : Options) (e : RunError) (s : Result (String Global) NoSchedule) → IfOk s (λ text. IsRecord (code_of (source_of t)) (limits_of options) (string_bytes text) (Err e)) → IsBehindFault t options e (line_behind e s)
+pub line_behind_told : (t : Term) (options : Options) (e : RunError) (s : Result (String Global) NoSchedule) →
+    IfOk s (λ text. IsRecord (code_of (source_of t)) (limits_of options) (string_bytes text) (Err e)) → IsBehindFault t options e (line_behind e s)
 line_behind_told t options (fault.Full band n) s h = line_told t options (Err (fault.Full band n)) s h
 line_behind_told t options (fault.Spent f) s h = line_told t options (Err (fault.Spent f)) s h
 line_behind_told t options fault.NoMemory s h = refl
@@ -36,36 +40,62 @@ line_behind_told t options (fault.Lost f) s h = refl
 line_behind_told t options fault.NoWorker s h = refl
 
 -- what a recorded run comes to, with the line of its schedule
-pub recorded_answer : (t : Term) (options : Options) (end : Result RunEnd RunError) (s : Result (String Global) NoSchedule) (a : Answer) → IfOk end (λ it. IsOfSomeSchedule (code_of (source_of t)) (limits_of options) it.report) → IfOk end (λ it. All IsLawful it.report.fibers) → IfErr end (IsFaultWithin (limits_of options)) → IfOk s (λ text. IsRecord (code_of (source_of t)) (limits_of options) (string_bytes text) (came_to end)) → a.text.items ≡ record_text end s → a.status ≡ ended_status end → IsRecordedAnswer t options a.text.items a.status
-recorded_answer t options (Ok it) s a some lawful within recorded line status = rw (line, status) (reports it.report (told_line s) some lawful (line_told t options (Ok it.report) s recorded))
-recorded_answer t options (Err f) s a some lawful within recorded line status = rw (line, status) (faults f (line_behind f s) within (line_behind_told t options f s recorded))
+pub recorded_answer : (t : Term) (options : Options) (end : Result RunEnd RunError) (s : Result (String Global) NoSchedule) (a : Answer) →
+    IfOk end (λ it. IsOfSomeSchedule (code_of (source_of t)) (limits_of options) it.report) → IfOk end (λ it. All IsLawful it.report.fibers) →
+    IfErr end (IsFaultWithin (limits_of options)) →
+    IfOk s (λ text. IsRecord (code_of (source_of t)) (limits_of options) (string_bytes text) (came_to end)) → a.text.items ≡ record_text end s →
+    a.status ≡ ended_status end → IsRecordedAnswer t options a.text.items a.status
+recorded_answer t options (Ok it) s a some lawful within recorded line status =
+    rw (line, status) (reports it.report (told_line s) some lawful (line_told t options (Ok it.report) s recorded))
+recorded_answer t options (Err f) s a some lawful within recorded line status =
+    rw (line, status) (faults f (line_behind f s) within (line_behind_told t options f s recorded))
 
-pub recorded_answers : {E : Type 0} (t : Term) (options : Options) (end : Result RunEnd RunError) (s : Result (String Global) NoSchedule) (a : Result Answer E) → IfOk end (λ it. IsOfSomeSchedule (code_of (source_of t)) (limits_of options) it.report) → IfOk end (λ it. All IsLawful it.report.fibers) → IfErr end (IsFaultWithin (limits_of options)) → IfOk s (λ text. IsRecord (code_of (source_of t)) (limits_of options) (string_bytes text) (came_to end)) → IfOk a (λ a. a.text.items ≡ record_text end s) → IfOk a (λ a. a.status ≡ ended_status end) → IfOk a (λ a. IsRecordedAnswer t options a.text.items a.status)
+pub recorded_answers : {E : Type 0} (t : Term) (options : Options) (end : Result RunEnd RunError) (s : Result (String Global) NoSchedule)
+    (a : Result Answer E) → IfOk end (λ it. IsOfSomeSchedule (code_of (source_of t)) (limits_of options) it.report) →
+    IfOk end (λ it. All IsLawful it.report.fibers) → IfErr end (IsFaultWithin (limits_of options)) →
+    IfOk s (λ text. IsRecord (code_of (source_of t)) (limits_of options) (string_bytes text) (came_to end)) →
+    IfOk a (λ a. a.text.items ≡ record_text end s) → IfOk a (λ a. a.status ≡ ended_status end) → IfOk a (λ a. IsRecordedAnswer t options a.text.items a.status)
 recorded_answers t options end s (Ok a) some lawful within recorded line status = recorded_answer t options end s a some lawful within recorded line status
 recorded_answers t options end s (Err x) some lawful within recorded line status = tt
 
 -- what was read of a schedule that was found
-pub entries_found : (s : Result (String Global) NoSchedule) (text : String Global) (bytes entries : List ℕ) → s ≡ Ok text → bytes ≡ string_bytes text → ((others : List ℕ) → SpellsEntries bytes others → others ≡ entries) → AreEntriesOf s entries
-entries_found s text bytes entries is same one = subst (λ (r : Result (String Global) NoSchedule). AreEntriesOf r entries) (sym is) (λ others spells. one others (subst (λ (bs : List ℕ). SpellsEntries bs others) (sym same) spells))
+pub entries_found : (s : Result (String Global) NoSchedule) (text : String Global) (bytes entries : List ℕ) → s ≡ Ok text →
+    bytes ≡ string_bytes text → ((others : List ℕ) → SpellsEntries bytes others → others ≡ entries) → AreEntriesOf s entries
+entries_found s text bytes entries is same one =
+    subst (λ (r : Result (String Global) NoSchedule). AreEntriesOf r entries) (sym is)
+    (λ others spells. one others (subst (λ (bs : List ℕ). SpellsEntries bs others) (sym same) spells))
 
 -- ---- with a timeline
-pub timed_answers : {E : Type 0} (t : Term) (options : Options) (front : Answer) (rows : List ℕ) (a : Result Answer E) → IsRecordedAnswer t options front.text.items front.status → IfOk a (λ a. a.text.items ≡ front.text.items ++ 10 ∷ rows) → IfOk a (λ a. a.status ≡ front.status) → IfOk a (λ a. IsTimedAnswer t options a.text.items a.status)
+pub timed_answers : {E : Type 0} (t : Term) (options : Options) (front : Answer) (rows : List ℕ) (a : Result Answer E) →
+    IsRecordedAnswer t options front.text.items front.status → IfOk a (λ a. a.text.items ≡ front.text.items ++ 10 ∷ rows) →
+    IfOk a (λ a. a.status ≡ front.status) → IfOk a (λ a. IsTimedAnswer t options a.text.items a.status)
 timed_answers t options front rows (Ok a) h line status = rw (line, status) (timed front.text.items rows front.status h)
 timed_answers t options front rows (Err x) h line status = tt
 
 -- ---- without the line of the schedule
-pub ended_answers : (t : Term) (options : Options) (end : Result RunEnd RunError) (a : Answer) → IfOk end (λ it. IsOfSomeSchedule (code_of (source_of t)) (limits_of options) it.report) → IfOk end (λ it. All IsLawful it.report.fibers) → IfErr end (IsFaultWithin (limits_of options)) → a.text.items ≡ ended_text end → a.status ≡ ended_status end → IsWorkersAnswer t options a.text.items a.status
+pub ended_answers : (t : Term) (options : Options) (end : Result RunEnd RunError) (a : Answer) →
+    IfOk end (λ it. IsOfSomeSchedule (code_of (source_of t)) (limits_of options) it.report) → IfOk end (λ it. All IsLawful it.report.fibers) →
+    IfErr end (IsFaultWithin (limits_of options)) → a.text.items ≡ ended_text end → a.status ≡ ended_status end →
+    IsWorkersAnswer t options a.text.items a.status
 ended_answers t options (Ok it) a some lawful within line status = rw (line, status) (reports_worked it.report some lawful)
 ended_answers t options (Err f) a some lawful within line status = rw (line, status) (faults_worked f within)
 
 -- a replay under the entries of the schedule comes to the same
-replay_comes : (t : Term) (options : Options) (end : Result RunEnd RunError) (entries : List ℕ) → reported (core (code_of (source_of t)) (limits_of options) entries) ≡ came_to end → IsRunAnswer t entries (limits_of options) (ended_text end) (ended_status end)
+replay_comes : (t : Term) (options : Options) (end : Result RunEnd RunError) (entries : List ℕ) →
+    reported (core (code_of (source_of t)) (limits_of options) entries) ≡ came_to end →
+    IsRunAnswer t entries (limits_of options) (ended_text end) (ended_status end)
 replay_comes t options (Ok it) entries e = reports_replayed it.report e
 replay_comes t options (Err f) entries e = faults_replayed f e
 
-pub replayed_answers : {V : Type 0} (items : V → List ℕ) (t : Term) (options : Options) (end : Result RunEnd RunError) (s : Result (String Global) NoSchedule) (found : Option V) (a : Answer) → IfOk s (λ text. IsRecord (code_of (source_of t)) (limits_of options) (string_bytes text) (came_to end)) → a.text.items ≡ ended_text end → a.status ≡ ended_status end → IfSome found (λ v. AreEntriesOf s (items v)) → IfSome found (λ v. IsRunAnswer t (items v) (limits_of options) a.text.items a.status)
+pub replayed_answers :
+    {V : Type 0} (items : V → List ℕ) (t : Term) (options : Options) (end : Result RunEnd RunError) (s : Result (String Global) NoSchedule)
+    (found : Option V) (a : Answer) → IfOk s (λ text. IsRecord (code_of (source_of t)) (limits_of options) (string_bytes text) (came_to end)) →
+    a.text.items ≡ ended_text end → a.status ≡ ended_status end → IfSome found (λ v. AreEntriesOf s (items v)) →
+    IfSome found (λ v. IsRunAnswer t (items v) (limits_of options) a.text.items a.status)
 replayed_answers items t options end (Ok text) (Some v) a recorded line status one =
-    let comes : reported (core (code_of (source_of t)) (limits_of options) (items v)) ≡ came_to end = subst (λ (es : List ℕ). reported (core (code_of (source_of t)) (limits_of options) es) ≡ came_to end) (one recorded.entries recorded.spelled) recorded.comes in
+    let comes : reported (core (code_of (source_of t)) (limits_of options) (items v)) ≡ came_to end =
+    subst (λ (es : List ℕ). reported (core (code_of (source_of t)) (limits_of options) es) ≡ came_to end) (one recorded.entries recorded.spelled)
+    recorded.comes in
     rw (line, status) (replay_comes t options end (items v) comes)
 replayed_answers items t options end (Err why) (Some v) a recorded line status one = absurd one
 replayed_answers items t options end (Ok text) None a recorded line status one = tt

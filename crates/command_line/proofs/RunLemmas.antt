@@ -25,7 +25,9 @@ free_built a same = ap is_simple_and_free same
 said_so : (a : App) (words : List Text) (m : ArgMatches) → a ≡ program → HasMatchesOf a words m → subcommand_rows_of m ≡ subcommand_of program words
 said_so a words m same h = (h (ap is_simple same)).1 ∙ ap (λ (x : App). subcommand_of x words) same
 
-pub runs_request : (a : App) (words : List Text) (m : ArgMatches) (r : Request) (before after : Devices) (status : Status) → a ≡ program → HasMatchesOf a words m → fault_of a words ≡ [] → GivesRequest (subcommand_rows_of m) (Some r) → ObeysRequest r before after status → Runs words before after status
+pub runs_request : (a : App) (words : List Text) (m : ArgMatches) (r : Request) (before after : Devices) (status : Status) → a ≡ program →
+    HasMatchesOf a words m → fault_of a words ≡ [] → GivesRequest (subcommand_rows_of m) (Some r) → ObeysRequest r before after status →
+    Runs words before after status
 runs_request a words m r before after status same h right gives obeys = request record {
   request = r;
   right = sym (ap (λ (x : App). fault_of x words) same) ∙ right;
@@ -33,14 +35,17 @@ runs_request a words m r before after status same h right gives obeys = request 
   obeys = obeys;
 }
 
-pub takes_input : (a : App) (words : List Text) (m : ArgMatches) (r : Request) → a ≡ program → HasMatchesOf a words m → GivesRequest (subcommand_rows_of m) (Some r) → TakesSchedule r → HasScheduleInInput words
+pub takes_input : (a : App) (words : List Text) (m : ArgMatches) (r : Request) → a ≡ program → HasMatchesOf a words m →
+    GivesRequest (subcommand_rows_of m) (Some r) → TakesSchedule r → HasScheduleInInput words
 takes_input a words m r same h gives takes = record {
   request = r;
   gives = subst (λ (s : Option (Text × List Row)). GivesRequest s (Some r)) (said_so a words m same h) gives;
   takes_schedule = takes;
 }
 
-pub runs_no_request : (a : App) (words : List Text) (m : ArgMatches) (before after : Devices) (status : Status) → a ≡ program → HasMatchesOf a words m → GivesRequest (subcommand_rows_of m) None → after.input ≡ before.input → after.out ≡ before.out → TellsWrong before.err after.err status ⊎ LacksMemory before.err after.err status → Runs words before after status
+pub runs_no_request : (a : App) (words : List Text) (m : ArgMatches) (before after : Devices) (status : Status) → a ≡ program →
+    HasMatchesOf a words m → GivesRequest (subcommand_rows_of m) None → after.input ≡ before.input → after.out ≡ before.out →
+    TellsWrong before.err after.err status ⊎ LacksMemory before.err after.err status → Runs words before after status
 runs_no_request a words m before after status same h gives unread unanswered told = no_request record {
   gives = subst (λ (s : Option (Text × List Row)). GivesRequest s None) (said_so a words m same h) gives;
   unread = unread;
@@ -53,8 +58,11 @@ help_known : (k : ErrorKind) → AsksHelp k → k ≢ kind.OutOfMemory
 help_known k (inl help) = λ e. cc
 help_known k (inr version) = λ e. cc
 
-pub runs_error : (a : App) (words : List Text) (k : ErrorKind) (before after : Devices) (status : Status) → a ≡ program → (k ≡ kind.OutOfMemory) ⊎ IsAmong k (fault_of a words) → (takes a words ≡ true → k ≡ kind.OutOfMemory) → after.input ≡ before.input → TellsKind k before.out after.out before.err after.err status → Runs words before after status
-runs_error a words k before after status same among passes unread (no_memory unanswered lacks) = no_words record { unread = unread; unanswered = unanswered; lacks = lacks }
+pub runs_error : (a : App) (words : List Text) (k : ErrorKind) (before after : Devices) (status : Status) → a ≡ program → (k ≡ kind.OutOfMemory) ⊎
+    IsAmong k (fault_of a words) → (takes a words ≡ true → k ≡ kind.OutOfMemory) → after.input ≡ before.input →
+    TellsKind k before.out after.out before.err after.err status → Runs words before after status
+runs_error a words k before after status same among passes unread (no_memory unanswered lacks) =
+    no_words record { unread = unread; unanswered = unanswered; lacks = lacks }
 runs_error a words k before after status same (inl memory) passes unread (shown asks shows) = absurd (help_known k asks memory)
 runs_error a words k before after status same (inl memory) passes unread (wrong other known unanswered tells) = absurd (known memory)
 runs_error a words k before after status same (inr among) passes unread (shown asks shows) = refused record {
@@ -72,7 +80,8 @@ runs_error a words k before after status same (inr among) passes unread (wrong o
   told = wrong other known unanswered tells;
 }
 
-pub runs_no_words : (words : List Text) (before after : Devices) (status : Status) → after.input ≡ before.input → after.out ≡ before.out → LacksMemory before.err after.err status → Runs words before after status
+pub runs_no_words : (words : List Text) (before after : Devices) (status : Status) → after.input ≡ before.input → after.out ≡ before.out →
+    LacksMemory before.err after.err status → Runs words before after status
 runs_no_words words before after status unread unanswered lacks = no_words record { unread = unread; unanswered = unanswered; lacks = lacks }
 
 -- the kinds whose text goes to the output
@@ -82,7 +91,8 @@ help_of kind.DisplayVersion h = inr refl
 help_of k h = absurd (h ((λ e. cc), (λ e. cc)))
 
 -- the text that was asked for went out
-pub text_shown : (out out' err : Writer) (text : List ℕ) (result : Result (Unit {0}) TextFault) (done : Unit {0}) → result ≡ Ok done → GoesOut out.contents out'.contents text result → OnlyWriteFaults result → out'.failed ≡ is_write_fault result → ShowsText out out' err err Succeeded
+pub text_shown : (out out' err : Writer) (text : List ℕ) (result : Result (Unit {0}) TextFault) (done : Unit {0}) → result ≡ Ok done →
+    GoesOut out.contents out'.contents text result → OnlyWriteFaults result → out'.failed ≡ is_write_fault result → ShowsText out out' err err Succeeded
 text_shown out out' err text result done is goes only failed = record {
   text = text;
   result = Ok Succeeded;
@@ -114,7 +124,9 @@ write_same (faults.WriteFault n) = refl
 write_same faults.TurnBound = refl
 
 -- or its device failed, which is told
-pub text_kept_back : (out out' err err' : Writer) (text : List ℕ) (f : TextFault) (result : Result (Unit {0}) TextFault) (status : Status) → result ≡ Err f → GoesOut out.contents out'.contents text result → OnlyWriteFaults result → out'.failed ≡ is_write_fault result → Told (fault_line f) err err' → status ≡ Fault → ShowsText out out' err err' status
+pub text_kept_back : (out out' err err' : Writer) (text : List ℕ) (f : TextFault) (result : Result (Unit {0}) TextFault) (status : Status) →
+    result ≡ Err f → GoesOut out.contents out'.contents text result → OnlyWriteFaults result → out'.failed ≡ is_write_fault result →
+    Told (fault_line f) err err' → status ≡ Fault → ShowsText out out' err err' status
 text_kept_back out out' err err' text f result status is goes only failed told status_is = record {
   text = text;
   result = Err f;

@@ -48,8 +48,8 @@ SaysExploreForm options explores.Progress false =
     IsLeftOut (codes "explain") options
 SaysExploreForm options explores.Progress true = ⊥
 
--- the form that the options of `run` say, and whether reasons are told, which is so beside a report alone; a timeline is
--- one of the schedule that is recorded
+-- the form that the options of `run` say, and whether reasons are told, which is so beside a report alone; a
+-- timeline is one of the schedule that is recorded
 abbrev pub SaysRunForm : List Row → RunForm → Bool → Type 0
 SaysRunForm options runs.Report explain =
     IsLeftOut (codes "record") options × IsLeftOut (codes "timeline") options × IsLeftOut (codes "json") options ×

@@ -45,8 +45,8 @@ line_behind fault.NoMemory schedule = []
 line_behind (fault.Lost f) schedule = []
 line_behind fault.NoWorker schedule = []
 
--- The line tells a schedule under which the core, within the limits of the run, comes to exactly this end, or that there
--- is none to tell.
+-- The line tells a schedule under which the core, within the limits of the run, comes to exactly this end, or that
+-- there is none to tell.
 pub data IsScheduleLine (t : Term) (options : Options) (end : Result Report RunError) : List ℕ → Type 0 where
   schedules : (text : List ℕ) → IsRecord (code_of (source_of t)) (limits_of options) text end →
       IsScheduleLine t options end (schedule_line text)

@@ -3,7 +3,8 @@
 
 ghost use Rattle.std.specs.Prelude.{◌≡◌, ◌++◌, ◌∷◌, ◌<◌, IfOk, IfSome, OnOk};
 ghost use Rattle.cell_registry.specs.Cells.{AreLimits};
-ghost use Rattle.command_line.specs.Recording.{AreEntriesOf, IsRecordedAnswer, IsTimedAnswer, ended_status, line_behind};
+ghost use Rattle.command_line.specs.Recording.{AreEntriesOf, IsRecordedAnswer, IsTimedAnswer, ended_status};
+ghost use Rattle.command_line.specs.Recording.{line_behind};
 ghost use Rattle.command_line.specs.Recording.{record_text, told_line};
 ghost use Rattle.outcome_trace.specs.Lines.{run_line};
 ghost use Rattle.outcome_trace.specs.ReplayAnswers.{report_status};

@@ -119,8 +119,8 @@ fn obey_input<I: TextIn, O: TextOut, E: TextOut>(
 }
 
 /// Obeys a replay, and gives the status: that of the text's answer, `Status::Usage` where the schedule is bad, and
-/// `Status::Fault` where a device failed or memory ran out. All but the answer is told on the last device, and behind it
-/// reasons where they are asked for.
+/// `Status::Fault` where a device failed or memory ran out. All but the answer is told on the last device, and
+/// behind it reasons where they are asked for.
 ///
 /// A schedule among the words is looked at before the input is read.
 pub fn obey_replay<I: TextIn, O: TextOut, E: TextOut>(

@@ -183,8 +183,8 @@ fn sampling_of(sample: &ArgMatches<'_>) -> Option<Sampling>
 /// How far the options of `explore` say that the search goes.
 fn bounds_of(explore: &ArgMatches<'_>) -> Option<Bounds>
     ensures said { IfSome result (λ b. SaysBounds (rows_of (found_of explore.now)) b.worlds b.entries) }
-    ensures none { IfNone result ((worlds : ℕ) (entries : ℕ) → SaysBounds (rows_of (found_of explore.now)) worlds entries →
-        ⊥) }
+    ensures none { IfNone result ((worlds : ℕ) (entries : ℕ) →
+        SaysBounds (rows_of (found_of explore.now)) worlds entries → ⊥) }
     ensures short { IfSome result (λ b. b.entries ≤ 1000000) }
 {
     let worlds = number_of(explore, "worlds", WORLDS)?;

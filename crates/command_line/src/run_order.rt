@@ -150,8 +150,9 @@ fn answer_run<R: Threads + Wait + Sync, I: TextIn, O: TextOut, E: TextOut>(
 /// `Status::Fault` where the run had a fault, want of memory in it too, and `Status::Refused` where the text is
 /// refused.
 ///
-/// Where a record is asked for, behind a report and behind a fault 18 or 19 stands the line of a schedule under which
-/// the core comes to exactly that, or why there is none to tell. Where reasons are asked for, [`explain_run`] tells them.
+/// Where a record is asked for, behind a report and behind a fault 18 or 19 stands the line of a schedule under
+/// which the core comes to exactly that, or why there is none to tell. Where reasons are asked for, [`explain_run`]
+/// tells them.
 ///
 /// The status is also `Status::Fault` where a device failed, the input didn't end within `TEXT_BOUND`
 /// reads, or memory ran out outside of the run, which is told on the last device.

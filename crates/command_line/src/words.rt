@@ -3,7 +3,8 @@
 ghost use Rattle.std.specs.Prelude.{◌≡◌, ◌<◌, ◌^◌, codes, false, IfOk};
 ghost use Rattle.clap.specs.Words.{app_of, new_app, rule_of, with_rule};
 ghost use Rattle.clap.specs.declared.builder.command.Command.TheViews.{out-Command};
-ghost use Rattle.command_line.specs.Words.{check_command, explore_command, explore_options, flag, number_option, program};
+ghost use Rattle.command_line.specs.Words.{check_command, explore_command, explore_options, flag, number_option};
+ghost use Rattle.command_line.specs.Words.{program};
 ghost use Rattle.command_line.specs.Words.{replay_command, run_command, run_options, sample_command, sample_options};
 ghost use Rattle.command_line.specs.Words.{schedule_option, show_command, want_option, with_explore_forms, with_forms};
 ghost use Rattle.command_line.specs.Words.{with_limits, with_run_forms};

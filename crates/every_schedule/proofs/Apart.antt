@@ -57,7 +57,8 @@ pub apart : (p : Place) (f : ℕ) (q : Place) → stepped p f ≡ Ok q → AreAp
 apart p f q e = apart_turned p.limits p.world f (slice_get p.world.fibers f) q e
 
 -- so the numbers of all but one are known
-pub apart_known : (fs : List Fiber) (ns : List ℕ) (p : Place) (f : ℕ) (q : Place) → stepped p f ≡ Ok q → AreAt fs ns p.world.fibers → AreKnown fs ns q.world.fibers f
+pub apart_known : (fs : List Fiber) (ns : List ℕ) (p : Place) (f : ℕ) (q : Place) → stepped p f ≡ Ok q → AreAt fs ns p.world.fibers →
+    AreKnown fs ns q.world.fibers f
 apart_known fs ns p f q e h = λ i n isnt there.
     let at = h.each i n there in
     let low = slice_get_within p.world.fibers i at.0 at.1 in

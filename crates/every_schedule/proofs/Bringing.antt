@@ -28,7 +28,8 @@ module _ (fs : List Fiber) where
         behind = λ j n past low e. let at = h.each j n e in (at.0, take_get (length ns) gs j (omega arith) ∙ at.1, at.2);
       }
 
-  pub brought_next : (was ns : List ℕ) (gs hs : List Fiber) (i n : ℕ) → AreBrought fs was ns gs i → slice_get ns i ≡ Some n → IsAt fs hs i n → SameBut i gs hs → length hs ≡ max (length gs) (i + 1) → AreBrought fs was ns hs (i + 1)
+  pub brought_next : (was ns : List ℕ) (gs hs : List Fiber) (i n : ℕ) → AreBrought fs was ns gs i → slice_get ns i ≡ Some n → IsAt fs hs i n →
+      SameBut i gs hs → length hs ≡ max (length gs) (i + 1) → AreBrought fs was ns hs (i + 1)
   brought_next was ns gs hs i n h e at same long =
       let least = h.least in
       let most = h.most in
@@ -38,7 +39,8 @@ module _ (fs : List Fiber) where
         most = omega arith;
         kept = λ j a b. let there = h.kept j a b in omega arith;
         brought = λ j m below there. dite (ℕ_discrete j i)
-            (λ is. let one : n ≡ m = same_Some n m (sym e ∙ subst (λ x. slice_get ns x ≡ Some m) is there) in subst (λ x. IsAt fs hs x m) (sym is) (subst (IsAt fs hs i) one at))
+            (λ is. let one : n ≡ m = same_Some n m (sym e ∙ subst (λ x. slice_get ns x ≡ Some m) is there) in
+            subst (λ x. IsAt fs hs x m) (sym is) (subst (IsAt fs hs i) one at))
             (λ isnt. let was = h.brought j m (omega arith) there in (was.0, same j isnt ∙ was.1, was.2));
         behind = λ j m past below there.
             let isnt : j ≢ i = (λ is. absurd (omega arith)) in
@@ -66,7 +68,8 @@ module _ (fs fs' : List Fiber) (more : IsMore fs fs') where
   at_next : (gs : List Fiber) (i n : ℕ) → IsAt fs gs i n → IsAt fs' gs i n
   at_next gs i n h = (h.0, h.1, more_get fs fs' n h.0 more h.2)
 
-  pub moved_known : (ns : List ℕ) (gs : List Fiber) (moved n : ℕ) → length ns ≤ length gs → AreKnown fs ns gs moved → moved < length ns → IsAt fs' gs moved n → AreFirst fs' (set ns moved n) gs
+  pub moved_known : (ns : List ℕ) (gs : List Fiber) (moved n : ℕ) → length ns ≤ length gs → AreKnown fs ns gs moved → moved < length ns →
+      IsAt fs' gs moved n → AreFirst fs' (set ns moved n) gs
   moved_known ns gs moved n many h low at = record {
     many = let long = length-set ns moved n in omega arith;
     each = λ i m e. dite (ℕ_discrete i moved)
@@ -76,7 +79,8 @@ module _ (fs fs' : List Fiber) (more : IsMore fs fs') where
         (λ isnt. at_next gs i m (h i m isnt (sym (set_other ns moved i n isnt) ∙ e)));
   }
 
-  pub first_next : (ns : List ℕ) (gs : List Fiber) (n : ℕ) → AreFirst fs ns gs → length ns < length gs → IsAt fs' gs (length ns) n → AreFirst fs' (ns ++ n ∷ []) gs
+  pub first_next : (ns : List ℕ) (gs : List Fiber) (n : ℕ) → AreFirst fs ns gs → length ns < length gs → IsAt fs' gs (length ns) n →
+      AreFirst fs' (ns ++ n ∷ []) gs
   first_next ns gs n h low at = record {
     many = let long = length-append ns (n ∷ []) in omega arith;
     each = λ i m e. elim (get_end ns n m i e) [

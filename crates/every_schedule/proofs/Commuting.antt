@@ -55,12 +55,14 @@ module _ (k : Limits) (f : ℕ) (a : Fiber) where
   own_wished w (Shared c) own room =
       ap (answered w f a c) room
       ∙ ap (λ l. Ok record { fibers = l; cells = after w.cells f c })
-      (ap (λ b. set w.fibers f (move a (reply_of w.cells f c)) ++ b) (childless a w.cells f c (reply_of w.cells f c) own) ∙ append-nil (set w.fibers f (move a (reply_of w.cells f c))))
+      (ap (λ b. set w.fibers f (move a (reply_of w.cells f c)) ++ b) (childless a w.cells f c (reply_of w.cells f c) own) ∙
+      append-nil (set w.fibers f (move a (reply_of w.cells f c))))
   own_wished w Alone own room = refl
   own_wished w Nothing own room = absurd (cc)
 
   module _ (x : Wish) (is : wish_of (ask_of a) ≡ x) where
-    pub own_step : (w : World) → slice_get w.fibers f ≡ Some a → is_own w.cells f x ≡ true → IsAdmitted k w.cells f x → stepped (place w) f ≡ Ok (place (moved w x))
+    pub own_step : (w : World) → slice_get w.fibers f ≡ Some a → is_own w.cells f x ≡ true → IsAdmitted k w.cells f x →
+        stepped (place w) f ≡ Ok (place (moved w x))
     own_step w at own room = ap (placed k) (ap (turned k w f) at ∙ ap (wished k w f a) is ∙ own_wished w x own room)
 
     pub own_free : (w : World) → slice_get w.fibers f ≡ Some a → is_own w.cells f x ≡ true → IsAdmitted k w.cells f x → IsOwn (place w) f
@@ -88,7 +90,8 @@ module _ (k : Limits) (f : ℕ) (a : Fiber) where
           let r = reply_to w.cells f x in
           let y : World = called w g b d q in
           let z : World = called on g b d q in
-          let here : slice_get y.fibers f ≡ Some a = get_early (set w.fibers g (move b q)) (born b d q) f a (slice_get-set_other w.fibers g f (move b q) apart ∙ at) in
+          let here : slice_get y.fibers f ≡ Some a =
+          get_early (set w.fibers g (move b q)) (born b d q) f a (slice_get-set_other w.fibers g f (move b q) apart ∙ at) in
           let own' : is_own y.cells f x ≡ true = own_stays w.cells f g d apart x own in
           let room' : IsAdmitted k y.cells f x = room_stays w.cells f g d apart k x own room in (
             own_free y here own' room',
@@ -102,21 +105,29 @@ module _ (k : Limits) (f : ℕ) (a : Fiber) where
       by_answer b d (Some e) goes = goes
 
       by_wish : (b : Fiber) (v : Wish) → stepped (place on) g ≡ placed k (wished k on g b v) → Com (placed k (wished k w g b v))
-      by_wish b (Shared d) goes = by_answer b d (refusal k w.cells g d) (goes ∙ ap (λ o. placed k (answered on g b d o)) (other_refusal w.cells f g d apart k x own))
+      by_wish b (Shared d) goes =
+          by_answer b d (refusal k w.cells g d) (goes ∙ ap (λ o. placed k (answered on g b d o)) (other_refusal w.cells f g d apart k x own))
       by_wish b Alone goes =
           let y : World = record { fibers = set w.fibers g (silent_move b); cells = w.cells } in
           let here : slice_get y.fibers f ≡ Some a = slice_get-set_other w.fibers g f (silent_move b) apart ∙ at in (
             own_free y here own room,
             place (record { fibers = set on.fibers g (silent_move b); cells = on.cells }),
-            own_step y here own room ∙ ap (λ l. Ok (place (record { fibers = l; cells = on.cells }))) (set_apart w.fibers g f (silent_move b) (move a (reply_to w.cells f x)) apart),
+            own_step y here own room ∙
+                ap (λ l. Ok (place (record { fibers = l; cells = on.cells }))) (set_apart w.fibers g f (silent_move b) (move a (reply_to w.cells f x)) apart),
             goes,
           )
       by_wish b Nothing goes = (own_free w at own room, place on, own_step w at own room, goes)
 
       by_place : (o : Option Fiber) → slice_get w.fibers g ≡ o → Com (placed k (turned k w g o))
-      by_place None e = (own_free w at own room, place on, own_step w at own room, ap (λ o. placed k (turned k on g o)) (slice_get-set_other w.fibers f g (move a (reply_to w.cells f x)) (λ e. apart (sym e)) ∙ e))
+      by_place None e = (
+        own_free w at own room,
+        place on,
+        own_step w at own room,
+        ap (λ o. placed k (turned k on g o)) (slice_get-set_other w.fibers f g (move a (reply_to w.cells f x)) (λ e. apart (sym e)) ∙ e),
+      )
       by_place (Some b) e =
-          by_wish b (wish_of (ask_of b)) (ap (λ o. placed k (turned k on g o)) (slice_get-set_other w.fibers f g (move a (reply_to w.cells f x)) (λ e. apart (sym e)) ∙ e))
+          by_wish b (wish_of (ask_of b))
+          (ap (λ o. placed k (turned k on g o)) (slice_get-set_other w.fibers f g (move a (reply_to w.cells f x)) (λ e. apart (sym e)) ∙ e))
 
       pub own_commutes : Com (stepped (place w) g)
       own_commutes = by_place (slice_get w.fibers g) refl
@@ -132,7 +143,8 @@ module _ (k : Limits) (w : World) (f : ℕ) (q : Place) where
   admitted a Alone goes = tt
   admitted a Nothing goes = tt
 
-  own_commutes_at : (o : Option Fiber) → slice_get w.fibers f ≡ o → has_own w.cells f o ≡ true → placed k (turned k w f o) ≡ Ok q → (y : Place) → stepped record { limits = k; world = w } f ≡ Ok y → (g : ℕ) → g ≢ f → Commutes stepped IsOwn f y g (stepped record { limits = k; world = w } g)
+  own_commutes_at : (o : Option Fiber) → slice_get w.fibers f ≡ o → has_own w.cells f o ≡ true → placed k (turned k w f o) ≡ Ok q → (y : Place) →
+      stepped record { limits = k; world = w } f ≡ Ok y → (g : ℕ) → g ≢ f → Commutes stepped IsOwn f y g (stepped record { limits = k; world = w } g)
   own_commutes_at None at own goes y is g apart = absurd (cc)
   own_commutes_at (Some a) at own goes y is g apart =
       let x = wish_of (ask_of a) in

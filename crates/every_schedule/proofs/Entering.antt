@@ -56,10 +56,12 @@ leapt_limits n p f q None e = let same : p ≡ q = cc in ap (λ (r : Place). r.l
 leapt_limits n p f q (Some g) e = behind_limits n p f (stepped p f) q refl e
 
 -- the place of this number
-pub place_at : (k : Limits) (fs : List Fiber) (rs : List PlainView) (rows : List Numbers) (i : ℕ) (m : Numbers) (x : Place) → slice_get rows i ≡ Some m → slice_get (map (place_of k fs rs) rows) i ≡ Some x → place_of k fs rs m ≡ x
+pub place_at : (k : Limits) (fs : List Fiber) (rs : List PlainView) (rows : List Numbers) (i : ℕ) (m : Numbers) (x : Place) →
+    slice_get rows i ≡ Some m → slice_get (map (place_of k fs rs) rows) i ≡ Some x → place_of k fs rs m ≡ x
 place_at k fs rs rows i m x at e = same_Some _ x (sym (map_get (place_of k fs rs) rows i m at) ∙ e)
 
-module _ (k : Limits) (fs fs' : List Fiber) (rs rs' : List PlainView) (mf : IsMore fs fs') (mr : IsMore rs rs') (rows : List Numbers) (worlds : AreWorlds k fs rs rows) (i : ℕ) (m : Numbers) (at : slice_get rows i ≡ Some m) (now : Place) (is_now : IsWorldOf fs rs m now) where
+module _ (k : Limits) (fs fs' : List Fiber) (rs rs' : List PlainView) (mf : IsMore fs fs') (mr : IsMore rs rs') (rows : List Numbers)
+    (worlds : AreWorlds k fs rs rows) (i : ℕ) (m : Numbers) (at : slice_get rows i ≡ Some m) (now : Place) (is_now : IsWorldOf fs rs m now) where
   now_limits : now.limits ≡ k
   now_limits =
       let h = worlds i m at in
@@ -74,7 +76,8 @@ module _ (k : Limits) (fs fs' : List Fiber) (rs rs' : List PlainView) (mf : IsMo
   pub places_stay : IsMore (map (place_of k fs rs) rows) (map (place_of k fs' rs') rows)
   places_stay = subst (IsMore (map (place_of k fs rs) rows)) (places_more fs fs' rs rs' mf mr k rows worlds) (more_same (map (place_of k fs rs) rows))
 
-  module _ (a f : ℕ) (n : Numbers) (next : Place) (goes : leapt a now f ≡ Ok next) (is_next : IsWorldOf fs' rs' n next) (fits : AllFit next.world) (rows' : List Numbers) (adds : MayAdd rows rows' n) where
+  module _ (a f : ℕ) (n : Numbers) (next : Place) (goes : leapt a now f ≡ Ok next) (is_next : IsWorldOf fs' rs' n next) (fits : AllFit next.world)
+      (rows' : List Numbers) (adds : MayAdd rows rows' n) where
     next_limits : next.limits ≡ k
     next_limits = leapt_limits a now f next (slice_get now.world.fibers f) goes ∙ now_limits
 
@@ -82,20 +85,25 @@ module _ (k : Limits) (fs fs' : List Fiber) (rs rs' : List PlainView) (mf : IsMo
     rows_hold = rows_added k fs' rs' rows rows' n adds rows_stay record { place = next; limits = next_limits; is = is_next; fits = fits }
 
     pub places_hold : IsMore (map (place_of k fs rs) rows) (map (place_of k fs' rs') rows')
-    places_hold = subst (λ l. IsMore l (map (place_of k fs' rs') rows')) (sym (places_more fs fs' rs rs' mf mr k rows worlds)) (places_added (place_of k fs' rs') rows rows' n adds)
+    places_hold = subst (λ l. IsMore l (map (place_of k fs' rs') rows')) (sym (places_more fs fs' rs rs' mf mr k rows worlds))
+        (places_added (place_of k fs' rs') rows rows' n adds)
 
-    pub lands : (es : List RunError) (it : Entered) → IsKept rows' it n → (x : Place) → slice_get (map (place_of k fs rs) rows) i ≡ Some x → EntersAt (map (place_of k fs' rs') rows') es it (leapt a x f)
+    pub lands : (es : List RunError) (it : Entered) → IsKept rows' it n → (x : Place) → slice_get (map (place_of k fs rs) rows) i ≡ Some x →
+        EntersAt (map (place_of k fs' rs') rows') es it (leapt a x f)
     lands es (came.At (to.World j)) kept x e =
-        let there : slice_get (map (place_of k fs' rs') rows') j ≡ Some next = map_get (place_of k fs' rs') rows' j n kept ∙ ap Some (world_is k fs' rs' n next is_next next_limits) in
+        let there : slice_get (map (place_of k fs' rs') rows') j ≡ Some next = map_get (place_of k fs' rs') rows' j n kept ∙
+        ap Some (world_is k fs' rs' n next is_next next_limits) in
         (next, there, ap (λ (p : Place). leapt a p f) (is_here x e) ∙ goes)
     lands es (came.At (to.Fault j)) kept x e = absurd kept
     lands es came.Full kept x e = tt
 
-pub room_kept : {A B : Type 0} (v w : A → B) (rows rows' : List A) (most : ℕ) → length rows' ≤ max most (length rows) → length (map w rows') ≤ max most (length (map v rows))
+pub room_kept : {A B : Type 0} (v w : A → B) (rows rows' : List A) (most : ℕ) → length rows' ≤ max most (length rows) →
+    length (map w rows') ≤ max most (length (map v rows))
 room_kept v w rows rows' most h = let a = length-map rows v in let b = length-map rows' w in omega arith
 
 -- the first world
-pub first_worlds : (k : Limits) (fs : List Fiber) (rs : List PlainView) (n : Numbers) (p : Place) → IsWorldOf fs rs n p → p.limits ≡ k → AllFit p.world → (i : ℕ) (m : Numbers) → slice_get (n ∷ []) i ≡ Some m → IsWorld k fs rs m
+pub first_worlds : (k : Limits) (fs : List Fiber) (rs : List PlainView) (n : Numbers) (p : Place) → IsWorldOf fs rs n p → p.limits ≡ k →
+    AllFit p.world → (i : ℕ) (m : Numbers) → slice_get (n ∷ []) i ≡ Some m → IsWorld k fs rs m
 first_worlds k fs rs n p h l fits zero m e = subst (IsWorld k fs rs) (same_Some n m e) record { place = p; limits = l; is = h; fits = fits }
 first_worlds k fs rs n p h l fits (suc i) m e = absurd (cc)
 
@@ -104,20 +112,27 @@ module _ (k : Limits) (fs : List Fiber) (rs : List PlainView) where
   at_picked : (n : Numbers) → IsWorld k fs rs n → AreAt fs n.fibers (picked fs n.fibers)
   at_picked n h = subst (AreAt fs n.fibers) (sym (picked_is fs n.fibers h.place.world.fibers h.is.fibers)) h.is.fibers
 
-  pub reports_alike : (m n : Numbers) → IsWorld k fs rs m → IsWorld k fs rs n → AreAlike fs m.fibers n.fibers → report_at (place_of k fs rs m) ≡ report_at (place_of k fs rs n)
-  reports_alike m n g h e = same_lists (picked fs m.fibers) (picked fs n.fibers) (alike_reports fs m.fibers n.fibers (picked fs m.fibers) (picked fs n.fibers) (at_picked m g) (at_picked n h) e)
+  pub reports_alike : (m n : Numbers) → IsWorld k fs rs m → IsWorld k fs rs n → AreAlike fs m.fibers n.fibers →
+      report_at (place_of k fs rs m) ≡ report_at (place_of k fs rs n)
+  reports_alike m n g h e =
+      same_lists (picked fs m.fibers) (picked fs n.fibers)
+      (alike_reports fs m.fibers n.fibers (picked fs m.fibers) (picked fs n.fibers) (at_picked m g) (at_picked n h) e)
 
-  pub reports_other : (m n : Numbers) → IsWorld k fs rs m → IsWorld k fs rs n → AreOther fs m.fibers n.fibers → report_at (place_of k fs rs m) ≢ report_at (place_of k fs rs n)
-  reports_other m n g h e = λ same. other_reports fs m.fibers n.fibers (picked fs m.fibers) (picked fs n.fibers) (at_picked m g) (at_picked n h) e (ap (λ (r : Report). r.fibers) same)
+  pub reports_other : (m n : Numbers) → IsWorld k fs rs m → IsWorld k fs rs n → AreOther fs m.fibers n.fibers →
+      report_at (place_of k fs rs m) ≢ report_at (place_of k fs rs n)
+  reports_other m n g h e = λ same. other_reports fs m.fibers n.fibers (picked fs m.fibers) (picked fs n.fibers) (at_picked m g) (at_picked n h) e
+      (ap (λ (r : Report). r.fibers) same)
 
 -- entries of unborn fibers
 pub rests : (p : Place) (f : ℕ) → length p.world.fibers ≤ f → stepped p f ≡ Ok p
 rests p f past = ap (placed p.limits) (unborn_entered p.limits p.world f past)
 
-pub born_of : (k : Limits) (fs : List Fiber) (rs : List PlainView) (n : Numbers) (h : IsWorld k fs rs n) → length (place_of k fs rs n).world.fibers ≡ length n.fibers
+pub born_of : (k : Limits) (fs : List Fiber) (rs : List PlainView) (n : Numbers) (h : IsWorld k fs rs n) →
+    length (place_of k fs rs n).world.fibers ≡ length n.fibers
 born_of k fs rs n h = ap (λ (p : Place). length p.world.fibers) (is_place k fs rs n h) ∙ sym h.is.fibers.many
 
-pub born_few : (k : Limits) (fs : List Fiber) (rs : List PlainView) (n : Numbers) (r : PlainView) → IsWorld k fs rs n → slice_get rs n.registry ≡ Some r → IsPlain r → length n.fibers ≤ 1000
+pub born_few : (k : Limits) (fs : List Fiber) (rs : List PlainView) (n : Numbers) (r : PlainView) → IsWorld k fs rs n →
+    slice_get rs n.registry ≡ Some r → IsPlain r → length n.fibers ≤ 1000
 born_few k fs rs n r h e plain =
     let same : r ≡ record { limits = h.place.limits; state = h.place.world.cells } = same_Some _ _ (sym e ∙ h.is.registry) in
     let next : r.state.next_fiber ≡ h.place.world.cells.next_fiber = ap (λ (x : PlainView). x.state.next_fiber) same in

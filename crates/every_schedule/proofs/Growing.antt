@@ -1,5 +1,6 @@
 -- Reports grow: each entry leaves the report as it is, or makes it larger.
-use Rattle.std.proofs.Common.{◌≡◌, ◌⊎◌, inl, inr, ℕ, zero, suc, ◌+◌, ◌<◌, List, [], ◌∷◌, ◌++◌, length, map, set, Some, None, Option, Ok, refl, sym, ap, ◌∙◌, subst, arith, append-nil, length-append}
+use Rattle.std.proofs.Common.{◌≡◌, ◌⊎◌, inl, inr, ℕ, zero, suc, ◌+◌, ◌<◌, List, [], ◌∷◌, ◌++◌, length, map, set, Some}
+use Rattle.std.proofs.Common.{None, Option, Ok, refl, sym, ap, ◌∙◌, subst, arith, append-nil, length-append}
 use Rattle.std.specs.List.{slice_get}
 use Rattle.effect_term.specs.declared.reply.Outcome.{Outcome}
 use Rattle.effect_term.specs.declared.reply.Reply.{Reply}
@@ -10,7 +11,8 @@ use Rattle.fiber_frames.specs.declared.mark.Mark.{Mark}
 use Rattle.fiber_frames.specs.declared.mark.Mark.TheVariants as mark
 use Rattle.fiber_frames.specs.Path.{Running, Runs, Final, Over, Broken}
 use Rattle.fiber_frames.specs.Rows.{Row}
-use Rattle.fiber_frames.specs.Fiber.{Fiber, Move_case, Looks, Cuts, Reduces, Rests, active_of, ask_of, case_in, move, move_case, move_in, outcome_in, outcome_of, reduced, row_of, silent_move}
+use Rattle.fiber_frames.specs.Fiber.{Fiber, Move_case, Looks, Cuts, Reduces, Rests, active_of, ask_of, case_in, move}
+use Rattle.fiber_frames.specs.Fiber.{move_case, move_in, outcome_in, outcome_of, reduced, row_of, silent_move}
 use Rattle.cell_registry.specs.declared.limits.Limits.{Limits}
 use Rattle.cell_registry.specs.declared.limits.CellError.{CellError}
 use Rattle.cell_registry.specs.declared.call.Call.{Call}
@@ -43,7 +45,8 @@ going (Final m gs) up l c e h = refl
 going (Over o) up l c e h = absurd (h (sym e))
 going Broken up l c e h = refl
 
-reduced_grows : (g : Fiber) (w : Row Running) (o : Option Outcome) (ms : List Mark) → outcome_of g ≡ None → outcome_in w.becomes ≡ o → w.marks ≡ ms → GrowsOne g (reduced g w)
+reduced_grows : (g : Fiber) (w : Row Running) (o : Option Outcome) (ms : List Mark) → outcome_of g ≡ None → outcome_in w.becomes ≡ o → w.marks ≡ ms →
+    GrowsOne g (reduced g w)
 reduced_grows g w None [] none same marks = inl (reports_alike (reduced g w) g (same ∙ sym none) (ap (λ l. g.marks ++ l) marks ∙ append-nil g.marks))
 reduced_grows g w (Some o) [] none same marks =
     let long : length (g.marks ++ w.marks) ≡ length g.marks = ap length (ap (λ l. g.marks ++ l) marks ∙ append-nil g.marks) in
@@ -119,7 +122,8 @@ module _ (k : Limits) (w : World) (f : ℕ) where
   by_answer : (g : Fiber) (c : Call) (o : Option CellError) (q : Place) → slice_get w.fibers f ≡ Some g → placed k (answered w f g c o) ≡ Ok q → Grows q
   by_answer g c None q at e =
       let r = reply_of w.cells f c in
-      led _ q (grows_grows w.fibers (set w.fibers f (move g r)) (set w.fibers f (move g r) ++ born g c r) (set_grows w.fibers f g (move g r) at (move_grows g r)) (more_grows (set w.fibers f (move g r)) (born g c r))) e
+      led _ q (grows_grows w.fibers (set w.fibers f (move g r)) (set w.fibers f (move g r) ++ born g c r)
+      (set_grows w.fibers f g (move g r) at (move_grows g r)) (more_grows (set w.fibers f (move g r)) (born g c r))) e
   by_answer g c (Some d) q at e = absurd (cc)
 
   by_wish : (g : Fiber) (x : Wish) (q : Place) → slice_get w.fibers f ≡ Some g → placed k (wished k w f g x) ≡ Ok q → Grows q

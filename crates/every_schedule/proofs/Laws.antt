@@ -16,7 +16,8 @@ module _ (k : Limits) (answers : List Answer) where
   faultless x e h none is = none e (subst (IsCovered k answers) is h)
 
   -- where all answers end alike, so does what is settled
-  pub alike : (x : Result World RunError) (end : Result Report RunError) (w : World) → IsCovered k answers x → EndAlike answers end → x ≡ Ok w → IsSettled k w → reported (Ok w) ≡ end
+  pub alike : (x : Result World RunError) (end : Result Report RunError) (w : World) → IsCovered k answers x → EndAlike answers end → x ≡ Ok w →
+      IsSettled k w → reported (Ok w) ≡ end
   alike x end w h same is settled =
       let covered : IsCovered k answers (Ok w) = subst (IsCovered k answers) is h in
       let it = covered settled in

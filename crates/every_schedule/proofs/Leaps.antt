@@ -1,5 +1,6 @@
 -- The reduced exploration makes own moves behind each entry, and no others.
-use Rattle.std.proofs.Common.{◌≡◌, ◌≢◌, ◌⊎◌, inl, inr, ℕ, zero, suc, ◌≤◌, Bool, true, false, List, length, Some, None, Option, Result, Ok, Err, refl, sym, ap, ◌∙◌, subst}
+use Rattle.std.proofs.Common.{◌≡◌, ◌≢◌, ◌⊎◌, inl, inr, ℕ, zero, suc, ◌≤◌, Bool, true, false, List, length, Some, None}
+use Rattle.std.proofs.Common.{Option, Result, Ok, Err, refl, sym, ap, ◌∙◌, subst}
 use Rattle.std.specs.List.{slice_get}
 use Rattle.std.proofs.lemmas.Option.{slice_get_past, same_Some}
 use Rattle.cell_registry.specs.declared.limits.RunError.{RunError}
@@ -32,7 +33,8 @@ pushed_stays zero p e = refl
 pushed_stays (suc n) p e = ap (pushed n) e ∙ pushed_stays n p e
 
 -- ---- the fiber that is chosen has an own move
-chosen : (s : Cells) (gs : List Fiber) (n : ℕ) (b : Bool) (f : ℕ) → has_own s n (slice_get gs n) ≡ b → (last_own s gs n ≡ Some f → has_own s f (slice_get gs f) ≡ true) → this_or b n (last_own s gs n) ≡ Some f → has_own s f (slice_get gs f) ≡ true
+chosen : (s : Cells) (gs : List Fiber) (n : ℕ) (b : Bool) (f : ℕ) → has_own s n (slice_get gs n) ≡ b →
+    (last_own s gs n ≡ Some f → has_own s f (slice_get gs f) ≡ true) → this_or b n (last_own s gs n) ≡ Some f → has_own s f (slice_get gs f) ≡ true
 chosen s gs n true f own rest e = subst (λ i. has_own s i (slice_get gs i) ≡ true) (same_Some n f e) own
 chosen s gs n false f own rest e = rest e
 
@@ -55,7 +57,8 @@ module _ (p : Place) where
   once_refused f d e stops = ap (after_own p) e ∙ ap (or_stays p) stops
 
 module _ (p : Place) where
-  led_once : (q : Place) (f : ℕ) (y : Result Place RunError) → has_own p.world.cells f (slice_get p.world.fibers f) ≡ true → stepped p f ≡ y → Leads stepped IsOwn (or_stays p y) q → Leads stepped IsOwn p q
+  led_once : (q : Place) (f : ℕ) (y : Result Place RunError) → has_own p.world.cells f (slice_get p.world.fibers f) ≡ true → stepped p f ≡ y →
+      Leads stepped IsOwn (or_stays p y) q → Leads stepped IsOwn p q
   led_once q f (Ok x) own e on = On p f x q (record { own = own; next = x; goes = e }) e on
   led_once q f (Err d) own e on = on
 

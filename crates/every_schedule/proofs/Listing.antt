@@ -1,5 +1,6 @@
 -- Lists that are told one by one.
-use Rattle.std.proofs.Common.{◌≡◌, inl, inr, ℕ, zero, suc, ◌+◌, List, [], ◌∷◌, ◌++◌, length, refl, sym, ap, ◌∙◌, subst, arith, append_assoc, append-nil, length-append}
+use Rattle.std.proofs.Common.{◌≡◌, inl, inr, ℕ, zero, suc, ◌+◌, List, [], ◌∷◌, ◌++◌, length, refl, sym, ap, ◌∙◌, subst}
+use Rattle.std.proofs.Common.{arith, append_assoc, append-nil, length-append}
 use Rattle.std.specs.Prelude.{Some}
 use Rattle.std.specs.List.{All, slice_get}
 use Rattle.std.proofs.lemmas.Option.{same_Some, slice_get_within}
@@ -48,7 +49,8 @@ module _ (kept : Kept) where
     ];
   }
 
-  pub told_next : (all rest : List Found) (bs : List Answer) (f : Found) (a : Answer) → SoFar kept all (f ∷ rest) bs → IsTold kept f a → SoFar kept all rest (bs ++ a ∷ [])
+  pub told_next : (all rest : List Found) (bs : List Answer) (f : Found) (a : Answer) → SoFar kept all (f ∷ rest) bs → IsTold kept f a →
+      SoFar kept all rest (bs ++ a ∷ [])
   told_next all rest bs f a far it = record {
     before = far.before ++ f ∷ [];
     is = append_assoc far.before (f ∷ []) rest ∙ far.is;
@@ -59,6 +61,7 @@ module _ (kept : Kept) where
   all_told all bs far = subst (λ l. AreTold kept l bs) (sym (append-nil far.before) ∙ far.is) far.told
 
   -- the next one is one of all
-  pub next_within : (all rest : List Found) (bs : List Answer) (f : Found) → SoFar kept all (f ∷ rest) bs → All (λ a. IsWithin kept a.end) all → IsWithin kept f.end
+  pub next_within : (all rest : List Found) (bs : List Answer) (f : Found) → SoFar kept all (f ∷ rest) bs → All (λ a. IsWithin kept a.end) all →
+      IsWithin kept f.end
   next_within all rest bs f far h =
       all_at (λ a. IsWithin kept a.end) all (length far.before) f (subst (λ l. slice_get l (length far.before) ≡ Some f) far.is (in_middle far.before f rest)) h

@@ -32,7 +32,8 @@ pub at_more : (fs more : List Fiber) (ns : List ℕ) (gs : List Fiber) → IsMor
 at_more fs more ns gs m h = record { many = h.many; each = λ i n e. let at = h.each i n e in (at.0, at.1, more_get fs more n at.0 m at.2) }
 
 module _ (k : Limits) where
-  rebuilt : (p : Place) (gs : List Fiber) (s : Cells) → p.limits ≡ k → gs ≡ p.world.fibers → s ≡ p.world.cells → record { limits = k; world = world_of gs s } ≡ p
+  rebuilt : (p : Place) (gs : List Fiber) (s : Cells) → p.limits ≡ k → gs ≡ p.world.fibers → s ≡ p.world.cells →
+      record { limits = k; world = world_of gs s } ≡ p
   rebuilt p gs s l g c =
       ap (λ (x : Limits). record { limits = x; world = world_of gs s }) (sym l) ∙
       ap (λ (x : List Fiber). record { limits = p.limits; world = world_of x s }) g ∙
@@ -64,18 +65,22 @@ module _ (fs fs' : List Fiber) (rs rs' : List PlainView) (mf : IsMore fs fs') (m
   places_more k [] h = refl
   places_more k (n ∷ rows) h =
       let here = h 0 n refl in
-      let same : place_of k fs rs n ≡ place_of k fs' rs' n = world_is k fs rs n here.place here.is here.limits ∙ sym (world_is k fs' rs' n here.place (of_more n here.place here.is) here.limits) in
+      let same : place_of k fs rs n ≡ place_of k fs' rs' n = world_is k fs rs n here.place here.is here.limits ∙
+      sym (world_is k fs' rs' n here.place (of_more n here.place here.is) here.limits) in
       ap (λ x. x ∷ map (place_of k fs rs) rows) same ∙ ap (λ l. place_of k fs' rs' n ∷ l) (places_more k rows (λ i m e. h (suc i) m e))
 
 -- two worlds of the same numbers are one
-pub one_world : (k : Limits) (fs : List Fiber) (rs : List PlainView) (n : Numbers) (p q : Place) → IsWorldOf fs rs n p → p.limits ≡ k → IsWorldOf fs rs n q → q ≡ p
+pub one_world : (k : Limits) (fs : List Fiber) (rs : List PlainView) (n : Numbers) (p q : Place) → IsWorldOf fs rs n p → p.limits ≡ k →
+    IsWorldOf fs rs n q → q ≡ p
 one_world k fs rs n p q h l g =
-    let registries : record { limits = p.limits; state = p.world.cells } ≡ record { limits = q.limits; state = q.world.cells } = same_Some _ _ (sym h.registry ∙ g.registry) in
+    let registries : record { limits = p.limits; state = p.world.cells } ≡ record { limits = q.limits; state = q.world.cells } =
+    same_Some _ _ (sym h.registry ∙ g.registry) in
     let limits : q.limits ≡ k = sym (ap (λ (r : PlainView). r.limits) registries) ∙ l in
     sym (world_is k fs rs n q g limits) ∙ world_is k fs rs n p h l
 
 -- a world that is made once more of its numbers
-pub one_rebuilt : (fs fs' : List Fiber) (rs rs' : List PlainView) → IsMore fs fs' → IsMore rs rs' → (n m r : Numbers) (p q : Place) → IsWorldOf fs rs n p → m ≡ n → r ≡ m → IsWorldOf fs' rs' r q → q ≡ p
+pub one_rebuilt : (fs fs' : List Fiber) (rs rs' : List PlainView) → IsMore fs fs' → IsMore rs rs' → (n m r : Numbers) (p q : Place) →
+    IsWorldOf fs rs n p → m ≡ n → r ≡ m → IsWorldOf fs' rs' r q → q ≡ p
 one_rebuilt fs fs' rs rs' mf mr n m r p q h e d g =
     one_world p.limits fs' rs' n p q (of_more fs fs' rs rs' mf mr n p h) refl (subst (λ (x : Numbers). IsWorldOf fs' rs' x q) (d ∙ e) g)
 
@@ -83,7 +88,8 @@ pub fits_so : (k : Limits) (fs : List Fiber) (rs : List PlainView) (n : Numbers)
 fits_so k fs rs n q h g = subst (λ (p : Place). AllFit p.world) (sym (one_world k fs rs n h.place q h.is h.limits g)) h.fits
 
 -- one more row
-pub rows_added : (k : Limits) (fs : List Fiber) (rs : List PlainView) (old new : List Numbers) (n : Numbers) → MayAdd old new n → AreWorlds k fs rs old → IsWorld k fs rs n → AreWorlds k fs rs new
+pub rows_added : (k : Limits) (fs : List Fiber) (rs : List PlainView) (old new : List Numbers) (n : Numbers) → MayAdd old new n →
+    AreWorlds k fs rs old → IsWorld k fs rs n → AreWorlds k fs rs new
 rows_added k fs rs old new n (inl same) h it = subst (AreWorlds k fs rs) (sym same) h
 rows_added k fs rs old new n (inr one) h it =
     subst (AreWorlds k fs rs) (sym one) (λ i m e. elim (get_end old n m i e) [
@@ -97,7 +103,8 @@ map_append f (x ∷ xs) ys = ap (λ l. f x ∷ l) (map_append f xs ys)
 
 pub places_added : {B : Type 0} (f : Numbers → B) (old new : List Numbers) (n : Numbers) → MayAdd old new n → IsMore (map f old) (map f new)
 places_added f old new n (inl same) = subst (λ l. IsMore (map f old) (map f l)) (sym same) (more_same (map f old))
-places_added f old new n (inr one) = subst (λ l. IsMore (map f old) (map f l)) (sym one) (subst (IsMore (map f old)) (sym (map_append f old (n ∷ []))) (more_by (map f old) (map f (n ∷ []))))
+places_added f old new n (inr one) =
+    subst (λ l. IsMore (map f old) (map f l)) (sym one) (subst (IsMore (map f old)) (sym (map_append f old (n ∷ []))) (more_by (map f old) (map f (n ∷ []))))
 
 pub map_get : {A B : Type 0} (f : A → B) (xs : List A) (i : ℕ) (x : A) → slice_get xs i ≡ Some x → slice_get (map f xs) i ≡ Some (f x)
 map_get f [] i x e = absurd (cc)
@@ -105,7 +112,8 @@ map_get f (y ∷ xs) zero x e = ap Some (ap f (same_Some y x e))
 map_get f (y ∷ xs) (suc i) x e = map_get f xs i x e
 
 -- the row of a place
-pub row_at : {B : Type 0} (f : Numbers → B) (rows : List Numbers) (i : ℕ) → i < length (map f rows) → (n : Numbers) × (slice_get rows i ≡ Some n) × (slice_get (map f rows) i ≡ Some (f n))
+pub row_at : {B : Type 0} (f : Numbers → B) (rows : List Numbers) (i : ℕ) → i < length (map f rows) → (n : Numbers) × (slice_get rows i ≡ Some n) ×
+    (slice_get (map f rows) i ≡ Some (f n))
 row_at f rows i low =
     let many = length-map rows f in
     let at = get_low rows i (omega arith) in
@@ -118,10 +126,12 @@ take_get (suc m) (x ∷ xs) zero h = refl
 take_get (suc m) (x ∷ xs) (suc j) h = take_get m xs j (omega arith)
 
 -- fibers and a registry of these numbers
-pub is_at : (fs : List Fiber) (rs : List PlainView) (n : Numbers) (gs : List Fiber) (r : PlainView) → AreAt fs n.fibers gs → slice_get rs n.registry ≡ Some r → IsWorldOf fs rs n record { limits = r.limits; world = world_of gs r.state }
+pub is_at : (fs : List Fiber) (rs : List PlainView) (n : Numbers) (gs : List Fiber) (r : PlainView) → AreAt fs n.fibers gs →
+    slice_get rs n.registry ≡ Some r → IsWorldOf fs rs n record { limits = r.limits; world = world_of gs r.state }
 is_at fs rs n gs r a e = record { fibers = a; registry = e }
 
-pub fits_at : (k : Limits) (fs : List Fiber) (rs : List PlainView) (n : Numbers) (gs : List Fiber) (r : PlainView) → IsWorld k fs rs n → AreAt fs n.fibers gs → slice_get rs n.registry ≡ Some r → AllFit (world_of gs r.state)
+pub fits_at : (k : Limits) (fs : List Fiber) (rs : List PlainView) (n : Numbers) (gs : List Fiber) (r : PlainView) → IsWorld k fs rs n →
+    AreAt fs n.fibers gs → slice_get rs n.registry ≡ Some r → AllFit (world_of gs r.state)
 fits_at k fs rs n gs r h a e = fits_so k fs rs n record { limits = r.limits; world = world_of gs r.state } h (is_at fs rs n gs r a e)
 
 pub registry_there : (k : Limits) (fs : List Fiber) (rs : List PlainView) (n : Numbers) → IsWorld k fs rs n → n.registry < length rs

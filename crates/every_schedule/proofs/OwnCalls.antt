@@ -10,8 +10,11 @@ use Rattle.cell_registry.specs.declared.cell.Stage.{Stage}
 use Rattle.cell_registry.specs.declared.cell.Stage.TheVariants.{Running, Finalizing, Ended}
 use Rattle.cell_registry.specs.declared.cell.Cell.{Cell}
 use Rattle.cell_registry.specs.declared.call.Call.{Call}
-use Rattle.cell_registry.specs.declared.call.Call.TheVariants.{Start, Cancel, Join, Look, Mask, Unmask, Cut, Finish, NewRef, NewDeferred, Get, Set, Modify, Complete, Read}
-use Rattle.cell_registry.specs.Cells.{Cells, fresh, requested, awaited, masked, unmasked, cut, finished, owned, cancel_reply, join_reply, cell_of, with_cell, after, reply_of, refusal, full, spent}
+use Rattle.cell_registry.specs.declared.call.Call.TheVariants.{Start, Cancel, Join, Look, Mask, Unmask, Cut, Finish}
+use Rattle.cell_registry.specs.declared.call.Call.TheVariants.{NewRef, NewDeferred, Get, Set, Modify, Complete, Read}
+use Rattle.cell_registry.specs.Cells.{Cells, fresh, requested, awaited, masked, unmasked, cut, finished, owned}
+use Rattle.cell_registry.specs.Cells.{cancel_reply, join_reply, cell_of, with_cell, after, reply_of, refusal, full}
+use Rattle.cell_registry.specs.Cells.{spent}
 use Rattle.cell_registry.specs.Words.{has_ended}
 use Rattle.cell_registry.proofs.Calls.{owned-after}
 use Rattle.cell_registry.proofs.Lists.{get_or-set_kept}
@@ -35,7 +38,8 @@ left_by s f Nothing = s
 
 -- two changes of elements, in either order
 swapped : {A : Type 0} (l : List A) (i j : ℕ) (p q : A → A) (d : A) → (i ≡ j → (x : A) → p (q x) ≡ q (p x))
-    → set (set l i (p (get_or l i d))) j (q (get_or (set l i (p (get_or l i d))) j d)) ≡ set (set l j (q (get_or l j d))) i (p (get_or (set l j (q (get_or l j d))) i d))
+    → set (set l i (p (get_or l i d))) j (q (get_or (set l i (p (get_or l i d))) j d)) ≡ set (set l j (q (get_or l j d))) i
+    (p (get_or (set l j (q (get_or l j d))) i d))
 swapped [] i j p q d h = refl
 swapped (x ∷ xs) zero zero p q d h = ap (λ y. y ∷ xs) (sym (h refl x))
 swapped (x ∷ xs) zero (suc j) p q d h = refl
@@ -86,7 +90,8 @@ module _ (s : Cells) (f g : ℕ) (d : Call) (apart : g ≢ f) where
   own_reply _ own = absurd (cc)
 
   -- what another one is answered, where its own part is as it was
-  refused_so : (k : Limits) (t : Cells) → owned (cell_of t g) ≡ owned (cell_of s g) → t.next_fiber ≡ s.next_fiber → t.next_ref ≡ s.next_ref → t.next_deferred ≡ s.next_deferred → (c : Call) → refusal k t g c ≡ refusal k s g c
+  refused_so : (k : Limits) (t : Cells) → owned (cell_of t g) ≡ owned (cell_of s g) → t.next_fiber ≡ s.next_fiber → t.next_ref ≡ s.next_ref →
+      t.next_deferred ≡ s.next_deferred → (c : Call) → refusal k t g c ≡ refusal k s g c
   unfolding refusal
   refused_so k t own a b c Start = ap (λ n. full Fibers n k.fibers) a
   refused_so k t own a b c (Cancel i) = refl
@@ -113,7 +118,8 @@ module _ (s : Cells) (f g : ℕ) (d : Call) (apart : g ≢ f) where
   other_refusal k Alone own = refl
   other_refusal k _ own = absurd (cc)
 
-  told_so : (cells : List Cell) → ((i : ℕ) → told (get_or cells i fresh) ≡ told (cell_of s i)) → (c : Call) → reply_of (record s { cells = cells }) g c ≡ reply_of s g c
+  told_so : (cells : List Cell) → ((i : ℕ) → told (get_or cells i fresh) ≡ told (cell_of s i)) → (c : Call) →
+      reply_of (record s { cells = cells }) g c ≡ reply_of s g c
   unfolding reply_of
   told_so cells h Start = refl
   told_so cells h (Cancel i) = ap (λ (o : Bool × CancelReply × JoinReply). reply.Cancel o.1) (h i)
@@ -136,7 +142,9 @@ module _ (s : Cells) (f g : ℕ) (d : Call) (apart : g ≢ f) where
   other_reply (Shared Look) own = refl
   other_reply (Shared Mask) own = told_so (set s.cells f (masked (cell_of s f))) (get_or-set_kept told s.cells f (masked (cell_of s f)) fresh refl) d
   other_reply (Shared Unmask) own = told_so (set s.cells f (unmasked (cell_of s f))) (get_or-set_kept told s.cells f (unmasked (cell_of s f)) fresh refl) d
-  other_reply (Shared Cut) own = told_so (set s.cells f (cut (cell_of s f))) (get_or-set_kept told s.cells f (cut (cell_of s f)) fresh (cut_told (cell_of s f).stage (cell_of s f).request own)) d
+  other_reply (Shared Cut) own =
+      told_so (set s.cells f (cut (cell_of s f)))
+      (get_or-set_kept told s.cells f (cut (cell_of s f)) fresh (cut_told (cell_of s f).stage (cell_of s f).request own)) d
   other_reply Alone own = refl
   other_reply _ own = absurd (cc)
 

@@ -24,7 +24,8 @@ reported_placed : (k : Limits) (x : Result World RunError) → search.reported s
 reported_placed k (Ok w) = refl
 reported_placed k (Err e) = refl
 
-run_reported : (k : Limits) (w : World) (s : List ℕ) → search.reported stepped report_at (search.run stepped (Ok record { limits = k; world = w }) s) ≡ reported (fold (entered k) (Ok w) s)
+run_reported : (k : Limits) (w : World) (s : List ℕ) →
+    search.reported stepped report_at (search.run stepped (Ok record { limits = k; world = w }) s) ≡ reported (fold (entered k) (Ok w) s)
 run_reported k w s = ap (search.reported stepped report_at) (placed_run k (Ok w) s) ∙ reported_placed k (fold (entered k) (Ok w) s)
 
 pub settles : (k : Limits) (w : World) → search.IsSettled stepped report_at record { limits = k; world = w } → IsSettled k w

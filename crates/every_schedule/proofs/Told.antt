@@ -38,13 +38,15 @@ within : (kept : Kept) (first : Place) (s : List ℕ) (l : Landing) → search.L
 within kept first s (to.World j) h = slice_get_within kept.places j h.0 h.1
 within kept first s (to.Fault j) h = slice_get_within kept.faults j h.0 h.1
 
-pub all_within : (kept : Kept) (first : Place) (found : List Found) → All (search.IsRight stepped report_at kept.places kept.faults first) found → All (λ a. IsWithin kept a.end) found
+pub all_within : (kept : Kept) (first : Place) (found : List Found) → All (search.IsRight stepped report_at kept.places kept.faults first) found →
+    All (λ a. IsWithin kept a.end) found
 all_within kept first found right = all_from (λ a. IsWithin kept a.end) found (λ i f e.
     within kept first f.schedule.items f.end (all_at (search.IsRight stepped report_at kept.places kept.faults first) found i f e right))
 
 module _ (kept : Kept) (found : List Found) (answers : List Answer) (told : AreTold kept found answers) where
   -- an end of the search is the end that is told
-  ends_as : (k : Limits) (l : Landing) (x : Result World RunError) (end : Result Report RunError) → search.Tells stepped report_at kept.places kept.faults l (placed k x) → IsEnd kept l end → end ≡ reported x
+  ends_as : (k : Limits) (l : Landing) (x : Result World RunError) (end : Result Report RunError) →
+      search.Tells stepped report_at kept.places kept.faults l (placed k x) → IsEnd kept l end → end ≡ reported x
   ends_as k (to.World j) (Ok w) end h e =
       let same : e.0 ≡ h.0 = same_Some e.0 h.0 (sym e.1 ∙ h.1) in
       e.2 ∙ ap Ok (ap report_at same ∙ h.2)
@@ -53,7 +55,8 @@ module _ (kept : Kept) (found : List Found) (answers : List Answer) (told : AreT
   ends_as k (to.Fault j) (Err d) end h e = e.2 ∙ ap Err (same_Some e.0 d (sym e.1 ∙ h))
 
   -- what is found is told
-  listed : (k : Limits) (x : Result World RunError) → search.IsAnswered stepped report_at kept.places kept.faults found (placed k x) → IsListed answers (reported x)
+  listed : (k : Limits) (x : Result World RunError) → search.IsAnswered stepped report_at kept.places kept.faults found (placed k x) →
+      IsListed answers (reported x)
   listed k x h =
       let i = h.1.0 in
       let low : i < length answers = subst (λ n. i < n) (sym told.many) (slice_get_within found i h.0 h.1.1) in
@@ -73,7 +76,8 @@ module _ (kept : Kept) (found : List Found) (answers : List Answer) (told : AreT
   leads_to k x (to.World j) = (p : Place) × (slice_get kept.places j ≡ Some p) × (placed k x ≡ Ok p) × systems.IsSettled stepped report_at p
   leads_to k x (to.Fault j) = (e : RunError) × (slice_get kept.faults j ≡ Some e) × (placed k x ≡ Err e)
 
-  led : (k : Limits) (x : Result World RunError) (l : Landing) (end : Result Report RunError) → leads_to k x l → IsEnd kept l end → (reported x ≡ end) × IfOk x (IsSettled k)
+  led : (k : Limits) (x : Result World RunError) (l : Landing) (end : Result Report RunError) → leads_to k x l → IsEnd kept l end →
+      (reported x ≡ end) × IfOk x (IsSettled k)
   led k (Ok w) (to.World j) end h e =
       let here : record { limits = k; world = w } ≡ h.0 = (let q = h.2 in cc) in
       let same : h.0 ≡ e.0 = same_Some h.0 e.0 (sym h.1 ∙ e.1) in
@@ -85,7 +89,8 @@ module _ (kept : Kept) (found : List Found) (answers : List Answer) (told : AreT
       let same : h.0 ≡ e.0 = same_Some h.0 e.0 (sym h.1 ∙ e.1) in
       (ap Err (here ∙ same) ∙ sym e.2, tt)
 
-  leads : (code : Tree) (k : Limits) (s : List ℕ) (l : Landing) → search.LeadsTo stepped report_at kept.places kept.faults (first_place code k) s l → leads_to k (core code k s) l
+  leads : (code : Tree) (k : Limits) (s : List ℕ) (l : Landing) → search.LeadsTo stepped report_at kept.places kept.faults (first_place code k) s l →
+      leads_to k (core code k s) l
   leads code k s (to.World j) h = (h.0, h.1, sym (core_run code k s) ∙ h.2, h.3)
   leads code k s (to.Fault j) h = (h.0, h.1, sym (core_run code k s) ∙ h.2)
 
@@ -96,7 +101,8 @@ module _ (kept : Kept) (found : List Found) (answers : List Answer) (told : AreT
       let f = at_within found i low in
       (f.0, f.1, told.each i f.0 a f.1 e)
 
-  pub reached : (code : Tree) (k : Limits) → All (search.IsRight stepped report_at kept.places kept.faults (first_place code k)) found → All (IsReached code k) answers
+  pub reached : (code : Tree) (k : Limits) → All (search.IsRight stepped report_at kept.places kept.faults (first_place code k)) found →
+      All (IsReached code k) answers
   reached code k right = all_from (IsReached code k) answers (λ i a e.
       let it = found_at i a e in
       let h = all_at (search.IsRight stepped report_at kept.places kept.faults (first_place code k)) found i it.0 it.1 right in

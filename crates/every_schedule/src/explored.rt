@@ -56,9 +56,10 @@ pub fn explore(
         (core (code_of (source_of program.now)) limits (schedule ++ more))) }
     ensures faultless { IfOk result (λ it. it.complete ≡ true → HasNoFault it.answers →
         (schedule : List ℕ) (e : TheRunError) → core (code_of (source_of program.now)) limits schedule ≡ Fails e → ⊥) }
-    ensures alike { IfOk result (λ it. it.complete ≡ true → (end : TheResult TheReport TheRunError) → EndAlike it.answers end →
-        (schedule : List ℕ) (w : World) → core (code_of (source_of program.now)) limits schedule ≡ GoesWell w →
-        IsSettled limits w → reported (GoesWell w) ≡ end) }
+    ensures alike { IfOk result (λ it. it.complete ≡ true → (end : TheResult TheReport TheRunError) →
+        EndAlike it.answers end → (schedule : List ℕ) (w : World) →
+        core (code_of (source_of program.now)) limits schedule ≡ GoesWell w → IsSettled limits w →
+        reported (GoesWell w) ≡ end) }
     ensures can_end { IfOk result (λ it. it.complete ≡ true → it.ends ≡ true → (f : ℕ) →
         All (λ a. HasOutcome f a.end) it.answers → (schedule : List ℕ) → (more : List ℕ) ×
         HasOutcome f (reported (core (code_of (source_of program.now)) limits (schedule ++ more)))) }
@@ -88,9 +89,10 @@ pub fn explore_watched<V: Watcher>(
         (core (code_of (source_of program.now)) limits (schedule ++ more))) }
     ensures faultless { IfOk result (λ it. it.complete ≡ true → HasNoFault it.answers →
         (schedule : List ℕ) (e : TheRunError) → core (code_of (source_of program.now)) limits schedule ≡ Fails e → ⊥) }
-    ensures alike { IfOk result (λ it. it.complete ≡ true → (end : TheResult TheReport TheRunError) → EndAlike it.answers end →
-        (schedule : List ℕ) (w : World) → core (code_of (source_of program.now)) limits schedule ≡ GoesWell w →
-        IsSettled limits w → reported (GoesWell w) ≡ end) }
+    ensures alike { IfOk result (λ it. it.complete ≡ true → (end : TheResult TheReport TheRunError) →
+        EndAlike it.answers end → (schedule : List ℕ) (w : World) →
+        core (code_of (source_of program.now)) limits schedule ≡ GoesWell w → IsSettled limits w →
+        reported (GoesWell w) ≡ end) }
     ensures can_end { IfOk result (λ it. it.complete ≡ true → it.ends ≡ true → (f : ℕ) →
         All (λ a. HasOutcome f a.end) it.answers → (schedule : List ℕ) → (more : List ℕ) ×
         HasOutcome f (reported (core (code_of (source_of program.now)) limits (schedule ++ more)))) }
@@ -143,9 +145,10 @@ pub fn explore_full(
         (core (code_of (source_of program.now)) limits (schedule ++ more))) }
     ensures faultless { IfOk result (λ it. it.complete ≡ true → HasNoFault it.answers →
         (schedule : List ℕ) (e : TheRunError) → core (code_of (source_of program.now)) limits schedule ≡ Fails e → ⊥) }
-    ensures alike { IfOk result (λ it. it.complete ≡ true → (end : TheResult TheReport TheRunError) → EndAlike it.answers end →
-        (schedule : List ℕ) (w : World) → core (code_of (source_of program.now)) limits schedule ≡ GoesWell w →
-        IsSettled limits w → reported (GoesWell w) ≡ end) }
+    ensures alike { IfOk result (λ it. it.complete ≡ true → (end : TheResult TheReport TheRunError) →
+        EndAlike it.answers end → (schedule : List ℕ) (w : World) →
+        core (code_of (source_of program.now)) limits schedule ≡ GoesWell w → IsSettled limits w →
+        reported (GoesWell w) ≡ end) }
     ensures can_end { IfOk result (λ it. it.complete ≡ true → it.ends ≡ true → (f : ℕ) →
         All (λ a. HasOutcome f a.end) it.answers → (schedule : List ℕ) → (more : List ℕ) ×
         HasOutcome f (reported (core (code_of (source_of program.now)) limits (schedule ++ more)))) }

@@ -1,5 +1,7 @@
 -- What is known of fibers that wait, and of the lines that tell it.
-use Rattle.std.proofs.Common.{◌≡◌, ◌≢◌, ◌⊎◌, inl, inr, ℕ, Result, Ok, Err, IfOk, OnOk, Vec, Global, ◌+◌, ◌<◌, ◌≤◌, Bool, true, List, [], ◌∷◌, ◌++◌, length, drop, get_or, refl, sym, ap, ◌∙◌, subst, append_assoc, append-nil, add-one, suc}
+use Rattle.std.proofs.Common.{◌≡◌, ◌≢◌, ◌⊎◌, inl, inr, ℕ, Result, Ok, Err, IfOk, OnOk, Vec, Global, ◌+◌, ◌<◌, ◌≤◌, Bool}
+use Rattle.std.proofs.Common.{true, List, [], ◌∷◌, ◌++◌, length, drop, get_or, refl, sym, ap, ◌∙◌, subst, append_assoc}
+use Rattle.std.proofs.Common.{append-nil, add-one, suc}
 use Rattle.std.proofs.Math.Seq.{drop-cons}
 use Rattle.std.proofs.lemmas.List.{drop_all}
 use Rattle.cell_registry.specs.Cells.{Cells}
@@ -35,7 +37,8 @@ told_more last s all i g y told new low is why_is new_is front = λ behind h.
     subst (λ t. AreWhyLines last s 0 all t) (sym (ap (λ t. t ++ behind) new_is ∙ append_assoc told line behind))
     (front (line ++ behind) (subst (λ xs. AreWhyLines last s i xs (line ++ behind)) (sym here) more))
 
-pub all_told : (last : Bool) (s : Cells) (all : List Fiber) (i : ℕ) (told : List ℕ) → length all ≤ i → AreFront last s all i told → AreWhyLines last s 0 all told
+pub all_told : (last : Bool) (s : Cells) (all : List Fiber) (i : ℕ) (told : List ℕ) → length all ≤ i → AreFront last s all i told →
+    AreWhyLines last s 0 all told
 all_told last s all i told past front =
     subst (λ t. AreWhyLines last s 0 all t) (append-nil told)
     (front [] (subst (λ xs. AreWhyLines last s i xs []) (sym (drop_all i all past)) refl))

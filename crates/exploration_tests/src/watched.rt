@@ -1,7 +1,7 @@
 //! What is told of an exploration while it goes.
 //!
-//! A fiber alone has one way on, so each entry leads, with the moves that are made at once behind it, to one world more:
-//! at the world with the number n, counted from 0, n + 1 worlds are known, and n entries lead there.
+//! A fiber alone has one way on, so each entry leads, with the moves that are made at once behind it, to one world
+//! more: at the world with the number n, counted from 0, n + 1 worlds are known, and n entries lead there.
 
 use crate::answers::exploring;
 use exploration_text::obey_explore_watched;

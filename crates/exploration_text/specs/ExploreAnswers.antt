@@ -24,7 +24,8 @@ pub record IsExplorationOf (code : Tree) (limits : Limits) (e : Exploration) : T
   pub each : All (IsReached code limits) e.answers
 
 -- the text and the status of an exploration of the program
-pub record IsExploredAnswer (t : Term) (limits : Limits) (wants : List Want) (answer : List ℕ) (status : Status) : Type 0
+pub record IsExploredAnswer (t : Term) (limits : Limits) (wants : List Want) (answer : List ℕ)
+    (status : Status) : Type 0
   where
     pub exploration : Exploration
     pub explored : IsExplorationOf (code_of (source_of t)) limits exploration

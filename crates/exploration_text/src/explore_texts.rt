@@ -21,8 +21,8 @@ use std::alloc::{AllocError, Global};
 /// [`exploration_status`], or the line of the text's refusal, with `Status::Refused`.
 #[derive(Drop)]
 pub struct ExploreOrder {
-    /// How many fibers, refs and deferreds there may be (each 1 to 1000), and how often a fiber may change its own state
-    /// (1 to 1,099,511,627,775). A world takes memory for each of these numbers but the last.
+    /// How many fibers, refs and deferreds there may be (each 1 to 1000), and how often a fiber may change its own
+    /// state (1 to 1,099,511,627,775). A world takes memory for each of these numbers but the last.
     pub limits: Limits,
     /// How many worlds are kept at most, and how many entries a schedule has at most (0 to 1,000,000).
     pub bounds: Bounds,

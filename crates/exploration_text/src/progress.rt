@@ -8,9 +8,9 @@ use outcome_trace::{Status, TextFault, TextOut, tell_fault, write_text};
 use std::alloc::{AllocError, Global};
 use std::time::{Clock, Duration, Instant};
 
-/// Writes a line each time that it is told how far an exploration has come: how many worlds were found, how many of them
-/// a second since it began, and how long the schedules are. Where the clock fails no line is written, and after a write
-/// that failed no other.
+/// Writes a line each time that it is told how far an exploration has come: how many worlds were found, how many of
+/// them a second since it began, and how long the schedules are. Where the clock fails no line is written, and
+/// after a write that failed no other.
 #[derive(Drop)]
 pub(crate) struct Progress<'c, 'e, C: Clock, E: TextOut> {
     pub(crate) alloc: Global,

@@ -39,9 +39,9 @@ pub fn text_of_exploration(
     Ok(text)
 }
 
-/// How the program ends behind the text: `Status::Errored` where a fault is listed, or a report whose outcome of fiber 0
-/// isn't among those that are wanted, if any is; else `Status::Succeeded` where all was explored, and `Status::Unended`
-/// where it wasn't.
+/// How the program ends behind the text: `Status::Errored` where a fault is listed, or a report whose outcome of
+/// fiber 0 isn't among those that are wanted, if any is; else `Status::Succeeded` where all was explored, and
+/// `Status::Unended` where it wasn't.
 pub fn exploration_status(exploration: &Exploration, wants: &[Want]) -> Status
     ensures { result ≡ exploration_status wants.now exploration.now }
 {

@@ -23,9 +23,9 @@ use std::time::{Clock, Instant};
 /// meanwhile a line goes to the last device at each ten-thousandth world, as
 /// `explored 120000 worlds, 61000 a second, depth 48`.
 ///
-/// Gives the answer's status, or `Status::Fault` where a device failed, the input didn't end within `TEXT_BOUND` reads,
-/// or memory ran out, which is told on the last device, unless a write there has failed. That device may fail: it changes
-/// nothing else.
+/// Gives the answer's status, or `Status::Fault` where a device failed, the input didn't end within `TEXT_BOUND`
+/// reads, or memory ran out, which is told on the last device, unless a write there has failed. That device may
+/// fail: it changes nothing else.
 pub fn obey_explore_watched<C: Clock, I: TextIn, O: TextOut, E: TextOut>(
     clock: &C,
     alloc: Global,

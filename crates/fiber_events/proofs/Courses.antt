@@ -22,7 +22,8 @@ module _ (k : Limits) (w : World) (s : List ℕ) (i : ℕ) (within : i < length 
   pub led_more : led k w (take (i + 1) s) ≡ entered k (led k w (take i s)) (get_or s i 0)
   led_more = fold_more (entered k) (Ok w) s i 0 within
 
-  pub events_more : (events here : List Event) → AreEvents k w (take i s) events → IsEntry k (i + 1) (get_or s i 0) (led k w (take i s)) here → AreEvents k w (take (i + 1) s) (events ++ here)
+  pub events_more : (events here : List Event) → AreEvents k w (take i s) events → IsEntry k (i + 1) (get_or s i 0) (led k w (take i s)) here →
+      AreEvents k w (take (i + 1) s) (events ++ here)
   events_more events here h e =
       let long : length (take i s) ≡ i = length-take-le i s (omega arith) in
       subst (λ (xs : List ℕ). AreEvents k w xs (events ++ here)) (sym (take_more s i 0 within))
@@ -32,7 +33,8 @@ module _ (k : Limits) (w : World) (s : List ℕ) (i : ℕ) (within : i < length 
   led_fault u e goes fault =
       sym (fold_stuck (entered k) (Err e) (λ f. refl) (Ok w) s i 0 within (ap (λ (x : Result World RunError). entered k x (get_or s i 0)) goes ∙ fault))
 
-  pub events_fault : (events : List Event) (u : World) (e : RunError) → AreEvents k w (take i s) events → led k w (take i s) ≡ Ok u → entered k (Ok u) (get_or s i 0) ≡ Err e → AreEvents k w s events
+  pub events_fault : (events : List Event) (u : World) (e : RunError) → AreEvents k w (take i s) events → led k w (take i s) ≡ Ok u →
+      entered k (Ok u) (get_or s i 0) ≡ Err e → AreEvents k w s events
   events_fault events u e h goes fault =
       let here = events_more events [] h (subst (λ (x : Result World RunError). IsEntry k (i + 1) (get_or s i 0) x []) (sym goes) (refused u e fault)) in
       let there : led k w (take (i + 1) s) ≡ Err e = led_more ∙ ap (λ (x : Result World RunError). entered k x (get_or s i 0)) goes ∙ fault in
@@ -46,7 +48,9 @@ module _ (k : Limits) (w : World) (s : List ℕ) (i : ℕ) (within : i < length 
       some i u e within goes (led_more ∙ ap (λ (x : Result World RunError). entered k x (get_or s i 0)) goes ∙ fault)
 
   -- a way that is stopped by the fault of its next entry
-  pub stopped_course : {E : Type 0} (it : Course) (e : RunError) (u v : World) (r : Result Course E) → it.made ≡ i → it.fault ≡ Some e → AreEvents k w (take i s) it.events.items → led k w (take i s) ≡ Ok u → (e ≢ run.NoMemory → entered k (Ok u) (get_or s i 0) ≡ Err e) → IfOk r (λ x. x ≡ it) → OnOk r (e ≢ run.NoMemory) → IfOk r (λ x. IsCourse k w s x v)
+  pub stopped_course : {E : Type 0} (it : Course) (e : RunError) (u v : World) (r : Result Course E) → it.made ≡ i → it.fault ≡ Some e →
+      AreEvents k w (take i s) it.events.items → led k w (take i s) ≡ Ok u → (e ≢ run.NoMemory → entered k (Ok u) (get_or s i 0) ≡ Err e) →
+      IfOk r (λ x. x ≡ it) → OnOk r (e ≢ run.NoMemory) → IfOk r (λ x. IsCourse k w s x v)
   stopped_course it e u v (Ok x) made stop events goes fault is other =
       let here = fault other in
       subst (λ (y : Course). IsCourse k w s y v) (sym is) record {
@@ -57,7 +61,8 @@ module _ (k : Limits) (w : World) (s : List ℕ) (i : ℕ) (within : i < length 
   stopped_course it e u v (Err x) made stop events goes fault is other = tt
 
 -- what a whole schedule came to
-pub end_told : (code : Tree) (k : Limits) (s : List ℕ) (fibers : List Fiber) (cells : Cells) (fault : Option RunError) → led k (first_world code k) s ≡ ended fault (world_of fibers cells) → end_of fibers fault ≡ reported (core code k s)
+pub end_told : (code : Tree) (k : Limits) (s : List ℕ) (fibers : List Fiber) (cells : Cells) (fault : Option RunError) →
+    led k (first_world code k) s ≡ ended fault (world_of fibers cells) → end_of fibers fault ≡ reported (core code k s)
 unfolding core
 end_told code k s fibers cells None e = sym (ap reported e)
 end_told code k s fibers cells (Some x) e = sym (ap reported e)

@@ -55,14 +55,16 @@ module _ (old : PlainView) (fibers : List Fiber) (f : ℕ) (g : Fiber) (at : sli
   pub stays : wish_of (ask_of g) ≡ Nothing → entered old.limits (Ok w) f ≡ Ok w
   stays wish = wishes Nothing wish
 
-  called_to : (c : Call) → wish_of (ask_of g) ≡ Shared c → refusal old.limits old.state f c ≡ None → (v : World) → entered old.limits (Ok w) f ≡ Ok v → v ≡ the_call w f g c (reply_of old.state f c)
+  called_to : (c : Call) → wish_of (ask_of g) ≡ Shared c → refusal old.limits old.state f c ≡ None → (v : World) →
+      entered old.limits (Ok w) f ≡ Ok v → v ≡ the_call w f g c (reply_of old.state f c)
   called_to c wish room v goes = same_Ok v (the_call w f g c (reply_of old.state f c)) _ goes (wishes (Shared c) wish ∙ ap (answered w f g c) room)
 
   alone_to : wish_of (ask_of g) ≡ Alone → (v : World) → entered old.limits (Ok w) f ≡ Ok v → v ≡ record w { fibers = set fibers f (silent_move g) }
   alone_to wish v goes = same_Ok v (record w { fibers = set fibers f (silent_move g) }) _ goes (wishes Alone wish)
 
   -- the fiber after its move
-  pub since : (new : PlainView) (d : Deed) → IsForeseen old f g new (Some d) → (v : World) → entered old.limits (Ok w) f ≡ Ok v → (h : Fiber) × (slice_get v.fibers f ≡ Some h)
+  pub since : (new : PlainView) (d : Deed) → IsForeseen old f g new (Some d) → (v : World) → entered old.limits (Ok w) f ≡ Ok v → (h : Fiber) ×
+      (slice_get v.fibers f ≡ Some h)
   since new deed.Alone foreseen v goes =
       (silent_move g, ap (λ (x : World). slice_get x.fibers f) (alone_to foreseen.0 v goes) ∙ get_set fibers f g (silent_move g) at)
   since new deed.Rested foreseen v goes =
@@ -78,17 +80,22 @@ module _ (old : PlainView) (fibers : List Fiber) (f : ℕ) (g : Fiber) (at : sli
   does new (deed.Called c r) foreseen = subst (λ (x : Reply). IsDeed w f g (deed.Called c x)) (sym foreseen.1.reply) (calls c foreseen.0)
 
   -- what the registry is that had the same call
-  pub left : (new : PlainView) (d : Deed) → IsForeseen old f g new (Some d) → (v : World) → entered old.limits (Ok w) f ≡ Ok v → new ≡ record old { state = v.cells }
+  pub left : (new : PlainView) (d : Deed) → IsForeseen old f g new (Some d) → (v : World) → entered old.limits (Ok w) f ≡ Ok v →
+      new ≡ record old { state = v.cells }
   left new deed.Alone foreseen v goes = foreseen.1 ∙ ap (λ (x : World). record old { state = x.cells }) (sym (alone_to foreseen.0 v goes))
   left new deed.Rested foreseen v goes = foreseen.2 ∙ ap (λ (x : World). record old { state = x.cells }) (sym (alone_to foreseen.0 v goes))
-  left new (deed.Called c r) foreseen v goes = foreseen.1.left ∙ ap (λ (x : World). record old { state = x.cells }) (sym (called_to c foreseen.0 foreseen.1.room v goes))
+  left new (deed.Called c r) foreseen v goes = foreseen.1.left ∙
+      ap (λ (x : World). record old { state = x.cells }) (sym (called_to c foreseen.0 foreseen.1.room v goes))
 
-  pub left_same : (new now : PlainView) (d : Deed) → IsForeseen old f g new (Some d) → now.limits ≡ old.limits → (v : World) → now.state ≡ v.cells → entered old.limits (Ok w) f ≡ Ok v → new ≡ now
+  pub left_same : (new now : PlainView) (d : Deed) → IsForeseen old f g new (Some d) → now.limits ≡ old.limits → (v : World) → now.state ≡ v.cells →
+      entered old.limits (Ok w) f ≡ Ok v → new ≡ now
   left_same new now d foreseen limits v cells goes =
       left new d foreseen v goes ∙ (λ j. record { limits = sym limits j; state = sym cells j })
 
   -- the event of the entry
-  pub told : (new : PlainView) (d : Deed) (m : Option Mark) (n : ℕ) (v : World) → IsForeseen old f g new (Some d) → entered old.limits (Ok w) f ≡ Ok v → ((h : Fiber) → slice_get v.fibers f ≡ Some h → m ≡ slice_get h.marks (length g.marks)) → IsEntry old.limits n f (Ok w) (record { entry = n; fiber = f; deed = d; mark = m } ∷ [])
+  pub told : (new : PlainView) (d : Deed) (m : Option Mark) (n : ℕ) (v : World) → IsForeseen old f g new (Some d) →
+      entered old.limits (Ok w) f ≡ Ok v → ((h : Fiber) → slice_get v.fibers f ≡ Some h → m ≡ slice_get h.marks (length g.marks)) →
+      IsEntry old.limits n f (Ok w) (record { entry = n; fiber = f; deed = d; mark = m } ∷ [])
   told new d m n v foreseen goes noted =
       let after = since new d foreseen v goes in
       moves w v _ goes record {
@@ -108,10 +115,12 @@ module _ (old : PlainView) (fibers : List Fiber) (f : ℕ) (g : Fiber) (at : sli
 
 -- ---- a whole schedule
 -- behind a fault there is nothing more
-pub stuck : (k : Limits) (w : World) (e : RunError) (rest s : List ℕ) (events : List Event) → AreEvents k w s events → led k w s ≡ Err e → AreEvents k w (s ++ rest) events
+pub stuck : (k : Limits) (w : World) (e : RunError) (rest s : List ℕ) (events : List Event) → AreEvents k w s events → led k w s ≡ Err e →
+    AreEvents k w (s ++ rest) events
 stuck k w e [] s events h fault = subst (λ xs. AreEvents k w xs events) (sym (append-nil s)) h
 stuck k w e (f ∷ rest) s events h fault =
-    let next : AreEvents k w (s ++ f ∷ []) (events ++ []) = one_more s f events [] h (subst (λ (x : Result World RunError). IsEntry k (length s + 1) f x []) (sym fault) (behind e)) in
+    let next : AreEvents k w (s ++ f ∷ []) (events ++ []) =
+    one_more s f events [] h (subst (λ (x : Result World RunError). IsEntry k (length s + 1) f x []) (sym fault) (behind e)) in
     let here : AreEvents k w (s ++ f ∷ []) events = subst (λ (es : List Event). AreEvents k w (s ++ f ∷ []) es) (append-nil events) next in
     let there : led k w (s ++ f ∷ []) ≡ Err e = fold_push (entered k) (Ok w) s f ∙ ap (λ (x : Result World RunError). entered k x f) fault in
     subst (λ (xs : List ℕ). AreEvents k w xs events) (append_assoc s (f ∷ []) rest) (stuck k w e rest (s ++ f ∷ []) events here there)

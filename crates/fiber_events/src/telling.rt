@@ -106,8 +106,8 @@ fn tell_entries(
 ) -> Result<Course, AllocError>
     requires fits { AllFit (world_of fibers.old.items registry.old.state) }
     requires same { beside.old ≡ registry.old }
-    ensures { IfOk result (λ it. IsCourse registry.old.limits (world_of fibers.old.items registry.old.state) schedule.now
-        it (world_of fibers.new.items registry.new.state)) }
+    ensures { IfOk result (λ it. IsCourse registry.old.limits (world_of fibers.old.items registry.old.state)
+        schedule.now it (world_of fibers.new.items registry.new.state)) }
 {
     let mut events = Vec::new(alloc);
     for (made, number) in schedule.iter().enumerate() {

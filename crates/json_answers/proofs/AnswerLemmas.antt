@@ -18,7 +18,8 @@ use Rattle.outcome_trace.specs.declared.lines.Refused.TheVariants as refusals
 use Rattle.outcome_trace.specs.declared.report.Report.{Report}
 use Rattle.outcome_trace.specs.Answers.{IsRefused}
 use Rattle.outcome_trace.specs.ReplayAnswers.{replayed, report_status}
-use Rattle.json_answers.specs.Answers.{IsJsonCheck, IsJsonRefusal, IsJsonReplay, IsJsonRun, counted, faults, no_program, no_term, refused, replays, reports, unreplayed}
+use Rattle.json_answers.specs.Answers.{IsJsonCheck, IsJsonRefusal, IsJsonReplay, IsJsonRun, counted, faults, no_program}
+use Rattle.json_answers.specs.Answers.{no_term, refused, replays, reports, unreplayed}
 use Rattle.json_answers.specs.ReportData.{fault_data, line_of_data, report_data}
 use Rattle.json_answers.specs.Refusals.{parse_data, program_data, term_data}
 

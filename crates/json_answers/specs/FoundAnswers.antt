@@ -53,4 +53,5 @@ pub data IsJsonSample (limits : Limits) (seed times entries : ℕ) : List ℕ �
   unsampled : (text answer : List ℕ) (status : Status) → IsJsonRefusal text answer status →
       IsJsonSample limits seed times entries text answer status
   samples : (text answer : List ℕ) (status : Status) (t : Term) → reading text ≡ Ok (atoms_of t) → IsProgram t →
-      IsJsonSampled t limits seed times entries answer status → IsJsonSample limits seed times entries text answer status
+      IsJsonSampled t limits seed times entries answer status →
+      IsJsonSample limits seed times entries text answer status

@@ -1,5 +1,6 @@
 -- Answers to texts.
-use Rattle.std.proofs.Common.{◌≡◌, ◌≢◌, ◌-◌, ◌^◌, ℕ, min, nat_lt, Bool, true, false, IsTrue, List, Some, None, Result, Ok, Err, IfOk, OnOk, ap, subst, inl, inr, refl, if◌then◌else◌}
+use Rattle.std.proofs.Common.{◌≡◌, ◌≢◌, ◌-◌, ◌^◌, ℕ, min, nat_lt, Bool, true, false, IsTrue, List, Some, None, Result}
+use Rattle.std.proofs.Common.{Ok, Err, IfOk, OnOk, ap, subst, inl, inr, refl, if◌then◌else◌}
 use Rattle.effect_term.specs.declared.term.Term.{Term}
 use Rattle.effect_term.specs.declared.refusal.TermError.{TermError}
 use Rattle.effect_term.specs.declared.refusal.TermError.TheVariants as term
@@ -15,10 +16,12 @@ use Rattle.text_io.specs.declared.status.Status.TheVariants as ends
 use Rattle.outcome_trace.specs.declared.lines.Refused.{Refused}
 use Rattle.outcome_trace.specs.declared.lines.Refused.TheVariants as refusals
 use Rattle.outcome_trace.specs.Lines.{has_line, line_of}
-use Rattle.outcome_trace.specs.Answers.{IsRefusalAnswer, no_term, no_program, IsCheckAnswer, refused, counted, IsShowAnswer, unshown, shown, IsRefused, IsOfText, code_line, ok_line}
+use Rattle.outcome_trace.specs.Answers.{IsRefusalAnswer, no_term, no_program, IsCheckAnswer, refused, counted}
+use Rattle.outcome_trace.specs.Answers.{IsShowAnswer, unshown, shown, IsRefused, IsOfText, code_line, ok_line}
 
 -- a limit has a line
-limit_told : (deep large : Bool) (m : ℕ) (e : TermError) → (if deep then Some (term.DeepMasks m) else (if large then Some term.Large else None)) ≡ Some e → has_line (refusals.Term e) ≡ true
+limit_told : (deep large : Bool) (m : ℕ) (e : TermError) →
+    (if deep then Some (term.DeepMasks m) else (if large then Some term.Large else None)) ≡ Some e → has_line (refusals.Term e) ≡ true
 limit_told true large m e h = let is : term.DeepMasks m ≡ e = cc in subst (λ (x : TermError). has_line (refusals.Term x) ≡ true) is refl
 limit_told false true m e h = let is : term.Large ≡ e = cc in subst (λ (x : TermError). has_line (refusals.Term x) ≡ true) is refl
 limit_told false false m e h = cc
@@ -60,22 +63,27 @@ refused_so text (refusals.Term e) h told = elim h.2 [
 ]
 refused_so text (refusals.Run e) h told = absurd h
 
-pub refusal_answers : {E : Type 0} (text : List ℕ) (r : Refused) (a : Result Answer E) → IsRefused text r → IfOk a (λ a. a.text.items ≡ line_of r) → IfOk a (λ a. a.status ≡ ends.Refused) → OnOk a (IsTrue (has_line r)) → IfOk a (λ a. IsRefusalAnswer text a.text.items a.status)
+pub refusal_answers : {E : Type 0} (text : List ℕ) (r : Refused) (a : Result Answer E) → IsRefused text r → IfOk a (λ a. a.text.items ≡ line_of r) →
+    IfOk a (λ a. a.status ≡ ends.Refused) → OnOk a (IsTrue (has_line r)) → IfOk a (λ a. IsRefusalAnswer text a.text.items a.status)
 refusal_answers text r (Ok a) h line status told = rw (line, status) (refused_so text r h told)
 refusal_answers text r (Err e) h line status told = tt
 
-pub refusal_checks : {E : Type 0} (text : List ℕ) (a : Result Answer E) → IfOk a (λ a. IsRefusalAnswer text a.text.items a.status) → IfOk a (λ a. IsCheckAnswer text a.text.items a.status)
+pub refusal_checks : {E : Type 0} (text : List ℕ) (a : Result Answer E) → IfOk a (λ a. IsRefusalAnswer text a.text.items a.status) →
+    IfOk a (λ a. IsCheckAnswer text a.text.items a.status)
 refusal_checks text (Ok a) h = refused text a.text.items a.status h
 refusal_checks text (Err e) h = tt
 
-pub counts_check : {E : Type 0} (text : List ℕ) (t : Term) (a : Result Answer E) → reading text ≡ Ok (atoms_of t) → IsProgram t → IfOk a (λ a. a.text.items ≡ ok_line t) → IfOk a (λ a. a.status ≡ ends.Succeeded) → IfOk a (λ a. IsCheckAnswer text a.text.items a.status)
+pub counts_check : {E : Type 0} (text : List ℕ) (t : Term) (a : Result Answer E) → reading text ≡ Ok (atoms_of t) → IsProgram t →
+    IfOk a (λ a. a.text.items ≡ ok_line t) → IfOk a (λ a. a.status ≡ ends.Succeeded) → IfOk a (λ a. IsCheckAnswer text a.text.items a.status)
 counts_check text t (Ok a) e p line status = rw (line, status) (counted text t e p)
 counts_check text t (Err x) e p line status = tt
 
-pub refusal_shows : {E : Type 0} (text : List ℕ) (a : Result Answer E) → IfOk a (λ a. IsRefusalAnswer text a.text.items a.status) → IfOk a (λ a. IsShowAnswer text a.text.items a.status)
+pub refusal_shows : {E : Type 0} (text : List ℕ) (a : Result Answer E) → IfOk a (λ a. IsRefusalAnswer text a.text.items a.status) →
+    IfOk a (λ a. IsShowAnswer text a.text.items a.status)
 refusal_shows text (Ok a) h = unshown text a.text.items a.status h
 refusal_shows text (Err e) h = tt
 
-pub code_shows : {E : Type 0} (text : List ℕ) (t : Term) (a : Result Answer E) → reading text ≡ Ok (atoms_of t) → IsProgram t → IfOk a (λ a. a.text.items ≡ code_line t) → IfOk a (λ a. a.status ≡ ends.Succeeded) → IfOk a (λ a. IsShowAnswer text a.text.items a.status)
+pub code_shows : {E : Type 0} (text : List ℕ) (t : Term) (a : Result Answer E) → reading text ≡ Ok (atoms_of t) → IsProgram t →
+    IfOk a (λ a. a.text.items ≡ code_line t) → IfOk a (λ a. a.status ≡ ends.Succeeded) → IfOk a (λ a. IsShowAnswer text a.text.items a.status)
 code_shows text t (Ok a) e p line status = rw (line, status) (shown text t e p)
 code_shows text t (Err x) e p line status = tt

@@ -25,7 +25,8 @@ called_answers s i n (ask.Get r) c h other = subst (λ (x : Call). Answers n (as
 called_answers s i n (ask.Set r v) c h other = subst (λ (x : Call). Answers n (ask.Set r v) (reply_of s i x)) (let e : call.Set r v ≡ c = cc in e) tt
 called_answers s i n (ask.Modify r v) c h other = subst (λ (x : Call). Answers n (ask.Modify r v) (reply_of s i x)) (let e : call.Modify r v ≡ c = cc in e) tt
 called_answers s i n ask.NewDeferred c h other = subst (λ (x : Call). Answers n ask.NewDeferred (reply_of s i x)) (let e : call.NewDeferred ≡ c = cc in e) tt
-called_answers s i n (ask.Complete d v) c h other = subst (λ (x : Call). Answers n (ask.Complete d v) (reply_of s i x)) (let e : call.Complete d v ≡ c = cc in e) tt
+called_answers s i n (ask.Complete d v) c h other =
+    subst (λ (x : Call). Answers n (ask.Complete d v) (reply_of s i x)) (let e : call.Complete d v ≡ c = cc in e) tt
 called_answers s i n (ask.Read d) c h other = subst (λ (x : Call). Answers n (ask.Read d) (reply_of s i x)) (let e : call.Read d ≡ c = cc in e) tt
 called_answers s i n ask.Silent c h other = absurd (cc)
 called_answers s i n (ask.Over o) c h other = absurd (cc)

@@ -1,5 +1,6 @@
 -- Fibers that stand under one history go on in the core, beside the registry that the history leaves.
-use Rattle.std.proofs.Common.{◌≡◌, ℕ, Bool, List, [], ◌∷◌, ◌++◌, length, map, Some, Result, Ok, refl, sym, ap, ◌∙◌, subst, arith, eqb, eq-eqb, ne_eqb, append-nil}
+use Rattle.std.proofs.Common.{◌≡◌, ℕ, Bool, List, [], ◌∷◌, ◌++◌, length, map, Some, Result, Ok, refl, sym, ap, ◌∙◌}
+use Rattle.std.proofs.Common.{subst, arith, eqb, eq-eqb, ne_eqb, append-nil}
 use Rattle.std.specs.Prelude.{cond}
 use Rattle.std.specs.List.{fold, slice_get}
 use Rattle.std.proofs.lemmas.List.{append_cancel_left}
@@ -36,7 +37,8 @@ fits_pass p g lawful fits =
     lawful.request
 
 -- calls of other fibers change nothing of that
-fits_from : (s : Cells) (f : ℕ) (g : Fiber) (rest : List Entry) → Fits (cell_registered s f) g → calls_by f rest ≡ [] → Fits (cell_registered (left_from s rest) f) g
+fits_from : (s : Cells) (f : ℕ) (g : Fiber) (rest : List Entry) → Fits (cell_registered s f) g → calls_by f rest ≡ [] →
+    Fits (cell_registered (left_from s rest) f) g
 fits_from s f g [] fits none = fits
 fits_from s f g (e ∷ rest) fits none = dite (ℕ_discrete e.by f)
     (λ is.
@@ -46,11 +48,13 @@ fits_from s f g (e ∷ rest) fits none = dite (ℕ_discrete e.by f)
     let calls : calls_by f (e ∷ rest) ≡ calls_by f rest = ap (λ (t : Bool). cond t (e ∷ calls_by f rest) (calls_by f rest)) (ne_eqb e.by f isnt) in
     fits_from (after s e.by e.call) f g rest (plain_other s e.by e.call f g isnt fits) (sym calls ∙ none))
 
-pub fits_longer : (k : Limits) (seen now : List Entry) (f : ℕ) (g : Fiber) → IsPrefix seen now → calls_by f now ≡ calls_by f seen → Fits (cell_registered (left k seen) f) g → Fits (cell_registered (left k now) f) g
+pub fits_longer : (k : Limits) (seen now : List Entry) (f : ℕ) (g : Fiber) → IsPrefix seen now → calls_by f now ≡ calls_by f seen →
+    Fits (cell_registered (left k seen) f) g → Fits (cell_registered (left k now) f) g
 unfolding left
 fits_longer k seen now f g p own fits =
     let rest = p.0 in
-    let more : calls_by f seen ++ calls_by f rest ≡ calls_by f seen ++ [] = sym (filter-append (λ (x : Entry). eqb x.by f) seen rest) ∙ ap (calls_by f) p.1 ∙ own ∙ sym (append-nil (calls_by f seen)) in
+    let more : calls_by f seen ++ calls_by f rest ≡ calls_by f seen ++ [] = sym (filter-append (λ (x : Entry). eqb x.by f) seen rest) ∙
+    ap (calls_by f) p.1 ∙ own ∙ sym (append-nil (calls_by f seen)) in
     let none : calls_by f rest ≡ [] = append_cancel_left (calls_by f seen) (calls_by f rest) [] more in
     subst (λ (h : List Entry). Fits (cell_registered (left k h) f) g) p.1
     (subst (λ (s : Cells). Fits (cell_registered s f) g) (sym (left_from-append _ seen rest)) (fits_from (left k seen) f g rest fits none))
@@ -74,11 +78,13 @@ leads_on code k h states w legal many each goes =
     )
 
 -- what such a world's fibers have come to is the report of a schedule
-pub some_report : (code : Tree) (k : Limits) (w : World) → (schedule : List ℕ) × (core code k schedule ≡ Ok w) → IsOfSomeSchedule code k record { fibers = map fiber_report w.fibers }
+pub some_report : (code : Tree) (k : Limits) (w : World) → (schedule : List ℕ) × (core code k schedule ≡ Ok w) →
+    IsOfSomeSchedule code k record { fibers = map fiber_report w.fibers }
 some_report code k w leads = (leads.0, ap reported leads.1)
 
 -- and a final one where the world is final
-pub final_of : (code : Tree) (k : Limits) (w : World) → (schedule : List ℕ) × (core code k schedule ≡ Ok w) → IsFinal w → IsFinalReport code k record { fibers = map fiber_report w.fibers }
+pub final_of : (code : Tree) (k : Limits) (w : World) → (schedule : List ℕ) × (core code k schedule ≡ Ok w) → IsFinal w →
+    IsFinalReport code k record { fibers = map fiber_report w.fibers }
 final_of code k w leads final = record { schedule = leads.0; world = w; leads = leads.1; final = final; reports = refl }
 
 -- a final report is a settled one

@@ -47,7 +47,11 @@ unfolding core after reply_of refusal
 canceled_at_once = refl
 
 canceled_in_the_poll : report_of few canceled_child (replicate 2 0 ++ replicate 4 1 ++ replicate 3 0 ++ replicate 30 1 ++ replicate 9 0) ≡ Ok record {
-  fibers = record { outcome = Some (Succeeded (pos 0)); marks = Enter 0 ∷ Leave 0 ∷ [] } ∷ record { outcome = Some Canceled; marks = Enter 0 ∷ Say (pos 1) ∷ PollIn 0 ∷ Cut ∷ [] } ∷ [];
+  fibers = record { outcome = Some (Succeeded (pos 0)); marks = Enter 0 ∷ Leave 0 ∷ [] } ∷ record {
+    outcome = Some Canceled;
+    marks =
+        Enter 0 ∷ Say (pos 1) ∷ PollIn 0 ∷ Cut ∷ [];
+  } ∷ [];
 }
 unfolding core after reply_of refusal
 canceled_in_the_poll = refl
@@ -93,17 +97,19 @@ raced =
     (word.Race (word.Pure (Number (pos 4))) (word.On_cancel word.Never (word.Set 0 (Number (pos 9)))))
     (word.Let (word.Get 0) (word.Add (Slot 1) (Slot 2))))
 
-loser_runs_its_finalizer : report_of few raced (replicate 15 0 ++ replicate 10 2 ++ replicate 40 1 ++ replicate 40 0 ++ replicate 40 2 ++ replicate 40 0) ≡ Ok record {
-  fibers = record { outcome = Some (Succeeded (pos 13)); marks = Enter 0 ∷ PollIn 0 ∷ PollOut 0 ∷ Enter 1 ∷ Leave 1 ∷ Leave 0 ∷ [] }
-      ∷ record { outcome = Some (Succeeded (pos 4)); marks = Enter 0 ∷ PollIn 0 ∷ PollOut 0 ∷ Leave 0 ∷ [] }
-      ∷ record { outcome = Some Canceled; marks = Enter 0 ∷ PollIn 0 ∷ Cut ∷ [] }
-      ∷ [];
-}
+loser_runs_its_finalizer :
+    report_of few raced (replicate 15 0 ++ replicate 10 2 ++ replicate 40 1 ++ replicate 40 0 ++ replicate 40 2 ++ replicate 40 0) ≡ Ok record {
+      fibers = record { outcome = Some (Succeeded (pos 13)); marks = Enter 0 ∷ PollIn 0 ∷ PollOut 0 ∷ Enter 1 ∷ Leave 1 ∷ Leave 0 ∷ [] }
+          ∷ record { outcome = Some (Succeeded (pos 4)); marks = Enter 0 ∷ PollIn 0 ∷ PollOut 0 ∷ Leave 0 ∷ [] }
+          ∷ record { outcome = Some Canceled; marks = Enter 0 ∷ PollIn 0 ∷ Cut ∷ [] }
+          ∷ [];
+    }
 unfolding core after reply_of refusal
 loser_runs_its_finalizer = refl
 
 -- the second side of `(race (pure 1) (pure 2))` is a third fiber
-too_many_fibers : report_of (record few { fibers = 2 }) (word.Race (word.Pure (Number (pos 1))) (word.Pure (Number (pos 2)))) (replicate 99 0) ≡ Err (Full Fibers 2)
+too_many_fibers : report_of (record few { fibers = 2 }) (word.Race (word.Pure (Number (pos 1))) (word.Pure (Number (pos 2)))) (replicate 99 0) ≡ Err
+    (Full Fibers 2)
 unfolding core after reply_of refusal
 too_many_fibers = refl
 
@@ -113,9 +119,14 @@ unfolding core after reply_of refusal
 count_used_up = refl
 
 -- `(bracket x (pure 1) (pure 2) (raise 8))`
-released_with_an_error : report_of few (word.Bracket (word.Pure (Number (pos 1))) (word.Pure (Number (pos 2))) (word.Raise (Number (pos 8)))) (replicate 99 0) ≡ Ok record {
-  fibers = record { outcome = Some (Errored (pos 8)); marks = Enter 0 ∷ Acquired 0 ∷ Enter 1 ∷ PollIn 1 ∷ PollIn 0 ∷ PollOut 0 ∷ PollOut 1 ∷ Releasing 0 ∷ Released 0 ∷ Leave 1 ∷ Leave 0 ∷ [] } ∷ [];
-}
+released_with_an_error : report_of few (word.Bracket (word.Pure (Number (pos 1))) (word.Pure (Number (pos 2))) (word.Raise (Number (pos 8))))
+    (replicate 99 0) ≡ Ok record {
+      fibers = record {
+        outcome = Some (Errored (pos 8));
+        marks =
+            Enter 0 ∷ Acquired 0 ∷ Enter 1 ∷ PollIn 1 ∷ PollIn 0 ∷ PollOut 0 ∷ PollOut 1 ∷ Releasing 0 ∷ Released 0 ∷ Leave 1 ∷ Leave 0 ∷ [];
+      } ∷ [];
+    }
 unfolding core after reply_of refusal
 released_with_an_error = refl
 
@@ -167,7 +178,11 @@ canceled_after_its_end =
     (word.Seq More (word.Cancel 0) (word.Seq Last (word.Cancel 0) (word.Join 0 (word.Pure (Slot 1)) (word.Raise (Slot 1)) minus_one))))
 
 cancel_of_an_ended_fiber : report_of few canceled_after_its_end (replicate 2 0 ++ replicate 9 1 ++ replicate 60 0) ≡ Ok record {
-  fibers = record { outcome = Some (Succeeded (pos 5)); marks = Enter 0 ∷ Leave 0 ∷ Enter 1 ∷ Leave 1 ∷ [] } ∷ record { outcome = Some (Succeeded (pos 5)); marks = [] } ∷ [];
+  fibers = record { outcome = Some (Succeeded (pos 5)); marks = Enter 0 ∷ Leave 0 ∷ Enter 1 ∷ Leave 1 ∷ [] } ∷ record {
+    outcome =
+        Some (Succeeded (pos 5));
+    marks = [];
+  } ∷ [];
 }
 unfolding core after reply_of refusal
 cancel_of_an_ended_fiber = refl
@@ -183,36 +198,44 @@ unfolding core after reply_of refusal
 both_sides_canceled = refl
 
 -- `(both (pure 3) (pure 4) x y (add x y))`
-both_values : report_of few (word.Both (word.Pure (num 3)) (word.Pure (num 4)) (word.Add (Slot 0) (Slot 1))) (replicate 20 0 ++ replicate 30 1 ++ replicate 30 2 ++ replicate 80 0) ≡ Ok record {
-  fibers = record { outcome = Some (Succeeded (pos 7)); marks = Enter 0 ∷ PollIn 0 ∷ PollOut 0 ∷ PollIn 0 ∷ PollOut 0 ∷ Leave 0 ∷ [] }
-      ∷ record { outcome = Some (Succeeded (pos 3)); marks = Enter 0 ∷ PollIn 0 ∷ PollOut 0 ∷ Leave 0 ∷ [] }
-      ∷ record { outcome = Some (Succeeded (pos 4)); marks = Enter 0 ∷ PollIn 0 ∷ PollOut 0 ∷ Leave 0 ∷ [] }
-      ∷ [];
-}
+both_values : report_of few (word.Both (word.Pure (num 3)) (word.Pure (num 4)) (word.Add (Slot 0) (Slot 1))) (replicate 20 0 ++ replicate 30 1 ++
+    replicate 30 2 ++ replicate 80 0) ≡ Ok record {
+      fibers = record { outcome = Some (Succeeded (pos 7)); marks = Enter 0 ∷ PollIn 0 ∷ PollOut 0 ∷ PollIn 0 ∷ PollOut 0 ∷ Leave 0 ∷ [] }
+          ∷ record { outcome = Some (Succeeded (pos 3)); marks = Enter 0 ∷ PollIn 0 ∷ PollOut 0 ∷ Leave 0 ∷ [] }
+          ∷ record { outcome = Some (Succeeded (pos 4)); marks = Enter 0 ∷ PollIn 0 ∷ PollOut 0 ∷ Leave 0 ∷ [] }
+          ∷ [];
+    }
 unfolding core after reply_of refusal
 both_values = refl
 
 -- `(both (raise 5) (never) x y (pure 0))`
-one_side_fails : report_of few (word.Both (word.Raise (num 5)) word.Never (word.Pure (num 0))) (replicate 20 0 ++ replicate 30 1 ++ replicate 30 0 ++ replicate 30 2 ++ replicate 30 0) ≡ Ok record {
-  fibers = record { outcome = Some (Errored (pos 5)); marks = Enter 0 ∷ PollIn 0 ∷ PollOut 0 ∷ Enter 1 ∷ Leave 1 ∷ Leave 0 ∷ [] }
-      ∷ record { outcome = Some (Errored (pos 5)); marks = Enter 0 ∷ PollIn 0 ∷ PollOut 0 ∷ Leave 0 ∷ [] }
-      ∷ record { outcome = Some Canceled; marks = Cut ∷ [] }
-      ∷ [];
-}
+one_side_fails : report_of few (word.Both (word.Raise (num 5)) word.Never (word.Pure (num 0))) (replicate 20 0 ++ replicate 30 1 ++ replicate 30 0 ++
+    replicate 30 2 ++ replicate 30 0) ≡ Ok record {
+      fibers = record { outcome = Some (Errored (pos 5)); marks = Enter 0 ∷ PollIn 0 ∷ PollOut 0 ∷ Enter 1 ∷ Leave 1 ∷ Leave 0 ∷ [] }
+          ∷ record { outcome = Some (Errored (pos 5)); marks = Enter 0 ∷ PollIn 0 ∷ PollOut 0 ∷ Leave 0 ∷ [] }
+          ∷ record { outcome = Some Canceled; marks = Cut ∷ [] }
+          ∷ [];
+    }
 unfolding core after reply_of refusal
 one_side_fails = refl
 
 -- `(ref r 4611686018427387903 (let a (modify r 1) (let b (get r) (seq (say a) (say b) (pure 0)))))`
-modified_modulo : report_of few (word.Ref (num 4611686018427387903) (word.Let (word.Modify 0 (num 1)) (word.Let (word.Get 0) (word.Seq More (word.Say (Slot 1)) (word.Seq Last (word.Say (Slot 2)) (word.Pure (num 0))))))) (replicate 99 0) ≡ Ok record {
-  fibers = record { outcome = Some (Succeeded (pos 0)); marks = Say (pos 4611686018427387903) ∷ Say (negsuc 4611686018427387903) ∷ [] } ∷ [];
-}
+modified_modulo : report_of few
+    (word.Ref (num 4611686018427387903)
+    (word.Let (word.Modify 0 (num 1))
+    (word.Let (word.Get 0) (word.Seq More (word.Say (Slot 1)) (word.Seq Last (word.Say (Slot 2)) (word.Pure (num 0))))))) (replicate 99 0) ≡ Ok record {
+      fibers = record { outcome = Some (Succeeded (pos 0)); marks = Say (pos 4611686018427387903) ∷ Say (negsuc 4611686018427387903) ∷ [] } ∷ [];
+    }
 unfolding core after reply_of refusal wrapped
 modified_modulo = refl
 
 -- `(deferred d (let a (complete d 5) (let b (complete d 6) (let c (await d) (seq (say a) (say b) (pure c))))))`
-completed_once : report_of few (word.Deferred (word.Let (word.Complete 0 (num 5)) (word.Let (word.Complete 0 (num 6)) (word.Let (word.Await 0) (word.Seq More (word.Say (Slot 1)) (word.Seq Last (word.Say (Slot 2)) (word.Pure (Slot 3)))))))) (replicate 99 0) ≡ Ok record {
-  fibers = record { outcome = Some (Succeeded (pos 5)); marks = Say (pos 1) ∷ Say (pos 0) ∷ [] } ∷ [];
-}
+completed_once : report_of few
+    (word.Deferred (word.Let (word.Complete 0 (num 5))
+    (word.Let (word.Complete 0 (num 6))
+    (word.Let (word.Await 0) (word.Seq More (word.Say (Slot 1)) (word.Seq Last (word.Say (Slot 2)) (word.Pure (Slot 3)))))))) (replicate 99 0) ≡ Ok record {
+      fibers = record { outcome = Some (Succeeded (pos 5)); marks = Say (pos 1) ∷ Say (pos 0) ∷ [] } ∷ [];
+    }
 unfolding core after reply_of refusal
 completed_once = refl
 
@@ -231,11 +254,13 @@ canceled_join =
     (word.Join 0 (word.Pure (Slot 1)) (word.Pure (num 0)) (word.Pure (num 0)))
     (word.Seq Last (word.Cancel 1) (word.Join 0 (word.Pure (Slot 2)) (word.Pure (num 0)) minus_one)))
 
-wait_is_canceled_alone : report_of few canceled_join (replicate 4 0 ++ replicate 4 2 ++ replicate 9 0 ++ replicate 9 2 ++ replicate 9 0 ++ replicate 20 1 ++ replicate 20 0) ≡ Ok record {
-  fibers = record { outcome = Some (Succeeded (pos 2)); marks = Enter 0 ∷ Leave 0 ∷ [] }
-      ∷ record { outcome = Some (Succeeded (pos 2)); marks = [] }
-      ∷ record { outcome = Some Canceled; marks = Cut ∷ [] }
-      ∷ [];
-}
+wait_is_canceled_alone :
+    report_of few canceled_join (replicate 4 0 ++ replicate 4 2 ++ replicate 9 0 ++ replicate 9 2 ++ replicate 9 0 ++ replicate 20 1 ++
+    replicate 20 0) ≡ Ok record {
+      fibers = record { outcome = Some (Succeeded (pos 2)); marks = Enter 0 ∷ Leave 0 ∷ [] }
+          ∷ record { outcome = Some (Succeeded (pos 2)); marks = [] }
+          ∷ record { outcome = Some Canceled; marks = Cut ∷ [] }
+          ∷ [];
+    }
 unfolding core after reply_of refusal
 wait_is_canceled_alone = refl

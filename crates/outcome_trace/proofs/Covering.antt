@@ -13,7 +13,8 @@ use Rattle.outcome_trace.specs.Finals.{IsSettledReport}
 -- a settled report is in each list that covers every schedule
 pub settled_listed : (code : Tree) (k : Limits) (report : Report) → IsSettledReport code k report → IsInEachCover code k report
 settled_listed code k report h ends covers =
-    let at : IsAccounted (λ (e : End). e) k ends (Ok h.world) = subst (λ (x : Result World RunError). IsAccounted (λ (e : End). e) k ends x) h.leads (covers h.schedule) in
+    let at : IsAccounted (λ (e : End). e) k ends (Ok h.world) =
+    subst (λ (x : Result World RunError). IsAccounted (λ (e : End). e) k ends x) h.leads (covers h.schedule) in
     subst (λ (e : End). IsAmong (λ (d : End). d) ends e) h.reports (at h.settled)
 
 -- ---- a list that tells how each of its elements ends, and the list of these ends

@@ -1,5 +1,6 @@
 -- From a final world no entry changes the report.
-use Rattle.std.proofs.Common.{◌≡◌, ◌≢◌, inl, inr, ℕ, zero, suc, Bool, false, List, [], ◌∷◌, ◌++◌, map, set, Option, Some, None, Result, Ok, refl, sym, ap, ◌∙◌, subst, append-nil}
+use Rattle.std.proofs.Common.{◌≡◌, ◌≢◌, inl, inr, ℕ, zero, suc, Bool, false, List, [], ◌∷◌, ◌++◌, map, set, Option}
+use Rattle.std.proofs.Common.{Some, None, Result, Ok, refl, sym, ap, ◌∙◌, subst, append-nil}
 use Rattle.std.specs.List.{fold, slice_get}
 use Rattle.std.proofs.lemmas.Option.{same_Some}
 use mathlib.Core.Logic.{dite}
@@ -85,7 +86,8 @@ rest_looked : (s : Cells) (f : ℕ) (g : Fiber) (l : Look) → l ≢ Seen → Is
 rest_looked s f g l n h = record { waits = h.waits; unasked = relook (active_of g) g.look l (cell_of s f).request h.unasked n }
 
 -- ---- what a fiber's next move is
-over_in : (i n : ℕ) (l : Look) (ms : List Mark) (w : Running) (o : Outcome) → outcome_in w ≡ Some o → wish_of (ask_of record { number = i; running = w; look = l; next = n; marks = ms }) ≡ Nothing
+over_in : (i n : ℕ) (l : Look) (ms : List Mark) (w : Running) (o : Outcome) → outcome_in w ≡ Some o →
+    wish_of (ask_of record { number = i; running = w; look = l; next = n; marks = ms }) ≡ Nothing
 over_in i n l ms (Runs t) o e = absurd (cc)
 over_in i n l ms (Final m gs) o e = absurd (cc)
 over_in i n l ms (Over p) o e = refl
@@ -94,7 +96,10 @@ over_in i n l ms Broken o e = absurd (cc)
 pub over_wish : (g : Fiber) → HasEnded g → wish_of (ask_of g) ≡ Nothing
 over_wish g h = over_in g.number g.next g.look g.marks g.running h.0 h.1
 
-case_at : (i n : ℕ) (l : Look) (ms : List Mark) (w : Running) (r : Reply) → (row_of record { number = i; running = w; look = l; next = n; marks = ms } r).kind ≡ Waited → move_case record { number = i; running = w; look = l; next = n; marks = ms } ≡ case_under (active_of record { number = i; running = w; look = l; next = n; marks = ms }) l
+case_at : (i n : ℕ) (l : Look) (ms : List Mark) (w : Running) (r : Reply) →
+    (row_of record { number = i; running = w; look = l; next = n; marks = ms } r).kind ≡ Waited →
+    move_case record { number = i; running = w; look = l; next = n; marks = ms } ≡ case_under
+    (active_of record { number = i; running = w; look = l; next = n; marks = ms }) l
 case_at i n l ms (Runs t) r e = refl
 case_at i n l ms (Final m gs) r e = refl
 case_at i n l ms (Over p) r e = absurd (cc)
@@ -104,7 +109,8 @@ pub case_waits : (g : Fiber) (r : Reply) → (row_of g r).kind ≡ Waited → mo
 case_waits g r e = case_at g.number g.next g.look g.marks g.running r e
 
 -- ---- one entry
-map_kept : (xs : List Fiber) (f : ℕ) (a b : Fiber) → slice_get xs f ≡ Some a → fiber_report b ≡ fiber_report a → map fiber_report (set xs f b) ≡ map fiber_report xs
+map_kept : (xs : List Fiber) (f : ℕ) (a b : Fiber) → slice_get xs f ≡ Some a → fiber_report b ≡ fiber_report a →
+    map fiber_report (set xs f b) ≡ map fiber_report xs
 map_kept [] f a b e h = refl
 map_kept (x ∷ xs) zero a b e h = ap (λ (y : FiberReport). y ∷ map fiber_report xs) (h ∙ ap fiber_report (sym (same_Some x a e)))
 map_kept (x ∷ xs) (suc f) a b e h = ap (λ (ys : List FiberReport). fiber_report x ∷ ys) (map_kept xs f a b e h)
@@ -117,7 +123,8 @@ pub record Still (w : World) (x : Result World RunError) : Type 0 where
   pub reports : map fiber_report world.fibers ≡ map fiber_report w.fibers
 
 module _ (k : Limits) (w : World) (f : ℕ) (fin : IsFinal w) where
-  settle : (t : Cells) (g b : Fiber) → slice_get w.fibers f ≡ Some g → ((i : ℕ) (x : Fiber) → IsAtRest w.cells i x → IsAtRest t i x) → IsAtRest t f b → fiber_report b ≡ fiber_report g → Still w (Ok record { fibers = set w.fibers f b; cells = t })
+  settle : (t : Cells) (g b : Fiber) → slice_get w.fibers f ≡ Some g → ((i : ℕ) (x : Fiber) → IsAtRest w.cells i x → IsAtRest t i x) →
+      IsAtRest t f b → fiber_report b ≡ fiber_report g → Still w (Ok record { fibers = set w.fibers f b; cells = t })
   settle t g b at more rests same = record {
     world = record { fibers = set w.fibers f b; cells = t };
     is = refl;
@@ -183,7 +190,8 @@ module _ (k : Limits) (w : World) (f : ℕ) (fin : IsFinal w) where
         (subst (λ (y : Fiber). Still w (Ok record { fibers = set w.fibers f y; cells = w.cells })) (sym now)
         (settle w.cells g (knowing g Clear) at (λ i y h. h) (rest_looked w.cells f g Clear clear_not_seen rests) refl)))
 
-    resting : (up : List Mask) (l : Look) → move_case g ≡ case_under up l → IsUnasked up l (cell_of w.cells f).request → Still w (wished k w f g (wish_of (ask_of g)))
+    resting : (up : List Mask) (l : Look) → move_case g ≡ case_under up l → IsUnasked up l (cell_of w.cells f).request →
+        Still w (wished k w f g (wish_of (ask_of g)))
     resting [] Due c u = looking c u.1
     resting [] Clear c u = reducing c
     resting [] Seen c u = absurd (u.0 refl)

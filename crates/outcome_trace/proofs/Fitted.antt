@@ -24,7 +24,8 @@ use Rattle.outcome_trace.specs.declared.wish.Wish.TheVariants.{Shared, Alone, No
 use Rattle.outcome_trace.specs.Core.{wish_of}
 use Rattle.outcome_trace.specs.Permits.{IsInRange}
 use Rattle.outcome_trace.proofs.Answered.{alone_answers}
-use Rattle.fiber_frames.specs.Leading.{Asked, DepthAfter, Finalizes, Has_ended, IsGoing, Is_lost, MayEnd, MayLeave, Runs_term, Way, depth_of, look_after, most_next, way_after, way_of}
+use Rattle.fiber_frames.specs.Leading.{Asked, DepthAfter, Finalizes, Has_ended, IsGoing, Is_lost, MayEnd, MayLeave}
+use Rattle.fiber_frames.specs.Leading.{Runs_term, Way, depth_of, look_after, most_next, way_after, way_of}
 use Rattle.derived_ops.specs.Naming.{Given, IsMore}
 use Rattle.fiber_frames.specs.Naming.{AskNamed, NumberGiven}
 use Rattle.outcome_trace.specs.Fitting.{DepthFits, Fits, LookFits, Registered, StageFits, pass_registered}
@@ -70,9 +71,12 @@ may_unmask (Has_ended o) g d e s f h = absurd h
 may_unmask Is_lost g d e s f h = absurd h
 
 may_finish : (w : Way) (g : Stage) (d e : ℕ) (o : Outcome) → StageFits w g → DepthFits w d e → MayEnd w d o → OutcomeFits o → MayFinish g e o
-may_finish w g d e (outcome.Succeeded v) s f h r = subst (λ x. MayFinish x e (outcome.Succeeded v)) (sym (running w g s h.0)) (same_depth w d e f (going w Runs_term h.0 tt) ∙ h.1, r)
-may_finish w g d e (outcome.Errored v) s f h r = subst (λ x. MayFinish x e (outcome.Errored v)) (sym (running w g s h.0)) (same_depth w d e f (going w Runs_term h.0 tt) ∙ h.1, r)
-may_finish w g d e outcome.Canceled s f h r = subst (λ x. MayFinish x e outcome.Canceled) (sym (finalizing w g s h.0)) (same_depth w d e f (going w Finalizes h.0 tt) ∙ h.1)
+may_finish w g d e (outcome.Succeeded v) s f h r =
+    subst (λ x. MayFinish x e (outcome.Succeeded v)) (sym (running w g s h.0)) (same_depth w d e f (going w Runs_term h.0 tt) ∙ h.1, r)
+may_finish w g d e (outcome.Errored v) s f h r =
+    subst (λ x. MayFinish x e (outcome.Errored v)) (sym (running w g s h.0)) (same_depth w d e f (going w Runs_term h.0 tt) ∙ h.1, r)
+may_finish w g d e outcome.Canceled s f h r =
+    subst (λ x. MayFinish x e outcome.Canceled) (sym (finalizing w g s h.0)) (same_depth w d e f (going w Finalizes h.0 tt) ∙ h.1)
 
 -- ---- the condition of the call
 -- no more numbers were given than the limits allow
@@ -90,12 +94,26 @@ module _ (l : Limits) (p : Registered) (room : IsMore p.given (limits_given l)) 
   below_deferreds n h = let most = room.deferreds in omega arith
 
   pub may_by_ask : (a : Ask) → Asked g a → AskNamed p.given g.number a → If_shared (wish_of a) (λ c. IsInRange c → Permits l p c)
-  may_by_ask ask.Look t n = λ _. (open_stage (way_of g.running) p.stage f.stage (going (way_of g.running) Runs_term t.0 tt), same_depth (way_of g.running) (depth_of g) p.depth f.depth (going (way_of g.running) Runs_term t.0 tt) ∙ t.1)
-  may_by_ask ask.Cut t n = λ _. (running (way_of g.running) p.stage f.stage t.0, same_depth (way_of g.running) (depth_of g) p.depth f.depth (going (way_of g.running) Runs_term t.0 tt) ∙ t.1, subst (λ (l : Look). LookFits l p.saw) t.2 f.look)
-  may_by_ask ask.Mask t n = λ _. (open_stage (way_of g.running) p.stage f.stage t.0, (let same = same_depth (way_of g.running) (depth_of g) p.depth f.depth t.0 in let few = t.1 in omega arith))
+  may_by_ask ask.Look t n =
+      λ _. (
+        open_stage (way_of g.running) p.stage f.stage (going (way_of g.running) Runs_term t.0 tt),
+        same_depth (way_of g.running) (depth_of g) p.depth f.depth (going (way_of g.running) Runs_term t.0 tt) ∙ t.1,
+      )
+  may_by_ask ask.Cut t n =
+      λ _. (
+        running (way_of g.running) p.stage f.stage t.0,
+        same_depth (way_of g.running) (depth_of g) p.depth f.depth (going (way_of g.running) Runs_term t.0 tt) ∙ t.1,
+        subst (λ (l : Look). LookFits l p.saw) t.2 f.look,
+      )
+  may_by_ask ask.Mask t n =
+      λ _. (
+        open_stage (way_of g.running) p.stage f.stage t.0,
+        (let same = same_depth (way_of g.running) (depth_of g) p.depth f.depth t.0 in let few = t.1 in omega arith),
+      )
   may_by_ask ask.Unmask t n = λ _. may_unmask (way_of g.running) p.stage (depth_of g) p.depth f.stage f.depth t
   may_by_ask (ask.Finish o) t n = λ fits. may_finish (way_of g.running) p.stage (depth_of g) p.depth o f.stage f.depth t fits
-  may_by_ask (ask.Cancel x) t n = λ _. elim n [ inl e ↦ (let own = below_fibers p.number f.born in let same = f.number in omega arith) | inr l ↦ below_fibers x l ]
+  may_by_ask (ask.Cancel x) t n =
+      λ _. elim n [ inl e ↦ (let own = below_fibers p.number f.born in let same = f.number in omega arith) | inr l ↦ below_fibers x l ]
   may_by_ask (ask.Join x) t n = λ _. below_fibers x n
   may_by_ask ask.Start t n = λ _. open_stage (way_of g.running) p.stage f.stage t
   may_by_ask ask.NewRef t n = λ _. tt
@@ -112,7 +130,8 @@ module _ (l : Limits) (p : Registered) (room : IsMore p.given (limits_given l)) 
   pub permitted : Asking g → (c : Call) → wish_of (ask_of g) ≡ Shared c → IsInRange c → Permits l p c
   permitted h c e = at_call (wish_of (ask_of g)) c (λ c. IsInRange c → Permits l p c) e (may_by_ask (ask_of g) h.tells (h.names p.given f.names))
 
-pub may_make : (p : PassView) → IsPass p → (g : Fiber) → Fits (pass_registered p) g → Asking g → (c : Call) → wish_of (ask_of g) ≡ Shared c → IsInRange c → MayMake p c
+pub may_make : (p : PassView) → IsPass p → (g : Fiber) → Fits (pass_registered p) g → Asking g → (c : Call) → wish_of (ask_of g) ≡ Shared c →
+    IsInRange c → MayMake p c
 may_make p lawful g f = permitted p.registry.limits (pass_registered p) (record {
   fibers = next_of-most Fibers p.registry.limits p.seen lawful.limits lawful.legal;
   refs = next_of-most Refs p.registry.limits p.seen lawful.limits lawful.legal;
@@ -134,7 +153,8 @@ depth_as Finalizes d e h = h tt
 depth_as (Has_ended o) d e h = tt
 depth_as Is_lost d e h = tt
 
-keeps_depth : (g : Fiber) (a : Ask) (d2 e : ℕ) → DepthFits (way_of g.running) (depth_of g) e → Asked g a → DepthAfter a (depth_of g) d2 → If_shared (wish_of a) (λ c. DepthFits (way_after a (way_of g.running)) d2 (depth_after c e))
+keeps_depth : (g : Fiber) (a : Ask) (d2 e : ℕ) → DepthFits (way_of g.running) (depth_of g) e → Asked g a → DepthAfter a (depth_of g) d2 →
+    If_shared (wish_of a) (λ c. DepthFits (way_after a (way_of g.running)) d2 (depth_after c e))
 keeps_depth g ask.Silent d2 e h t p = tt
 keeps_depth g (ask.Over o) d2 e h t p = tt
 keeps_depth g ask.Broken d2 e h t p = tt
@@ -169,16 +189,21 @@ keeps_next ask.Cut n m count h l = omega arith
 keeps_next (ask.Finish o) n m count h l = omega arith
 keeps_next _ n m count h l = omega arith
 
-pub fits_after : (k : Registered) (g : Fiber) (r : Reply) (b : Given) (c : Call) → Fits k g → Asking g → wish_of (ask_of g) ≡ Shared c → Answers g.number (ask_of g) r → IsMore k.given b → NumberGiven b (ask_of g) r → Fits (registered_after c r b k) (move g r)
+pub fits_after : (k : Registered) (g : Fiber) (r : Reply) (b : Given) (c : Call) → Fits k g → Asking g → wish_of (ask_of g) ≡ Shared c →
+    Answers g.number (ask_of g) r → IsMore k.given b → NumberGiven b (ask_of g) r → Fits (registered_after c r b k) (move g r)
 fits_after k g r b c f h e w more given =
     let l = h.leads r w in
     let t = h.tells in
     let a = ask_of g in
     let v = way_of g.running in record {
       number = l.number ∙ f.number;
-      stage = subst (λ x. StageFits x (stage_after c k.stage)) (sym l.way) (at_call (wish_of a) c (λ c. StageFits (way_after a v) (stage_after c k.stage)) e (keeps_stage a v k.stage f.stage));
-      depth = subst (λ x. DepthFits x (depth_of (move g r)) (depth_after c k.depth)) (sym l.way) (at_call (wish_of a) c (λ c. DepthFits (way_after a v) (depth_of (move g r)) (depth_after c k.depth)) e (keeps_depth g a (depth_of (move g r)) k.depth f.depth t l.depth));
-      look = subst (λ (x : Look). LookFits x (saw_after c k.saw r)) (sym l.look) (at_call (wish_of a) c (λ c. LookFits (look_after a r) (saw_after c k.saw r)) e (keeps_look a r k.saw));
+      stage = subst (λ x. StageFits x (stage_after c k.stage)) (sym l.way)
+          (at_call (wish_of a) c (λ c. StageFits (way_after a v) (stage_after c k.stage)) e (keeps_stage a v k.stage f.stage));
+      depth = subst (λ x. DepthFits x (depth_of (move g r)) (depth_after c k.depth)) (sym l.way)
+          (at_call (wish_of a) c (λ c. DepthFits (way_after a v) (depth_of (move g r)) (depth_after c k.depth)) e
+          (keeps_depth g a (depth_of (move g r)) k.depth f.depth t l.depth));
+      look = subst (λ (x : Look). LookFits x (saw_after c k.saw r)) (sym l.look)
+          (at_call (wish_of a) c (λ c. LookFits (look_after a r) (saw_after c k.saw r)) e (keeps_look a r k.saw));
       next = at_call (wish_of a) c (λ c. (move g r).next ≤ count_after c k.count) e (keeps_next a g.next (move g r).next k.count f.next l.next);
       names = h.moves_names b r (run_more k.given b more g.running f.names) given;
       born = (let less = f.born in let up = more.fibers in omega arith);
@@ -226,7 +251,8 @@ fits_alone k g f h e =
     let same = alone_depth (ask_of g) (depth_of g) (depth_of (move g reply.Done)) e l.depth in record {
       number = l.number ∙ f.number;
       stage = subst (λ x. StageFits x k.stage) (sym still) f.stage;
-      depth = subst (λ x. DepthFits x (depth_of (move g reply.Done)) k.depth) (sym still) (depth_moves (way_of g.running) (depth_of g) (depth_of (move g reply.Done)) k.depth f.depth same);
+      depth = subst (λ x. DepthFits x (depth_of (move g reply.Done)) k.depth) (sym still)
+          (depth_moves (way_of g.running) (depth_of g) (depth_of (move g reply.Done)) k.depth f.depth same);
       look = subst (λ (x : Look). LookFits x k.saw) (sym (l.look ∙ alone_look (ask_of g) reply.Done e)) tt;
       next = (let less = alone_next (ask_of g) g.next (move g reply.Done).next e l.next in let more = f.next in omega arith);
       names = h.moves_names k.given reply.Done f.names (alone_given k.given (ask_of g) reply.Done e);

@@ -21,7 +21,8 @@ set-same (x ∷ xs) zero a e = let s : x ≡ a = cc in ap (λ y. y ∷ xs) (sym 
 set-same (x ∷ xs) (suc f) a e = ap (λ ys. x ∷ ys) (set-same xs f a e)
 
 -- an element of a list with more at its end
-pub parted : {A : Type 0} (xs ys : List A) (i : ℕ) (x : A) → slice_get (xs ++ ys) i ≡ Some x → (slice_get xs i ≡ Some x) ⊎ ((j : ℕ) × (i ≡ length xs + j) × (slice_get ys j ≡ Some x))
+pub parted : {A : Type 0} (xs ys : List A) (i : ℕ) (x : A) → slice_get (xs ++ ys) i ≡ Some x → (slice_get xs i ≡ Some x) ⊎
+    ((j : ℕ) × (i ≡ length xs + j) × (slice_get ys j ≡ Some x))
 parted [] ys i x e = inr (i, omega arith, e)
 parted (y ∷ xs) ys zero x e = inl e
 parted (y ∷ xs) ys (suc i) x e = elim (parted xs ys i x e) [ inl h ↦ inl h | inr h ↦ inr (h.0, omega (arith, h.1), h.2) ]

@@ -35,17 +35,20 @@ use Rattle.outcome_trace.proofs.PlainFits.{plain_allowed}
 use Rattle.outcome_trace.proofs.Worlds.{all_alone, all_called, plain_answers}
 
 -- ---- the conditions of a move
-pub may_call : (p : PlainView) (f : ℕ) (g : Fiber) (c : Call) → IsPlain p → Fits (cell_registered p.state f) g → Asking g → wish_of (ask_of g) ≡ Shared c → IsInRange c → MayCall p f c
+pub may_call : (p : PlainView) (f : ℕ) (g : Fiber) (c : Call) → IsPlain p → Fits (cell_registered p.state f) g → Asking g →
+    wish_of (ask_of g) ≡ Shared c → IsInRange c → MayCall p f c
 may_call p f g c lawful fits asks wish range = record {
   born = fits.born;
   allowed = plain_allowed p.limits p.state f g c lawful.sound fits asks wish range;
 }
 
-pub replied_answers : (old new : PlainView) (f : ℕ) (g : Fiber) (r : Reply) → Fits (cell_registered old.state f) g → Replied old f g r new → Answers g.number (ask_of g) r
+pub replied_answers : (old new : PlainView) (f : ℕ) (g : Fiber) (r : Reply) → Fits (cell_registered old.state f) g → Replied old f g r new →
+    Answers g.number (ask_of g) r
 replied_answers old new f g r fits (Unshared wish is same) = subst (Answers g.number (ask_of g)) (sym is) (alone_answers g.number (ask_of g) wish)
 replied_answers old new f g r fits (Made c wish made) =
     let low = fits.born in
-    subst (Answers g.number (ask_of g)) (sym made.reply) (plain_answers old.state f g.number (ask_of g) c wish (subst (λ n. n < old.state.next_fiber) (sym fits.number) low))
+    subst (Answers g.number (ask_of g)) (sym made.reply)
+    (plain_answers old.state f g.number (ask_of g) c wish (subst (λ n. n < old.state.next_fiber) (sym fits.number) low))
 
 -- a fiber has entered fewer masks than the next mask number may have
 pub few_masks : (p : PlainView) (f : ℕ) (g : Fiber) → IsPlain p → Fits (cell_registered p.state f) g → g.next < 2 ^ 63
@@ -70,7 +73,8 @@ one_child x Waited h = absurd h
 one_child x Ceded h = absurd h
 one_child x (Ended o) h = absurd h
 
-shared_children : (g : Fiber) (r : Reply) (a : Ask) (k : Kind) → KindFits a k → If_shared (wish_of a) (λ c. children (told (child g (number_in r)) k) ≡ born g c r)
+shared_children : (g : Fiber) (r : Reply) (a : Ask) (k : Kind) → KindFits a k →
+    If_shared (wish_of a) (λ c. children (told (child g (number_in r)) k) ≡ born g c r)
 shared_children g r ask.Start k h = one_child _ k h
 shared_children g r (ask.Finish o) k h = ap (λ x. children (told (child g (number_in r)) x)) h
 shared_children g r ask.Silent k h = tt
@@ -90,7 +94,8 @@ pub record Entered (old : PlainView) (fibers : List Fiber) (f : ℕ) (new : Plai
   pub goes : entered old.limits (Ok (world_of fibers old.state)) f ≡ Ok (world_of (set fibers f after ++ born) new.state)
   pub fits : AllFit (world_of (set fibers f after ++ born) new.state)
 
-module _ (old : PlainView) (fibers : List Fiber) (f : ℕ) (g : Fiber) (all : AllFit (world_of fibers old.state)) (lawful : IsPlain old) (at : slice_get fibers f ≡ Some g) where
+module _ (old : PlainView) (fibers : List Fiber) (f : ℕ) (g : Fiber) (all : AllFit (world_of fibers old.state)) (lawful : IsPlain old)
+    (at : slice_get fibers f ≡ Some g) where
   abbrev w : World
   w = world_of fibers old.state
 
@@ -115,7 +120,8 @@ module _ (old : PlainView) (fibers : List Fiber) (f : ℕ) (g : Fiber) (all : Al
         fits = subst (λ xs. AllFit (world_of xs old.state)) (sym same) (all_alone w f g all at asks wish);
       }
 
-  made : Asking g → (c : Call) → wish_of (ask_of g) ≡ Shared c → refusal old.limits old.state f c ≡ None → Entered old fibers f (record old { state = after old.state f c }) (move g (reply_of old.state f c)) (born g c (reply_of old.state f c))
+  made : Asking g → (c : Call) → wish_of (ask_of g) ≡ Shared c → refusal old.limits old.state f c ≡ None →
+      Entered old fibers f (record old { state = after old.state f c }) (move g (reply_of old.state f c)) (born g c (reply_of old.state f c))
   made asks c wish room = record {
     limits = refl;
     goes = wishes (Shared c) wish ∙ ap (answered w f g c) room;
@@ -124,7 +130,8 @@ module _ (old : PlainView) (fibers : List Fiber) (f : ℕ) (g : Fiber) (all : Al
 
   replied : Asking g → (r : Reply) (new : PlainView) → Replied old f g r new → Entered old fibers f new (move g r) (children (moved g r))
   replied asks r new (Unshared wish is same) =
-      let none : children (moved g reply.Done) ≡ [] = alone_children _ (ask_of g) (kind_of g reply.Done) wish (asks.leads reply.Done (alone_answers g.number (ask_of g) wish)).kind in
+      let none : children (moved g reply.Done) ≡ [] =
+      alone_children _ (ask_of g) (kind_of g reply.Done) wish (asks.leads reply.Done (alone_answers g.number (ask_of g) wish)).kind in
       subst (λ (n : PlainView). Entered old fibers f n (move g r) (children (moved g r))) (sym same)
       (subst (λ (x : Reply). Entered old fibers f old (move g x) (children (moved g x))) (sym is)
       (subst (λ ks. Entered old fibers f old (move g reply.Done) ks) (sym none) (alone asks wish)))
@@ -132,7 +139,8 @@ module _ (old : PlainView) (fibers : List Fiber) (f : ℕ) (g : Fiber) (all : Al
       let s = reply_of old.state f c in
       let fits = all.each f g at in
       let own : Answers g.number (ask_of g) s = subst (Answers g.number (ask_of g)) m.reply (replied_answers old new f g r fits (Made c wish m)) in
-      let kids : children (moved g s) ≡ born g c s = at_call (wish_of (ask_of g)) c (λ d. children (moved g s) ≡ born g d s) wish (shared_children g s (ask_of g) (kind_of g s) (asks.leads s own).kind) in
+      let kids : children (moved g s) ≡ born g c s =
+      at_call (wish_of (ask_of g)) c (λ d. children (moved g s) ≡ born g d s) wish (shared_children g s (ask_of g) (kind_of g s) (asks.leads s own).kind) in
       subst (λ (n : PlainView). Entered old fibers f n (move g r) (children (moved g r))) (sym m.left)
       (subst (λ (x : Reply). Entered old fibers f (record old { state = after old.state f c }) (move g x) (children (moved g x))) (sym m.reply)
       (subst (λ ks. Entered old fibers f (record old { state = after old.state f c }) (move g s) ks) (sym kids) (made asks c wish m.room)))
@@ -165,7 +173,8 @@ pub unborn_entered : (k : Limits) (w : World) (f : ℕ) → length w.fibers ≤ 
 unborn_entered k w f past = ap (turned k w f) (slice_get_past w.fibers f past)
 
 -- the opening
-pub core-opened : (k : Limits) (code : Tree) (r : PlainView) (fibers : List Fiber) (schedule : List ℕ) → fibers ≡ begins 0 code ∷ [] → r ≡ new_plain k → fold (entered r.limits) (Ok (world_of fibers r.state)) schedule ≡ core code k schedule
+pub core-opened : (k : Limits) (code : Tree) (r : PlainView) (fibers : List Fiber) (schedule : List ℕ) → fibers ≡ begins 0 code ∷ [] →
+    r ≡ new_plain k → fold (entered r.limits) (Ok (world_of fibers r.state)) schedule ≡ core code k schedule
 unfolding core
 core-opened k code r fibers schedule first opened =
     ap (λ (x : PlainView). fold (entered x.limits) (Ok (world_of fibers x.state)) schedule) opened

@@ -40,15 +40,26 @@ look_more Seen saw more k h = k h
 
 -- the same, but for what is known of the request and how many numbers were given
 pub fits_more : (k : Registered) (more : Bool) (g : Fiber) → Fits k g → Knows k.saw more → Fits (record k { saw = more }) g
-fits_more k more g f h = record { number = f.number; stage = f.stage; depth = f.depth; look = look_more g.look k.saw more h f.look; next = f.next; names = f.names; born = f.born }
+fits_more k more g f h =
+    record { number = f.number; stage = f.stage; depth = f.depth; look = look_more g.look k.saw more h f.look; next = f.next; names = f.names; born = f.born }
 
-pub fits_as : (k : Registered) (own : Stage × ℕ × ℕ) (b : Given) (g : Fiber) → Fits k g → (k.stage, k.depth, k.count) ≡ own → IsMore k.given b → Fits (record k { stage = own.0; depth = own.1; count = own.2; given = b }) g
+pub fits_as : (k : Registered) (own : Stage × ℕ × ℕ) (b : Given) (g : Fiber) → Fits k g → (k.stage, k.depth, k.count) ≡ own → IsMore k.given b →
+    Fits (record k { stage = own.0; depth = own.1; count = own.2; given = b }) g
 fits_as k own b g f e more =
     subst (λ (o : Stage × ℕ × ℕ). Fits (record k { stage = o.0; depth = o.1; count = o.2; given = b }) g) e
-    record { number = f.number; stage = f.stage; depth = f.depth; look = f.look; next = f.next; names = run_more k.given b more g.running f.names; born = (let less = f.born in let up = more.fibers in omega arith) }
+    record {
+      number = f.number;
+      stage = f.stage;
+      depth = f.depth;
+      look = f.look;
+      next = f.next;
+      names = run_more k.given b more g.running f.names;
+      born = (let less = f.born in let up = more.fibers in omega arith);
+    }
 
 -- ---- requests stay
-set_request : (cells : List Cell) (f i : ℕ) (c : Cell) → Knows (get_or cells f fresh).request c.request → Knows (get_or cells i fresh).request (get_or (set cells f c) i fresh).request
+set_request : (cells : List Cell) (f i : ℕ) (c : Cell) → Knows (get_or cells f fresh).request c.request →
+    Knows (get_or cells i fresh).request (get_or (set cells f c) i fresh).request
 set_request [] f i c h = λ e. e
 set_request (x ∷ xs) zero zero c h = h
 set_request (x ∷ xs) zero (suc i) c h = λ e. e
@@ -79,7 +90,8 @@ saw_same s i call.Look = refl
 saw_same s i _ = refl
 
 -- ---- the caller's own part
-own_after : (s : Cells) (i : ℕ) (c : Call) → i < length s.cells → (c ≡ call.Cut → (cell_of s i).depth ≡ 0) → (stage_after c (cell_of s i).stage, depth_after c (cell_of s i).depth, count_after c (cell_of s i).count) ≡ owned (cell_of (after s i c) i)
+own_after : (s : Cells) (i : ℕ) (c : Call) → i < length s.cells → (c ≡ call.Cut → (cell_of s i).depth ≡ 0) →
+    (stage_after c (cell_of s i).stage, depth_after c (cell_of s i).depth, count_after c (cell_of s i).count) ≡ owned (cell_of (after s i c) i)
 unfolding after
 own_after s i call.Start h flat = refl
 own_after s i (call.Cancel f) h flat = sym (get_or-set_kept owned s.cells f (requested (cell_of s f)) fresh refl i)
@@ -87,7 +99,8 @@ own_after s i (call.Join f) h flat = sym (get_or-set_kept owned s.cells f (await
 own_after s i call.Look h flat = refl
 own_after s i call.Mask h flat = ap owned (sym (get_or-set_same s.cells i (masked (cell_of s i)) fresh h))
 own_after s i call.Unmask h flat = ap owned (sym (get_or-set_same s.cells i (unmasked (cell_of s i)) fresh h))
-own_after s i call.Cut h flat = (λ j. (Finalizing, sym (flat refl) j + 1, (cell_of s i).count + 1)) ∙ ap owned (sym (get_or-set_same s.cells i (cut (cell_of s i)) fresh h))
+own_after s i call.Cut h flat = (λ j. (Finalizing, sym (flat refl) j + 1, (cell_of s i).count + 1)) ∙
+    ap owned (sym (get_or-set_same s.cells i (cut (cell_of s i)) fresh h))
 own_after s i (call.Finish o) h flat = ap owned (sym (get_or-set_same s.cells i (finished o (cell_of s i)) fresh h))
 own_after s i call.NewRef h flat = refl
 own_after s i call.NewDeferred h flat = refl
@@ -102,9 +115,12 @@ given_rises s by c = record { fibers = next_of-rises Fibers s by c; refs = next_
 
 number_next : (s : Cells) (i : ℕ) (a : Ask) (c : Call) → wish_of a ≡ Shared c → NumberGiven (given_by (after s i c)) a (reply_of s i c)
 unfolding after reply_of
-number_next s i ask.Start c e = let same : call.Start ≡ c = cc in subst (λ c. NumberGiven (given_by (after s i c)) ask.Start (reply_of s i c)) same (omega arith)
-number_next s i ask.NewRef c e = let same : call.NewRef ≡ c = cc in subst (λ c. NumberGiven (given_by (after s i c)) ask.NewRef (reply_of s i c)) same (omega arith)
-number_next s i ask.NewDeferred c e = let same : call.NewDeferred ≡ c = cc in subst (λ c. NumberGiven (given_by (after s i c)) ask.NewDeferred (reply_of s i c)) same (omega arith)
+number_next s i ask.Start c e = let same : call.Start ≡ c = cc in
+    subst (λ c. NumberGiven (given_by (after s i c)) ask.Start (reply_of s i c)) same (omega arith)
+number_next s i ask.NewRef c e = let same : call.NewRef ≡ c = cc in
+    subst (λ c. NumberGiven (given_by (after s i c)) ask.NewRef (reply_of s i c)) same (omega arith)
+number_next s i ask.NewDeferred c e = let same : call.NewDeferred ≡ c = cc in
+    subst (λ c. NumberGiven (given_by (after s i c)) ask.NewDeferred (reply_of s i c)) same (omega arith)
 number_next s i _ c e = tt
 
 -- a cut comes where no mask is counted
@@ -116,11 +132,15 @@ flat_cut g e ask.Broken d t = tt
 flat_cut g e _ d t = λ q. absurd (cc)
 
 -- ---- after a call of fiber i
-pub plain_own : (s : Cells) (i : ℕ) (g : Fiber) (c : Call) → i < length s.cells → Fits (cell_registered s i) g → Asking g → wish_of (ask_of g) ≡ Shared c → Answers g.number (ask_of g) (reply_of s i c) → Fits (cell_registered (after s i c) i) (move g (reply_of s i c))
+pub plain_own : (s : Cells) (i : ℕ) (g : Fiber) (c : Call) → i < length s.cells → Fits (cell_registered s i) g → Asking g →
+    wish_of (ask_of g) ≡ Shared c → Answers g.number (ask_of g) (reply_of s i c) → Fits (cell_registered (after s i c) i) (move g (reply_of s i c))
 plain_own s i g c in_cells f h w k =
     let b = given_by (after s i c) in
     let moved = fits_after (cell_registered s i) g (reply_of s i c) b c f h w k (given_rises s i c) (number_next s i (ask_of g) c w) in
-    let owns = fits_as (registered_after c (reply_of s i c) b (cell_registered s i)) (owned (cell_of (after s i c) i)) b (move g (reply_of s i c)) moved (own_after s i c in_cells (at_call (wish_of (ask_of g)) c (λ c. c ≡ call.Cut → (cell_of s i).depth ≡ 0) w (flat_cut g (cell_of s i).depth (ask_of g) f.depth h.tells))) (record { fibers = omega arith; refs = omega arith; deferreds = omega arith }) in
+    let owns = fits_as (registered_after c (reply_of s i c) b (cell_registered s i)) (owned (cell_of (after s i c) i)) b (move g (reply_of s i c))
+    moved (own_after s i c in_cells
+    (at_call (wish_of (ask_of g)) c (λ c. c ≡ call.Cut → (cell_of s i).depth ≡ 0) w (flat_cut g (cell_of s i).depth (ask_of g) f.depth h.tells)))
+    (record { fibers = omega arith; refs = omega arith; deferreds = omega arith }) in
     fits_more _ (cell_of (after s i c) i).request (move g (reply_of s i c)) owns (λ e. request_stays s i c i (sym (saw_same s i c) ∙ e))
 
 -- every other fiber
@@ -149,6 +169,8 @@ allowed k s i call.NewDeferred x h = tt
 allowed k s i (call.Get r) x h = h
 allowed k s i (call.Read d) x h = h
 
-pub plain_allowed : (k : Limits) (s : Cells) (i : ℕ) (g : Fiber) (c : Call) → IsSound k s → Fits (cell_registered s i) g → Asking g → wish_of (ask_of g) ≡ Shared c → IsInRange c → IsAllowed k s i c
+pub plain_allowed : (k : Limits) (s : Cells) (i : ℕ) (g : Fiber) (c : Call) → IsSound k s → Fits (cell_registered s i) g → Asking g →
+    wish_of (ask_of g) ≡ Shared c → IsInRange c → IsAllowed k s i c
 plain_allowed k s i g c sound f h w x =
-    allowed k s i c x (permitted k (cell_registered s i) (record { fibers = sound.next_fiber; refs = sound.next_ref; deferreds = sound.next_deferred }) g f h c w x)
+    allowed k s i c x (permitted k (cell_registered s i)
+    (record { fibers = sound.next_fiber; refs = sound.next_ref; deferreds = sound.next_deferred }) g f h c w x)

@@ -60,11 +60,17 @@ module _ (p q : PassView) (c : Call) (r : Reply) (made : Calls p c r q) where
   -- the number that the last call was answered
   number_given : (n : ℕ) (a : Ask) → r ≡ reply.Number n → If_shared (wish_of a) (λ d. c ≡ d → NumberGiven (given_by (left p.registry.limits q.seen)) a r)
   number_given n ask.Start is = λ same.
-      subst (λ (h : List Entry). number_in r < (left p.registry.limits h).next_fiber) (sym made.seen) (subst (λ x. x < (left p.registry.limits (before ++ e ∷ [])).next_fiber) (ap number_in (sym is)) (WasGiven-next Fibers p.registry.limits (before ++ e ∷ []) n legal (WasGiven-push Fibers before e n same is)))
+      subst (λ (h : List Entry). number_in r < (left p.registry.limits h).next_fiber) (sym made.seen)
+      (subst (λ x. x < (left p.registry.limits (before ++ e ∷ [])).next_fiber) (ap number_in (sym is))
+      (WasGiven-next Fibers p.registry.limits (before ++ e ∷ []) n legal (WasGiven-push Fibers before e n same is)))
   number_given n ask.NewRef is = λ same.
-      subst (λ (h : List Entry). number_in r < (left p.registry.limits h).next_ref) (sym made.seen) (subst (λ x. x < (left p.registry.limits (before ++ e ∷ [])).next_ref) (ap number_in (sym is)) (WasGiven-next Refs p.registry.limits (before ++ e ∷ []) n legal (WasGiven-push Refs before e n same is)))
+      subst (λ (h : List Entry). number_in r < (left p.registry.limits h).next_ref) (sym made.seen)
+      (subst (λ x. x < (left p.registry.limits (before ++ e ∷ [])).next_ref) (ap number_in (sym is))
+      (WasGiven-next Refs p.registry.limits (before ++ e ∷ []) n legal (WasGiven-push Refs before e n same is)))
   number_given n ask.NewDeferred is = λ same.
-      subst (λ (h : List Entry). number_in r < (left p.registry.limits h).next_deferred) (sym made.seen) (subst (λ x. x < (left p.registry.limits (before ++ e ∷ [])).next_deferred) (ap number_in (sym is)) (WasGiven-next Deferreds p.registry.limits (before ++ e ∷ []) n legal (WasGiven-push Deferreds before e n same is)))
+      subst (λ (h : List Entry). number_in r < (left p.registry.limits h).next_deferred) (sym made.seen)
+      (subst (λ x. x < (left p.registry.limits (before ++ e ∷ [])).next_deferred) (ap number_in (sym is))
+      (WasGiven-next Deferreds p.registry.limits (before ++ e ∷ []) n legal (WasGiven-push Deferreds before e n same is)))
   number_given n ask.Look is = λ same. tt
   number_given n ask.Cut is = λ same. tt
   number_given n ask.Mask is = λ same. tt
@@ -123,15 +129,20 @@ wants_number b i ask.Silent r w h = tt
 wants_number b i (ask.Over o) r w h = tt
 wants_number b i ask.Broken r w h = tt
 
-pub call_given : (p q : PassView) (c : Call) (r : Reply) → Calls p c r q → (a : Ask) (i : ℕ) → wish_of a ≡ Shared c → Answers i a r → NumberGiven (given_by (left p.registry.limits q.seen)) a r
-call_given p q c r made a i w k = wants_number (given_by (left p.registry.limits q.seen)) i a r k (λ n is. at_call (wish_of a) c (λ d. c ≡ d → NumberGiven (given_by (left p.registry.limits q.seen)) a r) w (number_given p q c r made n a is) refl)
+pub call_given : (p q : PassView) (c : Call) (r : Reply) → Calls p c r q → (a : Ask) (i : ℕ) → wish_of a ≡ Shared c → Answers i a r →
+    NumberGiven (given_by (left p.registry.limits q.seen)) a r
+call_given p q c r made a i w k =
+    wants_number (given_by (left p.registry.limits q.seen)) i a r k
+    (λ n is. at_call (wish_of a) c (λ d. c ≡ d → NumberGiven (given_by (left p.registry.limits q.seen)) a r) w (number_given p q c r made n a is) refl)
 
 -- ---- the fit after a call
-pub made_fits : (p q : PassView) (c : Call) (r : Reply) (g : Fiber) → Makes p c r q → Fits (pass_registered p) g → Asking g → wish_of (ask_of g) ≡ Shared c → c ≢ call.Start → Fits (pass_registered q) (move g r)
+pub made_fits : (p q : PassView) (c : Call) (r : Reply) (g : Fiber) → Makes p c r q → Fits (pass_registered p) g → Asking g →
+    wish_of (ask_of g) ≡ Shared c → c ≢ call.Start → Fits (pass_registered q) (move g r)
 made_fits p q c r g m f h w other =
     let k = call_answers p q c r m.call (ask_of g) g.number w other in
     subst (λ x. Fits x (move g r)) (sym (ap pass_registered m.same))
-    (fits_after (pass_registered p) g r (given_by (left p.registry.limits q.seen)) c f h w k (given_more p q c r m.call) (call_given p q c r m.call (ask_of g) g.number w k))
+    (fits_after (pass_registered p) g r (given_by (left p.registry.limits q.seen)) c f h w k (given_more p q c r m.call)
+    (call_given p q c r m.call (ask_of g) g.number w k))
 
 -- ---- a start
 is_start : (i n : ℕ) (a : Ask) → wish_of a ≡ Shared call.Start → i < n → Answers i a (reply.Number n)
@@ -155,7 +166,8 @@ is_start i n (ask.Over o) e l = absurd (cc)
 is_start i n ask.Broken e l = absurd (cc)
 
 -- the number that a start gives is above the fiber's own
-pub start_answers : (p ch q : PassView) (g : Fiber) → IsPass p → Starts p ch q → g.number ≡ p.number → wish_of (ask_of g) ≡ Shared call.Start → Answers g.number (ask_of g) (reply.Number ch.number)
+pub start_answers : (p ch q : PassView) (g : Fiber) → IsPass p → Starts p ch q → g.number ≡ p.number → wish_of (ask_of g) ≡ Shared call.Start →
+    Answers g.number (ask_of g) (reply.Number ch.number)
 start_answers p ch q g lawful s n w =
     let above = s.above p.number lawful.own in
     is_start g.number ch.number (ask_of g) w (subst (λ i. i < ch.number) (sym n) above)
@@ -164,7 +176,8 @@ start_answers p ch q g lawful s n w =
 pub begins_fits : (b : Given) (i : ℕ) (t : Tree) → NamedBeginning b (begins i t) → i < b.fibers → Fits (new_registered i b) (begins i t)
 begins_fits b i t h l = record { number = refl; stage = refl; depth = sym h.depth; look = tt; next = omega arith; names = h.names; born = l }
 
-pub started_fits : (p ch q : PassView) (g : Fiber) → IsPass p → Starts p ch q → OnlySees p q → Fits (pass_registered p) g → Asking g → wish_of (ask_of g) ≡ Shared call.Start → Fits (pass_registered q) (move g (reply.Number ch.number)) × Fits (pass_registered ch) (child g ch.number)
+pub started_fits : (p ch q : PassView) (g : Fiber) → IsPass p → Starts p ch q → OnlySees p q → Fits (pass_registered p) g → Asking g →
+    wish_of (ask_of g) ≡ Shared call.Start → Fits (pass_registered q) (move g (reply.Number ch.number)) × Fits (pass_registered ch) (child g ch.number)
 started_fits p ch q g lawful s same f h w =
     let r = reply.Number ch.number in
     let k = start_answers p ch q g lawful s f.number w in

@@ -5,9 +5,13 @@ use Rattle.effect_term.specs.declared.reply.Reply.{Reply}
 use Rattle.fiber_frames.specs.declared.ask.Ask.{Ask}
 use Rattle.fiber_frames.specs.declared.ask.Ask.TheVariants as ask
 use Rattle.fiber_frames.specs.declared.ask.Look.TheVariants.{Due}
-use Rattle.derived_ops.specs.Tree.{Action, Never, Ending, Await, Operand, Pure, Raise, Act, Let, Seq, Handled, Guarded, Masked, Polled, Join, Mask, Tree, Make, New_ref, New_deferred}
-use Rattle.fiber_frames.specs.Path.{Running, Runs, Final, Over, Broken, Step, In_let, In_seq, In_handle, In_guarded, In_masked, In_polled, Root, At_term, At_final, active, leaf, path, rooted, whole, focus}
-use Rattle.fiber_frames.specs.Rows.{Waited, Row, wait, outcome_in, read_in, after_end, after_read, branch, action_row, word_row, value_row, error_row, row, row_at, placed}
+use Rattle.derived_ops.specs.Tree.{Action, Never, Ending, Await, Operand, Pure, Raise, Act, Let, Seq, Handled, Guarded}
+use Rattle.derived_ops.specs.Tree.{Masked, Polled, Join, Mask, Tree, Make, New_ref, New_deferred}
+use Rattle.fiber_frames.specs.Path.{Running, Runs, Final, Over, Broken, Step, In_let, In_seq, In_handle, In_guarded}
+use Rattle.fiber_frames.specs.Path.{In_masked, In_polled, Root, At_term, At_final, active, leaf, path, rooted, whole}
+use Rattle.fiber_frames.specs.Path.{focus}
+use Rattle.fiber_frames.specs.Rows.{Waited, Row, wait, outcome_in, read_in, after_end, after_read, branch, action_row}
+use Rattle.fiber_frames.specs.Rows.{word_row, value_row, error_row, row, row_at, placed}
 use Rattle.fiber_frames.specs.Fiber.{Fiber, reduced, row_of}
 
 -- what a row leaves of a term or a fiber, and which calls it can be about

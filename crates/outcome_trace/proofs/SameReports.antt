@@ -37,7 +37,8 @@ pub reports_alike : (a b : Fiber) → outcome_of a ≡ outcome_of b → a.marks 
 unfolding told
 reports_alike a b os ms = ap₂ told os ms
 
-pub reports_apart : (a b : Fiber) (xs ys : List Mark) (r : Bool) → xs ≡ a.marks → ys ≡ b.marks → r ≡ pointwise derived.eq-value.it xs ys → r ≡ false → fiber_report a ≢ fiber_report b
+pub reports_apart : (a b : Fiber) (xs ys : List Mark) (r : Bool) → xs ≡ a.marks → ys ≡ b.marks → r ≡ pointwise derived.eq-value.it xs ys →
+    r ≡ false → fiber_report a ≢ fiber_report b
 reports_apart a b xs ys r ex ey is differs = λ same.
     not_from_Decides r (marks_decide xs ys r is) differs (ex ∙ ap (λ (f : FiberReport). f.marks) same ∙ sym ey)
 
@@ -51,7 +52,8 @@ pub marks_same : (a b xs ys : List Mark) (r : Bool) → xs ≡ a → ys ≡ b �
 marks_same a b xs ys r ex ey is same = sym ex ∙ (marks_decide xs ys r is).0 same ∙ ey
 
 -- two lists differ where what is told of two elements at one index does
-pub maps_apart : {A B : Type 0} (f : A → B) (xs ys : List A) (i : ℕ) (x y : A) → i < length xs → i < length ys → x ≡ get_or xs i x → y ≡ get_or ys i y → f x ≢ f y → map f xs ≢ map f ys
+pub maps_apart : {A B : Type 0} (f : A → B) (xs ys : List A) (i : ℕ) (x y : A) → i < length xs → i < length ys → x ≡ get_or xs i x →
+    y ≡ get_or ys i y → f x ≢ f y → map f xs ≢ map f ys
 maps_apart f [] ys i x y h l ex ey apart = absurd (omega arith)
 maps_apart f (v ∷ xs) [] i x y h l ex ey apart = absurd (omega arith)
 maps_apart f (v ∷ xs) (w ∷ ys) zero x y h l ex ey apart = λ same.

@@ -1,5 +1,6 @@
 -- What the code asks of a fiber tells whether it rests.
-use Rattle.std.proofs.Common.{◌≡◌, ◌≢◌, ◌⊎◌, inl, inr, ℕ, zero, suc, ◌+◌, ◌<◌, length, Bool, true, false, List, [], ◌∷◌, ◌++◌, Result, Ok, Option, Some, None, if◌then◌else◌, refl, sym, ap, ◌∙◌, subst, arith}
+use Rattle.std.proofs.Common.{◌≡◌, ◌≢◌, ◌⊎◌, inl, inr, ℕ, zero, suc, ◌+◌, ◌<◌, length, Bool, true, false, List, [], ◌∷◌}
+use Rattle.std.proofs.Common.{◌++◌, Result, Ok, Option, Some, None, if◌then◌else◌, refl, sym, ap, ◌∙◌, subst, arith}
 use Rattle.std.specs.Prelude.{IfNone, is_none, not}
 use Rattle.std.specs.Option.{is_some}
 use Rattle.std.specs.List.{fold, slice_get}
@@ -18,7 +19,9 @@ use Rattle.fiber_frames.specs.declared.ask.Ask.TheVariants as ask
 use Rattle.fiber_frames.specs.declared.ask.Look.{Look}
 use Rattle.fiber_frames.specs.declared.ask.Look.TheVariants.{Clear, Due, Seen}
 use Rattle.fiber_frames.specs.declared.mark.Mark.{Mark}
-use Rattle.fiber_frames.specs.Path.{Running, Runs, Final, Over, Broken, Step, In_let, In_seq, In_handle, In_guarded, In_masked, In_polled, Root, At_term, At_final, active, leaf, path, focus, is_effective}
+use Rattle.fiber_frames.specs.Path.{Running, Runs, Final, Over, Broken, Step, In_let, In_seq, In_handle, In_guarded}
+use Rattle.fiber_frames.specs.Path.{In_masked, In_polled, Root, At_term, At_final, active, leaf, path, focus}
+use Rattle.fiber_frames.specs.Path.{is_effective}
 use Rattle.fiber_frames.specs.Rows.{Waited, wait, outcome_in, read_in, action_row, word_row, value_row, error_row, row, row_at}
 use Rattle.fiber_frames.specs.Fiber.{Fiber, active_of, ask_in, ask_of, case_under, outcome_of, row_of}
 use Rattle.fiber_frames.specs.Naming.{AskNamed, NamedRun}
@@ -96,7 +99,8 @@ none_joined at.Running e = refl
 none_joined at.Finalizing e = refl
 none_joined (at.Ended o) e = absurd (cc)
 
-pub waits_join : (s : Cells) (f : ℕ) (g : Fiber) (x : ℕ) → ask.Join x ≡ (row_of g reply.Done).call → has_ended (cell_of s x).stage ≡ false → (row_of g (reply_to s f (word_wish g))).kind ≡ Waited
+pub waits_join : (s : Cells) (f : ℕ) (g : Fiber) (x : ℕ) → ask.Join x ≡ (row_of g reply.Done).call → has_ended (cell_of s x).stage ≡ false →
+    (row_of g (reply_to s f (word_wish g))).kind ≡ Waited
 unfolding reply_of
 waits_join s f g x is running =
     let r = reply.Join (join_reply (cell_of s x).stage) in
@@ -107,7 +111,8 @@ empty_none : {A : Type 0} (o : Option A) → is_none o ≡ true → o ≡ None
 empty_none None e = refl
 empty_none (Some x) e = absurd (cc)
 
-pub waits_read : (s : Cells) (f : ℕ) (g : Fiber) (d : ℕ) → ask.Read d ≡ (row_of g reply.Done).call → is_none (deferred_of s d) ≡ true → (row_of g (reply_to s f (word_wish g))).kind ≡ Waited
+pub waits_read : (s : Cells) (f : ℕ) (g : Fiber) (d : ℕ) → ask.Read d ≡ (row_of g reply.Done).call → is_none (deferred_of s d) ≡ true →
+    (row_of g (reply_to s f (word_wish g))).kind ≡ Waited
 unfolding reply_of
 waits_read s f g d is empty =
     let r = reply.Read (deferred_of s d) in
@@ -122,7 +127,8 @@ unseen [] Due q fits (inr h) = ((λ e. cc), h)
 unseen [] Clear q fits (inr h) = ((λ e. cc), h)
 unseen [] Seen q fits (inr h) = absurd (let no : true ≡ false = sym fits ∙ h in cc)
 
-pub at_rest : (s : Cells) (f : ℕ) (g : Fiber) → Fits (cell_registered s f) g → (active_of g ≢ []) ⊎ ((cell_of s f).request ≡ false) → (row_of g (reply_to s f (word_wish g))).kind ≡ Waited → IsAtRest s f g
+pub at_rest : (s : Cells) (f : ℕ) (g : Fiber) → Fits (cell_registered s f) g → (active_of g ≢ []) ⊎ ((cell_of s f).request ≡ false) →
+    (row_of g (reply_to s f (word_wish g))).kind ≡ Waited → IsAtRest s f g
 at_rest s f g fits h waits = record { waits = waits; unasked = unseen (active_of g) g.look (cell_of s f).request fits.look h }
 
 pub some_is : (o : Option Outcome) (g : Fiber) → o ≡ outcome_of g → is_some o ≡ true → HasEnded g
@@ -134,7 +140,15 @@ under_clear : (f : Fiber) (up : List Mask) → ask_in f (case_under up Clear) �
 under_clear f [] = refl
 under_clear f (m ∷ up) = refl
 
-word_asks : (i n : ℕ) (ms : List Mark) (w : Running) → ask_of record { number = i; running = w; look = Clear; next = n; marks = ms } ≡ (row_of record { number = i; running = w; look = Clear; next = n; marks = ms } reply.Done).call
+word_asks : (i n : ℕ) (ms : List Mark) (w : Running) →
+    ask_of record {
+      number = i;
+      running = w;
+      look = Clear;
+      next = n;
+      marks =
+          ms;
+    } ≡ (row_of record { number = i; running = w; look = Clear; next = n; marks = ms } reply.Done).call
 word_asks i n ms (Runs t) = let f : Fiber = record { number = i; running = Runs t; look = Clear; next = n; marks = ms } in under_clear f (active_of f)
 word_asks i n ms (Final m gs) = let f : Fiber = record { number = i; running = Final m gs; look = Clear; next = n; marks = ms } in under_clear f (active_of f)
 word_asks i n ms (Over o) = refl
@@ -151,7 +165,8 @@ pub not_false : (b : Bool) → not b ≡ false → b ≡ true
 not_false true e = refl
 not_false false e = absurd (cc)
 
-pub one_settled : (P : ℕ → Fiber → Type 0) (xs : List Fiber) (i : ℕ) (x : Fiber) → ((f : ℕ) (g : Fiber) → f < i → slice_get xs f ≡ Some g → P f g) → slice_get xs i ≡ Some x → P i x → (f : ℕ) (g : Fiber) → f < i + 1 → slice_get xs f ≡ Some g → P f g
+pub one_settled : (P : ℕ → Fiber → Type 0) (xs : List Fiber) (i : ℕ) (x : Fiber) → ((f : ℕ) (g : Fiber) → f < i → slice_get xs f ≡ Some g → P f g) →
+    slice_get xs i ≡ Some x → P i x → (f : ℕ) (g : Fiber) → f < i + 1 → slice_get xs f ≡ Some g → P f g
 one_settled P xs i x earlier at p f g less e = dite (ℕ_discrete i f)
     (λ same. subst (λ n. P n g) same (subst (λ (y : Fiber). P i y) (same_Some x g (sym at ∙ subst (λ n. slice_get xs n ≡ Some g) (sym same) e)) p))
     (λ apart. earlier f g (omega arith) e)
@@ -172,11 +187,13 @@ none_on k w = record { entries = []; leads = refl }
 pub one_on : (k l : Limits) (w v x : World) (f : ℕ) → GoesOn k w v → l ≡ k → entered l (Ok v) f ≡ Ok x → GoesOn k w x
 one_on k l w v x f g same e = record {
   entries = g.entries ++ f ∷ [];
-  leads = fold_parts k (Ok w) g.entries (f ∷ []) ∙ ap (λ (y : Result World RunError). entered k y f) g.leads ∙ subst (λ (m : Limits). entered m (Ok v) f ≡ Ok x) same e;
+  leads = fold_parts k (Ok w) g.entries (f ∷ []) ∙ ap (λ (y : Result World RunError). entered k y f) g.leads ∙
+      subst (λ (m : Limits). entered m (Ok v) f ≡ Ok x) same e;
 }
 
 pub more_on : (k l : Limits) (w v x : World) → GoesOn k w v → l ≡ k → GoesOn l v x → GoesOn k w x
 more_on k l w v x g same h = record {
   entries = g.entries ++ h.entries;
-  leads = fold_parts k (Ok w) g.entries h.entries ∙ ap (λ (y : Result World RunError). fold (entered k) y h.entries) g.leads ∙ subst (λ (m : Limits). fold (entered m) (Ok v) h.entries ≡ Ok x) same h.leads;
+  leads = fold_parts k (Ok w) g.entries h.entries ∙ ap (λ (y : Result World RunError). fold (entered k) y h.entries) g.leads ∙
+      subst (λ (m : Limits). fold (entered m) (Ok v) h.entries ≡ Ok x) same h.leads;
 }

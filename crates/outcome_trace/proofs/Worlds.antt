@@ -70,7 +70,8 @@ born_one g call.Start r zero x e = (refl, refl, sym (same_Some (child g (number_
 born_one g call.Start r (suc j) x e = absurd (cc)
 born_one g _ r j x e = cc
 
-module _ (k : Limits) (w : World) (f : ℕ) (g : Fiber) (c : Call) (all : AllFit w) (sound : IsSound k w.cells) (at : slice_get w.fibers f ≡ Some g) (asks : Asking g) (wish : wish_of (ask_of g) ≡ Shared c) where
+module _ (k : Limits) (w : World) (f : ℕ) (g : Fiber) (c : Call) (all : AllFit w) (sound : IsSound k w.cells) (at : slice_get w.fibers f ≡ Some g)
+    (asks : Asking g) (wish : wish_of (ask_of g) ≡ Shared c) where
   abbrev r : Reply
   r = reply_of w.cells f c
 
@@ -97,7 +98,8 @@ module _ (k : Limits) (w : World) (f : ℕ) (g : Fiber) (c : Call) (all : AllFit
       let fresh : Fits (new_registered n b) (child g n) =
       begins_fits b n _ (asks.child_names b n (run_more (given_by w.cells) b more g.running fits.names)) up in
       let here : (Running, 0, 0) ≡ owned (cell_of s n) = sym (owned-after w.cells f c n (λ e. let l = low in omega arith) ∙ all.unborn n (omega arith)) in
-      let owns = fits_as (new_registered n b) (owned (cell_of s n)) b (child g n) fresh here (record { fibers = omega arith; refs = omega arith; deferreds = omega arith }) in
+      let owns = fits_as (new_registered n b) (owned (cell_of s n)) b (child g n) fresh here
+      (record { fibers = omega arith; refs = omega arith; deferreds = omega arith }) in
       fits_more _ (cell_of s n).request (child g n) owns (λ e. absurd (cc))
 
   pub all_called : AllFit (called w f g c r)
@@ -129,7 +131,8 @@ module _ (k : Limits) (w : World) (f : ℕ) (g : Fiber) (c : Call) (all : AllFit
   }
 
 -- a move without a call
-pub all_alone : (w : World) (f : ℕ) (g : Fiber) → AllFit w → slice_get w.fibers f ≡ Some g → Asking g → wish_of (ask_of g) ≡ Alone → AllFit (record w { fibers = set w.fibers f (silent_move g) })
+pub all_alone : (w : World) (f : ℕ) (g : Fiber) → AllFit w → slice_get w.fibers f ≡ Some g → Asking g → wish_of (ask_of g) ≡ Alone →
+    AllFit (record w { fibers = set w.fibers f (silent_move g) })
 all_alone w f g all at asks wish = record {
   many = length-set w.fibers f (silent_move g) ∙ all.many;
   each = λ i x e. dite (ℕ_discrete f i)
@@ -152,7 +155,8 @@ all_first k code lawful named =
         let s = opening k in
         let new = begins_fits (given_by s) 0 code (named (given_by s)) (omega arith) in
         let same : IsMore (given_by s) (given_by s) = record { fibers = omega arith; refs = omega arith; deferreds = omega arith } in
-        let owns = fits_as (new_registered 0 (given_by s)) (owned (cell_of s 0)) (given_by s) (begins 0 code) new (ap owned (sym (get_or-replicate_default fresh k.fibers 0))) same in
+        let owns = fits_as (new_registered 0 (given_by s)) (owned (cell_of s 0)) (given_by s) (begins 0 code) new
+        (ap owned (sym (get_or-replicate_default fresh k.fibers 0))) same in
         let fits = fits_more _ (cell_of s 0).request (begins 0 code) owns (λ e. absurd (cc)) in
         subst (Fits (cell_registered s 0)) (same_Some (begins 0 code) g e) fits
     first (suc f) g e = absurd (cc)

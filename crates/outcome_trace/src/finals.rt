@@ -1,5 +1,6 @@
 //! How the fibers of a run go on until none can.
-ghost use Rattle.std.specs.Prelude.{IfNone, IfOk, IfSome, OnOk, ◌≡◌, ◌≢◌, ◌⊎◌, ◌<◌, ◌++◌, ◌∷◌, ℕ, None as Nobody, Some as Somebody};
+ghost use Rattle.std.specs.Prelude.{IfNone, IfOk, IfSome, OnOk, ◌≡◌, ◌≢◌, ◌⊎◌, ◌<◌, ◌++◌, ◌∷◌, ℕ, None as Nobody};
+ghost use Rattle.std.specs.Prelude.{Some as Somebody};
 ghost use Rattle.std.specs.Prelude.{[], true, false, get_or};
 ghost use Rattle.fiber_frames.specs.Fiber.{active_of, outcome_of};
 ghost use Rattle.cell_registry.specs.Cells.{cell_of};

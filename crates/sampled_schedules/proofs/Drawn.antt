@@ -24,7 +24,8 @@ start : (code : Tree) (k : Limits) (w : World) → w ≡ first_world code k → 
 unfolding core
 start code k w is = ap Ok (sym is)
 
-reached_well : (code : Tree) (k : Limits) (v : World) (s : List ℕ) (end : Result Report RunError) → core code k s ≡ Ok v → end ≡ reported (Ok v) → IsFinal v → IsReached code k record { schedule = s; end = end }
+reached_well : (code : Tree) (k : Limits) (v : World) (s : List ℕ) (end : Result Report RunError) → core code k s ≡ Ok v → end ≡ reported (Ok v) →
+    IsFinal v → IsReached code k record { schedule = s; end = end }
 reached_well code k v s end leads is final = record {
   reached = ap reported leads ∙ sym is;
   settled = subst (λ (x : Result World RunError). IfOk x (Stays k)) (sym leads) (final_stays_so k v final);
@@ -32,7 +33,8 @@ reached_well code k v s end leads is final = record {
 
 -- what a walk from the first world comes to was drawn
 pub drawn_of : {A : Type 0} (code : Tree) (k : Limits) (most : ℕ) (w v : World) (walked : Result A RunError) (s : List ℕ) (end : Result Report RunError) →
-    w ≡ first_world code k → IsWalkOr walked k w [] v s most → walked ≢ Err run.NoMemory → OnOk walked (length s < most → IsFinal v) → end ≡ reported (came walked v) →
+    w ≡ first_world code k → IsWalkOr walked k w [] v s most → walked ≢ Err run.NoMemory → OnOk walked (length s < most → IsFinal v) →
+    end ≡ reported (came walked v) →
     IsDrawn code k most record { schedule = s; end = end }
 drawn_of code k most w v (Ok d) s end first walked lacks final is =
     let walk = went d k w v [] s most walked in
@@ -60,7 +62,8 @@ head_or : {A : Type 0} (P : A → Type 0) (x : A) (xs : List A) → P x → All 
 head_or P x xs p h zero y e = subst P (same_Some x y e) p
 head_or P x xs p h (suc i) y e = all_at P xs i y e h
 
-pub sampled_more : (code : Tree) (k : Limits) (most n : ℕ) (cs : List Coming) (a : Answer) (ds : List Coming) → IsSampleOf code k most n cs → IsDrawn code k most a → IsNoted cs a ds → IsSampleOf code k most (n + 1) ds
+pub sampled_more : (code : Tree) (k : Limits) (most n : ℕ) (cs : List Coming) (a : Answer) (ds : List Coming) → IsSampleOf code k most n cs →
+    IsDrawn code k most a → IsNoted cs a ds → IsSampleOf code k most (n + 1) ds
 sampled_more code k most n cs a ds sample drawn noted = record {
   drawn = a ∷ sample.drawn;
   many = let many = sample.many in omega arith;

@@ -1,5 +1,6 @@
 -- What is told of the answers that were drawn, where one more is.
-use Rattle.std.proofs.Common.{◌≡◌, ◌≢◌, ◌⊎◌, inl, inr, ℕ, zero, suc, ◌+◌, ◌<◌, ◌≤◌, List, [], ◌∷◌, ◌++◌, length, set, get_or, Result, refl, sym, ap, ◌∙◌, subst, arith}
+use Rattle.std.proofs.Common.{◌≡◌, ◌≢◌, ◌⊎◌, inl, inr, ℕ, zero, suc, ◌+◌, ◌<◌, ◌≤◌, List, [], ◌∷◌, ◌++◌, length, set}
+use Rattle.std.proofs.Common.{get_or, Result, refl, sym, ap, ◌∙◌, subst, arith}
 use Rattle.std.specs.Prelude.{Some}
 use Rattle.std.specs.List.{All, slice_get, sum_by}
 use Rattle.std.proofs.lemmas.Option.{get_or_from_slice_get, same_Some, slice_get_within}
@@ -21,7 +22,8 @@ raises : (cs : List Coming) (i : ℕ) (c : Coming) → slice_get cs i ≡ Some c
 raises cs i c at =
     let times : Coming → ℕ = λ (x : Coming). x.times in
     let is : get_or cs i c ≡ c = get_or_from_slice_get cs i c c at in
-    let more : sum_by times (set cs i (raised c)) + times (get_or cs i c) ≡ sum_by times cs + times (raised c) = sum_by-set times cs i (raised c) c (slice_get_within cs i c at) in
+    let more : sum_by times (set cs i (raised c)) + times (get_or cs i c) ≡ sum_by times cs + times (raised c) =
+    sum_by-set times cs i (raised c) c (slice_get_within cs i c at) in
     let here : times (get_or cs i c) ≡ c.times = ap times is in
     omega arith
 
@@ -53,19 +55,23 @@ sooner (y ∷ xs) ys zero x e = e
 sooner (y ∷ xs) ys (suc i) x e = sooner xs ys i x e
 
 -- what holds of the answers
-pub all_noted : (P : Answer → Type 0) (cs : List Coming) (a : Answer) (ds : List Coming) → IsNoted cs a ds → All (λ (c : Coming). P c.answer) cs → P a → All (λ (c : Coming). P c.answer) ds
+pub all_noted : (P : Answer → Type 0) (cs : List Coming) (a : Answer) (ds : List Coming) → IsNoted cs a ds → All (λ (c : Coming). P c.answer) cs →
+    P a → All (λ (c : Coming). P c.answer) ds
 all_noted P cs a ds (Again i c at same is) h p = all_from (λ (c : Coming). P c.answer) ds (λ j b e.
     let e' : slice_get (set cs i (raised c)) j ≡ Some b = subst (λ (l : List Coming). slice_get l j ≡ Some b) is e in
     dite (ℕ_discrete i j)
     (λ it.
-    let b_is : raised c ≡ b = same_Some (raised c) b (sym (slice_get-set_same cs i c (raised c) at) ∙ subst (λ n. slice_get (set cs i (raised c)) n ≡ Some b) (sym it) e') in
+    let b_is : raised c ≡ b =
+    same_Some (raised c) b (sym (slice_get-set_same cs i c (raised c) at) ∙ subst (λ n. slice_get (set cs i (raised c)) n ≡ Some b) (sym it) e') in
     subst (λ (x : Coming). P x.answer) b_is (all_at (λ (c : Coming). P c.answer) cs i c at h))
     (λ apart. all_at (λ (c : Coming). P c.answer) cs j b (sym (slice_get-set_other cs i j (raised c) apart) ∙ e') h))
 all_noted P cs a ds (First new is) h p =
-    All-same (λ (c : Coming). P c.answer) ds (cs ++ record { answer = a; times = 1 } ∷ []) is (All-push (λ (c : Coming). P c.answer) cs record { answer = a; times = 1 } h p)
+    All-same (λ (c : Coming). P c.answer) ds (cs ++ record { answer = a; times = 1 } ∷ []) is
+    (All-push (λ (c : Coming). P c.answer) cs record { answer = a; times = 1 } h p)
 
 -- ---- the tally
-further : (drawn : List Answer) (a b : Answer) (place i : ℕ) (x : Answer) → ((j : ℕ) (y : Answer) → place < j → slice_get drawn j ≡ Some y → y.end ≢ b.end) → suc place < i → slice_get (a ∷ drawn) i ≡ Some x → x.end ≢ b.end
+further : (drawn : List Answer) (a b : Answer) (place i : ℕ) (x : Answer) →
+    ((j : ℕ) (y : Answer) → place < j → slice_get drawn j ≡ Some y → y.end ≢ b.end) → suc place < i → slice_get (a ∷ drawn) i ≡ Some x → x.end ≢ b.end
 further drawn a b place zero x earlier low e = absurd (omega arith)
 further drawn a b place (suc i) x earlier low e = earlier i x (omega arith) e
 
@@ -73,7 +79,8 @@ further drawn a b place (suc i) x earlier low e = earlier i x (omega arith) e
 first_yet : (drawn : List Answer) (a b : Answer) → IsFirst drawn b → IsFirst (a ∷ drawn) b
 first_yet drawn a b f = record { place = suc f.place; here = f.here; earlier = λ i x low e. further drawn a b f.place i x f.earlier low e }
 
-past : (drawn : List Answer) (a : Answer) → ((i : ℕ) (x : Answer) → slice_get drawn i ≡ Some x → x.end ≢ a.end) → (i : ℕ) (x : Answer) → 0 < i → slice_get (a ∷ drawn) i ≡ Some x → x.end ≢ a.end
+past : (drawn : List Answer) (a : Answer) → ((i : ℕ) (x : Answer) → slice_get drawn i ≡ Some x → x.end ≢ a.end) → (i : ℕ) (x : Answer) → 0 < i →
+    slice_get (a ∷ drawn) i ≡ Some x → x.end ≢ a.end
 past drawn a others zero x low e = absurd (omega arith)
 past drawn a others (suc i) x low e = others i x e
 
@@ -87,12 +94,14 @@ none_so end [] h = none
 none_so end (x ∷ drawn) h = another x drawn 0 (h 0 x refl) (none_so end drawn (λ i y e. h (suc i) y e))
 
 -- each of these is told, and so is the last one
-told_all : (drawn : List Answer) (a : Answer) (ds : List Coming) → ((i : ℕ) (x : Answer) → slice_get drawn i ≡ Some x → IsTold ds x.end) → IsTold ds a.end → (i : ℕ) (x : Answer) → slice_get (a ∷ drawn) i ≡ Some x → IsTold ds x.end
+told_all : (drawn : List Answer) (a : Answer) (ds : List Coming) → ((i : ℕ) (x : Answer) → slice_get drawn i ≡ Some x → IsTold ds x.end) →
+    IsTold ds a.end → (i : ℕ) (x : Answer) → slice_get (a ∷ drawn) i ≡ Some x → IsTold ds x.end
 told_all drawn a ds before now zero x e = subst (λ (y : Answer). IsTold ds y.end) (same_Some a x e) now
 told_all drawn a ds before now (suc i) x e = before i x e
 
 -- ---- an end that came again
-module _ (drawn : List Answer) (cs : List Coming) (a : Answer) (tally : IsTally drawn cs) (i : ℕ) (c : Coming) (at : slice_get cs i ≡ Some c) (same : c.answer.end ≡ a.end) where
+module _ (drawn : List Answer) (cs : List Coming) (a : Answer) (tally : IsTally drawn cs) (i : ℕ) (c : Coming) (at : slice_get cs i ≡ Some c)
+    (same : c.answer.end ≡ a.end) where
   abbrev now : List Coming
   now = set cs i (raised c)
 
@@ -139,7 +148,8 @@ module _ (drawn : List Answer) (cs : List Coming) (a : Answer) (tally : IsTally 
   }
 
 -- ---- an end that is new
-module _ (drawn : List Answer) (cs : List Coming) (a : Answer) (tally : IsTally drawn cs) (new : (i : ℕ) (c : Coming) → slice_get cs i ≡ Some c → c.answer.end ≢ a.end) where
+module _ (drawn : List Answer) (cs : List Coming) (a : Answer) (tally : IsTally drawn cs) (new : (i : ℕ) (c : Coming) → slice_get cs i ≡ Some c →
+    c.answer.end ≢ a.end) where
   abbrev one : Coming
   one = record { answer = a; times = 1 }
 

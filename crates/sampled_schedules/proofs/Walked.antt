@@ -1,5 +1,6 @@
 -- Schedules that are drawn entry by entry.
-use Rattle.std.proofs.Common.{◌≡◌, ◌⊎◌, inl, inr, ℕ, ◌+◌, ◌<◌, ◌≤◌, List, [], ◌∷◌, ◌++◌, length, Result, Ok, Err, IfErr, OnOk, sym, ap, ◌∙◌, subst, arith, length-append}
+use Rattle.std.proofs.Common.{◌≡◌, ◌⊎◌, inl, inr, ℕ, ◌+◌, ◌<◌, ◌≤◌, List, [], ◌∷◌, ◌++◌, length, Result, Ok, Err, IfErr}
+use Rattle.std.proofs.Common.{OnOk, sym, ap, ◌∙◌, subst, arith, length-append}
 use Rattle.std.specs.List.{All, fold}
 use Rattle.std.proofs.lemmas.List.Elements.{All-push}
 use Rattle.derived_ops.specs.Tree.{Tree}
@@ -13,11 +14,13 @@ use Rattle.outcome_trace.proofs.Finality.{final_stays, fold_parts}
 use Rattle.sampled_schedules.specs.Private.Walking.{IsWalk, came}
 
 -- one more entry
-core_more : (code : Tree) (k : Limits) (s : List ℕ) (f : ℕ) (x y : Result World RunError) → core code k s ≡ x → entered k x f ≡ y → core code k (s ++ f ∷ []) ≡ y
+core_more : (code : Tree) (k : Limits) (s : List ℕ) (f : ℕ) (x y : Result World RunError) → core code k s ≡ x → entered k x f ≡ y →
+    core code k (s ++ f ∷ []) ≡ y
 unfolding core
 core_more code k s f x y before here = fold_parts k (Ok (first_world code k)) s (f ∷ []) ∙ ap (λ (z : Result World RunError). entered k z f) before ∙ here
 
-one_walked : (k : Limits) (w : World) (x : Result World RunError) (before after : List ℕ) (f : ℕ) → after ≡ before ++ f ∷ [] → f < 1000 → entered k (Ok w) f ≡ x → IsWalk k w before x after 1
+one_walked : (k : Limits) (w : World) (x : Result World RunError) (before after : List ℕ) (f : ℕ) → after ≡ before ++ f ∷ [] → f < 1000 →
+    entered k (Ok w) f ≡ x → IsWalk k w before x after 1
 one_walked k w x before after f is low here = record {
   leads = λ code h. subst (λ (s : List ℕ). core code k s ≡ x) (sym is) (core_more code k before f (Ok w) x h here);
   numbers = λ h. subst (All (λ n. n < 1000)) (sym is) (All-push (λ n. n < 1000) before f h low);
@@ -36,7 +39,8 @@ entry_walked k w v (Err e) before after f is low goes stops = elim stops [
 ]
 
 -- entries behind those that led so far
-on : (k : Limits) (w v : World) (x : Result World RunError) (a b c : List ℕ) (m n most : ℕ) → IsWalk k w a (Ok v) b m → IsWalk k v b x c n → m + n ≤ most → IsWalk k w a x c most
+on : (k : Limits) (w v : World) (x : Result World RunError) (a b c : List ℕ) (m n most : ℕ) → IsWalk k w a (Ok v) b m → IsWalk k v b x c n →
+    m + n ≤ most → IsWalk k w a x c most
 on k w v x a b c m n most first next room = record {
   leads = λ code h. next.leads code (first.leads code h);
   numbers = λ h. next.numbers (first.numbers h);
@@ -62,7 +66,8 @@ pub started : (k : Limits) (w : World) (a : List ℕ) (most : ℕ) → IsWalk k 
 started k w a most = record { leads = λ code h. h; numbers = λ h. h; short = omega arith }
 
 -- so many more at most, if the list is no longer
-pub within : (k : Limits) (w : World) (x : Result World RunError) (a c : List ℕ) (n most : ℕ) → IsWalk k w a x c n → length c ≤ length a + most → IsWalk k w a x c most
+pub within : (k : Limits) (w : World) (x : Result World RunError) (a c : List ℕ) (n most : ℕ) → IsWalk k w a x c n → length c ≤ length a + most →
+    IsWalk k w a x c most
 within k w x a c n most walk room = record { leads = walk.leads; numbers = walk.numbers; short = room }
 
 -- whatever entries follow, the report stays

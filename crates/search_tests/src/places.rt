@@ -1,6 +1,7 @@
 //! A store of the places of a small graph.
 
-ghost use Rattle.std.specs.Prelude.{◌≡◌, ◌≢◌, ℕ, ◌+◌, ◌*◌, ◌<◌, ◌≤◌, List, length, max, slice_index_or, Ok as GoesWell, Err as Fails};
+ghost use Rattle.std.specs.Prelude.{◌≡◌, ◌≢◌, ℕ, ◌+◌, ◌*◌, ◌<◌, ◌≤◌, List, length, max, slice_index_or, Ok as GoesWell};
+ghost use Rattle.std.specs.Prelude.{Err as Fails};
 ghost use Rattle.std.specs.Prelude.{IfOk, OnOk, IfSome, Some, true, false};
 ghost use Rattle.std.specs.List.{slice_get};
 ghost use Rattle.world_search.specs.Landings.{EntersAt};

@@ -19,7 +19,9 @@ runs : (t : Term) (s : List ℕ) (k : Limits) (end : Result Report RunError) →
 runs t s k (Ok r) e = reports r e
 runs t s k (Err x) e = faults x e
 
-pub told_answers : {E : Type 0} (t : Term) (s : List ℕ) (k : Limits) (front : Answer) (end : Result Report RunError) (rows : List ℕ) (r : Result Answer E) → replayed t k s ≡ end → front.text.items ≡ end_text end → front.status ≡ end_status end → IfOk r (λ a. a.text.items ≡ front.text.items ++ 10 ∷ rows) → IfOk r (λ a. a.status ≡ front.status) → IfOk r (λ a. IsToldAnswer t s k a.text.items a.status)
+pub told_answers : {E : Type 0} (t : Term) (s : List ℕ) (k : Limits) (front : Answer) (end : Result Report RunError) (rows : List ℕ)
+    (r : Result Answer E) → replayed t k s ≡ end → front.text.items ≡ end_text end → front.status ≡ end_status end →
+    IfOk r (λ a. a.text.items ≡ front.text.items ++ 10 ∷ rows) → IfOk r (λ a. a.status ≡ front.status) → IfOk r (λ a. IsToldAnswer t s k a.text.items a.status)
 told_answers t s k front end rows (Ok a) core text status behind same = record {
   front = end_text end;
   timeline = rows;
@@ -28,10 +30,12 @@ told_answers t s k front end rows (Ok a) core text status behind same = record {
 }
 told_answers t s k front end rows (Err x) core text status behind same = tt
 
-pub refusal_told : {E : Type 0} (text schedule : List ℕ) (limits : Limits) (a : Result Answer E) → IfOk a (λ a. IsRefusalAnswer text a.text.items a.status) → IfOk a (λ a. IsTimelineAnswer schedule limits text a.text.items a.status)
+pub refusal_told : {E : Type 0} (text schedule : List ℕ) (limits : Limits) (a : Result Answer E) →
+    IfOk a (λ a. IsRefusalAnswer text a.text.items a.status) → IfOk a (λ a. IsTimelineAnswer schedule limits text a.text.items a.status)
 refusal_told text schedule limits (Ok a) h = unreplayed text a.text.items a.status h
 refusal_told text schedule limits (Err e) h = tt
 
-pub run_told : {E : Type 0} (text schedule : List ℕ) (limits : Limits) (t : Term) (a : Result Answer E) → reading text ≡ Ok (atoms_of t) → IsProgram t → IfOk a (λ a. IsToldAnswer t schedule limits a.text.items a.status) → IfOk a (λ a. IsTimelineAnswer schedule limits text a.text.items a.status)
+pub run_told : {E : Type 0} (text schedule : List ℕ) (limits : Limits) (t : Term) (a : Result Answer E) → reading text ≡ Ok (atoms_of t) →
+    IsProgram t → IfOk a (λ a. IsToldAnswer t schedule limits a.text.items a.status) → IfOk a (λ a. IsTimelineAnswer schedule limits text a.text.items a.status)
 run_told text schedule limits t (Ok a) e p h = tells text a.text.items a.status t e p h
 run_told text schedule limits t (Err x) e p h = tt

@@ -14,7 +14,8 @@ module _ {W E : Type 0} (step : W → ℕ → Result W E) where
   IsOf S T (Err e) = T e
 
   -- no entry leads out of a closed set, and no schedule does
-  pub closed_run : (S : W → Type 0) (T : E → Type 0) → ((w : W) → S w → (f : ℕ) → IsOf S T (step w f)) → (x : Result W E) → IsOf S T x → (s : List ℕ) → IsOf S T (run step x s)
+  pub closed_run : (S : W → Type 0) (T : E → Type 0) → ((w : W) → S w → (f : ℕ) → IsOf S T (step w f)) → (x : Result W E) → IsOf S T x →
+      (s : List ℕ) → IsOf S T (run step x s)
   closed_run S T closed x h [] = h
   closed_run S T closed (Ok w) h (f ∷ s) = closed_run S T closed (step w f) (closed w h f) s
   closed_run S T closed (Err e) h (f ∷ s) = closed_run S T closed (Err e) h s
@@ -25,7 +26,8 @@ module _ {W E : Type 0} (step : W → ℕ → Result W E) where
     StaysIn S w (Ok x) = S x × (report x ≡ report w)
     StaysIn S w (Err e) = ⊥
 
-    settled_from : (S : W → Type 0) → ((w : W) → S w → (f : ℕ) → StaysIn S w (step w f)) → (v : W) (x : Result W E) → StaysIn S v x → (s : List ℕ) → reported step report (run step x s) ≡ Ok (report v)
+    settled_from : (S : W → Type 0) → ((w : W) → S w → (f : ℕ) → StaysIn S w (step w f)) → (v : W) (x : Result W E) → StaysIn S v x → (s : List ℕ) →
+        reported step report (run step x s) ≡ Ok (report v)
     settled_from S each v (Ok w) h [] = ap Ok h.1
     settled_from S each v (Ok w) h (f ∷ s) = settled_from S each w (step w f) (each w h.0 f) s ∙ ap Ok h.1
     settled_from S each v (Err e) h s = absurd h
@@ -37,7 +39,9 @@ module _ {W E : Type 0} (step : W → ℕ → Result W E) where
     -- what is settled stays so, with its report
     pub settled_next : (w x : W) (f : ℕ) → step w f ≡ Ok x → IsSettled step report w → IsSettled step report x × (report x ≡ report w)
     settled_next w x f e h =
-        let same : report x ≡ report w = (let q : reported step report (run step (step w f) []) ≡ Ok (report w) = h (f ∷ []) in let r : reported step report (run step (Ok x) []) ≡ Ok (report w) = subst (λ y. reported step report (run step y []) ≡ Ok (report w)) e q in cc) in
+        let same : report x ≡ report w =
+        (let q : reported step report (run step (step w f) []) ≡ Ok (report w) = h (f ∷ []) in let r :
+        reported step report (run step (Ok x) []) ≡ Ok (report w) = subst (λ y. reported step report (run step y []) ≡ Ok (report w)) e q in cc) in
         (λ s. subst (λ y. reported step report (run step y s) ≡ Ok (report w)) e (h (f ∷ s)) ∙ ap Ok (sym same), same)
 
     -- at a settled world no entry changes the report

@@ -25,18 +25,21 @@ below (suc f) (suc n) = elim (below f n) [ inl l ↦ inl (omega arith) | inr g �
 
 module _ {W E R : Type 0} (step : W → ℕ → Result W E) (report : W → R) (most longest : ℕ) where
   module _ (ws vs : List W) (es ds : List E) (s t : Shape) (g : Grows ws vs es ds s t) (i : ℕ) (w : W) (n : ℕ) where
-    met_next : ((f : ℕ) → f < n → IsMet step report most longest ws es s (step w f)) → IsMet step report most longest vs ds t (step w n) → (f : ℕ) → f < n + 1 → IsMet step report most longest vs ds t (step w f)
+    met_next : ((f : ℕ) → f < n → IsMet step report most longest ws es s (step w f)) → IsMet step report most longest vs ds t (step w n) → (f : ℕ) →
+        f < n + 1 → IsMet step report most longest vs ds t (step w f)
     met_next h last f low = dite (ℕ_discrete f n)
         (λ is. subst (λ m. IsMet step report most longest vs ds t (step w m)) (sym is) last)
         (λ isnt. grow_met step report most longest ws vs es ds s t g (step w f) (h f (omega arith)))
 
-    stays_next : ((f : ℕ) → f < n → Stays step report most longest ws es s i w (step w f)) → Stays step report most longest vs ds t i w (step w n) → (f : ℕ) → f < n + 1 → Stays step report most longest vs ds t i w (step w f)
+    stays_next : ((f : ℕ) → f < n → Stays step report most longest ws es s i w (step w f)) → Stays step report most longest vs ds t i w (step w n) →
+        (f : ℕ) → f < n + 1 → Stays step report most longest vs ds t i w (step w f)
     stays_next h last f low = dite (ℕ_discrete f n)
         (λ is. subst (λ m. Stays step report most longest vs ds t i w (step w m)) (sym is) last)
         (λ isnt. grow_stays step report most longest ws vs es ds s t g i w (step w f) (h f (omega arith)))
 
     -- one entry more
-    pub came_next : (a b : Came) → CameSo step report most longest ws es s i w a n → ComesTo step report most longest vs ds t i w b (step w n) → CameSo step report most longest vs ds t i w (worse_of a b) (n + 1)
+    pub came_next : (a b : Came) → CameSo step report most longest ws es s i w a n → ComesTo step report most longest vs ds t i w b (step w n) →
+        CameSo step report most longest vs ds t i w (worse_of a b) (n + 1)
     came_next came.Lost b h k = tt
     came_next came.Leaves came.Lost h k = tt
     came_next came.Leaves came.Leaves h k = (met_next h.0 k.0, h.1)
@@ -49,27 +52,33 @@ module _ {W E R : Type 0} (step : W → ℕ → Result W E) (report : W → R) (
     pub quiet_all : ((w : W) → slice_get ws i ≡ Some w → CameSo step report most longest ws es s i w came.Stays n) → IsQuiet step report most longest ws es s i
     quiet_all h w at f = elim (below f n) [ inl low ↦ (h w at f low).1 | inr past ↦ inl (rests w at f past) ]
 
-    met_all : i < length s.nodes → ((w : W) → slice_get ws i ≡ Some w → (f : ℕ) → f < n → IsMet step report most longest ws es s (step w f)) → (w : W) → slice_get ws i ≡ Some w → (f : ℕ) → IsMet step report most longest ws es s (step w f)
+    met_all : i < length s.nodes → ((w : W) → slice_get ws i ≡ Some w → (f : ℕ) → f < n → IsMet step report most longest ws es s (step w f)) →
+        (w : W) → slice_get ws i ≡ Some w → (f : ℕ) → IsMet step report most longest ws es s (step w f)
     met_all here h w at f = elim (below f n) [
       | inl low ↦ h w at f low
       | inr past ↦ subst (IsMet step report most longest ws es s) (sym (rests w at f past)) (i, here, at)
     ]
 
-    pub done_quiet : i < length s.nodes → i < length s.unsettled → ((w : W) → slice_get ws i ≡ Some w → CameSo step report most longest ws es s i w came.Stays n) → IsDone step report most longest ws es (with_quiet s i) i
+    pub done_quiet : i < length s.nodes → i < length s.unsettled →
+        ((w : W) → slice_get ws i ≡ Some w → CameSo step report most longest ws es s i w came.Stays n) →
+        IsDone step report most longest ws es (with_quiet s i) i
     done_quiet here flag h = record {
       met = met_all here (λ w at f low. (h w at f low).0);
       leaves = λ yes w at. let no : true ≡ false = same_Some true false (sym yes ∙ set_same s.unsettled i false flag) in absurd (cc);
     }
 
-    pub done_leaves : i < length s.nodes → ((w : W) → slice_get ws i ≡ Some w → CameSo step report most longest ws es s i w came.Leaves n) → IsDone step report most longest ws es s i
+    pub done_leaves : i < length s.nodes → ((w : W) → slice_get ws i ≡ Some w → CameSo step report most longest ws es s i w came.Leaves n) →
+        IsDone step report most longest ws es s i
     done_leaves here h = record {
       met = met_all here (λ w at. (h w at).0);
       leaves = λ yes w at. (h w at).1;
     }
 
   -- one world more
-  pub done_next : (ws vs : List W) (es ds : List E) (s t : Shape) (n : ℕ) → Grows ws vs es ds s t → length s.nodes ≤ length ws → length s.unsettled ≡ length s.nodes → n < length s.nodes → SameFlags n s.unsettled t.unsettled
-      → ((i : ℕ) → i < n → IsDone step report most longest ws es s i) → IsDone step report most longest vs ds t n → (i : ℕ) → i < n + 1 → IsDone step report most longest vs ds t i
+  pub done_next : (ws vs : List W) (es ds : List E) (s t : Shape) (n : ℕ) → Grows ws vs es ds s t → length s.nodes ≤ length ws →
+      length s.unsettled ≡ length s.nodes → n < length s.nodes → SameFlags n s.unsettled t.unsettled
+      → ((i : ℕ) → i < n → IsDone step report most longest ws es s i) → IsDone step report most longest vs ds t n → (i : ℕ) → i < n + 1 →
+      IsDone step report most longest vs ds t i
   done_next ws vs es ds s t n g known flags low same h last i less = dite (ℕ_discrete i n)
       (λ is. subst (IsDone step report most longest vs ds t) (sym is) last)
       (λ isnt. grow_done step report most longest ws vs es ds s t g i (omega arith) (same i isnt (omega arith)) (h i (omega arith)))

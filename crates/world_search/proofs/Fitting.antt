@@ -1,5 +1,6 @@
 -- What is known of the worlds and entries of a search stays where they go on.
-use Rattle.std.proofs.Common.{◌≡◌, ℕ, ◌+◌, ◌<◌, true, false, List, [], ◌∷◌, ◌++◌, length, Some, Result, Ok, Err, sym, ◌∙◌, subst, arith, inl, inr, length-append, length-set}
+use Rattle.std.proofs.Common.{◌≡◌, ℕ, ◌+◌, ◌<◌, true, false, List, [], ◌∷◌, ◌++◌, length, Some, Result, Ok, Err, sym}
+use Rattle.std.proofs.Common.{◌∙◌, subst, arith, inl, inr, length-append, length-set}
 use Rattle.std.specs.List.{slice_get}
 use Rattle.std.proofs.lemmas.Option.{same_Some, slice_get_within}
 use mathlib.Core.Logic.{dite}
@@ -28,18 +29,28 @@ grows_grows ws vs us es ds cs s t r g h = record {
 }
 
 pub grows_node : {W E : Type 0} (ws : List W) (es : List E) (s : Shape) (n : Node) → Grows ws ws es es s (with_node s n)
-grows_node ws es s n = record { worlds = more_same ws; faults = more_same es; nodes = more_by s.nodes (n ∷ []); edges = more_same s.edges; noted = more_same s.noted }
+grows_node ws es s n =
+    record { worlds = more_same ws; faults = more_same es; nodes = more_by s.nodes (n ∷ []); edges = more_same s.edges; noted = more_same s.noted }
 
 pub grows_edge : {W E : Type 0} (ws : List W) (es : List E) (s : Shape) (e : Edge) → Grows ws ws es es s (with_edge s e)
-grows_edge ws es s e = record { worlds = more_same ws; faults = more_same es; nodes = more_same s.nodes; edges = more_by s.edges (e ∷ []); noted = more_same s.noted }
+grows_edge ws es s e =
+    record { worlds = more_same ws; faults = more_same es; nodes = more_same s.nodes; edges = more_by s.edges (e ∷ []); noted = more_same s.noted }
 
 pub grows_noted : {W E : Type 0} (ws : List W) (es : List E) (s : Shape) (n : Noted) → Grows ws ws es es s (with_noted s n)
-grows_noted ws es s n = record { worlds = more_same ws; faults = more_same es; nodes = more_same s.nodes; edges = more_same s.edges; noted = more_by s.noted (n ∷ []) }
+grows_noted ws es s n =
+    record { worlds = more_same ws; faults = more_same es; nodes = more_same s.nodes; edges = more_same s.edges; noted = more_by s.noted (n ∷ []) }
 
 module _ {W E R : Type 0} (step : W → ℕ → Result W E) (report : W → R) (most longest : ℕ) where
   module _ (ws vs : List W) (es ds : List E) (s t : Shape) (g : Grows ws vs es ds s t) where
     pub grow_enter : (n : Node) → CanEnter most longest s.nodes n → CanEnter most longest t.nodes n
-    grow_enter n h = record { parent = h.parent; above = more_get s.nodes t.nodes n.from h.parent g.nodes h.above; deeper = h.deeper; short = h.short; small = h.small }
+    grow_enter n h = record {
+      parent = h.parent;
+      above = more_get s.nodes t.nodes n.from h.parent g.nodes h.above;
+      deeper = h.deeper;
+      short =
+          h.short;
+      small = h.small;
+    }
 
     pub grow_entry : (n : Node) (y : Result W E) → IsEntry step report most longest ws es s.nodes n y → IsEntry step report most longest vs ds t.nodes n y
     grow_entry n y h = record { how = grow_enter n h.how; world = h.world; at = more_get ws vs n.from h.world g.worlds h.at; leads = h.leads }
@@ -87,7 +98,8 @@ module _ {W E R : Type 0} (step : W → ℕ → Result W E) (report : W → R) (
     pub grow_fault : (i : ℕ) → i < length ws → CanFault step report most longest ws es s i → CanFault step report most longest vs ds t i
     grow_fault i low h w at = let there = h w (more_back ws vs i w g.worlds low at) in (there.0, there.1, there.2, grow_told there.1 there.3)
 
-    pub grow_done : (i : ℕ) → i < length ws → slice_get t.unsettled i ≡ slice_get s.unsettled i → IsDone step report most longest ws es s i → IsDone step report most longest vs ds t i
+    pub grow_done : (i : ℕ) → i < length ws → slice_get t.unsettled i ≡ slice_get s.unsettled i → IsDone step report most longest ws es s i →
+        IsDone step report most longest vs ds t i
     grow_done i low flag h = record {
       met = λ w at f. grow_met (step w f) (h.met w (more_back ws vs i w g.worlds low at) f);
       leaves = λ yes w at. h.leaves (sym flag ∙ yes) w (more_back ws vs i w g.worlds low at);
@@ -108,11 +120,14 @@ module _ {W E R : Type 0} (step : W → ℕ → Result W E) (report : W → R) (
             noted = λ k d at. grow_noted ws vs es ds s s g d (h.noted k d at);
             unsettled = h.unsettled;
             faulting = h.faulting;
-            quiet = λ i at. let low = slice_get_within s.unsettled i false at in let a = h.unsettled in let k = h.known in grow_quiet ws vs es ds s s g i (omega arith) (h.quiet i at);
-            faults = λ i at. let low = slice_get_within s.faulting i true at in let a = h.faulting in let k = h.known in grow_fault ws vs es ds s s g i (omega arith) (h.faults i at);
+            quiet = λ i at. let low = slice_get_within s.unsettled i false at in let a = h.unsettled in let k = h.known in
+                grow_quiet ws vs es ds s s g i (omega arith) (h.quiet i at);
+            faults = λ i at. let low = slice_get_within s.faulting i true at in let a = h.faulting in let k = h.known in
+                grow_fault ws vs es ds s s g i (omega arith) (h.faults i at);
           }
 
-      pub fits_node : (n : Node) (w : W) → slice_get ws (length s.nodes) ≡ Some w → IsEntry step report most longest ws es s.nodes n (Ok w) → Fits step report most longest ws es (with_node s n)
+      pub fits_node : (n : Node) (w : W) → slice_get ws (length s.nodes) ≡ Some w → IsEntry step report most longest ws es s.nodes n (Ok w) →
+          Fits step report most longest ws es (with_node s n)
       fits_node n w next entry =
           let g = grows_node ws es s n in
           let t = with_node s n in
@@ -157,7 +172,8 @@ module _ {W E R : Type 0} (step : W → ℕ → Result W E) (report : W → R) (
             noted = h.noted;
             unsettled = h.unsettled;
             faulting = h.faulting;
-            quiet = λ i at. let low = slice_get_within s.unsettled i false at in let a = h.unsettled in let k = h.known in grow_quiet ws ws es es s t g i (omega arith) (h.quiet i at);
+            quiet = λ i at. let low = slice_get_within s.unsettled i false at in let a = h.unsettled in let k = h.known in
+                grow_quiet ws ws es es s t g i (omega arith) (h.quiet i at);
             faults = h.faults;
           }
 
@@ -177,7 +193,8 @@ module _ {W E R : Type 0} (step : W → ℕ → Result W E) (report : W → R) (
             unsettled = h.unsettled;
             faulting = h.faulting;
             quiet = h.quiet;
-            faults = λ i at. let low = slice_get_within s.faulting i true at in let a = h.faulting in let k = h.known in grow_fault ws ws es es s t g i (omega arith) (h.faults i at);
+            faults = λ i at. let low = slice_get_within s.faulting i true at in let a = h.faulting in let k = h.known in
+                grow_fault ws ws es es s t g i (omega arith) (h.faults i at);
           }
 
       pub fits_quiet : (i : ℕ) → IsQuiet step report most longest ws es s i → Fits step report most longest ws es (with_quiet s i)

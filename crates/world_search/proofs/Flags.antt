@@ -30,7 +30,8 @@ keeps_keeps a b c h k i e = k i (h i e)
 pub flagged_same : (edges : List Edge) (flags : List Bool) → AreFlagged edges flags flags
 flagged_same edges flags i e = (i, Here i i refl, e)
 
-pub flagged_set : (edges : List Edge) (old flags : List Bool) (k : ℕ) (e : Edge) → AreFlagged edges old flags → slice_get edges k ≡ Some e → slice_get flags e.to ≡ Some true
+pub flagged_set : (edges : List Edge) (old flags : List Bool) (k : ℕ) (e : Edge) → AreFlagged edges old flags → slice_get edges k ≡ Some e →
+    slice_get flags e.to ≡ Some true
     → AreFlagged edges old (set flags e.from true)
 flagged_set edges old flags k e known at ahead i h = dite (ℕ_discrete i e.from)
     (λ is. let there = known e.to ahead in (there.0, Along k e i there.0 at is there.1, there.2))
@@ -47,7 +48,8 @@ flagged_flagged edges a b c h k i e =
     (before.0, leads_leads edges i there.0 before.0 there.1 before.1, before.2)
 
 -- one edge more, from the last to the first
-pub back_more : (edges : List Edge) (flags : List Bool) (n m : ℕ) (e : Edge) → n ≡ suc m → slice_get edges m ≡ Some e → (slice_get flags e.to ≡ Some true → slice_get flags e.from ≡ Some true)
+pub back_more : (edges : List Edge) (flags : List Bool) (n m : ℕ) (e : Edge) → n ≡ suc m → slice_get edges m ≡ Some e →
+    (slice_get flags e.to ≡ Some true → slice_get flags e.from ≡ Some true)
     → AreBack edges flags n → AreBack edges flags m
 back_more edges flags n m e is at here known k d low there = dite (ℕ_discrete k m)
     (λ same.

@@ -32,7 +32,8 @@ module _ {W E R : Type 0} (step : W → ℕ → Result W E) (report : W → R) w
   settled_run w x s q h =
       let here : reported step report (Ok x) ≡ Ok (report w) = ap (reported step report) (sym q) ∙ h s in
       let same : report x ≡ report w = cc in (
-        λ t. ap (λ y. reported step report (run step y t)) (sym q) ∙ ap (reported step report) (sym (run-append step (Ok w) s t)) ∙ h (s ++ t) ∙ ap Ok (sym same),
+        λ t. ap (λ y. reported step report (run step y t)) (sym q) ∙ ap (reported step report) (sym (run-append step (Ok w) s t)) ∙ h (s ++ t) ∙
+            ap Ok (sym same),
         same,
       )
 
@@ -46,7 +47,8 @@ module _ {W E R : Type 0} (step : W → ℕ → Result W E) (report : W → R) w
     grown_grown w y x (inr a) (inl b) = let s = ap size b in inr (omega arith)
     grown_grown w y x (inr a) (inr b) = inr (omega arith)
 
-    grown_from : (s : List ℕ) (w x : W) (f : ℕ) (y : Result W E) → step w f ≡ y → ((v : W) → run step (Ok v) s ≡ Ok x → Grown v x) → run step y s ≡ Ok x → Grown w x
+    grown_from : (s : List ℕ) (w x : W) (f : ℕ) (y : Result W E) → step w f ≡ y → ((v : W) → run step (Ok v) s ≡ Ok x → Grown v x) →
+        run step y s ≡ Ok x → Grown w x
     grown_from s w x f (Ok y) q rest r = grown_grown w y x (growing w f y q) (rest y r)
     grown_from s w x f (Err e) q rest r = let stuck : run step (Err e) s ≡ Err e = run_fault step e s in absurd (cc)
 
@@ -135,7 +137,8 @@ module _ {W E : Type 0} (step : W → ℕ → Result W E) where
             reported_same leap step report (run leap (Ok w) t) ∙ ap (reported step report) (sym on.1) ∙ h on.0
 
         module _ (size : R → ℕ) (growing : AreGrowing step report size) where
-          up_at : (w : W) (s more t : List ℕ) (y : Result W E) → run step (Ok w) s ≡ y → run step y more ≡ run leap (Ok w) t → reported leap report (run leap (Ok w) t) ≡ Ok (report w)
+          up_at : (w : W) (s more t : List ℕ) (y : Result W E) → run step (Ok w) s ≡ y → run step y more ≡ run leap (Ok w) t →
+              reported leap report (run leap (Ok w) t) ≡ Ok (report w)
               → reported step report y ≡ Ok (report w)
           up_at w s more t (Ok x) led on same =
               let v = reported_ok leap report (run leap (Ok w) t) (report w) same in
@@ -158,7 +161,8 @@ module _ {W E : Type 0} (step : W → ℕ → Result W E) where
 
           module _ (ws : List W) (es : List E) where
             -- the schedule of an answer, with each free move as an entry
-            pub leads_up : (first : W) (s t : List ℕ) (l : Landing) → run step (Ok first) s ≡ run leap (Ok first) t → LeadsTo leap report ws es first t l → LeadsTo step report ws es first s l
+            pub leads_up : (first : W) (s t : List ℕ) (l : Landing) → run step (Ok first) s ≡ run leap (Ok first) t →
+                LeadsTo leap report ws es first t l → LeadsTo step report ws es first s l
             leads_up first s t (to.World j) same h = (h.0, h.1, same ∙ h.2, settled_up h.0 h.3)
             leads_up first s t (to.Fault j) same h = (h.0, h.1, same ∙ h.2)
 
@@ -177,7 +181,8 @@ module _ {W E : Type 0} (step : W → ℕ → Result W E) where
               answered_fault : (e : E) → IsAnswered leap report ws es answers (Err e) → IsAnswered step report ws es answers (Err e)
               answered_fault e h = (h.0, h.1, tells_fault h.0.end e h.2)
 
-              covered_at : (y z : Result W E) (more : List ℕ) → run step y more ≡ z → IsCovered leap report ws es answers z → IsCovered step report ws es answers y
+              covered_at : (y z : Result W E) (more : List ℕ) → run step y more ≡ z → IsCovered leap report ws es answers z →
+                  IsCovered step report ws es answers y
               covered_at (Ok w) z more on h = λ settled.
                   let v = reported_ok step report z (report w) (ap (reported step report) (sym on) ∙ settled more) in
                   let still = settled_run step report w v.0 more (on ∙ v.1) settled in
@@ -189,7 +194,8 @@ module _ {W E : Type 0} (step : W → ℕ → Result W E) where
                   answered_fault e told
 
               -- what comes of all schedules of the reduced system is all that comes of those of the full one
-              pub covers : (first : W) → ((t : List ℕ) → IsCovered leap report ws es answers (run leap (Ok first) t)) → (s : List ℕ) → IsCovered step report ws es answers (run step (Ok first) s)
+              pub covers : (first : W) → ((t : List ℕ) → IsCovered leap report ws es answers (run leap (Ok first) t)) → (s : List ℕ) →
+                  IsCovered step report ws es answers (run step (Ok first) s)
               covers first h s = let o = overtakes first s in covered_at (run step (Ok first) s) (run leap (Ok first) o.0) o.1 o.2 (h o.0)
 
               ends_up : (y : Result W E) → IsEnd leap report ws es answers y → IsEnd step report ws es answers y
@@ -197,11 +203,13 @@ module _ {W E : Type 0} (step : W → ℕ → Result W E) where
               ends_up (Err e) h = answered_fault e h
 
               -- and where some entries lead from each world of it to an answer, they do from each world of the full one
-              pub goes_onward : (first : W) → ((t : List ℕ) → (more : List ℕ) × IsEnd leap report ws es answers (run leap (Ok first) (t ++ more))) → (s : List ℕ) → (more : List ℕ) × IsEnd step report ws es answers (run step (Ok first) (s ++ more))
+              pub goes_onward : (first : W) → ((t : List ℕ) → (more : List ℕ) × IsEnd leap report ws es answers (run leap (Ok first) (t ++ more))) →
+                  (s : List ℕ) → (more : List ℕ) × IsEnd step report ws es answers (run step (Ok first) (s ++ more))
               goes_onward first h s =
                   let o = overtakes first s in
                   let on = h o.0 in
                   let rest = unfolded (run leap (Ok first) o.0) on.0 in
                   let led : run leap (Ok first) (o.0 ++ on.0) ≡ run step (Ok first) (s ++ (o.1 ++ rest.0)) =
-                  run-append leap (Ok first) o.0 on.0 ∙ sym rest.1 ∙ ap (λ y. run step y rest.0) (sym o.2) ∙ sym (run-append step (run step (Ok first) s) o.1 rest.0) ∙ sym (run-append step (Ok first) s (o.1 ++ rest.0)) in
+                  run-append leap (Ok first) o.0 on.0 ∙ sym rest.1 ∙ ap (λ y. run step y rest.0) (sym o.2) ∙
+                  sym (run-append step (run step (Ok first) s) o.1 rest.0) ∙ sym (run-append step (Ok first) s (o.1 ++ rest.0)) in
                   (o.1 ++ rest.0, ends_up (run step (Ok first) (s ++ (o.1 ++ rest.0))) (subst (IsEnd leap report ws es answers) led on.1))

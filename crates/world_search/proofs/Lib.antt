@@ -5,6 +5,7 @@ pub mod Closed
 pub mod Fitting
 pub mod Meeting
 pub mod Entries
+pub mod Snug
 pub mod Answering
 pub mod Results
 pub mod Free

@@ -1,5 +1,7 @@
 -- Elements of lists that go on, or of which one is set.
-use Rattle.std.proofs.Common.{◌≡◌, ◌≢◌, ℕ, zero, suc, ◌<◌, ◌≤◌, List, [], ◌∷◌, ◌++◌, length, set, Some, refl, sym, ap, ◌∙◌, subst, arith, append_assoc, append-nil, length-append, inl, inr, get_or}
+use Rattle.std.proofs.Common.{◌≡◌, ◌≢◌, ℕ, zero, suc, ◌<◌, ◌≤◌, List, [], ◌∷◌, ◌++◌, length, set, Some, refl, sym, ap}
+use Rattle.std.proofs.Common.{◌∙◌, subst, arith, append_assoc, append-nil, length-append, inl, inr, get_or}
+use Rattle.std.specs.Prelude.{IfOk, Result, Ok, Err}
 use Rattle.std.specs.List.{slice_get, All}
 use Rattle.std.proofs.lemmas.Option.{same_Some, slice_get-get_or}
 use mathlib.Core.Logic.{◌⊎◌}
@@ -70,3 +72,8 @@ all_from P xs h = λ k d low. h k (get_or xs k d) (slice_get-get_or xs k d low)
 
 pub more_at : {A : Type 0} (xs ys : List A) (i : ℕ) → IsMore xs ys → i < length xs → slice_get ys i ≡ slice_get xs i
 more_at xs ys i m h = subst (λ l. slice_get l i ≡ slice_get xs i) m.is (back_append xs m.more i h)
+
+-- what holds of a value, if there is one
+pub ok_then : {T E : Type 0} (P Q : T → Type 0) → ((x : T) → P x → Q x) → (r : Result T E) → IfOk r P → IfOk r Q
+ok_then P Q f (Ok x) h = f x h
+ok_then P Q f (Err e) h = h

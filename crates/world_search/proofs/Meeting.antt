@@ -45,7 +45,8 @@ module _ {W E R : Type 0} (step : W → ℕ → Result W E) (report : W → R) (
     ]
 
   -- an entry that is kept, and leads to a world that is kept
-  module _ (t : Shape) (n : Node) (j : ℕ) (h : Fits step report most longest ws es t) (low : n.from < length t.nodes) (near : j < length t.nodes) (lands : Lands n j) where
+  module _ (t : Shape) (n : Node) (j : ℕ) (h : Fits step report most longest ws es t) (low : n.from < length t.nodes) (near : j < length t.nodes)
+      (lands : Lands n j) where
     pub edge_fits : Fits step report most longest ws es (with_edge t (record { from = n.from; to = j }))
     edge_fits =
         let k = h.known in
@@ -64,7 +65,9 @@ module _ {W E R : Type 0} (step : W → ℕ → Result W E) (report : W → R) (
         )
 
   -- an entry that ends in a fault
-  module _ (s t : Shape) (n : Node) (j : ℕ) (h : Fits step report most longest ws es s) (low : n.from < length s.nodes) (how : CanEnter most longest s.nodes n) (lands : (w : W) → slice_get ws n.from ≡ Some w → LandsAt ws es (to.Fault j) (step w n.fiber)) (notes : Notes s t j n) where
+  module _ (s t : Shape) (n : Node) (j : ℕ) (h : Fits step report most longest ws es s) (low : n.from < length s.nodes)
+      (how : CanEnter most longest s.nodes n) (lands : (w : W) → slice_get ws n.from ≡ Some w → LandsAt ws es (to.Fault j) (step w n.fiber))
+      (notes : Notes s t j n) where
     pub noted_fits : Fits step report most longest ws es t
     noted_fits = elim notes [
       | inl old ↦ subst (Fits step report most longest ws es) (sym old.1) h
@@ -73,13 +76,19 @@ module _ {W E R : Type 0} (step : W → ℕ → Result W E) (report : W → R) (
           let w = get_low ws n.from (omega arith) in
           let l = lands w.0 w.1 in
           let entry : IsEntry step report most longest ws es s.nodes n (Err l.0) = record { how = how; world = w.0; at = w.1; leads = l.2 } in
-          subst (Fits step report most longest ws es) (sym new) (fits_noted step report most longest ws es s h (record { fault = j; node = n }) (record { why = l.0; at = l.1; entry = entry }))
+          subst (Fits step report most longest ws es) (sym new)
+          (fits_noted step report most longest ws es s h (record { fault = j; node = n }) (record { why = l.0; at = l.1; entry = entry }))
     ]
 
     noted_in : IsNotedIn t.noted j
     noted_in = elim notes [
       | inl old ↦ subst (λ (r : Shape). IsNotedIn r.noted j) (sym old.1) old.0
-      | inr new ↦ subst (λ (r : Shape). IsNotedIn r.noted j) (sym new) (length s.noted, record { fault = j; node = n }, get_last s.noted (record { fault = j; node = n }), refl)
+      | inr new ↦ subst (λ (r : Shape). IsNotedIn r.noted j) (sym new) (
+        length s.noted,
+        record { fault = j; node = n },
+        get_last s.noted (record { fault = j; node = n }),
+        refl,
+      )
     ]
 
     told_at : (e : E) → slice_get es j ≡ Some e → IsTold step report most longest ws es t e
@@ -88,7 +97,10 @@ module _ {W E R : Type 0} (step : W → ℕ → Result W E) (report : W → R) (
     pub noted_fault : CanFault step report most longest ws es t n.from
     noted_fault w at = let l = lands w at in (n.fiber, l.0, l.2, told_at l.0 l.1)
 
-    pub noted_leaves : (w : W) → slice_get ws n.from ≡ Some w → ComesTo step report most longest ws es (with_faulting t n.from) n.from w came.Leaves (step w n.fiber)
+    pub noted_leaves : (w : W) → slice_get ws n.from ≡ Some w →
+        ComesTo step report most longest ws es (with_faulting t n.from) n.from w came.Leaves (step w n.fiber)
     noted_leaves w at =
-        let l = lands w at in
-        (subst (IsMet step report most longest ws es (with_faulting t n.from)) (sym l.2) (told_at l.0 l.1), subst (Leaves step report most longest ws es w) (sym l.2) tt)
+        let l = lands w at in (
+          subst (IsMet step report most longest ws es (with_faulting t n.from)) (sym l.2) (told_at l.0 l.1),
+          subst (Leaves step report most longest ws es w) (sym l.2) tt,
+        )

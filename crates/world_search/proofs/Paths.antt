@@ -21,7 +21,8 @@ path_long nodes n p (Then m parent q t above deep way is) =
     let same : length t ≡ length (q ++ (m.fiber ∷ [])) = ap (λ (l : List ℕ). length l) is in
     omega arith
 
-module _ {W E R : Type 0} (step : W → ℕ → Result W E) (report : W → R) (most longest : ℕ) (ws : List W) (es : List E) (s : Shape) (h : Fits step report most longest ws es s) where
+module _ {W E R : Type 0} (step : W → ℕ → Result W E) (report : W → R) (most longest : ℕ) (ws : List W) (es : List E) (s : Shape)
+    (h : Fits step report most longest ws es s) where
   reached_chained : (n : Node) (y : Result W E) → IsReached step report most longest ws es s.nodes n y → IsChained s.nodes n
   reached_chained n y reached = λ deep. elim reached [
     | inl first ↦ let none = first.0 in absurd (omega arith)
@@ -52,10 +53,12 @@ module _ {W E R : Type 0} (step : W → ℕ → Result W E) (report : W → R) (
   ]
 
   -- the node from which an entry comes was reached
-  above_reached : (n parent : Node) (y : Result W E) → IsEntry step report most longest ws es s.nodes n y → slice_get s.nodes n.from ≡ Some parent → (w : W) × (step w n.fiber ≡ y) × IsReached step report most longest ws es s.nodes parent (Ok w)
+  above_reached : (n parent : Node) (y : Result W E) → IsEntry step report most longest ws es s.nodes n y → slice_get s.nodes n.from ≡ Some parent →
+      (w : W) × (step w n.fiber ≡ y) × IsReached step report most longest ws es s.nodes parent (Ok w)
   above_reached n parent y entry above = (entry.world, entry.leads, h.nodes n.from parent entry.world above entry.at)
 
-  pub path_runs : (first : W) → slice_get ws 0 ≡ Some first → (n : Node) (p : List ℕ) (y : Result W E) → IsPath s.nodes n p → IsReached step report most longest ws es s.nodes n y → run step (Ok first) p ≡ y
+  pub path_runs : (first : W) → slice_get ws 0 ≡ Some first → (n : Node) (p : List ℕ) (y : Result W E) → IsPath s.nodes n p →
+      IsReached step report most longest ws es s.nodes n y → run step (Ok first) p ≡ y
   path_runs first there n p y (Root m q none nil) reached = elim reached [
     | inl r ↦
         let same : first ≡ r.1 = same_Some first r.1 (sym there ∙ r.2) in
@@ -71,8 +74,10 @@ module _ {W E R : Type 0} (step : W → ℕ → Result W E) (report : W → R) (
         subst (λ (l : List ℕ). run step (Ok first) l ≡ y) (sym is) (run-append step (Ok first) q (m.fiber ∷ []) ∙ last ∙ a.1)
   ]
 
-  pub path_numbers : (n : Node) (p : List ℕ) (y : Result W E) → IsPath s.nodes n p → IsReached step report most longest ws es s.nodes n y → (i : ℕ) (f : ℕ) → slice_get p i ≡ Some f → f < most
-  path_numbers n p y (Root m q none nil) reached i f at = let no : slice_get [] i ≡ Some f = subst (λ (l : List ℕ). slice_get l i ≡ Some f) nil at in absurd (cc)
+  pub path_numbers : (n : Node) (p : List ℕ) (y : Result W E) → IsPath s.nodes n p → IsReached step report most longest ws es s.nodes n y →
+      (i : ℕ) (f : ℕ) → slice_get p i ≡ Some f → f < most
+  path_numbers n p y (Root m q none nil) reached i f at = let no : slice_get [] i ≡ Some f = subst (λ (l : List ℕ). slice_get l i ≡ Some f) nil at in
+      absurd (cc)
   path_numbers n p y (Then m parent q t above deep way is) reached i f at = elim reached [
     | inl r ↦ let none = r.0 in absurd (omega arith)
     | inr entry ↦

@@ -24,11 +24,13 @@ use Rattle.world_search.proofs.Answering.{named_fault}
 abbrev pub flagged : Shape → List Bool → Shape
 flagged s flags = record { nodes = s.nodes; edges = s.edges; noted = s.noted; unsettled = flags; faulting = s.faulting }
 
-module _ {W E R : Type 0} (step : W → ℕ → Result W E) (report : W → R) (most longest : ℕ) (ws : List W) (es : List E) (s : Shape) (h : Fits step report most longest ws es s) where
+module _ {W E R : Type 0} (step : W → ℕ → Result W E) (report : W → R) (most longest : ℕ) (ws : List W) (es : List E) (s : Shape)
+    (h : Fits step report most longest ws es s) where
   pub within : AreWithin s.edges (length s.nodes)
   within k e at = (h.edges k e at).low
 
-  module _ (flags : List Bool) (long : length flags ≡ length s.unsettled) (keeps : KeepsFlags s.unsettled flags) (back : AreBack s.edges flags 0) (marks : AreFlagged s.edges s.unsettled flags) where
+  module _ (flags : List Bool) (long : length flags ≡ length s.unsettled) (keeps : KeepsFlags s.unsettled flags) (back : AreBack s.edges flags 0)
+      (marks : AreFlagged s.edges s.unsettled flags) where
     -- what isn't flagged now wasn't flagged before
     unflagged : (i : ℕ) → slice_get flags i ≡ Some false → slice_get s.unsettled i ≡ Some false
     unflagged i bare = let low = slice_get_within flags i false bare in let b = get_low s.unsettled i (omega arith) in by b.0 b.1
@@ -65,7 +67,8 @@ module _ {W E R : Type 0} (step : W → ℕ → Result W E) (report : W → R) (
         w (i, at, bare)
 
     -- edges lead from a settled world to settled ones
-    leads_settled : (i j : ℕ) → LeadsOn s.edges i j → (w : W) → slice_get ws i ≡ Some w → IsSettled step report w → (v : W) × (slice_get ws j ≡ Some v) × IsSettled step report v
+    leads_settled : (i j : ℕ) → LeadsOn s.edges i j → (w : W) → slice_get ws i ≡ Some w → IsSettled step report w → (v : W) ×
+        (slice_get ws j ≡ Some v) × IsSettled step report v
     leads_settled a b (Here i j is) w at stays = (w, subst (λ n. slice_get ws n ≡ Some w) is at, stays)
     leads_settled a b (Along k e i j there is on) w at stays =
         let edge = h.edges k e there in
@@ -100,12 +103,14 @@ module _ {W E R : Type 0} (step : W → ℕ → Result W E) (report : W → R) (
           closed_run step (λ v. (j : ℕ) × (j < length s.nodes) × (slice_get ws j ≡ Some v)) (IsTold step report most longest ws es s)
           (λ w m f. met_is (step w f) ((done m.0 m.1).met w m.2 f)) (Ok first) (0, h.some, there) schedule
 
-      module _ (answers : List Answer) (told : (i : ℕ) (w : W) → slice_get flags i ≡ Some false → slice_get ws i ≡ Some w → IsAnswered step report ws es answers (Ok w))
+      module _ (answers : List Answer) (told : (i : ℕ) (w : W) → slice_get flags i ≡ Some false → slice_get ws i ≡ Some w →
+          IsAnswered step report ws es answers (Ok w))
           (named : (k : ℕ) (n : Noted) → slice_get s.noted k ≡ Some n → IsNamed answers (to.Fault n.fault)) where
         told_fault : (e : E) → IsTold step report most longest ws es s e → IsAnswered step report ws es answers (Err e)
         told_fault e m = named_fault step report ws es answers m.1.fault e (named m.0 m.1 m.2) m.3
 
-        covered_by : (w : W) (i : ℕ) (b : Bool) → slice_get flags i ≡ Some b → slice_get ws i ≡ Some w → IsSettled step report w → IsAnswered step report ws es answers (Ok w)
+        covered_by : (w : W) (i : ℕ) (b : Bool) → slice_get flags i ≡ Some b → slice_get ws i ≡ Some w → IsSettled step report w →
+            IsAnswered step report ws es answers (Ok w)
         covered_by w i true is at stays = absurd (flagged_unsettled i w is at stays)
         covered_by w i false is at stays = told i w is at
 
@@ -121,7 +126,8 @@ module _ {W E R : Type 0} (step : W → ℕ → Result W E) (report : W → R) (
         all_covered first there schedule = covered (run step (Ok first) schedule) (all_met first there schedule)
 
         -- the entries along edges
-        leads_run : (i j : ℕ) → LeadsOn s.edges i j → (w : W) → slice_get ws i ≡ Some w → (more : List ℕ) × (v : W) × (slice_get ws j ≡ Some v) × (run step (Ok w) more ≡ Ok v)
+        leads_run : (i j : ℕ) → LeadsOn s.edges i j → (w : W) → slice_get ws i ≡ Some w → (more : List ℕ) × (v : W) × (slice_get ws j ≡ Some v) ×
+            (run step (Ok w) more ≡ Ok v)
         leads_run a b (Here i j is) w at = ([], w, subst (λ n. slice_get ws n ≡ Some w) is at, refl)
         leads_run a b (Along k e i j there is on) w at =
             let edge = h.edges k e there in
@@ -130,7 +136,8 @@ module _ {W E R : Type 0} (step : W → ℕ → Result W E) (report : W → R) (
             let rest = leads_run e.to j on edge.next edge.to in
             (edge.fiber ∷ rest.0, rest.1, rest.2, ap (λ x. run step x rest.0) leads ∙ rest.3)
 
-        end_at : (y : Result W E) → Met y → ((i : ℕ) → i < length s.nodes → CanEnd (flagged s flags) i) → (more : List ℕ) × IsEnd step report ws es answers (run step y more)
+        end_at : (y : Result W E) → Met y → ((i : ℕ) → i < length s.nodes → CanEnd (flagged s flags) i) → (more : List ℕ) ×
+            IsEnd step report ws es answers (run step y more)
         end_at (Err e) m ends = ([], told_fault e m)
         end_at (Ok w) m ends =
             let led = ends m.0 m.1 in
@@ -139,34 +146,45 @@ module _ {W E R : Type 0} (step : W → ℕ → Result W E) (report : W → R) (
               | inl bare ↦ (on.0, subst (IsEnd step report ws es answers) (sym on.3) (unflagged_settled led.0 on.1 bare on.2, told led.0 on.1 bare on.2))
               | inr marked ↦
                   let fault = h.faults led.0 marked on.1 on.2 in
-                  let last : run step (Ok w) (on.0 ++ (fault.0 ∷ [])) ≡ Err fault.1 = run-append step (Ok w) on.0 (fault.0 ∷ []) ∙ ap (λ x. run step x (fault.0 ∷ [])) on.3 ∙ fault.2 in
+                  let last : run step (Ok w) (on.0 ++ (fault.0 ∷ [])) ≡ Err fault.1 = run-append step (Ok w) on.0 (fault.0 ∷ []) ∙
+                  ap (λ x. run step x (fault.0 ∷ [])) on.3 ∙ fault.2 in
                   (on.0 ++ (fault.0 ∷ []), subst (IsEnd step report ws es answers) (sym last) (told_fault fault.1 fault.3))
             ]
 
-        pub all_onward : ((i : ℕ) → i < length s.nodes → CanEnd (flagged s flags) i) → (first : W) → slice_get ws 0 ≡ Some first → (schedule : List ℕ) → (more : List ℕ) × IsEnd step report ws es answers (run step (Ok first) (schedule ++ more))
+        pub all_onward : ((i : ℕ) → i < length s.nodes → CanEnd (flagged s flags) i) → (first : W) → slice_get ws 0 ≡ Some first →
+            (schedule : List ℕ) → (more : List ℕ) × IsEnd step report ws es answers (run step (Ok first) (schedule ++ more))
         all_onward ends first there schedule =
             let on = end_at (run step (Ok first) schedule) (all_met first there schedule) ends in
             (on.0, subst (IsEnd step report ws es answers) (sym (run-append step (Ok first) schedule on.0)) on.1)
 
     module _ (answers : List Answer) (listed : AreListed (flagged s flags) answers) where
       -- the node of an answer, and where its entry leads
-      world_reached : (a : Answer) (l : IsWorldListed (flagged s flags) a) → (w : W) × (slice_get ws l.number ≡ Some w) × IsReached step report most longest ws es s.nodes l.node (Ok w)
+      world_reached : (a : Answer) (l : IsWorldListed (flagged s flags) a) → (w : W) × (slice_get ws l.number ≡ Some w) ×
+          IsReached step report most longest ws es s.nodes l.node (Ok w)
       world_reached a l =
           let low = slice_get_within s.nodes l.number l.node l.at in
           let k = h.known in
           let w = get_low ws l.number (omega arith) in
           (w.0, w.1, h.nodes l.number l.node w.0 l.at w.1)
 
-      right : (first : W) → slice_get ws 0 ≡ Some first → (a : Answer) → (IsWorldListed (flagged s flags) a ⊎ IsFaultListed (flagged s flags) a) → IsRight step report ws es first a
+      right : (first : W) → slice_get ws 0 ≡ Some first → (a : Answer) → (IsWorldListed (flagged s flags) a ⊎ IsFaultListed (flagged s flags) a) →
+          IsRight step report ws es first a
       right first there a one = elim one [
         | inl l ↦
             let w = world_reached a l in
-            subst (λ (x : Landing). LeadsTo step report ws es first a.schedule.items x) (sym l.end)
-            (w.0, w.1, path_runs step report most longest ws es s h first there l.node a.schedule.items (Ok w.0) l.path w.2, unflagged_settled l.number w.0 l.settled w.1)
+            subst (λ (x : Landing). LeadsTo step report ws es first a.schedule.items x) (sym l.end) (
+              w.0,
+              w.1,
+              path_runs step report most longest ws es s h first there l.node a.schedule.items (Ok w.0) l.path w.2,
+              unflagged_settled l.number w.0 l.settled w.1,
+            )
         | inr l ↦
             let noted = h.noted l.number l.noted l.at in
-            subst (λ (x : Landing). LeadsTo step report ws es first a.schedule.items x) (sym l.end)
-            (noted.why, noted.at, path_runs step report most longest ws es s h first there l.noted.node a.schedule.items (Err noted.why) l.path (inr noted.entry))
+            subst (λ (x : Landing). LeadsTo step report ws es first a.schedule.items x) (sym l.end) (
+              noted.why,
+              noted.at,
+              path_runs step report most longest ws es s h first there l.noted.node a.schedule.items (Err noted.why) l.path (inr noted.entry),
+            )
       ]
 
       numbered : (a : Answer) → (IsWorldListed (flagged s flags) a ⊎ IsFaultListed (flagged s flags) a) → IsNumbered most a
@@ -176,7 +194,8 @@ module _ {W E R : Type 0} (step : W → ℕ → Result W E) (report : W → R) (
             all_from (λ f. f < most) a.schedule.items (path_numbers step report most longest ws es s h l.node a.schedule.items (Ok w.0) l.path w.2)
         | inr l ↦
             let noted = h.noted l.number l.noted l.at in
-            all_from (λ f. f < most) a.schedule.items (path_numbers step report most longest ws es s h l.noted.node a.schedule.items (Err noted.why) l.path (inr noted.entry))
+            all_from (λ f. f < most) a.schedule.items
+            (path_numbers step report most longest ws es s h l.noted.node a.schedule.items (Err noted.why) l.path (inr noted.entry))
       ]
 
       short : (a : Answer) → (IsWorldListed (flagged s flags) a ⊎ IsFaultListed (flagged s flags) a) → IsShort longest a

@@ -1,15 +1,20 @@
 -- What the answers of a search say.
-use Rattle.std.specs.Prelude.{◌≡◌, ℕ, ◌<◌, ◌≤◌, List, length, Some, Result, Ok, Err}
+use Rattle.std.specs.Prelude.{◌≡◌, ◌⊎◌, ℕ, ◌<◌, ◌≤◌, List, length, min, Some, Result, Ok, Err}
 use Rattle.std.specs.List.{slice_get, All}
 use Rattle.world_search.specs.declared.landings.Landing.{Landing}
 use Rattle.world_search.specs.declared.landings.Landing.TheVariants as to
 use Rattle.world_search.specs.declared.answers.Answer.{Answer}
+use Rattle.world_search.specs.declared.answers.Bounds.{Bounds}
 use Rattle.world_search.specs.Lists.{IsIn}
 use Rattle.world_search.specs.Systems.{run, IsSettled}
 
 -- the schedule is no longer than so many entries
 abbrev pub IsShort : ℕ → Answer → Type 0
 IsShort entries a = length a.schedule.items ≤ entries
+
+-- there are as many worlds as may be kept, or more than a schedule may have entries
+abbrev pub IsAtBound : Bounds → ℕ → Type 0
+IsAtBound bounds worlds = (min bounds.worlds 4294967295 ≤ worlds) ⊎ (min bounds.entries 4294967295 < worlds)
 
 -- the schedule is of numbers below this one
 abbrev pub IsNumbered : ℕ → Answer → Type 0
@@ -18,7 +23,8 @@ IsNumbered most a = All (λ f. f < most) a.schedule.items
 module _ {W E R : Type 0} (step : W → ℕ → Result W E) (report : W → R) (ws : List W) (es : List E) where
   -- the schedule leads from this world to the end that is named, where it ends in a fault or in a settled world
   abbrev pub LeadsTo : W → List ℕ → Landing → Type 0
-  LeadsTo first schedule (to.World j) = (w : W) × (slice_get ws j ≡ Some w) × (run step (Ok first) schedule ≡ Ok w) × IsSettled step report w
+  LeadsTo first schedule (to.World j) = (w : W) × (slice_get ws j ≡ Some w) ×
+      (run step (Ok first) schedule ≡ Ok w) × IsSettled step report w
   LeadsTo first schedule (to.Fault j) = (e : E) × (slice_get es j ≡ Some e) × (run step (Ok first) schedule ≡ Err e)
 
   abbrev pub IsRight : W → Answer → Type 0

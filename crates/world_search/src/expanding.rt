@@ -1,12 +1,13 @@
 //! The entries at each world that was met, in turn.
 
-ghost use Rattle.std.specs.Prelude.{◌≡◌, ℕ, ◌<◌, ◌≤◌, length, true, max, IfOk, OnOk, Some};
+ghost use Rattle.std.specs.Prelude.{◌≡◌, ℕ, ◌<◌, ◌≤◌, length, true, false, max, IfOk, OnOk, Some};
 ghost use Rattle.std.specs.List.{slice_get};
 ghost use Rattle.world_search.specs.declared.graphs.Node.{Node};
 ghost use Rattle.world_search.specs.Landings.{LandsAt};
 ghost use Rattle.world_search.specs.Lists.{IsMore};
 ghost use Rattle.world_search.specs.Private.Shapes.{shape};
 ghost use Rattle.world_search.specs.Private.Graphs.{Fits, Grows, CanEnter, ComesTo, IsDone, SameFlags, worse_of};
+ghost use Rattle.world_search.specs.Private.Graphs.{IsNearly, IsSnug, IsStopped};
 
 use crate::graphs::{Edge, Graph, Node, add_edge, keep, note, set_faulting, set_quiet};
 use crate::landings::{Entered, Landing};
@@ -54,6 +55,10 @@ pub fn explore<W: Worlds, V: Watcher>(
         IsDone W.step W.report W.most_born limits.entries
         (W.worlds worlds.new) (W.faults worlds.new) (shape graph.new) i) }
     ensures room { OnOk result (length (W.worlds worlds.new) ≤ max limits.worlds (length (W.worlds worlds.old))) }
+    ensures snug { IsSnug (length (W.worlds worlds.old)) (shape graph.old) →
+        OnOk result (IsSnug (length (W.worlds worlds.new)) (shape graph.new)) }
+    ensures stopped { IfOk result (λ it. it ≡ false → IsSnug (length (W.worlds worlds.old)) (shape graph.old) →
+        IsStopped limits.worlds limits.entries (length (W.worlds worlds.new))) }
 {
     let mut whole = true;
     let mut index = 0;
@@ -96,6 +101,10 @@ fn expand<W: Worlds>(
         IsDone W.step W.report W.most_born limits.entries
         (W.worlds worlds.new) (W.faults worlds.new) (shape graph.new) index) }
     ensures room { OnOk result (length (W.worlds worlds.new) ≤ max limits.worlds (length (W.worlds worlds.old))) }
+    ensures snug { IsSnug (length (W.worlds worlds.old)) (shape graph.old) →
+        OnOk result (IsSnug (length (W.worlds worlds.new)) (shape graph.new)) }
+    ensures stopped { IfOk result (λ it. it ≡ false → IsSnug (length (W.worlds worlds.old)) (shape graph.old) →
+        IsStopped limits.worlds limits.entries (length (W.worlds worlds.new))) }
 {
     if graph.nodes[index].depth >= limits.entries {
         return Ok(false);
@@ -152,6 +161,10 @@ fn enter<W: Worlds>(
         ComesTo W.step W.report W.most_born limits.entries (W.worlds worlds.new) (W.faults worlds.new)
         (shape graph.new) index w it (W.step w fiber)) }
     ensures room { OnOk result (length (W.worlds worlds.new) ≤ max limits.worlds (length (W.worlds worlds.old))) }
+    ensures snug { IsSnug (length (W.worlds worlds.old)) (shape graph.old) →
+        OnOk result (IsSnug (length (W.worlds worlds.new)) (shape graph.new)) }
+    ensures lost { IfOk result (λ it. it ≡ Came.Lost → IsSnug (length (W.worlds worlds.old)) (shape graph.old) →
+        limits.worlds ≤ length (W.worlds worlds.new)) }
 {
     let node = Node {
         from: index as u32,
@@ -191,6 +204,11 @@ fn meet<W: Worlds>(
     ensures came { IfOk result (λ it. (w : W.World) → slice_get (W.worlds worlds.now) node.from ≡ Some w →
         ComesTo W.step W.report W.most_born limits.entries (W.worlds worlds.now) (W.faults worlds.now)
         (shape graph.new) node.from w it (W.step w node.fiber)) }
+    ensures snug { IsNearly (length (W.worlds worlds.now)) to limits.worlds (shape graph.old) →
+        OnOk result (IsSnug (length (W.worlds worlds.now)) (shape graph.new)) }
+    ensures lost { IfOk result (λ it. it ≡ Came.Lost →
+        IsNearly (length (W.worlds worlds.now)) to limits.worlds (shape graph.old) →
+        limits.worlds ≤ length (W.worlds worlds.now)) }
 {
     if !keep(&mut *graph, node, to, limits.worlds)? {
         return Ok(Came::Lost);

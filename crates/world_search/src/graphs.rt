@@ -1,6 +1,6 @@
 //! What a search knows of the worlds that it has met.
 
-ghost use Rattle.std.specs.Prelude.{◌≡◌, ◌<◌, ◌^◌, ◌≤◌, length, true, IfOk, OnOk};
+ghost use Rattle.std.specs.Prelude.{◌≡◌, ◌⊎◌, ◌<◌, ◌^◌, ◌≤◌, length, true, false, IfOk, OnOk};
 ghost use Rattle.world_search.specs.Private.Shapes.{shape, begun, Keeps, Notes, IsNotedIn};
 ghost use Rattle.world_search.specs.Private.Shapes.{with_edge, with_quiet, with_faulting};
 
@@ -80,6 +80,7 @@ pub fn keep(graph: &mut Graph, node: Node, to: usize, most: u32) -> Result<bool,
     ensures keeps { OnOk result (Keeps (shape graph.old) (shape graph.new) node to) }
     ensures kept { IfOk result (λ it. it ≡ true → to < length graph.new.nodes.items) }
     ensures small { IfOk result (λ it. it ≡ true → to < most) }
+    ensures refused { IfOk result (λ it. it ≡ false → (most ≤ to) ⊎ (length graph.old.nodes.items < to)) }
 {
     if to >= most as usize || to > graph.nodes.len() {
         return Ok(false);

@@ -1,9 +1,9 @@
 //! The search.
 
-ghost use Rattle.std.specs.Prelude.{◌≡◌, ℕ, ◌<◌, ◌≤◌, ◌++◌, List, length, true, max, Ok as GoesWell};
+ghost use Rattle.std.specs.Prelude.{◌≡◌, ℕ, ◌<◌, ◌≤◌, ◌++◌, List, length, true, false, max, min, Ok as GoesWell};
 ghost use Rattle.std.specs.Prelude.{IfOk, OnOk, Some};
 ghost use Rattle.std.specs.List.{slice_get, All};
-ghost use Rattle.world_search.specs.Answers.{IsCovered, IsRight, IsEnd, IsShort, IsNumbered};
+ghost use Rattle.world_search.specs.Answers.{IsAtBound, IsCovered, IsRight, IsEnd, IsShort, IsNumbered};
 ghost use Rattle.world_search.specs.Lists.{IsMore};
 ghost use Rattle.world_search.specs.Systems.{run};
 
@@ -38,6 +38,8 @@ pub fn search<W: Worlds>(alloc: Global, worlds: &mut W, bounds: Bounds) -> Resul
     ensures short { IfOk result (λ it. All (IsShort bounds.entries) it.answers.items) }
     ensures room { OnOk result (length (W.worlds worlds.new) ≤ max bounds.worlds (length (W.worlds worlds.old))) }
     ensures count { IfOk result (λ it. it.worlds ≡ length (W.worlds worlds.new)) }
+    ensures stopped { IfOk result (λ it. it.complete ≡ false → length (W.worlds worlds.old) ≡ 1 →
+        IsAtBound bounds it.worlds) }
 {
     search_watched(alloc, worlds, bounds, &mut Unwatched)
 }
@@ -66,6 +68,8 @@ pub fn search_watched<W: Worlds, V: Watcher>(
     ensures short { IfOk result (λ it. All (IsShort bounds.entries) it.answers.items) }
     ensures room { OnOk result (length (W.worlds worlds.new) ≤ max bounds.worlds (length (W.worlds worlds.old))) }
     ensures count { IfOk result (λ it. it.worlds ≡ length (W.worlds worlds.new)) }
+    ensures stopped { IfOk result (λ it. it.complete ≡ false → length (W.worlds worlds.old) ≡ 1 →
+        IsAtBound bounds it.worlds) }
 {
     let limits = Limits {
         worlds: capped(bounds.worlds),
@@ -88,7 +92,8 @@ pub fn search_watched<W: Worlds, V: Watcher>(
 
 // A bound as a number of the graph.
 fn capped(bound: usize) -> u32
-    ensures { result ≤ bound }
+    ensures below { result ≤ bound }
+    ensures exact { result ≡ min bound 4294967295 }
 {
     if bound > u32::MAX as usize {
         u32::MAX

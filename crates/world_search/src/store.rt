@@ -3,7 +3,7 @@
 ghost use Rattle.std.specs.Prelude.{◌≡◌, ◌≢◌, ℕ, ◌<◌, ◌≤◌, List, length, true, false, max, Result, Ok as GoesWell};
 ghost use Rattle.std.specs.Prelude.{IfOk, OnOk, Some};
 ghost use Rattle.std.specs.List.{slice_get};
-ghost use Rattle.world_search.specs.Landings.{EntersAt};
+ghost use Rattle.world_search.specs.Landings.{EntersAt, IsNext};
 ghost use Rattle.world_search.specs.Lists.{IsMore};
 
 use crate::landings::Entered;
@@ -37,14 +37,16 @@ pub trait Worlds: Drop {
         ensures many { result ≤ most_born };
 
     /// Makes the entry of a fiber at the world of this number. What comes of it is then among the worlds and faults,
-    /// unless it is a new world and there are `most` already. `AllocError` where memory is refused.
+    /// unless it is a new world and there are `most` already: then the answer is [`Entered::Full`]. A new world has the
+    /// next number, and no other comes with it. `AllocError` where memory is refused.
     fn enter(&mut self, world: usize, fiber: u16, most: usize) -> Result<Entered, AllocError>
         requires { world < length (worlds self.old) }
         ensures worlds { OnOk result (IsMore (worlds self.old) (worlds self.new)) }
         ensures faults { OnOk result (IsMore (faults self.old) (faults self.new)) }
         ensures lands { IfOk result (λ it. (w : Self.World) → slice_get (worlds self.old) world ≡ Some w →
             EntersAt (worlds self.new) (faults self.new) it (step w fiber)) }
-        ensures room { OnOk result (length (worlds self.new) ≤ max most (length (worlds self.old))) };
+        ensures room { OnOk result (length (worlds self.new) ≤ max most (length (worlds self.old))) }
+        ensures next { IfOk result (IsNext (length (worlds self.old)) (length (worlds self.new)) most) };
 
     /// Whether two worlds have the same report.
     fn same_report(&self, one: usize, other: usize) -> bool

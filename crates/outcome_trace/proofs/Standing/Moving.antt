@@ -39,7 +39,11 @@ module _ (code : Tree) where
   pub went-join : (f : ℕ) (seen now more : List Entry) (a b c : Fiber) → Led f seen a now b → Led f now b more c → Led f seen a more c
   went-join f seen now more a b c g h = record {
     gained = g.gained ++ h.gained;
-    seen_more = (g.seen_more.0 ++ h.seen_more.0, sym (append_assoc seen g.seen_more.0 h.seen_more.0) ∙ ap (λ (x : List Entry). x ++ h.seen_more.0) g.seen_more.1 ∙ h.seen_more.1);
+    seen_more = (
+      g.seen_more.0 ++ h.seen_more.0,
+      sym (append_assoc seen g.seen_more.0 h.seen_more.0) ∙
+          ap (λ (x : List Entry). x ++ h.seen_more.0) g.seen_more.1 ∙ h.seen_more.1,
+    );
     own = h.own ∙ ap (λ (x : List Entry). x ++ h.gained) g.own ∙ append_assoc (calls_by f seen) g.gained h.gained;
     reaches = reaches-join a b c g.gained h.gained g.reaches h.reaches;
   }
@@ -51,7 +55,8 @@ module _ (code : Tree) where
   went-alone f seen now a b g w = record { gained = g.gained; seen_more = g.seen_more; own = g.own; reaches = reaches-alone a b g.gained g.reaches w }
 
   -- a pass that has seen more, where its fiber made no call
-  pub went-looked : (f : ℕ) (seen now more : List Entry) (a b : Fiber) → Led f seen a now b → IsPrefix now more → calls_by f more ≡ calls_by f now → Led f seen a more b
+  pub went-looked : (f : ℕ) (seen now more : List Entry) (a b : Fiber) → Led f seen a now b → IsPrefix now more → calls_by f more ≡ calls_by f now →
+      Led f seen a more b
   went-looked f seen now more a b g p own = record {
     gained = g.gained;
     seen_more = (g.seen_more.0 ++ p.0, sym (append_assoc seen g.seen_more.0 p.0) ∙ ap (λ (x : List Entry). x ++ p.0) g.seen_more.1 ∙ p.1);
@@ -60,7 +65,8 @@ module _ (code : Tree) where
   }
 
   -- the clause `own` of a call of the registry carries a turn on
-  pub went-call : (f : ℕ) (seen now more : List Entry) (a b : Fiber) (e : Entry) → Led f seen a now b → wish b ≡ Shared e.call → IsPrefix now more → calls_by f more ≡ calls_by f now ++ e ∷ []
+  pub went-call : (f : ℕ) (seen now more : List Entry) (a b : Fiber) (e : Entry) → Led f seen a now b → wish b ≡ Shared e.call → IsPrefix now more →
+      calls_by f more ≡ calls_by f now ++ e ∷ []
       → Led f seen a more (move b e.reply)
   went-call f seen now more a b e g w p own = record {
     gained = g.gained ++ e ∷ [];
@@ -92,15 +98,20 @@ module _ (code : Tree) where
   pub stands-went : (f : ℕ) (seen now : List Entry) (a b : Fiber) → Led f seen a now b → Stands code seen f a → Stands code now f b
   stands-went f seen now a b g s =
       let rest = g.seen_more.0 in
-      let own : calls_by f seen ++ calls_by f rest ≡ calls_by f seen ++ g.gained = sym (filter-append (λ (x : Entry). eqb x.by f) seen rest) ∙ ap (calls_by f) g.seen_more.1 ∙ g.own in
+      let own : calls_by f seen ++ calls_by f rest ≡ calls_by f seen ++ g.gained = sym (filter-append (λ (x : Entry). eqb x.by f) seen rest) ∙
+      ap (calls_by f) g.seen_more.1 ∙ g.own in
       let same : calls_by f rest ≡ g.gained = append_cancel_left (calls_by f seen) (calls_by f rest) g.gained own in
       subst (λ (x : List Entry). Stands code x f b) g.seen_more.1
       (stands-more seen rest f a b s (subst (λ (x : List Entry). Reaches a x b) (sym same) g.reaches))
 
   -- the child of a start
   pub stands-bore : (f : ℕ) (seen now : List Entry) (a : Fiber) (n : ℕ) (c : Fiber) → Bore f seen a now n c → Stands code seen f a → Stands code now n c
-  stands-bore f seen now a n c b s = Begins now n c b.before record { by = f; call = Start; reply = Number n } b.parent (stands-went f seen b.before a b.parent b.went s) b.last refl refl b.wants b.is_child
+  stands-bore f seen now a n c b s =
+      Begins now n c b.before record { by = f; call = Start; reply = Number n } b.parent (stands-went f seen b.before a b.parent b.went s) b.last
+      refl refl b.wants b.is_child
 
   -- a pass that has seen more, where its fiber made no more calls
-  pub stands-longer : (f : ℕ) (seen now : List Entry) (a : Fiber) → IsPrefix seen now → calls_by f now ≡ calls_by f seen → Stands code seen f a → Stands code now f a
-  stands-longer f seen now a p own s = stands-went f seen now a a record { gained = []; seen_more = p; own = own ∙ sym (append-nil (calls_by f seen)); reaches = (0, refl) } s
+  pub stands-longer : (f : ℕ) (seen now : List Entry) (a : Fiber) → IsPrefix seen now → calls_by f now ≡ calls_by f seen → Stands code seen f a →
+      Stands code now f a
+  stands-longer f seen now a p own s =
+      stands-went f seen now a a record { gained = []; seen_more = p; own = own ∙ sym (append-nil (calls_by f seen)); reaches = (0, refl) } s

@@ -39,15 +39,21 @@ module _ (code : Tree) where
     Stayed : Stands code h f a → e.by ≢ f → Fresh h e f a
     Came : (m : Fiber) → Stands code h e.by m → e.call ≡ Start → e.reply ≡ Number f → wish m ≡ Shared Start → a ≡ child m f → Fresh h e f a
 
-  pub just_after : (all h : List Entry) (e : Entry) (f : ℕ) (g : Fiber) → all ≡ h ++ e ∷ [] → Stands code all f g → (a : Fiber) × (n : ℕ) × Fresh h e f a × Later n a g
+  pub just_after : (all h : List Entry) (e : Entry) (f : ℕ) (g : Fiber) → all ≡ h ++ e ∷ [] → Stands code all f g → (a : Fiber) × (n : ℕ) ×
+      Fresh h e f a × Later n a g
   just_after all h e f g is (Opens _ _ _ none zeroth opens) = absurd (end_none h e (sym is ∙ none))
   just_after all h e f g is (Alone_on _ _ _ m s w q) =
       let i = just_after all h e f m is s in
       (i.0, suc i.1, i.2, later-push code i.1 i.0 m g i.3 w q)
   just_after all h e f g is (Calls _ _ _ b d m s was by w q) =
       let same : b ≡ h = end_left b h d e (sym was ∙ is) in
-      let one : d ≡ e = end_right b h d e (sym was ∙ is) in
-      (g, 0, Made m (subst (λ (x : List Entry). Stands code x f m) same s) (cc) (w ∙ ap (λ (x : Entry). Shared x.call) one) (q ∙ ap (λ (x : Entry). move m x.reply) one), refl)
+      let one : d ≡ e = end_right b h d e (sym was ∙ is) in (
+        g,
+        0,
+        Made m (subst (λ (x : List Entry). Stands code x f m) same s) (cc) (w ∙ ap (λ (x : Entry). Shared x.call) one)
+            (q ∙ ap (λ (x : Entry). move m x.reply) one),
+        refl,
+      )
   just_after all h e f g is (Rests _ _ _ b d s was by) =
       let same : b ≡ h = end_left b h d e (sym was ∙ is) in
       let one : d ≡ e = end_right b h d e (sym was ∙ is) in
@@ -55,8 +61,13 @@ module _ (code : Tree) where
   just_after all h e f g is (Begins _ _ _ b d m s was c r w q) =
       let same : b ≡ h = end_left b h d e (sym was ∙ is) in
       let one : d ≡ e = end_right b h d e (sym was ∙ is) in
-      let here : Stands code b e.by m = subst (λ (x : Entry). Stands code b x.by m) one s in
-      (g, 0, Came m (subst (λ (x : List Entry). Stands code x e.by m) same here) (sym (ap (λ (x : Entry). x.call) one) ∙ c) (sym (ap (λ (x : Entry). x.reply) one) ∙ r) w q, refl)
+      let here : Stands code b e.by m = subst (λ (x : Entry). Stands code b x.by m) one s in (
+        g,
+        0,
+        Came m (subst (λ (x : List Entry). Stands code x e.by m) same here) (sym (ap (λ (x : Entry). x.call) one) ∙ c)
+            (sym (ap (λ (x : Entry). x.reply) one) ∙ r) w q,
+        refl,
+      )
 
   pub at_first : (h : List Entry) (f : ℕ) (g : Fiber) → h ≡ [] → Stands code h f g → (n : ℕ) × (f ≡ 0) × Later n (begins 0 code) g
   at_first h f g is (Opens _ _ _ none zeroth opens) = (0, zeroth, sym opens)

@@ -1,5 +1,6 @@
 -- Every report is some schedule's.
-use Rattle.std.proofs.Common.{◌≡◌, ◌≢◌, ℕ, zero, suc, ◌+◌, ◌<◌, List, [], ◌∷◌, ◌++◌, length, set, get_or, replicate, refl, sym, ap, ◌∙◌, subst, arith, length-set, append_assoc}
+use Rattle.std.proofs.Common.{◌≡◌, ◌≢◌, ℕ, zero, suc, ◌+◌, ◌<◌, List, [], ◌∷◌, ◌++◌, length, set, get_or, replicate}
+use Rattle.std.proofs.Common.{refl, sym, ap, ◌∙◌, subst, arith, length-set, append_assoc}
 use Rattle.std.proofs.lemmas.List.{set-set, length-append}
 use Rattle.std.proofs.lemmas.Option.{same_Some, slice_get-get_or}
 use Rattle.std.specs.Prelude.{Some, None, Result, Ok}
@@ -7,7 +8,8 @@ use Rattle.std.specs.List.{fold, slice_get}
 use Rattle.cell_registry.specs.declared.limits.Limits.{Limits}
 use Rattle.cell_registry.specs.declared.call.Entry.{Entry}
 use Rattle.cell_registry.specs.declared.call.Call.{Call}
-use Rattle.cell_registry.specs.declared.call.Call.TheVariants.{Start, Cancel, Join, Look, Mask, Unmask, Cut, Finish, NewRef, NewDeferred, Get, Set, Modify, Complete, Read}
+use Rattle.cell_registry.specs.declared.call.Call.TheVariants.{Start, Cancel, Join, Look, Mask, Unmask, Cut, Finish}
+use Rattle.cell_registry.specs.declared.call.Call.TheVariants.{NewRef, NewDeferred, Get, Set, Modify, Complete, Read}
 use Rattle.effect_term.specs.declared.reply.Reply.{Reply}
 use Rattle.effect_term.specs.declared.reply.Reply.TheVariants.{Done, Number}
 use Rattle.cell_registry.specs.Cells.{Cells, opening, after, reply_of, refusal}
@@ -67,37 +69,48 @@ module _ (code : Tree) where
   two_parts k x [] t = refl
   two_parts k x (f ∷ s) t = two_parts k (Enter k x f) s t
 
-  alone_step : (k : Limits) (w : World) (f : ℕ) (a : Fiber) → slice_get w.fibers f ≡ Some a → wish a ≡ Alone → Enter k (Ok w) f ≡ Ok (at_world w f (move a Done))
+  alone_step : (k : Limits) (w : World) (f : ℕ) (a : Fiber) → slice_get w.fibers f ≡ Some a → wish a ≡ Alone →
+      Enter k (Ok w) f ≡ Ok (at_world w f (move a Done))
   alone_step k w f a e q = ap (turned k w f) e ∙ ap (wished k w f a) q
 
   abbrev pub after_call : World → ℕ → Fiber → Call → World
   after_call w f a c = record { fibers = set w.fibers f (move a (reply_of w.cells f c)) ++ born a c (reply_of w.cells f c); cells = after w.cells f c }
 
-  call_step : (k : Limits) (w : World) (f : ℕ) (a : Fiber) (c : Call) → slice_get w.fibers f ≡ Some a → wish a ≡ Shared c → refusal k w.cells f c ≡ None → Enter k (Ok w) f ≡ Ok (after_call w f a c)
+  call_step : (k : Limits) (w : World) (f : ℕ) (a : Fiber) (c : Call) → slice_get w.fibers f ≡ Some a → wish a ≡ Shared c →
+      refusal k w.cells f c ≡ None → Enter k (Ok w) f ≡ Ok (after_call w f a c)
   call_step k w f a c e q r = ap (turned k w f) e ∙ ap (wished k w f a) q ∙ ap (answered w f a c) r
 
-  pub quiet : (n : ℕ) (k : Limits) (w : World) (f : ℕ) (a g : Fiber) → slice_get w.fibers f ≡ Some a → Later n a g → From k (Ok w) (replicate n f) ≡ Ok (at_world w f g)
+  pub quiet : (n : ℕ) (k : Limits) (w : World) (f : ℕ) (a g : Fiber) → slice_get w.fibers f ≡ Some a → Later n a g →
+      From k (Ok w) (replicate n f) ≡ Ok (at_world w f g)
   quiet zero k w f a g e l =
       let same : set w.fibers f g ≡ w.fibers = put_back w.fibers f g (e ∙ ap Some l) in
       ap (λ (xs : List Fiber). Ok record { fibers = xs; cells = w.cells }) (sym same)
   quiet (suc n) k w f a g e l =
       let one = alone_step k w f a e l.0 in
       let rest = quiet n k (at_world w f (move a Done)) f (move a Done) g (slice_get-set_same w.fibers f a (move a Done) e) l.1 in
-      ap (λ (x : Course). From k x (replicate n f)) one ∙ rest ∙ ap (λ (xs : List Fiber). Ok record { fibers = xs; cells = w.cells }) (set-set w.fibers f (move a Done) g)
+      ap (λ (x : Course). From k x (replicate n f)) one ∙ rest ∙
+      ap (λ (xs : List Fiber). Ok record { fibers = xs; cells = w.cells }) (set-set w.fibers f (move a Done) g)
 
   -- each fiber of a list makes its silent moves
-  pub settled : (k : Limits) (cells : Cells) (pre xs gs : List Fiber) → length xs ≡ length gs → ((f : ℕ) (a g : Fiber) → slice_get xs f ≡ Some a → slice_get gs f ≡ Some g → (n : ℕ) × Later n a g) → (s : List ℕ) × (From k (Ok record { fibers = pre ++ xs; cells = cells }) s ≡ Ok record { fibers = pre ++ gs; cells = cells })
+  pub settled : (k : Limits) (cells : Cells) (pre xs gs : List Fiber) → length xs ≡ length gs →
+      ((f : ℕ) (a g : Fiber) → slice_get xs f ≡ Some a → slice_get gs f ≡ Some g → (n : ℕ) × Later n a g) → (s : List ℕ) ×
+      (From k (Ok record { fibers = pre ++ xs; cells = cells }) s ≡ Ok record { fibers = pre ++ gs; cells = cells })
   settled k cells pre [] [] long each = ([], refl)
   settled k cells pre [] (g ∷ gs) long each = absurd (omega arith)
   settled k cells pre (a ∷ xs) [] long each = absurd (omega arith)
   settled k cells pre (a ∷ xs) (g ∷ gs) long each =
       let i = each zero a g refl refl in
       let one = quiet i.0 k record { fibers = pre ++ a ∷ xs; cells = cells } (length pre) a g (get_seam pre a xs) i.1 in
-      let here : From k (Ok record { fibers = pre ++ a ∷ xs; cells = cells }) (replicate i.0 (length pre)) ≡ Ok record { fibers = (pre ++ g ∷ []) ++ xs; cells = cells }
+      let here : From k (Ok record { fibers = pre ++ a ∷ xs; cells = cells }) (replicate i.0 (length pre)) ≡ Ok record {
+        fibers = (pre ++ g ∷ []) ++
+            xs;
+        cells = cells;
+      }
       = one ∙ ap (λ (l : List Fiber). Ok record { fibers = l; cells = cells }) (put_seam pre a g xs ∙ sym (append_assoc pre (g ∷ []) xs)) in
       let rest = settled k cells (pre ++ g ∷ []) xs gs (omega arith) (λ f. each (suc f)) in (
         replicate i.0 (length pre) ++ rest.0,
-        two_parts k _ (replicate i.0 (length pre)) rest.0 ∙ ap (λ (x : Course). From k x rest.0) here ∙ rest.1 ∙ ap (λ (l : List Fiber). Ok record { fibers = l; cells = cells }) (append_assoc pre (g ∷ []) gs),
+        two_parts k _ (replicate i.0 (length pre)) rest.0 ∙ ap (λ (x : Course). From k x rest.0) here ∙ rest.1 ∙
+            ap (λ (l : List Fiber). Ok record { fibers = l; cells = cells }) (append_assoc pre (g ∷ []) gs),
       )
 
 module _ (code : Tree) where
@@ -126,7 +139,8 @@ module _ (code : Tree) where
   }
 
   -- before its call the caller stood where it wants the call
-  caller : (k : Limits) (h : List Entry) (e : Entry) → MayFollow k (left k h) e → AllStand code k (h ++ e ∷ []) → (m : Fiber) × Stands code h e.by m × (wish m ≡ Shared e.call)
+  caller : (k : Limits) (h : List Entry) (e : Entry) → MayFollow k (left k h) e → AllStand code k (h ++ e ∷ []) → (m : Fiber) ×
+      Stands code h e.by m × (wish m ≡ Shared e.call)
   caller k h e l all =
       let up = next-after (left k h) e.by e.call in
       let young = l.born in
@@ -139,7 +153,8 @@ module _ (code : Tree) where
         | Came m t c r w q ↦ let n = is_next code k h e e.by l c r in absurd (omega arith)
       ]
 
-  module _ (k : Limits) (h : List Entry) (e : Entry) (l : MayFollow k (left k h) e) (run : Runs k h) (m : Fiber) (t : Stands code h e.by m) (w : wish m ≡ Shared e.call) where
+  module _ (k : Limits) (h : List Entry) (e : Entry) (l : MayFollow k (left k h) e) (run : Runs k h) (m : Fiber) (t : Stands code h e.by m)
+      (w : wish m ≡ Shared e.call) where
     replied : reply_of run.world.cells e.by e.call ≡ e.reply
     replied = ap (λ (x : Cells). reply_of x e.by e.call) run.cells_are ∙ sym l.replied
 
@@ -159,7 +174,8 @@ module _ (code : Tree) where
     ready_at = slice_get-set_same run.world.fibers e.by caller_at.0 m caller_at.2
 
     next_at : slice_get next.fibers e.by ≡ Some (move m e.reply)
-    next_at = get_early (set ready.fibers e.by (move m e.reply)) (born m e.call e.reply) e.by (move m e.reply) (slice_get-set_same ready.fibers e.by m (move m e.reply) ready_at)
+    next_at = get_early (set ready.fibers e.by (move m e.reply)) (born m e.call e.reply) e.by (move m e.reply)
+        (slice_get-set_same ready.fibers e.by m (move m e.reply) ready_at)
 
     one_entry : entered k (Ok ready) e.by ≡ Ok next
     one_entry =
@@ -189,7 +205,8 @@ module _ (code : Tree) where
     long = length-set ready.fibers e.by (move m e.reply) ∙ length-set run.world.fibers e.by m ∙ run.many
 
     still : (f : ℕ) (a : Fiber) → e.by ≢ f → slice_get run.world.fibers f ≡ Some a → slice_get next.fibers f ≡ Some a
-    still f a apart q = get_early (set ready.fibers e.by (move m e.reply)) (born m e.call e.reply) f a (slice_get-set_other ready.fibers e.by f (move m e.reply) apart ∙ slice_get-set_other run.world.fibers e.by f m apart ∙ q)
+    still f a apart q = get_early (set ready.fibers e.by (move m e.reply)) (born m e.call e.reply) f a
+        (slice_get-set_other ready.fibers e.by f (move m e.reply) apart ∙ slice_get-set_other run.world.fibers e.by f m apart ∙ q)
 
     child_at : (f : ℕ) → e.call ≡ Start → e.reply ≡ Number f → slice_get next.fibers f ≡ Some (child m f)
     child_at f c r =
@@ -240,7 +257,8 @@ module _ (code : Tree) where
       → ((f : ℕ) (g : Fiber) → slice_get finals f ≡ Some g → Stands code h f g)
       → (schedule : List ℕ) × (run_from k (Ok (first_world code k)) schedule ≡ Ok record { fibers = finals; cells = left k h })
   some_schedules k h finals legal many each =
-      let all : AllStand code k h = λ f low. let found = slice_get-get_or finals f (begins 0 code) (omega arith) in (get_or finals f (begins 0 code), each f (get_or finals f (begins 0 code)) found) in
+      let all : AllStand code k h = λ f low. let found = slice_get-get_or finals f (begins 0 code) (omega arith) in
+      (get_or finals f (begins 0 code), each f (get_or finals f (begins 0 code)) found) in
       let run = runs k h legal all in
       let s = settled code k run.world.cells [] run.world.fibers finals (run.many ∙ sym many) (λ f a g here there.
       let b = run.behind f g (each f g there) in

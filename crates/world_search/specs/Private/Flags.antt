@@ -10,11 +10,13 @@ AreWithin edges n = (k : ℕ) (e : Edge) → slice_get edges k ≡ Some e → (e
 -- edges lead from one world to the other
 pub data LeadsOn (edges : List Edge) : ℕ → ℕ → Type 0 where
   Here : (i j : ℕ) → i ≡ j → LeadsOn edges i j
-  Along : (k : ℕ) (e : Edge) (i j : ℕ) → slice_get edges k ≡ Some e → i ≡ e.from → LeadsOn edges e.to j → LeadsOn edges i j
+  Along : (k : ℕ) (e : Edge) (i j : ℕ) → slice_get edges k ≡ Some e → i ≡ e.from → LeadsOn edges e.to j →
+      LeadsOn edges i j
 
 -- from each world that is flagged, edges lead to one that was flagged before
 abbrev pub AreFlagged : List Edge → List Bool → List Bool → Type 0
-AreFlagged edges old new = (i : ℕ) → slice_get new i ≡ Some true → (j : ℕ) × LeadsOn edges i j × (slice_get old j ≡ Some true)
+AreFlagged edges old new = (i : ℕ) → slice_get new i ≡ Some true → (j : ℕ) × LeadsOn edges i j ×
+    (slice_get old j ≡ Some true)
 
 -- what was flagged stays so
 abbrev pub KeepsFlags : List Bool → List Bool → Type 0
@@ -22,7 +24,8 @@ KeepsFlags old new = (i : ℕ) → slice_get old i ≡ Some true → slice_get n
 
 -- of each edge from the n-th on, the first world is flagged if the second one is
 abbrev pub AreBack : List Edge → List Bool → ℕ → Type 0
-AreBack edges flags n = (k : ℕ) (e : Edge) → n ≤ k → slice_get edges k ≡ Some e → slice_get flags e.to ≡ Some true → slice_get flags e.from ≡ Some true
+AreBack edges flags n = (k : ℕ) (e : Edge) → n ≤ k → slice_get edges k ≡ Some e →
+    slice_get flags e.to ≡ Some true → slice_get flags e.from ≡ Some true
 
 -- how many aren't flagged
 abbrev pub unset : List Bool → ℕ

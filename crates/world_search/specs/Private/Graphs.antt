@@ -17,6 +17,25 @@ pub record CanEnter (most longest : ℕ) (nodes : List Node) (n : Node) : Type 0
   pub short : n.depth ≤ longest
   pub small : n.fiber < most
 
+-- no node is deeper than its number
+abbrev pub AreShallow : List Node → Type 0
+AreShallow nodes = (i : ℕ) (n : Node) → slice_get nodes i ≡ Some n → n.depth ≤ i
+
+-- each of so many worlds was met, and none is deeper than its number
+pub record IsSnug (many : ℕ) (s : Shape) : Type 0 where
+  pub even : length s.nodes ≡ many
+  pub shallow : AreShallow s.nodes
+
+-- each of so many worlds was met, or each but the last, which is this one and may be kept
+abbrev pub IsNearly : (many to most : ℕ) → Shape → Type 0
+IsNearly many to most s =
+    AreShallow s.nodes ×
+    ((length s.nodes ≡ many) ⊎ ((to ≡ length s.nodes) × (many ≡ length s.nodes + 1) × (to < most)))
+
+-- there are as many worlds as there may be, or more than a schedule may have entries
+abbrev pub IsStopped : (worlds entries many : ℕ) → Type 0
+IsStopped worlds entries many = (worlds ≤ many) ⊎ (entries < many)
+
 -- worlds, faults and what is known of them go on
 pub record Grows {W E : Type 0} (ws vs : List W) (es ds : List E) (s t : Shape) : Type 0 where
   pub worlds : IsMore ws vs
@@ -37,7 +56,8 @@ worse_of came.Leaves came.Leaves = came.Leaves
 worse_of came.Leaves came.Stays = came.Leaves
 worse_of came.Stays other = other
 
-module _ {W E R : Type 0} (step : W → ℕ → Result W E) (report : W → R) (most longest : ℕ) (ws : List W) (es : List E) where
+module _ {W E R : Type 0} (step : W → ℕ → Result W E) (report : W → R) (most longest : ℕ) (ws : List W)
+    (es : List E) where
   -- the entry of this node leads there
   pub record IsEntry (nodes : List Node) (n : Node) (y : Result W E) : Type 0 where
     pub how : CanEnter most longest nodes n
@@ -76,7 +96,9 @@ module _ {W E R : Type 0} (step : W → ℕ → Result W E) (report : W → R) (
 
   -- the entry at world number i changes nothing, or leads along an edge to a world of the same report
   abbrev pub Stays : Shape → ℕ → W → Result W E → Type 0
-  Stays s i w y = (y ≡ Ok w) ⊎ ((k : ℕ) × (e : Edge) × (x : W) × (slice_get s.edges k ≡ Some e) × (e.from ≡ i) × (slice_get ws e.to ≡ Some x) × (y ≡ Ok x) × (report x ≡ report w))
+  Stays s i w y = (y ≡ Ok w) ⊎
+      ((k : ℕ) × (e : Edge) × (x : W) × (slice_get s.edges k ≡ Some e) × (e.from ≡ i) ×
+      (slice_get ws e.to ≡ Some x) × (y ≡ Ok x) × (report x ≡ report w))
 
   -- the entry changes the report, or ends in a fault
   abbrev pub Leaves : W → Result W E → Type 0
@@ -92,7 +114,8 @@ module _ {W E R : Type 0} (step : W → ℕ → Result W E) (report : W → R) (
   pub record Fits (s : Shape) : Type 0 where
     pub some : 0 < length s.nodes
     pub known : length s.nodes ≤ length ws
-    pub nodes : (i : ℕ) (n : Node) (w : W) → slice_get s.nodes i ≡ Some n → slice_get ws i ≡ Some w → IsReached s.nodes n (Ok w)
+    pub nodes : (i : ℕ) (n : Node) (w : W) → slice_get s.nodes i ≡ Some n → slice_get ws i ≡ Some w →
+        IsReached s.nodes n (Ok w)
     pub edges : (k : ℕ) (e : Edge) → slice_get s.edges k ≡ Some e → IsEdge s.nodes e
     pub noted : (k : ℕ) (n : Noted) → slice_get s.noted k ≡ Some n → IsNoted s.nodes n
     pub unsettled : length s.unsettled ≡ length s.nodes

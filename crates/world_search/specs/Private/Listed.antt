@@ -47,4 +47,5 @@ AreNotedChained s = (k : ℕ) (n : Noted) → slice_get s.noted k ≡ Some n →
 
 -- from world number j, edges lead to a world that isn't unsettled or has an entry that ends in a fault
 abbrev pub CanEnd : Shape → ℕ → Type 0
-CanEnd s j = (i : ℕ) × LeadsOn s.edges j i × ((slice_get s.unsettled i ≡ Some false) ⊎ (slice_get s.faulting i ≡ Some true))
+CanEnd s j = (i : ℕ) × LeadsOn s.edges j i ×
+    ((slice_get s.unsettled i ≡ Some false) ⊎ (slice_get s.faulting i ≡ Some true))

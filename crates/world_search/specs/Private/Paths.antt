@@ -13,4 +13,5 @@ AreChained nodes = (i : ℕ) (n : Node) → slice_get nodes i ≡ Some n → IsC
 -- the entries of this schedule are those of the nodes up to this one
 pub data IsPath (nodes : List Node) : Node → List ℕ → Type 0 where
   Root : (n : Node) (s : List ℕ) → n.depth ≡ 0 → s ≡ [] → IsPath nodes n s
-  Then : (n p : Node) (s t : List ℕ) → slice_get nodes n.from ≡ Some p → n.depth ≡ p.depth + 1 → IsPath nodes p s → t ≡ s ++ (n.fiber ∷ []) → IsPath nodes n t
+  Then : (n p : Node) (s t : List ℕ) → slice_get nodes n.from ≡ Some p → n.depth ≡ p.depth + 1 →
+      IsPath nodes p s → t ≡ s ++ (n.fiber ∷ []) → IsPath nodes n t

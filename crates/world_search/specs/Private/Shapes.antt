@@ -14,27 +14,69 @@ pub record Shape : Type 0 where
   pub faulting : List Bool
 
 abbrev pub shape : Graph → Shape
-shape g = record { nodes = g.nodes.items; edges = g.edges.items; noted = g.noted.items; unsettled = g.unsettled.items; faulting = g.faulting.items }
+shape g = record {
+  nodes = g.nodes.items;
+  edges = g.edges.items;
+  noted = g.noted.items;
+  unsettled = g.unsettled.items;
+  faulting = g.faulting.items;
+}
 
 -- the first world alone
 abbrev pub begun : Shape
-begun = record { nodes = record { from = 0; depth = 0; fiber = 0 } ∷ []; edges = []; noted = []; unsettled = true ∷ []; faulting = false ∷ [] }
+begun = record {
+  nodes = record { from = 0; depth = 0; fiber = 0 } ∷ [];
+  edges = [];
+  noted = [];
+  unsettled = true ∷ [];
+  faulting = false ∷ [];
+}
 
 -- one world more, of which nothing is known yet
 abbrev pub with_node : Shape → Node → Shape
-with_node s n = record { nodes = s.nodes ++ (n ∷ []); edges = s.edges; noted = s.noted; unsettled = s.unsettled ++ (true ∷ []); faulting = s.faulting ++ (false ∷ []) }
+with_node s n = record {
+  nodes = s.nodes ++ (n ∷ []);
+  edges = s.edges;
+  noted = s.noted;
+  unsettled = s.unsettled ++ (true ∷ []);
+  faulting = s.faulting ++ (false ∷ []);
+}
 
 abbrev pub with_edge : Shape → Edge → Shape
-with_edge s e = record { nodes = s.nodes; edges = s.edges ++ (e ∷ []); noted = s.noted; unsettled = s.unsettled; faulting = s.faulting }
+with_edge s e = record {
+  nodes = s.nodes;
+  edges = s.edges ++ (e ∷ []);
+  noted = s.noted;
+  unsettled = s.unsettled;
+  faulting = s.faulting;
+}
 
 abbrev pub with_noted : Shape → Noted → Shape
-with_noted s n = record { nodes = s.nodes; edges = s.edges; noted = s.noted ++ (n ∷ []); unsettled = s.unsettled; faulting = s.faulting }
+with_noted s n = record {
+  nodes = s.nodes;
+  edges = s.edges;
+  noted = s.noted ++ (n ∷ []);
+  unsettled = s.unsettled;
+  faulting = s.faulting;
+}
 
 abbrev pub with_quiet : Shape → ℕ → Shape
-with_quiet s i = record { nodes = s.nodes; edges = s.edges; noted = s.noted; unsettled = slice_set s.unsettled i false; faulting = s.faulting }
+with_quiet s i = record {
+  nodes = s.nodes;
+  edges = s.edges;
+  noted = s.noted;
+  unsettled = slice_set s.unsettled i false;
+  faulting = s.faulting;
+}
 
 abbrev pub with_faulting : Shape → ℕ → Shape
-with_faulting s i = record { nodes = s.nodes; edges = s.edges; noted = s.noted; unsettled = s.unsettled; faulting = slice_set s.faulting i true }
+with_faulting s i = record {
+  nodes = s.nodes;
+  edges = s.edges;
+  noted = s.noted;
+  unsettled = s.unsettled;
+  faulting = slice_set s.faulting i true;
+}
 
 -- nothing was added, or the world of this number was, as the next one
 abbrev pub Keeps : Shape → Shape → Node → ℕ → Type 0

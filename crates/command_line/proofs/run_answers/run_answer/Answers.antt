@@ -4,8 +4,10 @@ use Rattle.command_line.proofs.run_answers.run_answer.Goals as goal
 pub returns-in-Ok : goal.returns-in-Ok
 returns-in-Ok g c =
     let ran = c.in-Ok.ensures in
-    report_answers c.args.program c.args.options c.in-Ok.report c.report_answer.result ran.schedule ran.lawful c.report_answer.ensures.line c.report_answer.ensures.status
+    report_answers c.args.program c.args.options c.in-Ok.report c.report_answer.result ran.schedule ran.lawful c.report_answer.ensures.line
+    c.report_answer.ensures.status
 
 pub returns-in-Err : goal.returns-in-Err
 returns-in-Err g c =
-    fault_answers c.args.program c.args.options c.in-Err.error c.fault_answer.result c.in-Err.ensures.full c.fault_answer.ensures.line c.fault_answer.ensures.status
+    fault_answers c.args.program c.args.options c.in-Err.error c.fault_answer.result c.in-Err.ensures.full c.fault_answer.ensures.line
+    c.fault_answer.ensures.status

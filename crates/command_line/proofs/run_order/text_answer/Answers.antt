@@ -4,7 +4,8 @@ use Rattle.command_line.proofs.run_order.text_answer.Goals as goal
 
 pub returns-in-Ok : goal.returns-in-Ok
 returns-in-Ok g c =
-    program_runs (refused_as c.args.form) (comes_as c.args.form c.args.options) c.args.text.now c.in-Ok.program c.program_answer.result c.in-Ok.ensures.program c.in-Ok.ensures.limits c.program_answer.ensures
+    program_runs (refused_as c.args.form) (comes_as c.args.form c.args.options) c.args.text.now c.in-Ok.program c.program_answer.result
+    c.in-Ok.ensures.program c.in-Ok.ensures.limits c.program_answer.ensures
 
 pub returns-in-Err : goal.returns-in-Err
 returns-in-Err g c =

@@ -9,11 +9,15 @@ use Rattle.command_line.proofs.run_reasons.text_ran.Goals as goal
 
 pub returns-in-Ok-clause-answers : goal.returns-in-Ok-clause-answers
 returns-in-Ok-clause-answers g c =
-    IfOk-weaker c.program_ran.result _ _ (λ ran h. runs c.args.text.now ran.answer.text.items ran.answer.status c.in-Ok.program c.in-Ok.ensures.program c.in-Ok.ensures.limits h) c.program_ran.ensures.answers
+    IfOk-weaker c.program_ran.result _ _
+    (λ ran h. runs c.args.text.now ran.answer.text.items ran.answer.status c.in-Ok.program c.in-Ok.ensures.program c.in-Ok.ensures.limits h)
+    c.program_ran.ensures.answers
 
 pub returns-in-Ok-clause-replayed : goal.returns-in-Ok-clause-replayed
 returns-in-Ok-clause-replayed g c =
-    IfOk-weaker c.program_ran.result _ _ (λ ran h. text_replayed (λ (v : Vec ℕ Global). v.items) c.args.text.now ran.answer.text.items ran.answer.status (limits_of c.args.options) c.in-Ok.program ran.entries c.in-Ok.ensures.program c.in-Ok.ensures.limits h) c.program_ran.ensures.replayed
+    IfOk-weaker c.program_ran.result _ _
+    (λ ran h. text_replayed (λ (v : Vec ℕ Global). v.items) c.args.text.now ran.answer.text.items ran.answer.status (limits_of c.args.options)
+    c.in-Ok.program ran.entries c.in-Ok.ensures.program c.in-Ok.ensures.limits h) c.program_ran.ensures.replayed
 
 pub returns-in-Err-clause-answers : goal.returns-in-Err-clause-answers
 returns-in-Err-clause-answers g c =
@@ -21,4 +25,6 @@ returns-in-Err-clause-answers g c =
 
 pub returns-in-Err-clause-replayed : goal.returns-in-Err-clause-replayed
 returns-in-Err-clause-replayed g c =
-    IfOk-weaker c.refused_ran.result _ _ (λ ran h. refusal_replayed (λ (v : Vec ℕ Global). v.items) c.args.text.now ran.answer.text.items ran.answer.status (limits_of c.args.options) ran.entries h) c.refused_ran.ensures
+    IfOk-weaker c.refused_ran.result _ _
+    (λ ran h. refusal_replayed (λ (v : Vec ℕ Global). v.items) c.args.text.now ran.answer.text.items ran.answer.status (limits_of c.args.options)
+    ran.entries h) c.refused_ran.ensures

@@ -5,4 +5,5 @@ use Rattle.every_schedule.proofs.Bringing.{none_at}
 use Rattle.every_schedule.proofs.current.fibers_of.Goals as goal
 
 pub bring-requires-clause-was : goal.bring-requires-clause-was
-bring-requires-clause-was c = subst (λ (l : List Fiber). AreAt c.args.pool.now.items.items [] l) (sym c.new-fibers.ensures.items) (none_at c.args.pool.now.items.items)
+bring-requires-clause-was c =
+    subst (λ (l : List Fiber). AreAt c.args.pool.now.items.items [] l) (sym c.new-fibers.ensures.items) (none_at c.args.pool.now.items.items)

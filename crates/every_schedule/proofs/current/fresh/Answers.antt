@@ -11,7 +11,8 @@ use Rattle.every_schedule.proofs.current.fresh.Goals as goal
 pub fibers_of-requires : goal.fibers_of-requires
 fibers_of-requires c =
     let fs = c.args.states.now.fibers.items.items in
-    subst (λ (l : List ℕ). All (λ m. m < length fs) l) (sym c.fibers.ensures) (fibers_there c.requires.row.0 fs c.args.states.now.registries.items.items c.args.row.now c.requires.row.1)
+    subst (λ (l : List ℕ). All (λ m. m < length fs) l) (sym c.fibers.ensures)
+    (fibers_there c.requires.row.0 fs c.args.states.now.registries.items.items c.args.row.now c.requires.row.1)
 
 pub index-requires : goal.index-requires
 index-requires c =
@@ -23,7 +24,8 @@ pub new-requires : goal.new-requires
 new-requires c =
     let fs = c.args.states.now.fibers.items.items in
     let rs = c.args.states.now.registries.items.items in
-    let are : AreAt fs c.args.row.now.fibers c.in_ok-fibers.fibers.items = subst (λ (l : List ℕ). AreAt fs l c.in_ok-fibers.fibers.items) c.fibers.ensures c.in_ok-fibers.ensures in
+    let are : AreAt fs c.args.row.now.fibers c.in_ok-fibers.fibers.items =
+    subst (λ (l : List ℕ). AreAt fs l c.in_ok-fibers.fibers.items) c.fibers.ensures c.in_ok-fibers.ensures in
     let there : slice_get rs c.args.row.now.registry ≡ Some c.in_ok-registry.registry = grind (arith, common_steps, gets) in
     fits_at c.requires.row.0 fs rs c.args.row.now c.in_ok-fibers.fibers.items c.in_ok-registry.registry c.requires.row.1 are there
 
@@ -31,7 +33,9 @@ pub returns-clause-current : goal.returns-clause-current
 returns-clause-current c =
     let fs = c.args.states.now.fibers.items.items in
     let rs = c.args.states.now.registries.items.items in
-    let are : AreAt fs c.args.row.now.fibers c.in_ok-fibers.fibers.items = subst (λ (l : List ℕ). AreAt fs l c.in_ok-fibers.fibers.items) c.fibers.ensures c.in_ok-fibers.ensures in
+    let are : AreAt fs c.args.row.now.fibers c.in_ok-fibers.fibers.items =
+    subst (λ (l : List ℕ). AreAt fs l c.in_ok-fibers.fibers.items) c.fibers.ensures c.in_ok-fibers.ensures in
     let there : slice_get rs c.args.row.now.registry ≡ Some c.in_ok-registry.registry = grind (arith, common_steps, gets) in
     subst (λ (n : Numbers). IsWorldOf fs rs n c.new.result) (sym c.in_ok-row.ensures)
-    (subst (λ (p : Place). IsWorldOf fs rs c.args.row.now p) (sym c.new.ensures) (is_at fs rs c.args.row.now c.in_ok-fibers.fibers.items c.in_ok-registry.registry are there))
+    (subst (λ (p : Place). IsWorldOf fs rs c.args.row.now p) (sym c.new.ensures)
+    (is_at fs rs c.args.row.now c.in_ok-fibers.fibers.items c.in_ok-registry.registry are there))

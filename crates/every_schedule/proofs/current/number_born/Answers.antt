@@ -19,11 +19,13 @@ loop-i-preserved c =
     let ns = c.loop-i.numbers.items in
     let n = c.in_ok-number.number in
     let at : slice_get c.args.fibers.now c.loop-i.i ≡ Some c.index-fibers-i.result = grind (arith, common_steps, gets) in
-    let here : IsAt new c.args.fibers.now (length ns) n = subst (λ i. IsAt new c.args.fibers.now i n) (sym known.long) (c.index-fibers-i.result, at, c.in_ok-number.ensures.number) in
+    let here : IsAt new c.args.fibers.now (length ns) n =
+    subst (λ i. IsAt new c.args.fibers.now i n) (sym known.long) (c.index-fibers-i.result, at, c.in_ok-number.ensures.number) in
     let pushed : c.push.new.self.items ≡ ns ++ n ∷ [] = c.in_ok-push.ensures.items in
     record {
       more = more_more c.args.pool.now.items.items old new known.more c.in_ok-number.ensures.more;
-      first = subst (λ l. AreFirst new l c.args.fibers.now) (sym pushed) (first_next old new c.in_ok-number.ensures.more ns c.args.fibers.now n known.first (let long = known.long in omega arith) here);
+      first = subst (λ l. AreFirst new l c.args.fibers.now) (sym pushed)
+          (first_next old new c.in_ok-number.ensures.more ns c.args.fibers.now n known.first (let long = known.long in omega arith) here);
       long = ap length pushed ∙ length-append ns (n ∷ []) ∙ ap (λ x. x + 1) known.long;
     }
 

@@ -16,8 +16,10 @@ use Rattle.every_schedule.proofs.explored.explore_full.Goals as goal
 pub told-requires : goal.told-requires
 told-requires c =
     let code = code_of (source_of c.args.program.now) in
-    let first : slice_get c.in_ok-worlds.worlds.places 0 ≡ Some (first_place code c.args.limits) = ap (λ (s : Kept). slice_get s.places 0) c.in_ok-worlds.ensures in
-    all_within c.search.new.worlds (first_place code c.args.limits) c.in_ok-found.found.answers.items (c.in_ok-found.ensures.each (first_place code c.args.limits) first)
+    let first : slice_get c.in_ok-worlds.worlds.places 0 ≡ Some (first_place code c.args.limits) =
+    ap (λ (s : Kept). slice_get s.places 0) c.in_ok-worlds.ensures in
+    all_within c.search.new.worlds (first_place code c.args.limits) c.in_ok-found.found.answers.items
+    (c.in_ok-found.ensures.each (first_place code c.args.limits) first)
 
 pub returns-clause-all : goal.returns-clause-all
 returns-clause-all c = λ complete schedule.
@@ -57,20 +59,24 @@ returns-clause-onward c = λ complete ends schedule.
 pub returns-clause-numbers : goal.returns-clause-numbers
 returns-clause-numbers c =
     subst (λ (l : List Answer). All (λ a. All (λ f. f < 1000) a.schedule) l) (sym c.new-2.ensures)
-    (numbered c.search.new.worlds c.in_ok-found.found.answers.items c.in_ok-answers.answers.items c.in_ok-answers.ensures.told 1000 c.in_ok-found.ensures.numbers)
+    (numbered c.search.new.worlds c.in_ok-found.found.answers.items c.in_ok-answers.answers.items c.in_ok-answers.ensures.told 1000
+    c.in_ok-found.ensures.numbers)
 
 pub returns-clause-short : goal.returns-clause-short
 returns-clause-short c =
     subst (λ (l : List Answer). All (λ a. length a.schedule ≤ c.args.bounds.entries) l) (sym c.new-2.ensures)
-    (short c.search.new.worlds c.in_ok-found.found.answers.items c.in_ok-answers.answers.items c.in_ok-answers.ensures.told c.args.bounds.entries c.in_ok-found.ensures.short)
+    (short c.search.new.worlds c.in_ok-found.found.answers.items c.in_ok-answers.answers.items c.in_ok-answers.ensures.told c.args.bounds.entries
+    c.in_ok-found.ensures.short)
 
 pub returns-clause-faultless : goal.returns-clause-faultless
 returns-clause-faultless c = λ complete none schedule e is.
-    faultless c.args.limits c.new-2.result (core (code_of (source_of c.args.program.now)) c.args.limits schedule) e (returns-clause-all c complete schedule) none is
+    faultless c.args.limits c.new-2.result (core (code_of (source_of c.args.program.now)) c.args.limits schedule) e
+    (returns-clause-all c complete schedule) none is
 
 pub returns-clause-alike : goal.returns-clause-alike
 returns-clause-alike c = λ complete end same schedule w is settled.
-    alike c.args.limits c.new-2.result (core (code_of (source_of c.args.program.now)) c.args.limits schedule) end w (returns-clause-all c complete schedule) same is settled
+    alike c.args.limits c.new-2.result (core (code_of (source_of c.args.program.now)) c.args.limits schedule) end w
+    (returns-clause-all c complete schedule) same is settled
 
 pub returns-clause-can_end : goal.returns-clause-can_end
 returns-clause-can_end c = λ complete ends f all schedule.

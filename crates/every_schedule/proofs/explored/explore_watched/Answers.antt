@@ -25,7 +25,8 @@ told-requires g c =
     let raw = c.in_ok-found.found.answers.items in
     let found = c.in_ok-unfolded.unfolded.answers.items in
     let first : slice_get c.in_ok-worlds.worlds.worlds.places 0 ≡ Some start = ap (λ (s : Kept). slice_get s.places 0) c.in_ok-worlds.ensures in
-    let each : AreUnfolded 100 c.args.bounds.entries start raw found = subst (λ (l : List Found). AreUnfolded 100 c.args.bounds.entries start l found) c.as_slice.ensures.value c.in_ok-unfolded.ensures.each in
+    let each : AreUnfolded 100 c.args.bounds.entries start raw found =
+    subst (λ (l : List Found). AreUnfolded 100 c.args.bounds.entries start l found) c.as_slice.ensures.value c.in_ok-unfolded.ensures.each in
     all_within kept start found (right kept start 100 c.args.bounds.entries raw found each (c.in_ok-found.ensures.each start first))
 
 pub returns-clause-all : goal.returns-clause-all
@@ -37,9 +38,12 @@ returns-clause-all g c = λ complete schedule.
     let raw = c.in_ok-found.found.answers.items in
     let found = c.in_ok-unfolded.unfolded.answers.items in
     let first : slice_get c.in_ok-worlds.worlds.worlds.places 0 ≡ Some start = ap (λ (s : Kept). slice_get s.places 0) c.in_ok-worlds.ensures in
-    let each : AreUnfolded 100 c.args.bounds.entries start raw found = subst (λ (l : List Found). AreUnfolded 100 c.args.bounds.entries start l found) c.as_slice.ensures.value c.in_ok-unfolded.ensures.each in
-    let whole = λ (i : _) (a : Found) (at : slice_get raw i ≡ Some a). c.in_ok-unfolded.ensures.whole (c.are_both.ensures.other complete) i a (subst (λ (l : List Found). slice_get l i ≡ Some a) (sym c.as_slice.ensures.value) at) in
-    let all = all_covered kept start 100 c.args.bounds.entries raw found each whole (c.in_ok-found.ensures.all (c.are_both.ensures.one complete) start first) schedule in
+    let each : AreUnfolded 100 c.args.bounds.entries start raw found =
+    subst (λ (l : List Found). AreUnfolded 100 c.args.bounds.entries start l found) c.as_slice.ensures.value c.in_ok-unfolded.ensures.each in
+    let whole = λ (i : _) (a : Found) (at : slice_get raw i ≡ Some a). c.in_ok-unfolded.ensures.whole (c.are_both.ensures.other complete) i a
+    (subst (λ (l : List Found). slice_get l i ≡ Some a) (sym c.as_slice.ensures.value) at) in
+    let all = all_covered kept start 100 c.args.bounds.entries raw found each whole
+    (c.in_ok-found.ensures.all (c.are_both.ensures.one complete) start first) schedule in
     subst (λ (l : List Answer). IsCovered k l (core code k schedule)) (sym c.new-2.ensures)
     (covered kept found c.in_ok-answers.answers.items c.in_ok-answers.ensures.told k (core code k schedule)
     (subst (search.IsCovered stepped report_at kept.places kept.faults found) (core_run code k schedule) all))
@@ -53,7 +57,8 @@ returns-clause-each g c =
     let raw = c.in_ok-found.found.answers.items in
     let found = c.in_ok-unfolded.unfolded.answers.items in
     let first : slice_get c.in_ok-worlds.worlds.worlds.places 0 ≡ Some start = ap (λ (s : Kept). slice_get s.places 0) c.in_ok-worlds.ensures in
-    let each : AreUnfolded 100 c.args.bounds.entries start raw found = subst (λ (l : List Found). AreUnfolded 100 c.args.bounds.entries start l found) c.as_slice.ensures.value c.in_ok-unfolded.ensures.each in
+    let each : AreUnfolded 100 c.args.bounds.entries start raw found =
+    subst (λ (l : List Found). AreUnfolded 100 c.args.bounds.entries start l found) c.as_slice.ensures.value c.in_ok-unfolded.ensures.each in
     subst (λ (l : List Answer). All (IsReached code k) l) (sym c.new-2.ensures)
     (reached kept found c.in_ok-answers.answers.items c.in_ok-answers.ensures.told code k
     (right kept start 100 c.args.bounds.entries raw found each (c.in_ok-found.ensures.each start first)))
@@ -67,9 +72,12 @@ returns-clause-onward g c = λ complete ends schedule.
     let raw = c.in_ok-found.found.answers.items in
     let found = c.in_ok-unfolded.unfolded.answers.items in
     let first : slice_get c.in_ok-worlds.worlds.worlds.places 0 ≡ Some start = ap (λ (s : Kept). slice_get s.places 0) c.in_ok-worlds.ensures in
-    let each : AreUnfolded 100 c.args.bounds.entries start raw found = subst (λ (l : List Found). AreUnfolded 100 c.args.bounds.entries start l found) c.as_slice.ensures.value c.in_ok-unfolded.ensures.each in
-    let whole = λ (i : _) (a : Found) (at : slice_get raw i ≡ Some a). c.in_ok-unfolded.ensures.whole (c.are_both.ensures.other complete) i a (subst (λ (l : List Found). slice_get l i ≡ Some a) (sym c.as_slice.ensures.value) at) in
-    let on = all_onward kept start 100 c.args.bounds.entries raw found each whole (c.in_ok-found.ensures.onward (c.are_both.ensures.one complete) ends start first) schedule in (
+    let each : AreUnfolded 100 c.args.bounds.entries start raw found =
+    subst (λ (l : List Found). AreUnfolded 100 c.args.bounds.entries start l found) c.as_slice.ensures.value c.in_ok-unfolded.ensures.each in
+    let whole = λ (i : _) (a : Found) (at : slice_get raw i ≡ Some a). c.in_ok-unfolded.ensures.whole (c.are_both.ensures.other complete) i a
+    (subst (λ (l : List Found). slice_get l i ≡ Some a) (sym c.as_slice.ensures.value) at) in
+    let on = all_onward kept start 100 c.args.bounds.entries raw found each whole
+    (c.in_ok-found.ensures.onward (c.are_both.ensures.one complete) ends start first) schedule in (
       on.0,
       subst (λ (l : List Answer). IsAnswered k l (core code k (schedule ++ on.0))) (sym c.new-2.ensures)
           (answered kept found c.in_ok-answers.answers.items c.in_ok-answers.ensures.told k (core code k (schedule ++ on.0))
@@ -85,7 +93,8 @@ returns-clause-numbers g c =
     let raw = c.in_ok-found.found.answers.items in
     let found = c.in_ok-unfolded.unfolded.answers.items in
     let first : slice_get c.in_ok-worlds.worlds.worlds.places 0 ≡ Some start = ap (λ (s : Kept). slice_get s.places 0) c.in_ok-worlds.ensures in
-    let each : AreUnfolded 100 c.args.bounds.entries start raw found = subst (λ (l : List Found). AreUnfolded 100 c.args.bounds.entries start l found) c.as_slice.ensures.value c.in_ok-unfolded.ensures.each in
+    let each : AreUnfolded 100 c.args.bounds.entries start raw found =
+    subst (λ (l : List Found). AreUnfolded 100 c.args.bounds.entries start l found) c.as_slice.ensures.value c.in_ok-unfolded.ensures.each in
     subst (λ (l : List Answer). All (λ a. All (λ f. f < 1000) a.schedule) l) (sym c.new-2.ensures)
     (numbered kept found c.in_ok-answers.answers.items c.in_ok-answers.ensures.told 1000 (few kept start 100 c.args.bounds.entries raw found each))
 
@@ -98,17 +107,21 @@ returns-clause-short g c =
     let raw = c.in_ok-found.found.answers.items in
     let found = c.in_ok-unfolded.unfolded.answers.items in
     let first : slice_get c.in_ok-worlds.worlds.worlds.places 0 ≡ Some start = ap (λ (s : Kept). slice_get s.places 0) c.in_ok-worlds.ensures in
-    let each : AreUnfolded 100 c.args.bounds.entries start raw found = subst (λ (l : List Found). AreUnfolded 100 c.args.bounds.entries start l found) c.as_slice.ensures.value c.in_ok-unfolded.ensures.each in
+    let each : AreUnfolded 100 c.args.bounds.entries start raw found =
+    subst (λ (l : List Found). AreUnfolded 100 c.args.bounds.entries start l found) c.as_slice.ensures.value c.in_ok-unfolded.ensures.each in
     subst (λ (l : List Answer). All (λ a. length a.schedule ≤ c.args.bounds.entries) l) (sym c.new-2.ensures)
-    (short kept found c.in_ok-answers.answers.items c.in_ok-answers.ensures.told c.args.bounds.entries (brief kept start 100 c.args.bounds.entries raw found each))
+    (short kept found c.in_ok-answers.answers.items c.in_ok-answers.ensures.told c.args.bounds.entries
+    (brief kept start 100 c.args.bounds.entries raw found each))
 
 pub returns-clause-faultless : goal.returns-clause-faultless
 returns-clause-faultless g c = λ complete none schedule e is.
-    faultless c.args.limits c.new-2.result (core (code_of (source_of c.args.program.now)) c.args.limits schedule) e (returns-clause-all g c complete schedule) none is
+    faultless c.args.limits c.new-2.result (core (code_of (source_of c.args.program.now)) c.args.limits schedule) e
+    (returns-clause-all g c complete schedule) none is
 
 pub returns-clause-alike : goal.returns-clause-alike
 returns-clause-alike g c = λ complete end same schedule w is settled.
-    alike c.args.limits c.new-2.result (core (code_of (source_of c.args.program.now)) c.args.limits schedule) end w (returns-clause-all g c complete schedule) same is settled
+    alike c.args.limits c.new-2.result (core (code_of (source_of c.args.program.now)) c.args.limits schedule) end w
+    (returns-clause-all g c complete schedule) same is settled
 
 pub returns-clause-can_end : goal.returns-clause-can_end
 returns-clause-can_end g c = λ complete ends f all schedule.

@@ -38,4 +38,5 @@ pub returns-clause-told : goal.returns-clause-told
 returns-clause-told c =
     let at = c.loop-it in
     let empty : into_iter_items at.it-iterator ≡ [] = nothing_left _ (sym at.invariant.left ∙ c.in-None.ensures.steps.0) in
-    all_told c.args.worlds.now c.args.found.items at.answers.items (subst (λ l. SoFar c.args.worlds.now c.args.found.items l at.answers.items) empty at.invariant.told)
+    all_told c.args.worlds.now c.args.found.items at.answers.items
+    (subst (λ l. SoFar c.args.worlds.now c.args.found.items l at.answers.items) empty at.invariant.told)

@@ -20,7 +20,8 @@ loop-done-preserved c =
     let there : slice_get w.world.fibers n ≡ Some g = subst (λ (l : List Fiber). slice_get l n ≡ Some g) c.fibers-fibers.ensures.fibers at in
     let cells : c.registry.result.now.state ≡ w.world.cells = ap (λ (r : PlainView). r.state) c.registry.ensures in
     let other : is_own c.registry.result.now.state n (wish_of (ask_of g)) ≡ false = sym c.is_own_move.ensures ∙ c.if-is_own_move.false in
-    let none : has_own w.world.cells n (slice_get w.world.fibers n) ≡ false = ap (has_own w.world.cells n) there ∙ ap (λ (s : Cells). is_own s n (wish_of (ask_of g))) (sym cells) ∙ other in
+    let none : has_own w.world.cells n (slice_get w.world.fibers n) ≡ false = ap (has_own w.world.cells n) there ∙
+    ap (λ (s : Cells). is_own s n (wish_of (ask_of g))) (sym cells) ∙ other in
     let next : c.born-born.result - c.loop-done.done ≡ suc n = omega arith in
     let place : n ≡ c.born-born.result - (c.loop-done.done + 1) = omega arith in
     subst (λ m. own_in w ≡ last_own w.world.cells w.world.fibers m) place

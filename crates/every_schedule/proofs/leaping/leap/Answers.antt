@@ -12,5 +12,6 @@ returns-clause-trail c =
     let few = c.born.ensures.few in
     let same = c.from.ensures in
     let low : f < 1000 = omega arith in
-    let one : IsTrail old c.add.new.trail.items p (Ok next) = subst (λ (l : List ℕ). IsTrail old l p (Ok next)) (sym c.in_ok-add.ensures) (trail_one old p f (Ok next) low c.in_ok-next.ensures.goes) in
+    let one : IsTrail old c.add.new.trail.items p (Ok next) =
+    subst (λ (l : List ℕ). IsTrail old l p (Ok next)) (sym c.in_ok-add.ensures) (trail_one old p f (Ok next) low c.in_ok-next.ensures.goes) in
     trail_more old c.add.new.trail.items c.push.new.trail.items p next (Ok c.in_ok-last.last.world) one c.in_ok-last.ensures.trail

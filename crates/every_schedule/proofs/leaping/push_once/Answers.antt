@@ -21,7 +21,8 @@ fresh-requires c =
         record {
           place = p;
           limits = refl;
-          is = subst (λ (n : Numbers). IsWorldOf fs' rs' n p) (sym c.in_ok-row.ensures) (of_more fs fs' rs rs' c.entered.ensures.fibers c.entered.ensures.registries c.args.current.row p c.requires);
+          is = subst (λ (n : Numbers). IsWorldOf fs' rs' n p) (sym c.in_ok-row.ensures)
+              (of_more fs fs' rs rs' c.entered.ensures.fibers c.entered.ensures.registries c.args.current.row p c.requires);
           fits = c.last_own.ensures.fits;
         },
       );
@@ -41,9 +42,11 @@ returns-clause-goes c =
     let rs' = c.entered.new.states.registries.items.items in
     let p = c.args.current.world in
     let last = c.in_ok-before-in-Err.before in
-    let same : last.world ≡ p = one_rebuilt fs fs' rs rs' c.entered.ensures.fibers c.entered.ensures.registries c.args.current.row c.in_ok-row.row last.row p last.world c.requires c.in_ok-row.ensures c.in_ok-before-in-Err.ensures.row c.in_ok-before-in-Err.ensures.current in
+    let same : last.world ≡ p = one_rebuilt fs fs' rs rs' c.entered.ensures.fibers c.entered.ensures.registries c.args.current.row c.in_ok-row.row
+    last.row p last.world c.requires c.in_ok-row.ensures c.in_ok-before-in-Err.ensures.row c.in_ok-before-in-Err.ensures.current in
     let own : own_in p ≡ Some c.in-Some.fiber = sym c.last_own.ensures.own ∙ c.in-Some.is in
-    let stops : stepped p c.in-Some.fiber ≡ Err c.in-Err.fault = refused c.in-Err.fault (stepped p c.in-Some.fiber) (c.is_memory.ensures c.if-is_memory.false) c.in-Err.ensures.stops in
+    let stops : stepped p c.in-Some.fiber ≡ Err c.in-Err.fault =
+    refused c.in-Err.fault (stepped p c.in-Some.fiber) (c.is_memory.ensures c.if-is_memory.false) c.in-Err.ensures.stops in
     let once : pushed_once p ≡ p = once_refused p c.in-Some.fiber c.in-Err.fault own stops in
     same ∙ sym once
 
@@ -55,9 +58,11 @@ returns-clause-stays c = λ other.
     let rs' = c.entered.new.states.registries.items.items in
     let p = c.args.current.world in
     let last = c.in_ok-before-in-Err.before in
-    let same : last.world ≡ p = one_rebuilt fs fs' rs rs' c.entered.ensures.fibers c.entered.ensures.registries c.args.current.row c.in_ok-row.row last.row p last.world c.requires c.in_ok-row.ensures c.in_ok-before-in-Err.ensures.row c.in_ok-before-in-Err.ensures.current in
+    let same : last.world ≡ p = one_rebuilt fs fs' rs rs' c.entered.ensures.fibers c.entered.ensures.registries c.args.current.row c.in_ok-row.row
+    last.row p last.world c.requires c.in_ok-row.ensures c.in_ok-before-in-Err.ensures.row c.in_ok-before-in-Err.ensures.current in
     let own : own_in p ≡ Some c.in-Some.fiber = sym c.last_own.ensures.own ∙ c.in-Some.is in
-    let stops : stepped p c.in-Some.fiber ≡ Err c.in-Err.fault = refused c.in-Err.fault (stepped p c.in-Some.fiber) (c.is_memory.ensures c.if-is_memory.false) c.in-Err.ensures.stops in
+    let stops : stepped p c.in-Some.fiber ≡ Err c.in-Err.fault =
+    refused c.in-Err.fault (stepped p c.in-Some.fiber) (c.is_memory.ensures c.if-is_memory.false) c.in-Err.ensures.stops in
     let once : pushed_once p ≡ p = once_refused p c.in-Some.fiber c.in-Err.fault own stops in
     subst (λ (x : Place). pushed_once x ≡ x) (sym same) once
 
@@ -69,9 +74,11 @@ returns-clause-trail c =
     let rs' = c.entered.new.states.registries.items.items in
     let p = c.args.current.world in
     let last = c.in_ok-before-in-Err.before in
-    let same : last.world ≡ p = one_rebuilt fs fs' rs rs' c.entered.ensures.fibers c.entered.ensures.registries c.args.current.row c.in_ok-row.row last.row p last.world c.requires c.in_ok-row.ensures c.in_ok-before-in-Err.ensures.row c.in_ok-before-in-Err.ensures.current in
+    let same : last.world ≡ p = one_rebuilt fs fs' rs rs' c.entered.ensures.fibers c.entered.ensures.registries c.args.current.row c.in_ok-row.row
+    last.row p last.world c.requires c.in_ok-row.ensures c.in_ok-before-in-Err.ensures.row c.in_ok-before-in-Err.ensures.current in
     let own : own_in p ≡ Some c.in-Some.fiber = sym c.last_own.ensures.own ∙ c.in-Some.is in
-    let stops : stepped p c.in-Some.fiber ≡ Err c.in-Err.fault = refused c.in-Err.fault (stepped p c.in-Some.fiber) (c.is_memory.ensures c.if-is_memory.false) c.in-Err.ensures.stops in
+    let stops : stepped p c.in-Some.fiber ≡ Err c.in-Err.fault =
+    refused c.in-Err.fault (stepped p c.in-Some.fiber) (c.is_memory.ensures c.if-is_memory.false) c.in-Err.ensures.stops in
     let once : pushed_once p ≡ p = once_refused p c.in-Some.fiber c.in-Err.fault own stops in
     subst (λ (x : Place). IsTrail c.args.trail.now.items c.args.trail.now.items p (Ok x)) (sym same) (trail_none c.args.trail.now.items p)
 
@@ -83,7 +90,8 @@ returns-then-is-clause-stays c = λ stays.
     let rs' = c.entered.new.states.registries.items.items in
     let p = c.args.current.world in
     let next = c.in-Ok.next in
-    let same : next.world ≡ p = one_rebuilt fs fs' rs rs' c.entered.ensures.fibers c.entered.ensures.registries c.args.current.row c.in_ok-row.row next.row p next.world c.requires c.in_ok-row.ensures (c.is.ensures c.if-is.true) c.in-Ok.ensures.current in
+    let same : next.world ≡ p = one_rebuilt fs fs' rs rs' c.entered.ensures.fibers c.entered.ensures.registries c.args.current.row c.in_ok-row.row
+    next.row p next.world c.requires c.in_ok-row.ensures (c.is.ensures c.if-is.true) c.in-Ok.ensures.current in
     let own : own_in p ≡ Some c.in-Some.fiber = sym c.last_own.ensures.own ∙ c.in-Some.is in
     let once : pushed_once p ≡ next.world = once_made p c.in-Some.fiber next.world own c.in-Ok.ensures.goes in
     subst (λ (x : Place). pushed_once x ≡ x) (sym same) (once ∙ same)
@@ -96,5 +104,6 @@ returns-then-is-clause-trail c =
     let rs' = c.entered.new.states.registries.items.items in
     let p = c.args.current.world in
     let next = c.in-Ok.next in
-    let same : next.world ≡ p = one_rebuilt fs fs' rs rs' c.entered.ensures.fibers c.entered.ensures.registries c.args.current.row c.in_ok-row.row next.row p next.world c.requires c.in_ok-row.ensures (c.is.ensures c.if-is.true) c.in-Ok.ensures.current in
+    let same : next.world ≡ p = one_rebuilt fs fs' rs rs' c.entered.ensures.fibers c.entered.ensures.registries c.args.current.row c.in_ok-row.row
+    next.row p next.world c.requires c.in_ok-row.ensures (c.is.ensures c.if-is.true) c.in-Ok.ensures.current in
     subst (λ (x : Place). IsTrail c.args.trail.now.items c.args.trail.now.items p (Ok x)) (sym same) (trail_none c.args.trail.now.items p)

@@ -34,8 +34,10 @@ loop-fiber-preserved c =
     let f = get_or c.args.schedule.now i 0 in
     record {
       current = c.in-Ok.ensures.current;
-      goes = fold_more (entered (leapt c.args.at_once)) (Ok first) c.args.schedule.now i 0 c.loop-fiber-test.true ∙ ap (λ x. entered (leapt c.args.at_once) x f) known.goes ∙ c.in-Ok.ensures.goes;
-      trail = trail_more [] c.loop-fiber.trail.items c.leap.new.trail.items first c.loop-fiber.current.world (Ok c.in-Ok.next.world) known.trail c.in-Ok.ensures.trail;
+      goes = fold_more (entered (leapt c.args.at_once)) (Ok first) c.args.schedule.now i 0 c.loop-fiber-test.true ∙
+          ap (λ x. entered (leapt c.args.at_once) x f) known.goes ∙ c.in-Ok.ensures.goes;
+      trail = trail_more [] c.loop-fiber.trail.items c.leap.new.trail.items first c.loop-fiber.current.world (Ok c.in-Ok.next.world) known.trail
+          c.in-Ok.ensures.trail;
     }
 
 pub returns-in-Err-clause-entries : goal.returns-in-Err-clause-entries
@@ -46,9 +48,12 @@ returns-in-Err-clause-entries c =
     let i = c.loop-fiber.fiber-index in
     let f = get_or c.args.schedule.now i 0 in
     let fault = c.in-Err.fault in
-    let stops = refused_with fault ((leapt n c.loop-fiber.current.world f ≡ Err fault) × IsTrail c.loop-fiber.trail.items c.leap.new.trail.items c.loop-fiber.current.world (Err fault)) (c.is_memory.ensures c.if-is_memory.false) c.in-Err.ensures.stops in
+    let stops = refused_with fault ((leapt n c.loop-fiber.current.world f ≡ Err fault) ×
+    IsTrail c.loop-fiber.trail.items c.leap.new.trail.items c.loop-fiber.current.world (Err fault)) (c.is_memory.ensures c.if-is_memory.false)
+    c.in-Err.ensures.stops in
     let led : run (leapt n) (Ok first) c.args.schedule.now ≡ Err fault =
-    sym (fold_stuck (entered (leapt n)) (Err fault) (λ g. refl) (Ok first) c.args.schedule.now i 0 c.loop-fiber-test.true (ap (λ x. entered (leapt n) x f) known.goes ∙ stops.0)) in
+    sym (fold_stuck (entered (leapt n)) (Err fault) (λ g. refl) (Ok first) c.args.schedule.now i 0 c.loop-fiber-test.true
+    (ap (λ x. entered (leapt n) x f) known.goes ∙ stops.0)) in
     trail_whole n first c.args.schedule.now c.leap.new.trail.items (Err fault)
     (trail_more [] c.loop-fiber.trail.items c.leap.new.trail.items first c.loop-fiber.current.world (Err fault) known.trail stops.1) led
 

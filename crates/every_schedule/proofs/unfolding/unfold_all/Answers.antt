@@ -25,7 +25,8 @@ loop-i-preserved c =
     let s = c.in_ok-schedule.schedule in
     let one : Found = record { schedule = s; end = it.end } in
     let at : slice_get found c.loop-i.i ≡ Some it = grind (arith, common_steps, gets) in
-    let entries : IsUnfolded n first it.schedule.items s.items = subst (λ (l : List ℕ). IsUnfolded n first l s.items) c.as_slice.ensures.value c.in_ok-schedule.ensures.entries in
+    let entries : IsUnfolded n first it.schedule.items s.items =
+    subst (λ (l : List ℕ). IsUnfolded n first l s.items) c.as_slice.ensures.value c.in_ok-schedule.ensures.entries in
     record {
       each = elim c.if-not-branch.branch [
         | then-not-branch w ↦ subst (AreUnfolded n c.args.most first found) (sym (told.same w.if-not-branch.true)) known.each
@@ -49,4 +50,5 @@ returns-clause-whole c = λ whole i a at.
 
 pub returns-clause-each : goal.returns-clause-each
 returns-clause-each c =
-    unfolded_sorted c.args.at_once c.args.most (first_place (code_of (source_of c.args.program.now)) c.args.limits) c.args.found.now c.loop-i.answers.items c.sort.new.answers.items c.sort.ensures c.loop-i.invariant.each
+    unfolded_sorted c.args.at_once c.args.most (first_place (code_of (source_of c.args.program.now)) c.args.limits) c.args.found.now
+    c.loop-i.answers.items c.sort.new.answers.items c.sort.ensures c.loop-i.invariant.each

@@ -17,7 +17,8 @@ entries-requires c =
 
 pub returns-in-Ok : goal.returns-in-Ok
 returns-in-Ok c =
-    let start = core-opened c.args.limits (code_of (source_of c.args.program.now)) c.in_ok-registry.registry c.in_ok-fibers.fibers.items c.args.schedule.now c.in_ok-fibers.ensures.first c.in_ok-registry.ensures.opening in
+    let start = core-opened c.args.limits (code_of (source_of c.args.program.now)) c.in_ok-registry.registry c.in_ok-fibers.fibers.items
+    c.args.schedule.now c.in_ok-fibers.ensures.first c.in_ok-registry.ensures.opening in
     let s = c.entries.new.registry.state in
     let w = world_of c.as_slice.result.now s in
     let leads = sym start ∙ c.in-Ok.ensures.goes ∙ ap (λ fibers. Ok (world_of fibers s)) (sym c.as_slice.ensures.value) in
@@ -25,5 +26,7 @@ returns-in-Ok c =
 
 pub returns : goal.returns
 returns c =
-    let start = core-opened c.args.limits (code_of (source_of c.args.program.now)) c.in_ok-registry.registry c.in_ok-fibers.fibers.items c.args.schedule.now c.in_ok-fibers.ensures.first c.in_ok-registry.ensures.opening in
-    faulty (code_of (source_of c.args.program.now)) c.args.limits c.args.schedule.now c.in-Err.error _ start c.in-Err.ensures.stops c.fault_reasons.result c.fault_reasons.ensures.none c.fault_reasons.ensures.memory
+    let start = core-opened c.args.limits (code_of (source_of c.args.program.now)) c.in_ok-registry.registry c.in_ok-fibers.fibers.items
+    c.args.schedule.now c.in_ok-fibers.ensures.first c.in_ok-registry.ensures.opening in
+    faulty (code_of (source_of c.args.program.now)) c.args.limits c.args.schedule.now c.in-Err.error _ start c.in-Err.ensures.stops
+    c.fault_reasons.result c.fault_reasons.ensures.none c.fault_reasons.ensures.memory

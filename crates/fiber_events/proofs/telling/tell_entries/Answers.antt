@@ -18,7 +18,8 @@ loop-made-init c = record {
   fits = c.requires.fits;
   same = c.requires.same;
   goes = refl;
-  events = subst (λ (es : List Event). AreEvents c.args.registry.now.limits (world_of c.args.fibers.now.items c.args.registry.now.state) [] es) (sym c.new-events.ensures.items) no_entry;
+  events = subst (λ (es : List Event). AreEvents c.args.registry.now.limits (world_of c.args.fibers.now.items c.args.registry.now.state) [] es)
+      (sym c.new-events.ensures.items) no_entry;
 }
 
 pub loop-made-preserved : goal.loop-made-preserved
@@ -31,16 +32,20 @@ loop-made-preserved c =
     let i = c.loop-made.made in
     let number = get_or s i 0 in
     let before = world_of c.loop-made.fibers.items c.loop-made.registry.state in
-    let here : IsEntry k (i + 1) number (Ok before) (option_to_list c.in-Ok.event) = subst (λ (l : Limits). IsEntry l (i + 1) number (Ok before) (option_to_list c.in-Ok.event)) known.limits told.told in
-    let there : IsEntry k (i + 1) number (led k w (take i s)) (option_to_list c.in-Ok.event) = subst (λ (x : Result World RunError). IsEntry k (i + 1) number x (option_to_list c.in-Ok.event)) (sym known.goes) here in
+    let here : IsEntry k (i + 1) number (Ok before) (option_to_list c.in-Ok.event) =
+    subst (λ (l : Limits). IsEntry l (i + 1) number (Ok before) (option_to_list c.in-Ok.event)) known.limits told.told in
+    let there : IsEntry k (i + 1) number (led k w (take i s)) (option_to_list c.in-Ok.event) =
+    subst (λ (x : Result World RunError). IsEntry k (i + 1) number x (option_to_list c.in-Ok.event)) (sym known.goes) here in
     record {
       limits = told.limits ∙ known.limits;
       fits = told.fits;
       same = told.same;
       goes = led_more k w s i c.loop-made-test.true
           ∙ ap (λ (x : Result World RunError). entered k x number) known.goes
-          ∙ subst (λ (l : Limits). entered l (Ok before) number ≡ Ok (world_of c.tell_entry.new.fibers.items c.tell_entry.new.registry.state)) known.limits told.goes;
-      events = subst (λ (es : List Event). AreEvents k w (take (i + 1) s) es) (sym c.in_ok-keep-in-Ok.ensures) (events_more k w s i c.loop-made-test.true c.loop-made.events.items (option_to_list c.in-Ok.event) known.events there);
+          ∙ subst (λ (l : Limits). entered l (Ok before) number ≡ Ok (world_of c.tell_entry.new.fibers.items c.tell_entry.new.registry.state))
+          known.limits told.goes;
+      events = subst (λ (es : List Event). AreEvents k w (take (i + 1) s) es) (sym c.in_ok-keep-in-Ok.ensures)
+          (events_more k w s i c.loop-made-test.true c.loop-made.events.items (option_to_list c.in-Ok.event) known.events there);
     }
 
 pub returns-in-Err : goal.returns-in-Err
@@ -58,7 +63,8 @@ returns-in-Err c =
       | inr q ↦ subst (λ (l : Limits). entered l (Ok before) number ≡ Err c.in-Err.fault) known.limits q
     ] in
     stopped_course k w s i c.loop-made-test.true (record { events = c.loop-made.events; made = i; fault = Some c.in-Err.fault }) c.in-Err.fault before
-    (world_of c.tell_entry.new.fibers.items c.tell_entry.new.registry.state) c.stopped.result refl refl known.events known.goes fault c.stopped.ensures.course c.stopped.ensures.memory
+    (world_of c.tell_entry.new.fibers.items c.tell_entry.new.registry.state) c.stopped.result refl refl known.events known.goes fault
+    c.stopped.ensures.course c.stopped.ensures.memory
 
 pub returns : goal.returns
 returns c =

@@ -9,6 +9,7 @@ invariant-loop-made l = record {
   limits : l.registry.limits ≡ l.initial.registry.limits;
   fits : AllFit (world_of l.fibers.items l.registry.state);
   same : l.beside ≡ l.registry;
-  goes : led l.initial.registry.limits (world_of l.initial.fibers.items l.initial.registry.state) (take l.made l.schedule) ≡ Ok (world_of l.fibers.items l.registry.state);
+  goes : led l.initial.registry.limits (world_of l.initial.fibers.items l.initial.registry.state) (take l.made l.schedule) ≡ Ok
+      (world_of l.fibers.items l.registry.state);
   events : AreEvents l.initial.registry.limits (world_of l.initial.fibers.items l.initial.registry.state) (take l.made l.schedule) l.events.items;
 }

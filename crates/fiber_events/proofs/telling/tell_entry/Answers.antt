@@ -38,34 +38,43 @@ returns-in_err-foresee-clause-stops c =
 pub returns-in-None-clause-goes : goal.returns-in-None-clause-goes
 returns-in-None-clause-goes c =
     let at : slice_get c.args.fibers.now.items c.args.number ≡ Some c.index-fiber.result.now = grind (arith, common_steps, gets) in
-    let foreseen = subst (λ (o : Option Deed). IsForeseen c.args.beside.now c.index-fiber.result.now.number c.index-fiber.result.now c.foresee.new.beside o) c.in-None.is c.in_ok-foresee.ensures.deed in
+    let foreseen = subst (λ (o : Option Deed). IsForeseen c.args.beside.now c.index-fiber.result.now.number c.index-fiber.result.now
+    c.foresee.new.beside o) c.in-None.is c.in_ok-foresee.ensures.deed in
     stays c.args.registry.now c.args.fibers.now.items c.args.number c.index-fiber.result.now at foreseen.0
 
 pub returns-in-None-clause-told : goal.returns-in-None-clause-told
 returns-in-None-clause-told c =
     let at : slice_get c.args.fibers.now.items c.args.number ≡ Some c.index-fiber.result.now = grind (arith, common_steps, gets) in
-    let foreseen = subst (λ (o : Option Deed). IsForeseen c.args.beside.now c.index-fiber.result.now.number c.index-fiber.result.now c.foresee.new.beside o) c.in-None.is c.in_ok-foresee.ensures.deed in
+    let foreseen = subst (λ (o : Option Deed). IsForeseen c.args.beside.now c.index-fiber.result.now.number c.index-fiber.result.now
+    c.foresee.new.beside o) c.in-None.is c.in_ok-foresee.ensures.deed in
     idles (world_of c.args.fibers.now.items c.args.registry.now.state) (over c.index-fiber.result.now at foreseen.0)
 
 pub returns-in_ok-enter-in-Some-clause-same : goal.returns-in_ok-enter-in-Some-clause-same
 returns-in_ok-enter-in-Some-clause-same c =
     let at : slice_get c.args.fibers.now.items c.args.number ≡ Some c.index-fiber.result.now = grind (arith, common_steps, gets) in
     let number : c.index-fiber.result.now.number ≡ c.args.number = (c.requires.fits.each c.args.number c.index-fiber.result.now at).number in
-    let beside = subst (λ (o : Option Deed). IsForeseen c.args.beside.now c.index-fiber.result.now.number c.index-fiber.result.now c.foresee.new.beside o) c.in-Some.is c.in_ok-foresee.ensures.deed in
+    let beside = subst (λ (o : Option Deed). IsForeseen c.args.beside.now c.index-fiber.result.now.number c.index-fiber.result.now
+    c.foresee.new.beside o) c.in-Some.is c.in_ok-foresee.ensures.deed in
     let foreseen = subst (λ (r : PlainView). IsForeseen r c.args.number c.index-fiber.result.now c.foresee.new.beside (Some c.in-Some.deed)) c.requires.same
     (subst (λ (n : ℕ). IsForeseen c.args.beside.now n c.index-fiber.result.now c.foresee.new.beside (Some c.in-Some.deed)) number beside) in
-    left_same c.args.registry.now c.args.fibers.now.items c.args.number c.index-fiber.result.now at c.foresee.new.beside c.enter.new.registry c.in-Some.deed foreseen
+    left_same c.args.registry.now c.args.fibers.now.items c.args.number c.index-fiber.result.now at c.foresee.new.beside c.enter.new.registry
+    c.in-Some.deed foreseen
     c.in_ok-enter-in-Some.ensures.limits (world_of c.enter.new.fibers.items c.enter.new.registry.state) refl c.in_ok-enter-in-Some.ensures.goes
 
 pub returns-in_ok-enter-in-Some-clause-told : goal.returns-in_ok-enter-in-Some-clause-told
 returns-in_ok-enter-in-Some-clause-told c =
     let at : slice_get c.args.fibers.now.items c.args.number ≡ Some c.index-fiber.result.now = grind (arith, common_steps, gets) in
     let number : c.index-fiber.result.now.number ≡ c.args.number = (c.requires.fits.each c.args.number c.index-fiber.result.now at).number in
-    let beside = subst (λ (o : Option Deed). IsForeseen c.args.beside.now c.index-fiber.result.now.number c.index-fiber.result.now c.foresee.new.beside o) c.in-Some.is c.in_ok-foresee.ensures.deed in
+    let beside = subst (λ (o : Option Deed). IsForeseen c.args.beside.now c.index-fiber.result.now.number c.index-fiber.result.now
+    c.foresee.new.beside o) c.in-Some.is c.in_ok-foresee.ensures.deed in
     let foreseen = subst (λ (r : PlainView). IsForeseen r c.args.number c.index-fiber.result.now c.foresee.new.beside (Some c.in-Some.deed)) c.requires.same
     (subst (λ (n : ℕ). IsForeseen c.args.beside.now n c.index-fiber.result.now c.foresee.new.beside (Some c.in-Some.deed)) number beside) in
-    let noted : (h : Fiber) → slice_get c.enter.new.fibers.items c.args.number ≡ Some h → c.mark_behind.result ≡ slice_get h.marks (length c.index-fiber.result.now.marks) = λ h there.
-    let here : slice_get c.as_slice.result.now c.from-place.result ≡ Some h = ap (λ (xs : List Fiber). slice_get xs c.from-place.result) c.as_slice.ensures.value ∙ ap (λ (i : ℕ). slice_get c.enter.new.fibers.items i) c.from-place.ensures ∙ there in
+    let noted : (h : Fiber) → slice_get c.enter.new.fibers.items c.args.number ≡ Some h →
+    c.mark_behind.result ≡ slice_get h.marks (length c.index-fiber.result.now.marks) = λ h there.
+    let here : slice_get c.as_slice.result.now c.from-place.result ≡ Some h =
+    ap (λ (xs : List Fiber). slice_get xs c.from-place.result) c.as_slice.ensures.value ∙
+    ap (λ (i : ℕ). slice_get c.enter.new.fibers.items i) c.from-place.ensures ∙ there in
     c.mark_behind.ensures h here ∙ ap (λ (ms : List Mark). slice_get h.marks (length ms)) c.trace-noted.ensures.marks in
-    told c.args.registry.now c.args.fibers.now.items c.args.number c.index-fiber.result.now at c.foresee.new.beside c.in-Some.deed c.mark_behind.result c.args.entry
+    told c.args.registry.now c.args.fibers.now.items c.args.number c.index-fiber.result.now at c.foresee.new.beside c.in-Some.deed
+    c.mark_behind.result c.args.entry
     (world_of c.enter.new.fibers.items c.enter.new.registry.state) foreseen c.in_ok-enter-in-Some.ensures.goes noted

@@ -20,4 +20,5 @@ loop-answer-preserved c = elim c.if-is_listed_so.branch [
 
 pub returns : goal.returns
 returns c =
-    all_listed c.args.unwanted c.args.wants.now c.args.answers.now c.loop-answer.answer-index (map view c.loop-answer.values.items) (omega arith) c.loop-answer.invariant
+    all_listed c.args.unwanted c.args.wants.now c.args.answers.now c.loop-answer.answer-index (map view c.loop-answer.values.items) (omega arith)
+    c.loop-answer.invariant

@@ -35,11 +35,14 @@ loop-config-preserved c =
             ];
       }
       | else-not-is_done w ↦ record {
-        none = λ e. one_settled (λ f x. HasEnded x ⊎ IsAtRest c.args.registry.now.state f x) c.args.fibers.now c.loop-config.config-index g (i.none (sym w.best-is ∙ e)) at
+        none = λ e. one_settled (λ f x. HasEnded x ⊎ IsAtRest c.args.registry.now.state f x) c.args.fibers.now c.loop-config.config-index g
+            (i.none (sym w.best-is ∙ e)) at
             (subst (λ n. HasEnded g ⊎ IsAtRest c.args.registry.now.state n g) number (c.is_done.ensures.done w.if-not-is_done.false));
         some = λ f e. i.some f (sym w.best-is ∙ e);
       }
     ]
 
 pub returns-clause-none : goal.returns-clause-none
-returns-clause-none c = none_of c.loop-config.best (λ e f g at. c.loop-config.invariant.none e f g (let long = below_length c.args.fibers.now f g at in let end = c.loop-config-test.false in omega arith) at)
+returns-clause-none c =
+    none_of c.loop-config.best
+    (λ e f g at. c.loop-config.invariant.none e f g (let long = below_length c.args.fibers.now f g at in let end = c.loop-config-test.false in omega arith) at)

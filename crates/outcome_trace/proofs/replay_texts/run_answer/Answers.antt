@@ -4,9 +4,11 @@ use Rattle.outcome_trace.proofs.replay_texts.run_answer.Goals as goal
 pub returns-in-Ok : goal.returns-in-Ok
 returns-in-Ok c =
     let core = report_is_core c.args.program.now c.args.limits c.args.schedule.now c.replay.result c.in-Ok.report c.in-Ok.is c.replay.ensures.core in
-    report_answers c.args.program.now c.args.schedule.now c.args.limits c.in-Ok.report c.report_answer.result core c.report_answer.ensures.line c.report_answer.ensures.status
+    report_answers c.args.program.now c.args.schedule.now c.args.limits c.in-Ok.report c.report_answer.result core c.report_answer.ensures.line
+    c.report_answer.ensures.status
 
 pub returns-in-Err : goal.returns-in-Err
 returns-in-Err c =
     let core = fault_is_core c.args.program.now c.args.limits c.args.schedule.now c.replay.result c.in-Err.error c.in-Err.is c.replay.ensures.core in
-    fault_answers c.args.program.now c.args.schedule.now c.args.limits c.in-Err.error c.fault_answer.result core c.fault_answer.ensures.line c.fault_answer.ensures.status c.fault_answer.ensures.memory
+    fault_answers c.args.program.now c.args.schedule.now c.args.limits c.in-Err.error c.fault_answer.result core c.fault_answer.ensures.line
+    c.fault_answer.ensures.status c.fault_answer.ensures.memory

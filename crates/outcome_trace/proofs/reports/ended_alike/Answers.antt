@@ -5,7 +5,8 @@ use Rattle.outcome_trace.proofs.reports.ended_alike.Goals as goal
 
 pub returns-then-eq-clause-same : goal.returns-then-eq-clause-same
 returns-then-eq-clause-same c = λ is.
-    let marks : c.trace.result.now ≡ c.trace-then-eq.result.now = (marks_decide c.trace.result.now c.trace-then-eq.result.now c.eq-then-eq.result c.eq-then-eq.ensures).0 is in
+    let marks : c.trace.result.now ≡ c.trace-then-eq.result.now =
+    (marks_decide c.trace.result.now c.trace-then-eq.result.now c.eq-then-eq.result c.eq-then-eq.ensures).0 is in
     let outcomes : outcome_of c.args.one.now ≡ outcome_of c.args.other.now = search rules in
     reports_alike c.args.one.now c.args.other.now outcomes (sym c.trace.ensures.marks ∙ marks ∙ c.trace-then-eq.ensures.marks)
 

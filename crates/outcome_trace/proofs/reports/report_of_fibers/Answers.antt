@@ -29,7 +29,8 @@ loop-fiber-preserved c =
           let gone = c.in-Some.ensures.steps.1 in
           let short = ap length steps in
           omega arith;
-      lawful = All-same (λ (f : FiberReport). AreLawful f.marks f.outcome) _ _ pushed (All-push (λ (f : FiberReport). AreLawful f.marks f.outcome) at.reports.items it at.invariant.lawful c.fiber_report.ensures.lawful);
+      lawful = All-same (λ (f : FiberReport). AreLawful f.marks f.outcome) _ _ pushed
+          (All-push (λ (f : FiberReport). AreLawful f.marks f.outcome) at.reports.items it at.invariant.lawful c.fiber_report.ensures.lawful);
     }
 
 pub returns-clause-reports : goal.returns-clause-reports
@@ -37,7 +38,9 @@ returns-clause-reports c =
     let at = c.loop-fiber in
     let empty : into_iter_items at.fiber-iterator ≡ [] = nothing_left _ (sym at.invariant.left ∙ c.in-None.ensures.steps.0) in
     ap (λ (fibers : List FiberReport). record { fibers = fibers })
-    (c.new.ensures ∙ sym (append-nil at.reports.items) ∙ ap (λ (fibers : List Fiber). at.reports.items ++ map fiber_report fibers) (sym empty) ∙ at.invariant.told)
+    (c.new.ensures ∙ sym (append-nil at.reports.items) ∙ ap (λ (fibers : List Fiber). at.reports.items ++ map fiber_report fibers) (sym empty) ∙
+    at.invariant.told)
 
 pub returns-clause-lawful : goal.returns-clause-lawful
-returns-clause-lawful c = All-same (λ (f : FiberReport). AreLawful f.marks f.outcome) c.new.result c.loop-fiber.reports.items c.new.ensures c.loop-fiber.invariant.lawful
+returns-clause-lawful c = All-same (λ (f : FiberReport). AreLawful f.marks f.outcome) c.new.result c.loop-fiber.reports.items c.new.ensures
+    c.loop-fiber.invariant.lawful

@@ -16,9 +16,11 @@ returns-in_err-entry-clause-stops c =
     let number = get_or c.args.schedule.now i 0 in
     rw (p.1, p.2) (elim c.in_err-entry.ensures.stops [
       | inl q ↦ inl q
-      | inr q ↦ inr (sym (fold_stuck (entered k) (Err c.in_err-entry.field-0.0) (λ f. refl) (Ok (world_of c.args.fibers.now.items c.args.registry.now.state)) c.args.schedule.now i 0 c.loop-number-test.true
+      | inr q ↦ inr (sym (fold_stuck (entered k) (Err c.in_err-entry.field-0.0) (λ f. refl)
+          (Ok (world_of c.args.fibers.now.items c.args.registry.now.state)) c.args.schedule.now i 0 c.loop-number-test.true
           (ap (λ x. entered k x number) known.goes
-          ∙ subst (λ (l : Limits). entered l (Ok (world_of c.loop-number.fibers.items c.loop-number.registry.state)) number ≡ Err c.in_err-entry.field-0.0) known.limits q)))
+          ∙ subst (λ (l : Limits). entered l (Ok (world_of c.loop-number.fibers.items c.loop-number.registry.state)) number ≡ Err
+          c.in_err-entry.field-0.0) known.limits q)))
     ])
 
 pub loop-number-preserved : goal.loop-number-preserved
@@ -33,5 +35,6 @@ loop-number-preserved c =
       fits = told.fits;
       goes = fold_more (entered k) (Ok (world_of c.args.fibers.now.items c.args.registry.now.state)) c.args.schedule.now i 0 c.loop-number-test.true
           ∙ ap (λ x. entered k x number) known.goes
-          ∙ subst (λ (l : Limits). entered l (Ok (world_of c.loop-number.fibers.items c.loop-number.registry.state)) number ≡ Ok (world_of c.entry.new.fibers.items c.entry.new.registry.state)) known.limits told.goes;
+          ∙ subst (λ (l : Limits). entered l (Ok (world_of c.loop-number.fibers.items c.loop-number.registry.state)) number ≡ Ok
+          (world_of c.entry.new.fibers.items c.entry.new.registry.state)) known.limits told.goes;
     }

@@ -24,7 +24,8 @@ returns-in_err-child-clause-stops c =
     let p = err_from_is_err_and c.from_residual.result c.from_residual.ensures.1 in
     rw (p.1, p.2) (elim c.in_err-child.ensures.stops [
       | inl q ↦ inl q
-      | inr q ↦ inr (refused_entered c.args.registry.now c.args.fibers.now.items c.args.number c.index_mut.result.now c.requires c.in_err-child.ensures.lawful at c.in_err-child.field-0.0
+      | inr q ↦ inr (refused_entered c.args.registry.now c.args.fibers.now.items c.args.number c.index_mut.result.now c.requires
+          c.in_err-child.ensures.lawful at c.in_err-child.field-0.0
           (subst (λ (n : ℕ). Refuses c.args.registry.now n c.index_mut.result.now c.in_err-child.field-0.0) number q))
     ])
 
@@ -32,9 +33,12 @@ pub returns-in_ok-add-in-Some-clause-fits : goal.returns-in_ok-add-in-Some-claus
 returns-in_ok-add-in-Some-clause-fits c =
     let at : slice_get c.args.fibers.now.items c.args.number ≡ Some c.index_mut.result.now = grind (arith, common_steps, gets) in
     let number : c.index_mut.result.now.number ≡ c.args.number = (c.requires.each c.args.number c.index_mut.result.now at).number in
-    let made = subst (λ (n : ℕ). Moves c.args.registry.now n c.index_mut.result.now c.make_move.new.registry c.make_move.new.config (option_to_list c.in_ok-child.field-0)) number c.in_ok-child.ensures.moves in
-    let moves = subst (λ (o : Option Fiber). Moves c.args.registry.now c.args.number c.index_mut.result.now c.make_move.new.registry c.make_move.new.config (option_to_list o)) c.in-Some.is made in
-    let led = moved_entered c.args.registry.now c.args.fibers.now.items c.args.number c.index_mut.result.now c.requires c.in_ok-child.ensures.lawful at c.make_move.new.registry c.make_move.new.config (c.in-Some.child ∷ []) moves in
+    let made = subst (λ (n : ℕ). Moves c.args.registry.now n c.index_mut.result.now c.make_move.new.registry c.make_move.new.config
+    (option_to_list c.in_ok-child.field-0)) number c.in_ok-child.ensures.moves in
+    let moves = subst (λ (o : Option Fiber). Moves c.args.registry.now c.args.number c.index_mut.result.now c.make_move.new.registry
+    c.make_move.new.config (option_to_list o)) c.in-Some.is made in
+    let led = moved_entered c.args.registry.now c.args.fibers.now.items c.args.number c.index_mut.result.now c.requires c.in_ok-child.ensures.lawful
+    at c.make_move.new.registry c.make_move.new.config (c.in-Some.child ∷ []) moves in
     let here : c.add.new.fibers.items ≡ set c.args.fibers.now.items c.args.number c.make_move.new.config ++ c.in-Some.child ∷ [] =
     c.in_ok-add-in-Some.ensures ∙ ap (λ i. set c.args.fibers.now.items i c.make_move.new.config ++ c.in-Some.child ∷ []) c.from-place.ensures in
     subst (λ (fibers : List Fiber). AllFit (world_of fibers c.make_move.new.registry.state)) (sym here) led.fits
@@ -43,9 +47,12 @@ pub returns-in_ok-add-in-Some-clause-goes : goal.returns-in_ok-add-in-Some-claus
 returns-in_ok-add-in-Some-clause-goes c =
     let at : slice_get c.args.fibers.now.items c.args.number ≡ Some c.index_mut.result.now = grind (arith, common_steps, gets) in
     let number : c.index_mut.result.now.number ≡ c.args.number = (c.requires.each c.args.number c.index_mut.result.now at).number in
-    let made = subst (λ (n : ℕ). Moves c.args.registry.now n c.index_mut.result.now c.make_move.new.registry c.make_move.new.config (option_to_list c.in_ok-child.field-0)) number c.in_ok-child.ensures.moves in
-    let moves = subst (λ (o : Option Fiber). Moves c.args.registry.now c.args.number c.index_mut.result.now c.make_move.new.registry c.make_move.new.config (option_to_list o)) c.in-Some.is made in
-    let led = moved_entered c.args.registry.now c.args.fibers.now.items c.args.number c.index_mut.result.now c.requires c.in_ok-child.ensures.lawful at c.make_move.new.registry c.make_move.new.config (c.in-Some.child ∷ []) moves in
+    let made = subst (λ (n : ℕ). Moves c.args.registry.now n c.index_mut.result.now c.make_move.new.registry c.make_move.new.config
+    (option_to_list c.in_ok-child.field-0)) number c.in_ok-child.ensures.moves in
+    let moves = subst (λ (o : Option Fiber). Moves c.args.registry.now c.args.number c.index_mut.result.now c.make_move.new.registry
+    c.make_move.new.config (option_to_list o)) c.in-Some.is made in
+    let led = moved_entered c.args.registry.now c.args.fibers.now.items c.args.number c.index_mut.result.now c.requires c.in_ok-child.ensures.lawful
+    at c.make_move.new.registry c.make_move.new.config (c.in-Some.child ∷ []) moves in
     let here : c.add.new.fibers.items ≡ set c.args.fibers.now.items c.args.number c.make_move.new.config ++ c.in-Some.child ∷ [] =
     c.in_ok-add-in-Some.ensures ∙ ap (λ i. set c.args.fibers.now.items i c.make_move.new.config ++ c.in-Some.child ∷ []) c.from-place.ensures in
     led.goes ∙ ap (λ (fibers : List Fiber). Ok (world_of fibers c.make_move.new.registry.state)) (sym here)
@@ -54,9 +61,12 @@ pub returns-in-None-clause-fits : goal.returns-in-None-clause-fits
 returns-in-None-clause-fits c =
     let at : slice_get c.args.fibers.now.items c.args.number ≡ Some c.index_mut.result.now = grind (arith, common_steps, gets) in
     let number : c.index_mut.result.now.number ≡ c.args.number = (c.requires.each c.args.number c.index_mut.result.now at).number in
-    let made = subst (λ (n : ℕ). Moves c.args.registry.now n c.index_mut.result.now c.make_move.new.registry c.make_move.new.config (option_to_list c.in_ok-child.field-0)) number c.in_ok-child.ensures.moves in
-    let moves = subst (λ (o : Option Fiber). Moves c.args.registry.now c.args.number c.index_mut.result.now c.make_move.new.registry c.make_move.new.config (option_to_list o)) c.in-None.is made in
-    let led = moved_entered c.args.registry.now c.args.fibers.now.items c.args.number c.index_mut.result.now c.requires c.in_ok-child.ensures.lawful at c.make_move.new.registry c.make_move.new.config [] moves in
+    let made = subst (λ (n : ℕ). Moves c.args.registry.now n c.index_mut.result.now c.make_move.new.registry c.make_move.new.config
+    (option_to_list c.in_ok-child.field-0)) number c.in_ok-child.ensures.moves in
+    let moves = subst (λ (o : Option Fiber). Moves c.args.registry.now c.args.number c.index_mut.result.now c.make_move.new.registry
+    c.make_move.new.config (option_to_list o)) c.in-None.is made in
+    let led = moved_entered c.args.registry.now c.args.fibers.now.items c.args.number c.index_mut.result.now c.requires c.in_ok-child.ensures.lawful
+    at c.make_move.new.registry c.make_move.new.config [] moves in
     let here : set c.args.fibers.now.items c.from-place.result c.make_move.new.config ≡ set c.args.fibers.now.items c.args.number c.make_move.new.config ++ [] =
     ap (λ i. set c.args.fibers.now.items i c.make_move.new.config) c.from-place.ensures ∙ sym (append-nil _) in
     subst (λ (fibers : List Fiber). AllFit (world_of fibers c.make_move.new.registry.state)) (sym here) led.fits
@@ -65,12 +75,16 @@ pub returns-in-None-clause-goes : goal.returns-in-None-clause-goes
 returns-in-None-clause-goes c =
     let at : slice_get c.args.fibers.now.items c.args.number ≡ Some c.index_mut.result.now = grind (arith, common_steps, gets) in
     let number : c.index_mut.result.now.number ≡ c.args.number = (c.requires.each c.args.number c.index_mut.result.now at).number in
-    let made = subst (λ (n : ℕ). Moves c.args.registry.now n c.index_mut.result.now c.make_move.new.registry c.make_move.new.config (option_to_list c.in_ok-child.field-0)) number c.in_ok-child.ensures.moves in
-    let moves = subst (λ (o : Option Fiber). Moves c.args.registry.now c.args.number c.index_mut.result.now c.make_move.new.registry c.make_move.new.config (option_to_list o)) c.in-None.is made in
-    let led = moved_entered c.args.registry.now c.args.fibers.now.items c.args.number c.index_mut.result.now c.requires c.in_ok-child.ensures.lawful at c.make_move.new.registry c.make_move.new.config [] moves in
+    let made = subst (λ (n : ℕ). Moves c.args.registry.now n c.index_mut.result.now c.make_move.new.registry c.make_move.new.config
+    (option_to_list c.in_ok-child.field-0)) number c.in_ok-child.ensures.moves in
+    let moves = subst (λ (o : Option Fiber). Moves c.args.registry.now c.args.number c.index_mut.result.now c.make_move.new.registry
+    c.make_move.new.config (option_to_list o)) c.in-None.is made in
+    let led = moved_entered c.args.registry.now c.args.fibers.now.items c.args.number c.index_mut.result.now c.requires c.in_ok-child.ensures.lawful
+    at c.make_move.new.registry c.make_move.new.config [] moves in
     let here : set c.args.fibers.now.items c.from-place.result c.make_move.new.config ≡ set c.args.fibers.now.items c.args.number c.make_move.new.config ++ [] =
     ap (λ i. set c.args.fibers.now.items i c.make_move.new.config) c.from-place.ensures ∙ sym (append-nil _) in
     led.goes ∙ ap (λ (fibers : List Fiber). Ok (world_of fibers c.make_move.new.registry.state)) (sym here)
 
 pub returns-else-place-len-clause-goes : goal.returns-else-place-len-clause-goes
-returns-else-place-len-clause-goes c = unborn_entered c.args.registry.now.limits (world_of c.args.fibers.now.items c.args.registry.now.state) c.args.number (omega arith)
+returns-else-place-len-clause-goes c =
+    unborn_entered c.args.registry.now.limits (world_of c.args.fibers.now.items c.args.registry.now.state) c.args.number (omega arith)

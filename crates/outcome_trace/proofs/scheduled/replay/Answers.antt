@@ -17,7 +17,8 @@ entries-requires c =
 pub returns-in_err-entries-clause-core : goal.returns-in_err-entries-clause-core
 returns-in_err-entries-clause-core c =
     let p = err_from_is_err_and c.from_residual-in_err-entries.result c.from_residual-in_err-entries.ensures.1 in
-    let start = core-opened c.args.limits (code_of (source_of c.args.program.now)) c.in_ok-registry.registry c.in_ok-fibers.fibers.items c.args.schedule.now c.in_ok-fibers.ensures.first c.in_ok-registry.ensures.opening in
+    let start = core-opened c.args.limits (code_of (source_of c.args.program.now)) c.in_ok-registry.registry c.in_ok-fibers.fibers.items
+    c.args.schedule.now c.in_ok-fibers.ensures.first c.in_ok-registry.ensures.opening in
     rw (p.1, p.2) (elim c.in_err-entries.ensures.stops [
       | inl q ↦ inl (ap Err q)
       | inr q ↦ inr (sym (ap reported (sym start ∙ q)))
@@ -25,7 +26,8 @@ returns-in_err-entries-clause-core c =
 
 pub returns-clause-core : goal.returns-clause-core
 returns-clause-core c =
-    let start = core-opened c.args.limits (code_of (source_of c.args.program.now)) c.in_ok-registry.registry c.in_ok-fibers.fibers.items c.args.schedule.now c.in_ok-fibers.ensures.first c.in_ok-registry.ensures.opening in
+    let start = core-opened c.args.limits (code_of (source_of c.args.program.now)) c.in_ok-registry.registry c.in_ok-fibers.fibers.items
+    c.args.schedule.now c.in_ok-fibers.ensures.first c.in_ok-registry.ensures.opening in
     let told : c.in_ok-report.report ≡ record { fibers = map fiber_report c.entries.new.fibers.items } =
     c.in_ok-report.ensures.reports in
     inr (ap Ok told ∙ sym (ap reported (sym start ∙ c.in_ok-entries.ensures.goes)))

@@ -12,7 +12,8 @@ told o ms = record { outcome = o; marks = ms }
 pub returns-then-eq-clause-same : goal.returns-then-eq-clause-same
 unfolding told
 returns-then-eq-clause-same c = λ is.
-    let same : c.as_slice.result.now ≡ c.as_slice-then-eq.result.now = (marks_decide c.as_slice.result.now c.as_slice-then-eq.result.now c.eq-then-eq.result c.eq-then-eq.ensures).0 is in
+    let same : c.as_slice.result.now ≡ c.as_slice-then-eq.result.now =
+    (marks_decide c.as_slice.result.now c.as_slice-then-eq.result.now c.eq-then-eq.result c.eq-then-eq.ensures).0 is in
     let marks : c.args.one.now.marks ≡ c.args.other.now.marks = sym c.as_slice.ensures ∙ same ∙ c.as_slice-then-eq.ensures in
     let outcomes : c.args.one.now.outcome ≡ c.args.other.now.outcome = search rules in
     ap₂ told outcomes marks

@@ -18,7 +18,9 @@ returns-clause-drawn c = λ code first.
     let begun : w ≡ first_world code k = ap₂ world_of (c.in_ok-fibers.ensures ∙ first) (ap (λ (r : PlainView). r.state) opened) in
     let walked : IsWalkOr c.walk-walked.result k w [] v c.walk-walked.new.schedule.items c.args.most =
     subst (λ (s : List ℕ). IsWalkOr c.walk-walked.result k w s v c.walk-walked.new.schedule.items c.args.most) c.new-schedule.ensures.items
-    (subst (λ (l : Limits). IsWalkOr c.walk-walked.result l w c.new-schedule.result.items v c.walk-walked.new.schedule.items c.args.most) limits c.walk-walked.ensures.walked) in
+    (subst (λ (l : Limits). IsWalkOr c.walk-walked.result l w c.new-schedule.result.items v c.walk-walked.new.schedule.items c.args.most) limits
+    c.walk-walked.ensures.walked) in
     subst (λ (s : List ℕ). IsDrawn code k c.args.most record { schedule = s; end = c.in_ok-end.end }) (sym c.new-2.ensures)
-    (drawn_of code k c.args.most w v c.walk-walked.result c.walk-walked.new.schedule.items c.in_ok-end.end begun walked c.in_ok-end.ensures.memory c.walk-walked.ensures.ended
+    (drawn_of code k c.args.most w v c.walk-walked.result c.walk-walked.new.schedule.items c.in_ok-end.end begun walked c.in_ok-end.ensures.memory
+    c.walk-walked.ensures.ended
     (c.in_ok-end.ensures.end c.walk-walked.new.registry.state))

@@ -23,4 +23,5 @@ returns-in-Some c =
     let it = c.in-Some.ensures.some in
     let at : slice_get cs c.in-Some.place ≡ Some it.0 = subst (λ (l : List Coming). slice_get l c.in-Some.place ≡ Some it.0) c.as_slice.ensures.value it.1 in
     let same : c.index_mut.result.now ≡ it.0 = c.index_mut.ensures.value ∙ get_or_from_slice_get cs c.in-Some.place it.0 c.index_mut.result.now at in
-    subst (λ (x : Coming). IsNoted cs c.args.answer (slice_set cs c.in-Some.place record { answer = x.answer; times = x.times + 1 })) (sym same) (Again c.in-Some.place it.0 at it.2 refl)
+    subst (λ (x : Coming). IsNoted cs c.args.answer (slice_set cs c.in-Some.place record { answer = x.answer; times = x.times + 1 })) (sym same)
+    (Again c.in-Some.place it.0 at it.2 refl)

@@ -12,7 +12,8 @@ use Rattle.sampled_schedules.proofs.sampled.sample.Goals as goal
 
 pub draw-requires-clause-fits : goal.draw-requires-clause-fits
 draw-requires-clause-fits c =
-    subst (λ (fs : List Fiber). AllFit (world_of fs (opening c.args.limits))) (sym c.as_slice.ensures.value) (c.in_ok-first.ensures.fits c.args.limits c.requires.limits)
+    subst (λ (fs : List Fiber). AllFit (world_of fs (opening c.args.limits))) (sym c.as_slice.ensures.value)
+    (c.in_ok-first.ensures.fits c.args.limits c.requires.limits)
 
 pub loop-preserved : goal.loop-preserved
 loop-preserved c =

@@ -9,5 +9,6 @@ invariant-loop l = record {
   limits : l.registry.limits ≡ l.fn.registry.limits;
   fits : AllFit (world_of l.fibers.items l.registry.state);
   grows : length l.fn.schedule.items + 1 ≤ length l.schedule.items;
-  walked : IsWalk l.fn.registry.limits (world_of l.fn.fibers.items l.fn.registry.state) l.fn.schedule.items (Ok (world_of l.fibers.items l.registry.state)) l.schedule.items l.counter;
+  walked : IsWalk l.fn.registry.limits (world_of l.fn.fibers.items l.fn.registry.state) l.fn.schedule.items
+      (Ok (world_of l.fibers.items l.registry.state)) l.schedule.items l.counter;
 }

@@ -33,12 +33,14 @@ loop-index-preserved c =
         able = let able = w.able-is in omega arith;
       }
       | then-not-is_done+else-is_none+else-below-eq0 w ↦ record {
-        none = λ e. absurd (let nobody : is_some c.loop-index.picked ≡ false = ap is_some (sym w.picked-is ∙ e) in let no : false ≡ true = sym nobody ∙ w.is_none.ensures ∙ ap not w.if-is_none.false in cc);
+        none = λ e. absurd (let nobody : is_some c.loop-index.picked ≡ false = ap is_some (sym w.picked-is ∙ e) in let no : false ≡ true =
+            sym nobody ∙ w.is_none.ensures ∙ ap not w.if-is_none.false in cc);
         number = λ f e. i.number f (sym w.picked-is ∙ e);
         able = let able = w.able-is in omega arith;
       }
       | else-not-is_done w ↦ record {
-        none = λ e. one_settled (λ f x. HasEnded x ⊎ IsAtRest c.args.registry.now.state f x) c.args.fibers.now c.loop-index.index g (i.none (sym w.picked-is ∙ e)) at
+        none = λ e. one_settled (λ f x. HasEnded x ⊎ IsAtRest c.args.registry.now.state f x) c.args.fibers.now c.loop-index.index g
+            (i.none (sym w.picked-is ∙ e)) at
             (subst (λ n. HasEnded g ⊎ IsAtRest c.args.registry.now.state n g) number (c.is_done.ensures.done w.if-not-is_done.false));
         number = λ f e. i.number f (sym w.picked-is ∙ e);
         able = let able = w.able-is in omega arith;
@@ -46,4 +48,6 @@ loop-index-preserved c =
     ]
 
 pub returns-clause-none : goal.returns-clause-none
-returns-clause-none c = none_of c.loop-index.picked (λ e f g at. c.loop-index.invariant.none e f g (let long = below_length c.args.fibers.now f g at in let end = c.loop-index-test.false in omega arith) at)
+returns-clause-none c =
+    none_of c.loop-index.picked
+    (λ e f g at. c.loop-index.invariant.none e f g (let long = below_length c.args.fibers.now f g at in let end = c.loop-index-test.false in omega arith) at)

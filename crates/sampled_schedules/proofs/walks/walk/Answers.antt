@@ -13,7 +13,8 @@ returns-in_err-make_row-clause-walked c =
     let a = c.args.schedule.now.items in
     let b = c.loop.schedule.items in
     rw (p.1, p.2)
-    (further (Err c.in_err-make_row.field-0.0) k c.loop.registry.limits w v (world_of c.make_row.new.fibers.items c.make_row.new.registry.state) a b c.make_row.new.schedule.items
+    (further (Err c.in_err-make_row.field-0.0) k c.loop.registry.limits w v (world_of c.make_row.new.fibers.items c.make_row.new.registry.state) a b
+    c.make_row.new.schedule.items
     (length b) c.min-many.result c.args.most c.loop.invariant.limits (within k w (Ok v) a b c.args.most (length b) c.loop.invariant.walked (omega arith))
     c.in_err-make_row.ensures.walked (omega arith))
 

@@ -9,5 +9,6 @@ invariant-loop l = record {
   limits : l.registry.limits ≡ l.initial.registry.limits;
   fits : AllFit (world_of l.fibers.items l.registry.state);
   made : l.counter ≤ length l.schedule.items;
-  walked : IsWalk l.initial.registry.limits (world_of l.initial.fibers.items l.initial.registry.state) l.initial.schedule.items (Ok (world_of l.fibers.items l.registry.state)) l.schedule.items l.most;
+  walked : IsWalk l.initial.registry.limits (world_of l.initial.fibers.items l.initial.registry.state) l.initial.schedule.items
+      (Ok (world_of l.fibers.items l.registry.state)) l.schedule.items l.most;
 }

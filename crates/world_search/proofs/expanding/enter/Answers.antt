@@ -10,7 +10,7 @@ use Rattle.world_search.specs.declared.landings.Landing.{Landing}
 use Rattle.world_search.specs.Landings.{LandsAt, EntersAt}
 use Rattle.world_search.specs.Private.Shapes.{Shape, shape}
 use Rattle.world_search.specs.Private.Graphs.{CanEnter, Fits, ComesTo}
-use Rattle.world_search.proofs.Lists.{more_back, more_get}
+use Rattle.world_search.proofs.Lists.{more_back, more_get, ok_then}
 use Rattle.world_search.proofs.Fitting.{fits_store, fits_faulting}
 use Rattle.world_search.proofs.Meeting.{noted_fits, noted_fault, noted_leaves}
 use Rattle.world_search.proofs.expanding.enter.Goals as goal
@@ -18,13 +18,15 @@ use Rattle.world_search.proofs.expanding.enter.Goals as goal
 pub meet-requires-clause-fits : goal.meet-requires-clause-fits
 meet-requires-clause-fits g c =
     let told = c.in_ok-enter.ensures in
-    fits_store g.W.Worlds.step g.W.Worlds.report g.W.Worlds.most_born c.args.limits.entries (g.W.Worlds.worlds c.args.worlds.now) (g.W.Worlds.faults c.args.worlds.now) (shape c.args.graph.now) c.requires.fits
+    fits_store g.W.Worlds.step g.W.Worlds.report g.W.Worlds.most_born c.args.limits.entries (g.W.Worlds.worlds c.args.worlds.now)
+    (g.W.Worlds.faults c.args.worlds.now) (shape c.args.graph.now) c.requires.fits
     (g.W.Worlds.worlds c.enter.new.self) (g.W.Worlds.faults c.enter.new.self) told.worlds told.faults
 
 pub returns-in-Full-clause-fits : goal.returns-in-Full-clause-fits
 returns-in-Full-clause-fits g c =
     let told = c.in_ok-enter.ensures in
-    fits_store g.W.Worlds.step g.W.Worlds.report g.W.Worlds.most_born c.args.limits.entries (g.W.Worlds.worlds c.args.worlds.now) (g.W.Worlds.faults c.args.worlds.now) (shape c.args.graph.now) c.requires.fits
+    fits_store g.W.Worlds.step g.W.Worlds.report g.W.Worlds.most_born c.args.limits.entries (g.W.Worlds.worlds c.args.worlds.now)
+    (g.W.Worlds.faults c.args.worlds.now) (shape c.args.graph.now) c.requires.fits
     (g.W.Worlds.worlds c.enter.new.self) (g.W.Worlds.faults c.enter.new.self) told.worlds told.faults
 
 pub meet-requires-clause-how : goal.meet-requires-clause-how
@@ -38,15 +40,18 @@ meet-requires-clause-lands g c = λ w at.
     let told = c.in_ok-enter.ensures in
     let known = c.requires.fits.known in
     let before = more_back (g.W.Worlds.worlds c.args.worlds.now) (g.W.Worlds.worlds c.enter.new.self) c.args.index w told.worlds (omega arith) at in
-    let lands = subst (λ (it : Entered). EntersAt (g.W.Worlds.worlds c.enter.new.self) (g.W.Worlds.faults c.enter.new.self) it (g.W.Worlds.step w c.args.fiber)) c.in-At-World.is (told.lands w before) in
-    subst (λ (l : Landing). LandsAt (g.W.Worlds.worlds c.enter.new.self) (g.W.Worlds.faults c.enter.new.self) l (g.W.Worlds.step w c.args.fiber)) c.in-At-World.field-0-is lands
+    let lands = subst (λ (it : Entered). EntersAt (g.W.Worlds.worlds c.enter.new.self) (g.W.Worlds.faults c.enter.new.self) it
+    (g.W.Worlds.step w c.args.fiber)) c.in-At-World.is (told.lands w before) in
+    subst (λ (l : Landing). LandsAt (g.W.Worlds.worlds c.enter.new.self) (g.W.Worlds.faults c.enter.new.self) l (g.W.Worlds.step w c.args.fiber))
+    c.in-At-World.field-0-is lands
 
 pub returns-in_ok-note-in-At-Fault-clause-fits : goal.returns-in_ok-note-in-At-Fault-clause-fits
 returns-in_ok-note-in-At-Fault-clause-fits g c =
     let told = c.in_ok-enter.ensures in
     let ws = g.W.Worlds.worlds c.enter.new.self in
     let es = g.W.Worlds.faults c.enter.new.self in
-    let fits = fits_store g.W.Worlds.step g.W.Worlds.report g.W.Worlds.most_born c.args.limits.entries (g.W.Worlds.worlds c.args.worlds.now) (g.W.Worlds.faults c.args.worlds.now) (shape c.args.graph.now) c.requires.fits
+    let fits = fits_store g.W.Worlds.step g.W.Worlds.report g.W.Worlds.most_born c.args.limits.entries (g.W.Worlds.worlds c.args.worlds.now)
+    (g.W.Worlds.faults c.args.worlds.now) (shape c.args.graph.now) c.requires.fits
     ws es told.worlds told.faults in
     let at : slice_get c.args.graph.now.nodes.items c.args.index ≡ Some c.index.result.now = grind (arith, common_steps, gets) in
     let deep = c.requires.deep c.index.result.now at in
@@ -60,16 +65,19 @@ returns-in_ok-note-in-At-Fault-clause-fits g c =
     subst (λ (l : Landing). LandsAt ws es l (g.W.Worlds.step w c.args.fiber)) c.in-At-Fault.field-0-is lands) in
     subst (Fits g.W.Worlds.step g.W.Worlds.report g.W.Worlds.most_born c.args.limits.entries ws es) (sym c.set_faulting.ensures)
     (fits_faulting g.W.Worlds.step g.W.Worlds.report g.W.Worlds.most_born c.args.limits.entries ws es (shape c.note.new.graph)
-    (noted_fits g.W.Worlds.step g.W.Worlds.report g.W.Worlds.most_born c.args.limits.entries ws es (shape c.args.graph.now) (shape c.note.new.graph) node c.in-At-Fault.fault fits c.requires.low how lands c.in_ok-note-in-At-Fault.ensures)
+    (noted_fits g.W.Worlds.step g.W.Worlds.report g.W.Worlds.most_born c.args.limits.entries ws es (shape c.args.graph.now) (shape c.note.new.graph)
+    node c.in-At-Fault.fault fits c.requires.low how lands c.in_ok-note-in-At-Fault.ensures)
     c.args.index
-    (noted_fault g.W.Worlds.step g.W.Worlds.report g.W.Worlds.most_born c.args.limits.entries ws es (shape c.args.graph.now) (shape c.note.new.graph) node c.in-At-Fault.fault fits c.requires.low how lands c.in_ok-note-in-At-Fault.ensures))
+    (noted_fault g.W.Worlds.step g.W.Worlds.report g.W.Worlds.most_born c.args.limits.entries ws es (shape c.args.graph.now) (shape c.note.new.graph)
+    node c.in-At-Fault.fault fits c.requires.low how lands c.in_ok-note-in-At-Fault.ensures))
 
 pub returns-in_ok-note-in-At-Fault-clause-came : goal.returns-in_ok-note-in-At-Fault-clause-came
 returns-in_ok-note-in-At-Fault-clause-came g c = λ w there.
     let told = c.in_ok-enter.ensures in
     let ws = g.W.Worlds.worlds c.enter.new.self in
     let es = g.W.Worlds.faults c.enter.new.self in
-    let fits = fits_store g.W.Worlds.step g.W.Worlds.report g.W.Worlds.most_born c.args.limits.entries (g.W.Worlds.worlds c.args.worlds.now) (g.W.Worlds.faults c.args.worlds.now) (shape c.args.graph.now) c.requires.fits
+    let fits = fits_store g.W.Worlds.step g.W.Worlds.report g.W.Worlds.most_born c.args.limits.entries (g.W.Worlds.worlds c.args.worlds.now)
+    (g.W.Worlds.faults c.args.worlds.now) (shape c.args.graph.now) c.requires.fits
     ws es told.worlds told.faults in
     let at : slice_get c.args.graph.now.nodes.items c.args.index ≡ Some c.index.result.now = grind (arith, common_steps, gets) in
     let deep = c.requires.deep c.index.result.now at in
@@ -81,6 +89,14 @@ returns-in_ok-note-in-At-Fault-clause-came g c = λ w there.
     let before = more_back (g.W.Worlds.worlds c.args.worlds.now) ws c.args.index w told.worlds (omega arith) here in
     let lands = subst (λ (it : Entered). EntersAt ws es it (g.W.Worlds.step w c.args.fiber)) c.in-At-Fault.is (told.lands w before) in
     subst (λ (l : Landing). LandsAt ws es l (g.W.Worlds.step w c.args.fiber)) c.in-At-Fault.field-0-is lands) in
-    subst (λ (s : Shape). ComesTo g.W.Worlds.step g.W.Worlds.report g.W.Worlds.most_born c.args.limits.entries ws es s c.args.index w came.Leaves (g.W.Worlds.step w c.args.fiber)) (sym c.set_faulting.ensures)
-    (noted_leaves g.W.Worlds.step g.W.Worlds.report g.W.Worlds.most_born c.args.limits.entries ws es (shape c.args.graph.now) (shape c.note.new.graph) node c.in-At-Fault.fault fits c.requires.low how lands c.in_ok-note-in-At-Fault.ensures
+    subst (λ (s : Shape). ComesTo g.W.Worlds.step g.W.Worlds.report g.W.Worlds.most_born c.args.limits.entries ws es s c.args.index w came.Leaves
+    (g.W.Worlds.step w c.args.fiber)) (sym c.set_faulting.ensures)
+    (noted_leaves g.W.Worlds.step g.W.Worlds.report g.W.Worlds.most_born c.args.limits.entries ws es (shape c.args.graph.now)
+    (shape c.note.new.graph) node c.in-At-Fault.fault fits c.requires.low how lands c.in_ok-note-in-At-Fault.ensures
     w (more_get (g.W.Worlds.worlds c.args.worlds.now) ws c.args.index w told.worlds there))
+
+pub returns-in-At-World-clause-came : goal.returns-in-At-World-clause-came
+returns-in-At-World-clause-came g c =
+    let ws = g.W.Worlds.worlds c.enter.new.self in
+    ok_then _ _ (λ it h w at. h w (more_get (g.W.Worlds.worlds c.args.worlds.now) ws c.args.index w
+    c.in_ok-enter.ensures.worlds at)) c.meet.result c.meet.ensures.came

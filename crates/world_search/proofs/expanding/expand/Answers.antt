@@ -1,4 +1,4 @@
-use Rattle.std.proofs.Common.{◌≡◌, ℕ, ◌+◌, ◌<◌, ◌≤◌, sym, ◌∙◌, subst, arith}
+use Rattle.std.proofs.Common.{◌≡◌, ℕ, ◌+◌, ◌<◌, ◌≤◌, length, sym, ◌∙◌, subst, arith, inl, inr}
 use Rattle.std.specs.Prelude.{Some}
 use Rattle.std.specs.List.{slice_get}
 use Rattle.std.proofs.lemmas.Grind.{common_steps}
@@ -6,10 +6,11 @@ use Rattle.std.proofs.lemmas.Option.{gets, same_Some}
 use Rattle.world_search.specs.declared.expanding.Came.{Came}
 use Rattle.world_search.specs.declared.graphs.Node.{Node}
 use Rattle.world_search.specs.Private.Shapes.{Shape, shape}
-use Rattle.world_search.specs.Private.Graphs.{Fits, CameSo, IsDone, SameFlags}
+use Rattle.world_search.specs.Private.Graphs.{Fits, CameSo, IsDone, IsSnug, SameFlags}
 use Rattle.world_search.proofs.Lists.{more_same, more_more, more_back, more_long}
 use Rattle.world_search.proofs.Fitting.{grows_same, grows_grows, fits_quiet}
 use Rattle.world_search.proofs.Entries.{came_next, quiet_all, done_quiet, done_leaves, same_flags, same_flags_set}
+use Rattle.world_search.proofs.Snug.{worse_lost, quiet_snug}
 use Rattle.world_search.proofs.expanding.expand.Goals as goal
 
 pub loop-fiber-init : goal.loop-fiber-init
@@ -25,6 +26,8 @@ loop-fiber-init g c =
           subst (λ (m : Node). m.depth < c.args.limits.entries) same (omega arith);
       came = λ w there f low. absurd (omega arith);
       room = omega arith;
+      snug = λ h. h;
+      lost = λ e h. absurd (cc);
     }
 
 pub loop-fiber-preserved : goal.loop-fiber-preserved
@@ -35,19 +38,32 @@ loop-fiber-preserved g c =
     let kept = known.fits.known in
     record {
       grows = grows_grows (g.W.Worlds.worlds c.args.worlds.now) (g.W.Worlds.worlds c.loop-fiber.worlds) (g.W.Worlds.worlds c.enter.new.worlds)
-          (g.W.Worlds.faults c.args.worlds.now) (g.W.Worlds.faults c.loop-fiber.worlds) (g.W.Worlds.faults c.enter.new.worlds) (shape c.args.graph.now) (shape c.loop-fiber.graph) (shape c.enter.new.graph) known.grows told.grows;
+          (g.W.Worlds.faults c.args.worlds.now) (g.W.Worlds.faults c.loop-fiber.worlds) (g.W.Worlds.faults c.enter.new.worlds)
+          (shape c.args.graph.now) (shape c.loop-fiber.graph) (shape c.enter.new.graph) known.grows told.grows;
       fits = told.fits;
       flags = more_more c.args.graph.now.unsettled.items c.loop-fiber.graph.unsettled.items c.enter.new.graph.unsettled.items known.flags told.flags;
       low = omega arith;
       deep = λ n there. known.deep n (more_back c.loop-fiber.graph.nodes.items c.enter.new.graph.nodes.items c.args.index n told.grows.nodes known.low there);
       came = λ w there.
-          let before = more_back (g.W.Worlds.worlds c.loop-fiber.worlds) (g.W.Worlds.worlds c.enter.new.worlds) c.args.index w told.grows.worlds (omega arith) there in
-          subst (λ (x : Came). CameSo g.W.Worlds.step g.W.Worlds.report g.W.Worlds.most_born c.args.limits.entries (g.W.Worlds.worlds c.enter.new.worlds) (g.W.Worlds.faults c.enter.new.worlds) (shape c.enter.new.graph) c.args.index w x (c.loop-fiber.fiber + 1))
+          let before = more_back (g.W.Worlds.worlds c.loop-fiber.worlds) (g.W.Worlds.worlds c.enter.new.worlds) c.args.index w told.grows.worlds
+          (omega arith) there in
+          subst (λ (x : Came). CameSo g.W.Worlds.step g.W.Worlds.report g.W.Worlds.most_born c.args.limits.entries
+          (g.W.Worlds.worlds c.enter.new.worlds) (g.W.Worlds.faults c.enter.new.worlds) (shape c.enter.new.graph) c.args.index w x (c.loop-fiber.fiber + 1))
           (sym c.worse-came.ensures)
-          (came_next g.W.Worlds.step g.W.Worlds.report g.W.Worlds.most_born c.args.limits.entries (g.W.Worlds.worlds c.loop-fiber.worlds) (g.W.Worlds.worlds c.enter.new.worlds)
-          (g.W.Worlds.faults c.loop-fiber.worlds) (g.W.Worlds.faults c.enter.new.worlds) (shape c.loop-fiber.graph) (shape c.enter.new.graph) told.grows c.args.index w c.loop-fiber.fiber
+          (came_next g.W.Worlds.step g.W.Worlds.report g.W.Worlds.most_born c.args.limits.entries (g.W.Worlds.worlds c.loop-fiber.worlds)
+          (g.W.Worlds.worlds c.enter.new.worlds)
+          (g.W.Worlds.faults c.loop-fiber.worlds) (g.W.Worlds.faults c.enter.new.worlds) (shape c.loop-fiber.graph) (shape c.enter.new.graph)
+          told.grows c.args.index w c.loop-fiber.fiber
           c.loop-fiber.came c.in_ok-enter.field-0 (known.came w before) (told.came w before));
       room = let a = known.room in let b = told.room in omega arith;
+      snug = λ h. told.snug (known.snug h);
+      lost = λ e h.
+          let more = more_long (g.W.Worlds.worlds c.loop-fiber.worlds) (g.W.Worlds.worlds c.enter.new.worlds)
+          told.grows.worlds in
+          elim (worse_lost c.loop-fiber.came c.in_ok-enter.field-0 (sym c.worse-came.ensures ∙ e)) [
+            | inl one ↦ let a = known.lost one h in omega arith
+            | inr other ↦ told.lost other (known.snug h)
+          ];
     }
 
 pub returns-in-Stays-clause-fits : goal.returns-in-Stays-clause-fits
@@ -59,10 +75,12 @@ returns-in-Stays-clause-fits g c =
     let rests = (λ (w : _) (at : slice_get ws c.args.index ≡ Some w) (f : ℕ) (past : c.loop-fiber.fiber ≤ f).
     c.born-born.ensures.rests w (more_back (g.W.Worlds.worlds c.args.worlds.now) ws c.args.index w known.grows.worlds (omega arith) at) f (omega arith)) in
     let so = (λ (w : _) (at : slice_get ws c.args.index ≡ Some w).
-    subst (λ (x : Came). CameSo g.W.Worlds.step g.W.Worlds.report g.W.Worlds.most_born c.args.limits.entries ws es (shape c.loop-fiber.graph) c.args.index w x c.loop-fiber.fiber) c.in-Stays.is (known.came w at)) in
+    subst (λ (x : Came). CameSo g.W.Worlds.step g.W.Worlds.report g.W.Worlds.most_born c.args.limits.entries ws es (shape c.loop-fiber.graph)
+    c.args.index w x c.loop-fiber.fiber) c.in-Stays.is (known.came w at)) in
     subst (Fits g.W.Worlds.step g.W.Worlds.report g.W.Worlds.most_born c.args.limits.entries ws es) (sym c.set_quiet.ensures)
     (fits_quiet g.W.Worlds.step g.W.Worlds.report g.W.Worlds.most_born c.args.limits.entries ws es (shape c.loop-fiber.graph) known.fits c.args.index
-    (quiet_all g.W.Worlds.step g.W.Worlds.report g.W.Worlds.most_born c.args.limits.entries ws es (shape c.loop-fiber.graph) c.args.index c.loop-fiber.fiber rests so))
+    (quiet_all g.W.Worlds.step g.W.Worlds.report g.W.Worlds.most_born c.args.limits.entries ws es (shape c.loop-fiber.graph) c.args.index
+    c.loop-fiber.fiber rests so))
 
 pub returns-in-Stays-clause-flags : goal.returns-in-Stays-clause-flags
 returns-in-Stays-clause-flags g c =
@@ -79,9 +97,11 @@ returns-in-Stays-clause-done g c = λ yes.
     let rests = (λ (w : _) (at : slice_get ws c.args.index ≡ Some w) (f : ℕ) (past : c.loop-fiber.fiber ≤ f).
     c.born-born.ensures.rests w (more_back (g.W.Worlds.worlds c.args.worlds.now) ws c.args.index w known.grows.worlds (omega arith) at) f (omega arith)) in
     let so = (λ (w : _) (at : slice_get ws c.args.index ≡ Some w).
-    subst (λ (x : Came). CameSo g.W.Worlds.step g.W.Worlds.report g.W.Worlds.most_born c.args.limits.entries ws es (shape c.loop-fiber.graph) c.args.index w x c.loop-fiber.fiber) c.in-Stays.is (known.came w at)) in
+    subst (λ (x : Came). CameSo g.W.Worlds.step g.W.Worlds.report g.W.Worlds.most_born c.args.limits.entries ws es (shape c.loop-fiber.graph)
+    c.args.index w x c.loop-fiber.fiber) c.in-Stays.is (known.came w at)) in
     subst (λ (s : Shape). IsDone g.W.Worlds.step g.W.Worlds.report g.W.Worlds.most_born c.args.limits.entries ws es s c.args.index) (sym c.set_quiet.ensures)
-    (done_quiet g.W.Worlds.step g.W.Worlds.report g.W.Worlds.most_born c.args.limits.entries ws es (shape c.loop-fiber.graph) c.args.index c.loop-fiber.fiber rests known.low (omega arith) so)
+    (done_quiet g.W.Worlds.step g.W.Worlds.report g.W.Worlds.most_born c.args.limits.entries ws es (shape c.loop-fiber.graph) c.args.index
+    c.loop-fiber.fiber rests known.low (omega arith) so)
 
 pub returns-in-Leaves-clause-flags : goal.returns-in-Leaves-clause-flags
 returns-in-Leaves-clause-flags g c = same_flags c.args.index c.args.graph.now.unsettled.items c.loop-fiber.graph.unsettled.items c.loop-fiber.invariant.flags
@@ -98,5 +118,22 @@ returns-in-Leaves-clause-done g c = λ yes.
     let rests = (λ (w : _) (at : slice_get ws c.args.index ≡ Some w) (f : ℕ) (past : c.loop-fiber.fiber ≤ f).
     c.born-born.ensures.rests w (more_back (g.W.Worlds.worlds c.args.worlds.now) ws c.args.index w known.grows.worlds (omega arith) at) f (omega arith)) in
     let so = (λ (w : _) (at : slice_get ws c.args.index ≡ Some w).
-    subst (λ (x : Came). CameSo g.W.Worlds.step g.W.Worlds.report g.W.Worlds.most_born c.args.limits.entries ws es (shape c.loop-fiber.graph) c.args.index w x c.loop-fiber.fiber) c.in-Leaves.is (known.came w at)) in
-    done_leaves g.W.Worlds.step g.W.Worlds.report g.W.Worlds.most_born c.args.limits.entries ws es (shape c.loop-fiber.graph) c.args.index c.loop-fiber.fiber rests known.low so
+    subst (λ (x : Came). CameSo g.W.Worlds.step g.W.Worlds.report g.W.Worlds.most_born c.args.limits.entries ws es (shape c.loop-fiber.graph)
+    c.args.index w x c.loop-fiber.fiber) c.in-Leaves.is (known.came w at)) in
+    done_leaves g.W.Worlds.step g.W.Worlds.report g.W.Worlds.most_born c.args.limits.entries ws es (shape c.loop-fiber.graph) c.args.index
+    c.loop-fiber.fiber rests known.low so
+
+pub returns-in-Stays-clause-snug : goal.returns-in-Stays-clause-snug
+returns-in-Stays-clause-snug g c = λ h.
+    let many = length (g.W.Worlds.worlds c.loop-fiber.worlds) in
+    subst (IsSnug many) (sym c.set_quiet.ensures)
+    (quiet_snug (shape c.loop-fiber.graph) c.args.index many (c.loop-fiber.invariant.snug h))
+
+pub returns-in-Leaves-clause-snug : goal.returns-in-Leaves-clause-snug
+returns-in-Leaves-clause-snug g c = c.loop-fiber.invariant.snug
+
+pub returns-in-Lost-clause-snug : goal.returns-in-Lost-clause-snug
+returns-in-Lost-clause-snug g c = c.loop-fiber.invariant.snug
+
+pub returns-in-Lost-clause-stopped : goal.returns-in-Lost-clause-stopped
+returns-in-Lost-clause-stopped g c = λ e h. inl (c.loop-fiber.invariant.lost c.in-Lost.is h)

@@ -12,6 +12,7 @@ returns c = λ yes i low.
     let same : length c.as_slice-2.result.now ≡ length c.spread.new.flags.items = ap (λ (l : List Bool). length l) slice in
     let long = c.spread.ensures.long in
     let many = c.loop-index.invariant.long in
-    let set : slice_get c.spread.new.flags.items i ≡ Some true = subst (λ (l : List Bool). slice_get l i ≡ Some true) slice (c.are_set.ensures yes i (omega arith)) in
+    let set : slice_get c.spread.new.flags.items i ≡ Some true =
+    subst (λ (l : List Bool). slice_get l i ≡ Some true) slice (c.are_set.ensures yes i (omega arith)) in
     let led = c.spread.ensures.flagged i set in
     (led.0, subst (λ (l : List Edge). LeadsOn l i led.0) edges led.1, c.loop-index.invariant.ends led.0 led.2)

@@ -22,7 +22,8 @@ is_told-requires-clause-within g c = λ k a j at is.
 
 pub returns-then-is_told-clause-told : goal.returns-then-is_told-clause-told
 returns-then-is_told-clause-told g c = λ w flag at.
-    subst (λ (l : List Answer). IsAnswered g.W.Worlds.step g.W.Worlds.report (g.W.Worlds.worlds c.args.worlds.now) (g.W.Worlds.faults c.args.worlds.now) l (Ok w))
+    subst (λ (l : List Answer). IsAnswered g.W.Worlds.step g.W.Worlds.report (g.W.Worlds.worlds c.args.worlds.now)
+    (g.W.Worlds.faults c.args.worlds.now) l (Ok w))
     c.as_slice.ensures.value (c.is_told.ensures c.if-is_told.true w at)
 
 pub tell-requires-clause-last : goal.tell-requires-clause-last
@@ -34,7 +35,8 @@ pub returns-clause-listed : goal.returns-clause-listed
 returns-clause-listed g c =
     let at : slice_get c.args.graph.now.nodes.items c.args.index ≡ Some c.index-2.result.now = grind (arith, common_steps, gets) in
     let flag : slice_get c.args.graph.now.unsettled.items c.args.index ≡ Some false = grind (arith, common_steps, gets) in
-    let adds = subst (λ (l : List Node). Adds l c.index-2.result.now (to.World c.args.index) c.args.answers.now.items c.tell.new.answers.items) c.as_slice-2.ensures.value c.in_ok-tell.ensures in
+    let adds = subst (λ (l : List Node). Adds l c.index-2.result.now (to.World c.args.index) c.args.answers.now.items c.tell.new.answers.items)
+    c.as_slice-2.ensures.value c.in_ok-tell.ensures in
     adds_world (shape c.args.graph.now) c.args.answers.now.items c.tell.new.answers.items c.args.index c.index-2.result.now c.requires.listed adds at flag
 
 pub returns-clause-more : goal.returns-clause-more
@@ -43,5 +45,6 @@ returns-clause-more g c =
 
 pub returns-clause-told : goal.returns-clause-told
 returns-clause-told g c = λ w flag at.
-    named_answered g.W.Worlds.step g.W.Worlds.report (g.W.Worlds.worlds c.args.worlds.now) (g.W.Worlds.faults c.args.worlds.now) c.tell.new.answers.items c.args.index w
+    named_answered g.W.Worlds.step g.W.Worlds.report (g.W.Worlds.worlds c.args.worlds.now) (g.W.Worlds.faults c.args.worlds.now)
+    c.tell.new.answers.items c.args.index w
     (adds_named c.as_slice-2.result.now c.index-2.result.now (to.World c.args.index) c.args.answers.now.items c.tell.new.answers.items c.in_ok-tell.ensures) at

@@ -14,7 +14,8 @@ loop-index-preserved g c =
     record {
       listed = told.listed;
       told = λ i w low flag at. dite (ℕ_discrete i c.loop-index.index)
-          (λ is. told.told w (subst (λ n. slice_get c.args.graph.now.unsettled.items n ≡ Some false) is flag) (subst (λ n. slice_get (g.W.Worlds.worlds c.args.worlds.now) n ≡ Some w) is at))
+          (λ is. told.told w (subst (λ n. slice_get c.args.graph.now.unsettled.items n ≡ Some false) is flag)
+          (subst (λ n. slice_get (g.W.Worlds.worlds c.args.worlds.now) n ≡ Some w) is at))
           (λ isnt. answered_more g.W.Worlds.step g.W.Worlds.report (g.W.Worlds.worlds c.args.worlds.now) (g.W.Worlds.faults c.args.worlds.now)
           c.loop-index.answers.items c.list_world.new.answers.items (Ok w) told.more (known.told i w (omega arith) flag at));
     }

@@ -13,25 +13,30 @@ pub spread-requires : goal.spread-requires
 spread-requires g c =
     let fits = c.in_ok-complete.ensures.fits in
     let all : AreWithin c.explore.new.graph.edges.items (length c.explore.new.graph.nodes.items) =
-    within g.W.Worlds.step g.W.Worlds.report g.W.Worlds.most_born c.capped-2.result (g.W.Worlds.worlds c.explore.new.worlds) (g.W.Worlds.faults c.explore.new.worlds) (shape c.explore.new.graph) fits in
+    within g.W.Worlds.step g.W.Worlds.report g.W.Worlds.most_born c.capped-2.result (g.W.Worlds.worlds c.explore.new.worlds)
+    (g.W.Worlds.faults c.explore.new.worlds) (shape c.explore.new.graph) fits in
     subst (λ (n : ℕ). AreWithin c.as_slice.result.now n) (sym fits.unsettled)
     (subst (λ (l : List Edge). AreWithin l (length c.explore.new.graph.nodes.items)) (sym c.as_slice.ensures.value) all)
 
 pub list_worlds-requires-clause-chained : goal.list_worlds-requires-clause-chained
 list_worlds-requires-clause-chained g c =
-    are_chained g.W.Worlds.step g.W.Worlds.report g.W.Worlds.most_born c.capped-2.result (g.W.Worlds.worlds c.explore.new.worlds) (g.W.Worlds.faults c.explore.new.worlds) (shape c.explore.new.graph) c.in_ok-complete.ensures.fits
+    are_chained g.W.Worlds.step g.W.Worlds.report g.W.Worlds.most_born c.capped-2.result (g.W.Worlds.worlds c.explore.new.worlds)
+    (g.W.Worlds.faults c.explore.new.worlds) (shape c.explore.new.graph) c.in_ok-complete.ensures.fits
 
 pub list_faults-requires-clause-chained : goal.list_faults-requires-clause-chained
 list_faults-requires-clause-chained g c =
-    are_chained g.W.Worlds.step g.W.Worlds.report g.W.Worlds.most_born c.capped-2.result (g.W.Worlds.worlds c.explore.new.worlds) (g.W.Worlds.faults c.explore.new.worlds) (shape c.explore.new.graph) c.in_ok-complete.ensures.fits
+    are_chained g.W.Worlds.step g.W.Worlds.report g.W.Worlds.most_born c.capped-2.result (g.W.Worlds.worlds c.explore.new.worlds)
+    (g.W.Worlds.faults c.explore.new.worlds) (shape c.explore.new.graph) c.in_ok-complete.ensures.fits
 
 pub list_faults-requires-clause-noted : goal.list_faults-requires-clause-noted
 list_faults-requires-clause-noted g c =
-    are_noted_chained g.W.Worlds.step g.W.Worlds.report g.W.Worlds.most_born c.capped-2.result (g.W.Worlds.worlds c.explore.new.worlds) (g.W.Worlds.faults c.explore.new.worlds) (shape c.explore.new.graph) c.in_ok-complete.ensures.fits
+    are_noted_chained g.W.Worlds.step g.W.Worlds.report g.W.Worlds.most_born c.capped-2.result (g.W.Worlds.worlds c.explore.new.worlds)
+    (g.W.Worlds.faults c.explore.new.worlds) (shape c.explore.new.graph) c.in_ok-complete.ensures.fits
 
 pub all_end-requires-clause-within : goal.all_end-requires-clause-within
 all_end-requires-clause-within g c =
-    within g.W.Worlds.step g.W.Worlds.report g.W.Worlds.most_born c.capped-2.result (g.W.Worlds.worlds c.explore.new.worlds) (g.W.Worlds.faults c.explore.new.worlds) (shape c.explore.new.graph) c.in_ok-complete.ensures.fits
+    within g.W.Worlds.step g.W.Worlds.report g.W.Worlds.most_born c.capped-2.result (g.W.Worlds.worlds c.explore.new.worlds)
+    (g.W.Worlds.faults c.explore.new.worlds) (shape c.explore.new.graph) c.in_ok-complete.ensures.fits
 
 pub returns-clause-all : goal.returns-clause-all
 returns-clause-all g c = λ complete first at.
@@ -39,10 +44,12 @@ returns-clause-all g c = λ complete first at.
     let es = g.W.Worlds.faults c.explore.new.worlds in
     let told = c.in_ok-complete.ensures in
     let back = subst (λ (l : List Edge). AreBack l c.spread.new.flags.items 0) c.as_slice.ensures.value c.spread.ensures.back in
-    let marks = subst (λ (l : List Edge). AreFlagged l c.explore.new.graph.unsettled.items c.spread.new.flags.items) c.as_slice.ensures.value c.spread.ensures.flagged in
+    let marks = subst (λ (l : List Edge). AreFlagged l c.explore.new.graph.unsettled.items c.spread.new.flags.items) c.as_slice.ensures.value
+    c.spread.ensures.flagged in
     all_covered g.W.Worlds.step g.W.Worlds.report g.W.Worlds.most_born c.capped-2.result ws es (shape c.explore.new.graph) told.fits
     c.spread.new.flags.items c.spread.ensures.long c.spread.ensures.keeps back marks (told.done complete) c.list_faults.new.answers.items
-    (λ i w flag there. answered_more g.W.Worlds.step g.W.Worlds.report ws es c.list_worlds.new.answers.items c.list_faults.new.answers.items (Ok w) c.in_ok-list_faults.ensures.more (c.in_ok-list_worlds.ensures.told i w flag there))
+    (λ i w flag there. answered_more g.W.Worlds.step g.W.Worlds.report ws es c.list_worlds.new.answers.items c.list_faults.new.answers.items (Ok w)
+    c.in_ok-list_faults.ensures.more (c.in_ok-list_worlds.ensures.told i w flag there))
     c.in_ok-list_faults.ensures.told
     first (more_get (g.W.Worlds.worlds c.args.worlds.now) ws 0 first told.grows.worlds at)
 
@@ -52,10 +59,12 @@ returns-clause-onward g c = λ complete ends first at.
     let es = g.W.Worlds.faults c.explore.new.worlds in
     let told = c.in_ok-complete.ensures in
     let back = subst (λ (l : List Edge). AreBack l c.spread.new.flags.items 0) c.as_slice.ensures.value c.spread.ensures.back in
-    let marks = subst (λ (l : List Edge). AreFlagged l c.explore.new.graph.unsettled.items c.spread.new.flags.items) c.as_slice.ensures.value c.spread.ensures.flagged in
+    let marks = subst (λ (l : List Edge). AreFlagged l c.explore.new.graph.unsettled.items c.spread.new.flags.items) c.as_slice.ensures.value
+    c.spread.ensures.flagged in
     all_onward g.W.Worlds.step g.W.Worlds.report g.W.Worlds.most_born c.capped-2.result ws es (shape c.explore.new.graph) told.fits
     c.spread.new.flags.items c.spread.ensures.long c.spread.ensures.keeps back marks (told.done complete) c.list_faults.new.answers.items
-    (λ i w flag there. answered_more g.W.Worlds.step g.W.Worlds.report ws es c.list_worlds.new.answers.items c.list_faults.new.answers.items (Ok w) c.in_ok-list_faults.ensures.more (c.in_ok-list_worlds.ensures.told i w flag there))
+    (λ i w flag there. answered_more g.W.Worlds.step g.W.Worlds.report ws es c.list_worlds.new.answers.items c.list_faults.new.answers.items (Ok w)
+    c.in_ok-list_faults.ensures.more (c.in_ok-list_worlds.ensures.told i w flag there))
     c.in_ok-list_faults.ensures.told (c.in_ok-ends.ensures ends)
     first (more_get (g.W.Worlds.worlds c.args.worlds.now) ws 0 first told.grows.worlds at)
 
@@ -65,7 +74,8 @@ returns-clause-each g c = λ first at.
     let es = g.W.Worlds.faults c.explore.new.worlds in
     let told = c.in_ok-complete.ensures in
     let back = subst (λ (l : List Edge). AreBack l c.spread.new.flags.items 0) c.as_slice.ensures.value c.spread.ensures.back in
-    let marks = subst (λ (l : List Edge). AreFlagged l c.explore.new.graph.unsettled.items c.spread.new.flags.items) c.as_slice.ensures.value c.spread.ensures.flagged in
+    let marks = subst (λ (l : List Edge). AreFlagged l c.explore.new.graph.unsettled.items c.spread.new.flags.items) c.as_slice.ensures.value
+    c.spread.ensures.flagged in
     all_right g.W.Worlds.step g.W.Worlds.report g.W.Worlds.most_born c.capped-2.result ws es (shape c.explore.new.graph) told.fits
     c.spread.new.flags.items c.spread.ensures.long c.spread.ensures.keeps back marks c.list_faults.new.answers.items c.in_ok-list_faults.ensures.listed
     first (more_get (g.W.Worlds.worlds c.args.worlds.now) ws 0 first told.grows.worlds at)
@@ -76,7 +86,8 @@ returns-clause-numbers g c =
     let es = g.W.Worlds.faults c.explore.new.worlds in
     let told = c.in_ok-complete.ensures in
     let back = subst (λ (l : List Edge). AreBack l c.spread.new.flags.items 0) c.as_slice.ensures.value c.spread.ensures.back in
-    let marks = subst (λ (l : List Edge). AreFlagged l c.explore.new.graph.unsettled.items c.spread.new.flags.items) c.as_slice.ensures.value c.spread.ensures.flagged in
+    let marks = subst (λ (l : List Edge). AreFlagged l c.explore.new.graph.unsettled.items c.spread.new.flags.items) c.as_slice.ensures.value
+    c.spread.ensures.flagged in
     all_numbered g.W.Worlds.step g.W.Worlds.report g.W.Worlds.most_born c.capped-2.result ws es (shape c.explore.new.graph) told.fits
     c.spread.new.flags.items c.spread.ensures.long c.spread.ensures.keeps back marks c.list_faults.new.answers.items c.in_ok-list_faults.ensures.listed
 
@@ -86,7 +97,8 @@ returns-clause-short g c =
     let es = g.W.Worlds.faults c.explore.new.worlds in
     let told = c.in_ok-complete.ensures in
     let back = subst (λ (l : List Edge). AreBack l c.spread.new.flags.items 0) c.as_slice.ensures.value c.spread.ensures.back in
-    let marks = subst (λ (l : List Edge). AreFlagged l c.explore.new.graph.unsettled.items c.spread.new.flags.items) c.as_slice.ensures.value c.spread.ensures.flagged in
+    let marks = subst (λ (l : List Edge). AreFlagged l c.explore.new.graph.unsettled.items c.spread.new.flags.items) c.as_slice.ensures.value
+    c.spread.ensures.flagged in
     all_short g.W.Worlds.step g.W.Worlds.report g.W.Worlds.most_born c.capped-2.result ws es (shape c.explore.new.graph) told.fits
     c.spread.new.flags.items c.spread.ensures.long c.spread.ensures.keeps back marks c.list_faults.new.answers.items c.in_ok-list_faults.ensures.listed
-    c.args.bounds.entries c.capped-2.ensures
+    c.args.bounds.entries c.capped-2.ensures.below

@@ -22,13 +22,15 @@ loop-done-init c = record {
 pub pass-requires-clause-from : goal.pass-requires-clause-from
 pass-requires-clause-from c =
     let at = slice_get-get_or c.args.edges.now (length c.args.edges.now - 1 - c.loop-done.done) (record { from = 0; to = 0 }) (omega arith) in
-    let low = c.requires (length c.args.edges.now - 1 - c.loop-done.done) (slice_index_or c.args.edges.now (length c.args.edges.now - 1 - c.loop-done.done) (record { from = 0; to = 0 })) at in
+    let low = c.requires (length c.args.edges.now - 1 - c.loop-done.done)
+    (slice_index_or c.args.edges.now (length c.args.edges.now - 1 - c.loop-done.done) (record { from = 0; to = 0 })) at in
     let a = low.0 in omega arith
 
 pub pass-requires-clause-to : goal.pass-requires-clause-to
 pass-requires-clause-to c =
     let at = slice_get-get_or c.args.edges.now (length c.args.edges.now - 1 - c.loop-done.done) (record { from = 0; to = 0 }) (omega arith) in
-    let low = c.requires (length c.args.edges.now - 1 - c.loop-done.done) (slice_index_or c.args.edges.now (length c.args.edges.now - 1 - c.loop-done.done) (record { from = 0; to = 0 })) at in
+    let low = c.requires (length c.args.edges.now - 1 - c.loop-done.done)
+    (slice_index_or c.args.edges.now (length c.args.edges.now - 1 - c.loop-done.done) (record { from = 0; to = 0 })) at in
     let a = low.1 in omega arith
 
 pub loop-done-preserved : goal.loop-done-preserved
@@ -49,7 +51,8 @@ loop-done-preserved c =
             keeps = subst (KeepsFlags old) (sym sets) (keeps_set old flags edge.from known.keeps (told.was yes));
             flagged = subst (AreFlagged c.args.edges.now old) (sym sets) (flagged_set c.args.edges.now old flags k edge known.flagged at (told.ahead yes));
             back = λ no. absurd (cc (w.changed-is, no));
-            fewer = λ changed. let less : unset c.pass.new.flags.items < unset flags = subst (λ (l : List Bool). unset l < unset flags) (sym sets) (unset_set flags edge.from (told.was yes)) in
+            fewer = λ changed. let less : unset c.pass.new.flags.items < unset flags =
+                subst (λ (l : List Bool). unset l < unset flags) (sym sets) (unset_set flags edge.from (told.was yes)) in
                 elim (truth c.loop-done.changed) [
                   | inl before ↦ let h = known.fewer before in omega arith
                   | inr never ↦ let same : flags ≡ old = known.same never in subst (λ (l : List Bool). unset c.pass.new.flags.items < unset l) same less
@@ -71,7 +74,8 @@ loop-done-preserved c =
                 let before : c.loop-done.changed ≡ false = sym w.changed-is ∙ still in
                 let all : AreBack c.args.edges.now new (length c.args.edges.now - c.loop-done.done) =
                 subst (λ (l : List Bool). AreBack c.args.edges.now l (length c.args.edges.now - c.loop-done.done)) (sym same) (known.back before) in
-                let more : AreBack c.args.edges.now new k = back_more c.args.edges.now new (length c.args.edges.now - c.loop-done.done) k edge (omega arith) at (told.back no) all in
+                let more : AreBack c.args.edges.now new k =
+                back_more c.args.edges.now new (length c.args.edges.now - c.loop-done.done) k edge (omega arith) at (told.back no) all in
                 let place : k ≡ length c.args.edges.now - (c.loop-done.done + 1) = omega arith in
                 subst (AreBack c.args.edges.now new) place more;
             fewer = λ changed. subst (λ (l : List Bool). unset l < unset old) (sym same) (known.fewer (sym w.changed-is ∙ changed));

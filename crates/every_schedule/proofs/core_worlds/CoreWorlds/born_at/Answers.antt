@@ -26,8 +26,10 @@ overflow_cast-result c =
     let rs = s.states.registries.items.items in
     let r = c.index-registry.result.now in
     let low = registry_there s.limits s.states.fibers.items.items rs m (c.self.invariant.0 c.args.world m row) in
-    let there : slice_get rs m.registry ≡ Some r = slice_get-get_or rs m.registry r low ∙ ap Some (sym (c.index-registry.ensures ∙ ap (λ i. slice_index_or rs i r) c.registry.ensures)) in
-    let few = born_few s.limits s.states.fibers.items.items s.states.registries.items.items m c.index-registry.result.now (c.self.invariant.0 c.args.world m row) there c.limits.ensures.lawful in
+    let there : slice_get rs m.registry ≡ Some r = slice_get-get_or rs m.registry r low ∙
+    ap Some (sym (c.index-registry.ensures ∙ ap (λ i. slice_index_or rs i r) c.registry.ensures)) in
+    let few = born_few s.limits s.states.fibers.items.items s.states.registries.items.items m c.index-registry.result.now
+    (c.self.invariant.0 c.args.world m row) there c.limits.ensures.lawful in
     let long = ap length c.fibers.ensures in
     omega arith
 
@@ -39,8 +41,10 @@ returns-clause-few c =
     let rs = s.states.registries.items.items in
     let r = c.index-registry.result.now in
     let low = registry_there s.limits s.states.fibers.items.items rs m (c.self.invariant.0 c.args.world m row) in
-    let there : slice_get rs m.registry ≡ Some r = slice_get-get_or rs m.registry r low ∙ ap Some (sym (c.index-registry.ensures ∙ ap (λ i. slice_index_or rs i r) c.registry.ensures)) in
-    let few = born_few s.limits s.states.fibers.items.items s.states.registries.items.items m c.index-registry.result.now (c.self.invariant.0 c.args.world m row) there c.limits.ensures.lawful in
+    let there : slice_get rs m.registry ≡ Some r = slice_get-get_or rs m.registry r low ∙
+    ap Some (sym (c.index-registry.ensures ∙ ap (λ i. slice_index_or rs i r) c.registry.ensures)) in
+    let few = born_few s.limits s.states.fibers.items.items s.states.registries.items.items m c.index-registry.result.now
+    (c.self.invariant.0 c.args.world m row) there c.limits.ensures.lawful in
     let long = ap length c.fibers.ensures in
     omega arith
 

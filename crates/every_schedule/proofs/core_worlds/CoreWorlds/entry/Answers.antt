@@ -29,8 +29,10 @@ invariant_of-self-in-Ok c =
     let now = c.in_ok-current.current.world in
     let row : slice_get s.rows.items.items c.args.world ≡ Some m = grind (arith, common_steps, gets) in
     let is_now : IsWorldOf fs rs m now = subst (λ (n : Numbers). IsWorldOf fs rs n now) c.in_ok-current.ensures.row c.in_ok-current.ensures.current in (
-      rows_hold s.limits fs c.leap.new.states.fibers.items.items rs c.leap.new.states.registries.items.items c.leap.ensures.fibers c.leap.ensures.registries s.rows.items.items c.self.invariant.0 c.args.world m row now is_now
-          c.args.at_once c.args.fiber c.in-Ok.next.row c.in-Ok.next.world c.in-Ok.ensures.goes c.in-Ok.ensures.current c.in-Ok.ensures.fits c.keep-kept.new.rows.items.items c.keep-kept.ensures.adds,
+      rows_hold s.limits fs c.leap.new.states.fibers.items.items rs c.leap.new.states.registries.items.items c.leap.ensures.fibers
+          c.leap.ensures.registries s.rows.items.items c.self.invariant.0 c.args.world m row now is_now
+          c.args.at_once c.args.fiber c.in-Ok.next.row c.in-Ok.next.world c.in-Ok.ensures.goes c.in-Ok.ensures.current c.in-Ok.ensures.fits
+          c.keep-kept.new.rows.items.items c.keep-kept.ensures.adds,
       c.in-Ok.ensures.current,
     )
 
@@ -76,7 +78,10 @@ returns-in-Ok-clause-worlds c =
     let rows' = c.keep-kept.new.rows.items.items in
     let n = c.in-Ok.next.row in
     let next = c.in-Ok.next.world in
-    always c.keep-kept.result _ (subst (λ l. IsMore l (map (place_of k fs' rs') rows')) places (places_hold k fs fs' rs rs' mf mr rows c.self.invariant.0 c.args.world m row now is_now c.args.at_once c.args.fiber n next c.in-Ok.ensures.goes c.in-Ok.ensures.current c.in-Ok.ensures.fits rows' c.keep-kept.ensures.adds))
+    always c.keep-kept.result _
+    (subst (λ l. IsMore l (map (place_of k fs' rs') rows')) places
+    (places_hold k fs fs' rs rs' mf mr rows c.self.invariant.0 c.args.world m row now is_now c.args.at_once c.args.fiber n next
+    c.in-Ok.ensures.goes c.in-Ok.ensures.current c.in-Ok.ensures.fits rows' c.keep-kept.ensures.adds))
 
 pub returns-in-Ok-clause-lands : goal.returns-in-Ok-clause-lands
 returns-in-Ok-clause-lands c =
@@ -97,7 +102,10 @@ returns-in-Ok-clause-lands c =
     let rows' = c.keep-kept.new.rows.items.items in
     let n = c.in-Ok.next.row in
     let next = c.in-Ok.next.world in
-    IfOk-weaker c.keep-kept.result _ _ (λ it kept. λ w at. lands k fs fs' rs rs' mf mr rows c.self.invariant.0 c.args.world m row now is_now c.args.at_once c.args.fiber n next c.in-Ok.ensures.goes c.in-Ok.ensures.current c.in-Ok.ensures.fits rows' c.keep-kept.ensures.adds s.faults.items it kept w (ap (λ l. slice_get l c.args.world) places ∙ at)) c.keep-kept.ensures.kept
+    IfOk-weaker c.keep-kept.result _ _
+    (λ it kept. λ w at. lands k fs fs' rs rs' mf mr rows c.self.invariant.0 c.args.world m row now is_now c.args.at_once c.args.fiber n next
+    c.in-Ok.ensures.goes c.in-Ok.ensures.current c.in-Ok.ensures.fits rows' c.keep-kept.ensures.adds s.faults.items it kept w
+    (ap (λ l. slice_get l c.args.world) places ∙ at)) c.keep-kept.ensures.kept
 
 pub returns-in-Ok-clause-room : goal.returns-in-Ok-clause-room
 returns-in-Ok-clause-room c =
@@ -118,7 +126,9 @@ returns-in-Ok-clause-room c =
     let rows' = c.keep-kept.new.rows.items.items in
     let n = c.in-Ok.next.row in
     let next = c.in-Ok.next.world in
-    IfOk-weaker c.keep-kept.result _ _ (λ it few. subst (λ l. length (map (place_of k fs' rs') rows') ≤ max c.args.most (length l)) places (room_kept (place_of k fs rs) (place_of k fs' rs') rows rows' c.args.most few)) c.keep-kept.ensures.room
+    IfOk-weaker c.keep-kept.result _ _
+    (λ it few. subst (λ l. length (map (place_of k fs' rs') rows') ≤ max c.args.most (length l)) places
+    (room_kept (place_of k fs rs) (place_of k fs' rs') rows rows' c.args.most few)) c.keep-kept.ensures.room
 
 pub returns-in-Err-clause-worlds : goal.returns-in-Err-clause-worlds
 returns-in-Err-clause-worlds c =
@@ -136,7 +146,8 @@ returns-in-Err-clause-worlds c =
     let row : slice_get rows c.args.world ≡ Some m = grind (arith, common_steps, gets) in
     let is_now : IsWorldOf fs rs m now = subst (λ (n : Numbers). IsWorldOf fs rs n now) c.in_ok-current.ensures.row c.in_ok-current.ensures.current in
     let places : map (place_of k fs rs) rows ≡ c.args.self.now.places = ap (λ (x : Kept). x.places) c.self.view_is in
-    always c.fault_met.result _ (subst (λ l. IsMore l (map (place_of k fs' rs') rows)) places (places_stay k fs fs' rs rs' mf mr rows c.self.invariant.0 c.args.world m row now is_now))
+    always c.fault_met.result _
+    (subst (λ l. IsMore l (map (place_of k fs' rs') rows)) places (places_stay k fs fs' rs rs' mf mr rows c.self.invariant.0 c.args.world m row now is_now))
 
 pub returns-in-Err-clause-lands : goal.returns-in-Err-clause-lands
 returns-in-Err-clause-lands c =
@@ -178,4 +189,6 @@ returns-in-Err-clause-room c =
     let row : slice_get rows c.args.world ≡ Some m = grind (arith, common_steps, gets) in
     let is_now : IsWorldOf fs rs m now = subst (λ (n : Numbers). IsWorldOf fs rs n now) c.in_ok-current.ensures.row c.in_ok-current.ensures.current in
     let places : map (place_of k fs rs) rows ≡ c.args.self.now.places = ap (λ (x : Kept). x.places) c.self.view_is in
-    always c.fault_met.result _ (subst (λ l. length (map (place_of k fs' rs') rows) ≤ max c.args.most (length l)) places (room_kept (place_of k fs rs) (place_of k fs' rs') rows rows c.args.most (omega arith)))
+    always c.fault_met.result _
+    (subst (λ l. length (map (place_of k fs' rs') rows) ≤ max c.args.most (length l)) places
+    (room_kept (place_of k fs rs) (place_of k fs' rs') rows rows c.args.most (omega arith)))

@@ -33,4 +33,5 @@ returns-clause-report c = IfOk-weaker c.report_of_fibers.result _ _ (λ it is. �
     let row : slice_get rows c.args.world ≡ Some m = grind (arith, common_steps, gets) in
     let here : place_of k fs rs m ≡ p = place_at k fs rs rows c.args.world m p row (ap (λ l. slice_get l c.args.world) places ∙ at) in
     let are : AreAt fs m.fibers c.in_ok-fibers.fibers.items = subst (λ l. AreAt fs l c.in_ok-fibers.fibers.items) c.fibers.ensures c.in_ok-fibers.ensures in
-    is ∙ ap (λ (l : List Fiber). told (map fiber_report l)) (sym (picked_is fs m.fibers c.in_ok-fibers.fibers.items are)) ∙ ap report_at here) (c.report_of_fibers.ensures.reports)
+    is ∙ ap (λ (l : List Fiber). told (map fiber_report l)) (sym (picked_is fs m.fibers c.in_ok-fibers.fibers.items are)) ∙ ap report_at here)
+    (c.report_of_fibers.ensures.reports)

@@ -40,7 +40,9 @@ returns-clause-yes c = λ yes v w first second.
     let two : slice_get rows c.args.other ≡ Some n = grind (arith, common_steps, gets) in
     let left : place_of k fs rs m ≡ v = place_at k fs rs rows c.args.one m v one (ap (λ l. slice_get l c.args.one) places ∙ first) in
     let right : place_of k fs rs n ≡ w = place_at k fs rs rows c.args.other n w two (ap (λ l. slice_get l c.args.other) places ∙ second) in
-    let told : AreAlike fs m.fibers n.fibers = subst (λ l. AreAlike fs l n.fibers) c.fibers.ensures (subst (λ l. AreAlike fs c.fibers.result.now l) c.fibers-2.ensures (c.same_reports.ensures.same yes)) in
+    let told : AreAlike fs m.fibers n.fibers =
+    subst (λ l. AreAlike fs l n.fibers) c.fibers.ensures
+    (subst (λ l. AreAlike fs c.fibers.result.now l) c.fibers-2.ensures (c.same_reports.ensures.same yes)) in
     sym (ap report_at left) ∙ reports_alike k fs rs m n (c.self.invariant.0 c.args.one m one) (c.self.invariant.0 c.args.other n two) told ∙ ap report_at right
 
 pub returns-clause-no : goal.returns-clause-no
@@ -57,5 +59,8 @@ returns-clause-no c = λ no v w first second same.
     let two : slice_get rows c.args.other ≡ Some n = grind (arith, common_steps, gets) in
     let left : place_of k fs rs m ≡ v = place_at k fs rs rows c.args.one m v one (ap (λ l. slice_get l c.args.one) places ∙ first) in
     let right : place_of k fs rs n ≡ w = place_at k fs rs rows c.args.other n w two (ap (λ l. slice_get l c.args.other) places ∙ second) in
-    let told : AreOther fs m.fibers n.fibers = subst (λ l. AreOther fs l n.fibers) c.fibers.ensures (subst (λ l. AreOther fs c.fibers.result.now l) c.fibers-2.ensures (c.same_reports.ensures.other no)) in
-    reports_other k fs rs m n (c.self.invariant.0 c.args.one m one) (c.self.invariant.0 c.args.other n two) told (ap report_at left ∙ same ∙ sym (ap report_at right))
+    let told : AreOther fs m.fibers n.fibers =
+    subst (λ l. AreOther fs l n.fibers) c.fibers.ensures
+    (subst (λ l. AreOther fs c.fibers.result.now l) c.fibers-2.ensures (c.same_reports.ensures.other no)) in
+    reports_other k fs rs m n (c.self.invariant.0 c.args.one m one) (c.self.invariant.0 c.args.other n two) told (ap report_at left ∙ same ∙
+    sym (ap report_at right))

@@ -4,7 +4,8 @@ use Rattle.explanations.proofs.text_reasons.ReplayReasonsReasons.reasons.Goals a
 
 pub returns-in-Ok : goal.returns-in-Ok
 returns-in-Ok c =
-    IfOk-weaker c.unended_reasons.result _ _ (λ told h. replayed c.args.text.now told.items c.in-Ok.program c.in-Ok.ensures.program c.in-Ok.ensures.limits h) c.unended_reasons.ensures
+    IfOk-weaker c.unended_reasons.result _ _
+    (λ told h. replayed c.args.text.now told.items c.in-Ok.program c.in-Ok.ensures.program c.in-Ok.ensures.limits h) c.unended_reasons.ensures
 
 pub returns-in-Err : goal.returns-in-Err
 returns-in-Err c =

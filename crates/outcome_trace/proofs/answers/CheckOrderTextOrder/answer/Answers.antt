@@ -8,7 +8,8 @@ returns-in-Ok c =
 pub returns-in-Err : goal.returns-in-Err
 returns-in-Err c =
     refusal_checks c.args.text.now c.refusal.result
-    (refusal_answers c.args.text.now c.in-Err.refused c.refusal.result c.in-Err.ensures.refused c.refusal.ensures.line c.refusal.ensures.status c.refusal.ensures.told)
+    (refusal_answers c.args.text.now c.in-Err.refused c.refusal.result c.in-Err.ensures.refused c.refusal.ensures.line c.refusal.ensures.status
+    c.refusal.ensures.told)
 
 pub refusal-requires : goal.refusal-requires
 refusal-requires c = record { text = c.args.text.now; is = c.in-Err.ensures.refused }

@@ -4,9 +4,11 @@ use Rattle.timeline_svg.proofs.picture_order.PictureOrderTextOrder.answer.Goals 
 
 pub returns-in-Ok : goal.returns-in-Ok
 returns-in-Ok c =
-    run_pictured c.args.text.now c.args.self.now.schedule.now c.args.self.now.limits c.in-Ok.program c.pictured_answer.result c.in-Ok.ensures.program c.in-Ok.ensures.limits c.pictured_answer.ensures
+    run_pictured c.args.text.now c.args.self.now.schedule.now c.args.self.now.limits c.in-Ok.program c.pictured_answer.result c.in-Ok.ensures.program
+    c.in-Ok.ensures.limits c.pictured_answer.ensures
 
 pub returns-in-Err : goal.returns-in-Err
 returns-in-Err c =
     refusal_pictured c.args.text.now c.args.self.now.schedule.now c.args.self.now.limits c.refusal.result
-    (refusal_answers c.args.text.now c.in-Err.refused c.refusal.result c.in-Err.ensures.refused c.refusal.ensures.line c.refusal.ensures.status c.refusal.ensures.told)
+    (refusal_answers c.args.text.now c.in-Err.refused c.refusal.result c.in-Err.ensures.refused c.refusal.ensures.line c.refusal.ensures.status
+    c.refusal.ensures.told)

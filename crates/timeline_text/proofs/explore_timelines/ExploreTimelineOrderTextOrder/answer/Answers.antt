@@ -5,13 +5,15 @@ use Rattle.timeline_text.proofs.explore_timelines.ExploreTimelineOrderTextOrder.
 pub returns-in-Ok : goal.returns-in-Ok
 returns-in-Ok c =
     let order = c.args.self.now.order in
-    program_told c.args.text.now order.limits order.wants.items c.in-Ok.program c.explored_answer.result c.in-Ok.ensures.program c.in-Ok.ensures.limits c.explored_answer.ensures
+    program_told c.args.text.now order.limits order.wants.items c.in-Ok.program c.explored_answer.result c.in-Ok.ensures.program
+    c.in-Ok.ensures.limits c.explored_answer.ensures
 
 pub returns-in-Err : goal.returns-in-Err
 returns-in-Err c =
     let order = c.args.self.now.order in
     refusal_unexplored c.args.text.now order.limits order.wants.items c.refusal.result
-    (refusal_answers c.args.text.now c.in-Err.refused c.refusal.result c.in-Err.ensures.refused c.refusal.ensures.line c.refusal.ensures.status c.refusal.ensures.told)
+    (refusal_answers c.args.text.now c.in-Err.refused c.refusal.result c.in-Err.ensures.refused c.refusal.ensures.line c.refusal.ensures.status
+    c.refusal.ensures.told)
 
 pub refusal-requires : goal.refusal-requires
 refusal-requires c = record { text = c.args.text.now; is = c.in-Err.ensures.refused }
