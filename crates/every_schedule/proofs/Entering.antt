@@ -15,7 +15,7 @@ use Rattle.outcome_trace.proofs.Moves.{unborn_entered}
 use Rattle.world_search.specs.declared.landings.Landing.TheVariants as to
 use Rattle.world_search.specs.declared.landings.Entered.{Entered}
 use Rattle.world_search.specs.declared.landings.Entered.TheVariants as came
-use Rattle.world_search.specs.Landings.{EntersAt}
+use Rattle.world_search.specs.Landings.{EntersAt, IsNext}
 use Rattle.world_search.specs.Lists.{IsMore}
 use Rattle.world_search.proofs.Lists.{more_same}
 use Rattle.every_schedule.specs.Places.{Place, placed, report_at, stepped}
@@ -100,6 +100,12 @@ module _ (k : Limits) (fs fs' : List Fiber) (rs rs' : List PlainView) (mf : IsMo
 pub room_kept : {A B : Type 0} (v w : A → B) (rows rows' : List A) (most : ℕ) → length rows' ≤ max most (length rows) →
     length (map w rows') ≤ max most (length (map v rows))
 room_kept v w rows rows' most h = let a = length-map rows v in let b = length-map rows' w in omega arith
+
+pub next_kept : {A B : Type 0} (v w : A → B) (rows rows' : List A) (most : ℕ) (it : Entered) →
+    IsNext (length rows) (length rows') most it → IsNext (length (map v rows)) (length (map w rows')) most it
+next_kept v w rows rows' most it h =
+    subst (λ n. IsNext n (length (map w rows')) most it) (sym (length-map rows v))
+    (subst (λ n. IsNext (length rows) n most it) (sym (length-map rows' w)) h)
 
 -- the first world
 pub first_worlds : (k : Limits) (fs : List Fiber) (rs : List PlainView) (n : Numbers) (p : Place) → IsWorldOf fs rs n p → p.limits ≡ k →

@@ -7,7 +7,7 @@ ghost use Rattle.derived_ops.specs.Expansion.{code_of};
 ghost use Rattle.derived_ops.specs.Reading.{source_of};
 ghost use Rattle.fiber_frames.specs.Marks.{AreLawful};
 ghost use Rattle.cell_registry.specs.Cells.{AreLimits};
-ghost use Rattle.world_search.specs.Landings.{EntersAt};
+ghost use Rattle.world_search.specs.Landings.{EntersAt, IsNext};
 ghost use Rattle.world_search.specs.Lists.{IsMore};
 ghost use Rattle.every_schedule.specs.Places.{Place, first_place, report_at};
 ghost use Rattle.every_schedule.specs.Reduced.{leapt};
@@ -144,6 +144,7 @@ impl CoreWorlds {
         ensures lands { IfOk result (λ it. (p : Place) → slice_get self.old.places world ≡ Some p →
             EntersAt self.new.places self.new.faults it (leapt at_once p fiber)) }
         ensures room { OnOk result (length self.new.places ≤ max most (length self.old.places)) }
+        ensures next { IfOk result (IsNext (length self.old.places) (length self.new.places) most) }
     {
         let row = &self.rows.items[world];
         let before = self.current.take();
@@ -175,6 +176,7 @@ fn keep(alloc: Global, rows: &mut Pool<Row>, row: &Row, most: usize) -> Result<E
     ensures adds { MayAdd rows.old.items.items rows.new.items.items row.now }
     ensures kept { IfOk result (λ it. IsKept rows.new.items.items it row.now) }
     ensures room { OnOk result (length rows.new.items.items ≤ max most (length rows.old.items.items)) }
+    ensures next { IfOk result (IsNext (length rows.old.items.items) (length rows.new.items.items) most) }
 {
     if let Some(number) = rows.find(row) {
         return Ok(Entered::At(Landing::World(number as usize)));
@@ -206,6 +208,7 @@ fn fault_met(faults: &mut Vec<RunError>, fault: RunError) -> Result<Entered, All
     ensures more { IsMore faults.old.items faults.new.items }
     ensures met { IfOk result (λ it. (places : List Place) (to : TheResult Place RunError) →
         (fault ≡ RunError.NoMemory) ⊎ (to ≡ Fails fault) → EntersAt places faults.new.items it to) }
+    ensures next { IfOk result (λ it. (before : ℕ) (most : ℕ) → IsNext before before most it) }
 {
     match fault {
         RunError::NoMemory => Err(AllocError),

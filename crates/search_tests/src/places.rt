@@ -4,7 +4,7 @@ ghost use Rattle.std.specs.Prelude.{◌≡◌, ◌≢◌, ℕ, ◌+◌, ◌*◌,
 ghost use Rattle.std.specs.Prelude.{Err as Fails};
 ghost use Rattle.std.specs.Prelude.{IfOk, OnOk, IfSome, Some, true, false};
 ghost use Rattle.std.specs.List.{slice_get};
-ghost use Rattle.world_search.specs.Landings.{EntersAt};
+ghost use Rattle.world_search.specs.Landings.{EntersAt, IsNext};
 ghost use Rattle.world_search.specs.Lists.{IsMore};
 
 use std::alloc::{AllocError, Global};
@@ -103,6 +103,7 @@ fn keep(places: &mut Vec<u8>, place: u8, most: usize) -> Result<Entered, AllocEr
     ensures more { OnOk result (IsMore places.old.items places.new.items) }
     ensures lands { IfOk result (λ it. (faults : List ℕ) → EntersAt places.new.items faults it (GoesWell place)) }
     ensures room { OnOk result (length places.new.items ≤ max most (length places.old.items)) }
+    ensures next { IfOk result (IsNext (length places.old.items) (length places.new.items) most) }
 {
     if let Some(number) = find(places.as_slice(), place) {
         return Ok(Entered::At(Landing::World(number)));
@@ -119,6 +120,7 @@ fn keep(places: &mut Vec<u8>, place: u8, most: usize) -> Result<Entered, AllocEr
 fn note(faults: &mut Vec<u8>, fault: u8) -> Result<Entered, AllocError>
     ensures more { OnOk result (IsMore faults.old.items faults.new.items) }
     ensures lands { IfOk result (λ it. (places : List ℕ) → EntersAt places faults.new.items it (Fails fault)) }
+    ensures next { IfOk result (λ it. (before : ℕ) (most : ℕ) → IsNext before before most it) }
 {
     if let Some(number) = find(faults.as_slice(), fault) {
         return Ok(Entered::At(Landing::Fault(number)));

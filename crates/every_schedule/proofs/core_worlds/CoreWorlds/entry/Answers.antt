@@ -9,8 +9,9 @@ use Rattle.every_schedule.specs.Private.Numbered.{IsWorldOf, Numbers, place_of}
 use Rattle.std.proofs.lemmas.Result.{IfOk-weaker}
 use Rattle.std.proofs.Common.{inl, inr}
 use Rattle.std.specs.Prelude.{max}
+use Rattle.world_search.specs.Landings.{IsNext}
 use Rattle.world_search.specs.Lists.{IsMore}
-use Rattle.every_schedule.proofs.Entering.{is_here, lands, places_hold, places_stay, always, room_kept, rows_hold, rows_stay}
+use Rattle.every_schedule.proofs.Entering.{is_here, lands, next_kept, places_hold, places_stay, always, room_kept, rows_hold, rows_stay}
 use Rattle.world_search.proofs.Lists.{more_same}
 use Rattle.every_schedule.proofs.core_worlds.CoreWorlds.entry.Goals as goal
 
@@ -192,3 +193,33 @@ returns-in-Err-clause-room c =
     always c.fault_met.result _
     (subst (λ l. length (map (place_of k fs' rs') rows) ≤ max c.args.most (length l)) places
     (room_kept (place_of k fs rs) (place_of k fs' rs') rows rows c.args.most (omega arith)))
+
+pub returns-in-Ok-clause-next : goal.returns-in-Ok-clause-next
+returns-in-Ok-clause-next c =
+    let s = c.self.inside in
+    let k = s.limits in
+    let fs = s.states.fibers.items.items in
+    let rs = s.states.registries.items.items in
+    let fs' = c.leap.new.states.fibers.items.items in
+    let rs' = c.leap.new.states.registries.items.items in
+    let rows = s.rows.items.items in
+    let rows' = c.keep-kept.new.rows.items.items in
+    let places : map (place_of k fs rs) rows ≡ c.args.self.now.places = ap (λ (x : Kept). x.places) c.self.view_is in
+    IfOk-weaker c.keep-kept.result _ _
+    (λ it next. subst (λ l. IsNext (length l) (length (map (place_of k fs' rs') rows')) c.args.most it) places
+    (next_kept (place_of k fs rs) (place_of k fs' rs') rows rows' c.args.most it next)) c.keep-kept.ensures.next
+
+pub returns-in-Err-clause-next : goal.returns-in-Err-clause-next
+returns-in-Err-clause-next c =
+    let s = c.self.inside in
+    let k = s.limits in
+    let fs = s.states.fibers.items.items in
+    let rs = s.states.registries.items.items in
+    let fs' = c.leap.new.states.fibers.items.items in
+    let rs' = c.leap.new.states.registries.items.items in
+    let rows = s.rows.items.items in
+    let places : map (place_of k fs rs) rows ≡ c.args.self.now.places = ap (λ (x : Kept). x.places) c.self.view_is in
+    IfOk-weaker c.fault_met.result _ _
+    (λ it next. subst (λ l. IsNext (length l) (length (map (place_of k fs' rs') rows)) c.args.most it) places
+    (next_kept (place_of k fs rs) (place_of k fs' rs') rows rows c.args.most it (next (length rows) c.args.most)))
+    c.fault_met.ensures.next
