@@ -4,6 +4,17 @@
 //! (`world_search`), to which it hands the worlds of the core. It promises that where the search closed, every report
 //! that stays what it is and every fault, under any schedule, is among its answers, and that the schedule of each
 //! answer leads to it.
+//!
+//! A program is explored so, within limits for 3 fibers, a ref, a deferred and 1000 changes of each fiber:
+//!
+//! ```
+//! let program = Program::check(alloc, parse(alloc, b"(race (pure 4) (never))")?)?;
+//! let limits = Limits { fibers: 3, refs: 1, deferreds: 1, count: 1000 };
+//! let bounds = Bounds { worlds: 10_000, entries: 10_000 };
+//! let exploration = explore(alloc, &program, limits, bounds)?;
+//! // All schedules were searched, and two reports come of them: fiber 2 is cut before its first move, or in its poll.
+//! assert_eq!((exploration.complete, exploration.answers.as_slice().len()), (true, 2));
+//! ```
 #![tactic(auto)]
 
 mod core_world;

@@ -6,6 +6,19 @@
 //! for one thread (`cell_registry`). It promises that a run under a schedule is the core's, and that
 //! what goes out is exactly the text of the report or of the line that answers the text. What
 //! `text_io` has for its callers is also here.
+//!
+//! A program is replayed so, within limits for 3 fibers, a ref, a deferred and 1000 changes of each fiber:
+//!
+//! ```
+//! let program = Program::check(alloc, parse(alloc, b"(race (pure 4) (never))")?)?;
+//! let schedule = read_schedule(alloc, "0*15 2*3 1*40 0*40 2*40 0*40")?;
+//! let limits = Limits { fibers: 3, refs: 1, deferreds: 1, count: 1000 };
+//! let report = replay(alloc, &program, schedule.as_slice(), limits)?;
+//! // fiber 0 succeeded 4: enter 0, in 0, out 0, enter 1, leave 1, leave 0
+//! // fiber 1 succeeded 4: enter 0, in 0, out 0, leave 0
+//! // fiber 2 canceled: enter 0, in 0, cut
+//! let text = text_of_report(alloc, &report)?;
+//! ```
 #![tactic(auto)]
 
 mod answers;
