@@ -147,14 +147,15 @@ sample_options =
 abbrev pub sample_command : App
 sample_command = with_rule sample_options (flag (codes "json"))
 
--- the command, which wants one of six subcommands, and tells its version
+-- the command, which wants a subcommand, and tells its version
+abbrev pub bare_program : App
+bare_program = on_top (λ s. record s { subcommand_required = true; has_version = true }) (new_app (codes "fiber_cli"))
+
+-- with its six subcommands
 abbrev pub program : App
 program =
     with_subcommand (with_subcommand (with_subcommand (with_subcommand
-    (with_subcommand (with_subcommand (on_top (λ s. record s {
-      subcommand_required = true;
-      has_version = true;
-    }) (new_app (codes "fiber_cli")))
+    (with_subcommand (with_subcommand bare_program
     check_command.top)
     show_command.top)
     replay_command.top)

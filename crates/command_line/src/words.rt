@@ -4,7 +4,7 @@ ghost use Rattle.std.specs.Prelude.{◌≡◌, ◌<◌, ◌^◌, codes, false, I
 ghost use Rattle.clap.specs.Words.{app_of, new_app, rule_of, with_rule};
 ghost use Rattle.clap.specs.declared.builder.command.Command.TheViews.{out-Command};
 ghost use Rattle.command_line.specs.Words.{check_command, explore_command, explore_options, flag, number_option};
-ghost use Rattle.command_line.specs.Words.{program};
+ghost use Rattle.command_line.specs.Words.{bare_program, program};
 ghost use Rattle.command_line.specs.Words.{replay_command, run_command, run_options, sample_command, sample_options};
 ghost use Rattle.command_line.specs.Words.{schedule_option, show_command, want_option, with_explore_forms, with_forms};
 ghost use Rattle.command_line.specs.Words.{with_limits, with_run_forms};
@@ -143,10 +143,12 @@ fn with_limits<'a>(
     ensures local { IfOk result (λ c. (out-Command c).has_globals ≡ (out-Command command.entry).has_globals) }
 {
     let fibers = number_option(alloc, "fibers", help.fibers, BAND);
+    let command = command.arg(fibers)?;
     let refs = number_option(alloc, "refs", help.refs, BAND);
+    let command = command.arg(refs)?;
     let deferreds = number_option(alloc, "deferreds", help.deferreds, BAND);
-    let count = number_option(alloc, "count", help::COUNT, COUNT);
-    command.arg(fibers)?.arg(refs)?.arg(deferreds)?.arg(count)
+    let command = command.arg(deferreds)?;
+    command.arg(number_option(alloc, "count", help::COUNT, COUNT))
 }
 
 fn check_command<'a>(alloc: Global) -> Result<Command<'a>, AllocError>
@@ -178,13 +180,14 @@ fn explore_options<'a>(alloc: Global) -> Result<Command<'a>, AllocError>
     ensures shape { IfOk result (λ c. app_of c ≡ explore_options) }
     ensures local { IfOk result (λ c. (out-Command c).has_globals ≡ false) }
 {
-    let worlds = number_option(alloc, "worlds", help::WORLDS, WORLDS);
-    let entries = number_option(alloc, "entries", help::ENTRIES, ENTRIES);
-    let command = new_command(alloc, "explore", help::EXPLORE);
-    with_limits(alloc, command, help::FEW)?
-        .arg(worlds)?
-        .arg(entries)?
-        .arg(want_option(alloc))
+    let command = with_limits(
+        alloc,
+        new_command(alloc, "explore", help::EXPLORE),
+        help::FEW,
+    )?;
+    let command = command.arg(number_option(alloc, "worlds", help::WORLDS, WORLDS))?;
+    let command = command.arg(number_option(alloc, "entries", help::ENTRIES, ENTRIES))?;
+    command.arg(want_option(alloc))
 }
 
 fn explore_command<'a>(alloc: Global) -> Result<Command<'a>, AllocError>
@@ -201,12 +204,10 @@ fn run_options<'a>(alloc: Global) -> Result<Command<'a>, AllocError>
     ensures local { IfOk result (λ c. (out-Command c).has_globals ≡ false) }
 {
     let workers = number_option(alloc, "workers", help::WORKERS, WORKERS);
-    let budget = number_option(alloc, "budget", help::BUDGET, BUDGET);
-    let moves = number_option(alloc, "moves", help::MOVES, MOVES);
     let command = new_command(alloc, "run", help::RUN).arg(workers)?;
-    with_limits(alloc, command, help::MANY)?
-        .arg(budget)?
-        .arg(moves)
+    let command = with_limits(alloc, command, help::MANY)?;
+    let command = command.arg(number_option(alloc, "budget", help::BUDGET, BUDGET))?;
+    command.arg(number_option(alloc, "moves", help::MOVES, MOVES))
 }
 
 fn run_command<'a>(alloc: Global) -> Result<Command<'a>, AllocError>
@@ -223,10 +224,10 @@ fn sample_options<'a>(alloc: Global) -> Result<Command<'a>, AllocError>
     ensures local { IfOk result (λ c. (out-Command c).has_globals ≡ false) }
 {
     let seed = number_option(alloc, "seed", help::SEED, SEED);
-    let times = number_option(alloc, "times", help::TIMES, TIMES);
-    let entries = number_option(alloc, "entries", help::ENTRIES, ENTRIES);
     let command = new_command(alloc, "sample", help::SAMPLE).arg(seed)?;
-    with_limits(alloc, command.arg(times)?.arg(entries)?, help::FEW)
+    let command = command.arg(number_option(alloc, "times", help::TIMES, TIMES))?;
+    let command = command.arg(number_option(alloc, "entries", help::ENTRIES, ENTRIES))?;
+    with_limits(alloc, command, help::FEW)
 }
 
 fn sample_command<'a>(alloc: Global) -> Result<Command<'a>, AllocError>
@@ -237,23 +238,29 @@ fn sample_command<'a>(alloc: Global) -> Result<Command<'a>, AllocError>
     with_flag(alloc, command, "json", help::JSON)
 }
 
+/// The command without its subcommands.
+fn bare_program<'a>(alloc: Global) -> Command<'a>
+    ensures { app_of result ≡ bare_program }
+{
+    new_command(alloc, "fiber_cli", help::PROGRAM)
+        .version(VERSION)
+        .subcommand_required(true)
+}
+
 /// The command, with all that its words may be.
 pub fn all_words<'a>(alloc: Global) -> Result<Command<'a>, AllocError>
     ensures { IfOk result (λ c. app_of c ≡ program) }
 {
+    let program = bare_program(alloc);
     let check = check_command(alloc)?;
+    let program = program.subcommand(check)?;
     let show = show_command(alloc)?;
+    let program = program.subcommand(show)?;
     let replay = replay_command(alloc)?;
+    let program = program.subcommand(replay)?;
     let explore = explore_command(alloc)?;
+    let program = program.subcommand(explore)?;
     let run = run_command(alloc)?;
-    let sample = sample_command(alloc)?;
-    new_command(alloc, "fiber_cli", help::PROGRAM)
-        .version(VERSION)
-        .subcommand_required(true)
-        .subcommand(check)?
-        .subcommand(show)?
-        .subcommand(replay)?
-        .subcommand(explore)?
-        .subcommand(run)?
-        .subcommand(sample)
+    let program = program.subcommand(run)?;
+    program.subcommand(sample_command(alloc)?)
 }
