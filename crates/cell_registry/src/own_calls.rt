@@ -114,10 +114,10 @@ impl Registry {
             pass.new) }
         ensures spent { IfErr result (λ e. IsSpent pass.old e pass.new) }
     {
+        let value = outcome_word(&outcome);
         refuse_if_spent(pass.count, self.limits.count)?;
         let place = value_place(self.limits, pass.number);
         let amount = finish_amount(is_finalizing(pass.stage), outcome);
-        let value = outcome_word(&outcome);
         self.table
             .shared
             .store::<rule::Stores>(&mut pass.seat, place, value);
