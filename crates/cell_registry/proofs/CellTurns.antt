@@ -96,9 +96,9 @@ pub own_count : (k : Limits) (h : List Entry) (v : Knowledge) → Has v.fibers v
 own_count k h v has mine = ap (λ o. o.2) (own_same k h v has mine)
 
 -- an entry that leaves the owner's part of its cell
-pub same_knowledge : (k : Limits) (h : List Entry) (v w : Knowledge) (s : Cells) → Has v.fibers v.number → Fits k h v → w.limits ≡ v.limits → w.number ≡ v.number → w.fibers ≡ v.fibers
+pub same_knowledge : (k : Limits) (h : List Entry) (v w : Knowledge) (s : Cells) → Has v.fibers v.number → Fits k h v → w.limits ≡ v.limits → w.number ≡ v.number → w.stored ≡ v.stored → w.fibers ≡ v.fibers
     → owned (seen_cell w v.number) ≡ owned (cell_of s v.number) → owned (cell_of s v.number) ≡ owned (cell_of (left k h) v.number) → IsSame v w
-same_knowledge k h v w s has mine limits number fibers own same = record { limits = limits; number = number; fibers = fibers; cell = own ∙ same ∙ own_same k h v has mine }
+same_knowledge k h v w s has mine limits number stored fibers own same = record { limits = limits; number = number; stored = stored; fibers = fibers; cell = own ∙ same ∙ own_same k h v has mine }
 
 -- ---- calls on any fiber's cell
 at_cell : (i f : ℕ) (P : ℕ → Type 0) → i ≡ f + 3 → P f → AtCell i P
@@ -119,7 +119,7 @@ module _ {S : Type 0} where
         packs = or_cancel (control c) range;
         ends = λ o e. inl e;
         told = λ made now. at_cell i f (λ g. Cancelled g v (cell_word c) (advanced v h (entry v.number (Cancel f) (reply.Cancel (cancel_reply c.stage c.request))))) is
-            (c, range, refl, (made, same_knowledge k h v _ (with_cell s f (requested c)) has mine refl refl refl (ap owned (now v.number)) (get_or-set_kept owned s.cells f (requested c) fresh refl v.number)));
+            (c, range, refl, (made, same_knowledge k h v _ (with_cell s f (requested c)) has mine refl refl refl refl (ap owned (now v.number)) (get_or-set_kept owned s.cells f (requested c) fresh refl v.number)));
       })
 
   pub joins : (k : Limits) (id : ℕ) (me : Me S Knowledge) (i f slots : ℕ) → me.1 ≡ [] → Has me.0.fibers me.0.number → f < k.fibers → i ≡ f + 3
@@ -136,7 +136,7 @@ module _ {S : Type 0} where
         packs = or_waited (control c) range;
         ends = λ o e. inl e;
         told = λ made now. at_cell i f (λ g. Joined g v (cell_word c) (advanced v h (entry v.number (Join f) (reply.Join (join_reply c.stage))))) is
-            (c, range, refl, (made, same_knowledge k h v _ (with_cell s f (awaited c)) has mine refl refl refl (ap owned (now v.number)) (get_or-set_kept owned s.cells f (awaited c) fresh refl v.number), ap (λ (x : Cell). x.stage) (now f ∙ get_or-set_same s.cells f (awaited c) fresh there)));
+            (c, range, refl, (made, same_knowledge k h v _ (with_cell s f (awaited c)) has mine refl refl refl refl (ap owned (now v.number)) (get_or-set_kept owned s.cells f (awaited c) fresh refl v.number), ap (λ (x : Cell). x.stage) (now f ∙ get_or-set_same s.cells f (awaited c) fresh there)));
       })
 
   -- ---- calls on the caller's own cell
@@ -159,7 +159,7 @@ module _ {S : Type 0} where
           refl,
           (
             made,
-            same_knowledge k h v _ (with_cell s v.number c) has mine refl refl refl (ap owned (now v.number)) (get_or-set_kept owned s.cells v.number c fresh refl v.number),
+            same_knowledge k h v _ (with_cell s v.number c) has mine refl refl refl refl (ap owned (now v.number)) (get_or-set_kept owned s.cells v.number c fresh refl v.number),
             ap (λ (x : Cell). x.request) (now v.number ∙ get_or-set_same s.cells v.number c fresh there),
           ),
         );

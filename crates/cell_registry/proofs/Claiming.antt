@@ -71,7 +71,7 @@ same_now k h v has mine = (λ j. owned (cell_of (left (mine.limits v.number has 
 saw_next : (b : Band) (k : Limits) (h : List Entry) (words : List ℕ) (v : Knowledge) → Has v.fibers v.number → IsLegal k h → Leaves words (left k h) → Fits k h v → SawNext b v (get_or words (band_word b) 0) (up_to v h)
 saw_next b k h words v has legal leaves mine = (
   looked k h v has legal mine,
-  record { limits = refl; number = refl; fibers = refl; cell = same_now k h v has mine },
+  record { limits = refl; number = refl; stored = refl; fibers = refl; cell = same_now k h v has mine },
   (λ j. next_of b (left (mine.limits v.number has j) h)) ∙ sym (next_at b words (left k h) leaves),
 )
 
@@ -148,6 +148,7 @@ claim b k h words v old leaves has legal mine may is within =
           call = subst (λ r. Called v (claim_of b) r w) replied made;
           limits = refl;
           number = refl;
+          stored = refl;
           fibers = refl;
           cell = ap (λ (x : Cells). owned (cell_of x v.number)) now ∙ ap (λ (cs : List Cell). owned (get_or cs v.number fresh)) (after-claim b s v.number) ∙ own_same k h v has mine;
           within = subst (λ (x : Limits). n < limit_of b x) (sym limits) (rw is within);
@@ -184,6 +185,7 @@ pub same_twice : (u v w : Knowledge) → IsSame u v → IsSame v w → IsSame u 
 same_twice u v w a b = record {
   limits = b.limits ∙ a.limits;
   number = b.number ∙ a.number;
+  stored = b.stored ∙ a.stored;
   fibers = b.fibers ∙ a.fibers;
   cell = subst (λ (f : ℕ). owned (seen_cell w f) ≡ owned (seen_cell v f)) a.number b.cell ∙ a.cell;
 }
@@ -209,6 +211,7 @@ looked_then_claimed b u v w n has a s c =
       };
       limits = c.limits ∙ s.limits;
       number = c.number ∙ by;
+      stored = c.stored ∙ s.stored;
       fibers = c.fibers ∙ ap (λ (fs : List ℕ). fibers_with b n fs) s.fibers;
       cell = subst (λ (f : ℕ). owned (seen_cell w f) ≡ owned (seen_cell v f)) by c.cell ∙ s.cell;
       within = subst (λ (x : Limits). n < limit_of b x) s.limits c.within;

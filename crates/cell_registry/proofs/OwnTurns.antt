@@ -19,7 +19,7 @@ use Rattle.cell_registry.specs.declared.knowledge.Knowledge.{Knowledge}
 use Rattle.cell_registry.specs.Cells.{AreLimits, fresh, masked, unmasked, cut, finished, owned, IsOpen, MayUnmask, MayFinish, Cells, cell_of, with_cell, after, reply_of, IsAllowed, spent, refusal, IsAccepted, StageInRange}
 use Rattle.cell_registry.specs.Histories.{left}
 use Rattle.cell_registry.specs.Words.{phase_at, control, cell_word, value_place}
-use Rattle.cell_registry.specs.Rule.{Has, seen_cell, Fits, StoredLast, Owns, IsHistory, WordsAreAHistory}
+use Rattle.cell_registry.specs.Rule.{Has, seen_cell, Fits, last_stored, StoredLast, Owns, IsHistory, WordsAreAHistory}
 use Rattle.cell_registry.specs.Steps.{entry, Called, Changed, Masked, Unmasked, WasCut, Finished, WasStored, FoundValue}
 use Rattle.cell_registry.proofs.Calls.{spent-none, outcome-fits}
 use Rattle.cell_registry.proofs.Requests.{request-prefix}
@@ -116,7 +116,7 @@ module _ {S : Type 0} where
         ends = ends h words mine last;
         told = λ made now. let w : Knowledge = advanced v h (entry v.number c (reply_of s v.number c)) in tells w (
           subst (λ (r : Reply). Called v c r w) (replies s) made,
-          record { limits = refl; number = refl; fibers = refl; cell = ap owned (now v.number ∙ get_or-set_same s.cells v.number (φ a) fresh there) ∙ owns a (seen_cell v v.number) o.same },
+          record { limits = refl; number = refl; stored = refl; fibers = refl; cell = ap owned (now v.number ∙ get_or-set_same s.cells v.number (φ a) fresh there) ∙ owns a (seen_cell v v.number) o.same },
         );
       })
 
@@ -164,7 +164,7 @@ module _ {S : Type 0} where
       (λ h words mine last p e.
       let same : o ≡ p = cc in
       let opened : IsOpen (cell_of (left k h) v.number).stage = subst IsOpen (sym (own_stage k h v has mine)) (finish-open _ _ o may) in
-      inr (last (value_bits (word.value_of o)) stored has opened ∙ ap (λ (x : Outcome). value_bits (word.value_of x)) same))
+      inr (last.own has opened ∙ ap last_stored stored ∙ ap (λ (x : Outcome). value_bits (word.value_of x)) same))
       (λ w told b' p ph fits kept e.
       let bs : b' ≡ b = bit_one b' b (sym ph ∙ phase) in
       let same : o ≡ p = finish_one b o p (outcome-fits _ _ o may) fits (sym sum ∙ e ∙ ap (λ x. word.finish_sum x p) bs) (some-one (sym stored ∙ kept)) in
@@ -188,6 +188,7 @@ module _ {S : Type 0} where
       let leaves = put_value s.words c v.number i n r.words_are here now in
       let many = r.words_are.many in
       let holds : get_or (set s.words i n) i 0 ≡ n = put_value-at s.words c v.number i n r.words_are here (omega arith) in
+      let kept_at : (f : ℕ) → f ≢ v.number → get_or (set s.words i n) (value_place k f) 0 ≡ get_or s.words (value_place k f) 0 = λ f ne. get_or-set_other s.words i (value_place k f) n 0 (λ q. ne (omega arith)) in
       let fits_w : Fits k h w = record { limits = mine.limits; seen = mine.seen; heard = mine.heard; own = mine.own; guest = mine.guest; apart = mine.apart } in
       let kept' : IsHistory k (set s.words i n) (set s.views id w) h = record {
         limits = r.limits;
@@ -195,10 +196,17 @@ module _ {S : Type 0} where
         words_are = leaves;
         fits = each_view (λ j u. Fits k h u) s.views id w (λ j u other atj. r.fits j u atj) fits_w;
         stored = each_view (λ j u. StoredLast k (set s.words i n) h u) s.views id w
-            (λ j u other atj m e hasu openu.
-            let apart : u.number ≢ v.number = λ (q : u.number ≡ v.number). r.apart id j v u at atj other v.number (inl has) (subst (Owns u) q (inl hasu)) in
-            get_or-set_other s.words i (value_place k u.number) n 0 (λ q. apart (omega arith)) ∙ r.stored j u atj m e hasu openu)
-            (λ m e hasw openw. ap (λ (j : ℕ). get_or (set s.words i n) j 0) (sym is) ∙ holds ∙ some-one e);
+            (λ j u other atj.
+            let last = r.stored j u atj in
+            let apart : (f : ℕ) → Owns u f → f ≢ v.number = λ f owns (q : f ≡ v.number). r.apart id j v u at atj other v.number (inl has) (subst (Owns u) q owns) in record {
+              own = λ hasu openu. kept_at u.number (apart u.number (inl hasu)) ∙ last.own hasu openu;
+              others = λ f owns ne openf. kept_at f (apart f owns) ∙ last.others f owns ne openf;
+            })
+            record {
+              own = λ hasw openw. ap (λ (j : ℕ). get_or (set s.words i n) j 0) (sym is) ∙ holds;
+              others = λ f owns ne openf. kept_at f ne ∙ (r.stored id v at).others f owns ne openf;
+            };
+        unborn = λ f low. kept_at f (λ q. omega arith) ∙ r.unborn f low;
         apart = apart_still s.views id w r.apart (λ j u other atj g ownw hasu. r.apart id j v u at atj other g ownw hasu);
       } in
       (w, keeps, tt, (h, kept'), (none_out, refl))

@@ -1,5 +1,5 @@
 -- What passes between seats: a new fiber gets a seat of its own, and one pass takes in another.
-use Rattle.std.proofs.Common.{◌≡◌, ◌≢◌, ℕ, zero, suc, ◌+◌, ◌<◌, List, [], ◌∷◌, ◌++◌, length, set, get_or, ◌⊎◌, inl, inr, ⊎_elim, refl, sym, ap, ◌∙◌, subst, arith}
+use Rattle.std.proofs.Common.{◌≡◌, ◌≢◌, ℕ, zero, suc, ◌+◌, ◌<◌, List, [], ◌∷◌, ◌++◌, length, set, get_or, ◌⊎◌, inl, inr, ⊎_elim, refl, sym, ap, ◌∙◌, subst, arith, get_or-set_other}
 use mathlib.Core.Option.{some, some-injective, some-ne-none}
 use mathlib.Core.Logic.{dite}
 use native.Mathlib.Decide.{ℕ_discrete}
@@ -8,19 +8,19 @@ use Rattle.atomic_table.specs.Table.{Me, Allows, Splits, Joins, Final, Seen}
 use Rattle.atomic_table.proofs.Lists.{set_else}
 use Rattle.cell_registry.specs.declared.limits.Limits.{Limits}
 use Rattle.cell_registry.specs.declared.knowledge.Knowledge.{Knowledge}
-use Rattle.cell_registry.specs.Cells.{AreLimits}
+use Rattle.cell_registry.specs.Cells.{AreLimits, IsOpen, cell_of}
 use Rattle.cell_registry.specs.Histories.{left, IsLegal}
-use Rattle.cell_registry.specs.Rule.{Has, Fits, StoredLast, Owns, Apart, WordsAreAHistory, first_knowledge}
+use Rattle.cell_registry.specs.Rule.{Has, seen_cell, Fits, value_of, last_stored, StoredLast, Owns, Apart, WordsAreAHistory, first_knowledge}
 use Rattle.cell_registry.specs.Steps.{parent, child, hosting, nothing, Met}
 use Rattle.cell_registry.specs.Passes.{IsLeftWord}
 use Rattle.cell_registry.proofs.Legal.{sound}
 use Rattle.cell_registry.proofs.TableWords.{same_words, word_at, opening_words}
+use Rattle.cell_registry.proofs.Lists.{get_or-replicate_default}
 use Rattle.cell_registry.proofs.Turns.{Tells, looks, each_view, apart_still}
+use Rattle.cell_registry.proofs.CellTurns.{own_stage}
 use Rattle.cell_registry.proofs.Claiming.{same_now}
-use Rattle.std.specs.Prelude.{replicate, Some, None}
-
-none-some : (n : ℕ) → None ≡ Some n → ⊥
-none-some n e = cc
+use Rattle.std.specs.Prelude.{replicate, None}
+use Rattle.cell_registry.specs.Words.{value_place}
 
 -- ---- a seat for a new fiber
 at_push : (l : List Knowledge) (a b : Knowledge) (j : ℕ) → get_elem? (l ++ a ∷ []) j ≡ some b → (get_elem? l j ≡ some b) ⊎ ((j ≡ length l) × (a ≡ b))
@@ -31,8 +31,8 @@ at_push (x ∷ xs) a b (suc j) e = ⊎_elim (λ t. inl t) (λ t. inr (ap suc t.0
 
 module _ {S : Type 0} where
   -- the pass u, which has just claimed the number n, gives it to a child
-  splits_at : (k : Limits) (id : ℕ) (u : Knowledge) (n : ℕ) (fs : List ℕ) → ((f : ℕ) → Has fs f → f < n) → Splits {S = S} (WordsAreAHistory k) id (record u { fibers = n ∷ fs }) (parent (record u { fibers = n ∷ fs })) (child (record u { fibers = n ∷ fs }))
-  splits_at k id u n fs below s kept at =
+  splits_at : (k : Limits) (id : ℕ) (u : Knowledge) (n : ℕ) (fs : List ℕ) → ((f : ℕ) → Has fs f → f < n) → Has fs u.number → Splits {S = S} (WordsAreAHistory k) id (record u { fibers = n ∷ fs }) (parent (record u { fibers = n ∷ fs })) (child (record u { fibers = n ∷ fs }))
+  splits_at k id u n fs below has s kept at =
       let v : Knowledge = record u { fibers = n ∷ fs } in
       let p : Knowledge = parent v in
       let c : Knowledge = child v in
@@ -41,10 +41,12 @@ module _ {S : Type 0} where
       let fits_p : Fits k h p = record { limits = λ f a. mine.limits f (inr a); seen = mine.seen; heard = (h, refl); own = λ f a. mine.own f (inr a); guest = λ f a. absurd a; apart = λ f _ b. absurd b } in
       let own_c = λ (f : ℕ) (a : Has (n ∷ []) f). let b : n ≡ f = ⊎_elim (λ (x : n ≡ f). x) (λ x. absurd x) a in mine.own f (inl b) in
       let fits_c : Fits k h c = record { limits = λ f a. mine.limits n (inl refl); seen = mine.seen; heard = (h, refl); own = own_c; guest = λ f a. absurd a; apart = λ f _ b. absurd b } in
-      let stored_p : StoredLast k s.words h p = λ m is has opened. r.stored id v at m is (inr has) opened in
-      let stored_c : StoredLast k s.words h c = λ m is has opened. absurd (none-some m is) in
       let of_child : (f : ℕ) → Owns c f → n ≡ f = λ f a. ⊎_elim (λ (b : Has (n ∷ []) f). ⊎_elim (λ (x : n ≡ f). x) (λ x. absurd x) b) (λ (b : Has [] f). absurd b) a in
       let of_parent : (f : ℕ) → Owns p f → Has fs f = λ f a. ⊎_elim (λ (b : Has fs f). b) (λ (b : Has [] f). absurd b) a in
+      let last = r.stored id v at in
+      let later : n ≢ u.number = let lt = below u.number has in λ (q : n ≡ u.number). omega arith in
+      let stored_p : StoredLast k s.words h p = record { own = λ a opened. last.own (inr a) opened; others = λ f a ne opened. last.others f (inl (inr (of_parent f a))) ne opened } in
+      let stored_c : StoredLast k s.words h c = record { own = λ a opened. last.others n (inl (inl refl)) later opened; others = λ f a ne opened. absurd (ne (sym (of_child f a))) } in
       let with_child : (j : ℕ) (x : Knowledge) → get_elem? (set s.views id p) j ≡ some x → Apart x c = each_view (λ j x. Apart x c) s.views id p
       (λ j x other atj f a b. r.apart id j v x at atj other f (inl (inl (of_child f b))) a)
       (λ f a b. let is = of_child f b in let lt = below f (of_parent f a) in omega arith) in
@@ -56,6 +58,7 @@ module _ {S : Type 0} where
           words_are = r.words_are;
           fits = λ j x e. ⊎_elim (λ old. each_view (λ j x. Fits k h x) s.views id p (λ j x other atj. r.fits j x atj) fits_p j x old) (λ (t : (j ≡ length (set s.views id p)) × (c ≡ x)). subst (Fits k h) t.1 fits_c) (at_push (set s.views id p) c x j e);
           stored = λ j x e. ⊎_elim (λ old. each_view (λ j x. StoredLast k s.words h x) s.views id p (λ j x other atj. r.stored j x atj) stored_p j x old) (λ (t : (j ≡ length (set s.views id p)) × (c ≡ x)). subst (StoredLast k s.words h) t.1 stored_c) (at_push (set s.views id p) c x j e);
+          unborn = r.unborn;
           apart = λ i j x y ei ej ne. ⊎_elim
               (λ oldi. ⊎_elim
               (λ oldj. apart_set i j x y oldi oldj ne)
@@ -69,8 +72,8 @@ module _ {S : Type 0} where
         },
       )
 
-  pub splits : (k : Limits) (id : ℕ) (w : Knowledge) (n : ℕ) (fs : List ℕ) → w.fibers ≡ n ∷ fs → ((f : ℕ) → Has fs f → f < n) → Splits {S = S} (WordsAreAHistory k) id w (parent w) (child w)
-  splits k id w n fs is below = subst (λ (v : Knowledge). Splits {S = S} (WordsAreAHistory k) id v (parent v) (child v)) (λ j. record w { fibers = sym is j }) (splits_at k id w n fs below)
+  pub splits : (k : Limits) (id : ℕ) (w : Knowledge) (n : ℕ) (fs : List ℕ) → w.fibers ≡ n ∷ fs → ((f : ℕ) → Has fs f → f < n) → Has fs w.number → Splits {S = S} (WordsAreAHistory k) id w (parent w) (child w)
+  splits k id w n fs is below has = subst (λ (v : Knowledge). Splits {S = S} (WordsAreAHistory k) id v (parent v) (child v)) (λ j. record w { fibers = sym is j }) (splits_at k id w n fs below has)
 
 -- ---- one pass takes in another
 -- where a view and a fiber of it come from, after a pass took in another
@@ -112,13 +115,24 @@ in_append [] bs f a = absurd a
 in_append (x ∷ xs) bs f a = ⊎_elim (λ e. inl e) (λ b. inr (in_append xs bs f b)) a
 
 module _ {S : Type 0} where
-  pub hosts : (k : Limits) (id other : ℕ) (v w : Knowledge) → Joins {S = S} (WordsAreAHistory k) id v other w (hosting v w) nothing
-  hosts k id other v w s kept at apart there' =
+  -- the other's fiber has ended, or its pass has stored nothing
+  pub hosts : (k : Limits) (id other : ℕ) (v w : Knowledge) → Has w.fibers w.number → (IsOpen (seen_cell w w.number).stage → w.stored ≡ None) → Joins {S = S} (WordsAreAHistory k) id v other w (hosting v w) nothing
+  hosts k id other v w has unstored s kept at apart there' =
       let h = kept.0 in let r = kept.1 in
       let there : get_elem? s.views other ≡ some w = sym (set_else s.views id other (hosting v w) apart) ∙ there' in
       let mine : Fits k h v = r.fits id v at in
       let theirs : Fits k h w = r.fits other w there in
       let both : Fits k h (hosting v w) = record { limits = mine.limits; seen = mine.seen; heard = theirs.seen; own = mine.own; guest = theirs.own; apart = λ f a b. r.apart id other v w at there apart f (inl a) (inl b) } in
+      let guests : (f : ℕ) → Has w.fibers f → IsOpen (cell_of (left k h) f).stage → value_of k s.words f ≡ 0 = λ f a opened. dite (ℕ_discrete f w.number)
+      (λ (q : f ≡ w.number).
+      let now : IsOpen (cell_of (left k h) w.number).stage = subst (λ (g : ℕ). IsOpen (cell_of (left k h) g).stage) q opened in
+      ap (value_of k s.words) q ∙ (r.stored other w there).own has now ∙ ap last_stored (unstored (subst IsOpen (own_stage k h w has theirs) now)))
+      (λ ne. (r.stored other w there).others f (inl a) ne opened) in
+      let stored_both : StoredLast k s.words h (hosting v w) = record {
+        own = (r.stored id v at).own;
+        others = λ f a ne opened. ⊎_elim (λ (b : Has v.fibers f). (r.stored id v at).others f (inl b) ne opened) (λ (b : Has w.fibers f). guests f b opened) a;
+      } in
+      let stored_gone : StoredLast k s.words h nothing = record { own = λ a. absurd a; others = λ f a. absurd (⊎_elim (λ (b : Has [] f). b) (λ (b : Has [] f). b) a) } in
       let gone : Fits k h nothing = record { limits = λ f a. absurd a; seen = (h, refl); heard = (h, refl); own = λ f a. absurd a; guest = λ f a. absurd a; apart = λ f a _. absurd a } in (
         h,
         record {
@@ -126,7 +140,8 @@ module _ {S : Type 0} where
           legal = r.legal;
           words_are = r.words_are;
           fits = each_view (λ j u. Fits k h u) (set s.views id (hosting v w)) other nothing (λ j u _ atj. each_view (λ j u. Fits k h u) s.views id (hosting v w) (λ j u _ atj. r.fits j u atj) both j u atj) gone;
-          stored = each_view (λ j u. StoredLast k s.words h u) (set s.views id (hosting v w)) other nothing (λ j u _ atj. each_view (λ j u. StoredLast k s.words h u) s.views id (hosting v w) (λ j u _ atj. r.stored j u atj) (λ m is has opened. r.stored id v at m is has opened) j u atj) (λ m is has opened. absurd has);
+          stored = each_view (λ j u. StoredLast k s.words h u) (set s.views id (hosting v w)) other nothing (λ j u _ atj. each_view (λ j u. StoredLast k s.words h u) s.views id (hosting v w) (λ j u _ atj. r.stored j u atj) stored_both j u atj) stored_gone;
+          unborn = r.unborn;
           apart = λ i j x y ei ej ij f a b. one_place s.views id other i j f r.apart apart ij (comes s.views id other v w at apart there i x ei f a) (comes s.views id other v w at apart there j y ej f b);
         },
       )
@@ -154,6 +169,7 @@ module _ {S : Type 0} where
           limits = refl;
           fibers = refl;
           number = refl;
+          stored = refl;
           cell = same_now k h v has mine;
         };
       })
@@ -169,6 +185,7 @@ begins S k words limits is = (
     words_are = opening_words k words is;
     fits = one;
     stored = nothing_yet;
+    unborn = λ f _. zero_at f;
     apart = two;
   },
 )
@@ -180,8 +197,11 @@ begins S k words limits is = (
     one zero v e = subst (Fits k []) (some-injective (first_knowledge k) v e) fits
     one (suc i) v e = absurd (some-ne-none v (sym e))
 
+    zero_at : (f : ℕ) → value_of k words f ≡ 0
+    zero_at f = ap (λ (ws : List ℕ). get_or ws (value_place k f) 0) is ∙ get_or-set_other (replicate (k.fibers + k.refs + k.deferreds + k.fibers + 3) 0) 0 (value_place k f) 1 0 (λ q. omega arith) ∙ get_or-replicate_default 0 (k.fibers + k.refs + k.deferreds + k.fibers + 3) (value_place k f)
+
     nothing_yet : (i : ℕ) (v : Knowledge) → get_elem? (first_knowledge k ∷ []) i ≡ some v → StoredLast k words [] v
-    nothing_yet zero v e = subst (StoredLast k words []) (some-injective (first_knowledge k) v e) (λ m is has opened. absurd (none-some m is))
+    nothing_yet zero v e = subst (StoredLast k words []) (some-injective (first_knowledge k) v e) record { own = λ _ _. zero_at 0; others = λ f _ _ _. zero_at f }
     nothing_yet (suc i) v e = absurd (some-ne-none v (sym e))
 
     two : (i j : ℕ) (v w : Knowledge) → get_elem? (first_knowledge k ∷ []) i ≡ some v → get_elem? (first_knowledge k ∷ []) j ≡ some w → j ≢ i → Apart v w

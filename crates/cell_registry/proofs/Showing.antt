@@ -1,8 +1,7 @@
 -- What the words of a registry show of it.
-use Rattle.std.proofs.Common.{◌≡◌, ℕ, ℤ, pos, ◌+◌, ◌%◌, ◌^◌, ◌<◌, List, [], ◌∷◌, ◌++◌, length, map, take, get_or, suc, Option, refl, sym, ap, ◌∙◌, subst, arith}
-use Rattle.std.specs.Prelude.{None}
+use Rattle.std.proofs.Common.{◌≡◌, ℕ, ℤ, ◌+◌, ◌%◌, ◌^◌, ◌<◌, List, [], ◌∷◌, ◌++◌, length, map, take, get_or, suc, Option, refl, sym, ap, ◌∙◌, subst, arith}
 use Rattle.std.proofs.lemmas.List.{take_more, ext_get_or, length-map, length-append}
-use Rattle.effect_term.specs.Values.{IsValue, bits_value, value_bits}
+use Rattle.effect_term.specs.Values.{bits_value}
 use Rattle.effect_term.specs.declared.reply.Outcome.{Outcome}
 use Rattle.control_word.specs.declared.control.Control.{Control}
 use Rattle.cell_registry.specs.declared.limits.Limits.{Limits}

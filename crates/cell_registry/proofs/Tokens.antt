@@ -13,7 +13,7 @@ use Rattle.cell_registry.specs.declared.cell.Stage.TheVariants.{Running}
 use Rattle.cell_registry.specs.declared.call.Call.{Call}
 use Rattle.cell_registry.specs.declared.call.Entry.{Entry}
 use Rattle.cell_registry.specs.declared.knowledge.Knowledge.{Knowledge}
-use Rattle.cell_registry.specs.Cells.{AreLimits, fresh, owned, cell_of}
+use Rattle.cell_registry.specs.Cells.{AreLimits, IsOpen, fresh, owned, cell_of}
 use Rattle.cell_registry.specs.Histories.{left, IsLegal}
 use Rattle.cell_registry.specs.Rule.{Has, seen_cell, first_knowledge}
 use Rattle.cell_registry.specs.Bands.{claim_of, WasGiven, WasBorn}
@@ -70,6 +70,7 @@ seated_looked v w t u n g d c b b' s more legal request i = record {
     born = λ f owns. WasBorn-prefix v.seen w.seen f more (i.pass.born f (subst (λ (fs : List ℕ). Has fs f) s.fibers owns));
     told = rw s.limits (legal-told v.limits w.seen i.pass.limits legal);
   };
+  unstored = λ opened. s.stored ∙ i.unstored opened;
 }
 
 -- a pass whose own part of the cell and whose last look are as they were
@@ -79,9 +80,13 @@ seated_still v w t u n g d c b s more legal i =
     let now : b ≡ true → (cell_of (left v.limits w.seen) v.number).request ≡ true = λ e. request-prefix v.limits v.seen w.seen v.number more (before e) in
     seated_looked v w t u n g d c b b s more legal (λ e. (λ j. (cell_of (left (s.limits j) w.seen) v.number).request) ∙ now e) i
 
--- a pass that has stored a number in its fiber's value word
-pub seated_stored : (v w : Knowledge) (t u : TableId) (n m : ℕ) (g : Stage) (d c : ℕ) (b : Bool) → w ≡ record v { stored = Some m } → IsSeated v (pass_of t v n g d c b) → IsSeated w (pass_of u w n g d c b)
-seated_stored v w t u n m g d c b is i = subst (λ (x : Knowledge). IsSeated x (pass_of u x n g d c b)) (sym is) record {
+-- what a seat knows but for the number that was stored
+abbrev pub but_stored : Knowledge → Knowledge
+but_stored v = record v { stored = None }
+
+-- a pass that has stored a number in its fiber's value word, in the midst of a call: but for that number it is as it was
+pub seated_stored : (v w : Knowledge) (t u : TableId) (n m : ℕ) (g : Stage) (d c : ℕ) (b : Bool) → w ≡ record v { stored = Some m } → IsSeated v (pass_of t v n g d c b) → IsSeated (but_stored w) (pass_of u (but_stored w) n g d c b)
+seated_stored v w t u n m g d c b is i = subst (λ (x : Knowledge). IsSeated (but_stored x) (pass_of u (but_stored x) n g d c b)) (sym is) record {
   number_is = i.number_is;
   pass = record {
     limits = i.pass.limits;
@@ -94,15 +99,16 @@ seated_stored v w t u n m g d c b is i = subst (λ (x : Knowledge). IsSeated x (
     born = i.pass.born;
     told = i.pass.told;
   };
+  unstored = λ _. refl;
 }
 
 -- its registry is the same
 pub stored_registry : (v w : Knowledge) (t u : TableId) (n m : ℕ) (g : Stage) (d c : ℕ) (b : Bool) (r : RegistryView) → w ≡ record v { stored = Some m } → u ≡ t → (pass_of t v n g d c b).registry ≡ r → (pass_of u w n g d c b).registry ≡ r
 stored_registry v w t u n m g d c b r is table of = (λ j. record { table = table j; limits = (is j).limits }) ∙ of
 
--- a pass whose own part of the cell has changed
-pub seated_changed : (v w : Knowledge) (t u : TableId) (n : ℕ) (g g' : Stage) (d d' c c' : ℕ) (b : Bool) (own : Stage × ℕ × ℕ) → own ≡ (g', d', c') → IsChanged v w own → IsPrefix v.seen w.seen → IsLegal v.limits w.seen → IsSeated v (pass_of t v n g d c b) → IsSeated w (pass_of u w n g' d' c' b)
-seated_changed v w t u n g g' d d' c c' b own is s more legal i = record {
+-- a pass whose own part of the cell has changed, whatever it had stored in the midst of the call
+pub seated_changed : (stored : Option ℕ) (v w : Knowledge) (t u : TableId) (n : ℕ) (g g' : Stage) (d d' c c' : ℕ) (b : Bool) (own : Stage × ℕ × ℕ) → own ≡ (g', d', c') → IsChanged (record v { stored = stored }) w own → (IsOpen g' → w.stored ≡ None) → IsPrefix v.seen w.seen → IsLegal v.limits w.seen → IsSeated v (pass_of t v n g d c b) → IsSeated w (pass_of u w n g' d' c' b)
+seated_changed stored v w t u n g g' d d' c c' b own is s unstored more legal i = record {
   number_is = i.number_is ∙ sym s.number;
   pass = record {
     limits = rw s.limits i.pass.limits;
@@ -118,6 +124,7 @@ seated_changed v w t u n g g' d d' c c' b own is s more legal i = record {
     born = λ f owns. WasBorn-prefix v.seen w.seen f more (i.pass.born f (subst (λ (fs : List ℕ). Has fs f) s.fibers owns));
     told = rw s.limits (legal-told v.limits w.seen i.pass.limits legal);
   };
+  unstored = unstored;
 }
 
 -- where the count of a pass isn't the limit, it is below it
@@ -160,7 +167,7 @@ deferred_word r key i n reg within is = let words = reg.words in omega arith
 -- ---- a new fiber
 -- the parent, once the number is handed out
 pub parent-same : (v w : Knowledge) (n : ℕ) → Claimed Fibers v n w → IsSame v (parent w)
-parent-same v w n c = record { limits = c.limits; number = c.number; fibers = ap without_newest c.fibers; cell = c.cell }
+parent-same v w n c = record { limits = c.limits; number = c.number; stored = c.stored; fibers = ap without_newest c.fibers; cell = c.cell }
 
 -- a number that a call was answered was given
 call-given : (b : Band) (k : Limits) (fs : List ℕ) (before : List Entry) (by n : ℕ) (now : List Entry) → IsCall k fs before by (claim_of b) (Number n) now → WasGiven b now n
@@ -182,6 +189,7 @@ child_seated v w u n limits c = record {
         inr (subst (WasGiven Fibers w.seen) is (call-given Fibers v.limits v.fibers v.seen v.number n w.seen c.call));
     told = rw c.limits (legal-told v.limits w.seen limits c.call.legal);
   };
+  unstored = λ _. refl;
 }
 
 -- ---- a new ref or deferred, which adds no fiber, or none
@@ -189,7 +197,7 @@ pub seated_given : (b : Band) → ((m : ℕ) (fs : List ℕ) → fibers_with b m
     → IsSeated v (pass_of t v n g d c s) → IsSeated w (pass_of u w n g d c s)
 seated_given b adds None v w t u n g d c s e i = seated_still v w t u n g d c s e.1 e.0.seen e.0.legal i
 seated_given b adds (Some m) v w t u n g d c s e i =
-    seated_still v w t u n g d c s record { limits = e.limits; number = e.number; fibers = e.fibers ∙ adds m v.fibers; cell = e.cell } (call-prefix _ _ _ _ _ _ _ e.call) e.call.legal i
+    seated_still v w t u n g d c s record { limits = e.limits; number = e.number; stored = e.stored; fibers = e.fibers ∙ adds m v.fibers; cell = e.cell } (call-prefix _ _ _ _ _ _ _ e.call) e.call.legal i
 
 -- ---- a pass that met another
 pub met_seated : (u a v w : Knowledge) (t t' : TableId) (n : ℕ) (g : Stage) (d c : ℕ) (b : Bool) → v ≡ hosting u a → Met v w → ((f : ℕ) → Has a.fibers f → WasBorn a.seen f) → IsSeated u (pass_of t u n g d c b) → IsSeated w (pass_of t' w n g d c b)
@@ -212,6 +220,7 @@ met_seated u a v w t t' n g d c b is = subst (λ (x : Knowledge). Met x w → ((
         (has_append u.fibers a.fibers f (subst (λ (fs : List ℕ). Has fs f) m.fibers owns));
     told = rw m.limits (legal-told u.limits w.seen i.pass.limits m.legal);
   };
+  unstored = λ opened. m.stored ∙ i.unstored opened;
 })
 
 -- ---- the first pass
@@ -230,4 +239,5 @@ first_seated k t l = record {
     born = λ f owns. ⊎_elim (λ (e : 0 ≡ f). inl (sym e)) (λ none. absurd none) owns;
     told = legal-told k [] l tt;
   };
+  unstored = λ _. refl;
 }

@@ -13,7 +13,7 @@ use Rattle.cell_registry.specs.declared.knowledge.Knowledge.{Knowledge}
 use Rattle.cell_registry.specs.Cells.{AreLimits, owned, IsOpen, Cells, cell_of, after, reply_of, IsAccepted}
 use Rattle.cell_registry.specs.Histories.{left, IsLegal, calls_by}
 use Rattle.cell_registry.specs.Words.{Leaves, value_place}
-use Rattle.cell_registry.specs.Rule.{Has, IsQuietSince, Fits, StoredLast, Owns, Apart, IsHistory, WordsAreAHistory}
+use Rattle.cell_registry.specs.Rule.{Has, IsQuietSince, Fits, value_of, last_stored, StoredLast, Owns, Apart, IsHistory, WordsAreAHistory}
 use Rattle.cell_registry.specs.Steps.{entry, Called}
 use Rattle.cell_registry.proofs.Calls.{next_fiber-rises, owned-after}
 use Rattle.cell_registry.proofs.Legal.{left-push, IsLegal-push, calls_by-push, calls_by-other}
@@ -83,20 +83,33 @@ value_kept k words i x f below = get_or-set_other words i (value_place k f) x 0 
 
 -- another pass, after an entry that is not of its fibers
 stored_still : (k : Limits) (words : List ℕ) (i x : ℕ) (h : List Entry) (e : Entry) (u : Knowledge) → i < 3 + k.fibers + k.refs + k.deferreds → ((f : ℕ) → Owns u f → e.by ≢ f) → StoredLast k words h u → StoredLast k (set words i x) (h ++ e ∷ []) u
-stored_still k words i x h e u below apart s n is has opened =
-    let same : owned (cell_of (left k (h ++ e ∷ [])) u.number) ≡ owned (cell_of (left k h) u.number) = ap (λ (t : Cells). owned (cell_of t u.number)) (left-push k h e) ∙ owned-after (left k h) e.by e.call u.number (apart u.number (inl has)) in
-    value_kept k words i x u.number below ∙ s n is has (subst IsOpen (ap (λ o. o.0) same) opened)
+stored_still k words i x h e u below apart s = record {
+  own = λ has opened. value_kept k words i x u.number below ∙ s.own has (before u.number (inl has) opened);
+  others = λ f owns ne opened. value_kept k words i x f below ∙ s.others f owns ne (before f owns opened);
+}
+  where
+    before : (f : ℕ) → Owns u f → IsOpen (cell_of (left k (h ++ e ∷ [])) f).stage → IsOpen (cell_of (left k h) f).stage
+    before f owns opened =
+        let same : owned (cell_of (left k (h ++ e ∷ [])) f) ≡ owned (cell_of (left k h) f) = ap (λ (t : Cells). owned (cell_of t f)) (left-push k h e) ∙ owned-after (left k h) e.by e.call f (apart f owns) in
+        subst IsOpen (ap (λ o. o.0) same) opened
 
 -- a pass, where the history stays
 stored_kept : (k : Limits) (words : List ℕ) (i x : ℕ) (h : List Entry) (u : Knowledge) → i < 3 + k.fibers + k.refs + k.deferreds → StoredLast k words h u → StoredLast k (set words i x) h u
-stored_kept k words i x h u below s n is has opened = value_kept k words i x u.number below ∙ s n is has opened
+stored_kept k words i x h u below s = record {
+  own = λ has opened. value_kept k words i x u.number below ∙ s.own has opened;
+  others = λ f owns ne opened. value_kept k words i x f below ∙ s.others f owns ne opened;
+}
 
--- the same pass, where its fiber has not ended since
+-- the same pass, where no fiber that has not ended now had ended before, and where it has got no fiber but those whose
+-- value words are 0
 stored_as : (k : Limits) (words ws : List ℕ) (g h : List Entry) (v w : Knowledge) → w.number ≡ v.number → w.stored ≡ v.stored → Has v.fibers v.number
-    → (IsOpen (cell_of (left k h) v.number).stage → IsOpen (cell_of (left k g) v.number).stage)
-    → get_or ws (value_place k v.number) 0 ≡ get_or words (value_place k v.number) 0 → StoredLast k words g v → StoredLast k ws h w
-stored_as k words ws g h v w number stored has before same s n is _ opened =
-    ap (λ (f : ℕ). get_or ws (value_place k f) 0) number ∙ same ∙ s n (sym stored ∙ is) has (before (subst (λ (f : ℕ). IsOpen (cell_of (left k h) f).stage) number opened))
+    → ((f : ℕ) → IsOpen (cell_of (left k h) f).stage → IsOpen (cell_of (left k g) f).stage)
+    → ((f : ℕ) → value_of k ws f ≡ value_of k words f)
+    → ((f : ℕ) → Owns w f → Owns v f ⊎ (value_of k words f ≡ 0)) → StoredLast k words g v → StoredLast k ws h w
+stored_as k words ws g h v w number stored has before same got s = record {
+  own = λ _ opened. ap (value_of k ws) number ∙ same v.number ∙ s.own has (before v.number (subst (λ (f : ℕ). IsOpen (cell_of (left k h) f).stage) number opened)) ∙ ap last_stored (sym stored);
+  others = λ f owns ne opened. same f ∙ ⊎_elim (λ (o : Owns v f). s.others f o (λ (q : f ≡ v.number). ne (q ∙ sym number)) (before f opened)) (λ (z : value_of k words f ≡ 0). z) (got f owns);
+}
 
 -- what one call has to show, where h is the history before it
 pub record Turn (k : Limits) (v : Knowledge) (i x : ℕ) (then : ℕ → Knowledge → Type 0) (h : List Entry) (words : List ℕ) : Type 0 where
@@ -159,8 +172,15 @@ module _ {S : Type 0} where
         stored = each_view (λ j u. StoredLast k (set s.words i x) (h ++ e ∷ []) u) s.views id w
             (λ j u other atj. stored_still k s.words i x h e u t.place (λ g hasu is. r.apart id j v u at atj other g (subst (Owns v) is (inl has)) hasu) (r.stored j u atj))
             (stored_as k s.words (set s.words i x) h (h ++ e ∷ []) v w t.number t.stored has
-            (λ opened. open_before k (left k h) v.number t.call v.number t.accepted.allowed (subst (λ (c : Cells). IsOpen (cell_of c v.number).stage) push opened))
-            (value_kept k s.words i x v.number t.place) (r.stored id v at));
+            (λ f opened. open_before k (left k h) v.number t.call f t.accepted.allowed (subst (λ (c : Cells). IsOpen (cell_of c f).stage) push opened))
+            (λ f. value_kept k s.words i x f t.place)
+            (λ f owns. ⊎_elim
+            (λ (hasw : Has w.fibers f). ⊎_elim (λ (a : Has v.fibers f). inl (inl a)) (λ (b : ((left k h).next_fiber ≤ f) × (f < (after (left k h) v.number t.call).next_fiber)). inr (r.unborn f b.0)) (t.fibers f hasw))
+            (λ (no : Has w.guests f). absurd (subst (λ (fs : List ℕ). Has fs f) t.guests no)) owns)
+            (r.stored id v at));
+        unborn = λ f low.
+            let after_low : (after (left k h) v.number t.call).next_fiber ≤ f = subst (λ (c : Cells). c.next_fiber ≤ f) push low in
+            value_kept k s.words i x f t.place ∙ r.unborn f (omega arith);
         apart = apart_still s.views id w r.apart
             (λ j u other atj g ownw hasu. ⊎_elim
             (λ (hasw : Has w.fibers g). ⊎_elim (λ (a : Has v.fibers g). r.apart id j v u at atj other g (inl a) hasu)
@@ -198,7 +218,10 @@ module _ {S : Type 0} where
         words_are = t.word;
         fits = each_view (λ j u. Fits k h u) s.views id w (λ j u other atj. r.fits j u atj) (fits_now k h w (t.limits ∙ mine.limits v.number has) t.seen t.guests t.heard (λ g hasw. owner_born k h v g mine (t.fibers g hasw)));
         stored = each_view (λ j u. StoredLast k (set s.words i x) h u) s.views id w (λ j u other atj. stored_kept k s.words i x h u t.place (r.stored j u atj))
-            (stored_as k s.words (set s.words i x) h h v w t.number t.stored has (λ opened. opened) (value_kept k s.words i x v.number t.place) (r.stored id v at));
+            (stored_as k s.words (set s.words i x) h h v w t.number t.stored has (λ f opened. opened) (λ f. value_kept k s.words i x f t.place)
+            (λ f owns. ⊎_elim (λ (hasw : Has w.fibers f). inl (t.fibers f hasw)) (λ (no : Has w.guests f). absurd (subst (λ (fs : List ℕ). Has fs f) t.guests no)) owns)
+            (r.stored id v at));
+        unborn = λ f low. value_kept k s.words i x f t.place ∙ r.unborn f low;
         apart = apart_still s.views id w r.apart (λ j u other atj g ownw hasu. ⊎_elim (λ (hasw : Has w.fibers g). r.apart id j v u at atj other g (t.fibers g hasw) hasu) (λ (no : Has w.guests g). absurd (subst (λ (fs : List ℕ). Has fs g) t.guests no)) ownw);
       } in
       (w, keeps, tt, (h, kept'), (none_out, t.told))

@@ -151,7 +151,7 @@ value_turn k h words v i x then c has mine place accepted cells word told =
       guests = refl;
       heard = refl;
       fibers = λ g a. inl a;
-      told = λ made. told w made (same_knowledge k h v w s has mine refl refl refl now refl);
+      told = λ made. told w made (same_knowledge k h v w s has mine refl refl refl refl now refl);
     }
 
 module _ {S : Type 0} where

@@ -1,5 +1,5 @@
 -- What contracts see of a registry and of its passes, and what the calls promise.
-use Rattle.std.specs.Prelude.{◌≡◌, ℕ, ◌+◌, ◌<◌, ◌≤◌, List, [], ◌∷◌, ◌++◌, Bool, true, false}
+use Rattle.std.specs.Prelude.{◌≡◌, ℕ, ◌+◌, ◌<◌, ◌≤◌, List, [], ◌∷◌, ◌++◌, Bool, true, false, None}
 use mathlib.Core.List.{IsPrefix}
 use Rattle.atomic_table.specs.Seated.{TableId}
 use Rattle.effect_term.specs.declared.reply.Reply.{Reply}
@@ -15,7 +15,7 @@ use Rattle.cell_registry.specs.declared.call.Call.{Call}
 use Rattle.cell_registry.specs.declared.call.Call.TheVariants.{Start}
 use Rattle.cell_registry.specs.declared.call.Entry.{Entry}
 use Rattle.cell_registry.specs.declared.knowledge.Knowledge.{Knowledge}
-use Rattle.cell_registry.specs.Cells.{AreLimits, cell_of, owned}
+use Rattle.cell_registry.specs.Cells.{AreLimits, IsOpen, cell_of, owned}
 use Rattle.cell_registry.specs.Histories.{left, IsLegal, calls_by}
 use Rattle.cell_registry.specs.Rule.{Has}
 use Rattle.cell_registry.specs.Bands.{limit_of, claim_of, AreAllGiven, WasBorn}
@@ -80,9 +80,13 @@ pass_of t v number stage depth count saw = record {
   seen = v.seen;
 }
 
+-- what holds of a pass and of what its seat knows. As long as its fiber hasn't ended, it has stored no number: so the
+-- fiber's value word is 0 between its calls (`StoredLast` of the rule), and a call that is refused, after which the
+-- fiber hasn't ended, has stored none
 pub record IsSeated (v : Knowledge) (p : PassView) : Type 0 where
   pub number_is : p.number ≡ v.number
   pub pass : IsPass p
+  pub unstored : IsOpen p.stage → v.stored ≡ None
 
 -- the pass is one of this registry's
 abbrev pub IsOf : RegistryView → PassView → Type 0

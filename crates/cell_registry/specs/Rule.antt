@@ -1,5 +1,5 @@
 -- What holds between any two steps: one legal history leaves exactly the words, and each pass knows its part of it.
-use Rattle.std.specs.Prelude.{◌≡◌, ◌≢◌, ℕ, ◌<◌, List, [], ◌∷◌, ◌⊎◌, slice_index_or, Some, None}
+use Rattle.std.specs.Prelude.{◌≡◌, ◌≢◌, ℕ, ◌<◌, ◌≤◌, List, [], ◌∷◌, ◌⊎◌, slice_index_or, Option, Some, None}
 use mathlib.Core.Option.{some}
 use mathlib.Core.List.{IsPrefix}
 use lib.ListN.{get_elem?}
@@ -38,28 +38,42 @@ pub record Fits (k : Limits) (h : List Entry) (v : Knowledge) : Type 0 where
   pub guest : (f : ℕ) → Has v.guests f → IsQuietSince k h v.heard f
   pub apart : (f : ℕ) → Has v.fibers f → Has v.guests f → ⊥
 
--- what holds of one pass and of its fiber's value word: as long as the fiber hasn't ended, the word is the number that
--- the pass stored last, once it has stored one. Before that nothing is said of the word, and nobody needs to know it:
--- it is read only where the fiber has ended, and to end the fiber the pass stores a number first
-abbrev pub StoredLast : Limits → List ℕ → List Entry → Knowledge → Type 0
-StoredLast k words h v = (n : ℕ) → v.stored ≡ Some n → Has v.fibers v.number →
-    IsOpen (cell_of (left k h) v.number).stage → slice_index_or words (value_place k v.number) 0 ≡ n
-
 abbrev pub Owns : Knowledge → ℕ → Type 0
 Owns v f = Has v.fibers f ⊎ Has v.guests f
+
+-- the value word of the fiber f, and that it is this number as long as the fiber hasn't ended in the history h
+abbrev pub value_of : Limits → List ℕ → ℕ → ℕ
+value_of k words f = slice_index_or words (value_place k f) 0
+
+abbrev pub HoldsWhileOpen : Limits → List ℕ → List Entry → ℕ → ℕ → Type 0
+HoldsWhileOpen k words h f n = IsOpen (cell_of (left k h) f).stage → value_of k words f ≡ n
+
+-- the number that a pass stored last, and 0 as long as it has stored none
+abbrev pub last_stored : Option ℕ → ℕ
+last_stored None = 0
+last_stored (Some n) = n
+
+-- what holds of one pass and of the value words of its fibers: as long as its own fiber hasn't ended, the word is the
+-- number that the pass stored last, and 0 as long as it has stored none. That of each other fiber that it owns (one
+-- that it has just made, or whose pass it met) is 0, as long as that fiber hasn't ended
+pub record StoredLast (k : Limits) (words : List ℕ) (h : List Entry) (v : Knowledge) : Type 0 where
+  pub own : Has v.fibers v.number → HoldsWhileOpen k words h v.number (last_stored v.stored)
+  pub others : (f : ℕ) → Owns v f → f ≢ v.number → HoldsWhileOpen k words h f 0
 
 -- no fiber belongs to two passes
 abbrev pub Apart : Knowledge → Knowledge → Type 0
 Apart v w = (f : ℕ) → Owns v f → Owns w f → ⊥
 
 -- the words are what the history h leaves, and it is legal. Excepted is the value word of a fiber that hasn't ended,
--- which is what its pass stored last
+-- which is what its pass stored last, and 0 as long as it has stored nothing. It is 0 too for a number that no start
+-- has given yet
 pub record IsHistory (k : Limits) (words : List ℕ) (views : List Knowledge) (h : List Entry) : Type 0 where
   pub limits : AreLimits k
   pub legal : IsLegal k h
   pub words_are : Leaves words (left k h)
   pub fits : (i : ℕ) (v : Knowledge) → get_elem? views i ≡ some v → Fits k h v
   pub stored : (i : ℕ) (v : Knowledge) → get_elem? views i ≡ some v → StoredLast k words h v
+  pub unborn : (f : ℕ) → (left k h).next_fiber ≤ f → value_of k words f ≡ 0
   pub apart : (i j : ℕ) (v w : Knowledge) → get_elem? views i ≡ some v → get_elem? views j ≡ some w → j ≢ i → Apart v w
 
 -- words are a history

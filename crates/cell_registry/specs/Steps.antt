@@ -54,10 +54,11 @@ Called v c r w = IsCall v.limits v.fibers v.seen v.number c r w.seen
 abbrev pub Looked : Knowledge → Knowledge → Type 0
 Looked v w = IsLook v.limits v.fibers v.seen w.seen
 
--- the same pass, whose own part of its cell is as before
+-- the same pass, whose own part of its cell is as before, and which has stored no number since
 pub record IsSame (v w : Knowledge) : Type 0 where
   pub limits : w.limits ≡ v.limits
   pub number : w.number ≡ v.number
+  pub stored : w.stored ≡ v.stored
   pub fibers : w.fibers ≡ v.fibers
   pub cell : owned (seen_cell w v.number) ≡ owned (seen_cell v v.number)
 
@@ -85,10 +86,11 @@ SawRequest v found w = FoundCell found (λ c. Called v Look (reply.Seen c.reques
     ((seen_cell w v.number).request ≡ c.request))
 
 -- ---- steps on the caller's own word
--- the same pass, whose own part of its cell is now this
+-- the same pass, whose own part of its cell is now this, and which has stored no number since
 pub record IsChanged (v w : Knowledge) (own : Stage × ℕ × ℕ) : Type 0 where
   pub limits : w.limits ≡ v.limits
   pub number : w.number ≡ v.number
+  pub stored : w.stored ≡ v.stored
   pub fibers : w.fibers ≡ v.fibers
   pub cell : owned (seen_cell w v.number) ≡ own
 
@@ -193,6 +195,7 @@ pub record Claimed (b : Band) (v : Knowledge) (n : ℕ) (w : Knowledge) : Type 0
   pub call : Called v (claim_of b) (reply.Number n) w
   pub limits : w.limits ≡ v.limits
   pub number : w.number ≡ v.number
+  pub stored : w.stored ≡ v.stored
   pub fibers : w.fibers ≡ fibers_with b n v.fibers
   pub cell : owned (seen_cell w v.number) ≡ owned (seen_cell v v.number)
   pub within : n < limit_of b v.limits
@@ -255,5 +258,6 @@ pub record Met (v w : Knowledge) : Type 0 where
   pub apart : (f : ℕ) → Has v.fibers f → Has v.guests f → ⊥
   pub limits : w.limits ≡ v.limits
   pub number : w.number ≡ v.number
+  pub stored : w.stored ≡ v.stored
   pub fibers : w.fibers ≡ v.fibers ++ v.guests
   pub cell : owned (seen_cell w v.number) ≡ owned (seen_cell v v.number)

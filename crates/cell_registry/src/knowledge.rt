@@ -19,7 +19,6 @@ pub struct Knowledge {
     /// While another pass is met: the history that it had seen, until the next step.
     pub heard: LinkedList<Entry>,
     /// What the pass stored last in its fiber's value word: `None` as long as it has stored nothing,
-    /// so from the start of the fiber until it ends. Nothing is known of the word before that, and
-    /// nobody needs to know it.
+    /// so from the start of the fiber until it ends. Until then the word is 0.
     pub stored: Option<u64>,
 }

@@ -8,6 +8,19 @@
 //! [`PlainRegistry`] is that registry for one thread. [`Registry`] is the lock-free one, which
 //! fibers on any threads share, each by its own [`Pass`]: it promises that all calls stand, with
 //! their replies, in one legal history, which leaves exactly the words.
+//!
+//! Two threads share a registry so: one cancels the child, and the other looks, as the child:
+//!
+//! ```
+//! let (registry, mut parent) = Registry::new(alloc, 2, 1, 1, 10)?;
+//! let mut child = registry.start(&mut parent)?;
+//! let (asked, seen) = thread::join(
+//!     rt,
+//!     move || registry.cancel(&mut parent, 1),
+//!     move || registry.look(&mut child),
+//! );
+//! // asked is CancelReply::Asked; seen is true where the cancel came before the look
+//! ```
 #![tactic(auto)]
 
 mod call;

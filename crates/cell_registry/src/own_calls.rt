@@ -41,7 +41,8 @@ fn is_finalizing(stage: Stage) -> bool
 }
 
 /// Each call adds 1 to the count of the caller's changes. It answers `Spent(count)` exactly where
-/// the count is the limit, and has then changed nothing.
+/// the count is the limit, and has then changed nothing: the pass is as it was, and by its type has
+/// stored nothing in the fiber's value word.
 impl Registry {
     /// Enters a mask, as in Cats Effect 3's `MonadCancel`. The fiber hasn't ended, and is under less
     /// than 255 masks.
@@ -114,10 +115,10 @@ impl Registry {
             pass.new) }
         ensures spent { IfErr result (λ e. IsSpent pass.old e pass.new) }
     {
+        let value = outcome_word(&outcome);
         refuse_if_spent(pass.count, self.limits.count)?;
         let place = value_place(self.limits, pass.number);
         let amount = finish_amount(is_finalizing(pass.stage), outcome);
-        let value = outcome_word(&outcome);
         self.table
             .shared
             .store::<rule::Stores>(&mut pass.seat, place, value);

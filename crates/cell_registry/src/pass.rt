@@ -11,7 +11,8 @@ use std::marker::Model;
 ///
 /// It isn't cloned: a fiber has one, and `Registry::new`, `start` and `meet` alone make it. It knows
 /// what only the fiber itself changes in its cell. Contracts see these numbers, the history that
-/// the pass has seen, and the fibers whose calls it makes or made.
+/// the pass has seen, and the fibers whose calls it makes or made. As long as its fiber hasn't ended,
+/// it has stored nothing in the fiber's value word.
 #[derive(Drop)]
 pub struct Pass {
     pub(crate) seat: Seat<u8, Knowledge>,

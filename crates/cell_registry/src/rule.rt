@@ -11,7 +11,8 @@ use atomic_table::{Join, Play, Split, TableRule};
 
 /// The rule of a registry's table: some legal history leaves exactly its words, and each pass knows
 /// how that history begins and all calls of its own fibers in it. Of the words of a fiber that
-/// hasn't ended, the history doesn't tell the value word: that is what the fiber's pass stored last.
+/// hasn't ended, the history doesn't tell the value word: that is what the fiber's pass stored last,
+/// and 0 as long as it has stored nothing.
 pub struct Rule;
 
 impl TableRule<u8, Knowledge, Limits> for Rule {

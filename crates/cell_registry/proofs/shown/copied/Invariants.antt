@@ -1,4 +1,3 @@
-use Rattle.std.proofs.Common.{◌≡◌}
 use Rattle.std.specs.Slots.{slots_items}
 use Rattle.cell_registry.specs.Private.Shown.{Copies}
 use Rattle.cell_registry.proofs.shown.copied.Given as goal

@@ -1,6 +1,7 @@
 use Rattle.std.proofs.Common.{◌≡◌, ℕ, ◌+◌, sym, ◌∙◌, ap, subst, refl, rules, true}
 use Rattle.cell_registry.specs.declared.cell.Stage.TheVariants.{Running, Finalizing}
 use Rattle.cell_registry.specs.declared.call.Call.TheVariants as call
+use Rattle.cell_registry.specs.Cells.{IsOpen}
 use Rattle.cell_registry.specs.Rule.{seen_cell}
 use Rattle.cell_registry.specs.Passes.{RegistryView, PassView, Changes, pass_of}
 use Rattle.cell_registry.proofs.OwnTurns.{cuts_as}
@@ -32,8 +33,9 @@ invariant_of-pass c =
     let p = c.pass.invariant in
     let cell = seat_cell _ _ _ _ _ _ _ p.1 in
     let depth = ap (λ o. o.1) cell ∙ subst (λ (q : PassView). q.depth ≡ 0) (sym c.pass.view_is) c.requires.unmasked in
+    let running = subst (λ (q : PassView). q.stage ≡ Running) (sym c.pass.view_is) c.requires.running in
     let told = c.fetch_add.ensures.2.1 in
-    (c.fetch_add.ensures.2.0, seated_changed _ _ _ _ _ _ _ _ _ _ _ _ _ (λ j. (Finalizing, depth j + 1, (cell j).2 + 1)) told.1 (call-prefix _ _ _ _ _ _ _ told.0) told.0.legal p.1)
+    (c.fetch_add.ensures.2.0, seated_changed c.pass.inside.seat.me.0.stored c.pass.inside.seat.me.0 c.fetch_add.new.seat.me.0 _ _ _ _ _ _ _ _ _ _ _ (λ j. (Finalizing, depth j + 1, (cell j).2 + 1)) told.1 (λ _. told.1.stored ∙ p.1.unstored (subst IsOpen (sym running) tt)) (call-prefix _ _ _ _ _ _ _ told.0) told.0.legal p.1)
 
 pub returns-clause-cut : goal.returns-clause-cut
 returns-clause-cut c =

@@ -11,7 +11,7 @@ use Rattle.cell_registry.specs.Steps.{Called}
 use Rattle.cell_registry.specs.Passes.{RegistryView, PassView, Changes, pass_of}
 use Rattle.cell_registry.proofs.Calls.{outcome-fits}
 use Rattle.cell_registry.proofs.OwnTurns.{finish-open, stores_as, finishes_as}
-use Rattle.cell_registry.proofs.Tokens.{of_registry, own_place, seat_has, seat_cell, called_by, call-prefix, pass_of-step, seated_stored, stored_registry, seated_changed, count_below, seen_count_below}
+use Rattle.cell_registry.proofs.Tokens.{of_registry, own_place, seat_has, seat_cell, called_by, call-prefix, pass_of-step, but_stored, seated_stored, stored_registry, seated_changed, count_below, seen_count_below}
 use Rattle.cell_registry.proofs.registry.Registry.finish.Goals as goal
 
 pub store-requires : goal.store-requires
@@ -57,7 +57,7 @@ invariant_of-pass c =
     let may = subst (λ (q : PassView). MayFinish q.stage q.depth c.args.outcome) (sym c.pass.view_is) c.requires.may in
     let stored = ap (λ (x : Knowledge). x.stored) s.2.1 ∙ ap Some c.outcome_word-value.ensures in
     let told = c.fetch_add-pass-inside.ensures.2.1 c.is_finalizing.result c.args.outcome phase (outcome-fits _ _ _ may) stored c.finish_amount-amount.ensures.sum in
-    (c.fetch_add-pass-inside.ensures.2.0, seated_changed _ _ _ _ _ _ _ _ _ _ _ _ _ (λ j. (Ended c.args.outcome, (cell j).1, (cell j).2 + 1)) told.1 (call-prefix _ _ _ _ _ _ _ told.0) told.0.legal p)
+    (c.fetch_add-pass-inside.ensures.2.0, seated_changed c.store.new.seat.me.0.stored (but_stored c.store.new.seat.me.0) c.fetch_add-pass-inside.new.seat.me.0 _ _ _ _ _ _ _ _ _ _ _ (λ j. (Ended c.args.outcome, (cell j).1, (cell j).2 + 1)) told.1 (λ opened. absurd opened) (call-prefix _ _ _ _ _ _ _ told.0) told.0.legal p)
 
 pub returns-clause-ended : goal.returns-clause-ended
 returns-clause-ended c =

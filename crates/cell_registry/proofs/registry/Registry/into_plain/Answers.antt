@@ -1,11 +1,10 @@
-use Rattle.std.proofs.Common.{◌≡◌, ℕ, ◌+◌, List, ◌∙◌, ap, sym, subst, arith}
-use Rattle.std.specs.Prelude.{IfOk}
+use Rattle.std.proofs.Common.{◌≡◌, ℕ, ◌+◌, List, ap, subst}
 use Rattle.cell_registry.specs.declared.limits.Limits.{Limits}
 use Rattle.cell_registry.specs.declared.call.Entry.{Entry}
 use Rattle.cell_registry.specs.Cells.{Cells}
 use Rattle.cell_registry.specs.Histories.{left}
 use Rattle.cell_registry.specs.Passes.{PassView, RegistryView}
-use Rattle.cell_registry.specs.Plain.{IsLeftPlain, PlainView}
+use Rattle.cell_registry.specs.Plain.{IsLeftPlain}
 use Rattle.cell_registry.specs.Private.Shown.{Shows}
 use Rattle.cell_registry.proofs.Showing.{if_ok, left_here, left_plain}
 use Rattle.cell_registry.proofs.registry.Registry.into_plain.Goals as goal

@@ -2,9 +2,10 @@ use Rattle.std.proofs.Common.{ℕ, sym, ◌∙◌, ap, arith, subst, refl}
 use Rattle.atomic_table.specs.Table.{Me}
 use Rattle.cell_registry.specs.declared.knowledge.Knowledge.{Knowledge}
 use Rattle.cell_registry.specs.Rule.{Has}
+use Rattle.cell_registry.specs.Cells.{IsOpen}
 use Rattle.cell_registry.specs.Passes.{RegistryView}
 use Rattle.cell_registry.proofs.Seats.{hosts, meets}
-use Rattle.cell_registry.proofs.Tokens.{of_registry, seat_has, met_seated}
+use Rattle.cell_registry.proofs.Tokens.{of_registry, seat_has, seat_cell, met_seated}
 use Rattle.cell_registry.proofs.registry.Registry.meet.Goals as goal
 
 pub join_seat-requires : goal.join_seat-requires
@@ -12,7 +13,7 @@ join_seat-requires c =
     let this = ap (λ (s : RegistryView). s.table) (of_registry _ _ _ _ c.self.view_is c.met.view_is c.requires.first) in
     let that = ap (λ (s : RegistryView). s.table) (of_registry _ _ _ _ c.self.view_is c.b.view_is c.requires.second) in
     let words = c.self.invariant.words in
-    (this, that, c.b.invariant.0, omega arith, hosts _ _ _ _ _)
+    (this, that, c.b.invariant.0, omega arith, hosts _ _ _ _ _ (seat_has _ _ refl c.b.invariant.1) (λ opened. c.b.invariant.1.unstored (subst IsOpen (ap (λ o. o.0) (seat_cell _ _ _ _ _ _ _ c.b.invariant.1)) opened)))
 
 pub load-requires : goal.load-requires
 load-requires c =

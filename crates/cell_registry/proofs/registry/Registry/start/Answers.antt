@@ -4,6 +4,7 @@ use Rattle.cell_registry.specs.declared.limits.Limits.{Limits}
 use Rattle.cell_registry.specs.declared.knowledge.Knowledge.{Knowledge}
 use Rattle.cell_registry.specs.declared.cell.Stage.TheVariants.{Running}
 use Rattle.cell_registry.specs.Cells.{IsOpen}
+use Rattle.cell_registry.specs.Rule.{Has}
 use Rattle.cell_registry.specs.Passes.{RegistryView, PassView, IsSeated, pass_of}
 use Rattle.cell_registry.proofs.Seats.{splits}
 use Rattle.cell_registry.proofs.Tokens.{of_registry, seat_has, seat_cell, call-prefix, seated_still, parent-same, child_seated}
@@ -34,7 +35,7 @@ split_seat-seat-requires c =
     let of = of_registry _ _ _ _ c.self.view_is c.pass.view_is c.requires.own in
     let words = c.self.invariant.words in
     let t = c.in-Some.ensures.claim in
-    (c.claim.ensures.seat.0 ∙ ap (λ (s : RegistryView). s.table) of, omega arith, splits _ _ _ c.in-Some.number _ t.fibers t.new.above)
+    (c.claim.ensures.seat.0 ∙ ap (λ (s : RegistryView). s.table) of, omega arith, splits _ _ c.claim.new.seat.me.0 c.in-Some.number _ t.fibers t.new.above (subst (λ (f : ℕ). Has c.pass.inside.seat.me.0.fibers f) (sym t.number) (seat_has _ _ refl c.pass.invariant.1)))
 
 pub invariant_of-pass-2 : goal.invariant_of-pass-2
 invariant_of-pass-2 c =

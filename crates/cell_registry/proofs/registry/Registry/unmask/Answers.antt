@@ -28,7 +28,7 @@ invariant_of-pass c =
     let p = c.pass.invariant in
     let cell = seat_cell _ _ _ _ _ _ _ p.1 in
     let told = c.fetch_sub.ensures.2.1 in
-    (c.fetch_sub.ensures.2.0, seated_changed _ _ _ _ _ _ _ _ _ _ _ _ _ (λ j. ((cell j).0, (cell j).1 - 1, (cell j).2 + 1)) told.1 (call-prefix _ _ _ _ _ _ _ told.0) told.0.legal p.1)
+    (c.fetch_sub.ensures.2.0, seated_changed c.pass.inside.seat.me.0.stored c.pass.inside.seat.me.0 c.fetch_sub.new.seat.me.0 _ _ _ _ _ _ _ _ _ _ _ (λ j. ((cell j).0, (cell j).1 - 1, (cell j).2 + 1)) told.1 (λ opened. told.1.stored ∙ p.1.unstored opened) (call-prefix _ _ _ _ _ _ _ told.0) told.0.legal p.1)
 
 pub returns-clause-unmasked : goal.returns-clause-unmasked
 returns-clause-unmasked c =
