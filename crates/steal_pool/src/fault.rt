@@ -1,5 +1,6 @@
 //! How what workers know of the first fault comes back to who answers.
-ghost use Rattle.std.specs.Prelude.{◌≡◌, ◌≢◌, ℕ, None};
+ghost use Rattle.std.specs.Prelude.{◌≡◌, ◌≢◌, ℕ, All, List, None, Some};
+ghost use Rattle.std.specs.Iterator.{Drains, IsFinite};
 ghost use Rattle.once_cell.specs.Once.{cell_name};
 
 use crate::laws;
@@ -63,9 +64,19 @@ impl<'r, C: FaultCell> FirstFault<'r, C> {
         rt: &R,
         threads: Vec<JoinHandle<Learned<C>>>,
     ) -> Option<RunError> {
+        self.known_to_one(threads.into_iter().map(|thread| thread.join(rt)))
+    }
+
+    /// The first fault that one of these workers knows, or that the cell shows by then.
+    fn known_to_one<I: Iterator<Item = Learned<C>> + Drop>(&self, workers: I) -> Option<RunError>
+        requires can { I.can_next workers }
+        requires ends { IsFinite (I.remaining workers) }
+        ensures told { (all : List (Learned C _)) × Drains I.next_gives workers all ×
+            All (λ one. (e : _) → one.note.known ≡ Some e → result ≡ Some e) all }
+    {
         let mut mine = self.cell.note();
-        for thread in threads {
-            laws::learn(self.cell, &mut mine, thread.join(rt).note);
+        for worker in workers {
+            laws::learn(self.cell, &mut mine, worker.note);
         }
         laws::first_fault(self.cell, &mut mine)
     }
