@@ -91,7 +91,7 @@ impl Leavings {
 
 // How many moves these tasks may still make.
 fn rests<'a>(alloc: Global, tasks: &[FiberTask<'a>]) -> Result<Vec<u32>, AllocError> {
-    let mut rests = Vec::new(alloc);
+    let mut rests = Vec::with_capacity(alloc, tasks.len())?;
     for task in tasks {
         rests.push(task.moves())?;
     }
@@ -104,7 +104,7 @@ fn in_order(alloc: Global, configs: Vec<Config>, born: u16) -> Result<Vec<Config
     ensures { IfOk result (λ it. AreInOrder configs.items born it.items) }
 {
     let mut configs = configs;
-    let mut fibers = Vec::new(alloc);
+    let mut fibers = Vec::with_capacity(alloc, usize::from(born))?;
     for number in 0..born {
         let Some(config) = configs.pop() else {
             return Err(RunError::Lost(number));

@@ -63,10 +63,11 @@ pub(crate) fn meet<'a>(
     ensures empty { tasks.entry.items ≡ [] → result ≡ Fails (RunError.Lost 0) }
 {
     let mut tasks = tasks;
-    let mut configs = Vec::new(alloc);
+    let many = tasks.len();
     let Some(task) = tasks.pop() else {
         return Err(RunError::Lost(0));
     };
+    let mut configs = Vec::with_capacity(alloc, many)?;
     let (pass, config) = task.into_parts();
     let _ = pass.number();
     let mut met = pass;

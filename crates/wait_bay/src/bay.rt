@@ -67,13 +67,14 @@ impl<'a> Bay<'a> {
         ensures named { IfOk result (λ b. b.0.named ≡ named_of named.entry) }
         ensures seat { IfOk result (λ b. IsSeatOf b.0 b.1) }
     {
-        let mut slots = Vec::new(alloc);
+        let many = usize::from(fibers);
+        let mut slots = Vec::with_capacity(alloc, many)?;
         for _ in 0..fibers {
             slots.push(Mutex::new(Slot::new()))?;
         }
-        let words = Vec::from_elem(alloc, 0u64, usize::from(fibers))?;
+        let words = Vec::from_elem(alloc, 0u64, many)?;
         let names = Names { named };
-        let (table, seat) = Table::vacant(alloc, words.as_slice(), usize::from(fibers), &names)?;
+        let (table, seat) = Table::vacant(alloc, words.as_slice(), many, &names)?;
         let bay = Bay {
             alloc,
             count: fibers,
@@ -148,7 +149,7 @@ impl<'a> Bay<'a> {
 fn lists(alloc: Global, count: u16) -> Result<Vec<Mutex<Waiters>>, AllocError>
     ensures { IfOk result (λ v. vec_len v ≡ count) }
 {
-    let mut all = Vec::new(alloc);
+    let mut all = Vec::with_capacity(alloc, usize::from(count))?;
     for _ in 0..count {
         all.push(Mutex::new(Waiters::new(alloc)))?;
     }

@@ -21,8 +21,8 @@ impl<'a> Bay<'a> {
             table,
             ..
         } = self;
+        let mut tasks = Vec::with_capacity(alloc, usize::from(count))?;
         let mut closed = table.close();
-        let mut tasks = Vec::new(alloc);
         let mut lost = false;
         for f in 0..count {
             let found = closed.take(f as usize);

@@ -7,7 +7,7 @@ use Rattle.steal_pool.proofs.gathering.meet.Goals as goal
 pub loop-task-init : goal.loop-task-init
 loop-task-init c =
     let p = c.into_parts-pass.ensures in
-    let later = c.in_ok-push.ensures.pushed ∙ ap (λ l. l ++ c.into_parts-pass.result.1 ∷ []) c.new-configs.ensures.items in (
+    let later = c.in_ok-push.ensures.pushed ∙ ap (λ l. l ++ c.into_parts-pass.result.1 ∷ []) c.in_ok-configs.ensures.items in (
       meets_first c.args.registry.now c.args.tasks.items c.pop.new.self.items c.in-Some.task c.requires c.in-Some.ensures.items p.lawful c.into_parts-pass.result.0 c.into_parts-pass.result.1 p.pass p.state c.push.new.configs.items later,
       first_taken c.args.tasks.items c.pop.new.self.items c.in-Some.task c.into_parts-pass.result.0 c.push.new.configs.items c.into_parts-pass.result.1 c.in-Some.ensures.items p.state p.pass later p.lawful,
       pass_here c.args.registry.now c.args.tasks.items c.pop.new.self.items c.in-Some.task c.requires c.in-Some.ensures.items p.lawful c.into_parts-pass.result.0 c.into_parts-pass.result.1 p.pass p.state,
