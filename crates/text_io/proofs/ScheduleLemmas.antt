@@ -199,6 +199,13 @@ read_more text rest first behind entries more fiber times h cut i e few =
       some = h.some;
     }
 
+-- an item of one digit
+pub read_short : (text rest behind entries more : List ℕ) (fiber : ℕ) → HasRead text rest entries → fiber < 10 → rest ≡ (48 + fiber) ∷ 32 ∷ behind → more ≡ entries ++ replicate 1 fiber → length entries < 1000000 → HasRead text behind more
+read_short text rest behind entries more fiber h low cut e few =
+    let short : IsItemOf ((48 + fiber) ∷ []) fiber 1 =
+    record { item = once fiber; good = omega arith; text_is = sym (decimal_digit fiber low); fiber_is = refl; times_is = refl } in
+    read_more text rest ((48 + fiber) ∷ []) behind entries more fiber 1 h cut short e (omega arith)
+
 pub read_all : (text rest entries more : List ℕ) (fiber times : ℕ) → HasRead text rest entries → IsItemOf rest fiber times → more ≡ entries ++ replicate times fiber → length entries + times ≤ 1000000 → SpellsEntries text more
 read_all text rest entries more fiber times h i e few =
     record {

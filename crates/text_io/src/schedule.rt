@@ -120,6 +120,16 @@ fn first_item(text: &str) -> (&str, Option<&str>)
     }
 }
 
+/// The fiber of an item of one digit that a space stands behind, as most are, and what stands behind the space.
+fn short_item(text: &str) -> Option<(u16, &str)>
+    ensures { IfSome result (λ found. (found.0 < 10) × (text.now ≡ (48 + found.0) ∷ 32 ∷ found.1.now)) }
+{
+    match text.as_bytes() {
+        [digit @ b'0'..=b'9', b' ', ..] => Some((u16::from(*digit - b'0'), &text[2..])),
+        _ => None,
+    }
+}
+
 fn push_times(entries: &mut Vec<u16>, fiber: u16, times: u32) -> Result<(), AllocError>
     requires { vec_len entries.old ≤ MOST_ENTRIES }
     ensures { OnOk result (entries.new.items ≡ entries.old.items ++ replicate times fiber) }
@@ -147,6 +157,13 @@ fn read_items(alloc: Global, text: &str) -> Result<Vec<u16>, ScheduleError>
     let mut entries = Vec::with_capacity(alloc, first_room(text))?;
     let mut rest = text;
     'items: loop {
+        if let Some((fiber, behind)) = short_item(rest)
+            && entries.len() < MOST_ENTRIES
+        {
+            push_times(&mut entries, fiber, 1)?;
+            rest = behind;
+            continue;
+        }
         let (first, behind) = first_item(rest);
         let place = text.len() - rest.len();
         let Some((fiber, times)) = item(first) else {

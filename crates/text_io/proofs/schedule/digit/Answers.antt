@@ -1,4 +1,4 @@
-use Rattle.std.proofs.Common.{◌≡◌, ◌∙◌, ◌+◌, ◌∷◌, [], arith, sym, ap}
+use Rattle.std.proofs.Common.{◌∙◌, ◌∷◌, [], arith, sym, ap}
 use Rattle.std.proofs.lemmas.Fmt.{decimal_digit}
 use Rattle.text_io.proofs.ScheduleLemmas.{one_digit}
 use Rattle.text_io.proofs.schedule.digit.Goals as goal
