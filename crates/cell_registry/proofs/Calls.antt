@@ -1,5 +1,6 @@
 -- What each call leaves of a registry.
-use Rattle.std.proofs.Common.{◌≡◌, ◌≢◌, ◌⊎◌, inl, inr, ℕ, ◌+◌, ◌<◌, ◌≤◌, Bool, true, false, refl, sym, ap, ◌∙◌, subst, arith, eqb, eq-eqb, ne_eqb, length-set, get_or-set_other, pos, ℤ, ◌+ℤ◌}
+use Rattle.std.proofs.Common.{◌≡◌, ◌≢◌, ◌⊎◌, inl, inr, ℕ, ◌+◌, ◌<◌, ◌≤◌, Bool, true, false, refl, sym, ap, ◌∙◌}
+use Rattle.std.proofs.Common.{subst, arith, eqb, eq-eqb, ne_eqb, length-set, get_or-set_other, pos, ℤ, ◌+ℤ◌}
 use mathlib.Core.Logic.{dite}
 use native.Mathlib.Decide.{ℕ_discrete}
 use Rattle.std.specs.Prelude.{cond, Option, Some, None}
@@ -17,8 +18,13 @@ use Rattle.cell_registry.specs.declared.cell.Stage.{Stage}
 use Rattle.cell_registry.specs.declared.cell.Stage.TheVariants.{Running, Finalizing, Ended}
 use Rattle.cell_registry.specs.declared.cell.Cell.{Cell}
 use Rattle.cell_registry.specs.declared.call.Call.{Call}
-use Rattle.cell_registry.specs.declared.call.Call.TheVariants.{Start, Cancel, Join, Look, Mask, Unmask, Cut, Finish, NewRef, NewDeferred, Get, Set, Modify, Complete, Read}
-use Rattle.cell_registry.specs.Cells.{AreLimits, fresh, requested, awaited, owned, MayFinish, Cells, opening, cell_of, ref_of, deferred_of, with_cell, with_ref, with_deferred, filled, after, IsAllowed, full, spent, refusal, IsAccepted, OutcomeFits, ValueFits, IsCell, IsSound}
+use Rattle.cell_registry.specs.declared.call.Call.TheVariants.{Start, Cancel, Join, Look, Mask, Unmask, Cut}
+use Rattle.cell_registry.specs.declared.call.Call.TheVariants.{Finish, NewRef, NewDeferred, Get, Set, Modify}
+use Rattle.cell_registry.specs.declared.call.Call.TheVariants.{Complete, Read}
+use Rattle.cell_registry.specs.Cells.{AreLimits, fresh, requested, awaited, owned, MayFinish, Cells, opening}
+use Rattle.cell_registry.specs.Cells.{cell_of, ref_of, deferred_of, with_cell, with_ref, with_deferred, filled}
+use Rattle.cell_registry.specs.Cells.{after, IsAllowed, full, spent, refusal, IsAccepted, OutcomeFits}
+use Rattle.cell_registry.specs.Cells.{ValueFits, IsCell, IsSound}
 use Rattle.cell_registry.specs.Bands.{next_of, claim_of}
 use Rattle.cell_registry.proofs.Lists.{All-set, get_or-set_kept, get_or-replicate_default}
 
@@ -52,7 +58,8 @@ next_of-kept Refs s t fiber ref deferred = ref
 next_of-kept Deferreds s t fiber ref deferred = deferred
 
 -- after the call that takes a number of the band a
-next_of-claim : (b a : Band) (s : Cells) (by : ℕ) → (next_of b (after s by (claim_of a)) ≡ next_of b s) ⊎ ((claim_of a ≡ claim_of b) × (next_of b (after s by (claim_of a)) ≡ next_of b s + 1))
+next_of-claim : (b a : Band) (s : Cells) (by : ℕ) → (next_of b (after s by (claim_of a)) ≡ next_of b s) ⊎
+    ((claim_of a ≡ claim_of b) × (next_of b (after s by (claim_of a)) ≡ next_of b s + 1))
 unfolding after
 next_of-claim Fibers Fibers s by = inr (refl, refl)
 next_of-claim Fibers Refs s by = inl refl
@@ -65,7 +72,8 @@ next_of-claim Deferreds Refs s by = inl refl
 next_of-claim Deferreds Deferreds s by = inr (refl, refl)
 
 -- the next number of a band stays, or the call took it
-next_of-after : (b : Band) (s : Cells) (by : ℕ) (c : Call) → (next_of b (after s by c) ≡ next_of b s) ⊎ ((c ≡ claim_of b) × (next_of b (after s by c) ≡ next_of b s + 1))
+next_of-after : (b : Band) (s : Cells) (by : ℕ) (c : Call) → (next_of b (after s by c) ≡ next_of b s) ⊎
+    ((c ≡ claim_of b) × (next_of b (after s by c) ≡ next_of b s + 1))
 unfolding after
 next_of-after b s by Start = next_of-claim b Fibers s by
 next_of-after b s by (Cancel f) = inl (next_of-kept b s (after s by (Cancel f)) refl refl refl)
@@ -131,7 +139,8 @@ opening-sound k l = let many = l.some_fiber in record {
   each_deferred = λ d. subst ValueFits (sym (get_or-replicate_default None k.deferreds d)) tt;
 }
 
-with_next-sound : (k : Limits) (s : Cells) (f r d : ℕ) → IsSound k s → 0 < f → f ≤ k.fibers → r ≤ k.refs → d ≤ k.deferreds → IsSound k (record s { next_fiber = f; next_ref = r; next_deferred = d })
+with_next-sound : (k : Limits) (s : Cells) (f r d : ℕ) → IsSound k s → 0 < f → f ≤ k.fibers → r ≤ k.refs → d ≤ k.deferreds →
+    IsSound k (record s { next_fiber = f; next_ref = r; next_deferred = d })
 with_next-sound k s f r d h some fibers refs deferreds = record {
   fibers = h.fibers;
   refs = h.refs;
@@ -211,12 +220,17 @@ after-sound k s by Start h a = let apart = full-room _ s.next_fiber k.fibers a.r
 after-sound k s by (Cancel f) h a = let i = h.each_cell f in with_cell-sound k s f _ h record { count = i.count; depth = i.depth; stage = i.stage }
 after-sound k s by (Join f) h a = let i = h.each_cell f in with_cell-sound k s f _ h record { count = i.count; depth = i.depth; stage = i.stage }
 after-sound k s by Look h a = h
-after-sound k s by Mask h a = let deep = a.allowed.1 in with_cell-sound k s by _ h record { count = counted k s by h a.room; depth = omega arith; stage = (h.each_cell by).stage }
-after-sound k s by Unmask h a = let deep = (h.each_cell by).depth in with_cell-sound k s by _ h record { count = counted k s by h a.room; depth = omega arith; stage = (h.each_cell by).stage }
+after-sound k s by Mask h a = let deep = a.allowed.1 in
+    with_cell-sound k s by _ h record { count = counted k s by h a.room; depth = omega arith; stage = (h.each_cell by).stage }
+after-sound k s by Unmask h a = let deep = (h.each_cell by).depth in
+    with_cell-sound k s by _ h record { count = counted k s by h a.room; depth = omega arith; stage = (h.each_cell by).stage }
 after-sound k s by Cut h a = let deep = a.allowed.1 in with_cell-sound k s by _ h record { count = counted k s by h a.room; depth = omega arith; stage = tt }
-after-sound k s by (Finish o) h a = with_cell-sound k s by _ h record { count = counted k s by h a.room; depth = (h.each_cell by).depth; stage = outcome-fits _ _ o a.allowed }
-after-sound k s by NewRef h a = let apart = full-room _ s.next_ref k.refs a.room in let below = h.next_ref in with_next-sound k s s.next_fiber (s.next_ref + 1) s.next_deferred h h.some_fiber h.next_fiber (omega arith) h.next_deferred
-after-sound k s by NewDeferred h a = let apart = full-room _ s.next_deferred k.deferreds a.room in let below = h.next_deferred in with_next-sound k s s.next_fiber s.next_ref (s.next_deferred + 1) h h.some_fiber h.next_fiber h.next_ref (omega arith)
+after-sound k s by (Finish o) h a =
+    with_cell-sound k s by _ h record { count = counted k s by h a.room; depth = (h.each_cell by).depth; stage = outcome-fits _ _ o a.allowed }
+after-sound k s by NewRef h a = let apart = full-room _ s.next_ref k.refs a.room in let below = h.next_ref in
+    with_next-sound k s s.next_fiber (s.next_ref + 1) s.next_deferred h h.some_fiber h.next_fiber (omega arith) h.next_deferred
+after-sound k s by NewDeferred h a = let apart = full-room _ s.next_deferred k.deferreds a.room in let below = h.next_deferred in
+    with_next-sound k s s.next_fiber s.next_ref (s.next_deferred + 1) h h.some_fiber h.next_fiber h.next_ref (omega arith)
 after-sound k s by (Get r) h a = h
 after-sound k s by (Set r v) h a = with_ref-sound k s r v h a.allowed.1
 after-sound k s by (Modify r v) h a = with_ref-sound k s r _ h (wrapped_is_value (ref_of s r +ℤ v))

@@ -1,5 +1,6 @@
 -- The steps on the claim word of a band.
-use Rattle.std.proofs.Common.{◌≡◌, ◌≢◌, ℕ, ◌+◌, ◌<◌, ◌≤◌, List, [], ◌∷◌, ◌++◌, get_or, ◌⊎◌, inl, inr, ⊎_elim, refl, sym, ap, ◌∙◌, subst, arith, eqb, append_assoc}
+use Rattle.std.proofs.Common.{◌≡◌, ◌≢◌, ℕ, ◌+◌, ◌<◌, ◌≤◌, List, [], ◌∷◌, ◌++◌, get_or, ◌⊎◌, inl, inr, ⊎_elim}
+use Rattle.std.proofs.Common.{refl, sym, ap, ◌∙◌, subst, arith, eqb, append_assoc}
 use prog.Atomic.{either}
 use Rattle.atomic_table.specs.Table.{Me, Allows}
 use Rattle.atomic_table.proofs.Lists.{exchanged}
@@ -62,13 +63,16 @@ abbrev up_to : Knowledge → List Entry → Knowledge
 up_to v h = record v { seen = h; guests = []; heard = [] }
 
 looked : (k : Limits) (h : List Entry) (v : Knowledge) → Has v.fibers v.number → IsLegal k h → Fits k h v → Looked v (up_to v h)
-looked k h v has legal mine = record { seen = mine.seen; legal = subst (λ (x : Limits). IsLegal x h) (sym (mine.limits v.number has)) legal; own = λ f owns. (mine.own f owns).calls }
+looked k h v has legal mine =
+    record { seen = mine.seen; legal = subst (λ (x : Limits). IsLegal x h) (sym (mine.limits v.number has)) legal; own = λ f owns. (mine.own f owns).calls }
 
 -- the cell of one's own, at the moment
-pub same_now : (k : Limits) (h : List Entry) (v : Knowledge) → Has v.fibers v.number → Fits k h v → owned (cell_of (left v.limits h) v.number) ≡ owned (seen_cell v v.number)
+pub same_now : (k : Limits) (h : List Entry) (v : Knowledge) → Has v.fibers v.number → Fits k h v →
+    owned (cell_of (left v.limits h) v.number) ≡ owned (seen_cell v v.number)
 same_now k h v has mine = (λ j. owned (cell_of (left (mine.limits v.number has j) h) v.number)) ∙ own_same k h v has mine
 
-saw_next : (b : Band) (k : Limits) (h : List Entry) (words : List ℕ) (v : Knowledge) → Has v.fibers v.number → IsLegal k h → Leaves words (left k h) → Fits k h v → SawNext b v (get_or words (band_word b) 0) (up_to v h)
+saw_next : (b : Band) (k : Limits) (h : List Entry) (words : List ℕ) (v : Knowledge) → Has v.fibers v.number → IsLegal k h →
+    Leaves words (left k h) → Fits k h v → SawNext b v (get_or words (band_word b) 0) (up_to v h)
 saw_next b k h words v has legal leaves mine = (
   looked k h v has legal mine,
   record { limits = refl; number = refl; stored = refl; fibers = refl; cell = same_now k h v has mine },
@@ -76,7 +80,8 @@ saw_next b k h words v has legal leaves mine = (
 )
 
 -- a step at the word i that only looks
-pub sees_all : (k : Limits) (h : List Entry) (words : List ℕ) (v : Knowledge) (i : ℕ) (then : ℕ → Knowledge → Type 0) → i < 3 → Leaves words (left k h) → then (get_or words i 0) (up_to v h) → Look k v i (get_or words i 0) then h words
+pub sees_all : (k : Limits) (h : List Entry) (words : List ℕ) (v : Knowledge) (i : ℕ) (then : ℕ → Knowledge → Type 0) → i < 3 →
+    Leaves words (left k h) → then (get_or words i 0) (up_to v h) → Look k v i (get_or words i 0) then h words
 sees_all k h words v i then claim leaves told = record {
   view = up_to v h;
   word = same_words words (left k h) i leaves;
@@ -92,34 +97,42 @@ sees_all k h words v i then claim leaves told = record {
 }
 
 module _ {S : Type 0} where
-  pub sees_next : (b : Band) (k : Limits) (id : ℕ) (me : Me S Knowledge) (slots : ℕ) → me.1 ≡ [] → Has me.0.fibers me.0.number → Allows (WordsAreAHistory k) slots id me (band_word b) (λ n. n) (Tells (λ n w. AtBand (band_word b) (λ c. SawNext c me.0 n w)))
-  sees_next b k id me slots none_out has = looks k id me (band_word b) (λ n w. AtBand (band_word b) (λ c. SawNext c me.0 n w)) slots none_out has (λ h words legal leaves mine.
-      sees_all k h words me.0 (band_word b) (λ n w. AtBand (band_word b) (λ c. SawNext c me.0 n w)) (band_word-low b) leaves (at_band b (λ c. SawNext c me.0 (get_or words (band_word b) 0) (up_to me.0 h)) (saw_next b k h words me.0 has legal leaves mine)))
+  pub sees_next : (b : Band) (k : Limits) (id : ℕ) (me : Me S Knowledge) (slots : ℕ) → me.1 ≡ [] → Has me.0.fibers me.0.number →
+      Allows (WordsAreAHistory k) slots id me (band_word b) (λ n. n) (Tells (λ n w. AtBand (band_word b) (λ c. SawNext c me.0 n w)))
+  sees_next b k id me slots none_out has =
+      looks k id me (band_word b) (λ n w. AtBand (band_word b) (λ c. SawNext c me.0 n w)) slots none_out has (λ h words legal leaves mine.
+      sees_all k h words me.0 (band_word b) (λ n w. AtBand (band_word b) (λ c. SawNext c me.0 n w)) (band_word-low b) leaves
+      (at_band b (λ c. SawNext c me.0 (get_or words (band_word b) 0) (up_to me.0 h)) (saw_next b k h words me.0 has legal leaves mine)))
 
 -- ---- a claim
 -- what the pass knows once the next number is claimed
 abbrev claimed : Band → Knowledge → List Entry → ℕ → Knowledge
 claimed b v h n = record v { seen = h ++ entry v.number (claim_of b) (reply.Number n) ∷ []; fibers = fibers_with b n v.fibers; guests = []; heard = [] }
 
-fibers-claim : (b : Band) (s : Cells) (by : ℕ) (v : Knowledge) (g : ℕ) → Has (fibers_with b (next_of b s) v.fibers) g → Has v.fibers g ⊎ ((s.next_fiber ≤ g) × (g < (after s by (claim_of b)).next_fiber))
+fibers-claim : (b : Band) (s : Cells) (by : ℕ) (v : Knowledge) (g : ℕ) → Has (fibers_with b (next_of b s) v.fibers) g → Has v.fibers g ⊎
+    ((s.next_fiber ≤ g) × (g < (after s by (claim_of b)).next_fiber))
 unfolding after
 fibers-claim Fibers s by v g a = ⊎_elim (λ (e : s.next_fiber ≡ g). inr (omega arith, omega arith)) (λ a. inl a) a
 fibers-claim Refs s by v g a = inl a
 fibers-claim Deferreds s by v g a = inl a
 
 -- the number of a new fiber is no other's
-unused : (b : Band) (k : Limits) (h : List Entry) (v : Knowledge) → Has v.fibers v.number → IsLegal k h → Fits k h v → left v.limits (claimed b v h (next_of b (left k h))).seen ≡ after (left k h) v.number (claim_of b) → IsNew b v (next_of b (left k h)) (claimed b v h (next_of b (left k h)))
+unused : (b : Band) (k : Limits) (h : List Entry) (v : Knowledge) → Has v.fibers v.number → IsLegal k h → Fits k h v →
+    left v.limits (claimed b v h (next_of b (left k h))).seen ≡ after (left k h) v.number (claim_of b) →
+    IsNew b v (next_of b (left k h)) (claimed b v h (next_of b (left k h)))
 unused Fibers k h v has legal mine now =
     let n : ℕ = (left k h).next_fiber in
     let born = (mine.own v.number has).born in record {
       above = λ f owns. (mine.own f owns).born;
-      cell = ap (λ (x : Cells). owned (cell_of x n)) now ∙ ap (λ (cs : List Cell). owned (get_or cs n fresh)) (after-claim Fibers (left k h) v.number) ∙ unborn_cell k h n legal (omega arith);
+      cell = ap (λ (x : Cells). owned (cell_of x n)) now ∙
+          ap (λ (cs : List Cell). owned (get_or cs n fresh)) (after-claim Fibers (left k h) v.number) ∙ unborn_cell k h n legal (omega arith);
       calls = calls_by-other n h (entry v.number (claim_of Fibers) (reply.Number n)) (λ q. omega arith) ∙ unborn k h n legal (omega arith);
     }
 unused Refs k h v has legal mine now = tt
 unused Deferreds k h v has legal mine now = tt
 
-claim : (b : Band) (k : Limits) (h : List Entry) (words : List ℕ) (v : Knowledge) (old : ℕ) → Leaves words (left k h) → Has v.fibers v.number → IsLegal k h → Fits k h v → MayClaim b (seen_cell v v.number).stage → next_of b (left k h) ≡ old → old < limit_of b k
+claim : (b : Band) (k : Limits) (h : List Entry) (words : List ℕ) (v : Knowledge) (old : ℕ) → Leaves words (left k h) → Has v.fibers v.number →
+    IsLegal k h → Fits k h v → MayClaim b (seen_cell v v.number).stage → next_of b (left k h) ≡ old → old < limit_of b k
     → Turn k v (band_word b) (old + 1) (λ n w. AtBand (band_word b) (λ c. Tried c old v n w)) h words
 claim b k h words v old leaves has legal mine may is within =
     let s : Cells = left k h in
@@ -150,7 +163,8 @@ claim b k h words v old leaves has legal mine may is within =
           number = refl;
           stored = refl;
           fibers = refl;
-          cell = ap (λ (x : Cells). owned (cell_of x v.number)) now ∙ ap (λ (cs : List Cell). owned (get_or cs v.number fresh)) (after-claim b s v.number) ∙ own_same k h v has mine;
+          cell = ap (λ (x : Cells). owned (cell_of x v.number)) now ∙
+              ap (λ (cs : List Cell). owned (get_or cs v.number fresh)) (after-claim b s v.number) ∙ own_same k h v has mine;
           within = subst (λ (x : Limits). n < limit_of b x) (sym limits) (rw is within);
           new = unused b k h v has legal mine now;
         },
@@ -158,8 +172,10 @@ claim b k h words v old leaves has legal mine may is within =
     }
 
 module _ {S : Type 0} where
-  pub tries : (b : Band) (k : Limits) (id : ℕ) (me : Me S Knowledge) (old slots : ℕ) → me.1 ≡ [] → Has me.0.fibers me.0.number → MayClaim b (seen_cell me.0 me.0.number).stage → old < limit_of b k
-      → Allows (WordsAreAHistory k) slots id me (band_word b) (λ n. either (eqb n old) (old + 1) n) (Tells (λ n w. AtBand (band_word b) (λ c. Tried c old me.0 n w)))
+  pub tries : (b : Band) (k : Limits) (id : ℕ) (me : Me S Knowledge) (old slots : ℕ) → me.1 ≡ [] → Has me.0.fibers me.0.number →
+      MayClaim b (seen_cell me.0 me.0.number).stage → old < limit_of b k
+      → Allows (WordsAreAHistory k) slots id me (band_word b) (λ n. either (eqb n old) (old + 1) n)
+      (Tells (λ n w. AtBand (band_word b) (λ c. Tried c old me.0 n w)))
   tries b k id me old slots none_out has may within s kept len at small =
       let v : Knowledge = me.0 in
       let r = kept.1 in
@@ -171,7 +187,8 @@ module _ {S : Type 0} where
       exchanged (get_or s.words i 0) old (old + 1) (λ x. Goes k s i x id me (Tells then))
       (λ hit. turn_at k id me i (old + 1) then none_out has s kept at (claim b k h s.words v old r.words_are has r.legal mine may (sym found ∙ hit) within))
       (λ miss. look_at k id me i (get_or s.words i 0) then none_out has s kept at
-      (sees_all k h s.words v i then (band_word-low b) r.words_are (at_band b (λ c. Tried c old v (get_or s.words i 0) (up_to v h)) (inr (miss, saw_next b k h s.words v has r.legal r.words_are mine)))))
+      (sees_all k h s.words v i then (band_word-low b) r.words_are
+      (at_band b (λ c. Tried c old v (get_or s.words i 0) (up_to v h)) (inr (miss, saw_next b k h s.words v has r.legal r.words_are mine)))))
 
 -- ---- looks before a claim
 pub looked_twice : (u v w : Knowledge) → Looked u v → IsSame u v → Looked v w → Looked u w
@@ -191,7 +208,8 @@ same_twice u v w a b = record {
 }
 
 new_after_look : (b : Band) (u v w : Knowledge) (n : ℕ) → IsSame u v → IsNew b v n w → IsNew b u n w
-new_after_look Fibers u v w n s new = record { above = λ f h. new.above f (subst (λ (fs : List ℕ). Has fs f) (sym s.fibers) h); cell = new.cell; calls = new.calls }
+new_after_look Fibers u v w n s new =
+    record { above = λ f h. new.above f (subst (λ (fs : List ℕ). Has fs f) (sym s.fibers) h); cell = new.cell; calls = new.calls }
 new_after_look Refs u v w n s new = tt
 new_after_look Deferreds u v w n s new = tt
 
@@ -203,10 +221,13 @@ looked_then_claimed b u v w n has a s c =
     record {
       call = record {
         between = a.seen.0 ++ m.between;
-        seen = m.seen ∙ (λ j. (sym a.seen.1 j ++ m.between) ++ e (by j) ∷ []) ∙ ap (λ (l : List Entry). l ++ e u.number ∷ []) (append_assoc u.seen a.seen.0 m.between);
-        replied = m.replied ∙ (λ j. reply_of (left (s.limits j) (sym a.seen.1 j ++ m.between)) (by j) (claim_of b)) ∙ ap (λ (l : List Entry). reply_of (left u.limits l) u.number (claim_of b)) (append_assoc u.seen a.seen.0 m.between);
+        seen = m.seen ∙ (λ j. (sym a.seen.1 j ++ m.between) ++ e (by j) ∷ []) ∙
+            ap (λ (l : List Entry). l ++ e u.number ∷ []) (append_assoc u.seen a.seen.0 m.between);
+        replied = m.replied ∙ (λ j. reply_of (left (s.limits j) (sym a.seen.1 j ++ m.between)) (by j) (claim_of b)) ∙
+            ap (λ (l : List Entry). reply_of (left u.limits l) u.number (claim_of b)) (append_assoc u.seen a.seen.0 m.between);
         legal = rw (sym s.limits) m.legal;
-        own = (λ j. calls_by (sym by j) w.seen) ∙ m.own ∙ (λ j. calls_by (by j) v.seen ++ e (by j) ∷ []) ∙ ap (λ (l : List Entry). l ++ e u.number ∷ []) (a.own u.number has);
+        own = (λ j. calls_by (sym by j) w.seen) ∙ m.own ∙ (λ j. calls_by (by j) v.seen ++ e (by j) ∷ []) ∙
+            ap (λ (l : List Entry). l ++ e u.number ∷ []) (a.own u.number has);
         others = λ f h ne. m.others f (subst (λ (fs : List ℕ). Has fs f) (sym s.fibers) h) (λ q. ne (q ∙ by)) ∙ a.own f h;
       };
       limits = c.limits ∙ s.limits;
@@ -229,14 +250,17 @@ pub failed : (b : Band) (old found : ℕ) (v w : Knowledge) → Tried b old v fo
 failed b old found v w t ne = ⊎_elim (λ (a : (found ≡ old) × Claimed b v found w). absurd (ne a.0)) (λ (a : (found ≢ old) × SawNext b v found w). a.1) t
 
 pub won : (b : Band) (old found : ℕ) (v w : Knowledge) → Tried b old v found w → found ≡ old → Claimed b v old w
-won b old found v w t e = ⊎_elim (λ (a : (found ≡ old) × Claimed b v found w). subst (λ (n : ℕ). Claimed b v n w) e a.1) (λ (a : (found ≢ old) × SawNext b v found w). absurd (a.0 e)) t
+won b old found v w t e =
+    ⊎_elim (λ (a : (found ≡ old) × Claimed b v found w). subst (λ (n : ℕ). Claimed b v n w) e a.1)
+    (λ (a : (found ≢ old) × SawNext b v found w). absurd (a.0 e)) t
 
 -- the next number never falls
 pub rises : (b : Band) (v w : Knowledge) (old found : ℕ) → next_of b (left v.limits v.seen) ≡ old → SawNext b v found w → old ≤ found
 rises b v w old found e saw = let up = next_of-prefix b v.limits v.seen w.seen saw.0.seen in let f = saw.2 in omega arith
 
 -- all numbers were given
-pub all_given : (b : Band) (u v : Knowledge) (next limit : ℕ) → AreLimits u.limits → Looked u v → IsSame u v → next_of b (left v.limits v.seen) ≡ next → limit ≤ next → limit ≡ limit_of b u.limits → FoundNone b u v
+pub all_given : (b : Band) (u v : Knowledge) (next limit : ℕ) → AreLimits u.limits → Looked u v → IsSame u v →
+    next_of b (left v.limits v.seen) ≡ next → limit ≤ next → limit ≡ limit_of b u.limits → FoundNone b u v
 all_given b u v next limit lim a s e le is =
     let most = next_of-most b u.limits v.seen lim a.legal in
     let now : next_of b (left u.limits v.seen) ≡ next = (λ j. next_of b (left (sym s.limits j) v.seen)) ∙ e in

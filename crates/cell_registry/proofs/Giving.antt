@@ -21,7 +21,8 @@ reply-claim Fibers s by = refl
 reply-claim Refs s by = refl
 reply-claim Deferreds s by = refl
 
-given_from : (b : Band) (k : Limits) (s : Cells) (h : List Entry) (n : ℕ) → IsLegalFrom k s h → n < next_of b (left_from s h) → (n < next_of b s) ⊎ WasGiven b h n
+given_from : (b : Band) (k : Limits) (s : Cells) (h : List Entry) (n : ℕ) → IsLegalFrom k s h → n < next_of b (left_from s h) → (n < next_of b s) ⊎
+    WasGiven b h n
 given_from b k s [] n l below = inl below
 given_from b k s (e ∷ es) n l below = ⊎_elim
     (λ (before : n < next_of b (after s e.by e.call)). ⊎_elim
@@ -38,7 +39,8 @@ first-given Deferreds k n lo hi = omega arith
 
 pub given : (b : Band) (k : Limits) (h : List Entry) (n : ℕ) → IsLegal k h → first_of b ≤ n → n < next_of b (left k h) → WasGiven b h n
 unfolding left IsLegal
-given b k h n l lo below = ⊎_elim (λ (q : n < next_of b (opening k)). absurd (first-given b k n lo q)) (λ (q : WasGiven b h n). q) (given_from b k (opening k) h n l below)
+given b k h n l lo below =
+    ⊎_elim (λ (q : n < next_of b (opening k)). absurd (first-given b k n lo q)) (λ (q : WasGiven b h n). q) (given_from b k (opening k) h n l below)
 
 -- ---- and a number that was given is below the next one
 next-claim : (b : Band) (s : Cells) (by : ℕ) → next_of b (after s by (claim_of b)) ≡ next_of b s + 1

@@ -1,5 +1,6 @@
 -- Histories, one entry longer, and what a legal one leaves.
-use Rattle.std.proofs.Common.{◌≡◌, ◌≢◌, ℕ, ◌≤◌, Bool, List, [], ◌∷◌, ◌++◌, refl, sym, ap, ◌∙◌, subst, arith, eqb, eq-eqb, ne_eqb, le_trans, append-nil, append_assoc}
+use Rattle.std.proofs.Common.{◌≡◌, ◌≢◌, ℕ, ◌≤◌, Bool, List, [], ◌∷◌, ◌++◌, refl, sym, ap, ◌∙◌, subst, arith}
+use Rattle.std.proofs.Common.{eqb, eq-eqb, ne_eqb, le_trans, append-nil, append_assoc}
 use Rattle.std.specs.Prelude.{cond}
 use Rattle.std.proofs.lemmas.List.Elements.{filter-append}
 use mathlib.Core.List.{IsPrefix}
@@ -60,14 +61,16 @@ pub next_of-prefix : (b : Band) (k : Limits) (g h : List Entry) → IsPrefix g h
 unfolding left
 next_of-prefix b k g h p =
     subst (λ (x : List Entry). next_of b (left_from (opening k) g) ≤ next_of b (left_from (opening k) x)) p.1
-    (subst (λ (x : Cells). next_of b (left_from (opening k) g) ≤ next_of b x) (sym (left_from-append (opening k) g p.0)) (next_of-left_from b (left_from (opening k) g) p.0))
+    (subst (λ (x : Cells). next_of b (left_from (opening k) g) ≤ next_of b x) (sym (left_from-append (opening k) g p.0))
+    (next_of-left_from b (left_from (opening k) g) p.0))
 
 -- ---- the calls of one fiber
 pub calls_by-push : (f : ℕ) (h : List Entry) (e : Entry) → e.by ≡ f → calls_by f (h ++ e ∷ []) ≡ calls_by f h ++ e ∷ []
 calls_by-push f h e is = filter-append (λ (x : Entry). eqb x.by f) h (e ∷ []) ∙ ap (λ (b : Bool). calls_by f h ++ cond b (e ∷ []) []) (eq-eqb e.by f is)
 
 pub calls_by-other : (f : ℕ) (h : List Entry) (e : Entry) → e.by ≢ f → calls_by f (h ++ e ∷ []) ≡ calls_by f h
-calls_by-other f h e is = filter-append (λ (x : Entry). eqb x.by f) h (e ∷ []) ∙ ap (λ (b : Bool). calls_by f h ++ cond b (e ∷ []) []) (ne_eqb e.by f is) ∙ append-nil (calls_by f h)
+calls_by-other f h e is = filter-append (λ (x : Entry). eqb x.by f) h (e ∷ []) ∙
+    ap (λ (b : Bool). calls_by f h ++ cond b (e ∷ []) []) (ne_eqb e.by f is) ∙ append-nil (calls_by f h)
 
 -- an unborn fiber has made no call
 unborn_from : (k : Limits) (s : Cells) (h : List Entry) (f : ℕ) → IsLegalFrom k s h → (left_from s h).next_fiber ≤ f → calls_by f h ≡ []
@@ -84,7 +87,8 @@ unfolding left IsLegal
 unborn k h f l up = unborn_from k (opening k) h f l up
 
 -- the cell of an unborn fiber is as it opened, but for what others set
-unborn_cell_from : (k : Limits) (s : Cells) (h : List Entry) (f : ℕ) → IsLegalFrom k s h → (left_from s h).next_fiber ≤ f → owned (cell_of (left_from s h) f) ≡ owned (cell_of s f)
+unborn_cell_from : (k : Limits) (s : Cells) (h : List Entry) (f : ℕ) → IsLegalFrom k s h → (left_from s h).next_fiber ≤ f →
+    owned (cell_of (left_from s h) f) ≡ owned (cell_of s f)
 unborn_cell_from k s [] f l h = refl
 unborn_cell_from k s (e ∷ es) f l h =
     let m = l.0.born in

@@ -10,7 +10,8 @@ All-set P (x ∷ xs) (suc i) c d pc h zero = h zero
 All-set P (x ∷ xs) (suc i) c d pc h (suc j) = All-set P xs i c d pc (λ m. h (suc m)) j
 
 -- what the new element has of the old one
-pub get_or-set_kept : {A B : Type 0} (g : A → B) (l : List A) (i : ℕ) (c d : A) → g c ≡ g (get_or l i d) → (j : ℕ) → g (get_or (set l i c) j d) ≡ g (get_or l j d)
+pub get_or-set_kept : {A B : Type 0} (g : A → B) (l : List A) (i : ℕ) (c d : A) → g c ≡ g (get_or l i d) → (j : ℕ) →
+    g (get_or (set l i c) j d) ≡ g (get_or l j d)
 get_or-set_kept g [] i c d e j = refl
 get_or-set_kept g (x ∷ xs) zero c d e zero = e
 get_or-set_kept g (x ∷ xs) zero c d e (suc j) = refl

@@ -1,5 +1,6 @@
 -- The steps by which a fiber changes its own cell.
-use Rattle.std.proofs.Common.{◌≡◌, ℕ, ◌+◌, ◌-◌, ◌%◌, ◌<◌, Bool, true, false, List, [], ◌⊎◌, inl, inr, get_or, refl, sym, ap, ◌∙◌, subst, arith, get_or-set_same, get_or-set_other, set, ◌≢◌}
+use Rattle.std.proofs.Common.{◌≡◌, ℕ, ◌+◌, ◌-◌, ◌%◌, ◌<◌, Bool, true, false, List, [], ◌⊎◌, inl, inr, get_or}
+use Rattle.std.proofs.Common.{refl, sym, ap, ◌∙◌, subst, arith, get_or-set_same, get_or-set_other, set, ◌≢◌}
 use Rattle.std.specs.Prelude.{None, Some}
 use Rattle.atomic_table.specs.Table.{Me, keeps, Allows}
 use Rattle.effect_term.specs.declared.reply.Outcome.{Outcome}
@@ -16,7 +17,9 @@ use Rattle.cell_registry.specs.declared.call.Call.{Call}
 use Rattle.cell_registry.specs.declared.call.Call.TheVariants.{Mask, Unmask, Cut, Finish}
 use Rattle.cell_registry.specs.declared.call.Entry.{Entry}
 use Rattle.cell_registry.specs.declared.knowledge.Knowledge.{Knowledge}
-use Rattle.cell_registry.specs.Cells.{AreLimits, fresh, masked, unmasked, cut, finished, owned, IsOpen, MayUnmask, MayFinish, Cells, cell_of, with_cell, after, reply_of, IsAllowed, spent, refusal, IsAccepted, StageInRange}
+use Rattle.cell_registry.specs.Cells.{AreLimits, fresh, masked, unmasked, cut, finished, owned, IsOpen}
+use Rattle.cell_registry.specs.Cells.{MayUnmask, MayFinish, Cells, cell_of, with_cell, after, reply_of}
+use Rattle.cell_registry.specs.Cells.{IsAllowed, spent, refusal, IsAccepted, StageInRange}
 use Rattle.cell_registry.specs.Histories.{left}
 use Rattle.cell_registry.specs.Words.{phase_at, control, cell_word, value_place}
 use Rattle.cell_registry.specs.Rule.{Has, seen_cell, Fits, last_stored, StoredLast, Owns, IsHistory, WordsAreAHistory}
@@ -76,7 +79,9 @@ control-cut c e = go c.stage e
     go Finalizing e = cc
     go (Ended o) e = cc
 
-cut_word : (k : Limits) (h : List Entry) (v : Knowledge) (amount : ℕ) → (cell_of (left k h) v.number).stage ≡ Running → (cell_of (left k h) v.number).depth ≡ 0 → (cell_of (left k h) v.number).count < word.greatest_count → word.Cuts amount → word.InRange (control (cell_of (left k h) v.number))
+cut_word : (k : Limits) (h : List Entry) (v : Knowledge) (amount : ℕ) → (cell_of (left k h) v.number).stage ≡ Running →
+    (cell_of (left k h) v.number).depth ≡ 0 → (cell_of (left k h) v.number).count < word.greatest_count → word.Cuts amount →
+    word.InRange (control (cell_of (left k h) v.number))
     → (cell_word (cell_of (left k h) v.number) + amount) % 18446744073709551616 ≡ cell_word (cut (cell_of (left k h) v.number))
 unfolding control
 cut_word k h v amount running depth small law range =
@@ -94,16 +99,21 @@ some-one e = cc
 
 module _ {S : Type 0} where
   -- a call of the owner's that changes its cell by φ, and the word by ψ
-  changes : (k : Limits) (id : ℕ) (me : Me S Knowledge) (i slots : ℕ) (c : Call) (φ : Cell → Cell) (ψ : ℕ → ℕ) (then : Knowledge → Type 0) → me.1 ≡ [] → Has me.0.fibers me.0.number → i ≡ me.0.number + 3 → (seen_cell me.0 me.0.number).count < k.count
+  changes : (k : Limits) (id : ℕ) (me : Me S Knowledge) (i slots : ℕ) (c : Call) (φ : Cell → Cell) (ψ : ℕ → ℕ) (then : Knowledge → Type 0) →
+      me.1 ≡ [] → Has me.0.fibers me.0.number → i ≡ me.0.number + 3 → (seen_cell me.0 me.0.number).count < k.count
       → ((s : Cells) → after s me.0.number c ≡ with_cell s me.0.number (φ (cell_of s me.0.number)))
       → ((s : Cells) → reply_of s me.0.number c ≡ reply.Done)
       → ((a b : Cell) → owned a ≡ owned b → owned (φ a) ≡ owned (φ b))
       → ((h : List Entry) → Fits k h me.0 → Own k me.0 h → IsAccepted k (left k h) me.0.number c)
-      → ((h : List Entry) → Fits k h me.0 → Own k me.0 h → word.InRange (control (cell_of (left k h) me.0.number)) → ψ (cell_word (cell_of (left k h) me.0.number)) ≡ cell_word (φ (cell_of (left k h) me.0.number)))
-      → ((h : List Entry) (words : List ℕ) → Fits k h me.0 → StoredLast k words h me.0 → (o : Outcome) → (φ (cell_of (left k h) me.0.number)).stage ≡ Ended o → ((cell_of (left k h) me.0.number).stage ≡ Ended o) ⊎ (get_or words (value_place k me.0.number) 0 ≡ value_bits (word.value_of o)))
+      → ((h : List Entry) → Fits k h me.0 → Own k me.0 h → word.InRange (control (cell_of (left k h) me.0.number)) →
+      ψ (cell_word (cell_of (left k h) me.0.number)) ≡ cell_word (φ (cell_of (left k h) me.0.number)))
+      → ((h : List Entry) (words : List ℕ) → Fits k h me.0 → StoredLast k words h me.0 → (o : Outcome) →
+      (φ (cell_of (left k h) me.0.number)).stage ≡ Ended o → ((cell_of (left k h) me.0.number).stage ≡ Ended o) ⊎
+      (get_or words (value_place k me.0.number) 0 ≡ value_bits (word.value_of o)))
       → ((w : Knowledge) → Changed me.0 c φ w → then w)
       → Allows (WordsAreAHistory k) slots id me i ψ (λ n now. (now.1 ≡ []) × then now.0)
-  changes k id me i slots c φ ψ then none_out has is below leaves replies owns accepts packs ends tells = let v : Knowledge = me.0 in cell_turns k id me i v.number slots ψ (λ _ w. then w) none_out has (inr refl) is (λ h words limits there mine last range.
+  changes k id me i slots c φ ψ then none_out has is below leaves replies owns accepts packs ends tells = let v : Knowledge = me.0 in
+      cell_turns k id me i v.number slots ψ (λ _ w. then w) none_out has (inr refl) is (λ h words limits there mine last range.
       let s : Cells = left k h in
       let a : Cell = cell_of s v.number in
       let o = own k v h limits has mine below in
@@ -116,25 +126,39 @@ module _ {S : Type 0} where
         ends = ends h words mine last;
         told = λ made now. let w : Knowledge = advanced v h (entry v.number c (reply_of s v.number c)) in tells w (
           subst (λ (r : Reply). Called v c r w) (replies s) made,
-          record { limits = refl; number = refl; stored = refl; fibers = refl; cell = ap owned (now v.number ∙ get_or-set_same s.cells v.number (φ a) fresh there) ∙ owns a (seen_cell v v.number) o.same },
+          record {
+            limits = refl;
+            number = refl;
+            stored = refl;
+            fibers = refl;
+            cell =
+                ap owned (now v.number ∙ get_or-set_same s.cells v.number (φ a) fresh there) ∙ owns a (seen_cell v v.number) o.same;
+          },
         );
       })
 
-  pub masks_as : (k : Limits) (id : ℕ) (me : Me S Knowledge) (i amount slots : ℕ) → me.1 ≡ [] → Has me.0.fibers me.0.number → i ≡ me.0.number + 3 → (seen_cell me.0 me.0.number).count < k.count
+  pub masks_as : (k : Limits) (id : ℕ) (me : Me S Knowledge) (i amount slots : ℕ) → me.1 ≡ [] → Has me.0.fibers me.0.number → i ≡ me.0.number + 3 →
+      (seen_cell me.0 me.0.number).count < k.count
       → IsOpen (seen_cell me.0 me.0.number).stage → (seen_cell me.0 me.0.number).depth < 255 → word.Masks amount
       → Allows (WordsAreAHistory k) slots id me i (λ n. (n + amount) % 18446744073709551616) (λ n now. (now.1 ≡ []) × Masked me.0 now.0)
   unfolding after reply_of IsAllowed refusal control
-  masks_as k id me i amount slots none_out has is below opened depth law = let v : Knowledge = me.0 in changes k id me i slots Mask masked (λ n. (n + amount) % 18446744073709551616) (Masked v) none_out has is below (λ s. refl) (λ s. refl) owned-masked
+  masks_as k id me i amount slots none_out has is below opened depth law = let v : Knowledge = me.0 in
+      changes k id me i slots Mask masked (λ n. (n + amount) % 18446744073709551616) (Masked v) none_out has is below (λ s. refl) (λ s. refl) owned-masked
       (λ h mine o. let d = own_depth k h v has mine in record { allowed = (subst IsOpen (sym (own_stage k h v has mine)) opened, omega arith); room = o.room })
-      (λ h mine o range. let d = own_depth k h v has mine in law (control (cell_of (left k h) v.number)) range (no_outcome _ (subst IsOpen (sym (own_stage k h v has mine)) opened)) o.small (omega arith))
+      (λ h mine o range. let d = own_depth k h v has mine in
+      law (control (cell_of (left k h) v.number)) range (no_outcome _ (subst IsOpen (sym (own_stage k h v has mine)) opened)) o.small (omega arith))
       (λ h words mine last p e. inl e)
       (λ w told. told)
 
-  pub unmasks_as : (k : Limits) (id : ℕ) (me : Me S Knowledge) (i amount slots : ℕ) → me.1 ≡ [] → Has me.0.fibers me.0.number → i ≡ me.0.number + 3 → (seen_cell me.0 me.0.number).count < k.count
+  pub unmasks_as : (k : Limits) (id : ℕ) (me : Me S Knowledge) (i amount slots : ℕ) → me.1 ≡ [] → Has me.0.fibers me.0.number → i ≡ me.0.number + 3 →
+      (seen_cell me.0 me.0.number).count < k.count
       → MayUnmask (seen_cell me.0 me.0.number).stage (seen_cell me.0 me.0.number).depth → word.Unmasks amount
-      → Allows (WordsAreAHistory k) slots id me i (λ n. (n + (18446744073709551616 - amount)) % 18446744073709551616) (λ n now. (now.1 ≡ []) × Unmasked me.0 now.0)
+      → Allows (WordsAreAHistory k) slots id me i (λ n. (n + (18446744073709551616 - amount)) % 18446744073709551616) (λ n now. (now.1 ≡ []) ×
+      Unmasked me.0 now.0)
   unfolding after reply_of IsAllowed refusal control
-  unmasks_as k id me i amount slots none_out has is below may law = let v : Knowledge = me.0 in changes k id me i slots Unmask unmasked (λ n. (n + (18446744073709551616 - amount)) % 18446744073709551616) (Unmasked v) none_out has is below (λ s. refl) (λ s. refl) owned-unmasked
+  unmasks_as k id me i amount slots none_out has is below may law = let v : Knowledge = me.0 in
+      changes k id me i slots Unmask unmasked (λ n. (n + (18446744073709551616 - amount)) % 18446744073709551616) (Unmasked v) none_out has is below
+      (λ s. refl) (λ s. refl) owned-unmasked
       (λ h mine o. record { allowed = subst (λ (x : Stage × ℕ × ℕ). MayUnmask x.0 x.1) (sym o.same) may; room = o.room })
       (λ h mine o range.
       let m = unmask-open _ _ (subst (λ (x : Stage × ℕ × ℕ). MayUnmask x.0 x.1) (sym o.same) may) in
@@ -142,25 +166,38 @@ module _ {S : Type 0} where
       (λ h words mine last p e. inl e)
       (λ w told. told)
 
-  pub cuts_as : (k : Limits) (id : ℕ) (me : Me S Knowledge) (i amount slots : ℕ) → me.1 ≡ [] → Has me.0.fibers me.0.number → i ≡ me.0.number + 3 → (seen_cell me.0 me.0.number).count < k.count
+  pub cuts_as : (k : Limits) (id : ℕ) (me : Me S Knowledge) (i amount slots : ℕ) → me.1 ≡ [] → Has me.0.fibers me.0.number → i ≡ me.0.number + 3 →
+      (seen_cell me.0 me.0.number).count < k.count
       → (seen_cell me.0 me.0.number).stage ≡ Running → (seen_cell me.0 me.0.number).depth ≡ 0 → (seen_cell me.0 me.0.number).request ≡ true → word.Cuts amount
       → Allows (WordsAreAHistory k) slots id me i (λ n. (n + amount) % 18446744073709551616) (λ n now. (now.1 ≡ []) × WasCut me.0 now.0)
   unfolding after reply_of IsAllowed refusal
-  cuts_as k id me i amount slots none_out has is below running depth request law = let v : Knowledge = me.0 in changes k id me i slots Cut cut (λ n. (n + amount) % 18446744073709551616) (WasCut v) none_out has is below (λ s. refl) (λ s. refl) owned-cut
+  cuts_as k id me i amount slots none_out has is below running depth request law = let v : Knowledge = me.0 in
+      changes k id me i slots Cut cut (λ n. (n + amount) % 18446744073709551616) (WasCut v) none_out has is below (λ s. refl) (λ s. refl) owned-cut
       (λ h mine o.
-      let asked : (cell_of (left k v.seen) v.number).request ≡ true = (λ j. (cell_of (left (sym (mine.limits v.number has) j) v.seen) v.number).request) ∙ request in
-      record { allowed = (own_stage k h v has mine ∙ running, own_depth k h v has mine ∙ depth, request-prefix k v.seen h v.number mine.seen asked); room = o.room })
+      let asked : (cell_of (left k v.seen) v.number).request ≡ true =
+      (λ j. (cell_of (left (sym (mine.limits v.number has) j) v.seen) v.number).request) ∙ request in
+      record {
+        allowed = (own_stage k h v has mine ∙ running, own_depth k h v has mine ∙ depth, request-prefix k v.seen h v.number mine.seen asked);
+        room = o.room;
+      })
       (λ h mine o range. cut_word k h v amount (own_stage k h v has mine ∙ running) (own_depth k h v has mine ∙ depth) o.small law range)
       (λ h words mine last p e. cc)
       (λ w told. told)
 
-  pub finishes_as : (k : Limits) (id : ℕ) (me : Me S Knowledge) (i amount slots : ℕ) (b : Bool) (o : Outcome) → me.1 ≡ [] → Has me.0.fibers me.0.number → i ≡ me.0.number + 3 → (seen_cell me.0 me.0.number).count < k.count
-      → MayFinish (seen_cell me.0 me.0.number).stage (seen_cell me.0 me.0.number).depth o → phase_at (seen_cell me.0 me.0.number).stage ≡ word.bit b → word.Finishes b o amount → amount ≡ word.finish_sum b o → me.0.stored ≡ Some (value_bits (word.value_of o))
+  pub finishes_as : (k : Limits) (id : ℕ) (me : Me S Knowledge) (i amount slots : ℕ) (b : Bool) (o : Outcome) → me.1 ≡ [] →
+      Has me.0.fibers me.0.number → i ≡ me.0.number + 3 → (seen_cell me.0 me.0.number).count < k.count
+      → MayFinish (seen_cell me.0 me.0.number).stage (seen_cell me.0 me.0.number).depth o →
+      phase_at (seen_cell me.0 me.0.number).stage ≡ word.bit b → word.Finishes b o amount → amount ≡ word.finish_sum b o →
+      me.0.stored ≡ Some (value_bits (word.value_of o))
       → Allows (WordsAreAHistory k) slots id me i (λ n. (n + amount) % 18446744073709551616) (λ n now. (now.1 ≡ []) × Finished amount me.0 now.0)
   unfolding after reply_of IsAllowed refusal control
-  finishes_as k id me i amount slots b o none_out has is below may phase law sum stored = let v : Knowledge = me.0 in changes k id me i slots (Finish o) (finished o) (λ n. (n + amount) % 18446744073709551616) (Finished amount v) none_out has is below (λ s. refl) (λ s. refl) (owned-finished o)
+  finishes_as k id me i amount slots b o none_out has is below may phase law sum stored = let v : Knowledge = me.0 in
+      changes k id me i slots (Finish o) (finished o) (λ n. (n + amount) % 18446744073709551616) (Finished amount v) none_out has is below
+      (λ s. refl) (λ s. refl) (owned-finished o)
       (λ h mine own. record { allowed = subst (λ (x : Stage × ℕ × ℕ). MayFinish x.0 x.1 o) (sym own.same) may; room = own.room })
-      (λ h mine own range. law (control (cell_of (left k h) v.number)) range (no_outcome _ (finish-open _ _ o (subst (λ (x : Stage × ℕ × ℕ). MayFinish x.0 x.1 o) (sym own.same) may))) own.small (ap phase_at (own_stage k h v has mine) ∙ phase))
+      (λ h mine own range. law (control (cell_of (left k h) v.number)) range
+      (no_outcome _ (finish-open _ _ o (subst (λ (x : Stage × ℕ × ℕ). MayFinish x.0 x.1 o) (sym own.same) may))) own.small
+      (ap phase_at (own_stage k h v has mine) ∙ phase))
       (λ h words mine last p e.
       let same : o ≡ p = cc in
       let opened : IsOpen (cell_of (left k h) v.number).stage = subst IsOpen (sym (own_stage k h v has mine)) (finish-open _ _ o may) in
@@ -171,7 +208,8 @@ module _ {S : Type 0} where
       subst (λ (x : Outcome). Changed v (Finish x) (finished x) w) same told)
 
   -- the store before an end
-  pub stores_as : (k : Limits) (id : ℕ) (me : Me S Knowledge) (i n slots : ℕ) → me.1 ≡ [] → Has me.0.fibers me.0.number → i ≡ value_place k me.0.number → IsOpen (seen_cell me.0 me.0.number).stage
+  pub stores_as : (k : Limits) (id : ℕ) (me : Me S Knowledge) (i n slots : ℕ) → me.1 ≡ [] → Has me.0.fibers me.0.number →
+      i ≡ value_place k me.0.number → IsOpen (seen_cell me.0 me.0.number).stage
       → Allows (WordsAreAHistory k) slots id me i (λ _. n) (λ _ now. (now.1 ≡ []) × WasStored n me.0 now.0)
   stores_as k id me i n slots none_out has is opened s kept len at small =
       let v : Knowledge = me.0 in
@@ -188,7 +226,8 @@ module _ {S : Type 0} where
       let leaves = put_value s.words c v.number i n r.words_are here now in
       let many = r.words_are.many in
       let holds : get_or (set s.words i n) i 0 ≡ n = put_value-at s.words c v.number i n r.words_are here (omega arith) in
-      let kept_at : (f : ℕ) → f ≢ v.number → get_or (set s.words i n) (value_place k f) 0 ≡ get_or s.words (value_place k f) 0 = λ f ne. get_or-set_other s.words i (value_place k f) n 0 (λ q. ne (omega arith)) in
+      let kept_at : (f : ℕ) → f ≢ v.number → get_or (set s.words i n) (value_place k f) 0 ≡ get_or s.words (value_place k f) 0 =
+      λ f ne. get_or-set_other s.words i (value_place k f) n 0 (λ q. ne (omega arith)) in
       let fits_w : Fits k h w = record { limits = mine.limits; seen = mine.seen; heard = mine.heard; own = mine.own; guest = mine.guest; apart = mine.apart } in
       let kept' : IsHistory k (set s.words i n) (set s.views id w) h = record {
         limits = r.limits;
@@ -198,7 +237,8 @@ module _ {S : Type 0} where
         stored = each_view (λ j u. StoredLast k (set s.words i n) h u) s.views id w
             (λ j u other atj.
             let last = r.stored j u atj in
-            let apart : (f : ℕ) → Owns u f → f ≢ v.number = λ f owns (q : f ≡ v.number). r.apart id j v u at atj other v.number (inl has) (subst (Owns u) q owns) in record {
+            let apart : (f : ℕ) → Owns u f → f ≢ v.number =
+            λ f owns (q : f ≡ v.number). r.apart id j v u at atj other v.number (inl has) (subst (Owns u) q owns) in record {
               own = λ hasu openu. kept_at u.number (apart u.number (inl hasu)) ∙ last.own hasu openu;
               others = λ f owns ne openf. kept_at f (apart f owns) ∙ last.others f owns ne openf;
             })

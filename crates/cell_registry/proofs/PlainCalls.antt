@@ -12,4 +12,8 @@ IsPlain-new k r l is = subst IsPlain (sym is) record { limits = l; sound = openi
 
 pub IsPlain-made : (old new : PlainView) (by : ℕ) (c : Call) (answer : Reply) → IsPlain old → MayCall old by c → IsMade old new by c answer → IsPlain new
 IsPlain-made old new by c answer h may made =
-    subst IsPlain (sym made.left) record { limits = h.limits; sound = after-sound old.limits old.state by c h.sound record { allowed = may.allowed; room = made.room } }
+    subst IsPlain (sym made.left) record {
+      limits = h.limits;
+      sound =
+          after-sound old.limits old.state by c h.sound record { allowed = may.allowed; room = made.room };
+    }

@@ -1,11 +1,14 @@
 -- A request for cancellation stays, and comes from a call.
-use Rattle.std.proofs.Common.{◌≡◌, ℕ, zero, suc, Bool, true, true≢false, List, [], ◌∷◌, ◌⊎◌, inl, inr, ⊎_elim, set, get_or, get_or-set_other, refl, sym, ap, ◌∙◌, subst}
+use Rattle.std.proofs.Common.{◌≡◌, ℕ, zero, suc, Bool, true, true≢false, List, [], ◌∷◌, ◌⊎◌, inl, inr, ⊎_elim}
+use Rattle.std.proofs.Common.{set, get_or, get_or-set_other, refl, sym, ap, ◌∙◌, subst}
 use mathlib.Core.Logic.{dite}
 use native.Mathlib.Decide.{ℕ_discrete}
 use mathlib.Core.List.{IsPrefix}
 use Rattle.cell_registry.specs.declared.limits.Limits.{Limits}
 use Rattle.cell_registry.specs.declared.call.Call.{Call}
-use Rattle.cell_registry.specs.declared.call.Call.TheVariants.{Start, Cancel, Join, Look, Mask, Unmask, Cut, Finish, NewRef, NewDeferred, Get, Set, Modify, Complete, Read}
+use Rattle.cell_registry.specs.declared.call.Call.TheVariants.{Start, Cancel, Join, Look, Mask, Unmask, Cut}
+use Rattle.cell_registry.specs.declared.call.Call.TheVariants.{Finish, NewRef, NewDeferred, Get, Set, Modify}
+use Rattle.cell_registry.specs.declared.call.Call.TheVariants.{Complete, Read}
 use Rattle.cell_registry.specs.declared.call.Entry.{Entry}
 use Rattle.cell_registry.specs.declared.cell.Cell.{Cell}
 use Rattle.cell_registry.specs.Cells.{fresh, Cells, opening, cell_of, after, requested, awaited, masked, unmasked, cut, finished, IsAllowed}
@@ -15,14 +18,16 @@ use Rattle.cell_registry.proofs.Lists.{get_or-set_kept, get_or-replicate_default
 use Rattle.cell_registry.proofs.Legal.{left_from-append, IsLegal-at}
 
 -- what is true of an element stays true where an element is set of which it is true if it was
-get_or-set_rises : {A : Type 0} (g : A → Bool) (l : List A) (i : ℕ) (c d : A) → (g (get_or l i d) ≡ true → g c ≡ true) → (j : ℕ) → g (get_or l j d) ≡ true → g (get_or (set l i c) j d) ≡ true
+get_or-set_rises : {A : Type 0} (g : A → Bool) (l : List A) (i : ℕ) (c d : A) → (g (get_or l i d) ≡ true → g c ≡ true) → (j : ℕ) →
+    g (get_or l j d) ≡ true → g (get_or (set l i c) j d) ≡ true
 get_or-set_rises g [] i c d up j e = e
 get_or-set_rises g (x ∷ xs) zero c d up zero e = up e
 get_or-set_rises g (x ∷ xs) zero c d up (suc j) e = e
 get_or-set_rises g (x ∷ xs) (suc i) c d up zero e = e
 get_or-set_rises g (x ∷ xs) (suc i) c d up (suc j) e = get_or-set_rises g xs i c d up j e
 
-request_with : (s : Cells) (g f : ℕ) (c : Cell) → ((cell_of s g).request ≡ true → c.request ≡ true) → (cell_of s f).request ≡ true → (get_or (set s.cells g c) f fresh).request ≡ true
+request_with : (s : Cells) (g f : ℕ) (c : Cell) → ((cell_of s g).request ≡ true → c.request ≡ true) → (cell_of s f).request ≡ true →
+    (get_or (set s.cells g c) f fresh).request ≡ true
 request_with s g f c up e = get_or-set_rises (λ (x : Cell). x.request) s.cells g c fresh up f e
 
 request-after : (s : Cells) (by : ℕ) (c : Call) (f : ℕ) → (cell_of s f).request ≡ true → (cell_of (after s by c) f).request ≡ true
@@ -54,13 +59,16 @@ request-prefix k g h f p e =
     (subst (λ (x : Cells). (cell_of x f).request ≡ true) (sym (left_from-append (opening k) g p.0)) (request-left_from (left_from (opening k) g) p.0 f e))
 
 -- ---- where a request comes from
-request_kept : (s : Cells) (g f : ℕ) (c : Cell) → c.request ≡ (cell_of s g).request → (get_or (set s.cells g c) f fresh).request ≡ true → (cell_of s f).request ≡ true
+request_kept : (s : Cells) (g f : ℕ) (c : Cell) → c.request ≡ (cell_of s g).request → (get_or (set s.cells g c) f fresh).request ≡ true →
+    (cell_of s f).request ≡ true
 request_kept s g f c same e = sym (get_or-set_kept (λ (x : Cell). x.request) s.cells g c fresh same f) ∙ e
 
 request-new : (s : Cells) (by : ℕ) (c : Call) (f : ℕ) → (cell_of (after s by c) f).request ≡ true → ((cell_of s f).request ≡ true) ⊎ (c ≡ Cancel f)
 unfolding after
 request-new s by Start f e = inl e
-request-new s by (Cancel g) f e = dite (ℕ_discrete g f) (λ (is : g ≡ f). inr (ap Cancel is)) (λ other. inl (ap (λ (x : Cell). x.request) (sym (get_or-set_other s.cells g f (requested (cell_of s g)) fresh (λ q. other (sym q)))) ∙ e))
+request-new s by (Cancel g) f e =
+    dite (ℕ_discrete g f) (λ (is : g ≡ f). inr (ap Cancel is))
+    (λ other. inl (ap (λ (x : Cell). x.request) (sym (get_or-set_other s.cells g f (requested (cell_of s g)) fresh (λ q. other (sym q)))) ∙ e))
 request-new s by (Join g) f e = inl (request_kept s g f (awaited (cell_of s g)) refl e)
 request-new s by Look f e = inl e
 request-new s by Mask f e = inl (request_kept s by f (masked (cell_of s by)) refl e)

@@ -1,5 +1,7 @@
 -- The words that a registry leaves, read and set one at a time.
-use Rattle.std.proofs.Common.{◌≡◌, ℕ, zero, suc, ◌+◌, ◌-◌, ◌%◌, ◌^◌, ◌<◌, List, ◌∷◌, ◌++◌, length, map, set, get_or, refl, sym, ap, ◌∙◌, subst, arith, replicate, pos, ◌⊎◌, ⊎_elim, length-set, get_or-set_same, get_or-set_other}
+use Rattle.std.proofs.Common.{◌≡◌, ℕ, zero, suc, ◌+◌, ◌-◌, ◌%◌, ◌^◌, ◌<◌, List, ◌∷◌, ◌++◌, length, map, set}
+use Rattle.std.proofs.Common.{get_or, refl, sym, ap, ◌∙◌, subst, arith, replicate, pos, ◌⊎◌, ⊎_elim, length-set}
+use Rattle.std.proofs.Common.{get_or-set_same, get_or-set_other}
 use mathlib.Core.Logic.{dite}
 use native.Mathlib.Decide.{ℕ_discrete}
 use Rattle.std.specs.Prelude.{None}
@@ -26,7 +28,8 @@ use Rattle.cell_registry.proofs.Lists.{get_or-replicate_default}
 -- a cell within the limits fits its word
 pub in_range : (k : Limits) (c : Cell) → AreLimits k → IsCell k c → InRange (control c)
 unfolding control
-in_range k c l i = let small = l.count in let below = i.count in let d = i.depth in record { count = omega arith; depth = omega arith; phase = phase_lt c.stage; kind = kind_lt c.stage }
+in_range k c l i = let small = l.count in let below = i.count in let d = i.depth in
+    record { count = omega arith; depth = omega arith; phase = phase_lt c.stage; kind = kind_lt c.stage }
   where
     phase_lt : (g : Stage) → phase_at g < 2 ^ 2
     phase_lt Running = omega arith
@@ -81,7 +84,8 @@ put_value words s f i n l is opened =
     let e : i ≡ suc (suc (suc (length s.cells + (length s.refs + (length s.deferreds + f))))) = omega arith in
     let cells : List ℕ = map cell_word s.cells in
     let deferreds : List ℕ = map deferred_word s.deferreds in
-    let rest : set (cells ++ (l.raw ++ (deferreds ++ l.values))) (length s.cells + (length s.refs + (length s.deferreds + f))) n ≡ cells ++ (l.raw ++ (deferreds ++ set l.values f n)) =
+    let rest : set (cells ++ (l.raw ++ (deferreds ++ l.values))) (length s.cells + (length s.refs + (length s.deferreds + f))) n ≡ cells ++
+    (l.raw ++ (deferreds ++ set l.values f n)) =
     set_seam cells (l.raw ++ (deferreds ++ l.values)) (length s.cells) (length s.refs + (length s.deferreds + f)) n (length-map s.cells cell_word)
     ∙ ap (λ (x : List ℕ). cells ++ x) (set_seam l.raw (deferreds ++ l.values) (length s.refs) (length s.deferreds + f) n l.long)
     ∙ ap (λ (x : List ℕ). cells ++ (l.raw ++ x)) (set_seam deferreds l.values (length s.deferreds) f n (length-map s.deferreds deferred_word)) in
@@ -106,7 +110,9 @@ put_value-at words s f i n l is within =
     let front : List ℕ = map cell_word s.cells in
     let back : List ℕ = map deferred_word s.deferreds in
     let long : length words ≡ suc (suc (suc (length front + (length l.raw + (length back + length l.values))))) =
-    ap (λ (x : List ℕ). length x) l.words_are ∙ ap (λ (m : ℕ). suc (suc (suc m))) (length-append front (l.raw ++ (back ++ l.values)) ∙ ap (λ m. length front + m) (length-append l.raw (back ++ l.values) ∙ ap (λ m. length l.raw + m) (length-append back l.values))) in
+    ap (λ (x : List ℕ). length x) l.words_are ∙
+    ap (λ (m : ℕ). suc (suc (suc m))) (length-append front (l.raw ++ (back ++ l.values)) ∙
+    ap (λ m. length front + m) (length-append l.raw (back ++ l.values) ∙ ap (λ m. length l.raw + m) (length-append back l.values))) in
     get_or-set_same words i n 0 (omega arith)
 
 -- ---- a word for each fiber
@@ -114,7 +120,8 @@ pub word_at : (words : List ℕ) (s : Cells) (f i : ℕ) → Leaves words s → 
 word_at words s f i l is within =
     let e : i ≡ suc (suc (suc f)) = omega arith in
     let long = length-map s.cells cell_word in
-    rw (l.words_are, e) (get_or-append (map cell_word s.cells) (l.raw ++ (map deferred_word s.deferreds ++ l.values)) 0 f (omega arith) ∙ get_or-map cell_word s.cells f fresh 0 within)
+    rw (l.words_are, e) (get_or-append (map cell_word s.cells) (l.raw ++ (map deferred_word s.deferreds ++ l.values)) 0 f (omega arith) ∙
+    get_or-map cell_word s.cells f fresh 0 within)
 
 -- where the cell has ended, it had before, or the value word is the outcome's
 pub put_word : (words : List ℕ) (s : Cells) (f i : ℕ) (c : Cell) (n : ℕ) → Leaves words s → i ≡ f + 3 → f < length s.cells → n ≡ cell_word c
@@ -124,7 +131,8 @@ put_word words s f i c n l is within e ends =
     let j : i ≡ suc (suc (suc f)) = omega arith in
     let long = length-map s.cells cell_word in
     let others : List ℕ = l.raw ++ (map deferred_word s.deferreds ++ l.values) in
-    let rest : set (map cell_word s.cells ++ others) f (cell_word c) ≡ map cell_word (set s.cells f c) ++ others = set-append_left (map cell_word s.cells) others f (cell_word c) (omega arith) ∙ ap (λ (x : List ℕ). x ++ others) (sym (map-set cell_word s.cells f c)) in
+    let rest : set (map cell_word s.cells ++ others) f (cell_word c) ≡ map cell_word (set s.cells f c) ++ others =
+    set-append_left (map cell_word s.cells) others f (cell_word c) (omega arith) ∙ ap (λ (x : List ℕ). x ++ others) (sym (map-set cell_word s.cells f c)) in
     let here = λ (o : Outcome) (q : c.stage ≡ Ended o). ⊎_elim
     (λ (before : (cell_of s f).stage ≡ Ended o). l.ended f o before)
     (λ (stored : get_or words (value_in s f) 0 ≡ value_bits (value_of o)). sym (value_at words s f (value_in s f) l refl) ∙ stored)
@@ -138,7 +146,8 @@ put_word words s f i c n l is within e ends =
       many = l.many ∙ sym (length-set s.cells f c);
       ended = λ g o q. dite (ℕ_discrete f g)
           (λ (same : f ≡ g).
-          let now : c.stage ≡ Ended o = sym (ap (λ (x : Cell). x.stage) (get_or-set_same s.cells f c fresh within)) ∙ ap (λ (m : ℕ). (cell_of (with_cell s f c) m).stage) same ∙ q in
+          let now : c.stage ≡ Ended o = sym (ap (λ (x : Cell). x.stage) (get_or-set_same s.cells f c fresh within)) ∙
+          ap (λ (m : ℕ). (cell_of (with_cell s f c) m).stage) same ∙ q in
           ap (λ (m : ℕ). get_or l.values m 0) (sym same) ∙ here o now)
           (λ apart. l.ended g o (sym (ap (λ (x : Cell). x.stage) (get_or-set_other s.cells f g c fresh (λ (r : g ≡ f). apart (sym r)))) ∙ q));
     }
@@ -149,11 +158,43 @@ next_at Fibers words s l = ap (λ (ws : List ℕ). get_or ws 0 0) l.words_are
 next_at Refs words s l = ap (λ (ws : List ℕ). get_or ws 1 0) l.words_are
 next_at Deferreds words s l = ap (λ (ws : List ℕ). get_or ws 2 0) l.words_are
 
-pub put_next : (b : Band) (words : List ℕ) (s : Cells) (by n : ℕ) → Leaves words s → n ≡ next_of b s + 1 → Leaves (set words (band_word b) n) (after s by (claim_of b))
+pub put_next : (b : Band) (words : List ℕ) (s : Cells) (by n : ℕ) → Leaves words s → n ≡ next_of b s + 1 →
+    Leaves (set words (band_word b) n) (after s by (claim_of b))
 unfolding after
-put_next Fibers words s by n l e = record { raw = l.raw; values = l.values; words_are = ap (λ (ws : List ℕ). set ws 0 n) l.words_are ∙ (λ j. e j ∷ s.next_ref ∷ s.next_deferred ∷ (map cell_word s.cells ++ (l.raw ++ (map deferred_word s.deferreds ++ l.values)))); long = l.long; refs = l.refs; many = l.many; ended = l.ended }
-put_next Refs words s by n l e = record { raw = l.raw; values = l.values; words_are = ap (λ (ws : List ℕ). set ws 1 n) l.words_are ∙ (λ j. s.next_fiber ∷ e j ∷ s.next_deferred ∷ (map cell_word s.cells ++ (l.raw ++ (map deferred_word s.deferreds ++ l.values)))); long = l.long; refs = l.refs; many = l.many; ended = l.ended }
-put_next Deferreds words s by n l e = record { raw = l.raw; values = l.values; words_are = ap (λ (ws : List ℕ). set ws 2 n) l.words_are ∙ (λ j. s.next_fiber ∷ s.next_ref ∷ e j ∷ (map cell_word s.cells ++ (l.raw ++ (map deferred_word s.deferreds ++ l.values)))); long = l.long; refs = l.refs; many = l.many; ended = l.ended }
+put_next Fibers words s by n l e =
+    record {
+      raw = l.raw;
+      values = l.values;
+      words_are = ap (λ (ws : List ℕ). set ws 0 n) l.words_are ∙
+          (λ j. e j ∷ s.next_ref ∷ s.next_deferred ∷ (map cell_word s.cells ++ (l.raw ++ (map deferred_word s.deferreds ++ l.values))));
+      long = l.long;
+      refs = l.refs;
+      many = l.many;
+      ended = l.ended;
+    }
+put_next Refs words s by n l e =
+    record {
+      raw = l.raw;
+      values = l.values;
+      words_are = ap (λ (ws : List ℕ). set ws 1 n) l.words_are ∙
+          (λ j. s.next_fiber ∷ e j ∷ s.next_deferred ∷ (map cell_word s.cells ++ (l.raw ++ (map deferred_word s.deferreds ++ l.values))));
+      long = l.long;
+      refs = l.refs;
+      many = l.many;
+      ended = l.ended;
+    }
+put_next Deferreds words s by n l e =
+    record {
+      raw = l.raw;
+      values = l.values;
+      words_are = ap (λ (ws : List ℕ). set ws 2 n) l.words_are ∙
+          (λ j. s.next_fiber ∷ s.next_ref ∷ e j ∷ (map cell_word s.cells ++ (l.raw ++ (map deferred_word s.deferreds ++ l.values))));
+      long = l.long;
+      refs =
+          l.refs;
+      many = l.many;
+      ended = l.ended;
+    }
 
 -- ---- a word that is only read
 pub same_words : (words : List ℕ) (s : Cells) (i : ℕ) → Leaves words s → Leaves (set words i (get_or words i 0)) s
@@ -174,7 +215,8 @@ empty_words (suc n) = λ j. 0 ∷ empty_words n j
 
 replicate-add : (m n : ℕ) → replicate {A = ℕ} (m + n) 0 ≡ replicate m 0 ++ replicate n 0
 replicate-add zero n = let e : 0 + n ≡ n = omega arith in ap (λ (x : ℕ). replicate {A = ℕ} x 0) e
-replicate-add (suc m) n = let e : suc m + n ≡ suc (m + n) = omega arith in ap (λ (x : ℕ). replicate {A = ℕ} x 0) e ∙ ap (λ (l : List ℕ). 0 ∷ l) (replicate-add m n)
+replicate-add (suc m) n = let e : suc m + n ≡ suc (m + n) = omega arith in ap (λ (x : ℕ). replicate {A = ℕ} x 0) e ∙
+    ap (λ (l : List ℕ). 0 ∷ l) (replicate-add m n)
 
 zero_refs : (n r : ℕ) → get_or (replicate n 0) r 0 % 2 ^ 63 ≡ value_bits (get_or (replicate n (pos 0)) r (pos 0))
 zero_refs zero r = refl
@@ -191,7 +233,8 @@ opening_words k words is =
     let three : k.fibers + k.refs + k.deferreds + k.fibers + 3 ≡ suc (suc (suc (k.fibers + (k.refs + (k.deferreds + k.fibers))))) = omega arith in
     let behind : replicate (k.deferreds + k.fibers) 0 ≡ map deferred_word (replicate k.deferreds None) ++ replicate k.fibers 0 =
     replicate-add k.deferreds k.fibers ∙ ap (λ (l : List ℕ). l ++ replicate k.fibers 0) (empty_words k.deferreds) in
-    let all : replicate (k.fibers + (k.refs + (k.deferreds + k.fibers))) 0 ≡ map cell_word (replicate k.fibers fresh) ++ (replicate k.refs 0 ++ (map deferred_word (replicate k.deferreds None) ++ replicate k.fibers 0)) =
+    let all : replicate (k.fibers + (k.refs + (k.deferreds + k.fibers))) 0 ≡ map cell_word (replicate k.fibers fresh) ++
+    (replicate k.refs 0 ++ (map deferred_word (replicate k.deferreds None) ++ replicate k.fibers 0)) =
     replicate-add k.fibers (k.refs + (k.deferreds + k.fibers))
     ∙ (λ j. fresh_words k.fibers j ++ (replicate-add k.refs (k.deferreds + k.fibers) ∙ ap (λ (l : List ℕ). replicate k.refs 0 ++ l) behind) j) in
     record {

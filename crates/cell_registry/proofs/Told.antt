@@ -11,9 +11,12 @@ use Rattle.cell_registry.specs.declared.cell.Stage.{Stage}
 use Rattle.cell_registry.specs.declared.cell.Stage.TheVariants.{Running, Finalizing, Ended}
 use Rattle.cell_registry.specs.declared.cell.Cell.{Cell}
 use Rattle.cell_registry.specs.declared.call.Call.{Call}
-use Rattle.cell_registry.specs.declared.call.Call.TheVariants.{Start, Cancel, Join, Look, Mask, Unmask, Cut, Finish, NewRef, NewDeferred, Get, Set, Modify, Complete, Read}
+use Rattle.cell_registry.specs.declared.call.Call.TheVariants.{Start, Cancel, Join, Look, Mask, Unmask, Cut}
+use Rattle.cell_registry.specs.declared.call.Call.TheVariants.{Finish, NewRef, NewDeferred, Get, Set, Modify}
+use Rattle.cell_registry.specs.declared.call.Call.TheVariants.{Complete, Read}
 use Rattle.cell_registry.specs.declared.call.Entry.{Entry}
-use Rattle.cell_registry.specs.Cells.{AreLimits, fresh, requested, awaited, join_reply, IsOpen, MayUnmask, MayFinish, Cells, opening, cell_of, after, reply_of, IsAllowed}
+use Rattle.cell_registry.specs.Cells.{AreLimits, fresh, requested, awaited, join_reply, IsOpen, MayUnmask}
+use Rattle.cell_registry.specs.Cells.{MayFinish, Cells, opening, cell_of, after, reply_of, IsAllowed}
 use Rattle.cell_registry.specs.Histories.{left_from, IsLegalFrom, left, IsLegal}
 use Rattle.cell_registry.specs.Bands.{next_of}
 use Rattle.cell_registry.specs.Told.{WasToldEnd, JoinsAgree, IsTold}
@@ -25,7 +28,8 @@ use Rattle.cell_registry.proofs.Requests.{legal-cuts}
 
 -- ---- a fiber that has ended stays so, with its outcome
 -- after a call of its own
-ended-own : (k : Limits) (s : Cells) (f : ℕ) (c : Call) (o : Outcome) → IsAllowed k s f c → (cell_of s f).stage ≡ Ended o → (cell_of (after s f c) f).stage ≡ Ended o
+ended-own : (k : Limits) (s : Cells) (f : ℕ) (c : Call) (o : Outcome) → IsAllowed k s f c → (cell_of s f).stage ≡ Ended o →
+    (cell_of (after s f c) f).stage ≡ Ended o
 unfolding after IsAllowed
 ended-own k s f Start o a e = e
 ended-own k s f (Cancel g) o a e = get_or-set_kept (λ (x : Cell). x.stage) s.cells g (requested (cell_of s g)) fresh refl f ∙ e
@@ -43,25 +47,30 @@ ended-own k s f (Modify r v) o a e = e
 ended-own k s f (Complete d v) o a e = e
 ended-own k s f (Read d) o a e = e
 
-pub ended-after : (k : Limits) (s : Cells) (by : ℕ) (c : Call) (f : ℕ) (o : Outcome) → IsAllowed k s by c → (cell_of s f).stage ≡ Ended o → (cell_of (after s by c) f).stage ≡ Ended o
+pub ended-after : (k : Limits) (s : Cells) (by : ℕ) (c : Call) (f : ℕ) (o : Outcome) → IsAllowed k s by c → (cell_of s f).stage ≡ Ended o →
+    (cell_of (after s by c) f).stage ≡ Ended o
 ended-after k s by c f o a e = dite (ℕ_discrete by f)
     (λ (is : by ≡ f). subst (λ (b : ℕ). (cell_of (after s b c) f).stage ≡ Ended o) (sym is) (ended-own k s f c o (subst (λ (b : ℕ). IsAllowed k s b c) is a) e))
     (λ apart. ap (λ (x : Stage × ℕ × ℕ). x.0) (owned-after s by c f apart) ∙ e)
 
-ended-left_from : (k : Limits) (s : Cells) (h : List Entry) (f : ℕ) (o : Outcome) → IsLegalFrom k s h → (cell_of s f).stage ≡ Ended o → (cell_of (left_from s h) f).stage ≡ Ended o
+ended-left_from : (k : Limits) (s : Cells) (h : List Entry) (f : ℕ) (o : Outcome) → IsLegalFrom k s h → (cell_of s f).stage ≡ Ended o →
+    (cell_of (left_from s h) f).stage ≡ Ended o
 ended-left_from k s [] f o l e = e
 ended-left_from k s (x ∷ h) f o l e = ended-left_from k (after s x.by x.call) h f o l.1 (ended-after k s x.by x.call f o l.0.accepted.allowed e)
 
 -- so it does in every legal history that goes on
-pub ended_since : (k : Limits) (g h : List Entry) (f : ℕ) (o : Outcome) → IsPrefix g h → IsLegal k h → (cell_of (left k g) f).stage ≡ Ended o → (cell_of (left k h) f).stage ≡ Ended o
+pub ended_since : (k : Limits) (g h : List Entry) (f : ℕ) (o : Outcome) → IsPrefix g h → IsLegal k h → (cell_of (left k g) f).stage ≡ Ended o →
+    (cell_of (left k h) f).stage ≡ Ended o
 unfolding left IsLegal
 ended_since k g h f o p legal e =
     let parts = IsLegalFrom-append k (opening k) g p.0 (subst (λ (x : List Entry). IsLegalFrom k (opening k) x) (sym p.1) legal) in
     let later = ended-left_from k (left_from (opening k) g) p.0 f o parts.1 e in
-    subst (λ (x : List Entry). (cell_of (left_from (opening k) x) f).stage ≡ Ended o) p.1 (subst (λ (s : Cells). (cell_of s f).stage ≡ Ended o) (sym (left_from-append (opening k) g p.0)) later)
+    subst (λ (x : List Entry). (cell_of (left_from (opening k) x) f).stage ≡ Ended o) p.1
+    (subst (λ (s : Cells). (cell_of s f).stage ≡ Ended o) (sym (left_from-append (opening k) g p.0)) later)
 
 -- and a fiber that hasn't ended after a call had not before it
-pub open_before : (k : Limits) (s : Cells) (by : ℕ) (c : Call) (f : ℕ) → IsAllowed k s by c → IsOpen (cell_of (after s by c) f).stage → IsOpen (cell_of s f).stage
+pub open_before : (k : Limits) (s : Cells) (by : ℕ) (c : Call) (f : ℕ) → IsAllowed k s by c → IsOpen (cell_of (after s by c) f).stage →
+    IsOpen (cell_of s f).stage
 open_before k s by c f a opened = go (cell_of s f).stage refl
   where
     go : (g : Stage) → (cell_of s f).stage ≡ g → IsOpen g
@@ -75,7 +84,8 @@ join_reply-ended Running o e = cc
 join_reply-ended Finalizing o e = cc
 join_reply-ended (Ended p) o e = let same : p ≡ o = cc in ap Ended same
 
-WasToldEnd-left_from : (k : Limits) (s : Cells) (h : List Entry) (f : ℕ) (o : Outcome) → IsLegalFrom k s h → WasToldEnd h f o → (cell_of (left_from s h) f).stage ≡ Ended o
+WasToldEnd-left_from : (k : Limits) (s : Cells) (h : List Entry) (f : ℕ) (o : Outcome) → IsLegalFrom k s h → WasToldEnd h f o →
+    (cell_of (left_from s h) f).stage ≡ Ended o
 unfolding reply_of
 WasToldEnd-left_from k s [] f o l w = absurd w
 WasToldEnd-left_from k s (e ∷ es) f o l (inl w) =
@@ -99,7 +109,8 @@ legal-told k h limits legal = record {
   given = λ b n w. let most = next_of-most b k h limits legal in let below = WasGiven-next b k h n legal w in omega arith;
   once = λ b n before rest e is claims answers w.
       let follows = IsLegal-at k h before rest e is legal in
-      let answered : reply.Number n ≡ reply.Number (next_of b (left k before)) = sym answers ∙ follows.1.replied ∙ ap (reply_of (left k before) e.by) claims ∙ reply-claim b (left k before) e.by in
+      let answered : reply.Number n ≡ reply.Number (next_of b (left k before)) = sym answers ∙ follows.1.replied ∙
+      ap (reply_of (left k before) e.by) claims ∙ reply-claim b (left k before) e.by in
       let next : n ≡ next_of b (left k before) = cc in
       let below = WasGiven-next b k before n follows.0 w in
       omega arith;

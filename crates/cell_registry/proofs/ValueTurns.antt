@@ -1,5 +1,7 @@
 -- The steps on the word of a ref or a deferred.
-use Rattle.std.proofs.Common.{◌≡◌, ℕ, zero, suc, ◌+◌, ◌-◌, ◌%◌, ◌^◌, ◌<◌, Bool, List, [], ◌∷◌, ◌++◌, length, map, set, get_or, inl, refl, sym, ap, ◌∙◌, subst, arith, eqb, ne_eqb, length-set, ℤ, pos, ◌+ℤ◌}
+use Rattle.std.proofs.Common.{◌≡◌, ℕ, zero, suc, ◌+◌, ◌-◌, ◌%◌, ◌^◌, ◌<◌, Bool, List, [], ◌∷◌, ◌++◌, length}
+use Rattle.std.proofs.Common.{map, set, get_or, inl, refl, sym, ap, ◌∙◌, subst, arith, eqb, ne_eqb, length-set}
+use Rattle.std.proofs.Common.{ℤ, pos, ◌+ℤ◌}
 use Rattle.std.specs.Prelude.{Option, Some, None, is_none}
 use Rattle.std.proofs.Math.ListN.{get_or-append}
 use Rattle.std.proofs.lemmas.List.{set-append_left, set-append_right, get_or-append_right, length-map, map-set, get_or-map}
@@ -14,7 +16,9 @@ use Rattle.cell_registry.specs.declared.call.Call.{Call}
 use Rattle.cell_registry.specs.declared.call.Call.TheVariants.{Get, Set, Modify, Complete, Read}
 use Rattle.cell_registry.specs.declared.call.Entry.{Entry}
 use Rattle.cell_registry.specs.declared.knowledge.Knowledge.{Knowledge}
-use Rattle.cell_registry.specs.Cells.{fresh, owned, Cells, cell_of, ref_of, deferred_of, with_ref, with_deferred, filled, after, reply_of, IsAllowed, refusal, IsAccepted, ValueFits}
+use Rattle.cell_registry.specs.Cells.{fresh, owned, Cells, cell_of, ref_of, deferred_of, with_ref}
+use Rattle.cell_registry.specs.Cells.{with_deferred, filled, after, reply_of, IsAllowed, refusal, IsAccepted}
+use Rattle.cell_registry.specs.Cells.{ValueFits}
 use Rattle.cell_registry.specs.Histories.{left}
 use Rattle.cell_registry.specs.Words.{cell_word, deferred_word, ref_value, Leaves}
 use Rattle.cell_registry.specs.Rule.{Has, seen_cell, Fits, WordsAreAHistory}
@@ -25,7 +29,8 @@ use Rattle.cell_registry.proofs.Turns.{Turn, Tells, turns}
 use Rattle.cell_registry.proofs.CellTurns.{advanced, same_knowledge}
 
 -- ---- a word for each ref, behind the fibers'
-pub ref_at : (words : List ℕ) (s : Cells) (r i : ℕ) (l : Leaves words s) → i ≡ r + (3 + length s.cells) → r < length s.refs → get_or words i 0 ≡ get_or l.raw r 0
+pub ref_at : (words : List ℕ) (s : Cells) (r i : ℕ) (l : Leaves words s) → i ≡ r + (3 + length s.cells) → r < length s.refs →
+    get_or words i 0 ≡ get_or l.raw r 0
 ref_at words s r i l is within =
     let e : i ≡ suc (suc (suc (length s.cells + r))) = omega arith in
     let long = length-map s.cells cell_word in
@@ -33,9 +38,11 @@ ref_at words s r i l is within =
     let back : (length s.cells + r) - length s.cells ≡ r = omega arith in
     let behind : List ℕ = map deferred_word s.deferreds ++ l.values in
     let others : List ℕ = l.raw ++ behind in
-    rw (l.words_are, e) (get_or-append_right (map cell_word s.cells) others (length s.cells) (length s.cells + r) 0 long (omega arith) ∙ ap (λ m. get_or others m 0) back ∙ get_or-append l.raw behind 0 r (omega arith))
+    rw (l.words_are, e) (get_or-append_right (map cell_word s.cells) others (length s.cells) (length s.cells + r) 0 long (omega arith) ∙
+    ap (λ m. get_or others m 0) back ∙ get_or-append l.raw behind 0 r (omega arith))
 
-put_both : (P : ℕ → ℤ → Type 0) (xs : List ℕ) (ys : List ℤ) (i x : ℕ) (y : ℤ) → length xs ≡ length ys → P x y → ((j : ℕ) → P (get_or xs j 0) (get_or ys j (pos 0))) → (j : ℕ) → P (get_or (set xs i x) j 0) (get_or (set ys i y) j (pos 0))
+put_both : (P : ℕ → ℤ → Type 0) (xs : List ℕ) (ys : List ℤ) (i x : ℕ) (y : ℤ) → length xs ≡ length ys → P x y →
+    ((j : ℕ) → P (get_or xs j 0) (get_or ys j (pos 0))) → (j : ℕ) → P (get_or (set xs i x) j 0) (get_or (set ys i y) j (pos 0))
 put_both P [] [] i x y e p h j = h j
 put_both P [] (b ∷ ys) i x y e p h j = absurd (omega arith)
 put_both P (a ∷ xs) [] i x y e p h j = absurd (omega arith)
@@ -44,7 +51,8 @@ put_both P (a ∷ xs) (b ∷ ys) zero x y e p h (suc j) = h (suc j)
 put_both P (a ∷ xs) (b ∷ ys) (suc i) x y e p h zero = h zero
 put_both P (a ∷ xs) (b ∷ ys) (suc i) x y e p h (suc j) = put_both P xs ys i x y (omega arith) p (λ m. h (suc m)) j
 
-put_ref : (words : List ℕ) (s : Cells) (r i n : ℕ) (v : ℤ) → Leaves words s → i ≡ r + (3 + length s.cells) → r < length s.refs → n % 2 ^ 63 ≡ value_bits v → Leaves (set words i n) (with_ref s r v)
+put_ref : (words : List ℕ) (s : Cells) (r i n : ℕ) (v : ℤ) → Leaves words s → i ≡ r + (3 + length s.cells) → r < length s.refs →
+    n % 2 ^ 63 ≡ value_bits v → Leaves (set words i n) (with_ref s r v)
 put_ref words s r i n v l is within e =
     let j : i ≡ suc (suc (suc (length s.cells + r))) = omega arith in
     let long = length-map s.cells cell_word in
@@ -55,10 +63,20 @@ put_ref words s r i n v l is within e =
     set-append_right (map cell_word s.cells) (l.raw ++ last) (length s.cells) (length s.cells + r) n long (omega arith)
     ∙ ap (λ m. map cell_word s.cells ++ set (l.raw ++ last) m n) back
     ∙ ap (λ (x : List ℕ). map cell_word s.cells ++ x) (set-append_left l.raw last r n (omega arith)) in
-    record { raw = set l.raw r n; values = l.values; words_are = rw (l.words_are, j) (λ t. s.next_fiber ∷ s.next_ref ∷ s.next_deferred ∷ rest t); long = length-set l.raw r n ∙ l.long ∙ sym (length-set s.refs r v); refs = put_both (λ a b. a % 2 ^ 63 ≡ value_bits b) l.raw s.refs r n v l.long e l.refs; many = l.many; ended = l.ended }
+    record {
+      raw = set l.raw r n;
+      values = l.values;
+      words_are = rw (l.words_are, j) (λ t. s.next_fiber ∷ s.next_ref ∷ s.next_deferred ∷ rest t);
+      long = length-set l.raw r n ∙ l.long ∙ sym (length-set s.refs r v);
+      refs =
+          put_both (λ a b. a % 2 ^ 63 ≡ value_bits b) l.raw s.refs r n v l.long e l.refs;
+      many = l.many;
+      ended = l.ended;
+    }
 
 -- ---- a word for each deferred, behind the refs'
-pub deferred_at : (words : List ℕ) (s : Cells) (d i : ℕ) → Leaves words s → i ≡ d + (3 + length s.cells + length s.refs) → d < length s.deferreds → get_or words i 0 ≡ deferred_word (deferred_of s d)
+pub deferred_at : (words : List ℕ) (s : Cells) (d i : ℕ) → Leaves words s → i ≡ d + (3 + length s.cells + length s.refs) → d < length s.deferreds →
+    get_or words i 0 ≡ deferred_word (deferred_of s d)
 deferred_at words s d i l is within =
     let m : ℕ = length s.refs + d in
     let e : i ≡ suc (suc (suc (length s.cells + (length s.refs + d)))) = omega arith in
@@ -75,7 +93,8 @@ deferred_at words s d i l is within =
     ∙ get_or-append (map deferred_word s.deferreds) l.values 0 d (omega arith)
     ∙ get_or-map deferred_word s.deferreds d None 0 within)
 
-put_deferred : (words : List ℕ) (s : Cells) (d i n : ℕ) (o : Option ℤ) → Leaves words s → i ≡ d + (3 + length s.cells + length s.refs) → d < length s.deferreds → n ≡ deferred_word o → Leaves (set words i n) (with_deferred s d o)
+put_deferred : (words : List ℕ) (s : Cells) (d i n : ℕ) (o : Option ℤ) → Leaves words s → i ≡ d + (3 + length s.cells + length s.refs) →
+    d < length s.deferreds → n ≡ deferred_word o → Leaves (set words i n) (with_deferred s d o)
 put_deferred words s d i n o l is within e =
     let j : i ≡ suc (suc (suc (length s.cells + (length s.refs + d)))) = omega arith in
     let long = length-map s.cells cell_word in
@@ -85,14 +104,25 @@ put_deferred words s d i n o l is within e =
     let long_last = length-map s.deferreds deferred_word in
     let inner : List ℕ = map deferred_word s.deferreds in
     let last : List ℕ = inner ++ l.values in
-    let rest : set (cells ++ (l.raw ++ last)) (length s.cells + (length s.refs + d)) n ≡ cells ++ (l.raw ++ (map deferred_word (set s.deferreds d o) ++ l.values)) =
+    let rest : set (cells ++ (l.raw ++ last)) (length s.cells + (length s.refs + d)) n ≡ cells ++
+    (l.raw ++ (map deferred_word (set s.deferreds d o) ++ l.values)) =
     set-append_right cells (l.raw ++ last) (length s.cells) (length s.cells + (length s.refs + d)) n long (omega arith)
     ∙ ap (λ m. cells ++ set (l.raw ++ last) m n) back
-    ∙ ap (λ (x : List ℕ). cells ++ x) (set-append_right l.raw last (length s.refs) (length s.refs + d) n l.long (omega arith) ∙ ap (λ m. l.raw ++ set last m n) again)
+    ∙ ap (λ (x : List ℕ). cells ++ x) (set-append_right l.raw last (length s.refs) (length s.refs + d) n l.long (omega arith) ∙
+    ap (λ m. l.raw ++ set last m n) again)
     ∙ ap (λ (x : List ℕ). cells ++ (l.raw ++ x)) (set-append_left inner l.values d n (omega arith))
     ∙ ap (λ x. cells ++ (l.raw ++ (set inner d x ++ l.values))) e
     ∙ ap (λ (x : List ℕ). cells ++ (l.raw ++ (x ++ l.values))) (sym (map-set deferred_word s.deferreds d o)) in
-    record { raw = l.raw; values = l.values; words_are = rw (l.words_are, j) (λ t. s.next_fiber ∷ s.next_ref ∷ s.next_deferred ∷ rest t); long = l.long; refs = l.refs; many = l.many; ended = l.ended }
+    record {
+      raw = l.raw;
+      values = l.values;
+      words_are = rw (l.words_are, j) (λ t. s.next_fiber ∷ s.next_ref ∷ s.next_deferred ∷ rest t);
+      long =
+          l.long;
+      refs = l.refs;
+      many = l.many;
+      ended = l.ended;
+    }
 
 -- ---- bits
 -- adding the bits of x to the word of y
@@ -130,14 +160,17 @@ some-one {x} e = ap (λ (o : Option ℤ). value_or x o) e
     value_or a (Some b) = b
 
 -- ---- a call that changes no cell
-value_turn : (k : Limits) (h : List Entry) (words : List ℕ) (v : Knowledge) (i x : ℕ) (then : ℕ → Knowledge → Type 0) (c : Call) → Has v.fibers v.number → Fits k h v → i < 3 + k.fibers + k.refs + k.deferreds → IsAccepted k (left k h) v.number c
+value_turn : (k : Limits) (h : List Entry) (words : List ℕ) (v : Knowledge) (i x : ℕ) (then : ℕ → Knowledge → Type 0) (c : Call) →
+    Has v.fibers v.number → Fits k h v → i < 3 + k.fibers + k.refs + k.deferreds → IsAccepted k (left k h) v.number c
     → (after (left k h) v.number c).cells ≡ (left k h).cells → Leaves (set words i x) (after (left k h) v.number c)
     → ((w : Knowledge) → Called v c (reply_of (left k h) v.number c) w → IsSame v w → then (get_or words i 0) w) → Turn k v i x then h words
 value_turn k h words v i x then c has mine place accepted cells word told =
     let s : Cells = left k h in
     let e : Entry = entry v.number c (reply_of s v.number c) in
     let w : Knowledge = advanced v h e in
-    let now : owned (seen_cell w v.number) ≡ owned (cell_of s v.number) = (λ j. owned (cell_of (left (mine.limits v.number has j) (h ++ e ∷ [])) v.number)) ∙ ap (λ (t : Cells). owned (cell_of t v.number)) (left-push k h e) ∙ ap (λ (cs : List Cell). owned (get_or cs v.number fresh)) cells in
+    let now : owned (seen_cell w v.number) ≡ owned (cell_of s v.number) =
+    (λ j. owned (cell_of (left (mine.limits v.number has j) (h ++ e ∷ [])) v.number)) ∙
+    ap (λ (t : Cells). owned (cell_of t v.number)) (left-push k h e) ∙ ap (λ (cs : List Cell). owned (get_or cs v.number fresh)) cells in
     record {
       call = c;
       accepted = accepted;
@@ -165,17 +198,21 @@ module _ {S : Type 0} where
       let fibers = good.fibers in let refs = good.refs in
       let place : i ≡ r + (3 + length s.cells) = omega arith in
       let at = ref_at words s r i leaves place (omega arith) in
-      let found : ref_of s r ≡ ref_value (get_or words i 0) = sym (back (ref_of s r) (good.each_ref r)) ∙ ap bits_value (sym (ap (λ n. n % 2 ^ 63) at ∙ leaves.refs r)) in
-      value_turn k h words v i (get_or words i 0) (Got i v) (Get r) has mine (omega arith) record { allowed = within; room = refl } refl (same_words words s i leaves)
+      let found : ref_of s r ≡ ref_value (get_or words i 0) = sym (back (ref_of s r) (good.each_ref r)) ∙
+      ap bits_value (sym (ap (λ n. n % 2 ^ 63) at ∙ leaves.refs r)) in
+      value_turn k h words v i (get_or words i 0) (Got i v) (Get r) has mine (omega arith) record { allowed = within; room = refl } refl
+      (same_words words s i leaves)
       (λ w made same q iq.
       let limits = ap (λ (l : Limits). l.fibers) (mine.limits v.number has) in
       let one : r ≡ q = omega arith in
       (subst (λ (t : ℕ × ℤ). Called v (Get t.0) (reply.Value t.1) w) (λ j. (one j, found j)) made, same)))
 
-  pub sets : (k : Limits) (id : ℕ) (me : Me S Knowledge) (i n slots r : ℕ) (x : ℤ) → me.1 ≡ [] → Has me.0.fibers me.0.number → r < k.refs → i ≡ r + (3 + k.fibers) → HasBits n x
+  pub sets : (k : Limits) (id : ℕ) (me : Me S Knowledge) (i n slots r : ℕ) (x : ℤ) → me.1 ≡ [] → Has me.0.fibers me.0.number → r < k.refs →
+      i ≡ r + (3 + k.fibers) → HasBits n x
       → Allows (WordsAreAHistory k) slots id me i (λ _. n) (λ _ now. (now.1 ≡ []) × WasSet i n me.0 now.0)
   unfolding after reply_of IsAllowed refusal
-  sets k id me i n slots r x none_out has within is bits = turns k id me i (λ _. n) (λ _ w. WasSet i n me.0 w) slots none_out has (λ h words limited legal leaves mine last.
+  sets k id me i n slots r x none_out has within is bits =
+      turns k id me i (λ _. n) (λ _ w. WasSet i n me.0 w) slots none_out has (λ h words limited legal leaves mine last.
       let v : Knowledge = me.0 in
       let s : Cells = left k h in
       let good = sound k h limited legal in
@@ -183,16 +220,19 @@ module _ {S : Type 0} where
       let place : i ≡ r + (3 + length s.cells) = omega arith in
       let small = bits_lt x in
       let low : n % 2 ^ 63 ≡ value_bits x = let e = bits.1 in omega arith in
-      value_turn k h words v i n (λ _ w. WasSet i n v w) (Set r x) has mine (omega arith) record { allowed = (within, bits.0); room = refl } refl (put_ref words s r i n x leaves place (omega arith) low)
+      value_turn k h words v i n (λ _ w. WasSet i n v w) (Set r x) has mine (omega arith) record { allowed = (within, bits.0); room = refl } refl
+      (put_ref words s r i n x leaves place (omega arith) low)
       (λ w made same q iq z hz.
       let limits = ap (λ (l : Limits). l.fibers) (mine.limits v.number has) in
       let one : r ≡ q = omega arith in
       (subst (λ (t : ℕ × ℤ). Called v (Set t.0 t.1) reply.Done w) (λ j. (one j, bits_one n x z bits hz j)) made, same)))
 
-  pub modifies : (k : Limits) (id : ℕ) (me : Me S Knowledge) (i n slots r : ℕ) (x : ℤ) → me.1 ≡ [] → Has me.0.fibers me.0.number → r < k.refs → i ≡ r + (3 + k.fibers) → HasBits n x
+  pub modifies : (k : Limits) (id : ℕ) (me : Me S Knowledge) (i n slots r : ℕ) (x : ℤ) → me.1 ≡ [] → Has me.0.fibers me.0.number → r < k.refs →
+      i ≡ r + (3 + k.fibers) → HasBits n x
       → Allows (WordsAreAHistory k) slots id me i (λ a. (a + n) % 18446744073709551616) (Tells (Modified i n me.0))
   unfolding after reply_of IsAllowed refusal
-  modifies k id me i n slots r x none_out has within is bits = turns k id me i (λ a. (a + n) % 18446744073709551616) (Modified i n me.0) slots none_out has (λ h words limited legal leaves mine last.
+  modifies k id me i n slots r x none_out has within is bits =
+      turns k id me i (λ a. (a + n) % 18446744073709551616) (Modified i n me.0) slots none_out has (λ h words limited legal leaves mine last.
       let v : Knowledge = me.0 in
       let s : Cells = left k h in
       let good = sound k h limited legal in
@@ -201,18 +241,22 @@ module _ {S : Type 0} where
       let at = ref_at words s r i leaves place (omega arith) in
       let y : ℤ = ref_of s r in
       let low = ap (λ m. m % 2 ^ 63) at ∙ leaves.refs r in
-      let law : (get_or words i 0 + n) % 2 ^ 64 % 2 ^ 63 ≡ value_bits (wrapped (y +ℤ x)) = ap (λ m. (get_or words i 0 + m) % 2 ^ 64 % 2 ^ 63) bits.1 ∙ adds_bits (get_or words i 0) x y bits.0 (good.each_ref r) low in
+      let law : (get_or words i 0 + n) % 2 ^ 64 % 2 ^ 63 ≡ value_bits (wrapped (y +ℤ x)) =
+      ap (λ m. (get_or words i 0 + m) % 2 ^ 64 % 2 ^ 63) bits.1 ∙ adds_bits (get_or words i 0) x y bits.0 (good.each_ref r) low in
       let found : y ≡ ref_value (get_or words i 0) = sym (back y (good.each_ref r)) ∙ ap bits_value (sym low) in
-      value_turn k h words v i ((get_or words i 0 + n) % 18446744073709551616) (Modified i n v) (Modify r x) has mine (omega arith) record { allowed = (within, bits.0); room = refl } refl (put_ref words s r i _ _ leaves place (omega arith) law)
+      value_turn k h words v i ((get_or words i 0 + n) % 18446744073709551616) (Modified i n v) (Modify r x) has mine (omega arith)
+      record { allowed = (within, bits.0); room = refl } refl (put_ref words s r i _ _ leaves place (omega arith) law)
       (λ w made same q iq z hz.
       let limits = ap (λ (l : Limits). l.fibers) (mine.limits v.number has) in
       let one : r ≡ q = omega arith in
       (subst (λ (t : ℕ × ℤ × ℤ). Called v (Modify t.0 t.1) (reply.Value t.2) w) (λ j. (one j, bits_one n x z bits hz j, found j)) made, same)))
 
-  pub completes : (k : Limits) (id : ℕ) (me : Me S Knowledge) (i n slots d : ℕ) (x : ℤ) → me.1 ≡ [] → Has me.0.fibers me.0.number → d < k.deferreds → i ≡ d + (3 + k.fibers + k.refs) → IsValue x → n ≡ deferred_word (Some x)
+  pub completes : (k : Limits) (id : ℕ) (me : Me S Knowledge) (i n slots d : ℕ) (x : ℤ) → me.1 ≡ [] → Has me.0.fibers me.0.number → d < k.deferreds →
+      i ≡ d + (3 + k.fibers + k.refs) → IsValue x → n ≡ deferred_word (Some x)
       → Allows (WordsAreAHistory k) slots id me i (λ a. either (eqb a 0) n a) (Tells (Completed i n me.0))
   unfolding after reply_of IsAllowed refusal
-  completes k id me i n slots d x none_out has within is fits bits = turns k id me i (λ a. either (eqb a 0) n a) (Completed i n me.0) slots none_out has (λ h words limited legal leaves mine last.
+  completes k id me i n slots d x none_out has within is fits bits =
+      turns k id me i (λ a. either (eqb a 0) n a) (Completed i n me.0) slots none_out has (λ h words limited legal leaves mine last.
       let v : Knowledge = me.0 in
       let s : Cells = left k h in
       let good = sound k h limited legal in
@@ -220,9 +264,11 @@ module _ {S : Type 0} where
       let place : i ≡ d + (3 + length s.cells + length s.refs) = omega arith in
       let o : Option ℤ = deferred_of s d in
       let at : get_or words i 0 ≡ deferred_word o = deferred_at words s d i leaves place (omega arith) in
-      let law : either (eqb (get_or words i 0) 0) n (get_or words i 0) ≡ deferred_word (filled o x) = ap (λ a. either (eqb a 0) n a) at ∙ filled_word o x n bits in
+      let law : either (eqb (get_or words i 0) 0) n (get_or words i 0) ≡ deferred_word (filled o x) = ap (λ a. either (eqb a 0) n a) at ∙
+      filled_word o x n bits in
       let did : is_none o ≡ eqb (get_or words i 0) 0 = empty_word o ∙ ap (λ a. eqb a 0) (sym at) in
-      value_turn k h words v i (either (eqb (get_or words i 0) 0) n (get_or words i 0)) (Completed i n v) (Complete d x) has mine (omega arith) record { allowed = (within, fits); room = refl } refl (put_deferred words s d i _ (filled o x) leaves place (omega arith) law)
+      value_turn k h words v i (either (eqb (get_or words i 0) 0) n (get_or words i 0)) (Completed i n v) (Complete d x) has mine (omega arith)
+      record { allowed = (within, fits); room = refl } refl (put_deferred words s d i _ (filled o x) leaves place (omega arith) law)
       (λ w made same q iq z fz ez.
       let fs = ap (λ (l : Limits). l.fibers) (mine.limits v.number has) in
       let rs = ap (λ (l : Limits). l.refs) (mine.limits v.number has) in
@@ -230,7 +276,8 @@ module _ {S : Type 0} where
       let value : x ≡ z = some-one (deferred_word-one (Some x) (Some z) fits fz (sym bits ∙ ez)) in
       (subst (λ (t : ℕ × ℤ × Bool). Called v (Complete t.0 t.1) (reply.Completed t.2) w) (λ j. (one j, value j, did j)) made, same)))
 
-  pub reads : (k : Limits) (id : ℕ) (me : Me S Knowledge) (i slots d : ℕ) → me.1 ≡ [] → Has me.0.fibers me.0.number → d < k.deferreds → i ≡ d + (3 + k.fibers + k.refs)
+  pub reads : (k : Limits) (id : ℕ) (me : Me S Knowledge) (i slots d : ℕ) → me.1 ≡ [] → Has me.0.fibers me.0.number → d < k.deferreds →
+      i ≡ d + (3 + k.fibers + k.refs)
       → Allows (WordsAreAHistory k) slots id me i (λ n. n) (Tells (WasRead i me.0))
   unfolding after reply_of IsAllowed refusal
   reads k id me i slots d none_out has within is = turns k id me i (λ n. n) (WasRead i me.0) slots none_out has (λ h words limited legal leaves mine last.
@@ -241,7 +288,8 @@ module _ {S : Type 0} where
       let place : i ≡ d + (3 + length s.cells + length s.refs) = omega arith in
       let o : Option ℤ = deferred_of s d in
       let at : get_or words i 0 ≡ deferred_word o = deferred_at words s d i leaves place (omega arith) in
-      value_turn k h words v i (get_or words i 0) (WasRead i v) (Read d) has mine (omega arith) record { allowed = within; room = refl } refl (same_words words s i leaves)
+      value_turn k h words v i (get_or words i 0) (WasRead i v) (Read d) has mine (omega arith) record { allowed = within; room = refl } refl
+      (same_words words s i leaves)
       (λ w made same q iq.
       let fs = ap (λ (l : Limits). l.fibers) (mine.limits v.number has) in
       let rs = ap (λ (l : Limits). l.refs) (mine.limits v.number has) in

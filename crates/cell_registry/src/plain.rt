@@ -107,7 +107,8 @@ impl PlainRegistry {
     ) -> Result<PlainRegistry, AllocError>
         requires some { (s : Cells) × Shows limits words.now s }
         requires words { length words.now ≡ limits.fibers + limits.refs + limits.deferreds + limits.fibers + 3 }
-        ensures { IfOk result (λ r. (s : Cells) → Shows limits words.now s → r ≡ record { limits = limits; state = s }) }
+        ensures { IfOk result (λ r. (s : Cells) → Shows limits words.now s →
+            r ≡ record { limits = limits; state = s }) }
     {
         let next_fiber = words[claim_place(Band::Fibers)];
         let next_ref = words[claim_place(Band::Refs)];

@@ -24,8 +24,11 @@ compare_exchange-found-requires c =
     let i = c.loop-next.invariant in
     let o = c.requires.may in
     let limit = c.requires.limit.0 in
-    let place = c.claim_place-place.ensures in
-    (i.table ∙ t.0, place_lt c.args.band _ _ place t.1, rw place (tries c.args.band _ _ _ c.loop-next.next _ i.none_out (still_has _ _ i.same o.0) (still_may c.args.band _ _ i.same o.1) (omega arith)))
+    let place = c.claim_place-place.ensures in (
+      i.table ∙ t.0,
+      place_lt c.args.band _ _ place t.1,
+      rw place (tries c.args.band _ _ _ c.loop-next.next _ i.none_out (still_has _ _ i.same o.0) (still_may c.args.band _ _ i.same o.1) (omega arith)),
+    )
 
 pub returns-then-found-next-clause-claim : goal.returns-then-found-next-clause-claim
 returns-then-found-next-clause-claim c =
@@ -37,7 +40,14 @@ pub loop-next-init : goal.loop-next-init
 loop-next-init c =
     let e = c.load-next.ensures in
     let saw = e.2.1 c.args.band c.claim_place-place.ensures in
-    record { table = e.0; none_out = e.2.0; looked = saw.0; same = saw.1; next = (λ j. next_of c.args.band (left (saw.1.limits j) c.load-next.new.seat.me.0.seen)) ∙ saw.2 }
+    record {
+      table = e.0;
+      none_out = e.2.0;
+      looked = saw.0;
+      same = saw.1;
+      next =
+          (λ j. next_of c.args.band (left (saw.1.limits j) c.load-next.new.seat.me.0.seen)) ∙ saw.2;
+    }
 
 pub loop-next-smaller : goal.loop-next-smaller
 loop-next-smaller c =
@@ -51,7 +61,8 @@ pub loop-next-preserved : goal.loop-next-preserved
 loop-next-preserved c =
     let i = c.loop-next.invariant in
     let e = c.compare_exchange-found.ensures in
-    let saw = failed c.args.band _ _ c.loop-next.seat.me.0 c.compare_exchange-found.new.seat.me.0 (e.2.1 c.args.band c.claim_place-place.ensures) c.if-found-next.false in
+    let saw = failed c.args.band _ _ c.loop-next.seat.me.0 c.compare_exchange-found.new.seat.me.0 (e.2.1 c.args.band c.claim_place-place.ensures)
+    c.if-found-next.false in
     record {
       table = e.0 ∙ i.table;
       none_out = e.2.0;

@@ -9,4 +9,5 @@ loop-number-preserved c s h =
     let long = h.sound.deferreds in
     let less = c.loop-number-test.true in
     c.in_ok-push.ensures.items ∙ one_more _ s.deferreds c.loop-number.number c.read_answer.result None (c.loop-number.invariant s h) (omega arith)
-    (deferred_shown c.args.limits c.args.words.now s c.loop-number.number c.read_answer.result h less (subst (λ p. TellsRead (slice_index_or c.args.words.now p 0) c.read_answer.result) c.deferred_place.ensures c.read_answer.ensures))
+    (deferred_shown c.args.limits c.args.words.now s c.loop-number.number c.read_answer.result h less
+    (subst (λ p. TellsRead (slice_index_or c.args.words.now p 0) c.read_answer.result) c.deferred_place.ensures c.read_answer.ensures))

@@ -21,13 +21,16 @@ returns-clause-made c =
     let x = c.index-old.result.now in
     let sound = c.self.invariant.sound in
     let is : x ≡ get_or xs c.args.number x = c.index-old.ensures ∙ ap (λ j. get_or xs j x) c.from-place.ensures in
-    let within : c.args.number < length xs = rw sound.refs (subst (λ (k : Rattle.cell_registry.specs.Plain.PlainView). c.args.number < k.limits.refs) (sym c.self.view_is) c.requires.may.allowed.0) in
+    let within : c.args.number < length xs =
+    rw sound.refs (subst (λ (k : Rattle.cell_registry.specs.Plain.PlainView). c.args.number < k.limits.refs) (sym c.self.view_is)
+    c.requires.may.allowed.0) in
     let old : x ≡ get_or xs c.args.number (pos 0) = is ∙ get_or_default xs c.args.number x (pos 0) within in
     let first = c.value_word.ensures in
     let second = c.value_word-2.ensures in
     let sum : c.word_value.result ≡ wrapped (get_or xs c.args.number (pos 0) +ℤ c.args.value) =
     c.word_value.ensures.value
-    ∙ added x c.args.value c.value_word.result c.value_word-2.result _ first.bits second.bits refl (from_bits _ _ first.bits first.inverse) (from_bits _ _ second.bits second.inverse)
+    ∙ added x c.args.value c.value_word.result c.value_word-2.result _ first.bits second.bits refl (from_bits _ _ first.bits first.inverse)
+    (from_bits _ _ second.bits second.inverse)
     ∙ ap (λ z. wrapped (z +ℤ c.args.value)) old in
     rw (← c.self.view_is) record {
       room = refl;

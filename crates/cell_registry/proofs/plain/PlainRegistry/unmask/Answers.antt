@@ -9,7 +9,8 @@ use Rattle.cell_registry.proofs.plain.PlainRegistry.unmask.Goals as goal
 
 pub invariant_of-self-2 : goal.invariant_of-self-2
 unfolding after reply_of refusal IsAllowed
-invariant_of-self-2 c = IsPlain-made c.args.self.now _ c.args.by Unmask reply.Done (subst IsPlain c.self.view_is c.self.invariant) c.requires.may (grind (arith, common_steps))
+invariant_of-self-2 c = IsPlain-made c.args.self.now _ c.args.by Unmask reply.Done (subst IsPlain c.self.view_is c.self.invariant) c.requires.may
+    (grind (arith, common_steps))
 
 pub returns-clause-lawful : goal.returns-clause-lawful
 returns-clause-lawful c = invariant_of-self-2 c

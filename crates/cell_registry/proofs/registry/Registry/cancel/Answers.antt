@@ -16,8 +16,11 @@ fetch_or-found-requires c =
     let of = of_registry _ _ _ _ c.self.view_is c.pass.view_is c.requires.own in
     let within : c.args.fiber < c.self.inside.table.shared.key.fibers = rw (r.key_is ∙ ap (λ (s : RegistryView). s.limits) c.self.view_is) c.requires.within in
     let fibers = ap (λ (k : Limits). k.fibers) r.key_is in
-    let words = r.words in
-    (ap (λ (s : RegistryView). s.table) of, omega arith, cancels _ _ _ c.cell_place.result c.args.fiber _ p.0 (seat_has _ _ refl p.1) within c.cell_place.ensures)
+    let words = r.words in (
+      ap (λ (s : RegistryView). s.table) of,
+      omega arith,
+      cancels _ _ _ c.cell_place.result c.args.fiber _ p.0 (seat_has _ _ refl p.1) within c.cell_place.ensures,
+    )
 
 pub invariant_of-pass : goal.invariant_of-pass
 invariant_of-pass c =
@@ -39,8 +42,12 @@ returns-clause-call c =
     let answer = c.cancel_answer.ensures t.0 t.1 t.2 in
     let old = c.pass.inside in
     let new = c.fetch_or-found.new.seat in
-    let P : PassView → Type 0 = λ h. Calls h (call.Cancel c.args.fiber) (reply.Cancel c.cancel_answer.result) (pass_of new.table_id new.me.0 old.number old.stage old.depth old.count old.saw) in
-    subst P c.pass.view_is (called_by old.seat.me.0 new.me.0 _ _ _ c.pass.invariant.1.number_is (subst (λ (r : CancelReply). Called old.seat.me.0 (call.Cancel c.args.fiber) (reply.Cancel r) new.me.0) (sym answer) t.3.0))
+    let P : PassView → Type 0 =
+    λ h. Calls h (call.Cancel c.args.fiber) (reply.Cancel c.cancel_answer.result)
+    (pass_of new.table_id new.me.0 old.number old.stage old.depth old.count old.saw) in
+    subst P c.pass.view_is
+    (called_by old.seat.me.0 new.me.0 _ _ _ c.pass.invariant.1.number_is
+    (subst (λ (r : CancelReply). Called old.seat.me.0 (call.Cancel c.args.fiber) (reply.Cancel r) new.me.0) (sym answer) t.3.0))
 
 pub returns-clause-lawful : goal.returns-clause-lawful
 returns-clause-lawful c = (invariant_of-pass c).1.pass

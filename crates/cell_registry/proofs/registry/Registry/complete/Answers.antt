@@ -14,22 +14,29 @@ compare_exchange-found-requires c =
     let p = c.pass.invariant in
     let of = of_registry _ _ _ _ c.self.view_is c.pass.view_is c.requires.own in
     let place = c.deferred_place-place.ensures in
-    let within = subst (λ (x : RegistryView). c.args.number < x.limits.deferreds) (sym c.self.view_is) c.requires.within in
-    (ap (λ (s : RegistryView). s.table) of, deferred_word _ _ _ c.args.number r within place, completes _ _ _ c.deferred_place-place.result _ _ c.args.number c.args.value p.0 (seat_has _ _ refl p.1) (subst (λ (k : Limits). c.args.number < k.deferreds) (sym r.key_is) within) (deferred_here _ _ _ c.args.number (sym r.key_is) place) (from_bits _ _ c.value_word-filled.ensures.bits c.value_word-filled.ensures.inverse) (ap (λ b. 2 ^ 63 + b) c.value_word-filled.ensures.bits))
+    let within = subst (λ (x : RegistryView). c.args.number < x.limits.deferreds) (sym c.self.view_is) c.requires.within in (
+      ap (λ (s : RegistryView). s.table) of,
+      deferred_word _ _ _ c.args.number r within place,
+      completes _ _ _ c.deferred_place-place.result _ _ c.args.number c.args.value p.0 (seat_has _ _ refl p.1)
+          (subst (λ (k : Limits). c.args.number < k.deferreds) (sym r.key_is) within) (deferred_here _ _ _ c.args.number (sym r.key_is) place)
+          (from_bits _ _ c.value_word-filled.ensures.bits c.value_word-filled.ensures.inverse) (ap (λ b. 2 ^ 63 + b) c.value_word-filled.ensures.bits),
+    )
 
 pub invariant_of-pass : goal.invariant_of-pass
 invariant_of-pass c =
     let p = c.pass.invariant in
     let of = of_registry _ _ _ _ c.self.view_is c.pass.view_is c.requires.own in
     let place = deferred_here _ _ _ c.args.number (sym (ap (λ (s : RegistryView). s.limits) of)) c.deferred_place-place.ensures in
-    let t = c.compare_exchange-found.ensures.2.1 c.args.number place c.args.value (from_bits _ _ c.value_word-filled.ensures.bits c.value_word-filled.ensures.inverse) (ap (λ b. 2 ^ 63 + b) c.value_word-filled.ensures.bits) in
+    let t = c.compare_exchange-found.ensures.2.1 c.args.number place c.args.value
+    (from_bits _ _ c.value_word-filled.ensures.bits c.value_word-filled.ensures.inverse) (ap (λ b. 2 ^ 63 + b) c.value_word-filled.ensures.bits) in
     (c.compare_exchange-found.ensures.2.0, seated_still _ _ _ _ _ _ _ _ _ t.1 (call-prefix _ _ _ _ _ _ _ t.0) t.0.legal p.1)
 
 pub returns-clause-same : goal.returns-clause-same
 returns-clause-same c =
     let of = of_registry _ _ _ _ c.self.view_is c.pass.view_is c.requires.own in
     let place = deferred_here _ _ _ c.args.number (sym (ap (λ (s : RegistryView). s.limits) of)) c.deferred_place-place.ensures in
-    let t = c.compare_exchange-found.ensures.2.1 c.args.number place c.args.value (from_bits _ _ c.value_word-filled.ensures.bits c.value_word-filled.ensures.inverse) (ap (λ b. 2 ^ 63 + b) c.value_word-filled.ensures.bits) in
+    let t = c.compare_exchange-found.ensures.2.1 c.args.number place c.args.value
+    (from_bits _ _ c.value_word-filled.ensures.bits c.value_word-filled.ensures.inverse) (ap (λ b. 2 ^ 63 + b) c.value_word-filled.ensures.bits) in
     let old = c.pass.inside in
     let new = c.compare_exchange-found.new.seat in
     let P : PassView → Type 0 = λ h. OnlySees h (pass_of new.table_id new.me.0 old.number old.stage old.depth old.count old.saw) in
@@ -39,10 +46,13 @@ pub returns-clause-call : goal.returns-clause-call
 returns-clause-call c =
     let of = of_registry _ _ _ _ c.self.view_is c.pass.view_is c.requires.own in
     let place = deferred_here _ _ _ c.args.number (sym (ap (λ (s : RegistryView). s.limits) of)) c.deferred_place-place.ensures in
-    let t = c.compare_exchange-found.ensures.2.1 c.args.number place c.args.value (from_bits _ _ c.value_word-filled.ensures.bits c.value_word-filled.ensures.inverse) (ap (λ b. 2 ^ 63 + b) c.value_word-filled.ensures.bits) in
+    let t = c.compare_exchange-found.ensures.2.1 c.args.number place c.args.value
+    (from_bits _ _ c.value_word-filled.ensures.bits c.value_word-filled.ensures.inverse) (ap (λ b. 2 ^ 63 + b) c.value_word-filled.ensures.bits) in
     let old = c.pass.inside in
     let new = c.compare_exchange-found.new.seat in
-    let P : PassView → Type 0 = λ h. Calls h (call.Complete c.args.number c.args.value) (reply.Completed (c.compare_exchange-found.result == 0)) (pass_of new.table_id new.me.0 old.number old.stage old.depth old.count old.saw) in
+    let P : PassView → Type 0 =
+    λ h. Calls h (call.Complete c.args.number c.args.value) (reply.Completed (c.compare_exchange-found.result == 0))
+    (pass_of new.table_id new.me.0 old.number old.stage old.depth old.count old.saw) in
     subst P c.pass.view_is (called_by old.seat.me.0 new.me.0 _ _ _ c.pass.invariant.1.number_is t.0)
 
 pub returns-clause-lawful : goal.returns-clause-lawful

@@ -5,7 +5,8 @@ use Rattle.cell_registry.specs.Cells.{IsOpen}
 use Rattle.cell_registry.specs.Rule.{seen_cell}
 use Rattle.cell_registry.specs.Passes.{RegistryView, PassView, Changes, pass_of}
 use Rattle.cell_registry.proofs.OwnTurns.{cuts_as}
-use Rattle.cell_registry.proofs.Tokens.{of_registry, own_place, seat_has, seat_cell, called_by, call-prefix, pass_of-step, seated_changed, count_below, seen_count_below}
+use Rattle.cell_registry.proofs.Tokens.{of_registry, own_place, seat_has, seat_cell, called_by, call-prefix}
+use Rattle.cell_registry.proofs.Tokens.{pass_of-step, seated_changed, count_below, seen_count_below}
 use Rattle.cell_registry.proofs.Requests.{legal-cuts}
 use Rattle.cell_registry.proofs.registry.Registry.cut.Goals as goal
 
@@ -18,8 +19,12 @@ fetch_add-requires c =
     let running = ap (λ o. o.0) cell ∙ subst (λ (q : PassView). q.stage ≡ Running) (sym c.pass.view_is) c.requires.running in
     let depth = ap (λ o. o.1) cell ∙ subst (λ (q : PassView). q.depth ≡ 0) (sym c.pass.view_is) c.requires.unmasked in
     let saw = subst (λ (q : PassView). q.saw ≡ true) (sym c.pass.view_is) c.requires.requested in
-    let request = ap (λ (f : ℕ). (seen_cell c.pass.inside.seat.me.0 f).request) (sym p.1.number_is) ∙ p.1.pass.request saw in
-    (ap (λ (s : RegistryView). s.table) of, own_place _ _ _ _ _ p.1 of c.self.invariant c.cell_place.ensures, cuts_as _ _ _ c.cell_place.result _ _ p.0 (seat_has _ _ refl p.1) (c.cell_place.ensures ∙ ap (λ n. n + 3) p.1.number_is) below running depth request c.cut_amount.ensures.law)
+    let request = ap (λ (f : ℕ). (seen_cell c.pass.inside.seat.me.0 f).request) (sym p.1.number_is) ∙ p.1.pass.request saw in (
+      ap (λ (s : RegistryView). s.table) of,
+      own_place _ _ _ _ _ p.1 of c.self.invariant c.cell_place.ensures,
+      cuts_as _ _ _ c.cell_place.result _ _ p.0 (seat_has _ _ refl p.1) (c.cell_place.ensures ∙ ap (λ n. n + 3) p.1.number_is) below running depth
+          request c.cut_amount.ensures.law,
+    )
 
 pub overflow_add-pass : goal.overflow_add-pass
 overflow_add-pass c =
@@ -34,8 +39,12 @@ invariant_of-pass c =
     let cell = seat_cell _ _ _ _ _ _ _ p.1 in
     let depth = ap (λ o. o.1) cell ∙ subst (λ (q : PassView). q.depth ≡ 0) (sym c.pass.view_is) c.requires.unmasked in
     let running = subst (λ (q : PassView). q.stage ≡ Running) (sym c.pass.view_is) c.requires.running in
-    let told = c.fetch_add.ensures.2.1 in
-    (c.fetch_add.ensures.2.0, seated_changed c.pass.inside.seat.me.0.stored c.pass.inside.seat.me.0 c.fetch_add.new.seat.me.0 _ _ _ _ _ _ _ _ _ _ _ (λ j. (Finalizing, depth j + 1, (cell j).2 + 1)) told.1 (λ _. told.1.stored ∙ p.1.unstored (subst IsOpen (sym running) tt)) (call-prefix _ _ _ _ _ _ _ told.0) told.0.legal p.1)
+    let told = c.fetch_add.ensures.2.1 in (
+      c.fetch_add.ensures.2.0,
+      seated_changed c.pass.inside.seat.me.0.stored c.pass.inside.seat.me.0 c.fetch_add.new.seat.me.0 _ _ _ _ _ _ _ _ _ _ _
+          (λ j. (Finalizing, depth j + 1, (cell j).2 + 1)) told.1 (λ _. told.1.stored ∙ p.1.unstored (subst IsOpen (sym running) tt))
+          (call-prefix _ _ _ _ _ _ _ told.0) told.0.legal p.1,
+    )
 
 pub returns-clause-cut : goal.returns-clause-cut
 returns-clause-cut c =

@@ -13,8 +13,12 @@ load-found-requires c =
     let p = c.pass.invariant in
     let of = of_registry _ _ _ _ c.self.view_is c.pass.view_is c.requires.own in
     let place = c.ref_place-place.ensures in
-    let within = subst (λ (x : RegistryView). c.args.number < x.limits.refs) (sym c.self.view_is) c.requires.within in
-    (ap (λ (s : RegistryView). s.table) of, ref_word _ _ _ c.args.number r within place, gets _ _ _ c.ref_place-place.result _ c.args.number p.0 (seat_has _ _ refl p.1) (subst (λ (k : Limits). c.args.number < k.refs) (sym r.key_is) within) (ref_here _ _ _ c.args.number (sym r.key_is) place))
+    let within = subst (λ (x : RegistryView). c.args.number < x.limits.refs) (sym c.self.view_is) c.requires.within in (
+      ap (λ (s : RegistryView). s.table) of,
+      ref_word _ _ _ c.args.number r within place,
+      gets _ _ _ c.ref_place-place.result _ c.args.number p.0 (seat_has _ _ refl p.1)
+          (subst (λ (k : Limits). c.args.number < k.refs) (sym r.key_is) within) (ref_here _ _ _ c.args.number (sym r.key_is) place),
+    )
 
 pub invariant_of-pass : goal.invariant_of-pass
 invariant_of-pass c =
@@ -41,7 +45,9 @@ returns-clause-call c =
     let t = c.load-found.ensures.2.1 c.args.number place in
     let old = c.pass.inside in
     let new = c.load-found.new.seat in
-    let P : PassView → Type 0 = λ h. Calls h (call.Get c.args.number) (reply.Value c.word_value.result) (pass_of new.table_id new.me.0 old.number old.stage old.depth old.count old.saw) in
+    let P : PassView → Type 0 =
+    λ h. Calls h (call.Get c.args.number) (reply.Value c.word_value.result)
+    (pass_of new.table_id new.me.0 old.number old.stage old.depth old.count old.saw) in
     subst P c.pass.view_is (called_by old.seat.me.0 new.me.0 _ _ _ c.pass.invariant.1.number_is (rw c.word_value.ensures.value t.0))
 
 pub returns-clause-lawful : goal.returns-clause-lawful

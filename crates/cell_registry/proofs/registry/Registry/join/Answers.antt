@@ -49,8 +49,11 @@ returns-then-not-has_ended-clause-call c =
     let answer = waits_reply t.0.stage (sym (c.has_ended.ensures t.0 t.1 t.2) ∙ c.if-not-has_ended.true) in
     let old = c.pass.inside in
     let new = c.fetch_or-found.new.seat in
-    let P : PassView → Type 0 = λ h. Calls h (call.Join c.args.fiber) (reply.Join joined.Waits) (pass_of new.table_id new.me.0 old.number old.stage old.depth old.count old.saw) in
-    subst P c.pass.view_is (called_by old.seat.me.0 new.me.0 _ _ _ c.pass.invariant.1.number_is (subst (λ (r : JoinReply). Called old.seat.me.0 (call.Join c.args.fiber) (reply.Join r) new.me.0) (sym answer) t.3.0))
+    let P : PassView → Type 0 =
+    λ h. Calls h (call.Join c.args.fiber) (reply.Join joined.Waits) (pass_of new.table_id new.me.0 old.number old.stage old.depth old.count old.saw) in
+    subst P c.pass.view_is
+    (called_by old.seat.me.0 new.me.0 _ _ _ c.pass.invariant.1.number_is
+    (subst (λ (r : JoinReply). Called old.seat.me.0 (call.Join c.args.fiber) (reply.Join r) new.me.0) (sym answer) t.3.0))
 
 -- ---- where it has
 pub load-value-requires : goal.load-value-requires
@@ -63,8 +66,12 @@ load-value-requires c =
     let within = c.requires.within in
     let fibers = ap (λ (s : RegistryView). s.limits.fibers) c.self.view_is in
     let words = r.words in
-    let place = c.value_place-place.ensures in
-    (c.fetch_or-found.ensures.0 ∙ ap (λ (s : RegistryView). s.table) of, omega arith, finds_as _ _ _ c.value_place-place.result c.args.fiber _ told.0 (seat_has _ _ refl p) (place ∙ ap (λ (k : Limits). value_place k c.args.fiber) (sym r.key_is)))
+    let place = c.value_place-place.ensures in (
+      c.fetch_or-found.ensures.0 ∙ ap (λ (s : RegistryView). s.table) of,
+      omega arith,
+      finds_as _ _ _ c.value_place-place.result c.args.fiber _ told.0 (seat_has _ _ refl p)
+          (place ∙ ap (λ (k : Limits). value_place k c.args.fiber) (sym r.key_is)),
+    )
 
 pub invariant_of-pass-2 : goal.invariant_of-pass-2
 invariant_of-pass-2 c =
@@ -82,7 +89,9 @@ returns-clause-same c =
     let old = c.pass.inside in
     let new = c.load-value.new.seat in
     let P : PassView → Type 0 = λ h. OnlySees h (pass_of new.table_id new.me.0 old.number old.stage old.depth old.count old.saw) in
-    subst P c.pass.view_is (pass_of-step _ _ old.seat.me.0 new.me.0 _ _ _ _ _ (l.0 ∙ c.fetch_or-found.ensures.0) (ap (λ (v : Knowledge). v.limits) l.2.1.0 ∙ t.3.1.limits) (ap (λ (v : Knowledge). v.fibers) l.2.1.0 ∙ t.3.1.fibers))
+    subst P c.pass.view_is
+    (pass_of-step _ _ old.seat.me.0 new.me.0 _ _ _ _ _ (l.0 ∙ c.fetch_or-found.ensures.0) (ap (λ (v : Knowledge). v.limits) l.2.1.0 ∙
+    t.3.1.limits) (ap (λ (v : Knowledge). v.fibers) l.2.1.0 ∙ t.3.1.fibers))
 
 pub returns-clause-lawful : goal.returns-clause-lawful
 returns-clause-lawful c = (invariant_of-pass-2 c).1.pass
@@ -100,6 +109,9 @@ returns-clause-call c =
     let old = c.pass.inside in
     let new = c.load-value.new.seat in
     let made = subst (λ (r : JoinReply). Called old.seat.me.0 (call.Join c.args.fiber) (reply.Join r) c.fetch_or-found.new.seat.me.0) replied t.3.0 in
-    let now = subst (λ (v : Knowledge). Called old.seat.me.0 (call.Join c.args.fiber) (reply.Join (joined.Ended c.outcome_answer.result)) v) (sym l.2.1.0) made in
-    let P : PassView → Type 0 = λ h. Calls h (call.Join c.args.fiber) (reply.Join (joined.Ended c.outcome_answer.result)) (pass_of new.table_id new.me.0 old.number old.stage old.depth old.count old.saw) in
+    let now = subst (λ (v : Knowledge). Called old.seat.me.0 (call.Join c.args.fiber) (reply.Join (joined.Ended c.outcome_answer.result)) v)
+    (sym l.2.1.0) made in
+    let P : PassView → Type 0 =
+    λ h. Calls h (call.Join c.args.fiber) (reply.Join (joined.Ended c.outcome_answer.result))
+    (pass_of new.table_id new.me.0 old.number old.stage old.depth old.count old.saw) in
     subst P c.pass.view_is (called_by old.seat.me.0 new.me.0 _ _ _ c.pass.invariant.1.number_is now)

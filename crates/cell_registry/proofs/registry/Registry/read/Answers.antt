@@ -15,8 +15,12 @@ load-found-requires c =
     let p = c.pass.invariant in
     let of = of_registry _ _ _ _ c.self.view_is c.pass.view_is c.requires.own in
     let place = c.deferred_place-place.ensures in
-    let within = subst (λ (x : RegistryView). c.args.number < x.limits.deferreds) (sym c.self.view_is) c.requires.within in
-    (ap (λ (s : RegistryView). s.table) of, deferred_word _ _ _ c.args.number r within place, reads _ _ _ c.deferred_place-place.result _ c.args.number p.0 (seat_has _ _ refl p.1) (subst (λ (k : Limits). c.args.number < k.deferreds) (sym r.key_is) within) (deferred_here _ _ _ c.args.number (sym r.key_is) place))
+    let within = subst (λ (x : RegistryView). c.args.number < x.limits.deferreds) (sym c.self.view_is) c.requires.within in (
+      ap (λ (s : RegistryView). s.table) of,
+      deferred_word _ _ _ c.args.number r within place,
+      reads _ _ _ c.deferred_place-place.result _ c.args.number p.0 (seat_has _ _ refl p.1)
+          (subst (λ (k : Limits). c.args.number < k.deferreds) (sym r.key_is) within) (deferred_here _ _ _ c.args.number (sym r.key_is) place),
+    )
 
 pub invariant_of-pass : goal.invariant_of-pass
 invariant_of-pass c =
@@ -44,8 +48,12 @@ returns-clause-call c =
     let answer = c.read_answer.ensures t.0 t.1 t.2 in
     let old = c.pass.inside in
     let new = c.load-found.new.seat in
-    let P : PassView → Type 0 = λ h. Calls h (call.Read c.args.number) (reply.Read c.read_answer.result) (pass_of new.table_id new.me.0 old.number old.stage old.depth old.count old.saw) in
-    subst P c.pass.view_is (called_by old.seat.me.0 new.me.0 _ _ _ c.pass.invariant.1.number_is (subst (λ (x : Option ℤ). Called old.seat.me.0 (call.Read c.args.number) (reply.Read x) new.me.0) (sym answer) t.3))
+    let P : PassView → Type 0 =
+    λ h. Calls h (call.Read c.args.number) (reply.Read c.read_answer.result)
+    (pass_of new.table_id new.me.0 old.number old.stage old.depth old.count old.saw) in
+    subst P c.pass.view_is
+    (called_by old.seat.me.0 new.me.0 _ _ _ c.pass.invariant.1.number_is
+    (subst (λ (x : Option ℤ). Called old.seat.me.0 (call.Read c.args.number) (reply.Read x) new.me.0) (sym answer) t.3))
 
 pub returns-clause-lawful : goal.returns-clause-lawful
 returns-clause-lawful c = (invariant_of-pass c).1.pass
