@@ -221,7 +221,7 @@ fn rest_of(alloc: Global, pieces: &mut VecDeque<Piece>) -> Result<Vec<Term>, All
     requires { AllTerms (sorts pieces.old.items) }
     ensures { IfOk result (λ r. ends pieces.old.items ≡ terms_atoms r.items ++ ended ∷ []) }
 {
-    let mut terms = Vec::new(alloc);
+    let mut terms = Vec::with_capacity(alloc, pieces.len())?;
     while let Some(piece) = pieces.pop_front() {
         let Piece::Term(term) = piece else {
             unreachable!()

@@ -54,6 +54,7 @@ pub(crate) enum Step {
 const MOST_OPEN: usize = 100;
 
 /// The token that is wanted here, which is a good one.
+#[inline(always)]
 pub(crate) fn wanted(text: &[u8], at: usize) -> Result<Token, ParseError>
     requires { at ≤ length text.now }
     ensures found { IfOk result (IsNext text.now at) }
@@ -71,6 +72,7 @@ pub(crate) fn wanted(text: &[u8], at: usize) -> Result<Token, ParseError>
 }
 
 /// The word that is wanted here, and where the text goes on.
+#[inline(always)]
 pub(crate) fn word(text: &[u8], at: usize) -> Result<(Word, usize), ParseError>
     requires { at ≤ length text.now }
     ensures within { IfOk result (λ r. (at < r.1) × (r.1 ≤ length text.now)) }
@@ -114,6 +116,7 @@ fn bind(text: &[u8], form: &mut Form, token: Token, kind: Kind) -> Result<Step, 
 }
 
 /// Adds a piece to the form, of which this part is wanted next.
+#[inline(always)]
 pub(crate) fn with_piece(form: &mut Form, piece: Piece, next: usize) -> Result<(), AllocError>
     ensures { (scope : List Binding) →
         IfOk result (λ _. Adds (innermost scope form.old) piece next (innermost scope form.new)) }

@@ -192,6 +192,7 @@ fn token_of(text: &[u8], start: usize, end: usize) -> Token
 }
 
 /// The token that begins here.
+#[inline(always)]
 fn token_from(text: &[u8], start: usize) -> Token
     requires within { start < length text.now }
     requires begins { is_space (slice_index text.now start) ≡ false }
@@ -206,6 +207,7 @@ fn token_from(text: &[u8], start: usize) -> Token
 
 /// The next token from here on, if there is one.
 #[tactic(auto, using(crate::proofs::Lexing::no_tokens))]
+#[inline(always)]
 pub(crate) fn token_at(text: &[u8], at: usize) -> Option<Token>
     requires { at ≤ length text.now }
     ensures found { IfSome result (IsNext text.now at) }
