@@ -16,10 +16,11 @@ use std::marker::Model;
 #[derive(Drop)]
 pub struct Pass {
     pub(crate) seat: Seat<u8, Knowledge>,
-    pub(crate) number: u16,
+    // The wide fields stand first, so that a pass has 40 bytes: it is moved by value.
     pub(crate) stage: Stage,
-    pub(crate) depth: u8,
     pub(crate) count: u64,
+    pub(crate) number: u16,
+    pub(crate) depth: u8,
     pub(crate) saw: bool,
 }
 

@@ -1,5 +1,6 @@
 -- The expansion of a closed, well-kinded program names no fiber, ref or deferred but by the slot of a binder of its kind.
-use Rattle.std.proofs.Common.{◌≡◌, ℕ, zero, suc, ◌+◌, List, [], ◌∷◌, ◌++◌, length, get_or, Some, refl, sym, subst, arith, slice_get, append_assoc, length-append}
+use Rattle.std.proofs.Common.{◌≡◌, ℕ, zero, suc, ◌+◌, List, [], ◌∷◌, ◌++◌, length, get_or, Some, refl, sym}
+use Rattle.std.proofs.Common.{subst, arith, slice_get, append_assoc, length-append}
 use Rattle.std.specs.Prelude.{pos}
 use Rattle.derived_ops.specs.Codes.{IsCode}
 use Rattle.derived_ops.specs.Expansion.{awaits, both_side, bracket_case, cancels_both, ended, expansion, guarantee, pair_race, race_side, runs_side, slot_at}
@@ -70,7 +71,9 @@ even_more (x ∷ g) (y ∷ m) k c h = even_more g m k c h
 even_more [] (y ∷ m) k c h = absurd h
 even_more (x ∷ g) [] k c h = absurd h
 
-bind_at : (g : List Kind) (m : List ℕ) (s : List Place) (k : Kind) (c : ℕ) → Even g m → ((v : ℕ) (j : Kind) → slice_get g v ≡ Some j → Real (place_of j) → At s (slot_at m v) (place_of j)) → (Real (place_of k) → At s c (place_of k)) → (v : ℕ) (j : Kind) → slice_get (g ++ k ∷ []) v ≡ Some j → Real (place_of j) → At s (slot_at (m ++ c ∷ []) v) (place_of j)
+bind_at : (g : List Kind) (m : List ℕ) (s : List Place) (k : Kind) (c : ℕ) → Even g m →
+    ((v : ℕ) (j : Kind) → slice_get g v ≡ Some j → Real (place_of j) → At s (slot_at m v) (place_of j)) → (Real (place_of k) → At s c (place_of k)) →
+    (v : ℕ) (j : Kind) → slice_get (g ++ k ∷ []) v ≡ Some j → Real (place_of j) → At s (slot_at (m ++ c ∷ []) v) (place_of j)
 bind_at [] [] s k c h at new zero j e r = let same : k ≡ j = cc in subst (λ (x : Kind). Real (place_of x) → At s c (place_of x)) same new r
 bind_at [] [] s k c h at new (suc v) j e r = cc
 bind_at (x ∷ g) (y ∷ m) s k c h at new zero j e r = at zero j e r
@@ -83,20 +86,27 @@ scope_up : (g : List Kind) (m : List ℕ) (s d : List Place) → Scope g m s →
 scope_up g m s d h = record { even = h.even; at = λ v k e r. keep s d (slot_at m v) (place_of k) r (h.at v k e r) }
 
 -- one that it sees, in the slot c
-scope_bind : (g : List Kind) (m : List ℕ) (s : List Place) (k : Kind) (c : ℕ) → c ≡ length s → Scope g m s → Scope (g ++ k ∷ []) (m ++ c ∷ []) (under s (place_of k))
+scope_bind : (g : List Kind) (m : List ℕ) (s : List Place) (k : Kind) (c : ℕ) → c ≡ length s → Scope g m s →
+    Scope (g ++ k ∷ []) (m ++ c ∷ []) (under s (place_of k))
 scope_bind g m s k c e h =
     let up = scope_up g m s (place_of k ∷ []) h in
     record { even = even_more g m k c h.even; at = bind_at g m (under s (place_of k)) k c h.even up.at (λ r. here s (place_of k) c e) }
 
 module _ (b : Given) where
   -- ---- the derived words
-  named-guarantee : (s : List Place) (d : ℕ) (e fin on_error on_value : Tree) → d ≡ length s → Named b (under s No_handle) e → Named b (under s No_handle) fin → Named b (under (under s No_handle) No_handle) on_error → Named b (under (under s No_handle) No_handle) on_value → Named b s (guarantee d e fin on_error on_value)
+  named-guarantee : (s : List Place) (d : ℕ) (e fin on_error on_value : Tree) → d ≡ length s → Named b (under s No_handle) e →
+      Named b (under s No_handle) fin → Named b (under (under s No_handle) No_handle) on_error →
+      Named b (under (under s No_handle) No_handle) on_value → Named b s (guarantee d e fin on_error on_value)
   named-guarantee s d e fin on_error on_value q he hf hr hv =
       let one = long s No_handle in
       let two = long (under s No_handle) No_handle in
       (q, (omega arith, ((omega arith, ((he, hf), ((omega arith, (hr, tt)), tt))), (hv, tt))))
 
-  named-bracket_case : (s : List Place) (d : ℕ) (acq body rs re rc : Tree) → d ≡ length s → Named b (under s No_handle) acq → Named b (under (under (under s No_handle) No_handle) No_handle) body → Named b (under (under (under (under s No_handle) No_handle) No_handle) No_handle) rs → Named b (under (under (under (under s No_handle) No_handle) No_handle) No_handle) re → Named b (under (under (under s No_handle) No_handle) No_handle) rc → Named b s (bracket_case d acq body rs re rc)
+  named-bracket_case : (s : List Place) (d : ℕ) (acq body rs re rc : Tree) → d ≡ length s → Named b (under s No_handle) acq →
+      Named b (under (under (under s No_handle) No_handle) No_handle) body →
+      Named b (under (under (under (under s No_handle) No_handle) No_handle) No_handle) rs →
+      Named b (under (under (under (under s No_handle) No_handle) No_handle) No_handle) re →
+      Named b (under (under (under s No_handle) No_handle) No_handle) rc → Named b s (bracket_case d acq body rs re rc)
   named-bracket_case s d acq body rs re rc q ha hb hs he hc =
       let s1 = under s No_handle in
       let s2 = under s1 No_handle in
@@ -104,8 +114,28 @@ module _ (b : Given) where
       let one = long s No_handle in
       let two = long s1 No_handle in
       let three = long s2 No_handle in
-      let four = long s3 No_handle in
-      (q, (omega arith, (ha, (tt, (omega arith, (omega arith, ((omega arith, ((hb, (tt, ((omega arith, (hc, (tt, tt))), tt))), (tt, ((omega arith, (he, tt)), (tt, tt))))), (tt, ((omega arith, (hs, (tt, tt))), (tt, tt))))))))))
+      let four = long s3 No_handle in (
+        q,
+        (
+          omega arith,
+          (
+            ha,
+            (
+              tt,
+              (
+                omega arith,
+                (
+                  omega arith,
+                  (
+                    (omega arith, ((hb, (tt, ((omega arith, (hc, (tt, tt))), tt))), (tt, ((omega arith, (he, tt)), (tt, tt))))),
+                    (tt, ((omega arith, (hs, (tt, tt))), (tt, tt))),
+                  ),
+                ),
+              ),
+            ),
+          ),
+        ),
+      )
 
   named-ended : (s : List Place) (c f : ℕ) → c ≡ length s → At s f A_fiber → Named b s (ended c f)
   named-ended s c f q h = (h, ((q, q), (tt, (tt, tt))))
@@ -124,14 +154,26 @@ module _ (b : Given) where
       let one = long s A_fiber in
       let two = long s1 A_fiber in
       let first = keep s1 (A_fiber ∷ []) (p + 4) A_fiber real_fiber (here s A_fiber (p + 4) q) in
-      let second : At s2 (p + 5) A_fiber = here s1 A_fiber (p + 5) (omega arith) in
-      (q, (f, (omega arith, (keep s (A_fiber ∷ []) (p + 3) A_fiber real_fiber g, (named-ended s2 (p + 6) (p + 4) (omega arith) first, named-ended s2 (p + 6) (p + 5) (omega arith) second)))))
+      let second : At s2 (p + 5) A_fiber = here s1 A_fiber (p + 5) (omega arith) in (
+        q,
+        (
+          f,
+          (
+            omega arith,
+            (
+              keep s (A_fiber ∷ []) (p + 3) A_fiber real_fiber g,
+              (named-ended s2 (p + 6) (p + 4) (omega arith) first, named-ended s2 (p + 6) (p + 5) (omega arith) second),
+            ),
+          ),
+        ),
+      )
 
   -- the scope of a pair race, whose poll is p
   abbrev raced : List Place → List Place
   raced s = under (under (under (under s A_deferred) A_fiber) A_fiber) No_handle
 
-  named-pair_race : (s : List Place) (p : ℕ) (x y k : Tree) → p + 1 ≡ length s → Named b (under (under s A_deferred) No_handle) x → Named b (under (under (under s A_deferred) A_fiber) No_handle) y → Named b (raced s) k → Named b s (pair_race p x y k)
+  named-pair_race : (s : List Place) (p : ℕ) (x y k : Tree) → p + 1 ≡ length s → Named b (under (under s A_deferred) No_handle) x →
+      Named b (under (under (under s A_deferred) A_fiber) No_handle) y → Named b (raced s) k → Named b s (pair_race p x y k)
   named-pair_race s p x y k q hx hy hk =
       let s1 = under s A_deferred in
       let s2 = under s1 A_fiber in
@@ -144,8 +186,16 @@ module _ (b : Given) where
       let d3 = keep s2 (A_fiber ∷ []) (p + 1) A_deferred real_deferred d2 in
       let f2 : At s2 (p + 2) A_fiber = here s1 A_fiber (p + 2) (omega arith) in
       let f3 = keep s2 (A_fiber ∷ []) (p + 2) A_fiber real_fiber f2 in
-      let g3 : At s3 (p + 3) A_fiber = here s2 A_fiber (p + 3) (omega arith) in
-      (q, (omega arith, (named-runs_side s1 (p + 2) (p + 1) 0 x (omega arith) d1 hx, (omega arith, (named-runs_side s2 (p + 3) (p + 1) 1 y (omega arith) d2 hy, (omega arith, ((d3, named-cancels_both s3 p (omega arith) f3 g3), hk)))))))
+      let g3 : At s3 (p + 3) A_fiber = here s2 A_fiber (p + 3) (omega arith) in (
+        q,
+        (
+          omega arith,
+          (
+            named-runs_side s1 (p + 2) (p + 1) 0 x (omega arith) d1 hx,
+            (omega arith, (named-runs_side s2 (p + 3) (p + 1) 1 y (omega arith) d2 hy, (omega arith, ((d3, named-cancels_both s3 p (omega arith) f3 g3), hk)))),
+          ),
+        ),
+      )
 
   named-awaits : (s : List Place) (p c g : ℕ) → c ≡ length s → At s g A_fiber → Named b s (awaits p c g)
   named-awaits s p c g q h = (named-ended s c g q h, h)
@@ -155,14 +205,23 @@ module _ (b : Given) where
       let up = keep s (No_handle ∷ []) g A_fiber real_fiber hg in
       (hf, ((q, q), ((up, tt), ((up, tt), (named-awaits s p c g q hg, (hg, ((q, q), (tt, (tt, (tt, tt))))))))))
 
-  named-both_side : (s : List Place) (p r c f g second first : ℕ) → c ≡ length s → At s f A_fiber → At s g A_fiber → At s r A_ref → Named b s (both_side p r c f g second first)
+  named-both_side : (s : List Place) (p r c f g second first : ℕ) → c ≡ length s → At s f A_fiber → At s g A_fiber → At s r A_ref →
+      Named b s (both_side p r c f g second first)
   named-both_side s p r c f g second first q hf hg hr =
       let s1 = under s No_handle in
       let one = long s No_handle in
       let up = keep s (No_handle ∷ []) g A_fiber real_fiber hg in
       let ref1 = keep s (No_handle ∷ []) r A_ref real_ref hr in
-      let ref2 = keep s1 (No_handle ∷ []) r A_ref real_ref ref1 in
-      (hf, ((q, q), ((named-awaits s1 p (c + 1) g (omega arith) up, (up, ((omega arith, omega arith), ((ref2, tt), (tt, (tt, tt)))))), ((up, tt), (hg, (tt, tt))))))
+      let ref2 = keep s1 (No_handle ∷ []) r A_ref real_ref ref1 in (
+        hf,
+        (
+          (q, q),
+          (
+            (named-awaits s1 p (c + 1) g (omega arith) up, (up, ((omega arith, omega arith), ((ref2, tt), (tt, (tt, tt)))))),
+            ((up, tt), (hg, (tt, tt))),
+          ),
+        ),
+      )
 
   -- ---- programs
   abbrev Expands : Term → Type 0
@@ -185,30 +244,42 @@ module _ (b : Given) where
     below_one p t f w = f g m (under s p) (d + 1) (let one = long s p in omega arith) (scope_up g m s (p ∷ []) h) w
 
     below_two : (p r : Place) (t : Term) → Expands t → WellKinded g t → Named b (under (under s p) r) (expansion m (d + 2) (source_of t))
-    below_two p r t f w = f g m (under (under s p) r) (d + 2) (let one = long s p in let two = long (under s p) r in omega arith) (scope_up g m (under s p) (r ∷ []) (scope_up g m s (p ∷ []) h)) w
+    below_two p r t f w =
+        f g m (under (under s p) r) (d + 2) (let one = long s p in let two = long (under s p) r in omega arith)
+        (scope_up g m (under s p) (r ∷ []) (scope_up g m s (p ∷ []) h)) w
 
-    named-guarantee_of : (e fin : Term) → Expands e → Expands fin → WellKinded g e → WellKinded g fin → Named b s (expansion m d (word.Guarantee (source_of e) (source_of fin)))
+    named-guarantee_of : (e fin : Term) → Expands e → Expands fin → WellKinded g e → WellKinded g fin →
+        Named b s (expansion m d (word.Guarantee (source_of e) (source_of fin)))
     named-guarantee_of e fin fe ff we wf =
         let later = below_two No_handle No_handle fin ff wf in
-        named-guarantee s d (expansion m (d + 1) (source_of e)) (expansion m (d + 1) (source_of fin)) (expansion m (d + 2) (source_of fin)) (expansion m (d + 2) (source_of fin)) q (below_one No_handle e fe we) (below_one No_handle fin ff wf) later later
+        named-guarantee s d (expansion m (d + 1) (source_of e)) (expansion m (d + 1) (source_of fin)) (expansion m (d + 2) (source_of fin))
+        (expansion m (d + 2) (source_of fin)) q (below_one No_handle e fe we) (below_one No_handle fin ff wf) later later
 
     -- the scope of a bracket's value
     valued : Scope (g ++ kind.Value ∷ []) (m ++ (d + 1) ∷ []) (under (under s No_handle) No_handle)
     valued = scope_bind g m (under s No_handle) kind.Value (d + 1) (let one = long s No_handle in omega arith) (scope_up g m s (No_handle ∷ []) h)
 
-    in_value : (t : Term) → Expands t → WellKinded (g ++ kind.Value ∷ []) t → Named b (under (under (under s No_handle) No_handle) No_handle) (expansion (m ++ (d + 1) ∷ []) (d + 3) (source_of t))
+    in_value : (t : Term) → Expands t → WellKinded (g ++ kind.Value ∷ []) t →
+        Named b (under (under (under s No_handle) No_handle) No_handle) (expansion (m ++ (d + 1) ∷ []) (d + 3) (source_of t))
     in_value t f w =
         let s2 = under (under s No_handle) No_handle in
-        f (g ++ kind.Value ∷ []) (m ++ (d + 1) ∷ []) (under s2 No_handle) (d + 3) (let one = long s No_handle in let two = long (under s No_handle) No_handle in let three = long s2 No_handle in omega arith) (scope_up (g ++ kind.Value ∷ []) (m ++ (d + 1) ∷ []) s2 (No_handle ∷ []) valued) w
+        f (g ++ kind.Value ∷ []) (m ++ (d + 1) ∷ []) (under s2 No_handle) (d + 3) (let one = long s No_handle in let two =
+        long (under s No_handle) No_handle in let three = long s2 No_handle in omega arith)
+        (scope_up (g ++ kind.Value ∷ []) (m ++ (d + 1) ∷ []) s2 (No_handle ∷ []) valued) w
 
-    in_value_later : (t : Term) → Expands t → WellKinded (g ++ kind.Value ∷ []) t → Named b (under (under (under (under s No_handle) No_handle) No_handle) No_handle) (expansion (m ++ (d + 1) ∷ []) (d + 4) (source_of t))
+    in_value_later : (t : Term) → Expands t → WellKinded (g ++ kind.Value ∷ []) t →
+        Named b (under (under (under (under s No_handle) No_handle) No_handle) No_handle) (expansion (m ++ (d + 1) ∷ []) (d + 4) (source_of t))
     in_value_later t f w =
         let s2 = under (under s No_handle) No_handle in
         let s3 = under s2 No_handle in
-        f (g ++ kind.Value ∷ []) (m ++ (d + 1) ∷ []) (under s3 No_handle) (d + 4) (let one = long s No_handle in let two = long (under s No_handle) No_handle in let three = long s2 No_handle in let four = long s3 No_handle in omega arith)
-        (scope_up (g ++ kind.Value ∷ []) (m ++ (d + 1) ∷ []) s3 (No_handle ∷ []) (scope_up (g ++ kind.Value ∷ []) (m ++ (d + 1) ∷ []) s2 (No_handle ∷ []) valued)) w
+        f (g ++ kind.Value ∷ []) (m ++ (d + 1) ∷ []) (under s3 No_handle) (d + 4) (let one = long s No_handle in let two =
+        long (under s No_handle) No_handle in let three = long s2 No_handle in let four = long s3 No_handle in omega arith)
+        (scope_up (g ++ kind.Value ∷ []) (m ++ (d + 1) ∷ []) s3 (No_handle ∷ [])
+        (scope_up (g ++ kind.Value ∷ []) (m ++ (d + 1) ∷ []) s2 (No_handle ∷ []) valued)) w
 
-    in_end : (t : Term) → Expands t → WellKinded (g ++ kind.Value ∷ kind.Value ∷ []) t → Named b (under (under (under (under s No_handle) No_handle) No_handle) No_handle) (expansion ((m ++ (d + 1) ∷ []) ++ (d + 3) ∷ []) (d + 4) (source_of t))
+    in_end : (t : Term) → Expands t → WellKinded (g ++ kind.Value ∷ kind.Value ∷ []) t →
+        Named b (under (under (under (under s No_handle) No_handle) No_handle) No_handle)
+        (expansion ((m ++ (d + 1) ∷ []) ++ (d + 3) ∷ []) (d + 4) (source_of t))
     in_end t f w =
         let s2 = under (under s No_handle) No_handle in
         let s3 = under s2 No_handle in
@@ -217,7 +288,8 @@ module _ (b : Given) where
         let three = long s2 No_handle in
         let four = long s3 No_handle in
         f ((g ++ kind.Value ∷ []) ++ kind.Value ∷ []) ((m ++ (d + 1) ∷ []) ++ (d + 3) ∷ []) (under s3 No_handle) (d + 4) (omega arith)
-        (scope_bind (g ++ kind.Value ∷ []) (m ++ (d + 1) ∷ []) s3 kind.Value (d + 3) (omega arith) (scope_up (g ++ kind.Value ∷ []) (m ++ (d + 1) ∷ []) s2 (No_handle ∷ []) valued)) (two_binders g t w)
+        (scope_bind (g ++ kind.Value ∷ []) (m ++ (d + 1) ∷ []) s3 kind.Value (d + 3) (omega arith)
+        (scope_up (g ++ kind.Value ∷ []) (m ++ (d + 1) ∷ []) s2 (No_handle ∷ []) valued)) (two_binders g t w)
 
     -- the sides of a pair race, whose poll is p, below it
     named-race : (x y : Term) → Expands x → Expands y → WellKinded g x → WellKinded g y → Named b s (expansion m d (word.Race (source_of x) (source_of y)))
@@ -234,8 +306,12 @@ module _ (b : Given) where
         let five = long s4 No_handle in
         let six = long s2 No_handle in
         let seven = long s3 No_handle in
-        let hx : Named b (under s2 No_handle) (expansion m (d + 3) (source_of x)) = fx g m (under s2 No_handle) (d + 3) (omega arith) (scope_up g m s2 (No_handle ∷ []) (scope_up g m s1 (A_deferred ∷ []) (scope_up g m s (No_handle ∷ []) h))) wx in
-        let hy : Named b (under s3 No_handle) (expansion m (d + 4) (source_of y)) = fy g m (under s3 No_handle) (d + 4) (omega arith) (scope_up g m s3 (No_handle ∷ []) (scope_up g m s2 (A_fiber ∷ []) (scope_up g m s1 (A_deferred ∷ []) (scope_up g m s (No_handle ∷ []) h)))) wy in
+        let hx : Named b (under s2 No_handle) (expansion m (d + 3) (source_of x)) =
+        fx g m (under s2 No_handle) (d + 3) (omega arith)
+        (scope_up g m s2 (No_handle ∷ []) (scope_up g m s1 (A_deferred ∷ []) (scope_up g m s (No_handle ∷ []) h))) wx in
+        let hy : Named b (under s3 No_handle) (expansion m (d + 4) (source_of y)) =
+        fy g m (under s3 No_handle) (d + 4) (omega arith)
+        (scope_up g m s3 (No_handle ∷ []) (scope_up g m s2 (A_fiber ∷ []) (scope_up g m s1 (A_deferred ∷ []) (scope_up g m s (No_handle ∷ []) h)))) wy in
         let f3 : At s3 (d + 2) A_fiber = here s2 A_fiber (d + 2) (omega arith) in
         let g4 : At s4 (d + 3) A_fiber = here s3 A_fiber (d + 3) (omega arith) in
         let f5 = keep s4 (No_handle ∷ []) (d + 2) A_fiber real_fiber (keep s3 (A_fiber ∷ []) (d + 2) A_fiber real_fiber f3) in
@@ -247,7 +323,8 @@ module _ (b : Given) where
               (named-race_side s5 d (d + 5) (d + 2) (d + 3) (omega arith) f5 g5, named-race_side s5 d (d + 5) (d + 3) (d + 2) (omega arith) g5 f5),
         )
 
-    named-both : (x y k : Term) → Expands x → Expands y → Expands k → WellKinded g x → WellKinded g y → WellKinded (g ++ kind.Value ∷ kind.Value ∷ []) k → Named b s (expansion m d (word.Both (source_of x) (source_of y) (source_of k)))
+    named-both : (x y k : Term) → Expands x → Expands y → Expands k → WellKinded g x → WellKinded g y →
+        WellKinded (g ++ kind.Value ∷ kind.Value ∷ []) k → Named b s (expansion m d (word.Both (source_of x) (source_of y) (source_of k)))
     named-both x y k fx fy fk wx wy wk =
         let p = d + 1 in
         let r1 = under s A_ref in
@@ -266,29 +343,36 @@ module _ (b : Given) where
         let seven = long s3 No_handle in
         let up1 = scope_up g m r1 (No_handle ∷ []) (scope_up g m s (A_ref ∷ []) h) in
         let up2 = scope_up g m s1 (A_deferred ∷ []) up1 in
-        let hx : Named b (under s2 No_handle) (expansion m (d + 4) (source_of x)) = fx g m (under s2 No_handle) (d + 4) (omega arith) (scope_up g m s2 (No_handle ∷ []) up2) wx in
-        let hy : Named b (under s3 No_handle) (expansion m (d + 5) (source_of y)) = fy g m (under s3 No_handle) (d + 5) (omega arith) (scope_up g m s3 (No_handle ∷ []) (scope_up g m s2 (A_fiber ∷ []) up2)) wy in
+        let hx : Named b (under s2 No_handle) (expansion m (d + 4) (source_of x)) =
+        fx g m (under s2 No_handle) (d + 4) (omega arith) (scope_up g m s2 (No_handle ∷ []) up2) wx in
+        let hy : Named b (under s3 No_handle) (expansion m (d + 5) (source_of y)) =
+        fy g m (under s3 No_handle) (d + 5) (omega arith) (scope_up g m s3 (No_handle ∷ []) (scope_up g m s2 (A_fiber ∷ []) up2)) wy in
         let f3 : At s3 (p + 2) A_fiber = here s2 A_fiber (p + 2) (omega arith) in
         let g4 : At s4 (p + 3) A_fiber = here s3 A_fiber (p + 3) (omega arith) in
         let f5 = keep s4 (No_handle ∷ []) (p + 2) A_fiber real_fiber (keep s3 (A_fiber ∷ []) (p + 2) A_fiber real_fiber f3) in
         let g5 = keep s4 (No_handle ∷ []) (p + 3) A_fiber real_fiber g4 in
         let ref1 : At r1 d A_ref = here s A_ref d q in
         let ref2 = keep r1 (No_handle ∷ []) d A_ref real_ref ref1 in
-        let ref5 = keep s4 (No_handle ∷ []) d A_ref real_ref (keep s3 (A_fiber ∷ []) d A_ref real_ref (keep s2 (A_fiber ∷ []) d A_ref real_ref (keep s1 (A_deferred ∷ []) d A_ref real_ref ref2))) in
+        let ref5 = keep s4 (No_handle ∷ []) d A_ref real_ref
+        (keep s3 (A_fiber ∷ []) d A_ref real_ref (keep s2 (A_fiber ∷ []) d A_ref real_ref (keep s1 (A_deferred ∷ []) d A_ref real_ref ref2))) in
         let first = both_side p d (p + 5) (p + 2) (p + 3) (p + 6) (p + 5) in
         let second = both_side p d (p + 5) (p + 3) (p + 2) (p + 5) (p + 6) in
         let k1 = scope_bind g m r1 kind.Value (d + 1) (omega arith) (scope_up g m s (A_ref ∷ []) h) in
         let k2 = scope_bind (g ++ kind.Value ∷ []) (m ++ (d + 1) ∷ []) s1 kind.Value (d + 2) (omega arith) k1 in
         let hk : Named b (under s1 No_handle) (expansion ((m ++ (d + 1) ∷ []) ++ (d + 2) ∷ []) (d + 3) (source_of k)) =
-        fk ((g ++ kind.Value ∷ []) ++ kind.Value ∷ []) ((m ++ (d + 1) ∷ []) ++ (d + 2) ∷ []) (under s1 No_handle) (d + 3) (let last = long s1 No_handle in omega arith) k2 (two_binders g k wk) in (
+        fk ((g ++ kind.Value ∷ []) ++ kind.Value ∷ []) ((m ++ (d + 1) ∷ []) ++ (d + 2) ∷ []) (under s1 No_handle) (d + 3)
+        (let last = long s1 No_handle in omega arith) k2 (two_binders g k wk) in (
           q,
           (
             omega arith,
             (
               (
                 omega arith,
-                named-pair_race s1 p (expansion m (d + 4) (source_of x)) (expansion m (d + 5) (source_of y)) (If0 (Slot (p + 4)) first second) (omega arith) hx hy
-                    (named-both_side s5 p d (p + 5) (p + 2) (p + 3) (p + 6) (p + 5) (omega arith) f5 g5 ref5, named-both_side s5 p d (p + 5) (p + 3) (p + 2) (p + 5) (p + 6) (omega arith) g5 f5 ref5),
+                named-pair_race s1 p (expansion m (d + 4) (source_of x)) (expansion m (d + 5) (source_of y)) (If0 (Slot (p + 4)) first second)
+                    (omega arith) hx hy (
+                      named-both_side s5 p d (p + 5) (p + 2) (p + 3) (p + 6) (p + 5) (omega arith) f5 g5 ref5,
+                      named-both_side s5 p d (p + 5) (p + 3) (p + 2) (p + 5) (p + 6) (omega arith) g5 f5 ref5,
+                    ),
               ),
               (omega arith, (ref2, hk)),
             ),
@@ -300,7 +384,8 @@ module _ (b : Given) where
     named-expansion (term.Pure v) g m s d q h w = tt
     named-expansion (term.Raise v) g m s d q h w = tt
     named-expansion (term.Let' _ e _ k) g m s d q h w = (q, (named-expansion e g m s d q h w.0, bound g m s d q h kind.Value k (named-expansion k) w.1))
-    named-expansion (term.Seq' _ x _ y _ more) g m s d q h w = named-seq g m s d q h (source_of x) (source_of y) more (named-expansion x g m s d q h w.0) (named-expansion y g m s d q h w.1) w.2
+    named-expansion (term.Seq' _ x _ y _ more) g m s d q h w =
+        named-seq g m s d q h (source_of x) (source_of y) more (named-expansion x g m s d q h w.0) (named-expansion y g m s d q h w.1) w.2
     named-expansion (term.Handle' _ e _ k) g m s d q h w = (q, (named-expansion e g m s d q h w.0, bound g m s d q h kind.Value k (named-expansion k) w.1))
     named-expansion (term.If0' v _ x _ y) g m s d q h w = (named-expansion x g m s d q h w.1, named-expansion y g m s d q h w.2)
     named-expansion (term.Add v u) g m s d q h w = tt
@@ -312,7 +397,16 @@ module _ (b : Given) where
     named-expansion (term.Poll' p _ e) g m s d q h w = named-expansion e g m s d q h w.1
     named-expansion (term.OnCancel' _ e _ fin) g m s d q h w = (named-expansion e g m s d q h w.0, named-expansion fin g m s d q h w.1)
     named-expansion (term.Start' _ e _ k) g m s d q h w = (q, (named-expansion e g m s d q h w.0, bound g m s d q h kind.Fiber k (named-expansion k) w.1))
-    named-expansion (term.Join' f _ x _ y _ c) g m s d q h w = (h.at f.slot kind.Fiber w.0.0 real_fiber, ((q, q), (bound g m s d q h kind.Value x (named-expansion x) w.1, (bound g m s d q h kind.Value y (named-expansion y) w.2, named-expansion c g m s d q h w.3))))
+    named-expansion (term.Join' f _ x _ y _ c) g m s d q h w = (
+      h.at f.slot kind.Fiber w.0.0 real_fiber,
+      (
+        (q, q),
+        (
+          bound g m s d q h kind.Value x (named-expansion x) w.1,
+          (bound g m s d q h kind.Value y (named-expansion y) w.2, named-expansion c g m s d q h w.3),
+        ),
+      ),
+    )
     named-expansion (term.Cancel f) g m s d q h w = h.at f.slot kind.Fiber w.0 real_fiber
     named-expansion (term.Ref' v _ k) g m s d q h w = (q, bound g m s d q h kind.Ref k (named-expansion k) w.1)
     named-expansion (term.Get r) g m s d q h w = h.at r.slot kind.Ref w.0 real_ref
@@ -326,18 +420,29 @@ module _ (b : Given) where
     named-expansion (term.Guarantee' _ e _ fin) g m s d q h w = named-guarantee_of g m s d q h e fin (named-expansion e) (named-expansion fin) w.0 w.1
     named-expansion (term.Bracket' _ x _ y _ r) g m s d q h w =
         let end = in_value_later g m s d q h r (named-expansion r) w.2 in
-        named-bracket_case s d (expansion m (d + 1) (source_of x)) (expansion (m ++ (d + 1) ∷ []) (d + 3) (source_of y)) (expansion (m ++ (d + 1) ∷ []) (d + 4) (source_of r)) (expansion (m ++ (d + 1) ∷ []) (d + 4) (source_of r)) (expansion (m ++ (d + 1) ∷ []) (d + 3) (source_of r)) q
-        (below_one g m s d q h No_handle x (named-expansion x) w.0) (in_value g m s d q h y (named-expansion y) w.1) end end (in_value g m s d q h r (named-expansion r) w.2)
+        named-bracket_case s d (expansion m (d + 1) (source_of x)) (expansion (m ++ (d + 1) ∷ []) (d + 3) (source_of y))
+        (expansion (m ++ (d + 1) ∷ []) (d + 4) (source_of r)) (expansion (m ++ (d + 1) ∷ []) (d + 4) (source_of r))
+        (expansion (m ++ (d + 1) ∷ []) (d + 3) (source_of r)) q
+        (below_one g m s d q h No_handle x (named-expansion x) w.0) (in_value g m s d q h y (named-expansion y) w.1) end end
+        (in_value g m s d q h r (named-expansion r) w.2)
     named-expansion (term.BracketCase' _ x _ y _ rs _ re _ rc) g m s d q h w =
-        named-bracket_case s d (expansion m (d + 1) (source_of x)) (expansion (m ++ (d + 1) ∷ []) (d + 3) (source_of y)) (expansion ((m ++ (d + 1) ∷ []) ++ (d + 3) ∷ []) (d + 4) (source_of rs)) (expansion ((m ++ (d + 1) ∷ []) ++ (d + 3) ∷ []) (d + 4) (source_of re)) (expansion (m ++ (d + 1) ∷ []) (d + 3) (source_of rc)) q
-        (below_one g m s d q h No_handle x (named-expansion x) w.0) (in_value g m s d q h y (named-expansion y) w.1) (in_end g m s d q h rs (named-expansion rs) w.2) (in_end g m s d q h re (named-expansion re) w.3) (in_value g m s d q h rc (named-expansion rc) w.4)
+        named-bracket_case s d (expansion m (d + 1) (source_of x)) (expansion (m ++ (d + 1) ∷ []) (d + 3) (source_of y))
+        (expansion ((m ++ (d + 1) ∷ []) ++ (d + 3) ∷ []) (d + 4) (source_of rs))
+        (expansion ((m ++ (d + 1) ∷ []) ++ (d + 3) ∷ []) (d + 4) (source_of re)) (expansion (m ++ (d + 1) ∷ []) (d + 3) (source_of rc)) q
+        (below_one g m s d q h No_handle x (named-expansion x) w.0) (in_value g m s d q h y (named-expansion y) w.1)
+        (in_end g m s d q h rs (named-expansion rs) w.2) (in_end g m s d q h re (named-expansion re) w.3) (in_value g m s d q h rc (named-expansion rc) w.4)
     named-expansion (term.BracketFull' _ x _ y _ rs _ re _ rc) g m s d q h w =
-        named-bracket_case s d (expansion (m ++ d ∷ []) (d + 1) (source_of x)) (expansion (m ++ (d + 1) ∷ []) (d + 3) (source_of y)) (expansion ((m ++ (d + 1) ∷ []) ++ (d + 3) ∷ []) (d + 4) (source_of rs)) (expansion ((m ++ (d + 1) ∷ []) ++ (d + 3) ∷ []) (d + 4) (source_of re)) (expansion (m ++ (d + 1) ∷ []) (d + 3) (source_of rc)) q
-        (bound g m s d q h kind.Poll x (named-expansion x) w.0) (in_value g m s d q h y (named-expansion y) w.1) (in_end g m s d q h rs (named-expansion rs) w.2) (in_end g m s d q h re (named-expansion re) w.3) (in_value g m s d q h rc (named-expansion rc) w.4)
+        named-bracket_case s d (expansion (m ++ d ∷ []) (d + 1) (source_of x)) (expansion (m ++ (d + 1) ∷ []) (d + 3) (source_of y))
+        (expansion ((m ++ (d + 1) ∷ []) ++ (d + 3) ∷ []) (d + 4) (source_of rs))
+        (expansion ((m ++ (d + 1) ∷ []) ++ (d + 3) ∷ []) (d + 4) (source_of re)) (expansion (m ++ (d + 1) ∷ []) (d + 3) (source_of rc)) q
+        (bound g m s d q h kind.Poll x (named-expansion x) w.0) (in_value g m s d q h y (named-expansion y) w.1)
+        (in_end g m s d q h rs (named-expansion rs) w.2) (in_end g m s d q h re (named-expansion re) w.3) (in_value g m s d q h rc (named-expansion rc) w.4)
     named-expansion (term.Race' _ x _ y) g m s d q h w = named-race g m s d q h x y (named-expansion x) (named-expansion y) w.0 w.1
-    named-expansion (term.Both' _ x _ y _ k) g m s d q h w = named-both g m s d q h x y k (named-expansion x) (named-expansion y) (named-expansion k) w.0 w.1 w.2
+    named-expansion (term.Both' _ x _ y _ k) g m s d q h w =
+        named-both g m s d q h x y k (named-expansion x) (named-expansion y) (named-expansion k) w.0 w.1 w.2
 
-    named-seq : (g : List Kind) (m : List ℕ) (s : List Place) (d : ℕ) → d ≡ length s → Scope g m s → (x y : Source) {n : _} (more : Row_of-Term n) → Named b s (expansion m d x) → Named b s (expansion m d y) → AllWellKinded g more → Named b s (expansion m d (seq_of x y more))
+    named-seq : (g : List Kind) (m : List ℕ) (s : List Place) (d : ℕ) → d ≡ length s → Scope g m s → (x y : Source) {n : _} (more : Row_of-Term n) →
+        Named b s (expansion m d x) → Named b s (expansion m d y) → AllWellKinded g more → Named b s (expansion m d (seq_of x y more))
     named-seq g m s d q h x y end_of-Term hx hy w = (hx, hy)
     named-seq g m s d q h x y (more_of-Term c rest) hx hy w = (hx, named-seq g m s d q h y (source_of c) rest hy (named-expansion c g m s d q h w.0) w.1)
 

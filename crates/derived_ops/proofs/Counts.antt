@@ -31,7 +31,8 @@ mutual
   words_expansion (term.Poll' p _ e) m d = omega (arith, words_expansion e m d)
   words_expansion (term.OnCancel' _ e _ fin) m d = omega (arith, words_expansion e m d, words_expansion fin m d)
   words_expansion (term.Start' _ e _ k) m d = omega (arith, words_expansion e m d, words_expansion k (m ++ d ∷ []) (d + 1))
-  words_expansion (term.Join' f _ s _ e _ c) m d = omega (arith, words_expansion s (m ++ d ∷ []) (d + 1), words_expansion e (m ++ d ∷ []) (d + 1), words_expansion c m d)
+  words_expansion (term.Join' f _ s _ e _ c) m d =
+      omega (arith, words_expansion s (m ++ d ∷ []) (d + 1), words_expansion e (m ++ d ∷ []) (d + 1), words_expansion c m d)
   words_expansion (term.Cancel f) m d = refl
   words_expansion (term.Ref' v _ k) m d = omega (arith, words_expansion k (m ++ d ∷ []) (d + 1))
   words_expansion (term.Get r) m d = refl
@@ -43,13 +44,38 @@ mutual
   words_expansion (term.Repeat' v _ e) m d = omega (arith, words_expansion e m d)
   words_expansion (term.Forever' _ e) m d = omega (arith, words_expansion e m d)
   words_expansion (term.Guarantee' _ e _ fin) m d = omega (arith, words_expansion e m (d + 1), words_expansion fin m (d + 1), words_expansion fin m (d + 2))
-  words_expansion (term.Bracket' _ acq _ body _ rel) m d = omega (arith, words_expansion acq m (d + 1), words_expansion body (m ++ (d + 1) ∷ []) (d + 3), words_expansion rel (m ++ (d + 1) ∷ []) (d + 4), words_expansion rel (m ++ (d + 1) ∷ []) (d + 3))
-  words_expansion (term.BracketCase' _ acq _ body _ rs _ re _ rc) m d = omega (arith, words_expansion acq m (d + 1), words_expansion body (m ++ (d + 1) ∷ []) (d + 3), words_expansion rs ((m ++ (d + 1) ∷ []) ++ (d + 3) ∷ []) (d + 4), words_expansion re ((m ++ (d + 1) ∷ []) ++ (d + 3) ∷ []) (d + 4), words_expansion rc (m ++ (d + 1) ∷ []) (d + 3))
-  words_expansion (term.BracketFull' _ acq _ body _ rs _ re _ rc) m d = omega (arith, words_expansion acq (m ++ d ∷ []) (d + 1), words_expansion body (m ++ (d + 1) ∷ []) (d + 3), words_expansion rs ((m ++ (d + 1) ∷ []) ++ (d + 3) ∷ []) (d + 4), words_expansion re ((m ++ (d + 1) ∷ []) ++ (d + 3) ∷ []) (d + 4), words_expansion rc (m ++ (d + 1) ∷ []) (d + 3))
+  words_expansion (term.Bracket' _ acq _ body _ rel) m d =
+      omega (
+        arith,
+        words_expansion acq m (d + 1),
+        words_expansion body (m ++ (d + 1) ∷ []) (d + 3),
+        words_expansion rel (m ++ (d + 1) ∷ []) (d + 4),
+        words_expansion rel (m ++ (d + 1) ∷ []) (d + 3),
+      )
+  words_expansion (term.BracketCase' _ acq _ body _ rs _ re _ rc) m d =
+      omega (
+        arith,
+        words_expansion acq m (d + 1),
+        words_expansion body (m ++ (d + 1) ∷ []) (d + 3),
+        words_expansion rs ((m ++ (d + 1) ∷ []) ++ (d + 3) ∷ []) (d + 4),
+        words_expansion re ((m ++ (d + 1) ∷ []) ++ (d + 3) ∷ []) (d + 4),
+        words_expansion rc (m ++ (d + 1) ∷ []) (d + 3),
+      )
+  words_expansion (term.BracketFull' _ acq _ body _ rs _ re _ rc) m d =
+      omega (
+        arith,
+        words_expansion acq (m ++ d ∷ []) (d + 1),
+        words_expansion body (m ++ (d + 1) ∷ []) (d + 3),
+        words_expansion rs ((m ++ (d + 1) ∷ []) ++ (d + 3) ∷ []) (d + 4),
+        words_expansion re ((m ++ (d + 1) ∷ []) ++ (d + 3) ∷ []) (d + 4),
+        words_expansion rc (m ++ (d + 1) ∷ []) (d + 3),
+      )
   words_expansion (term.Race' _ a _ b) m d = omega (arith, words_expansion a m (d + 3), words_expansion b m (d + 4))
-  words_expansion (term.Both' _ a _ b _ k) m d = omega (arith, words_expansion a m (d + 4), words_expansion b m (d + 5), words_expansion k ((m ++ (d + 1) ∷ []) ++ (d + 2) ∷ []) (d + 3))
+  words_expansion (term.Both' _ a _ b _ k) m d =
+      omega (arith, words_expansion a m (d + 4), words_expansion b m (d + 5), words_expansion k ((m ++ (d + 1) ∷ []) ++ (d + 2) ∷ []) (d + 3))
 
-  pub words_seq : (m : List ℕ) (d : ℕ) (a b : Source) {n : _} (more : Row_of-Term n) → words (expansion m d (seq_of a b more)) ≡ 1 + words (expansion m d a) + words (expansion m d b) + expansion_sizes_of more
+  pub words_seq : (m : List ℕ) (d : ℕ) (a b : Source) {n : _} (more : Row_of-Term n) →
+      words (expansion m d (seq_of a b more)) ≡ 1 + words (expansion m d a) + words (expansion m d b) + expansion_sizes_of more
   words_seq m d a b end_of-Term = omega arith
   words_seq m d a b (more_of-Term c rest) = omega (arith, words_seq m d b (source_of c) rest, words_expansion c m d)
 
@@ -79,10 +105,12 @@ failed_most e = omega arith
 done_most : (s : ℕ) → max 0 (max (max s (max 0 0)) (max 0 0)) ≡ s
 done_most s = omega arith
 
-bracket_case_most : (d : ℕ) (acq body rs re rc : Tree) → masks (bracket_case d acq body rs re rc) ≡ max (1 + masks acq) (max (2 + masks body) (max (2 + masks rs) (max (2 + masks re) (3 + masks rc))))
+bracket_case_most : (d : ℕ) (acq body rs re rc : Tree) →
+    masks (bracket_case d acq body rs re rc) ≡ max (1 + masks acq) (max (2 + masks body) (max (2 + masks rs) (max (2 + masks re) (3 + masks rc))))
 bracket_case_most d acq body rs re rc =
     rw (canceled_most (masks rc), failed_most (masks re), done_most (masks rs))
-    (acquired_most (masks acq) (max (max (max (masks body) (1 + masks rc)) (masks re)) (masks rs)) ∙ ap (max (1 + masks acq)) (released_most (masks body) (masks rc) (masks re) (masks rs)))
+    (acquired_most (masks acq) (max (max (max (masks body) (1 + masks rc)) (masks re)) (masks rs)) ∙
+    ap (max (1 + masks acq)) (released_most (masks body) (masks rc) (masks re) (masks rs)))
 
 one_release : (a b r : ℕ) → max (1 + a) (max (2 + b) (max (2 + r) (max (2 + r) (3 + r)))) ≡ max (1 + a) (max (2 + b) (3 + r))
 one_release a b r = ap (λ n. max (1 + a) (max (2 + b) n)) (omega arith)
@@ -115,7 +143,8 @@ mutual
   masks_expansion (term.Poll' p _ e) m d = rw (masks_expansion e m d) refl
   masks_expansion (term.OnCancel' _ e _ fin) m d = rw (masks_expansion e m d, masks_expansion fin m d) refl
   masks_expansion (term.Start' _ e _ k) m d = rw (masks_expansion e m d, masks_expansion k (m ++ d ∷ []) (d + 1)) refl
-  masks_expansion (term.Join' f _ s _ e _ c) m d = rw (masks_expansion s (m ++ d ∷ []) (d + 1), masks_expansion e (m ++ d ∷ []) (d + 1), masks_expansion c m d) refl
+  masks_expansion (term.Join' f _ s _ e _ c) m d =
+      rw (masks_expansion s (m ++ d ∷ []) (d + 1), masks_expansion e (m ++ d ∷ []) (d + 1), masks_expansion c m d) refl
   masks_expansion (term.Cancel f) m d = refl
   masks_expansion (term.Ref' v _ k) m d = rw (masks_expansion k (m ++ d ∷ []) (d + 1)) refl
   masks_expansion (term.Get r) m d = refl
@@ -126,22 +155,51 @@ mutual
   masks_expansion (term.Await c) m d = refl
   masks_expansion (term.Repeat' v _ e) m d = rw (masks_expansion e m d) refl
   masks_expansion (term.Forever' _ e) m d = rw (masks_expansion e m d) refl
-  masks_expansion (term.Guarantee' _ e _ fin) m d = rw (masks_expansion e m (d + 1), masks_expansion fin m (d + 1), masks_expansion fin m (d + 2)) (guarantee_most (masks_of e) (masks_of fin))
+  masks_expansion (term.Guarantee' _ e _ fin) m d =
+      rw (masks_expansion e m (d + 1), masks_expansion fin m (d + 1), masks_expansion fin m (d + 2)) (guarantee_most (masks_of e) (masks_of fin))
   masks_expansion (term.Bracket' _ acq _ body _ rel) m d =
-      bracket_case_most d (expansion m (d + 1) (source_of acq)) (expansion (m ++ (d + 1) ∷ []) (d + 3) (source_of body)) (expansion (m ++ (d + 1) ∷ []) (d + 4) (source_of rel)) (expansion (m ++ (d + 1) ∷ []) (d + 4) (source_of rel)) (expansion (m ++ (d + 1) ∷ []) (d + 3) (source_of rel))
-      ∙ (rw (masks_expansion acq m (d + 1), masks_expansion body (m ++ (d + 1) ∷ []) (d + 3), masks_expansion rel (m ++ (d + 1) ∷ []) (d + 4), masks_expansion rel (m ++ (d + 1) ∷ []) (d + 3)) (one_release (masks_of acq) (masks_of body) (masks_of rel)))
+      bracket_case_most d (expansion m (d + 1) (source_of acq)) (expansion (m ++ (d + 1) ∷ []) (d + 3) (source_of body))
+      (expansion (m ++ (d + 1) ∷ []) (d + 4) (source_of rel)) (expansion (m ++ (d + 1) ∷ []) (d + 4) (source_of rel))
+      (expansion (m ++ (d + 1) ∷ []) (d + 3) (source_of rel))
+      ∙ (rw (
+        masks_expansion acq m (d + 1),
+        masks_expansion body (m ++ (d + 1) ∷ []) (d + 3),
+        masks_expansion rel (m ++ (d + 1) ∷ []) (d + 4),
+        masks_expansion rel (m ++ (d + 1) ∷ []) (d + 3),
+      ) (one_release (masks_of acq) (masks_of body) (masks_of rel)))
   masks_expansion (term.BracketCase' _ acq _ body _ rs _ re _ rc) m d =
-      bracket_case_most d (expansion m (d + 1) (source_of acq)) (expansion (m ++ (d + 1) ∷ []) (d + 3) (source_of body)) (expansion ((m ++ (d + 1) ∷ []) ++ (d + 3) ∷ []) (d + 4) (source_of rs)) (expansion ((m ++ (d + 1) ∷ []) ++ (d + 3) ∷ []) (d + 4) (source_of re)) (expansion (m ++ (d + 1) ∷ []) (d + 3) (source_of rc))
-      ∙ (rw (masks_expansion acq m (d + 1), masks_expansion body (m ++ (d + 1) ∷ []) (d + 3), masks_expansion rs ((m ++ (d + 1) ∷ []) ++ (d + 3) ∷ []) (d + 4), masks_expansion re ((m ++ (d + 1) ∷ []) ++ (d + 3) ∷ []) (d + 4), masks_expansion rc (m ++ (d + 1) ∷ []) (d + 3)) refl)
+      bracket_case_most d (expansion m (d + 1) (source_of acq)) (expansion (m ++ (d + 1) ∷ []) (d + 3) (source_of body))
+      (expansion ((m ++ (d + 1) ∷ []) ++ (d + 3) ∷ []) (d + 4) (source_of rs))
+      (expansion ((m ++ (d + 1) ∷ []) ++ (d + 3) ∷ []) (d + 4) (source_of re)) (expansion (m ++ (d + 1) ∷ []) (d + 3) (source_of rc))
+      ∙ (rw (
+        masks_expansion acq m (d + 1),
+        masks_expansion body (m ++ (d + 1) ∷ []) (d + 3),
+        masks_expansion rs ((m ++ (d + 1) ∷ []) ++ (d + 3) ∷ []) (d + 4),
+        masks_expansion re ((m ++ (d + 1) ∷ []) ++ (d + 3) ∷ []) (d + 4),
+        masks_expansion rc (m ++ (d + 1) ∷ []) (d + 3),
+      ) refl)
   masks_expansion (term.BracketFull' _ acq _ body _ rs _ re _ rc) m d =
-      bracket_case_most d (expansion (m ++ d ∷ []) (d + 1) (source_of acq)) (expansion (m ++ (d + 1) ∷ []) (d + 3) (source_of body)) (expansion ((m ++ (d + 1) ∷ []) ++ (d + 3) ∷ []) (d + 4) (source_of rs)) (expansion ((m ++ (d + 1) ∷ []) ++ (d + 3) ∷ []) (d + 4) (source_of re)) (expansion (m ++ (d + 1) ∷ []) (d + 3) (source_of rc))
-      ∙ (rw (masks_expansion acq (m ++ d ∷ []) (d + 1), masks_expansion body (m ++ (d + 1) ∷ []) (d + 3), masks_expansion rs ((m ++ (d + 1) ∷ []) ++ (d + 3) ∷ []) (d + 4), masks_expansion re ((m ++ (d + 1) ∷ []) ++ (d + 3) ∷ []) (d + 4), masks_expansion rc (m ++ (d + 1) ∷ []) (d + 3)) refl)
+      bracket_case_most d (expansion (m ++ d ∷ []) (d + 1) (source_of acq)) (expansion (m ++ (d + 1) ∷ []) (d + 3) (source_of body))
+      (expansion ((m ++ (d + 1) ∷ []) ++ (d + 3) ∷ []) (d + 4) (source_of rs))
+      (expansion ((m ++ (d + 1) ∷ []) ++ (d + 3) ∷ []) (d + 4) (source_of re)) (expansion (m ++ (d + 1) ∷ []) (d + 3) (source_of rc))
+      ∙ (rw (
+        masks_expansion acq (m ++ d ∷ []) (d + 1),
+        masks_expansion body (m ++ (d + 1) ∷ []) (d + 3),
+        masks_expansion rs ((m ++ (d + 1) ∷ []) ++ (d + 3) ∷ []) (d + 4),
+        masks_expansion re ((m ++ (d + 1) ∷ []) ++ (d + 3) ∷ []) (d + 4),
+        masks_expansion rc (m ++ (d + 1) ∷ []) (d + 3),
+      ) refl)
   masks_expansion (term.Race' _ a _ b) m d = rw (masks_expansion a m (d + 3), masks_expansion b m (d + 4)) (pair_most (masks_of a) (masks_of b))
-  masks_expansion (term.Both' _ a _ b _ k) m d = rw (masks_expansion a m (d + 4), masks_expansion b m (d + 5), masks_expansion k ((m ++ (d + 1) ∷ []) ++ (d + 2) ∷ []) (d + 3)) (both_most (masks_of a) (masks_of b) (masks_of k))
+  masks_expansion (term.Both' _ a _ b _ k) m d =
+      rw (masks_expansion a m (d + 4), masks_expansion b m (d + 5), masks_expansion k ((m ++ (d + 1) ∷ []) ++ (d + 2) ∷ []) (d + 3))
+      (both_most (masks_of a) (masks_of b) (masks_of k))
 
-  pub masks_seq : (m : List ℕ) (d : ℕ) (a b : Source) {n : _} (more : Row_of-Term n) → masks (expansion m d (seq_of a b more)) ≡ max (masks (expansion m d a)) (max (masks (expansion m d b)) (most_masks_of more))
+  pub masks_seq : (m : List ℕ) (d : ℕ) (a b : Source) {n : _} (more : Row_of-Term n) →
+      masks (expansion m d (seq_of a b more)) ≡ max (masks (expansion m d a)) (max (masks (expansion m d b)) (most_masks_of more))
   masks_seq m d a b end_of-Term = rw (max_zero (masks (expansion m d b))) refl
-  masks_seq m d a b (more_of-Term c rest) = ap (max (masks (expansion m d a))) (masks_seq m d b (source_of c) rest ∙ ap (λ n. max (masks (expansion m d b)) (max n (most_masks_of rest))) (masks_expansion c m d))
+  masks_seq m d a b (more_of-Term c rest) =
+      ap (max (masks (expansion m d a))) (masks_seq m d b (source_of c) rest ∙
+      ap (λ n. max (masks (expansion m d b)) (max n (most_masks_of rest))) (masks_expansion c m d))
 
 -- ---- a whole program
 pub words_code : (t : Term) → words (code_of (source_of t)) ≡ expansion_size_of t

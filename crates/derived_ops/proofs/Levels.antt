@@ -9,11 +9,13 @@ use Rattle.derived_ops.specs.Source.{Source}
 use Rattle.derived_ops.specs.Tree.{Number, Slot, Open_slot, Complete, Tree, Act, If0}
 
 -- ---- derived words, by their parts
-levelled-guarantee : (n d : ℕ) (e a b c : Tree) → d ≡ n → Levelled (n + 1) e → Levelled (n + 1) a → Levelled (n + 1 + 1) b → Levelled (n + 1 + 1) c → Levelled n (guarantee d e a b c)
+levelled-guarantee : (n d : ℕ) (e a b c : Tree) → d ≡ n → Levelled (n + 1) e → Levelled (n + 1) a → Levelled (n + 1 + 1) b → Levelled (n + 1 + 1) c →
+    Levelled n (guarantee d e a b c)
 levelled-guarantee n d e a b c h he ha hb hc =
     (h, (omega arith, ((omega arith, ((he, ha), ((omega arith, (hb, tt)), tt))), (hc, tt))))
 
-levelled-bracket_case : (n d : ℕ) (acq body rs re rc : Tree) → d ≡ n → Levelled (n + 1) acq → Levelled (n + 1 + 1 + 1) body → Levelled (n + 1 + 1 + 1 + 1) rs → Levelled (n + 1 + 1 + 1 + 1) re → Levelled (n + 1 + 1 + 1) rc → Levelled n (bracket_case d acq body rs re rc)
+levelled-bracket_case : (n d : ℕ) (acq body rs re rc : Tree) → d ≡ n → Levelled (n + 1) acq → Levelled (n + 1 + 1 + 1) body →
+    Levelled (n + 1 + 1 + 1 + 1) rs → Levelled (n + 1 + 1 + 1 + 1) re → Levelled (n + 1 + 1 + 1) rc → Levelled n (bracket_case d acq body rs re rc)
 levelled-bracket_case n d acq body rs re rc h ha hb hs he hc = (
   h,
   (
@@ -49,7 +51,8 @@ levelled-cancels_both : (n p : ℕ) → p + 4 ≡ n → Levelled n (cancels_both
 levelled-cancels_both n p h =
     (h, (tt, (omega arith, (tt, (levelled-ended (n + 1 + 1) (p + 6) (p + 4) (omega arith), levelled-ended (n + 1 + 1) (p + 6) (p + 5) (omega arith))))))
 
-levelled-pair_race : (n p : ℕ) (a b s : Tree) → p + 1 ≡ n → Levelled (n + 1 + 1) a → Levelled (n + 1 + 1 + 1) b → Levelled (n + 1 + 1 + 1 + 1) s → Levelled n (pair_race p a b s)
+levelled-pair_race : (n p : ℕ) (a b s : Tree) → p + 1 ≡ n → Levelled (n + 1 + 1) a → Levelled (n + 1 + 1 + 1) b → Levelled (n + 1 + 1 + 1 + 1) s →
+    Levelled n (pair_race p a b s)
 levelled-pair_race n p a b s h ha hb hs = (
   h,
   (
@@ -90,7 +93,8 @@ levelled-race n d a b h ha hb =
           (levelled-race_side at d (d + 5) (d + 2) (d + 3) (omega arith), levelled-race_side at d (d + 5) (d + 3) (d + 2) (omega arith)),
     )
 
-levelled-both : (n d : ℕ) (a b k : Tree) → d ≡ n → Levelled (n + 1 + 1 + 1 + 1) a → Levelled (n + 1 + 1 + 1 + 1 + 1) b → Levelled (n + 1 + 1 + 1) k → Levelled n (both d a b k)
+levelled-both : (n d : ℕ) (a b k : Tree) → d ≡ n → Levelled (n + 1 + 1 + 1 + 1) a → Levelled (n + 1 + 1 + 1 + 1 + 1) b → Levelled (n + 1 + 1 + 1) k →
+    Levelled n (both d a b k)
 levelled-both n d a b k h ha hb hk =
     let p = d + 1 in
     let at = n + 1 + 1 + 1 + 1 + 1 + 1 in
@@ -102,8 +106,10 @@ levelled-both n d a b k h ha hb hk =
         (
           (
             omega arith,
-            levelled-pair_race (n + 1 + 1) p a b (If0 (Slot (p + 4)) first second) (omega arith) ha hb
-                (levelled-both_side at p d (p + 5) (p + 2) (p + 3) (p + 6) (p + 5) (omega arith), levelled-both_side at p d (p + 5) (p + 3) (p + 2) (p + 5) (p + 6) (omega arith)),
+            levelled-pair_race (n + 1 + 1) p a b (If0 (Slot (p + 4)) first second) (omega arith) ha hb (
+              levelled-both_side at p d (p + 5) (p + 2) (p + 3) (p + 6) (p + 5) (omega arith),
+              levelled-both_side at p d (p + 5) (p + 3) (p + 2) (p + 5) (p + 6) (omega arith),
+            ),
           ),
           (omega arith, (tt, hk)),
         ),
@@ -131,13 +137,15 @@ levelled-expansion m d (word.Repeat v e) = levelled-expansion m d e
 levelled-expansion m d (word.Forever e) = levelled-expansion m d e
 levelled-expansion m d (word.Guarantee e fin) =
     let later = at_level (d + 2) (d + 1 + 1) (expansion m (d + 2) fin) (omega arith) (levelled-expansion m (d + 2) fin) in
-    levelled-guarantee d d (expansion m (d + 1) e) (expansion m (d + 1) fin) (expansion m (d + 2) fin) (expansion m (d + 2) fin) refl (levelled-expansion m (d + 1) e) (levelled-expansion m (d + 1) fin) later later
+    levelled-guarantee d d (expansion m (d + 1) e) (expansion m (d + 1) fin) (expansion m (d + 2) fin) (expansion m (d + 2) fin) refl
+    (levelled-expansion m (d + 1) e) (levelled-expansion m (d + 1) fin) later later
 levelled-expansion m d (word.Bracket acq body rel) =
     let x = m ++ (d + 1) ∷ [] in
     let inner = at_level (d + 3) (d + 1 + 1 + 1) (expansion x (d + 3) body) (omega arith) (levelled-expansion x (d + 3) body) in
     let early = at_level (d + 3) (d + 1 + 1 + 1) (expansion x (d + 3) rel) (omega arith) (levelled-expansion x (d + 3) rel) in
     let later = at_level (d + 4) (d + 1 + 1 + 1 + 1) (expansion x (d + 4) rel) (omega arith) (levelled-expansion x (d + 4) rel) in
-    levelled-bracket_case d d (expansion m (d + 1) acq) (expansion x (d + 3) body) (expansion x (d + 4) rel) (expansion x (d + 4) rel) (expansion x (d + 3) rel) refl (levelled-expansion m (d + 1) acq) inner later later early
+    levelled-bracket_case d d (expansion m (d + 1) acq) (expansion x (d + 3) body) (expansion x (d + 4) rel) (expansion x (d + 4) rel)
+    (expansion x (d + 3) rel) refl (levelled-expansion m (d + 1) acq) inner later later early
 levelled-expansion m d (word.Bracket_case acq body rs re rc) =
     let x = m ++ (d + 1) ∷ [] in
     let y = x ++ (d + 3) ∷ [] in
@@ -145,7 +153,8 @@ levelled-expansion m d (word.Bracket_case acq body rs re rc) =
     let done = at_level (d + 4) (d + 1 + 1 + 1 + 1) (expansion y (d + 4) rs) (omega arith) (levelled-expansion y (d + 4) rs) in
     let failed = at_level (d + 4) (d + 1 + 1 + 1 + 1) (expansion y (d + 4) re) (omega arith) (levelled-expansion y (d + 4) re) in
     let canceled = at_level (d + 3) (d + 1 + 1 + 1) (expansion x (d + 3) rc) (omega arith) (levelled-expansion x (d + 3) rc) in
-    levelled-bracket_case d d (expansion m (d + 1) acq) (expansion x (d + 3) body) (expansion y (d + 4) rs) (expansion y (d + 4) re) (expansion x (d + 3) rc) refl (levelled-expansion m (d + 1) acq) inner done failed canceled
+    levelled-bracket_case d d (expansion m (d + 1) acq) (expansion x (d + 3) body) (expansion y (d + 4) rs) (expansion y (d + 4) re)
+    (expansion x (d + 3) rc) refl (levelled-expansion m (d + 1) acq) inner done failed canceled
 levelled-expansion m d (word.Bracket_full acq body rs re rc) =
     let x = m ++ (d + 1) ∷ [] in
     let y = x ++ (d + 3) ∷ [] in
@@ -153,7 +162,8 @@ levelled-expansion m d (word.Bracket_full acq body rs re rc) =
     let done = at_level (d + 4) (d + 1 + 1 + 1 + 1) (expansion y (d + 4) rs) (omega arith) (levelled-expansion y (d + 4) rs) in
     let failed = at_level (d + 4) (d + 1 + 1 + 1 + 1) (expansion y (d + 4) re) (omega arith) (levelled-expansion y (d + 4) re) in
     let canceled = at_level (d + 3) (d + 1 + 1 + 1) (expansion x (d + 3) rc) (omega arith) (levelled-expansion x (d + 3) rc) in
-    levelled-bracket_case d d (expansion (m ++ d ∷ []) (d + 1) acq) (expansion x (d + 3) body) (expansion y (d + 4) rs) (expansion y (d + 4) re) (expansion x (d + 3) rc) refl (levelled-expansion (m ++ d ∷ []) (d + 1) acq) inner done failed canceled
+    levelled-bracket_case d d (expansion (m ++ d ∷ []) (d + 1) acq) (expansion x (d + 3) body) (expansion y (d + 4) rs) (expansion y (d + 4) re)
+    (expansion x (d + 3) rc) refl (levelled-expansion (m ++ d ∷ []) (d + 1) acq) inner done failed canceled
 levelled-expansion m d (word.Race a b) =
     let first = at_level (d + 3) (d + 1 + 1 + 1) (expansion m (d + 3) a) (omega arith) (levelled-expansion m (d + 3) a) in
     let second = at_level (d + 4) (d + 1 + 1 + 1 + 1) (expansion m (d + 4) b) (omega arith) (levelled-expansion m (d + 4) b) in

@@ -16,7 +16,8 @@ seq_of-row _ a b end_of-Term = refl
 seq_of-row _ a b (more_of-Term t rest) = ap (λ s. word.Seq More a s) (seq_of-row _ b (source_of t) rest)
 
 -- the expansion of a sequence is that of its parts
-pub expansion_in_order : (m : List ℕ) (d : ℕ) (a b : Source) (ts : List Term) → expansion m d (sources_in_order a b ts) ≡ trees_in_order (expansion m d a) (expansion m d b) (map (λ t. expansion m d (source_of t)) ts)
+pub expansion_in_order : (m : List ℕ) (d : ℕ) (a b : Source) (ts : List Term) →
+    expansion m d (sources_in_order a b ts) ≡ trees_in_order (expansion m d a) (expansion m d b) (map (λ t. expansion m d (source_of t)) ts)
 expansion_in_order m d a b [] = refl
 expansion_in_order m d a b (t ∷ ts) = ap (λ s. Seq More (expansion m d a) s) (expansion_in_order m d b (source_of t) ts)
 

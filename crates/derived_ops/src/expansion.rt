@@ -4,7 +4,8 @@ ghost use Rattle.std.specs.Prelude.{◌≡◌, ◌+◌, ◌<◌, ◌^◌, [], ma
 ghost use Rattle.effect_term.specs.ExpansionSize.{expansion_size_of, total_expansion_size};
 ghost use Rattle.derived_ops.specs.Cores.{tree_of, value_in_core};
 ghost use Rattle.derived_ops.specs.Expansion.{expansion, slot_at, value_in};
-ghost use Rattle.derived_ops.specs.Private.Closings.{closed_on_cancel, closed_on_error, closed_on_value, last_of_closing};
+ghost use Rattle.derived_ops.specs.Private.Closings.{closed_on_cancel, closed_on_error, closed_on_value};
+ghost use Rattle.derived_ops.specs.Private.Closings.{last_of_closing};
 ghost use Rattle.derived_ops.specs.Private.Shapes.{depth_at, slots_at, tree_at, tree_of_shape, Fits, EndsFit, PartsFit};
 ghost use Rattle.derived_ops.specs.Reading.{source_of, value_of};
 

@@ -11,7 +11,8 @@ use std::rt::HostRuntime;
 use std::test::Fail;
 use term_parse::parse;
 
-// What a fiber is answered that nobody asks to cancel: masks, cuts and its end are done, whatever is shared isn't there.
+// What a fiber is answered that nobody asks to cancel: masks, cuts and its end are done, whatever is shared isn't
+// there.
 fn reply(ask: &Ask) -> Option<Reply>
     ensures { (fiber : _) → IfSome result (λ it. Answers fiber ask.now it) }
 {

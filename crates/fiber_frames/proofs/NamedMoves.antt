@@ -1,11 +1,15 @@
 -- What a fiber names, over its moves.
 use Rattle.std.proofs.Common.{◌≡◌, ℕ, ◌+◌, ◌≤◌, List, [], ◌∷◌, ◌++◌, refl, sym, ap, ◌∙◌, subst, arith, replicate, length}
-use Rattle.derived_ops.specs.Tree.{Act, Action, Add, Await, Cancel, Canceled, Cede, Complete, Ending, Get, Guarded, Handle, Handled, If0, Join, Known, Let, Loop, Make, Mask, Masked, Modify, Never, Note, On_cancel, Open_slot, Pair, Poll, Polled, Pure, Raise, Request, Say, Seq, Set, Start, Tree, Uncancelable}
+use Rattle.derived_ops.specs.Tree.{Act, Action, Add, Await, Cancel, Canceled, Cede, Complete, Ending, Get}
+use Rattle.derived_ops.specs.Tree.{Guarded, Handle, Handled, If0, Join, Known, Let, Loop, Make, Mask, Masked}
+use Rattle.derived_ops.specs.Tree.{Modify, Never, Note, On_cancel, Open_slot, Pair, Poll, Polled, Pure, Raise}
+use Rattle.derived_ops.specs.Tree.{Request, Say, Seq, Set, Start, Tree, Uncancelable}
 use Rattle.effect_term.specs.declared.reply.Reply.{Reply}
 use Rattle.effect_term.specs.declared.reply.Reply.TheVariants as reply
 use Rattle.fiber_frames.specs.Path.{At_final, At_term, Broken, Final, Over, Running, Runs, focus}
 use Rattle.fiber_frames.specs.Rows.{Born, Ceded, Ended, Kind, Plain, Row, Waited, row_at}
-use Rattle.fiber_frames.specs.Fiber.{Cuts, Fiber, Looks, Move_case, Reduces, Rests, ask_in, ask_of, begins, child, cut, kind_in, kind_of, move, move_case, move_in, row_of, term_born}
+use Rattle.fiber_frames.specs.Fiber.{Cuts, Fiber, Looks, Move_case, Reduces, Rests, ask_in, ask_of, begins}
+use Rattle.fiber_frames.specs.Fiber.{child, cut, kind_in, kind_of, move, move_case, move_in, row_of, term_born}
 use Rattle.fiber_frames.proofs.Moving.{call_same}
 use Rattle.fiber_frames.proofs.Walk.{End, Gives, Throws, Works, active_root, end_of, finalizers_below, masks_below, root_row, row_root, walk}
 use Rattle.fiber_frames.proofs.Marks.Actions.{If_born}
@@ -15,7 +19,8 @@ use Rattle.fiber_frames.proofs.Reaching.{reached_kept}
 use Rattle.fiber_frames.specs.Reached.{Reached}
 use Rattle.derived_ops.specs.Codes.{IsCode}
 use Rattle.derived_ops.proofs.Coded.{named_code}
-use Rattle.derived_ops.specs.Naming.{ActionFits, AllClosed, A_deferred, A_fiber, A_ref, Closed, Given, HandleFits, IsMore, Named, No_handle, Place, given_of, made_by}
+use Rattle.derived_ops.specs.Naming.{ActionFits, AllClosed, A_deferred, A_fiber, A_ref, Closed, Given}
+use Rattle.derived_ops.specs.Naming.{HandleFits, IsMore, Named, No_handle, Place, given_of, made_by}
 use Rattle.fiber_frames.specs.Naming.{AskNamed, NamedBeginning, NamedLive, NamedRun, NumberGiven}
 use Rattle.fiber_frames.proofs.Names.{RowNamed, closed_live, row_named}
 
@@ -55,7 +60,10 @@ module _ (b c : Given) (more : IsMore b c) where
   named_more g (Seq w e k) h = (named_more g e h.0, named_more g k h.1)
   named_more g (Handled e x k) h = (h.0, (named_more g e h.1.0, named_more (g ++ No_handle ∷ []) k h.1.1))
   named_more g (If0 v s e) h = (named_more g s h.0, named_more g e h.1)
-  named_more g (Join f x s y e d) h = (handle_more g A_fiber f h.0, (h.1.0, (named_more (g ++ No_handle ∷ []) s h.1.1.0, (named_more (g ++ No_handle ∷ []) e h.1.1.1.0, named_more g d h.1.1.1.1))))
+  named_more g (Join f x s y e d) h = (
+    handle_more g A_fiber f h.0,
+    (h.1.0, (named_more (g ++ No_handle ∷ []) s h.1.1.0, (named_more (g ++ No_handle ∷ []) e h.1.1.1.0, named_more g d h.1.1.1.1))),
+  )
   named_more g (Make m x k) h = (h.0, named_more (g ++ made_by m ∷ []) k h.1)
   named_more g (Start x e k) h = (h.0, (named_more g e h.1.0, named_more (g ++ A_fiber ∷ []) k h.1.1))
   named_more g (Loop t e) h = named_more g e h
@@ -125,7 +133,9 @@ module _ (b : Given) (i n : ℕ) (r : Reply) where
   run_named : (w : Running) → NamedRun b w → RunNamed b i r (row_at i n r (focus w) w)
   run_named (Runs t) h = subst (RunNamed b i r) (sym (row_root i n r At_term t)) (term_named (end_of t) (walk i n r [] t) (row_named b i n r t [] h))
   run_named (Final m []) h = record { becomes = λ g. tt; born = tt; asks = tt }
-  run_named (Final m (g ∷ gs)) h = subst (RunNamed b i r) (sym (row_root i n r (At_final m gs) g)) (final_named m gs h.1 (end_of g) (walk i n r (Pair i m ∷ []) g) (row_named b i n r g (Pair i m ∷ []) h.0))
+  run_named (Final m (g ∷ gs)) h =
+      subst (RunNamed b i r) (sym (row_root i n r (At_final m gs) g))
+      (final_named m gs h.1 (end_of g) (walk i n r (Pair i m ∷ []) g) (row_named b i n r g (Pair i m ∷ []) h.0))
   run_named (Over o) h = record { becomes = λ g. tt; born = tt; asks = tt }
   run_named Broken h = record { becomes = λ g. tt; born = tt; asks = tt }
 
@@ -151,7 +161,9 @@ row_here b f r h = run_named b f.number f.next r f.running h
 
 cut_named : (b : Given) (f : Fiber) (t : Tree) → f.running ≡ Runs t → NamedFiber b f → NamedFiber b (cut f)
 cut_named b f t e h =
-    let after : NamedFiber b (noted f (Final f.next (finalizers_below t)) (f.next + 1) (Rattle.fiber_frames.specs.declared.mark.Mark.TheVariants.Cut ∷ [])) = finals_named b f.number f.next reply.Done f.next (finalizers_below t) (pending_named b t (subst (NamedRun b) e h)) in
+    let after : NamedFiber b
+    (noted f (Final f.next (finalizers_below t)) (f.next + 1) (Rattle.fiber_frames.specs.declared.mark.Mark.TheVariants.Cut ∷ [])) =
+    finals_named b f.number f.next reply.Done f.next (finalizers_below t) (pending_named b t (subst (NamedRun b) e h)) in
     subst (NamedFiber b) (sym (cut_run f t e)) after
 
 same_call : (f : Fiber) (r : Reply) → (row_of f r).call ≡ (row_of f reply.Done).call

@@ -1,17 +1,24 @@
 -- A move names only what its fiber named, and the number that it was answered.
-use Rattle.std.proofs.Common.{◌≡◌, ◌≢◌, inl, inr, ℕ, zero, suc, ◌+◌, ◌<◌, Bool, true, false, if◌then◌else◌, nat_eq, List, [], ◌∷◌, ◌++◌, length, get_or, replicate, Option, Some, None, refl, sym, ap, ◌∙◌, subst, arith, append_assoc, length-append}
+use Rattle.std.proofs.Common.{◌≡◌, ◌≢◌, inl, inr, ℕ, zero, suc, ◌+◌, ◌<◌, Bool, true, false, if◌then◌else◌}
+use Rattle.std.proofs.Common.{nat_eq, List, [], ◌∷◌, ◌++◌, length, get_or, replicate, Option, Some, None, refl}
+use Rattle.std.proofs.Common.{sym, ap, ◌∙◌, subst, arith, append_assoc, length-append}
 use Rattle.std.specs.Prelude.{pos, ◌+ℤ◌, ℤ}
 use Rattle.std.proofs.lemmas.Bool.{eqb-true, eqb-false}
 use Rattle.std.proofs.lemmas.List.{replicate_more}
 use Rattle.derived_ops.specs.Put.{Put, Put_handle, Put_mask, Put_value, handle_at, put}
-use Rattle.derived_ops.specs.Tree.{Act, Action, Add, Always, Await, Cancel, Canceled, Cede, Complete, Ending, Get, Guarded, Handle, Handled, If0, Join, Known, Last, Let, Loop, Make, Maker, Mask, Masked, Modify, Never, New_deferred, New_ref, Note, Number, On_cancel, Open_slot, Pair, Poll, Polled, Pure, Raise, Request, Rest, Say, Seq, Set, Start, Times, Tree, Turns, Uncancelable}
+use Rattle.derived_ops.specs.Tree.{Act, Action, Add, Always, Await, Cancel, Canceled, Cede, Complete, Ending}
+use Rattle.derived_ops.specs.Tree.{Get, Guarded, Handle, Handled, If0, Join, Known, Last, Let, Loop, Make}
+use Rattle.derived_ops.specs.Tree.{Maker, Mask, Masked, Modify, Never, New_deferred, New_ref, Note, Number}
+use Rattle.derived_ops.specs.Tree.{On_cancel, Open_slot, Pair, Poll, Polled, Pure, Raise, Request, Rest, Say}
+use Rattle.derived_ops.specs.Tree.{Seq, Set, Start, Times, Tree, Turns, Uncancelable}
 use Rattle.effect_term.specs.declared.reply.Outcome.{Outcome}
 use Rattle.effect_term.specs.declared.reply.Outcome.TheVariants as outcome
 use Rattle.effect_term.specs.declared.reply.Reply.{Reply}
 use Rattle.fiber_frames.specs.declared.ask.Ask.{Ask}
 use Rattle.fiber_frames.specs.declared.ask.Ask.TheVariants as ask
 use Rattle.fiber_frames.specs.Path.{In_guarded, In_handle, In_let, In_masked, In_polled, In_seq, undone}
-use Rattle.fiber_frames.specs.Rows.{Row, action_row, after_end, after_read, branch, fits, is_ended, is_positive, is_zero, looped, number_in, number_of, one_less, outcome_in, read_in, unit}
+use Rattle.fiber_frames.specs.Rows.{Row, action_row, after_end, after_read, branch, fits, is_ended, is_positive}
+use Rattle.fiber_frames.specs.Rows.{is_zero, looped, number_in, number_of, one_less, outcome_in, read_in, unit}
 use Rattle.fiber_frames.proofs.Walk.{End, Gives, Throws, Works, end_of, under, walk}
 use Rattle.fiber_frames.proofs.Marks.Actions.{If_born, none_born, wait_none}
 use Rattle.derived_ops.specs.Naming.{ActionFits, A_deferred, A_fiber, A_ref, Closed, Given, HandleFits, Named, No_handle, Place, given_of, made_by}
@@ -35,7 +42,8 @@ none_open (suc n) zero = refl
 none_open (suc n) (suc s) = none_open n s
 
 -- ---- a put
-module _ (b : Given) (p : Put) (g g' : List Place) (long : length g ≡ length g') (each : (d : List Place) (q : Place) (h : Handle) → HandleFits b (g ++ d) q h → HandleFits b (g' ++ d) q (handle_at p h)) where
+module _ (b : Given) (p : Put) (g g' : List Place) (long : length g ≡ length g') (each : (d : List Place) (q : Place) (h : Handle) →
+    HandleFits b (g ++ d) q h → HandleFits b (g' ++ d) q (handle_at p h)) where
   slot_at : (d : List Place) (x : ℕ) → x ≡ length (g ++ d) → x ≡ length (g' ++ d)
   slot_at d x e = e ∙ length-append g d ∙ ap (λ n. n + length d) long ∙ sym (length-append g' d)
 
@@ -69,13 +77,29 @@ module _ (b : Given) (p : Put) (g g' : List Place) (long : length g ≡ length g
   named_put d (Act a) h = action_put d a h
   named_put d (Note e q) h = tt
   named_put d (Cancel f) h = each d A_fiber f h
-  named_put d (Let e x k) h = (slot_at d x h.0, (named_put d e h.1.0, outward d No_handle (put p k) (named_put (d ++ No_handle ∷ []) k (inward d No_handle k h.1.1))))
+  named_put d (Let e x k) h =
+      (slot_at d x h.0, (named_put d e h.1.0, outward d No_handle (put p k) (named_put (d ++ No_handle ∷ []) k (inward d No_handle k h.1.1))))
   named_put d (Seq w e k) h = (named_put d e h.0, named_put d k h.1)
-  named_put d (Handled e x k) h = (slot_at d x h.0, (named_put d e h.1.0, outward d No_handle (put p k) (named_put (d ++ No_handle ∷ []) k (inward d No_handle k h.1.1))))
+  named_put d (Handled e x k) h =
+      (slot_at d x h.0, (named_put d e h.1.0, outward d No_handle (put p k) (named_put (d ++ No_handle ∷ []) k (inward d No_handle k h.1.1))))
   named_put d (If0 v s e) h = (named_put d s h.0, named_put d e h.1)
-  named_put d (Join f x s y e c) h = (each d A_fiber f h.0, ((slot_at d x h.1.0.0, slot_at d y h.1.0.1), (outward d No_handle (put p s) (named_put (d ++ No_handle ∷ []) s (inward d No_handle s h.1.1.0)), (outward d No_handle (put p e) (named_put (d ++ No_handle ∷ []) e (inward d No_handle e h.1.1.1.0)), named_put d c h.1.1.1.1))))
-  named_put d (Make m x k) h = (slot_at d x h.0, subst (λ c. Named b ((g' ++ d) ++ c ∷ []) (put p k)) (same_maker m) (outward d (made_by m) (put p k) (named_put (d ++ made_by m ∷ []) k (inward d (made_by m) k h.1))))
-  named_put d (Start x e k) h = (slot_at d x h.0, (named_put d e h.1.0, outward d A_fiber (put p k) (named_put (d ++ A_fiber ∷ []) k (inward d A_fiber k h.1.1))))
+  named_put d (Join f x s y e c) h = (
+    each d A_fiber f h.0,
+    (
+      (slot_at d x h.1.0.0, slot_at d y h.1.0.1),
+      (
+        outward d No_handle (put p s) (named_put (d ++ No_handle ∷ []) s (inward d No_handle s h.1.1.0)),
+        (outward d No_handle (put p e) (named_put (d ++ No_handle ∷ []) e (inward d No_handle e h.1.1.1.0)), named_put d c h.1.1.1.1),
+      ),
+    ),
+  )
+  named_put d (Make m x k) h = (
+    slot_at d x h.0,
+    subst (λ c. Named b ((g' ++ d) ++ c ∷ []) (put p k)) (same_maker m)
+        (outward d (made_by m) (put p k) (named_put (d ++ made_by m ∷ []) k (inward d (made_by m) k h.1))),
+  )
+  named_put d (Start x e k) h =
+      (slot_at d x h.0, (named_put d e h.1.0, outward d A_fiber (put p k) (named_put (d ++ A_fiber ∷ []) k (inward d A_fiber k h.1.1))))
   named_put d (Loop t e) h = named_put d e h
   named_put d (Uncancelable x e) h = (slot_at d x h.0, outward d No_handle (put p e) (named_put (d ++ No_handle ∷ []) e (inward d No_handle e h.1)))
   named_put d (Poll q e) h = named_put d e h
@@ -86,7 +110,8 @@ module _ (b : Given) (p : Put) (g g' : List Place) (long : length g ≡ length g
 
 module _ (b : Given) where
   -- what is no handle changes none
-  plain_each : (p : Put) → ((h : Handle) → handle_at p h ≡ h) → (g d : List Place) (q : Place) (h : Handle) → HandleFits b (g ++ d) q h → HandleFits b (g ++ d) q (handle_at p h)
+  plain_each : (p : Put) → ((h : Handle) → handle_at p h ≡ h) → (g d : List Place) (q : Place) (h : Handle) → HandleFits b (g ++ d) q h →
+      HandleFits b (g ++ d) q (handle_at p h)
   plain_each p same g d q h f = subst (HandleFits b (g ++ d) q) (sym (same h)) f
 
   value_same : (x : ℕ) (z : ℤ) (h : Handle) → handle_at (Put_value x z) h ≡ h
@@ -98,7 +123,8 @@ module _ (b : Given) where
   mask_same x f m (Open_slot s) = refl
 
   -- the number of a handle takes its binder away
-  handle_each : (n : ℕ) (c : Place) → n < given_of b c → (g d : List Place) (q : Place) (h : Handle) → HandleFits b ((g ++ c ∷ []) ++ d) q h → HandleFits b ((g ++ No_handle ∷ []) ++ d) q (handle_at (Put_handle (length g) n) h)
+  handle_each : (n : ℕ) (c : Place) → n < given_of b c → (g d : List Place) (q : Place) (h : Handle) → HandleFits b ((g ++ c ∷ []) ++ d) q h →
+      HandleFits b ((g ++ No_handle ∷ []) ++ d) q (handle_at (Put_handle (length g) n) h)
   handle_each n c f g d q (Known m) h = h
   handle_each n c f g d q (Open_slot s) h = go (nat_eq (length g) s) refl
     where
@@ -122,21 +148,33 @@ module _ (b : Given) where
 
   pub closed_value : (x : ℕ) (z : ℤ) (t : Tree) → Closed b t → Closed b (put (Put_value x z) t)
   closed_value x z t h =
-      let g = replicate h.0 No_handle in
-      (h.0, back_places g (put (Put_value x z) t) (named_put b (Put_value x z) g g refl (λ d q y f. plain_each (Put_value x z) (value_same x z) g d q y f) [] t (same_places g t h.1)))
+      let g = replicate h.0 No_handle in (
+        h.0,
+        back_places g (put (Put_value x z) t)
+            (named_put b (Put_value x z) g g refl (λ d q y f. plain_each (Put_value x z) (value_same x z) g d q y f) [] t (same_places g t h.1)),
+      )
 
   pub closed_mask : (x f m : ℕ) (t : Tree) → Closed b t → Closed b (put (Put_mask x f m) t)
   closed_mask x f m t h =
-      let g = replicate h.0 No_handle in
-      (h.0, back_places g (put (Put_mask x f m) t) (named_put b (Put_mask x f m) g g refl (λ d q y e. plain_each (Put_mask x f m) (mask_same x f m) g d q y e) [] t (same_places g t h.1)))
+      let g = replicate h.0 No_handle in (
+        h.0,
+        back_places g (put (Put_mask x f m) t)
+            (named_put b (Put_mask x f m) g g refl (λ d q y e. plain_each (Put_mask x f m) (mask_same x f m) g d q y e) [] t (same_places g t h.1)),
+      )
 
-  pub closed_handle : (m n x : ℕ) (c : Place) (t : Tree) → x ≡ length (replicate m No_handle) → n < given_of b c → Named b (replicate m No_handle ++ c ∷ []) t → Closed b (put (Put_handle x n) t)
+  pub closed_handle : (m n x : ℕ) (c : Place) (t : Tree) → x ≡ length (replicate m No_handle) → n < given_of b c →
+      Named b (replicate m No_handle ++ c ∷ []) t → Closed b (put (Put_handle x n) t)
   closed_handle m n x c t e f h =
       let g = replicate m No_handle in
       let same : length (g ++ c ∷ []) ≡ length (g ++ No_handle ∷ []) = length-append g (c ∷ []) ∙ sym (length-append g (No_handle ∷ [])) in
       let put_in : Named b (g ++ No_handle ∷ []) (put (Put_handle (length g) n) t) =
-      back_places (g ++ No_handle ∷ []) (put (Put_handle (length g) n) t) (named_put b (Put_handle (length g) n) (g ++ c ∷ []) (g ++ No_handle ∷ []) same (λ d q y k. handle_each n c f g d q y k) [] t (same_places (g ++ c ∷ []) t h)) in
-      (m + 1, subst (λ l. Named b l (put (Put_handle x n) t)) (replicate_more m No_handle) (subst (λ s. Named b (g ++ No_handle ∷ []) (put (Put_handle s n) t)) (sym e) put_in))
+      back_places (g ++ No_handle ∷ []) (put (Put_handle (length g) n) t)
+      (named_put b (Put_handle (length g) n) (g ++ c ∷ []) (g ++ No_handle ∷ []) same (λ d q y k. handle_each n c f g d q y k) [] t
+      (same_places (g ++ c ∷ []) t h)) in (
+        m + 1,
+        subst (λ l. Named b l (put (Put_handle x n) t)) (replicate_more m No_handle)
+            (subst (λ s. Named b (g ++ No_handle ∷ []) (put (Put_handle s n) t)) (sym e) put_in),
+      )
 
   pub closed_below : (m : ℕ) (t : Tree) → Named b (replicate m No_handle ++ No_handle ∷ []) t → Closed b t
   closed_below m t h = (m + 1, subst (λ l. Named b l t) (replicate_more m No_handle) h)
@@ -191,7 +229,8 @@ nameless b i (ask.Read d) h = absurd h
 nameless b i _ h = tt
 
 -- a handle that isn't open
-shut_handle : (b : Given) (n : ℕ) (q : Place) (h : Handle) → (No_handle ≡ q → ⊥) → HandleFits b (replicate n No_handle) q h → Rattle.fiber_frames.specs.Rows.handle_number h < given_of b q
+shut_handle : (b : Given) (n : ℕ) (q : Place) (h : Handle) → (No_handle ≡ q → ⊥) → HandleFits b (replicate n No_handle) q h →
+    Rattle.fiber_frames.specs.Rows.handle_number h < given_of b q
 shut_handle b n q (Known m) w h = h
 shut_handle b n q (Open_slot s) w h = absurd (w (sym (none_open n s) ∙ h))
 
@@ -225,12 +264,14 @@ module _ (b : Given) (i n : ℕ) (r : Reply) where
   seq_named up o k c (Throws w) a h = on _ tt tt (0, tt)
   seq_named up o k c Works a h = record { becomes = λ g. (h.becomes g, c); born = h.born; asks = h.asks }
 
-  handle_named : (up : List Mask) (x : ℕ) (k : Tree) → Closed b k → (E : End) (a : Row Tree) → RowNamed b i r a → RowNamed b i r (under i n up (In_handle x k) E a)
+  handle_named : (up : List Mask) (x : ℕ) (k : Tree) → Closed b k → (E : End) (a : Row Tree) → RowNamed b i r a →
+      RowNamed b i r (under i n up (In_handle x k) E a)
   handle_named up x k c (Gives w) a h = on _ tt tt (0, tt)
   handle_named up x k c (Throws w) a h = on _ tt tt (closed_live b (put (Put_value x (number_of w)) k) (closed_value b x (number_of w) k c))
   handle_named up x k c Works a h = record { becomes = λ g. (h.becomes g, c); born = h.born; asks = h.asks }
 
-  guarded_named : (up : List Mask) (fin : Tree) → Closed b fin → (E : End) (a : Row Tree) → RowNamed b i r a → RowNamed b i r (under i n up (In_guarded fin) E a)
+  guarded_named : (up : List Mask) (fin : Tree) → Closed b fin → (E : End) (a : Row Tree) → RowNamed b i r a →
+      RowNamed b i r (under i n up (In_guarded fin) E a)
   guarded_named up fin c (Gives w) a h = on _ tt tt (0, tt)
   guarded_named up fin c (Throws w) a h = on _ tt tt (0, tt)
   guarded_named up fin c Works a h = record { becomes = λ g. (h.becomes g, c); born = h.born; asks = h.asks }
@@ -249,7 +290,8 @@ module _ (b : Given) (i n : ℕ) (r : Reply) where
   polled_named up q (Throws w) a h = on _ (switch_nameless _ ask.Mask tt) tt (0, tt)
   polled_named up q Works a h = record { becomes = h.becomes; born = h.born; asks = h.asks }
 
-  branch_named : (m : ℕ) (o : Option Outcome) (f : Handle) (x : ℕ) (s : Tree) (y : ℕ) (e c : Tree) → Named b (replicate m No_handle) (Join f x s y e c) → NamedLive b (branch o f x s y e c)
+  branch_named : (m : ℕ) (o : Option Outcome) (f : Handle) (x : ℕ) (s : Tree) (y : ℕ) (e c : Tree) →
+      Named b (replicate m No_handle) (Join f x s y e c) → NamedLive b (branch o f x s y e c)
   branch_named m None f x s y e c h = (m, h)
   branch_named m (Some (outcome.Succeeded z)) f x s y e c h = closed_live b (put (Put_value x z) s) (closed_value b x z s (closed_below b m s h.1.1.0))
   branch_named m (Some (outcome.Errored z)) f x s y e c h = closed_live b (put (Put_value y z) e) (closed_value b y z e (closed_below b m e h.1.1.1.0))
@@ -257,10 +299,17 @@ module _ (b : Given) (i n : ℕ) (r : Reply) where
 
   looped_named : (m : Turns) (e : Tree) → Closed b e → NamedLive b (looped m e)
   looped_named Always e c = (closed_live b e c, c)
-  looped_named (Times v) e c = elim (is_positive v) as (λ t. NamedLive b (if t then Seq Last e (Loop (Times (one_less v)) e) else unit)) [ true ↦ (closed_live b e c, c) | false ↦ (0, tt) ]
+  looped_named (Times v) e c =
+      elim (is_positive v) as (λ t. NamedLive b (if t then Seq Last e (Loop (Times (one_less v)) e) else unit)) [
+        | true ↦
+            (closed_live b e c, c)
+        | false ↦ (0, tt)
+      ]
 
   act_named : (m : ℕ) (c : Action) → ActionFits b (replicate m No_handle) c → RowNamed b i r (action_row i n r c)
-  act_named m (Add v w) h = on _ tt tt (elim (fits (number_of v +ℤ number_of w)) as (λ t. NamedLive b (if t then Pure (Number (number_of v +ℤ number_of w)) else Raise (Number (pos 1001)))) [ true ↦ (0, tt) | false ↦ (0, tt) ])
+  act_named m (Add v w) h =
+      on _ tt tt (elim (fits (number_of v +ℤ number_of w)) as
+      (λ t. NamedLive b (if t then Pure (Number (number_of v +ℤ number_of w)) else Raise (Number (pos 1001)))) [ true ↦ (0, tt) | false ↦ (0, tt) ])
   act_named m (Say v) h = on _ tt tt (0, tt)
   act_named m Cede h = on _ tt tt (0, tt)
   act_named m Never h = on _ tt tt (0, tt)
@@ -297,7 +346,8 @@ module _ (b : Given) (i n : ℕ) (r : Reply) where
   row_named (Let e x k) up h = let_named up x k h.1 (end_of e) (walk i n r up e) (row_named e up h.0)
   row_named (Seq w e k) up h = seq_named up w k h.1 (end_of e) (walk i n r up e) (row_named e up h.0)
   row_named (Handled e x k) up h = handle_named up x k h.1 (end_of e) (walk i n r up e) (row_named e up h.0)
-  row_named (If0 v s e) up h = on _ tt tt (elim (is_zero v) as (λ t. NamedLive b (if t then s else e)) [ true ↦ closed_live b s (h.0, h.1.0) | false ↦ closed_live b e (h.0, h.1.1) ])
+  row_named (If0 v s e) up h =
+      on _ tt tt (elim (is_zero v) as (λ t. NamedLive b (if t then s else e)) [ true ↦ closed_live b s (h.0, h.1.0) | false ↦ closed_live b e (h.0, h.1.1) ])
   row_named (Join f x s y e c) up h = record {
     becomes = λ g. branch_named h.0 (outcome_in r) f x s y e c h.1;
     born = none_born _ _ (wait_none (outcome_in r));

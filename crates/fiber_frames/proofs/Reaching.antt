@@ -41,17 +41,20 @@ above i ask.Start _ h e = absurd h
 above i _ r h e = cc
 
 -- the child of a turn
-pub born_reached : (f : Fiber) (r : Reply) (s : State) (t : Turn) → Reached f → move_case f ≡ Reduces → Answers f.number (ask_of f) r → (row_of f r).kind ≡ kind_of_turn s t → BornReached s t (number_in r)
+pub born_reached : (f : Fiber) (r : Reply) (s : State) (t : Turn) → Reached f → move_case f ≡ Reduces → Answers f.number (ask_of f) r →
+    (row_of f r).kind ≡ kind_of_turn s t → BornReached s t (number_in r)
 born_reached f r s turn.Plain h m a k = tt
 born_reached f r s turn.Waited h m a k = tt
 born_reached f r s turn.Ceded h m a k = tt
 born_reached f r s (turn.Ended o) h m a k = tt
 born_reached f r s (turn.Born i n) h m a k =
     let l : f.number < number_in r = above f.number (ask_of f) r a (sym (row_of_call f r m) ∙ born_asks f r _ k)
-    in subst (λ (e : Tree). Reached (begins (number_in r) e)) (ap term_born (ap (kind_in f (reply.Number (number_in r))) m ∙ born_same f r (reply.Number (number_in r)) _ k)) (born (number_in r) l h)
+    in subst (λ (e : Tree). Reached (begins (number_in r) e))
+    (ap term_born (ap (kind_in f (reply.Number (number_in r))) m ∙ born_same f r (reply.Number (number_in r)) _ k)) (born (number_in r) l h)
 
 -- a fiber that has lost its term
-pub lost_reached : (s s2 : State) (l : Look) → s2.own ≡ s.own → s2.next ≡ s.next → s2.marks ≡ s.marks → Reached (fiber_of s l) → Reached (fiber_of (record s2 { stage = stage.Broken }) l)
+pub lost_reached : (s s2 : State) (l : Look) → s2.own ≡ s.own → s2.next ≡ s.next → s2.marks ≡ s.marks → Reached (fiber_of s l) →
+    Reached (fiber_of (record s2 { stage = stage.Broken }) l)
 lost_reached s s2 l o n m h =
     subst Reached (ap (λ (x : ℕ). record { number = x; running = Broken; look = l; next = s.next; marks = s.marks }) (sym o)
     ∙ ap (λ (x : ℕ). record { number = s2.own; running = Broken; look = l; next = x; marks = s.marks }) (sym n)

@@ -48,7 +48,8 @@ birth_event i a r (Ended o) h = absurd h
 start_going : (g : Fiber) (a : Ask) → IsAsked g a → a ≡ ask.Start → IsGoing (way_of g.running)
 start_going g a k e = subst (Rattle.fiber_frames.specs.Leading.Asked g) e k.tells
 
-module _ (t : TaskView) (ch q : PassView) (n : ℕ) (i : IsTask t) (lawful : IsPass q) (asked : ask_of t.state ≡ ask.Start) (known : IsAsked t.state (ask_of t.state)) (only : OnlySees t.pass q) (s : Starts t.pass ch q) (e : n ≡ ch.number) where
+module _ (t : TaskView) (ch q : PassView) (n : ℕ) (i : IsTask t) (lawful : IsPass q) (asked : ask_of t.state ≡ ask.Start)
+    (known : IsAsked t.state (ask_of t.state)) (only : OnlySees t.pass q) (s : Starts t.pass ch q) (e : n ≡ ch.number) where
   starts : IsAsked t.state ask.Start
   starts = subst (IsAsked t.state) asked known
 
@@ -59,7 +60,8 @@ module _ (t : TaskView) (ch q : PassView) (n : ℕ) (i : IsTask t) (lawful : IsP
   both = started_fits t.pass ch q t.state i.pass s only fits_before (asked_all t.state (ask_of t.state) known refl) (ap wish_of asked)
 
   pub birth_answers : Answers t.state.number (ask_of t.state) (reply.Number n)
-  birth_answers = subst (λ x. Answers t.state.number (ask_of t.state) (reply.Number x)) (sym e) (start_answers t.pass ch q t.state i.pass s i.number (ap wish_of asked))
+  birth_answers = subst (λ x. Answers t.state.number (ask_of t.state) (reply.Number x)) (sym e)
+      (start_answers t.pass ch q t.state i.pass s i.number (ap wish_of asked))
 
   answers : Answers t.state.number ask.Start (reply.Number n)
   answers = subst (λ (a : Ask). Answers t.state.number a (reply.Number n)) asked birth_answers
@@ -89,7 +91,8 @@ module _ (t : TaskView) (ch q : PassView) (n : ℕ) (i : IsTask t) (lawful : IsP
   }
 
   pub unborn_failed : (new : Fiber) → new ≡ lost t.state → Failed t run.NoMemory (record { home = t.home; pass = q; state = new; moves = t.moves })
-  unborn_failed new is = (λ j. record { home = t.home; pass = q; state = is j; moves = t.moves }, inr (call.Start, reply.Number ch.number, ap wish_of asked, s.call))
+  unborn_failed new is =
+      (λ j. record { home = t.home; pass = q; state = is j; moves = t.moves }, inr (call.Start, reply.Number ch.number, ap wish_of asked, s.call))
 
   -- the move was made
   pub birth_task : (new : Fiber) (left : ℕ) → new ≡ move t.state (reply.Number n) → IsTask record { home = t.home; pass = q; state = new; moves = left }
@@ -110,7 +113,9 @@ module _ (t : TaskView) (ch q : PassView) (n : ℕ) (i : IsTask t) (lawful : IsP
       end_left (calls_by t.pass.number (t.pass.seen ++ s.call.between)) (calls_by t.pass.number t.pass.seen) x x
       (sym (calls_by-push t.pass.number (t.pass.seen ++ s.call.between) x refl) ∙ ap (calls_by t.pass.number) (sym s.call.seen) ∙ s.call.own)
 
-  module _ (new c : Fiber) (m : Moved) (y : TaskView) (some : 0 < t.moves) (is : new ≡ move t.state (reply.Number n)) (tells : m ≡ moved t.state (reply.Number n)) (born : m ≡ moves.Born c) (are : y ≡ record { home = t.home; pass = ch; state = c; moves = t.moves - 1 }) where
+  module _ (new c : Fiber) (m : Moved) (y : TaskView) (some : 0 < t.moves) (is : new ≡ move t.state (reply.Number n))
+      (tells : m ≡ moved t.state (reply.Number n)) (born : m ≡ moves.Born c)
+      (are : y ≡ record { home = t.home; pass = ch; state = c; moves = t.moves - 1 }) where
     abbrev later : TaskView
     later = record { home = t.home; pass = q; state = new; moves = t.moves - 1 }
 
@@ -134,13 +139,15 @@ module _ (t : TaskView) (ch q : PassView) (n : ℕ) (i : IsTask t) (lawful : IsP
     pub bears : Bears t later y
     bears = record {
       reply = reply.Number n;
-      went = went_call t later (reply.Number n) refl is (omega arith) birth_answers call.Start (ap (λ (x : PassView). x.number) only) (ap (λ (x : PassView). x.fibers) only) (subst (λ x. Calls t.pass call.Start (reply.Number x) q) (sym e) s.call) i.number (ap wish_of asked);
+      went = went_call t later (reply.Number n) refl is (omega arith) birth_answers call.Start (ap (λ (x : PassView). x.number) only)
+          (ap (λ (x : PassView). x.fibers) only) (subst (λ x. Calls t.pass call.Start (reply.Number x) q) (sym e) s.call) i.number (ap wish_of asked);
       event = birth_event t.state.number (ask_of t.state) (reply.Number n) (kind_of t.state (reply.Number n)) is_born;
       child = is_child;
     }
 
 -- ---- the goals of a start
-module _ (t now : TaskView) (view : t ≡ now) (i : IsTask t) (wish : ask_of now.state ≡ ask.Start) (a : Ask) (is : a ≡ ask_of t.state) (known : IsAsked t.state a) (ch q : PassView) (n : ℕ) (lawful : IsPass q) (only : OnlySees t.pass q) (s : Starts t.pass ch q) (e : n ≡ ch.number) where
+module _ (t now : TaskView) (view : t ≡ now) (i : IsTask t) (wish : ask_of now.state ≡ ask.Start) (a : Ask) (is : a ≡ ask_of t.state)
+    (known : IsAsked t.state a) (ch q : PassView) (n : ℕ) (lawful : IsPass q) (only : OnlySees t.pass q) (s : Starts t.pass ch q) (e : n ≡ ch.number) where
   asked : ask_of t.state ≡ ask.Start
   asked = subst (λ (x : TaskView). ask_of x.state ≡ ask.Start) (sym view) wish
 
@@ -156,6 +163,8 @@ module _ (t now : TaskView) (view : t ≡ now) (i : IsTask t) (wish : ask_of now
   pub here_moved : (new : Fiber) (left : ℕ) → new ≡ move t.state (reply.Number n) → IsTask record { home = t.home; pass = q; state = new; moves = left }
   here_moved = birth_task t ch q n i lawful asked asks only s e
 
-  pub here_bears : (new c : Fiber) (m : Moved) (y : TaskView) → 0 < now.moves → new ≡ move t.state (reply.Number n) → m ≡ moved t.state (reply.Number n) → m ≡ moves.Born c → y ≡ record { home = t.home; pass = ch; state = c; moves = t.moves - 1 } → Bears now (record { home = t.home; pass = q; state = new; moves = t.moves - 1 }) y
+  pub here_bears : (new c : Fiber) (m : Moved) (y : TaskView) → 0 < now.moves → new ≡ move t.state (reply.Number n) →
+      m ≡ moved t.state (reply.Number n) → m ≡ moves.Born c → y ≡ record { home = t.home; pass = ch; state = c; moves = t.moves - 1 } →
+      Bears now (record { home = t.home; pass = q; state = new; moves = t.moves - 1 }) y
   here_bears new c m y some is tells born are = subst (λ (x : TaskView). Bears x (record { home = t.home; pass = q; state = new; moves = t.moves - 1 }) y) view
       (bears t ch q n i lawful asked asks only s e new c m y (subst (λ (x : TaskView). 0 < x.moves) (sym view) some) is tells born are)

@@ -5,12 +5,17 @@ use Rattle.effect_term.specs.declared.reply.Outcome.{Outcome}
 use Rattle.effect_term.specs.declared.reply.Outcome.TheVariants as outcome
 use Rattle.effect_term.specs.declared.reply.Reply.{Reply}
 use Rattle.effect_term.specs.declared.reply.Reply.TheVariants as reply
-use Rattle.derived_ops.specs.Tree.{Act, Action, Add, Always, Await, Cancel, Canceled, Cede, Complete, Ending, Get, Guarded, Handle, Handled, If0, Join, Let, Loop, Make, Mask, Masked, Modify, Never, New_deferred, New_ref, Note, Number, On_cancel, Pair, Poll, Polled, Pure, Raise, Request, Rest, Say, Seq, Set, Start, Times, Tree, Turns, Uncancelable, Operand}
+use Rattle.derived_ops.specs.Tree.{Act, Action, Add, Always, Await, Cancel, Canceled, Cede, Complete, Ending}
+use Rattle.derived_ops.specs.Tree.{Get, Guarded, Handle, Handled, If0, Join, Let, Loop, Make, Mask, Masked}
+use Rattle.derived_ops.specs.Tree.{Modify, Never, New_deferred, New_ref, Note, Number, On_cancel, Pair, Poll}
+use Rattle.derived_ops.specs.Tree.{Polled, Pure, Raise, Request, Rest, Say, Seq, Set, Start, Times, Tree, Turns}
+use Rattle.derived_ops.specs.Tree.{Uncancelable, Operand}
 use Rattle.derived_ops.specs.Put.{Put, Put_handle, Put_mask, Put_value, put}
 use Rattle.fiber_frames.specs.declared.ask.Ask.{Ask}
 use Rattle.fiber_frames.specs.declared.ask.Ask.TheVariants as ask
 use Rattle.fiber_frames.specs.Path.{At_final, At_term, Broken, Final, Over, Root, Running, Runs, active_at, focus, is_effective, undone}
-use Rattle.fiber_frames.specs.Rows.{Row, after_end, after_read, branch, fits, is_ended, is_positive, is_zero, looped, number_in, number_of, outcome_in, read_in, row_at, unit}
+use Rattle.fiber_frames.specs.Rows.{Row, after_end, after_read, branch, fits, is_ended, is_positive, is_zero}
+use Rattle.fiber_frames.specs.Rows.{looped, number_in, number_of, outcome_in, read_in, row_at, unit}
 use Rattle.fiber_frames.specs.Fiber.{Cuts, Fiber, Looks, Move_case, Reduces, Rests, ask_in, ask_of, move, move_case, move_in}
 use Rattle.fiber_frames.proofs.Walk.{End, Gives, Throws, Works, end_of, finalizers_below, pending_root, root_row, row_root, walk}
 
@@ -82,7 +87,8 @@ switch_other : (b : Bool) (a : Ask) → IsOther a → IsOther (if b then a else 
 switch_other true a h = h
 switch_other false a h = tt
 
-branch_childless : (o : Option Outcome) (f : Handle) (x : ℕ) (s : Tree) (y : ℕ) (e c : Tree) → IsChildless (Join f x s y e c) → IsChildless (branch o f x s y e c)
+branch_childless : (o : Option Outcome) (f : Handle) (x : ℕ) (s : Tree) (y : ℕ) (e c : Tree) → IsChildless (Join f x s y e c) →
+    IsChildless (branch o f x s y e c)
 branch_childless None f x s y e c h = h
 branch_childless (Some (outcome.Succeeded z)) f x s y e c h = put_childless (Put_value x z) s h.0
 branch_childless (Some (outcome.Errored z)) f x s y e c h = put_childless (Put_value y z) e h.1.0
@@ -90,16 +96,25 @@ branch_childless (Some outcome.Canceled) f x s y e c h = h.1.1
 
 looped_childless : (m : Turns) (e : Tree) → IsChildless e → IsChildless (looped m e)
 looped_childless Always e h = (h, h)
-looped_childless (Times v) e h = elim (is_positive v) as (λ b. IsChildless (if b then Seq Rattle.derived_ops.specs.Tree.Last e (Loop (Times (Rattle.fiber_frames.specs.Rows.one_less v)) e) else unit)) [ true ↦ (h, h) | false ↦ tt ]
+looped_childless (Times v) e h =
+    elim (is_positive v) as
+    (λ b. IsChildless (if b then Seq Rattle.derived_ops.specs.Tree.Last e (Loop (Times (Rattle.fiber_frames.specs.Rows.one_less v)) e) else unit))
+    [ true ↦ (h, h) | false ↦ tt ]
 
 module _ (i n : ℕ) (r : Reply) where
   action_quiet : (a : Action) → Quiet (Rattle.fiber_frames.specs.Rows.action_row i n r a)
-  action_quiet (Add v w) = record { becomes = elim (fits (number_of v +ℤ number_of w)) as (λ b. IsChildless (if b then Pure (Number (number_of v +ℤ number_of w)) else Raise (Number (pos 1001)))) [ true ↦ tt | false ↦ tt ]; other = tt }
+  action_quiet (Add v w) =
+      record {
+        becomes = elim (fits (number_of v +ℤ number_of w)) as
+            (λ b. IsChildless (if b then Pure (Number (number_of v +ℤ number_of w)) else Raise (Number (pos 1001)))) [ true ↦ tt | false ↦ tt ];
+        other = tt;
+      }
   action_quiet (Say v) = record { becomes = tt; other = tt }
   action_quiet Cede = record { becomes = tt; other = tt }
   action_quiet Never = record { becomes = tt; other = tt }
   action_quiet Canceled = record { becomes = tt; other = tt }
-  action_quiet (Request f) = record { becomes = elim (is_ended r) as (λ b. IsChildless (if b then unit else Act (Ending f))) [ true ↦ tt | false ↦ tt ]; other = tt }
+  action_quiet (Request f) =
+      record { becomes = elim (is_ended r) as (λ b. IsChildless (if b then unit else Act (Ending f))) [ true ↦ tt | false ↦ tt ]; other = tt }
   action_quiet (Ending f) = record { becomes = elim (outcome_in r) as (λ o. IsChildless (after_end o f)) [ None ↦ tt | Some o ↦ tt ]; other = tt }
   action_quiet (Get x) = record { becomes = tt; other = tt }
   action_quiet (Set x v) = record { becomes = tt; other = tt }
@@ -108,32 +123,38 @@ module _ (i n : ℕ) (r : Reply) where
   action_quiet (Await x) = record { becomes = elim (read_in r) as (λ o. IsChildless (after_read o x)) [ None ↦ tt | Some o ↦ tt ]; other = tt }
 
   -- the row under a form, whose first part may be a result
-  let_quiet : (up : List Mask) (x : ℕ) (k : Tree) → IsChildless k → (E : End) (a : Row Tree) → Quiet a → Quiet (Rattle.fiber_frames.proofs.Walk.under i n up (Rattle.fiber_frames.specs.Path.In_let x k) E a)
+  let_quiet : (up : List Mask) (x : ℕ) (k : Tree) → IsChildless k → (E : End) (a : Row Tree) → Quiet a →
+      Quiet (Rattle.fiber_frames.proofs.Walk.under i n up (Rattle.fiber_frames.specs.Path.In_let x k) E a)
   let_quiet up x k h (Gives v) a q = record { becomes = put_childless (Put_value x (number_of v)) k h; other = tt }
   let_quiet up x k h (Throws v) a q = record { becomes = tt; other = tt }
   let_quiet up x k h Works a q = record { becomes = (q.becomes, h); other = q.other }
 
-  seq_quiet : (up : List Mask) (w : Rest) (k : Tree) → IsChildless k → (E : End) (a : Row Tree) → Quiet a → Quiet (Rattle.fiber_frames.proofs.Walk.under i n up (Rattle.fiber_frames.specs.Path.In_seq w k) E a)
+  seq_quiet : (up : List Mask) (w : Rest) (k : Tree) → IsChildless k → (E : End) (a : Row Tree) → Quiet a →
+      Quiet (Rattle.fiber_frames.proofs.Walk.under i n up (Rattle.fiber_frames.specs.Path.In_seq w k) E a)
   seq_quiet up w k h (Gives v) a q = record { becomes = h; other = tt }
   seq_quiet up w k h (Throws v) a q = record { becomes = tt; other = tt }
   seq_quiet up w k h Works a q = record { becomes = (q.becomes, h); other = q.other }
 
-  handle_quiet : (up : List Mask) (x : ℕ) (k : Tree) → IsChildless k → (E : End) (a : Row Tree) → Quiet a → Quiet (Rattle.fiber_frames.proofs.Walk.under i n up (Rattle.fiber_frames.specs.Path.In_handle x k) E a)
+  handle_quiet : (up : List Mask) (x : ℕ) (k : Tree) → IsChildless k → (E : End) (a : Row Tree) → Quiet a →
+      Quiet (Rattle.fiber_frames.proofs.Walk.under i n up (Rattle.fiber_frames.specs.Path.In_handle x k) E a)
   handle_quiet up x k h (Gives v) a q = record { becomes = tt; other = tt }
   handle_quiet up x k h (Throws v) a q = record { becomes = put_childless (Put_value x (number_of v)) k h; other = tt }
   handle_quiet up x k h Works a q = record { becomes = (q.becomes, h); other = q.other }
 
-  guarded_quiet : (up : List Mask) (fin : Tree) → IsChildless fin → (E : End) (a : Row Tree) → Quiet a → Quiet (Rattle.fiber_frames.proofs.Walk.under i n up (Rattle.fiber_frames.specs.Path.In_guarded fin) E a)
+  guarded_quiet : (up : List Mask) (fin : Tree) → IsChildless fin → (E : End) (a : Row Tree) → Quiet a →
+      Quiet (Rattle.fiber_frames.proofs.Walk.under i n up (Rattle.fiber_frames.specs.Path.In_guarded fin) E a)
   guarded_quiet up fin h (Gives v) a q = record { becomes = tt; other = tt }
   guarded_quiet up fin h (Throws v) a q = record { becomes = tt; other = tt }
   guarded_quiet up fin h Works a q = record { becomes = (q.becomes, h); other = q.other }
 
-  masked_quiet : (up : List Mask) (m : ℕ) (E : End) (a : Row Tree) → Quiet a → Quiet (Rattle.fiber_frames.proofs.Walk.under i n up (Rattle.fiber_frames.specs.Path.In_masked m) E a)
+  masked_quiet : (up : List Mask) (m : ℕ) (E : End) (a : Row Tree) → Quiet a →
+      Quiet (Rattle.fiber_frames.proofs.Walk.under i n up (Rattle.fiber_frames.specs.Path.In_masked m) E a)
   masked_quiet up m (Gives v) a q = record { becomes = tt; other = tt }
   masked_quiet up m (Throws v) a q = record { becomes = tt; other = tt }
   masked_quiet up m Works a q = record { becomes = q.becomes; other = q.other }
 
-  polled_quiet : (up : List Mask) (p : Mask) (E : End) (a : Row Tree) → Quiet a → Quiet (Rattle.fiber_frames.proofs.Walk.under i n up (Rattle.fiber_frames.specs.Path.In_polled p) E a)
+  polled_quiet : (up : List Mask) (p : Mask) (E : End) (a : Row Tree) → Quiet a →
+      Quiet (Rattle.fiber_frames.proofs.Walk.under i n up (Rattle.fiber_frames.specs.Path.In_polled p) E a)
   polled_quiet up p (Gives v) a q = record { becomes = tt; other = switch_other (is_effective p up) ask.Mask tt }
   polled_quiet up p (Throws v) a q = record { becomes = tt; other = switch_other (is_effective p up) ask.Mask tt }
   polled_quiet up p Works a q = record { becomes = q.becomes; other = q.other }
@@ -179,7 +200,9 @@ module _ (i n : ℕ) (r : Reply) where
   run_quiet : (w : Running) → RunsChildless w → QuietRun (row_at i n r (focus w) w)
   run_quiet (Runs t) h = subst QuietRun (sym (row_root i n r At_term t)) (term_quiet (end_of t) (walk i n r [] t) (row_quiet i n r t [] h))
   run_quiet (Final m []) h = record { becomes = tt; other = tt }
-  run_quiet (Final m (g ∷ gs)) h = subst QuietRun (sym (row_root i n r (At_final m gs) g)) (final_quiet m gs h.1 (end_of g) (walk i n r (Pair i m ∷ []) g) (row_quiet i n r g (Pair i m ∷ []) h.0))
+  run_quiet (Final m (g ∷ gs)) h =
+      subst QuietRun (sym (row_root i n r (At_final m gs) g))
+      (final_quiet m gs h.1 (end_of g) (walk i n r (Pair i m ∷ []) g) (row_quiet i n r g (Pair i m ∷ []) h.0))
   run_quiet (Over o) h = record { becomes = tt; other = tt }
   run_quiet Broken h = record { becomes = tt; other = tt }
 

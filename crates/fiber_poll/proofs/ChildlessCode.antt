@@ -47,7 +47,9 @@ mutual
   source_childless (term.Pure v) h = tt
   source_childless (term.Raise v) h = tt
   source_childless (term.Let' p e q k) h = (source_childless e (or_left _ _ h), source_childless k (or_right _ _ h))
-  source_childless (term.Seq' p a q b s more) h = seq_childless (source_of a) (source_of b) more (source_childless a (or_left _ _ h)) (source_childless b (or_left _ _ (or_right _ _ h))) (or_right _ _ (or_right _ _ h))
+  source_childless (term.Seq' p a q b s more) h =
+      seq_childless (source_of a) (source_of b) more (source_childless a (or_left _ _ h)) (source_childless b (or_left _ _ (or_right _ _ h)))
+      (or_right _ _ (or_right _ _ h))
   source_childless (term.Handle' p e q k) h = (source_childless e (or_left _ _ h), source_childless k (or_right _ _ h))
   source_childless (term.If0' v p s q e) h = (source_childless s (or_left _ _ h), source_childless e (or_right _ _ h))
   source_childless (term.Add v w) h = tt
@@ -59,7 +61,8 @@ mutual
   source_childless (term.Poll' n p e) h = source_childless e h
   source_childless (term.OnCancel' p e q fin) h = (source_childless e (or_left _ _ h), source_childless fin (or_right _ _ h))
   source_childless (term.Start' p e q k) h = absurd (cc)
-  source_childless (term.Join' f p s q e r c) h = (source_childless s (or_left _ _ h), (source_childless e (or_left _ _ (or_right _ _ h)), source_childless c (or_right _ _ (or_right _ _ h))))
+  source_childless (term.Join' f p s q e r c) h =
+      (source_childless s (or_left _ _ h), (source_childless e (or_left _ _ (or_right _ _ h)), source_childless c (or_right _ _ (or_right _ _ h))))
   source_childless (term.Cancel f) h = tt
   source_childless (term.Ref' v p k) h = source_childless k h
   source_childless (term.Get r) h = tt
@@ -71,17 +74,28 @@ mutual
   source_childless (term.Repeat' v p e) h = source_childless e h
   source_childless (term.Forever' p e) h = source_childless e h
   source_childless (term.Guarantee' p e q fin) h = (source_childless e (or_left _ _ h), source_childless fin (or_right _ _ h))
-  source_childless (term.Bracket' p acq q body r rel) h = (source_childless acq (or_left _ _ h), (source_childless body (or_left _ _ (or_right _ _ h)), source_childless rel (or_right _ _ (or_right _ _ h))))
+  source_childless (term.Bracket' p acq q body r rel) h =
+      (source_childless acq (or_left _ _ h), (source_childless body (or_left _ _ (or_right _ _ h)), source_childless rel (or_right _ _ (or_right _ _ h))))
   source_childless (term.BracketCase' p acq q body r rs s re t rc) h =
       let one = or_right _ _ h in
       let two = or_right _ _ one in
-      let three = or_right _ _ two in
-      (source_childless acq (or_left _ _ h), (source_childless body (or_left _ _ one), (source_childless rs (or_left _ _ two), (source_childless re (or_left _ _ three), source_childless rc (or_right _ _ three)))))
+      let three = or_right _ _ two in (
+        source_childless acq (or_left _ _ h),
+        (
+          source_childless body (or_left _ _ one),
+          (source_childless rs (or_left _ _ two), (source_childless re (or_left _ _ three), source_childless rc (or_right _ _ three))),
+        ),
+      )
   source_childless (term.BracketFull' p acq q body r rs s re t rc) h =
       let one = or_right _ _ h in
       let two = or_right _ _ one in
-      let three = or_right _ _ two in
-      (source_childless acq (or_left _ _ h), (source_childless body (or_left _ _ one), (source_childless rs (or_left _ _ two), (source_childless re (or_left _ _ three), source_childless rc (or_right _ _ three)))))
+      let three = or_right _ _ two in (
+        source_childless acq (or_left _ _ h),
+        (
+          source_childless body (or_left _ _ one),
+          (source_childless rs (or_left _ _ two), (source_childless re (or_left _ _ three), source_childless rc (or_right _ _ three))),
+        ),
+      )
   source_childless (term.Race' p a q b) h = absurd (cc)
   source_childless (term.Both' p a q b r k) h = absurd (cc)
 
@@ -93,7 +107,8 @@ mutual
 guarantee_childless : (d : ℕ) (e a b c : Tree) → IsChildless e → IsChildless a → IsChildless b → IsChildless c → IsChildless (guarantee d e a b c)
 guarantee_childless d e a b c he ha hb hc = (((he, ha), ((hb, tt), tt)), (hc, tt))
 
-bracket_childless : (d : ℕ) (acq body rs re rc : Tree) → IsChildless acq → IsChildless body → IsChildless rs → IsChildless re → IsChildless rc → IsChildless (bracket_case d acq body rs re rc)
+bracket_childless : (d : ℕ) (acq body rs re rc : Tree) → IsChildless acq → IsChildless body → IsChildless rs → IsChildless re → IsChildless rc →
+    IsChildless (bracket_case d acq body rs re rc)
 bracket_childless d acq body rs re rc ha hb hs he hc =
     (ha, (tt, (((hb, (tt, ((hc, (tt, tt)), tt))), (tt, ((he, tt), (tt, tt)))), (tt, ((hs, (tt, tt)), (tt, tt))))))
 
@@ -113,7 +128,8 @@ expansion_childless m d (word.Uncancelable e) h = expansion_childless (m ++ d �
 expansion_childless m d (word.Poll p e) h = expansion_childless m d e h
 expansion_childless m d (word.On_cancel e fin) h = (expansion_childless m d e h.0, expansion_childless m d fin h.1)
 expansion_childless m d (word.Start e k) h = absurd h
-expansion_childless m d (word.Join f s e c) h = (expansion_childless (m ++ d ∷ []) (d + 1) s h.0, (expansion_childless (m ++ d ∷ []) (d + 1) e h.1.0, expansion_childless m d c h.1.1))
+expansion_childless m d (word.Join f s e c) h =
+    (expansion_childless (m ++ d ∷ []) (d + 1) s h.0, (expansion_childless (m ++ d ∷ []) (d + 1) e h.1.0, expansion_childless m d c h.1.1))
 expansion_childless m d (word.Cancel f) h = tt
 expansion_childless m d (word.Ref v k) h = expansion_childless (m ++ d ∷ []) (d + 1) k h
 expansion_childless m d (word.Get r) h = tt
@@ -125,18 +141,26 @@ expansion_childless m d (word.Await c) h = tt
 expansion_childless m d (word.Repeat v e) h = expansion_childless m d e h
 expansion_childless m d (word.Forever e) h = expansion_childless m d e h
 expansion_childless m d (word.Guarantee e fin) h =
-    guarantee_childless d (expansion m (d + 1) e) (expansion m (d + 1) fin) (expansion m (d + 2) fin) (expansion m (d + 2) fin) (expansion_childless m (d + 1) e h.0) (expansion_childless m (d + 1) fin h.1) (expansion_childless m (d + 2) fin h.1) (expansion_childless m (d + 2) fin h.1)
+    guarantee_childless d (expansion m (d + 1) e) (expansion m (d + 1) fin) (expansion m (d + 2) fin) (expansion m (d + 2) fin)
+    (expansion_childless m (d + 1) e h.0) (expansion_childless m (d + 1) fin h.1) (expansion_childless m (d + 2) fin h.1)
+    (expansion_childless m (d + 2) fin h.1)
 expansion_childless m d (word.Bracket acq body rel) h =
     let x = m ++ (d + 1) ∷ [] in
-    bracket_childless d (expansion m (d + 1) acq) (expansion x (d + 3) body) (expansion x (d + 4) rel) (expansion x (d + 4) rel) (expansion x (d + 3) rel) (expansion_childless m (d + 1) acq h.0) (expansion_childless x (d + 3) body h.1.0) (expansion_childless x (d + 4) rel h.1.1) (expansion_childless x (d + 4) rel h.1.1) (expansion_childless x (d + 3) rel h.1.1)
+    bracket_childless d (expansion m (d + 1) acq) (expansion x (d + 3) body) (expansion x (d + 4) rel) (expansion x (d + 4) rel)
+    (expansion x (d + 3) rel) (expansion_childless m (d + 1) acq h.0) (expansion_childless x (d + 3) body h.1.0)
+    (expansion_childless x (d + 4) rel h.1.1) (expansion_childless x (d + 4) rel h.1.1) (expansion_childless x (d + 3) rel h.1.1)
 expansion_childless m d (word.Bracket_case acq body rs re rc) h =
     let x = m ++ (d + 1) ∷ [] in
     let y = x ++ (d + 3) ∷ [] in
-    bracket_childless d (expansion m (d + 1) acq) (expansion x (d + 3) body) (expansion y (d + 4) rs) (expansion y (d + 4) re) (expansion x (d + 3) rc) (expansion_childless m (d + 1) acq h.0) (expansion_childless x (d + 3) body h.1.0) (expansion_childless y (d + 4) rs h.1.1.0) (expansion_childless y (d + 4) re h.1.1.1.0) (expansion_childless x (d + 3) rc h.1.1.1.1)
+    bracket_childless d (expansion m (d + 1) acq) (expansion x (d + 3) body) (expansion y (d + 4) rs) (expansion y (d + 4) re)
+    (expansion x (d + 3) rc) (expansion_childless m (d + 1) acq h.0) (expansion_childless x (d + 3) body h.1.0)
+    (expansion_childless y (d + 4) rs h.1.1.0) (expansion_childless y (d + 4) re h.1.1.1.0) (expansion_childless x (d + 3) rc h.1.1.1.1)
 expansion_childless m d (word.Bracket_full acq body rs re rc) h =
     let x = m ++ (d + 1) ∷ [] in
     let y = x ++ (d + 3) ∷ [] in
-    bracket_childless d (expansion (m ++ d ∷ []) (d + 1) acq) (expansion x (d + 3) body) (expansion y (d + 4) rs) (expansion y (d + 4) re) (expansion x (d + 3) rc) (expansion_childless (m ++ d ∷ []) (d + 1) acq h.0) (expansion_childless x (d + 3) body h.1.0) (expansion_childless y (d + 4) rs h.1.1.0) (expansion_childless y (d + 4) re h.1.1.1.0) (expansion_childless x (d + 3) rc h.1.1.1.1)
+    bracket_childless d (expansion (m ++ d ∷ []) (d + 1) acq) (expansion x (d + 3) body) (expansion y (d + 4) rs) (expansion y (d + 4) re)
+    (expansion x (d + 3) rc) (expansion_childless (m ++ d ∷ []) (d + 1) acq h.0) (expansion_childless x (d + 3) body h.1.0)
+    (expansion_childless y (d + 4) rs h.1.1.0) (expansion_childless y (d + 4) re h.1.1.1.0) (expansion_childless x (d + 3) rc h.1.1.1.1)
 expansion_childless m d (word.Race a b) h = absurd h
 expansion_childless m d (word.Both a b k) h = absurd h
 

@@ -75,7 +75,8 @@ moves-append g (r ∷ rs) qs = moves-append (move g r) rs qs
 
 calls_of-append : (g : Fiber) (rs qs : List Reply) → calls_of g (rs ++ qs) ≡ calls_of g rs ++ calls_of (moves g rs) qs
 calls_of-append g [] qs = refl
-calls_of-append g (r ∷ rs) qs = ap (λ x. call_of g r ++ x) (calls_of-append (move g r) rs qs) ∙ sym (append_assoc (call_of g r) (calls_of (move g r) rs) (calls_of (moves (move g r) rs) qs))
+calls_of-append g (r ∷ rs) qs = ap (λ x. call_of g r ++ x) (calls_of-append (move g r) rs qs) ∙
+    sym (append_assoc (call_of g r) (calls_of (move g r) rs) (calls_of (moves (move g r) rs) qs))
 
 answers-append : (g : Fiber) (rs qs : List Reply) → AreAnswers g rs → AreAnswers (moves g rs) qs → AreAnswers g (rs ++ qs)
 answers-append g [] qs h k = k
@@ -113,7 +114,8 @@ went_on a b c rs qs x y = record {
   answers = answers-append a.state rs qs x.answers (subst (λ g. AreAnswers g qs) x.state y.answers);
   seen = prefix-join a.pass.seen b.pass.seen c.pass.seen x.seen y.seen;
   own =
-      let own : calls_by a.pass.number c.pass.seen ≡ calls_by a.pass.number b.pass.seen ++ calls_of b.state qs = subst (λ i. calls_by i c.pass.seen ≡ calls_by i b.pass.seen ++ calls_of b.state qs) x.number y.own in
+      let own : calls_by a.pass.number c.pass.seen ≡ calls_by a.pass.number b.pass.seen ++ calls_of b.state qs =
+      subst (λ i. calls_by i c.pass.seen ≡ calls_by i b.pass.seen ++ calls_of b.state qs) x.number y.own in
       own ∙ ap (λ w. w ++ calls_of b.state qs) x.own ∙ append_assoc (calls_by a.pass.number a.pass.seen) (calls_of a.state rs) (calls_of b.state qs)
       ∙ ap (λ g. calls_by a.pass.number a.pass.seen ++ (calls_of a.state rs ++ calls_of g qs)) x.state
       ∙ ap (λ w. calls_by a.pass.number a.pass.seen ++ w) (sym (calls_of-append a.state rs qs));
@@ -123,7 +125,8 @@ went_on a b c rs qs x y = record {
 }
 
 -- one move, with what it wanted
-module _ (a c : TaskView) (r : Reply) (home : c.home ≡ a.home) (state : c.state ≡ move a.state r) (left : c.moves + 1 ≡ a.moves) (answers : Answers a.state.number (ask_of a.state) r) where
+module _ (a c : TaskView) (r : Reply) (home : c.home ≡ a.home) (state : c.state ≡ move a.state r) (left : c.moves + 1 ≡ a.moves)
+    (answers : Answers a.state.number (ask_of a.state) r) where
   pub went_alone : c.pass ≡ a.pass → wish_of (ask_of a.state) ≡ Alone → Went a (r ∷ []) c
   went_alone pass w = record {
     home = home;
@@ -135,11 +138,13 @@ module _ (a c : TaskView) (r : Reply) (home : c.home ≡ a.home) (state : c.stat
     seen = ([], append-nil a.pass.seen ∙ sym (ap (λ (p : PassView). p.seen) pass));
     own =
         let none : calls_of a.state (r ∷ []) ≡ [] = ap (λ x. wished a.state.number x r ++ []) w in
-        ap (λ (p : PassView). calls_by a.pass.number p.seen) pass ∙ sym (append-nil (calls_by a.pass.number a.pass.seen)) ∙ ap (λ x. calls_by a.pass.number a.pass.seen ++ x) (sym none);
+        ap (λ (p : PassView). calls_by a.pass.number p.seen) pass ∙ sym (append-nil (calls_by a.pass.number a.pass.seen)) ∙
+        ap (λ x. calls_by a.pass.number a.pass.seen ++ x) (sym none);
     others = λ f h n. ap (λ (p : PassView). calls_by f p.seen) pass;
   }
 
-  pub went_call : (x : Call) → c.pass.number ≡ a.pass.number → c.pass.fibers ≡ a.pass.fibers → Calls a.pass x r c.pass → a.state.number ≡ a.pass.number → wish_of (ask_of a.state) ≡ Shared x → Went a (r ∷ []) c
+  pub went_call : (x : Call) → c.pass.number ≡ a.pass.number → c.pass.fibers ≡ a.pass.fibers → Calls a.pass x r c.pass →
+      a.state.number ≡ a.pass.number → wish_of (ask_of a.state) ≡ Shared x → Went a (r ∷ []) c
   went_call x number fibers made same w = record {
     home = home;
     number = number;

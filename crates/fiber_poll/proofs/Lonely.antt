@@ -1,5 +1,6 @@
 -- A fiber that starts nobody, at a registry that nobody else was given a pass of: its moves are those of the core under entries of its own number.
-use Rattle.std.proofs.Common.{Err, Ok, ◌≡◌, ◌≢◌, ℕ, zero, suc, ◌+◌, ◌<◌, Bool, List, [], ◌∷◌, ◌++◌, length, replicate, Some, None, refl, sym, ap, ◌∙◌, subst, arith, eqb, eq-eqb, cond}
+use Rattle.std.proofs.Common.{Err, Ok, ◌≡◌, ◌≢◌, ℕ, zero, suc, ◌+◌, ◌<◌, Bool, List, [], ◌∷◌, ◌++◌, length}
+use Rattle.std.proofs.Common.{replicate, Some, None, refl, sym, ap, ◌∙◌, subst, arith, eqb, eq-eqb, cond}
 use Rattle.effect_term.specs.declared.reply.Reply.{Reply}
 use Rattle.effect_term.specs.declared.reply.Reply.TheVariants as reply
 use Rattle.fiber_frames.specs.declared.ask.Ask.{Ask}
@@ -104,7 +105,8 @@ lonely_none k = record { own = refl; one = refl }
 pub lonely : (k : Limits) (g : Fiber) (h : List Entry) → IsLegal k h → NoStart (calls_by 0 h) → IsLonely k h
 lonely k g = by_ends (λ h. IsLegal k h → NoStart (calls_by 0 h) → IsLonely k h) (λ legal none. lonely_none k) (λ h e before legal none.
     let l = legal-pop k h e legal in
-    let split : calls_by 0 (h ++ e ∷ []) ≡ calls_by 0 h ++ calls_by 0 (e ∷ []) = Rattle.std.proofs.lemmas.List.Elements.filter-append (λ (x : Entry). eqb x.by 0) h (e ∷ []) in
+    let split : calls_by 0 (h ++ e ∷ []) ≡ calls_by 0 h ++ calls_by 0 (e ∷ []) =
+    Rattle.std.proofs.lemmas.List.Elements.filter-append (λ (x : Entry). eqb x.by 0) h (e ∷ []) in
     let parts : NoStart (calls_by 0 h ++ calls_by 0 (e ∷ [])) = subst NoStart split none in
     let p = before l.0 (no_start-init (calls_by 0 h) (calls_by 0 (e ∷ [])) parts) in
     let by : e.by ≡ 0 = (let born = l.1.born in let one = p.one in omega arith) in
@@ -132,16 +134,19 @@ module _ (k : Limits) where
   entry_alone : (g : Fiber) (s : Cells) → wish_of (ask_of g) ≡ Alone → entered k (Ok (one_fiber g s)) 0 ≡ Ok (one_fiber (move g reply.Done) s)
   entry_alone g s w = ap (wished k (one_fiber g s) 0 g) w
 
-  entry_called : (g : Fiber) (s : Cells) (c : Call) (r : Reply) → wish_of (ask_of g) ≡ Shared c → c ≢ call.Start → refusal k s 0 c ≡ None → r ≡ reply_of s 0 c → entered k (Ok (one_fiber g s)) 0 ≡ Ok (one_fiber (move g r) (after s 0 c))
+  entry_called : (g : Fiber) (s : Cells) (c : Call) (r : Reply) → wish_of (ask_of g) ≡ Shared c → c ≢ call.Start → refusal k s 0 c ≡ None →
+      r ≡ reply_of s 0 c → entered k (Ok (one_fiber g s)) 0 ≡ Ok (one_fiber (move g r) (after s 0 c))
   entry_called g s c r w other room is =
       ap (wished k (one_fiber g s) 0 g) w ∙ ap (answered (one_fiber g s) 0 g c) room ∙ ap (λ x. Ok (called (one_fiber g s) 0 g c x)) (sym is)
       ∙ ap (λ (l : List Fiber). Ok record { fibers = move g r ∷ l; cells = after s 0 c }) (none_born g c r other)
 
   -- one move, and those after it
   one_simulated : (g : Fiber) (s : Cells) (r : Reply) (rs : List Reply) → g.number ≡ 0 → RunsChildless g.running → Answers g.number (ask_of g) r
-      → ((t : Cells) → IsLegalFrom k t (calls_of (move g r) rs) → run_from k (Ok (one_fiber (move g r) t)) (replicate (length rs) 0) ≡ Ok (one_fiber (moves (move g r) rs) (left_from t (calls_of (move g r) rs))))
+      → ((t : Cells) → IsLegalFrom k t (calls_of (move g r) rs) →
+      run_from k (Ok (one_fiber (move g r) t)) (replicate (length rs) 0) ≡ Ok (one_fiber (moves (move g r) rs) (left_from t (calls_of (move g r) rs))))
       → (w : Wish) → wish_of (ask_of g) ≡ w → IsLegalFrom k s (turns.wished g.number w r ++ calls_of (move g r) rs)
-      → run_from k (Ok (one_fiber g s)) (replicate (suc (length rs)) 0) ≡ Ok (one_fiber (moves (move g r) rs) (left_from s (turns.wished g.number w r ++ calls_of (move g r) rs)))
+      → run_from k (Ok (one_fiber g s)) (replicate (suc (length rs)) 0) ≡ Ok
+      (one_fiber (moves (move g r) rs) (left_from s (turns.wished g.number w r ++ calls_of (move g r) rs)))
   one_simulated g s r rs zeroth none answers next (Shared c) w l =
       let first = l.0 in
       let room : refusal k s 0 c ≡ None = subst (λ i. refusal k s i c ≡ None) zeroth first.accepted.room in
@@ -159,7 +164,8 @@ module _ (k : Limits) where
       → run_from k (Ok (one_fiber g s)) (replicate (length rs) 0) ≡ Ok (one_fiber (moves g rs) (left_from s (calls_of g rs)))
   simulated g s [] zeroth none answers legal = refl
   simulated g s (r ∷ rs) zeroth none answers legal =
-      one_simulated g s r rs zeroth none answers.0 (λ t l. simulated (move g r) t rs (move_number g r ∙ zeroth) (move_childless g r none) answers.1 l) (wish_of (ask_of g)) refl legal
+      one_simulated g s r rs zeroth none answers.0
+      (λ t l. simulated (move g r) t rs (move_number g r ∙ zeroth) (move_childless g r none) answers.1 l) (wish_of (ask_of g)) refl legal
 
   pub core_append : (x : Course) (s t : List ℕ) → run_from k x (s ++ t) ≡ run_from k (run_from k x s) t
   core_append x [] t = refl
@@ -175,7 +181,8 @@ module _ (k : Limits) where
   stopped e zero = refl
   stopped e (suc n) = stopped e n
 
-  pub refused : (g : Fiber) (s : Cells) (c : Call) (e : CellError) (n : ℕ) → 0 < n → wish_of (ask_of g) ≡ Shared c → refusal k s 0 c ≡ Some e → run_from k (Ok (one_fiber g s)) (replicate n 0) ≡ Err (fault_of 0 e)
+  pub refused : (g : Fiber) (s : Cells) (c : Call) (e : CellError) (n : ℕ) → 0 < n → wish_of (ask_of g) ≡ Shared c → refusal k s 0 c ≡ Some e →
+      run_from k (Ok (one_fiber g s)) (replicate n 0) ≡ Err (fault_of 0 e)
   refused g s c e zero some w r = absurd (omega arith)
   refused g s c e (suc n) some w r =
       ap (λ (x : Course). run_from k x (replicate n 0)) (ap (wished k (one_fiber g s) 0 g) w ∙ ap (answered (one_fiber g s) 0 g c) r) ∙ stopped (fault_of 0 e) n

@@ -1,5 +1,7 @@
 -- What a fiber that starts nobody comes to, alone at its registry, is what the core says.
-use Rattle.std.proofs.Common.{◌≡◌, ◌⊎◌, inl, inr, ℕ, zero, suc, ◌+◌, ◌<◌, false, List, ◌∷◌, ◌++◌, length, replicate, Option, Some, None, Result, Ok, Err, refl, sym, ap, ◌∙◌, subst, arith, eq-eqb, cond, zero-add}
+use Rattle.std.proofs.Common.{◌≡◌, ◌⊎◌, inl, inr, ℕ, zero, suc, ◌+◌, ◌<◌, false, List, ◌∷◌, ◌++◌, length}
+use Rattle.std.proofs.Common.{replicate, Option, Some, None, Result, Ok, Err, refl, sym, ap, ◌∙◌, subst, arith}
+use Rattle.std.proofs.Common.{eq-eqb, cond, zero-add}
 use Rattle.effect_term.specs.declared.reply.Outcome.{Outcome}
 use Rattle.effect_term.specs.declared.reply.Reply.{Reply}
 use Rattle.derived_ops.specs.Tree.{Tree}
@@ -55,7 +57,8 @@ is_pending (turn.Started c) e m = tt
 is_pending (turn.WakeFiber f) e m = tt
 is_pending (turn.WakeTopic w) e m = tt
 
-pub still_polled : (old new : TaskView) (budget : ℕ) (t : Turn) → Turned old budget t new → ((o : Outcome) → t ≡ turn.Ended o → ⊥) → (t ≡ turn.OutOfMoves → ⊥) → Polled old budget Pending new
+pub still_polled : (old new : TaskView) (budget : ℕ) (t : Turn) → Turned old budget t new → ((o : Outcome) → t ≡ turn.Ended o → ⊥) →
+    (t ≡ turn.OutOfMoves → ⊥) → Polled old budget Pending new
 still_polled old new budget t turned e m = (t, is_pending t e m, turned)
 
 pub ended_comes : (old new : TaskView) (budget : ℕ) (o : Outcome) → Turned old budget (turn.Ended o) new → IsTask new → Comes old (Ok (Some o))
@@ -99,7 +102,8 @@ unfolding left
 left_of k h = refl
 
 -- ---- from the first task on
-module _ (home : RegistryView) (code : Tree) (n : ℕ) (none : IsChildless code) (rs : List Reply) (u : TaskView) (went : Went (record { home = home; pass = first_pass home; state = begins 0 code; moves = n }) rs u) (lawful : IsTask u) where
+module _ (home : RegistryView) (code : Tree) (n : ℕ) (none : IsChildless code) (rs : List Reply) (u : TaskView)
+    (went : Went (record { home = home; pass = first_pass home; state = begins 0 code; moves = n }) rs u) (lawful : IsTask u) where
   abbrev k : Limits
   k = u.pass.registry.limits
 
@@ -148,7 +152,8 @@ module _ (home : RegistryView) (code : Tree) (n : ℕ) (none : IsChildless code)
   -- the pass saw all numbers of the band given: so does the registry that it knew
   given_before : (b : Band) (q : PassView) → SeesAllGiven b u.pass q → next_of b (left k u.pass.seen) ≡ limit_of b k
   given_before b q g =
-      let own : calls_by 0 q.seen ≡ calls_by 0 u.pass.seen = subst (λ i. calls_by i q.seen ≡ calls_by i u.pass.seen) (went.number) (g.look.own u.pass.number lawful.pass.own) in
+      let own : calls_by 0 q.seen ≡ calls_by 0 u.pass.seen =
+      subst (λ i. calls_by i q.seen ≡ calls_by i u.pass.seen) (went.number) (g.look.own u.pass.number lawful.pass.own) in
       let later = lonely k (begins 0 code) q.seen g.look.legal (subst NoStart (sym own) no_start) in
       let same : q.seen ≡ u.pass.seen = sym later.own ∙ own ∙ alone_here.own in
       ap (λ (h : List Entry). next_of b (left k h)) (sym same) ∙ g.given.next
@@ -156,17 +161,21 @@ module _ (home : RegistryView) (code : Tree) (n : ℕ) (none : IsChildless code)
   counted : (cell_of (left k u.pass.seen) 0).count ≡ u.pass.count
   counted = subst (λ i. (cell_of (left k u.pass.seen) i).count ≡ u.pass.count) went.number (ap (λ (x : Stage × ℕ × ℕ). x.2) lawful.pass.cell)
 
-  refused_is : (c : Call) (e : CellError) → (0 < u.moves) ⊎ IsBroken u.state → wish_of (ask_of u.state) ≡ Shared c → refusal k (left k u.pass.seen) 0 c ≡ Some e → first_result (core code k (replicate n 0)) ≡ Err (fault_of 0 e)
+  refused_is : (c : Call) (e : CellError) → (0 < u.moves) ⊎ IsBroken u.state → wish_of (ask_of u.state) ≡ Shared c →
+      refusal k (left k u.pass.seen) 0 c ≡ Some e → first_result (core code k (replicate n 0)) ≡ Err (fault_of 0 e)
   refused_is c e some w r = ap first_result (core_is ∙ refused k u.state (left k u.pass.seen) c e u.moves (some_left c some w) w r)
 
-  fault_is : (e : RunError) (v : TaskView) → (0 < u.moves) ⊎ IsBroken u.state → Failed u e v → (e ≡ run.NoMemory) ⊎ (first_result (core code k (replicate n 0)) ≡ Err e)
+  fault_is : (e : RunError) (v : TaskView) → (0 < u.moves) ⊎ IsBroken u.state → Failed u e v → (e ≡ run.NoMemory) ⊎
+      (first_result (core code k (replicate n 0)) ≡ Err e)
   fault_is (run.Full b m) v some f =
       let here : limit_of b k ≡ m = ap (λ (r : RegistryView). limit_of b r.limits) lawful.here ∙ sym f.1 in
-      inr (refused_is (claim_of b) (cell.Full b (limit_of b k)) some f.0 (is_full k (left k u.pass.seen) b (given_before b v.pass f.4)) ∙ ap (λ x. Err (run.Full b x)) here)
+      inr (refused_is (claim_of b) (cell.Full b (limit_of b k)) some f.0 (is_full k (left k u.pass.seen) b (given_before b v.pass f.4)) ∙
+      ap (λ x. Err (run.Full b x)) here)
   fault_is (run.Spent i) v some f =
       let count : (cell_of (left k u.pass.seen) 0).count ≡ k.count = counted ∙ f.2 ∙ ap (λ (r : RegistryView). r.limits.count) (sym lawful.here) in
       let zeroth : 0 ≡ i = sym (f.1 ∙ lawful.number ∙ went.number) in
-      inr (refused_is f.0.0 (cell.Spent (cell_of (left k u.pass.seen) 0).count) some f.0.1 (is_spent k (left k u.pass.seen) f.0.0 f.0.2 count) ∙ ap (λ x. Err (run.Spent x)) zeroth)
+      inr (refused_is f.0.0 (cell.Spent (cell_of (left k u.pass.seen) 0).count) some f.0.1 (is_spent k (left k u.pass.seen) f.0.0 f.0.2 count) ∙
+      ap (λ x. Err (run.Spent x)) zeroth)
   fault_is run.NoMemory v some f = inl refl
   fault_is (run.Lost i) v some f = absurd f
   fault_is run.NoWorker v some f = absurd f
@@ -176,19 +185,25 @@ module _ (home : RegistryView) (code : Tree) (n : ℕ) (none : IsChildless code)
   result_is (Ok None) h = inr (ap first_result (core_is ∙ ap (λ m. run_from k (Ok (one_fiber u.state (left k u.pass.seen))) (replicate m 0)) h.0) ∙ ap Ok h.1)
   result_is (Err e) h = elim (fault_is e h.1.0 h.0 h.1.1) [ inl q ↦ inl (ap Err q) | inr q ↦ inr q ]
 
-alone_is : (home : RegistryView) (code : Tree) (n : ℕ) (r : Result (Option Outcome) RunError) → IsChildless code → Comes (record { home = home; pass = first_pass home; state = begins 0 code; moves = n }) r → (r ≡ Err run.NoMemory) ⊎ (r ≡ first_result (core code home.limits (replicate n 0)))
+alone_is : (home : RegistryView) (code : Tree) (n : ℕ) (r : Result (Option Outcome) RunError) → IsChildless code →
+    Comes (record { home = home; pass = first_pass home; state = begins 0 code; moves = n }) r → (r ≡ Err run.NoMemory) ⊎
+    (r ≡ first_result (core code home.limits (replicate n 0)))
 alone_is home code n r none c = elim (result_is home code n none c.replies c.last c.went c.lawful r c.is) [
   | inl e ↦ inl e
   | inr e ↦ inr (sym e ∙ ap (λ (l : Limits). first_result (core code l (replicate n 0))) (limits_are home code n none c.replies c.last c.went c.lawful))
 ]
 
-pub program_is : (p : Term) (home : RegistryView) (pass : PassView) (code : Tree) (task : TaskView) (n : ℕ) (r : Result (Option Outcome) RunError) → starts_fiber p ≡ false → code ≡ code_of (source_of p) → pass ≡ first_pass home → home.limits ≡ default_limits → task ≡ record { home = home; pass = pass; state = begins 0 code; moves = n } → Comes task r
+pub program_is : (p : Term) (home : RegistryView) (pass : PassView) (code : Tree) (task : TaskView) (n : ℕ) (r : Result (Option Outcome) RunError) →
+    starts_fiber p ≡ false → code ≡ code_of (source_of p) → pass ≡ first_pass home → home.limits ≡ default_limits →
+    task ≡ record { home = home; pass = pass; state = begins 0 code; moves = n } → Comes task r
     → (r ≡ Err run.NoMemory) ⊎ (r ≡ first_result (core (code_of (source_of p)) default_limits (replicate n 0)))
 program_is p home pass code task n r none code_is pass_is limits_are task_is c =
     let childless : IsChildless code = subst IsChildless (sym code_is) (code_childless p none) in
     let first : Comes (record { home = home; pass = first_pass home; state = begins 0 code; moves = n }) r =
-    subst (λ (x : PassView). Comes (record { home = home; pass = x; state = begins 0 code; moves = n }) r) pass_is (subst (λ (t : TaskView). Comes t r) task_is c) in
+    subst (λ (x : PassView). Comes (record { home = home; pass = x; state = begins 0 code; moves = n }) r) pass_is
+    (subst (λ (t : TaskView). Comes t r) task_is c) in
     elim (alone_is home code n r childless first) [
       | inl e ↦ inl e
-      | inr e ↦ inr (e ∙ ap (λ (l : Limits). first_result (core code l (replicate n 0))) limits_are ∙ ap (λ (t : Tree). first_result (core t default_limits (replicate n 0))) code_is)
+      | inr e ↦ inr (e ∙ ap (λ (l : Limits). first_result (core code l (replicate n 0))) limits_are ∙
+          ap (λ (t : Tree). first_result (core t default_limits (replicate n 0))) code_is)
     ]

@@ -25,7 +25,8 @@ use Rattle.fiber_poll.specs.Turning.{ChildIsOf, Starts, StaysOf, Stopped, Turned
 use Rattle.fiber_poll.proofs.Going.{is_done, no_wish}
 
 module _ (code : Tree) where
-  reach_one : (g : Fiber) (r : Reply) (rs : List Reply) → Answers g.number (ask_of g) r → Reaches (move g r) (calls_of (move g r) rs) (moves (move g r) rs) → Reaches g (calls_of g (r ∷ rs)) (moves (move g r) rs)
+  reach_one : (g : Fiber) (r : Reply) (rs : List Reply) → Answers g.number (ask_of g) r →
+      Reaches (move g r) (calls_of (move g r) rs) (moves (move g r) rs) → Reaches g (calls_of g (r ∷ rs)) (moves (move g r) rs)
   reach_one g r rs h rest = go (wish g) refl
     where
       go : (w : Wish) → wish g ≡ w → Reaches g (calls_of g (r ∷ rs)) (moves (move g r) rs)
@@ -33,7 +34,8 @@ module _ (code : Tree) where
       go Alone e =
           let done : r ≡ reply.Done = is_done g.number (ask_of g) r e h in
           let one : Later 1 g (move g r) = (e, ap (move g) (sym done)) in
-          subst (λ x. Reaches g (wished g.number x r ++ calls_of (move g r) rs) (moves (move g r) rs)) (sym e) (later-reaches code 1 g (move g r) (moves (move g r) rs) (calls_of (move g r) rs) one rest)
+          subst (λ x. Reaches g (wished g.number x r ++ calls_of (move g r) rs) (moves (move g r) rs)) (sym e)
+          (later-reaches code 1 g (move g r) (moves (move g r) rs) (calls_of (move g r) rs) one rest)
       go Nothing e = absurd (no_wish g.number (ask_of g) r e h)
 
   -- the moves of a turn reach their end by their calls
@@ -50,7 +52,8 @@ module _ (code : Tree) where
   }
 
   -- after a turn the fiber stands where it came to
-  pub turn_stands : (a b : TaskView) (rs : List Reply) → Went a rs b → Stands code a.pass.seen a.pass.number a.state → Stands code b.pass.seen a.pass.number b.state
+  pub turn_stands : (a b : TaskView) (rs : List Reply) → Went a rs b → Stands code a.pass.seen a.pass.number a.state →
+      Stands code b.pass.seen a.pass.number b.state
   turn_stands a b rs w s = stands-went code a.pass.number a.pass.seen b.pass.seen a.state b.state (went_led a b rs w) s
 
   -- and a fiber that it started stands at its beginning
@@ -62,13 +65,15 @@ module _ (code : Tree) where
       record {
         before = k.before;
         parent = p.state;
-        went = went-looked code a.pass.number a.pass.seen p.pass.seen k.before a.state p.state (went_led a p s.before s.went) k.later (subst (λ i. calls_by i k.before ≡ calls_by i p.pass.seen) same k.still);
+        went = went-looked code a.pass.number a.pass.seen p.pass.seen k.before a.state p.state (went_led a p s.before s.went) k.later
+            (subst (λ i. calls_by i k.before ≡ calls_by i p.pass.seen) same k.still);
         wants = k.wants;
         last = k.last ∙ (λ j. k.before ++ entry (same j) call.Start (k.number j) ∷ []);
         is_child = k.state;
       }
 
-  pub child_stands : (a new c : TaskView) (rs : List Reply) → Starts a rs new c → Stands code a.pass.seen a.pass.number a.state → Stands code c.pass.seen c.pass.number c.state
+  pub child_stands : (a new c : TaskView) (rs : List Reply) → Starts a rs new c → Stands code a.pass.seen a.pass.number a.state →
+      Stands code c.pass.seen c.pass.number c.state
   child_stands a new c rs s h =
       let there = stands-bore code a.pass.number a.pass.seen new.pass.seen a.state c.pass.number c.state (child_bore a new c rs s) h in
       subst (λ l. Stands code l c.pass.number c.state) (sym (ap (λ (x : Rattle.cell_registry.specs.Passes.PassView). x.seen) s.child.pass)) there
@@ -83,7 +88,8 @@ module _ (code : Tree) where
   child_of : (r : RegistryView) (a new : TaskView) (rs : List Reply) (c : TaskView) → Went a rs new → Starts a rs new c → IsTaskOf r code a → IsTaskOf r code c
   child_of r a new rs c w s of = record { home = s.child.home ∙ w.home ∙ of.home; stands = child_stands a new c rs s of.stands }
 
-  turned_of : (r : RegistryView) (a new : TaskView) (budget : ℕ) (t : Turn) → Turned a budget t new → IsTaskOf r code a → IsTaskOf r code new × ChildIsOf r code t
+  turned_of : (r : RegistryView) (a new : TaskView) (budget : ℕ) (t : Turn) → Turned a budget t new → IsTaskOf r code a → IsTaskOf r code new ×
+      ChildIsOf r code t
   turned_of r a new budget (turn.Started c) t of = (went_of r a new t.replies t.went of, child_of r a new t.replies c t.went t.answered of)
   turned_of r a new budget (turn.Ended o) t of = (went_of r a new t.replies t.went of, tt)
   turned_of r a new budget (turn.Waits w) t of = (went_of r a new t.replies t.went of, tt)
@@ -93,9 +99,11 @@ module _ (code : Tree) where
   turned_of r a new budget turn.OutOfMoves t of = (went_of r a new t.replies t.went of, tt)
 
   -- a refusal leaves the fiber where it stood
-  failed_of : (r : RegistryView) (a new : TaskView) (e : RunError) → Rattle.cell_registry.specs.Rule.Has a.pass.fibers a.pass.number → Failed a e new → IsTaskOf r code a → StaysOf r code (Err e) new
+  failed_of : (r : RegistryView) (a new : TaskView) (e : RunError) → Rattle.cell_registry.specs.Rule.Has a.pass.fibers a.pass.number →
+      Failed a e new → IsTaskOf r code a → StaysOf r code (Err e) new
   failed_of r a new (run.Full b n) own f of =
-      let stands : Stands code new.pass.seen a.pass.number a.state = stands-longer code a.pass.number a.pass.seen new.pass.seen a.state f.4.look.seen (f.4.look.own a.pass.number own) of.stands in
+      let stands : Stands code new.pass.seen a.pass.number a.state =
+      stands-longer code a.pass.number a.pass.seen new.pass.seen a.state f.4.look.seen (f.4.look.own a.pass.number own) of.stands in
       let number : new.pass.number ≡ a.pass.number = ap (λ (p : PassView). p.number) f.3 in
       subst (IsTaskOf r code) (sym f.2) record { home = of.home; stands = subst (λ i. Stands code new.pass.seen i a.state) (sym number) stands }
   failed_of r a new (run.Spent i) own f of = subst (IsTaskOf r code) (sym f.3) of
@@ -105,9 +113,13 @@ module _ (code : Tree) where
 
   -- the fiber of a task is one of its pass's, and so after its moves
   own_still : (a b : TaskView) (rs : List Reply) → Went a rs b → IsTask a → Rattle.cell_registry.specs.Rule.Has b.pass.fibers b.pass.number
-  own_still a b rs w i = subst (λ (l : List ℕ). Rattle.cell_registry.specs.Rule.Has l b.pass.number) (sym w.fibers) (subst (Rattle.cell_registry.specs.Rule.Has a.pass.fibers) (sym w.number) i.pass.own)
+  own_still a b rs w i =
+      subst (λ (l : List ℕ). Rattle.cell_registry.specs.Rule.Has l b.pass.number) (sym w.fibers)
+      (subst (Rattle.cell_registry.specs.Rule.Has a.pass.fibers) (sym w.number) i.pass.own)
 
-  pub stays_of : (r : RegistryView) (a new : TaskView) (budget : ℕ) (result : Result Turn RunError) → IsTask a → IfOk result (λ t. Turned a budget t new) → IfErr result (λ e. Stopped a budget e new) → IsTaskOf r code a → StaysOf r code result new
+  pub stays_of : (r : RegistryView) (a new : TaskView) (budget : ℕ) (result : Result Turn RunError) → IsTask a →
+      IfOk result (λ t. Turned a budget t new) → IfErr result (λ e. Stopped a budget e new) → IsTaskOf r code a → StaysOf r code result new
   stays_of r a new budget (Ok t) i turned stopped of = turned_of r a new budget t turned of
   stays_of r a new budget (Err e) i turned stopped of =
-      failed_of r stopped.before new e (own_still a stopped.before stopped.replies stopped.went i) stopped.failed (went_of r a stopped.before stopped.replies stopped.went of)
+      failed_of r stopped.before new e (own_still a stopped.before stopped.replies stopped.went i) stopped.failed
+      (went_of r a stopped.before stopped.replies stopped.went of)

@@ -99,7 +99,10 @@ pub step_may : (t : TaskView) (a : Ask) → IsTask t → IsGoing (way_of t.state
 step_may t a i g k =
     let p = i.pass in
     let f = fits_going t i g in
-    may_answer t.pass (wish_of a) (may_by_ask t.pass.registry.limits (pass_registered t.pass) (record { fibers = p.told.most Fibers; refs = p.told.most Refs; deferreds = p.told.most Deferreds }) t.state f a k.tells (k.names (pass_registered t.pass).given f.names))
+    may_answer t.pass (wish_of a)
+    (may_by_ask t.pass.registry.limits (pass_registered t.pass)
+    (record { fibers = p.told.most Fibers; refs = p.told.most Refs; deferreds = p.told.most Deferreds }) t.state f a k.tells
+    (k.names (pass_registered t.pass).given f.names))
 
 -- no fiber uses up the mask numbers
 pub next_in_range : (t : TaskView) → IsTask t → IsGoing (way_of t.state.running) → t.state.next < 2 ^ 63
@@ -137,7 +140,8 @@ looked_task t q i lawful only s = record {
   number = i.number ∙ sym (ap (λ (p : PassView). p.number) only);
   fits = elim i.fits [
     | inl b ↦ inl b
-    | inr f ↦ inr (subst (λ x. Fits x t.state) (sym (ap pass_registered only)) (fits_given (pass_registered t.pass) (given_by (left t.pass.registry.limits q.seen)) t.state f (seen_more t.pass q s)))
+    | inr f ↦ inr (subst (λ x. Fits x t.state) (sym (ap pass_registered only))
+        (fits_given (pass_registered t.pass) (given_by (left t.pass.registry.limits q.seen)) t.state f (seen_more t.pass q s)))
   ];
 }
 
@@ -156,12 +160,14 @@ module _ (t : TaskView) (q : PassView) (i : IsTask t) (lawful : IsPass q) where
   refused_task Alone e r = absurd r
   refused_task Nothing e r = absurd r
 
-  refused_failed_by : (c : Call) (e : CellError) (n : ℕ) → wish_of (ask_of t.state) ≡ Shared c → n ≡ t.state.number → RefusedBy t.pass c e q → Failed t (fault_of n e) (record t { pass = q })
+  refused_failed_by : (c : Call) (e : CellError) (n : ℕ) → wish_of (ask_of t.state) ≡ Shared c → n ≡ t.state.number → RefusedBy t.pass c e q →
+      Failed t (fault_of n e) (record t { pass = q })
   refused_failed_by c (error.Full b m) n w same r = (w ∙ ap Shared r.0, limit_here t b m i r.1, refl, r.2, r.3)
   refused_failed_by c (error.Spent m) n w same r =
       ((c, w, r.0), same, r.2 ∙ ap (λ (x : RegistryView). x.limits.count) i.here, λ j. record t { pass = r.3 j })
 
-  pub refused_failed : (w : Wish) (e : CellError) (n : ℕ) → wish_of (ask_of t.state) ≡ w → n ≡ t.state.number → Refuses t.pass w e q → Failed t (fault_of n e) (record t { pass = q })
+  pub refused_failed : (w : Wish) (e : CellError) (n : ℕ) → wish_of (ask_of t.state) ≡ w → n ≡ t.state.number → Refuses t.pass w e q →
+      Failed t (fault_of n e) (record t { pass = q })
   refused_failed (Shared c) e n is same r = refused_failed_by c e n is same r
   refused_failed Alone e n is same r = absurd r
   refused_failed Nothing e n is same r = absurd r
@@ -210,7 +216,8 @@ still_going (ask.Finish o) k w i r h f e = absurd (let q : Some (Ends o) ≡ Non
 still_going _ k w i r h f e = h
 
 -- ---- a reply
-module _ (t : TaskView) (a : Ask) (q : PassView) (r : Reply) (i : IsTask t) (g : IsGoing (way_of t.state.running)) (k : IsAsked t.state a) (step : IsStep a) (is : a ≡ ask_of t.state) (lawful : IsPass q) where
+module _ (t : TaskView) (a : Ask) (q : PassView) (r : Reply) (i : IsTask t) (g : IsGoing (way_of t.state.running)) (k : IsAsked t.state a)
+    (step : IsStep a) (is : a ≡ ask_of t.state) (lawful : IsPass q) where
   asking : Asking t.state
   asking = asked_all t.state a k is
 
@@ -222,8 +229,10 @@ module _ (t : TaskView) (a : Ask) (q : PassView) (r : Reply) (i : IsTask t) (g :
   fits_by : (w : Wish) → wish_of a ≡ w → Replies t.pass w r q → Fits (pass_registered q) (move t.state r)
   fits_by (Shared c) w m = made_fits t.pass q c r t.state m (fits_going t i g) asking (ap wish_of (sym is) ∙ w) (step_other a c step w)
   fits_by Alone w m =
-      let still : Fits (pass_registered t.pass) (move t.state reply.Done) = fits_alone (pass_registered t.pass) t.state (fits_going t i g) asking (ap wish_of (sym is) ∙ w) in
-      subst (λ (x : PassView). Fits (pass_registered x) (move t.state r)) (sym m.1) (subst (λ (x : Reply). Fits (pass_registered t.pass) (move t.state x)) (sym m.0) still)
+      let still : Fits (pass_registered t.pass) (move t.state reply.Done) =
+      fits_alone (pass_registered t.pass) t.state (fits_going t i g) asking (ap wish_of (sym is) ∙ w) in
+      subst (λ (x : PassView). Fits (pass_registered x) (move t.state r)) (sym m.1)
+      (subst (λ (x : Reply). Fits (pass_registered t.pass) (move t.state x)) (sym m.0) still)
   fits_by Nothing w m = absurd m
 
   here_by : (w : Wish) → Replies t.pass w r q → q.registry ≡ t.home
@@ -249,7 +258,8 @@ module _ (t : TaskView) (a : Ask) (q : PassView) (r : Reply) (i : IsTask t) (g :
       fits = inl (ap (λ (x : Fiber). way_of x.running) e);
     }
 
-    lost_failed_by : (w : Wish) → wish_of a ≡ w → Replies t.pass w r q → (new : Fiber) → new ≡ lost t.state → Failed t run.NoMemory (record { home = t.home; pass = q; state = new; moves = t.moves })
+    lost_failed_by : (w : Wish) → wish_of a ≡ w → Replies t.pass w r q → (new : Fiber) → new ≡ lost t.state →
+        Failed t run.NoMemory (record { home = t.home; pass = q; state = new; moves = t.moves })
     lost_failed_by (Shared c) w m new e = (λ j. record { home = t.home; pass = q; state = e j; moves = t.moves }, inr (c, r, ap wish_of (sym is) ∙ w, m.call))
     lost_failed_by Alone w m new e = (λ j. record { home = t.home; pass = q; state = e j; moves = t.moves }, inl m.1)
     lost_failed_by Nothing w m new e = absurd m
@@ -263,14 +273,17 @@ module _ (t : TaskView) (a : Ask) (q : PassView) (r : Reply) (i : IsTask t) (g :
         let f : Fits (pass_registered q) new = subst (Fits (pass_registered q)) (sym e) (fits_by (wish_of a) refl replied) in
         record { here = here_by (wish_of a) replied; pass = lawful; number = f.number; fits = inr f }
 
-    went_by : (w : Wish) → wish_of a ≡ w → Replies t.pass w r q → (c : TaskView) → c.home ≡ t.home → c.pass ≡ q → c.state ≡ move t.state r → c.moves + 1 ≡ t.moves → Went t (r ∷ []) c
+    went_by : (w : Wish) → wish_of a ≡ w → Replies t.pass w r q → (c : TaskView) → c.home ≡ t.home → c.pass ≡ q → c.state ≡ move t.state r →
+        c.moves + 1 ≡ t.moves → Went t (r ∷ []) c
     went_by w e m c home pass state left = go w e m
       where
         k2 : Answers t.state.number (ask_of t.state) r
         k2 = subst (λ (x : Ask). Answers t.state.number x r) is (answers_by w e m)
 
         go : (w : Wish) → wish_of a ≡ w → Replies t.pass w r q → Went t (r ∷ []) c
-        go (Shared x) e m = went_call t c r home state left k2 x (ap (λ (p : PassView). p.number) (pass ∙ m.same)) (ap (λ (p : PassView). p.fibers) (pass ∙ m.same)) (subst (λ (p : PassView). Rattle.cell_registry.specs.Passes.Calls t.pass x r p) (sym pass) m.call) i.number (ap wish_of (sym is) ∙ e)
+        go (Shared x) e m = went_call t c r home state left k2 x (ap (λ (p : PassView). p.number) (pass ∙ m.same))
+            (ap (λ (p : PassView). p.fibers) (pass ∙ m.same))
+            (subst (λ (p : PassView). Rattle.cell_registry.specs.Passes.Calls t.pass x r p) (sym pass) m.call) i.number (ap wish_of (sym is) ∙ e)
         go Alone e m = went_alone t c r home state left k2 (pass ∙ m.1) (ap wish_of (sym is) ∙ e)
         go Nothing e m = absurd m
 
@@ -280,18 +293,23 @@ module _ (t : TaskView) (a : Ask) (q : PassView) (r : Reply) (i : IsTask t) (g :
     pub follows : (m : Moved) → m ≡ moved t.state r → Follows a m
     follows m e = subst (Follows a) (sym e) (follows_by _ a (kind_of t.state r) step kind_fits)
 
-    pub made : (new : Fiber) (m : Moved) (s : Step) → 0 < t.moves → new ≡ move t.state r → m ≡ moved t.state r → event_at a s ≡ event_in t.state.number a r m → Tells a s → Made t a s (record { home = t.home; pass = q; state = new; moves = t.moves - 1 })
+    pub made : (new : Fiber) (m : Moved) (s : Step) → 0 < t.moves → new ≡ move t.state r → m ≡ moved t.state r →
+        event_at a s ≡ event_in t.state.number a r m → Tells a s → Made t a s (record { home = t.home; pass = q; state = new; moves = t.moves - 1 })
     made new m s some e tells noted can = record {
       reply = r;
       went = went_by (wish_of a) refl replied _ refl refl e (omega arith);
       event = noted ∙ event_is m t.state a r is tells;
       tells = can;
       way = ap (λ (x : Fiber). way_of x.running) e ∙ (k.leads r replied_answers).way;
-      goes = λ quiet. subst (λ (x : Fiber). IsGoing (way_of x.running)) (sym e) (subst IsGoing (sym (k.leads r replied_answers).way) (still_going a (kind_of t.state r) (way_of t.state.running) t.state.number r g kind_fits (ap (λ x. told_by t.state.number x r (kind_of t.state r)) is ∙ quiet)));
+      goes = λ quiet. subst (λ (x : Fiber). IsGoing (way_of x.running)) (sym e)
+          (subst IsGoing (sym (k.leads r replied_answers).way)
+          (still_going a (kind_of t.state r) (way_of t.state.running) t.state.number r g kind_fits
+          (ap (λ x. told_by t.state.number x r (kind_of t.state r)) is ∙ quiet)));
     }
 
 -- ---- the goals of a step
-module _ (t now : TaskView) (view : t ≡ now) (i : IsTask t) (a : Ask) (asks : a ≡ ask_of now.state) (known : IsAsked now.state a) (goes : IsGoing (way_of now.state.running)) (other : a ≢ ask.Start) where
+module _ (t now : TaskView) (view : t ≡ now) (i : IsTask t) (a : Ask) (asks : a ≡ ask_of now.state) (known : IsAsked now.state a)
+    (goes : IsGoing (way_of now.state.running)) (other : a ≢ ask.Start) where
   going : IsGoing (way_of t.state.running)
   going = subst (λ (x : TaskView). IsGoing (way_of x.state.running)) (sym view) goes
 
@@ -314,7 +332,8 @@ module _ (t now : TaskView) (view : t ≡ now) (i : IsTask t) (a : Ask) (asks : 
     pub here_refused : (e : CellError) → Refuses t.pass (wish_of a) e q → IsTask record t { pass = q }
     here_refused e r = refused_task t q i lawful (wish_of a) e r
 
-    pub here_failed : (e : CellError) (n : ℕ) (f : _) → f ≡ fault_of n e → n ≡ t.state.number → Refuses t.pass (wish_of a) e q → Failed now f (record t { pass = q })
+    pub here_failed : (e : CellError) (n : ℕ) (f : _) → f ≡ fault_of n e → n ≡ t.state.number → Refuses t.pass (wish_of a) e q →
+        Failed now f (record t { pass = q })
     here_failed e n f told same r = subst (λ (x : TaskView). Failed x f (record t { pass = q })) view
         (subst (λ x. Failed t x (record t { pass = q })) (sym told) (refused_failed t q i lawful (wish_of a) e n (ap wish_of (sym is)) same r))
 
@@ -326,7 +345,8 @@ module _ (t now : TaskView) (view : t ≡ now) (i : IsTask t) (a : Ask) (asks : 
       here_lost = lost_task t a q r i going asked starts_none is lawful replied
 
       pub here_no_memory : (new : Fiber) → new ≡ lost t.state → Failed now run.NoMemory (record { home = t.home; pass = q; state = new; moves = t.moves })
-      here_no_memory new e = subst (λ (x : TaskView). Failed x run.NoMemory (record { home = t.home; pass = q; state = new; moves = t.moves })) view (lost_failed t a q r i going asked starts_none is lawful replied new e)
+      here_no_memory new e = subst (λ (x : TaskView). Failed x run.NoMemory (record { home = t.home; pass = q; state = new; moves = t.moves })) view
+          (lost_failed t a q r i going asked starts_none is lawful replied new e)
 
       pub here_follows : (m : Moved) → m ≡ moved t.state r → Follows a m
       here_follows = follows t a q r i going asked starts_none is lawful replied
@@ -334,6 +354,9 @@ module _ (t now : TaskView) (view : t ≡ now) (i : IsTask t) (a : Ask) (asks : 
       pub here_moved : (new : Fiber) (n : ℕ) → new ≡ move t.state r → IsTask record { home = t.home; pass = q; state = new; moves = n }
       here_moved = moved_task t a q r i going asked starts_none is lawful replied
 
-      pub here_made : (new : Fiber) (m : Moved) (s : Step) (n : ℕ) → 0 < now.moves → new ≡ move t.state r → m ≡ moved t.state r → n ≡ t.state.number → event_at a s ≡ event_in n a r m → Tells a s → Made now a s (record { home = t.home; pass = q; state = new; moves = t.moves - 1 })
-      here_made new m s n some e tells same noted can = subst (λ (x : TaskView). Made x a s (record { home = t.home; pass = q; state = new; moves = t.moves - 1 })) view
-          (made t a q r i going asked starts_none is lawful replied new m s (subst (λ (x : TaskView). 0 < x.moves) (sym view) some) e tells (noted ∙ ap (λ k. event_in k a r m) same) can)
+      pub here_made : (new : Fiber) (m : Moved) (s : Step) (n : ℕ) → 0 < now.moves → new ≡ move t.state r → m ≡ moved t.state r →
+          n ≡ t.state.number → event_at a s ≡ event_in n a r m → Tells a s → Made now a s (record { home = t.home; pass = q; state = new; moves = t.moves - 1 })
+      here_made new m s n some e tells same noted can =
+          subst (λ (x : TaskView). Made x a s (record { home = t.home; pass = q; state = new; moves = t.moves - 1 })) view
+          (made t a q r i going asked starts_none is lawful replied new m s (subst (λ (x : TaskView). 0 < x.moves) (sym view) some) e tells
+          (noted ∙ ap (λ k. event_in k a r m) same) can)

@@ -27,7 +27,16 @@ over_turned t budget a o h e = record { replies = []; went = went_nowhere t; mos
 pub broken_stopped : (t : TaskView) (budget : ℕ) (a : Ask) → IsTask t → 1 < budget → Asked t.state a → a ≡ ask.Broken → Stopped t budget run.NoMemory t
 broken_stopped t budget a i some h e =
     let same = broken_lost t.state a h e in
-    record { replies = []; before = t; went = went_nowhere t; quiet = tt; most = omega arith; left = inr (subst (Asked t.state) e h); lawful = i; failed = (λ j. record { home = t.home; pass = t.pass; state = same j; moves = t.moves }, inl refl) }
+    record {
+      replies = [];
+      before = t;
+      went = went_nowhere t;
+      quiet = tt;
+      most = omega arith;
+      left = inr (subst (Asked t.state) e h);
+      lawful = i;
+      failed = (λ j. record { home = t.home; pass = t.pass; state = same j; moves = t.moves }, inl refl);
+    }
 
 module _ (t now : TaskView) (view : t ≡ now) (budget : ℕ) (a : Ask) where
   pub over_here : (o : Outcome) → Asked t.state a → a ≡ ask.Over o → Turned now budget (turn.Ended o) now
@@ -62,13 +71,31 @@ pub loop_asked : (t now : TaskView) (a : Ask) → t ≡ now → IsAsked t.state 
 loop_asked t now a view k = subst (λ (x : TaskView). IsAsked x.state a) view k
 
 pub loop_out : (old now : TaskView) (n budget : ℕ) → Loops old n now → n < budget → now.moves ≡ 0 → Turned old budget turn.OutOfMoves now
-loop_out old now n budget l less none = record { replies = l.replies; went = l.went; most = (let m = l.many in omega arith); answered = (l.quiet, (let m = l.many in omega arith), none, outcome_going now.state l.going) }
+loop_out old now n budget l less none =
+    record {
+      replies = l.replies;
+      went = l.went;
+      most = (let m = l.many in omega arith);
+      answered =
+          (l.quiet, (let m = l.many in omega arith), none, outcome_going now.state l.going);
+    }
 
 pub loop_ends : (old now : TaskView) (budget : ℕ) → Loops old budget now → Turned old budget turn.Cedes now
 loop_ends old now budget l = record { replies = l.replies; went = l.went; most = (let m = l.many in omega arith); answered = inl (l.quiet, l.many) }
 
-pub loop_fails : (old mid new : TaskView) (n budget : ℕ) (e : RunError) → Loops old n mid → n < budget → 0 < mid.moves → IsTask mid → Failed mid e new → Stopped old budget e new
-loop_fails old mid new n budget e l less some i f = record { replies = l.replies; before = mid; went = l.went; quiet = l.quiet; most = (let m = l.many in omega arith); left = inl some; lawful = i; failed = f }
+pub loop_fails : (old mid new : TaskView) (n budget : ℕ) (e : RunError) → Loops old n mid → n < budget → 0 < mid.moves → IsTask mid →
+    Failed mid e new → Stopped old budget e new
+loop_fails old mid new n budget e l less some i f =
+    record {
+      replies = l.replies;
+      before = mid;
+      went = l.went;
+      quiet = l.quiet;
+      most = (let m = l.many in omega arith);
+      left = inl some;
+      lawful = i;
+      failed = f;
+    }
 
 -- ---- the last move of a turn
 -- a fiber ends by asking so
@@ -103,7 +130,8 @@ module _ (old mid new : TaskView) (n budget : ℕ) (l : Loops old n mid) (less :
       event = subst (λ (s : Fiber). event_of s r ≡ Some e) l.went.state (event ∙ is);
     }
 
-  answers : (r : Reply) (t : Turn) → event_of mid.state r ≡ event_told t → IsLast t → ((o : Outcome) → event_told t ≡ Some (Ends o) → outcome_of new.state ≡ Some o) → Answered old (l.replies ++ r ∷ []) budget new t
+  answers : (r : Reply) (t : Turn) → event_of mid.state r ≡ event_told t → IsLast t →
+      ((o : Outcome) → event_told t ≡ Some (Ends o) → outcome_of new.state ≡ Some o) → Answered old (l.replies ++ r ∷ []) budget new t
   answers r (turn.Ended o) e last ends = (ends o refl, inr (tells_last r (turn.Ended o) e (Ends o) refl))
   answers r (turn.Waits w) e last ends = tells_last r (turn.Waits w) e (Waits_for w) refl
   answers r turn.Cedes e last ends = inr (tells_last r turn.Cedes e Yields refl)
@@ -117,7 +145,8 @@ module _ (old mid new : TaskView) (n budget : ℕ) (l : Loops old n mid) (less :
     replies = l.replies ++ m.reply ∷ [];
     went = went_on old mid new l.replies (m.reply ∷ []) l.went m.went;
     most = within m.reply;
-    answered = answers m.reply t (sym m.event ∙ sym told) last (λ o is. outcome_way new.state o (m.way ∙ ap (λ x. way_after x (way_of mid.state.running)) (ends_at a s o (sym told ∙ is))));
+    answered = answers m.reply t (sym m.event ∙ sym told) last
+        (λ o is. outcome_way new.state o (m.way ∙ ap (λ x. way_after x (way_of mid.state.running)) (ends_at a s o (sym told ∙ is))));
   }
 
   pub loop_bears : (c : TaskView) → Bears mid new c → Turned old budget (turn.Started c) new

@@ -46,7 +46,8 @@ impl<'a> Model for FiberTask<'a> {
 
     ghost view = { λ t. record { home = t.registry.now; pass = t.pass; state = t.config; moves = t.moves } };
 
-    ghost invariant = { λ t. IsTask record { home = t.registry.now; pass = t.pass; state = t.config; moves = t.moves } };
+    ghost invariant = { λ t.
+        IsTask record { home = t.registry.now; pass = t.pass; state = t.config; moves = t.moves } };
 }
 
 impl<'a> FiberTask<'a> {

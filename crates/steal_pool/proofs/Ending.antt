@@ -37,7 +37,8 @@ none_in_order all fibers e = record {
 }
 
 -- the next one is taken from the end of what is left
-pub next_in_order : (all now rest : List Fiber) (s : Fiber) (n : ℕ) (fibers later : List Fiber) → ((i : ℕ) (t : Fiber) → slice_get now i ≡ Some t → slice_get all i ≡ Some t)
+pub next_in_order : (all now rest : List Fiber) (s : Fiber) (n : ℕ) (fibers later : List Fiber) →
+    ((i : ℕ) (t : Fiber) → slice_get now i ≡ Some t → slice_get all i ≡ Some t)
     → now ≡ rest ++ s ∷ [] → AreInOrder all n fibers → s.number ≡ n → (IsBroken s → ⊥) → later ≡ fibers ++ s ∷ [] → AreInOrder all (n + 1) later
 next_in_order all now rest s n fibers later still is order number whole later_is = record {
   many = ap length later_is ∙ length-append fibers (s ∷ []) ∙ ap (λ m. m + 1) order.many;
@@ -55,11 +56,14 @@ next_in_order all now rest s n fibers later still is order number whole later_is
 }
 
 -- and what is left then is of these states, too
-pub still_left : (all now rest : List Fiber) (s : Fiber) → ((i : ℕ) (t : Fiber) → slice_get now i ≡ Some t → slice_get all i ≡ Some t) → now ≡ rest ++ s ∷ [] → (i : ℕ) (t : Fiber) → slice_get rest i ≡ Some t → slice_get all i ≡ Some t
+pub still_left : (all now rest : List Fiber) (s : Fiber) → ((i : ℕ) (t : Fiber) → slice_get now i ≡ Some t → slice_get all i ≡ Some t) →
+    now ≡ rest ++ s ∷ [] → (i : ℕ) (t : Fiber) → slice_get rest i ≡ Some t → slice_get all i ≡ Some t
 still_left all now rest s still is i t e = still i t (subst (λ (l : List Fiber). slice_get l i ≡ Some t) (sym is) (get_early rest (s ∷ []) i t e))
 
 -- ---- the end of a run
-module _ (r : RegistryView) (code : Tree) (met : PassView) (configs fibers : List Fiber) (born : ℕ) (plain : PlainView) (g : Gathered r code met configs) (l : IsLeftPlain r.limits met.fibers met.seen plain) (o : AreInOrder configs born fibers) (all : born ≡ plain.state.next_fiber) where
+module _ (r : RegistryView) (code : Tree) (met : PassView) (configs fibers : List Fiber) (born : ℕ) (plain : PlainView)
+    (g : Gathered r code met configs) (l : IsLeftPlain r.limits met.fibers met.seen plain) (o : AreInOrder configs born fibers)
+    (all : born ≡ plain.state.next_fiber) where
   -- the whole history leaves each fiber where it stands
   each : (f : ℕ) (s : Fiber) → slice_get fibers f ≡ Some s → Stands code l.history f s × Fits (cell_registered (left r.limits l.history) f) s
   each f s e =
@@ -69,7 +73,8 @@ module _ (r : RegistryView) (code : Tree) (met : PassView) (configs fibers : Lis
       let limits : met.registry.limits ≡ r.limits = ap (λ (x : RegistryView). x.limits) g.home in
       subst (λ n. Stands code l.history n s × Fits (cell_registered (left r.limits l.history) n) s) i.0.number (
         stands-longer code s.number met.seen l.history s l.begins (l.own s.number m.own) m.stands,
-        fits_longer r.limits met.seen l.history s.number s l.begins (l.own s.number m.own) (subst (λ (k : Limits). Fits (cell_registered (left k met.seen) s.number) s) limits fits),
+        fits_longer r.limits met.seen l.history s.number s l.begins (l.own s.number m.own)
+            (subst (λ (k : Limits). Fits (cell_registered (left k met.seen) s.number) s) limits fits),
       )
 
   many : length fibers ≡ (left r.limits l.history).next_fiber
@@ -77,11 +82,13 @@ module _ (r : RegistryView) (code : Tree) (met : PassView) (configs fibers : Lis
 
   -- so entries can follow
   pub gathered_fits : AllFit (world_of fibers plain.state)
-  gathered_fits = subst (λ (v : PlainView). AllFit (world_of fibers v.state)) (sym l.plain) (all_gathered r.limits l.history fibers l.legal many (λ f s e. (each f s e).1))
+  gathered_fits = subst (λ (v : PlainView). AllFit (world_of fibers v.state)) (sym l.plain)
+      (all_gathered r.limits l.history fibers l.legal many (λ f s e. (each f s e).1))
 
   -- and where they lead is the end of a run
   pub end_of : (states : List Fiber) (cells : Cells) (rests : List ℕ) (it : RunEnd) → GoesOn plain.limits (world_of fibers plain.state) (world_of states cells)
-      → it.report ≡ record { fibers = map fiber_report states } → (it.stopped ≡ None → IsFinal (world_of states cells)) → ((f : ℕ) → it.stopped ≡ Some f → IsStopped states rests f) → IsEnd code r.limits it
+      → it.report ≡ record { fibers = map fiber_report states } → (it.stopped ≡ None → IsFinal (world_of states cells)) →
+      ((f : ℕ) → it.stopped ≡ Some f → IsStopped states rests f) → IsEnd code r.limits it
   end_of states cells rests it goes is final stopped =
       let from = subst (λ (v : PlainView). GoesOn v.limits (world_of fibers v.state) (world_of states cells)) l.plain goes in
       let leads = leads_on code r.limits l.history fibers (world_of states cells) l.legal many (λ f s e. (each f s e).0) from in record {
@@ -89,5 +96,9 @@ module _ (r : RegistryView) (code : Tree) (met : PassView) (configs fibers : Lis
         complete = λ e. subst (λ (x : Report). IsFinalReport code r.limits x) (sym is) (final_of code r.limits (world_of states cells) leads (final e));
         stopped = λ f e.
             let s = stopped f e in
-            subst (λ (x : Report). TellsUnended x f) (sym is) record { line = fiber_report s.fiber; here = reported_at states f s.fiber s.here; unended = s.unended };
+            subst (λ (x : Report). TellsUnended x f) (sym is) record {
+              line = fiber_report s.fiber;
+              here = reported_at states f s.fiber s.here;
+              unended = s.unended;
+            };
       }

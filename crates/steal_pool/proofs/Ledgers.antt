@@ -1,5 +1,7 @@
 -- Each move keeps the ledger.
-use Rattle.std.proofs.Common.{◌≡◌, ◌≢◌, ◌==◌, if◌then◌else◌, ◌≤◌, ◌<◌, ℕ, zero, suc, true, false, Bool, List, [], ◌∷◌, ◌++◌, length, set, sym, refl, ap, ◌∙◌, subst, ⊎_elim, append_assoc, append-nil, inl, inr, ◌⊎◌, arith}
+use Rattle.std.proofs.Common.{◌≡◌, ◌≢◌, ◌==◌, if◌then◌else◌, ◌≤◌, ◌<◌, ℕ, zero, suc, true, false, Bool, List}
+use Rattle.std.proofs.Common.{[], ◌∷◌, ◌++◌, length, set, sym, refl, ap, ◌∙◌, subst, ⊎_elim, append_assoc}
+use Rattle.std.proofs.Common.{append-nil, inl, inr, ◌⊎◌, arith}
 use Rattle.std.proofs.lemmas.Bool.Decides.{nat_tests}
 use Rattle.std.proofs.Math.ListN.{length-set, length-append}
 use mathlib.Core.Option.{some, some-ne-none, some-injective}
@@ -26,7 +28,8 @@ numbers-by p (x ∷ xs) = ap (λ l. x ∷ l) (numbers-by p xs)
 through-append : (p : ℕ) (es fs : List (ℕ × ℕ)) → through p (es ++ fs) ≡ through p es ++ through p fs
 through-append p [] fs = refl
 through-append p (e ∷ es) fs =
-    let P : Bool → Type 0 = λ b. (if b then e.1 ∷ through p (es ++ fs) else through p (es ++ fs)) ≡ (if b then e.1 ∷ through p es else through p es) ++ through p fs in
+    let P : Bool → Type 0 =
+    λ b. (if b then e.1 ∷ through p (es ++ fs) else through p (es ++ fs)) ≡ (if b then e.1 ∷ through p es else through p es) ++ through p fs in
     elim (e.0 == p) as P [ true ↦ ap (λ l. e.1 ∷ l) (through-append p es fs) | false ↦ through-append p es fs ]
 
 through-by : (p : ℕ) (xs : List ℕ) → through p (by p xs) ≡ xs
@@ -50,7 +53,14 @@ module _ {A : Type 0} where
   at_end (x ∷ xs) a b (suc j) e = ⊎_elim (λ h. inl h) (λ h. inr (ap suc h.0, h.1)) (at_end xs a b j e)
 
 pub begins : KeepsLedger [] (traffic [] [] ∷ [])
-begins = ([], [], refl, (λ p v e. ⊎_elim (λ h. absurd (some-ne-none v (sym h))) (λ h. subst (λ (u : Traffic). KnowsOwn [] [] p u) h.1 (refl, refl)) (at_end [] (traffic [] []) v p e)), λ p far. (refl, refl))
+begins = (
+  [],
+  [],
+  refl,
+  (λ p v e. ⊎_elim (λ h. absurd (some-ne-none v (sym h))) (λ h. subst (λ (u : Traffic). KnowsOwn [] [] p u) h.1 (refl, refl))
+      (at_end [] (traffic [] []) v p e)),
+  λ p far. (refl, refl),
+)
 
 put_on : (items xs : List ℕ) (ends : List Traffic) (port : ℕ) (v : Traffic) → KeepsLedger items ends → get_elem? ends port ≡ some v
     → KeepsLedger (items ++ xs) (set ends port (traffic (v.pushed ++ xs) v.taken))
@@ -60,8 +70,13 @@ put_on items xs ends port v h at =
     let into' : List (ℕ × ℕ) = into ++ by port xs in
     let w : Traffic = traffic (v.pushed ++ xs) v.taken in
     let within = there ends port v at in
-    let mine : KnowsOwn into' out port w = (ap (λ l. l ++ xs) (h.3 port v at).0 ∙ (ap (λ l. through port into ++ l) (sym (through-by port xs)) ∙ sym (through-append port into (by port xs))), (h.3 port v at).1) in
-    let others : (q : ℕ) → q ≢ port → through q into' ≡ through q into = λ q apart. through-append q into (by port xs) ∙ (ap (λ l. through q into ++ l) (through-by_else port q xs apart) ∙ append-nil (through q into)) in (
+    let mine : KnowsOwn into' out port w = (
+      ap (λ l. l ++ xs) (h.3 port v at).0 ∙
+          (ap (λ l. through port into ++ l) (sym (through-by port xs)) ∙ sym (through-append port into (by port xs))),
+      (h.3 port v at).1,
+    ) in
+    let others : (q : ℕ) → q ≢ port → through q into' ≡ through q into = λ q apart. through-append q into (by port xs) ∙
+    (ap (λ l. through q into ++ l) (through-by_else port q xs apart) ∙ append-nil (through q into)) in (
       into',
       out,
       numbers-append into (by port xs) ∙ (ap (λ l. numbers into ++ l) (numbers-by port xs) ∙ (ap (λ l. l ++ xs) h.2 ∙ append_assoc (numbers out) items xs)),
@@ -79,11 +94,17 @@ take_off items xs ends port v h at =
     let out' : List (ℕ × ℕ) = out ++ by port xs in
     let w : Traffic = traffic v.pushed (v.taken ++ xs) in
     let within = there ends port v at in
-    let mine : KnowsOwn into out' port w = ((h.3 port v at).0, ap (λ l. l ++ xs) (h.3 port v at).1 ∙ (ap (λ l. through port out ++ l) (sym (through-by port xs)) ∙ sym (through-append port out (by port xs)))) in
-    let others : (q : ℕ) → q ≢ port → through q out' ≡ through q out = λ q apart. through-append q out (by port xs) ∙ (ap (λ l. through q out ++ l) (through-by_else port q xs apart) ∙ append-nil (through q out)) in (
+    let mine : KnowsOwn into out' port w = (
+      (h.3 port v at).0,
+      ap (λ l. l ++ xs) (h.3 port v at).1 ∙
+          (ap (λ l. through port out ++ l) (sym (through-by port xs)) ∙ sym (through-append port out (by port xs))),
+    ) in
+    let others : (q : ℕ) → q ≢ port → through q out' ≡ through q out = λ q apart. through-append q out (by port xs) ∙
+    (ap (λ l. through q out ++ l) (through-by_else port q xs apart) ∙ append-nil (through q out)) in (
       into,
       out',
-      h.2 ∙ (sym (append_assoc (numbers out) xs items) ∙ ap (λ l. l ++ items) (sym (numbers-append out (by port xs) ∙ ap (λ l. numbers out ++ l) (numbers-by port xs)))),
+      h.2 ∙ (sym (append_assoc (numbers out) xs items) ∙
+          ap (λ l. l ++ items) (sym (numbers-append out (by port xs) ∙ ap (λ l. numbers out ++ l) (numbers-by port xs)))),
       (λ q u e. ⊎_elim (λ (is : (q ≡ port) × (w ≡ u)). subst (λ (y : ℕ × Traffic). KnowsOwn into out' y.0 y.1) (λ i. (sym is.0 i, is.1 i)) mine)
           (λ (is : (q ≢ port) × (get_elem? ends q ≡ some u)). ((h.3 q u is.1).0, (h.3 q u is.1).1 ∙ sym (others q is.0))) (at_set ends port q w u e)),
       (λ q far. let apart : q ≢ port = (λ same. omega (arith, length-set ends port w)) in
@@ -115,7 +136,8 @@ admits items ends h = (
   h.1,
   h.2,
   (λ q u e. ⊎_elim (λ old. h.3 q u old)
-      (λ (is : (q ≡ length ends) × (traffic [] [] ≡ u)). let none = h.4 q (omega arith) in subst (λ (y : Traffic). KnowsOwn h.0 h.1 q y) is.1 (sym none.0, sym none.1))
+      (λ (is : (q ≡ length ends) × (traffic [] [] ≡ u)). let none = h.4 q (omega arith) in
+      subst (λ (y : Traffic). KnowsOwn h.0 h.1 q y) is.1 (sym none.0, sym none.1))
       (at_end ends (traffic [] []) u q e)),
   (λ q far. h.4 q (omega (arith, length-append ends (traffic [] [] ∷ [])))),
 )

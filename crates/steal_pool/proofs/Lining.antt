@@ -29,7 +29,8 @@ report_of (x ∷ xs) (suc f) line e = report_of xs f line e
 pub no_lines : (configs : List Fiber) → AreLines configs 0 []
 no_lines configs = record { finals = []; lines_are = refl; many = refl; each = λ f s e. absurd (cc) }
 
-pub more_lines : (configs : List Fiber) (n : ℕ) (lines : List FiberReport) (s : Fiber) → AreLines configs n lines → IsIn s configs n → AreLines configs (n + 1) (lines ++ fiber_report s ∷ [])
+pub more_lines : (configs : List Fiber) (n : ℕ) (lines : List FiberReport) (s : Fiber) → AreLines configs n lines → IsIn s configs n →
+    AreLines configs (n + 1) (lines ++ fiber_report s ∷ [])
 more_lines configs n lines s a i = record {
   finals = a.finals ++ s ∷ [];
   lines_are = ap (λ (l : List FiberReport). l ++ fiber_report s ∷ []) a.lines_are ∙ sym (map-append fiber_report a.finals (s ∷ []));

@@ -46,13 +46,15 @@ own_at code t r i k = record {
 }
 
 -- and still does where the pass has seen more, without a call of the fiber
-met_longer : (code : Tree) (p q : PassView) (s : Fiber) → q.registry ≡ p.registry → Has q.fibers s.number → IsPrefix p.seen q.seen → calls_by s.number q.seen ≡ calls_by s.number p.seen → IsMet code p s → IsMet code q s
+met_longer : (code : Tree) (p q : PassView) (s : Fiber) → q.registry ≡ p.registry → Has q.fibers s.number → IsPrefix p.seen q.seen →
+    calls_by s.number q.seen ≡ calls_by s.number p.seen → IsMet code p s → IsMet code q s
 met_longer code p q s home own seen calls m = record {
   own = own;
   stands = stands-longer code s.number p.seen q.seen s seen calls m.stands;
   fits = elim m.fits [
     | inl b ↦ inl b
-    | inr f ↦ inr (subst (λ (x : RegistryView). Fits (cell_registered (left x.limits q.seen) s.number) s) (sym home) (fits_longer p.registry.limits p.seen q.seen s.number s seen calls f))
+    | inr f ↦ inr (subst (λ (x : RegistryView). Fits (cell_registered (left x.limits q.seen) s.number) s) (sym home)
+        (fits_longer p.registry.limits p.seen q.seen s.number s seen calls f))
   ];
 }
 
@@ -63,7 +65,8 @@ gathered-one r code t i k = record { home = k.here ∙ i.home; pass = k.pass; at
     one zero s e = subst (IsMet code t.pass) (same_Some t.state s e) (own_at code t r i k)
     one (suc j) s e = absurd (cc)
 
-gathered-more : (r : RegistryView) (code : Tree) (met : PassView) (configs : List Fiber) (t : TaskView) (q : PassView) → Gathered r code met configs → IsTaskOf r code t → IsTask t → Meets met t.pass q → IsPass q → Gathered r code q (configs ++ t.state ∷ [])
+gathered-more : (r : RegistryView) (code : Tree) (met : PassView) (configs : List Fiber) (t : TaskView) (q : PassView) →
+    Gathered r code met configs → IsTaskOf r code t → IsTask t → Meets met t.pass q → IsPass q → Gathered r code q (configs ++ t.state ∷ [])
 gathered-more r code met configs t q g i k m lawful =
     let home : q.registry ≡ met.registry = ap (λ (x : PassView). x.registry) m.same in
     let fibers : q.fibers ≡ met.fibers ++ t.pass.fibers = ap (λ (x : PassView). x.fibers) m.same in record {
@@ -72,17 +75,20 @@ gathered-more r code met configs t q g i k m lawful =
       at = λ j s e. elim (last_or configs t.state j s e) [
         | inl h ↦
             let old = g.at j s h in
-            met_longer code met q s home (subst (λ (l : List ℕ). Has l s.number) (sym fibers) (has-left met.fibers t.pass.fibers s.number old.own)) m.first (m.own s.number old.own) old
+            met_longer code met q s home (subst (λ (l : List ℕ). Has l s.number) (sym fibers) (has-left met.fibers t.pass.fibers s.number old.own))
+            m.first (m.own s.number old.own) old
         | inr h ↦
             let mine = own_at code t r i k in
             subst (IsMet code q) (sym h.1)
-            (met_longer code t.pass q t.state (home ∙ g.home ∙ sym (k.here ∙ i.home)) (subst (λ (l : List ℕ). Has l t.state.number) (sym fibers) (has-right met.fibers t.pass.fibers t.state.number mine.own))
+            (met_longer code t.pass q t.state (home ∙ g.home ∙ sym (k.here ∙ i.home))
+            (subst (λ (l : List ℕ). Has l t.state.number) (sym fibers) (has-right met.fibers t.pass.fibers t.state.number mine.own))
             m.second (m.other t.state.number mine.own) mine)
       ];
     }
 
 -- what the states give is the report of some schedule
-pub gathered_report : (r : RegistryView) (code : Tree) (met : PassView) (configs : List Fiber) (n : ℕ) (q : PassView) (lines : List FiberReport) → Gathered r code met configs → Counts met n q → AreLines configs n lines → IsOfSomeSchedule code r.limits record { fibers = lines }
+pub gathered_report : (r : RegistryView) (code : Tree) (met : PassView) (configs : List Fiber) (n : ℕ) (q : PassView) (lines : List FiberReport) →
+    Gathered r code met configs → Counts met n q → AreLines configs n lines → IsOfSomeSchedule code r.limits record { fibers = lines }
 unfolding core
 gathered_report r code met configs n q lines g c a =
     let limits : met.registry.limits ≡ r.limits = ap (λ (x : RegistryView). x.limits) g.home in
@@ -96,7 +102,8 @@ gathered_report r code met configs n q lines g c a =
     (some.0, ap reported some.1 ∙ ap (λ (l : List FiberReport). Ok record { fibers = l }) (sym a.lines_are))
 
 -- ---- the last task, and the rest
-front_at : {A : Type 0} (xs : List A) (a : A) (P : A → Type 0) → ((k : ℕ) (d : A) → k < length (xs ++ a ∷ []) → P (get_or (xs ++ a ∷ []) k d)) → (k : ℕ) (d : A) → k < length xs → P (get_or xs k d)
+front_at : {A : Type 0} (xs : List A) (a : A) (P : A → Type 0) → ((k : ℕ) (d : A) → k < length (xs ++ a ∷ []) → P (get_or (xs ++ a ∷ []) k d)) →
+    (k : ℕ) (d : A) → k < length xs → P (get_or xs k d)
 front_at [] a P h k d l = absurd (omega arith)
 front_at (x ∷ xs) a P h zero d l = h 0 d (omega arith)
 front_at (x ∷ xs) a P h (suc k) d l = front_at xs a P (λ j e m. h (suc j) e (omega arith)) k d (omega arith)
@@ -134,7 +141,8 @@ module _ (r : RegistryView) (now rest : List TaskView) (t : TaskView) (home : Al
         (subst (λ (l : List Fiber). Gathered r code pass l) same (subst (λ (x : PassView). Gathered r code x (t.state ∷ [])) (sym pass_is) one), both.1)
 
     -- one task more
-    pub meets_more : (all : List TaskView) (met q : PassView) (configs later : List Fiber) → Meets_all r all met configs now → Meets met pass q → IsPass q → later ≡ configs ++ state ∷ [] → Meets_all r all q later rest
+    pub meets_more : (all : List TaskView) (met q : PassView) (configs later : List Fiber) → Meets_all r all met configs now → Meets met pass q →
+        IsPass q → later ≡ configs ++ state ∷ [] → Meets_all r all q later rest
     meets_more all met q configs later g met_is lawful later_is = λ code each.
         let before = g code each in
         let both = parts (IsTaskOf r code) now rest t before.1 is in

@@ -10,7 +10,8 @@ use Rattle.fiber_poll.specs.Turning.{ChildIsOf, StaysOf}
 use Rattle.wait_bay.specs.Names.{Named, IsNamed}
 use Rattle.steal_pool.specs.Runs.{ChildIsNamed}
 
-turn_named : (named : Option Named) (a b : TaskView) (t : Turn) → ((home : RegistryView) (code : Tree) → IsTaskOf home code a → StaysOf home code (Ok t) b) → IsNamed named a → IsNamed named b
+turn_named : (named : Option Named) (a b : TaskView) (t : Turn) →
+    ((home : RegistryView) (code : Tree) → IsTaskOf home code a → StaysOf home code (Ok t) b) → IsNamed named a → IsNamed named b
 turn_named None a b t stays is = tt
 turn_named (Some n) a b t stays is = (stays n.home n.code is).0
 
@@ -32,14 +33,17 @@ none_named (turn.WakeFiber o) = tt
 none_named (turn.WakeTopic o) = tt
 none_named turn.OutOfMoves = tt
 
-child_named : (named : Option Named) (a b : TaskView) (t : Turn) → ((home : RegistryView) (code : Tree) → IsTaskOf home code a → StaysOf home code (Ok t) b) → IsNamed named a → ChildIsNamed named t
+child_named : (named : Option Named) (a b : TaskView) (t : Turn) →
+    ((home : RegistryView) (code : Tree) → IsTaskOf home code a → StaysOf home code (Ok t) b) → IsNamed named a → ChildIsNamed named t
 child_named None a b t stays is = none_named t
 child_named (Some n) a b t stays is = of_named n t (stays n.home n.code is).1
 
-pub result_named : (named : Option Named) (a b : TaskView) (r : Result Turn RunError) → ((home : RegistryView) (code : Tree) → IsTaskOf home code a → StaysOf home code r b) → IsNamed named a → IfOk r (λ _. IsNamed named b)
+pub result_named : (named : Option Named) (a b : TaskView) (r : Result Turn RunError) →
+    ((home : RegistryView) (code : Tree) → IsTaskOf home code a → StaysOf home code r b) → IsNamed named a → IfOk r (λ _. IsNamed named b)
 result_named named a b (Ok t) stays is = turn_named named a b t stays is
 result_named named a b (Err e) stays is = tt
 
-pub result_child : (named : Option Named) (a b : TaskView) (r : Result Turn RunError) → ((home : RegistryView) (code : Tree) → IsTaskOf home code a → StaysOf home code r b) → IsNamed named a → IfOk r (ChildIsNamed named)
+pub result_child : (named : Option Named) (a b : TaskView) (r : Result Turn RunError) →
+    ((home : RegistryView) (code : Tree) → IsTaskOf home code a → StaysOf home code r b) → IsNamed named a → IfOk r (ChildIsNamed named)
 result_child named a b (Ok t) stays is = child_named named a b t stays is
 result_child named a b (Err e) stays is = tt

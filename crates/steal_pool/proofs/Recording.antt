@@ -14,14 +14,17 @@ use Rattle.steal_pool.specs.Records.{IsRecord}
 use Rattle.steal_pool.specs.Runs.{IsEnd}
 
 -- what a replay came to, for which there was memory, is what the core comes to
-pub replayed_comes : (came end of_core : Result Report RunError) → (came ≡ Err fault.NoMemory) ⊎ (came ≡ of_core) → came ≢ Err fault.NoMemory → came ≡ end → of_core ≡ end
+pub replayed_comes : (came end of_core : Result Report RunError) → (came ≡ Err fault.NoMemory) ⊎ (came ≡ of_core) → came ≢ Err fault.NoMemory →
+    came ≡ end → of_core ≡ end
 replayed_comes came end of_core (inl none) some same = absurd (some none)
 replayed_comes came end of_core (inr is) some same = sym is ∙ same
 
-pub record_of : (code : Tree) (k : Limits) (text entries : List ℕ) (end : Result Report RunError) → SpellsEntries text entries → reported (core code k entries) ≡ end → IsRecord code k text end
+pub record_of : (code : Tree) (k : Limits) (text entries : List ℕ) (end : Result Report RunError) → SpellsEntries text entries →
+    reported (core code k entries) ≡ end → IsRecord code k text end
 record_of code k text entries end spelled comes = record { entries = entries; spelled = spelled; comes = comes }
 
 -- no entries change a complete end
-pub settled_end : (code : Tree) (k : Limits) (r : Result RunEnd RunError) → IfOk r (IsEnd code k) → IfOk r (λ it. it.stopped ≡ None → IsSettledReport code k it.report)
+pub settled_end : (code : Tree) (k : Limits) (r : Result RunEnd RunError) → IfOk r (IsEnd code k) →
+    IfOk r (λ it. it.stopped ≡ None → IsSettledReport code k it.report)
 settled_end code k (Ok it) ends = λ none. settled_of code k it.report (ends.complete none)
 settled_end code k (Err e) ends = tt

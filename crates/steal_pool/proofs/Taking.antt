@@ -36,17 +36,20 @@ pub record GoesOnFrom (met : PassView) (t : TaskView) (q : PassView) : Type 0 wh
   pub own : Has q.fibers t.state.number × (calls_by t.state.number q.seen ≡ calls_by t.state.number t.pass.seen)
 
 -- one task more
-one_taken : (all now rest : List TaskView) (t : TaskView) (met q : PassView) (configs later : List Fiber) (state : Fiber) → Taken all now met configs → now ≡ rest ++ t ∷ [] → state ≡ t.state → later ≡ configs ++ state ∷ [] → GoesOnFrom met t q
+one_taken : (all now rest : List TaskView) (t : TaskView) (met q : PassView) (configs later : List Fiber) (state : Fiber) →
+    Taken all now met configs → now ≡ rest ++ t ∷ [] → state ≡ t.state → later ≡ configs ++ state ∷ [] → GoesOnFrom met t q
     → ((j : ℕ) (s : Fiber) → slice_get configs j ≡ Some s → s.number ≡ t.state.number → ⊥) → Taken all rest q later
 one_taken all now rest t met q configs later state taken is state_is later_is on fresh =
     let mine : IsOut t q later = record {
       place = length configs;
-      here = subst (λ (l : List Fiber). slice_get l (length configs) ≡ Some t.state) (sym later_is) (get_last configs (length configs) state refl ∙ ap Some state_is);
+      here = subst (λ (l : List Fiber). slice_get l (length configs) ≡ Some t.state) (sym later_is) (get_last configs (length configs) state refl ∙
+          ap Some state_is);
       seen = on.new;
       own = on.own.1;
     } in
     let number : (s : Fiber) → s ≡ state → s.number ≡ t.state.number = λ s e. ap (λ (x : Fiber). x.number) (e ∙ state_is) in
-    let last : (j : ℕ) (s : Fiber) → slice_get later j ≡ Some s → (slice_get configs j ≡ Some s) ⊎ ((j ≡ length configs) × (s ≡ state)) = λ j s e. last_or configs state j s (subst (λ (l : List Fiber). slice_get l j ≡ Some s) later_is e) in record {
+    let last : (j : ℕ) (s : Fiber) → slice_get later j ≡ Some s → (slice_get configs j ≡ Some s) ⊎ ((j ≡ length configs) × (s ≡ state)) =
+    λ j s e. last_or configs state j s (subst (λ (l : List Fiber). slice_get l j ≡ Some s) later_is e) in record {
       still = λ i x e. taken.still i x (subst (λ (l : List TaskView). slice_get l i ≡ Some x) (sym is) (get_early rest (t ∷ []) i x e));
       out = λ i x e. elim (taken.out i x e) [
         | inl h ↦ elim (last_or rest t i x (subst (λ (l : List TaskView). slice_get l i ≡ Some x) is h)) [
@@ -62,7 +65,13 @@ one_taken all now rest t met q configs later state taken is state_is later_is on
       ];
       from = λ j s e. elim (last j s e) [
         | inl h ↦ taken.from j s h
-        | inr h ↦ (length rest, t, taken.still (length rest) t (subst (λ (l : List TaskView). slice_get l (length rest) ≡ Some t) (sym is) (get_last rest (length rest) t refl)), sym state_is ∙ sym h.1)
+        | inr h ↦ (
+          length rest,
+          t,
+          taken.still (length rest) t
+              (subst (λ (l : List TaskView). slice_get l (length rest) ≡ Some t) (sym is) (get_last rest (length rest) t refl)),
+          sym state_is ∙ sym h.1,
+        )
       ];
       has = λ j s e. elim (last j s e) [
         | inl h ↦ (on.keeps s.number (taken.has j s h)).0
@@ -85,19 +94,25 @@ own_fiber : (t : TaskView) → IsTask t → Has t.pass.fibers t.state.number
 own_fiber t k = subst (Has t.pass.fibers) (sym k.number) k.pass.own
 
 -- the first task
-pub first_taken : (all rest : List TaskView) (t : TaskView) (pass : PassView) (later : List Fiber) (state : Fiber) → all ≡ rest ++ t ∷ [] → state ≡ t.state → pass ≡ t.pass → later ≡ [] ++ state ∷ [] → IsTask t → Taken all rest pass later
+pub first_taken : (all rest : List TaskView) (t : TaskView) (pass : PassView) (later : List Fiber) (state : Fiber) → all ≡ rest ++ t ∷ [] →
+    state ≡ t.state → pass ≡ t.pass → later ≡ [] ++ state ∷ [] → IsTask t → Taken all rest pass later
 first_taken all rest t pass later state is state_is pass_is later_is k =
     one_taken all all rest t pass pass [] later state (none_taken all pass) is state_is later_is
     record {
       old = ([], append-nil pass.seen);
       new = subst (λ (x : PassView). IsPrefix x.seen pass.seen) pass_is ([], append-nil pass.seen);
       keeps = λ f h. (h, refl);
-      own = (subst (λ (x : PassView). Has x.fibers t.state.number) (sym pass_is) (own_fiber t k), ap (λ (x : PassView). calls_by t.state.number x.seen) pass_is);
+      own = (
+        subst (λ (x : PassView). Has x.fibers t.state.number) (sym pass_is) (own_fiber t k),
+        ap (λ (x : PassView). calls_by t.state.number x.seen) pass_is,
+      );
     }
     (λ j s e number. absurd (cc))
 
 -- a later one, whose pass is met
-pub next_taken : (all now rest : List TaskView) (t : TaskView) (pass met q : PassView) (configs later : List Fiber) (state : Fiber) → Taken all now met configs → now ≡ rest ++ t ∷ [] → state ≡ t.state → pass ≡ t.pass → later ≡ configs ++ state ∷ [] → IsTask t → Meets met pass q → Taken all rest q later
+pub next_taken : (all now rest : List TaskView) (t : TaskView) (pass met q : PassView) (configs later : List Fiber) (state : Fiber) →
+    Taken all now met configs → now ≡ rest ++ t ∷ [] → state ≡ t.state → pass ≡ t.pass → later ≡ configs ++ state ∷ [] → IsTask t →
+    Meets met pass q → Taken all rest q later
 next_taken all now rest t pass met q configs later state taken is state_is pass_is later_is k meets =
     let m : Meets met t.pass q = subst (λ (x : PassView). Meets met x q) pass_is meets in
     let fibers : q.fibers ≡ met.fibers ++ t.pass.fibers = ap (λ (x : PassView). x.fibers) m.same in
@@ -112,7 +127,8 @@ next_taken all now rest t pass met q configs later state taken is state_is pass_
     (λ j s e number. m.apart s.number (taken.has j s e) (subst (Has t.pass.fibers) (sym number) own))
 
 -- the least fiber without a state has no task
-pub missing : (r : RegistryView) (all : List TaskView) (met q : PassView) (configs : List Fiber) (n f : ℕ) → met.registry ≡ r → Taken all [] met configs → Counts met n q → IsLeast configs n f → IsMissing r.limits all f
+pub missing : (r : RegistryView) (all : List TaskView) (met q : PassView) (configs : List Fiber) (n f : ℕ) → met.registry ≡ r →
+    Taken all [] met configs → Counts met n q → IsLeast configs n f → IsMissing r.limits all f
 missing r all met q configs n f home taken c l = record {
   none = λ i t e number. elim (taken.out i t e) [ inl h ↦ absurd (let x = h in cc) | inr h ↦ l.none h.place t.state h.here number ];
   before = λ g less.
@@ -137,7 +153,8 @@ none_missing r all e = record {
 }
 
 -- ---- the report is that of the tasks
-module _ (all : List TaskView) (met q : PassView) (configs : List Fiber) (n : ℕ) (lines : List FiberReport) (taken : Taken all [] met configs) (a : AreLines configs n lines) where
+module _ (all : List TaskView) (met q : PassView) (configs : List Fiber) (n : ℕ) (lines : List FiberReport) (taken : Taken all [] met configs)
+    (a : AreLines configs n lines) where
   pub tells_each : Counts met n q → IsPass q → OnlySees met q → TellsEach all record { fibers = lines }
   tells_each c lawful sees i t e = elim (taken.out i t e) [
     | inl h ↦ absurd (let x = h in cc)

@@ -1,5 +1,7 @@
 -- Each step keeps the rule of a bay's table.
-use Rattle.std.proofs.Common.{◌≡◌, ◌≢◌, ◌==◌, ◌<◌, ℕ, zero, suc, true, false, Option, None, List, [], ◌∷◌, length, map, replicate, set, get_or, get_or-set_same, get_or-set_other, sym, refl, ap, ◌∙◌, subst, ⊎_elim, arith}
+use Rattle.std.proofs.Common.{◌≡◌, ◌≢◌, ◌==◌, ◌<◌, ℕ, zero, suc, true, false, Option, None, List, [], ◌∷◌}
+use Rattle.std.proofs.Common.{length, map, replicate, set, get_or, get_or-set_same, get_or-set_other, sym, refl}
+use Rattle.std.proofs.Common.{ap, ◌∙◌, subst, ⊎_elim, arith}
 use Rattle.std.proofs.lemmas.Bool.Decides.{nat_tests}
 use Rattle.std.proofs.Math.ListN.{length-set}
 use Rattle.std.proofs.lemmas.List.{length-map, length-replicate}
@@ -20,11 +22,13 @@ Tasks = State (Option TaskView) Knowledge
 
 same_seats : (named : Option Named) (s : Tasks) (id : ℕ) (v : Knowledge) → KeepsTasks named s → get_elem? s.views id ≡ some v
     → (q : ℕ) (u : Knowledge) → get_elem? (set s.views id v) q ≡ some u → u.named ≡ named
-same_seats named s id v h at q u e = ⊎_elim (λ is. ap (λ (y : Knowledge). y.named) (sym is.1) ∙ h.seats id v at) (λ is. h.seats q u is.1) (at_set s.views id q v u e)
+same_seats named s id v h at q u e =
+    ⊎_elim (λ is. ap (λ (y : Knowledge). y.named) (sym is.1) ∙ h.seats id v at) (λ is. h.seats q u is.1) (at_set s.views id q v u e)
 
 pub splits : (named : Option Named) (id : ℕ) (v : Knowledge) → Splits (KeepsTasks named) id v v v
 splits named id v s h at = record {
-  seats = λ q u e. ⊎_elim (λ old. same_seats named s id v h at q u old) (λ is. ap (λ (y : Knowledge). y.named) (sym is) ∙ h.seats id v at) (at_snoc (set s.views id v) v u q e);
+  seats = λ q u e. ⊎_elim (λ old. same_seats named s id v h at q u old) (λ is. ap (λ (y : Knowledge). y.named) (sym is) ∙ h.seats id v at)
+      (at_snoc (set s.views id v) v u q e);
   lie = h.lie;
   home = h.home;
   many = h.many;
@@ -93,9 +97,11 @@ returns_home named slots id v f y within may s h len at fits =
       tt,
       record {
         seats = same_seats named s id v h at;
-        lie = λ g x e. ⊎_elim (λ is. let P : ℕ × Option TaskView → Type 0 = λ p. MayLie named p.0 p.1 in subst P (λ i. (sym is.0 i, some-injective _ _ is.1 i)) may_here) (λ els. h.lie g x els.1) (at_set s.homes f g (some y) (some x) e);
+        lie = λ g x e. ⊎_elim (λ is. let P : ℕ × Option TaskView → Type 0 = λ p. MayLie named p.0 p.1 in
+            subst P (λ i. (sym is.0 i, some-injective _ _ is.1 i)) may_here) (λ els. h.lie g x els.1) (at_set s.homes f g (some y) (some x) e);
         home = λ g less zero_is. dite (ℕ_discrete g f)
-            (λ same. let P : ℕ → Type 0 = λ k. get_elem? (set s.homes f (some y)) k ≡ some (some y) in (y, subst P (sym same) (set_here s.homes f (some y) (omega arith))))
+            (λ same. let P : ℕ → Type 0 = λ k. get_elem? (set s.homes f (some y)) k ≡ some (some y) in
+            (y, subst P (sym same) (set_here s.homes f (some y) (omega arith))))
             (λ apart. let there = h.home g (omega (arith, length-set s.homes f (some y))) (sym (other_word s.words f g 0 apart) ∙ zero_is) in
             (there.0, set_else s.homes f g (some y) apart ∙ there.1));
         many = length-set s.words f 0 ∙ (h.many ∙ sym (length-set s.homes f (some y)));
@@ -104,7 +110,8 @@ returns_home named slots id v f y within may s h len at fits =
     )
 
 -- at the end, a slot whose word is 0 has what may lie there
-pub emptied : (named : Option Named) (ws : List ℕ) (xs : List (Option TaskView)) (f : ℕ) (x : Option TaskView) → Final (KeepsTasks named) ws xs → f < length xs → get_or ws f 0 ≡ 0 → get_elem? xs f ≡ some x → MayLie named f x
+pub emptied : (named : Option Named) (ws : List ℕ) (xs : List (Option TaskView)) (f : ℕ) (x : Option TaskView) → Final (KeepsTasks named) ws xs →
+    f < length xs → get_or ws f 0 ≡ 0 → get_elem? xs f ≡ some x → MayLie named f x
 emptied named ws xs f x fin within zero_is at =
     let s = fin.0 in
     let kept = fin.1 in

@@ -1,5 +1,7 @@
 -- The slots of a bay at its end.
-use Rattle.std.proofs.Common.{◌≡◌, ◌≢◌, ◌==◌, ◌⊎◌, inl, inr, ◌<◌, ◌≤◌, ◌+◌, ℕ, zero, suc, true, false, Bool, Option, Some, List, [], ◌∷◌, ◌++◌, length, set, get_or, get_or-set_other, sym, refl, ◌∙◌, subst, arith, All, AllPairs}
+use Rattle.std.proofs.Common.{◌≡◌, ◌≢◌, ◌==◌, ◌⊎◌, inl, inr, ◌<◌, ◌≤◌, ◌+◌, ℕ, zero, suc, true, false, Bool}
+use Rattle.std.proofs.Common.{Option, Some, List, [], ◌∷◌, ◌++◌, length, set, get_or, get_or-set_other, sym}
+use Rattle.std.proofs.Common.{refl, ◌∙◌, subst, arith, All, AllPairs}
 use mathlib.Core.Logic.{dite}
 use native.Mathlib.Decide.{ℕ_discrete}
 use lib.ListN.{get_elem?}
@@ -21,7 +23,8 @@ this_flag [] f = refl
 this_flag (b ∷ fs) zero = refl
 this_flag (b ∷ fs) (suc f) = this_flag fs f
 
-pub later_full : (fs : List Bool) (f n : ℕ) → ((k : ℕ) → f ≤ k → k < n → get_or fs k false ≡ true) → (k : ℕ) → f + 1 ≤ k → k < n → get_or (set fs f false) k false ≡ true
+pub later_full : (fs : List Bool) (f n : ℕ) → ((k : ℕ) → f ≤ k → k < n → get_or fs k false ≡ true) → (k : ℕ) → f + 1 ≤ k → k < n →
+    get_or (set fs f false) k false ≡ true
 later_full fs f n h k le lt = other_flag fs f k (λ e. omega arith) ∙ h k (omega arith) lt
 
 pub earlier_taken : (fs : List Bool) (f : ℕ) → ((k : ℕ) → k < f → get_or fs k false ≡ false) → (k : ℕ) → k < f + 1 → get_or (set fs f false) k false ≡ false
@@ -58,7 +61,8 @@ kept_task named ws xs f w found old new fin word_is at all (inr kept) =
 
 -- what is at home in a slot has that slot's number
 pub found_own : (named : Option Named) (ws : List ℕ) (xs : List (Option TaskView)) (f w : ℕ) (found : Option TaskView)
-    → Final (KeepsTasks named) ws xs → get_elem? ws f ≡ some w → get_elem? xs f ≡ some found → (w == 0) ≡ true → (t : TaskView) → found ≡ Some t → t.state.number ≡ f
+    → Final (KeepsTasks named) ws xs → get_elem? ws f ≡ some w → get_elem? xs f ≡ some found → (w == 0) ≡ true → (t : TaskView) → found ≡ Some t →
+    t.state.number ≡ f
 found_own named ws xs f w found fin word_is at zero_is t found_is =
     let may = emptied named ws xs f found fin (at_within xs f found at) (read_word ws f w word_is ∙ is_zero w zero_is) at in
     (subst (λ (y : Option TaskView). MayLie named f y) found_is may).0
@@ -67,7 +71,8 @@ found_own named ws xs f w found fin word_is at zero_is t found_is =
 pub kept_below : (f w : ℕ) (found : Option TaskView) (old new : List TaskView) → ((w == 0) ≡ true → (t : TaskView) → found ≡ Some t → t.state.number ≡ f)
     → All (λ (t : TaskView). t.state.number < f) old → (new ≡ old) ⊎ ((t : TaskView) × ((w == 0) ≡ true) × (found ≡ Some t) × (new ≡ old ++ t ∷ []))
     → All (λ (t : TaskView). t.state.number < f + 1) new
-kept_below f w found old new own all (inl same) = subst (λ (l : List TaskView). All (λ (t : TaskView). t.state.number < f + 1) l) (sym same) (one_more f old all)
+kept_below f w found old new own all (inl same) =
+    subst (λ (l : List TaskView). All (λ (t : TaskView). t.state.number < f + 1) l) (sym same) (one_more f old all)
 kept_below f w found old new own all (inr kept) =
     let mine = own kept.1 kept.0 kept.2 in
     subst (λ (l : List TaskView). All (λ (t : TaskView). t.state.number < f + 1) l) (sym kept.3)
@@ -75,9 +80,12 @@ kept_below f w found old new own all (inr kept) =
 
 -- what is kept of a slot comes behind what was kept of those before it
 pub kept_order : (f w : ℕ) (found : Option TaskView) (old new : List TaskView) → ((w == 0) ≡ true → (t : TaskView) → found ≡ Some t → t.state.number ≡ f)
-    → All (λ (t : TaskView). t.state.number < f) old → AllPairs ComesBefore old → (new ≡ old) ⊎ ((t : TaskView) × ((w == 0) ≡ true) × (found ≡ Some t) × (new ≡ old ++ t ∷ []))
+    → All (λ (t : TaskView). t.state.number < f) old → AllPairs ComesBefore old → (new ≡ old) ⊎
+    ((t : TaskView) × ((w == 0) ≡ true) × (found ≡ Some t) × (new ≡ old ++ t ∷ []))
     → AllPairs ComesBefore new
 kept_order f w found old new own all order (inl same) = subst (λ (l : List TaskView). AllPairs ComesBefore l) (sym same) order
 kept_order f w found old new own all order (inr kept) =
     subst (λ (l : List TaskView). AllPairs ComesBefore l) (sym kept.3)
-    (all_pairs_push ComesBefore old kept.0 order (λ k d lt. subst (λ (n : ℕ). (get_or old k d).state.number < n) (sym (own kept.1 kept.0 kept.2)) (All-get_or (λ (t : TaskView). t.state.number < f) old k d lt all)))
+    (all_pairs_push ComesBefore old kept.0 order
+    (λ k d lt. subst (λ (n : ℕ). (get_or old k d).state.number < n) (sym (own kept.1 kept.0 kept.2))
+    (All-get_or (λ (t : TaskView). t.state.number < f) old k d lt all)))

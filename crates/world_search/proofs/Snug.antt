@@ -61,11 +61,13 @@ module _ (most longest : ℕ) (s t : Shape) (n : Node) (j many room : ℕ) (how 
         ]
       ] in
       let full : room ≤ many = elim refused [ inl full ↦ omega arith | inr past ↦ absurd (omega arith) ] in
-      let before : IsSnug many s = record { even = even; shallow = near.0 } in
-      (elim keeps [
-        | inl same ↦ subst (IsSnug many) (sym same) before
-        | inr next ↦ let a = next.0 in absurd (omega arith)
-      ], full)
+      let before : IsSnug many s = record { even = even; shallow = near.0 } in (
+        elim keeps [
+          | inl same ↦ subst (IsSnug many) (sym same) before
+          | inr next ↦ let a = next.0 in absurd (omega arith)
+        ],
+        full,
+      )
 
 -- an edge changes nothing of that
 pub edge_snug : (s : Shape) (e : Edge) (many : ℕ) → IsSnug many s → IsSnug many (with_edge s e)

@@ -17,8 +17,8 @@ module _ {W E : Type 0} (ws : List W) (es : List E) where
   EntersAt (came.At l) y = LandsAt l y
   EntersAt came.Full y = Unit {0}
 
--- Of an entry no world comes, or one, which has the next number. Where there is no room for it, there are as many worlds
--- as there may be
+-- Of an entry no world comes, or one, which has the next number. Where there is no room for it, there are as many
+-- worlds as there may be
 abbrev pub IsNext : (before after most : ℕ) → Entered → Type 0
 IsNext before after most (came.At (to.World j)) = (after ≡ before) ⊎ ((j ≡ before) × (after ≡ before + 1))
 IsNext before after most (came.At (to.Fault j)) = after ≡ before

@@ -107,7 +107,8 @@ Fits d p = depth_at p.place d + size_at p < 2 ^ 32
 abbrev pub EndsFit : ℕ → Ends → Type 0
 EndsFit d ends = Fits d ends.on_cancel × (Fits d ends.on_error × Fits d ends.on_value)
 
--- the parts of a term of n words below d binders have fewer words together, and no slot of it is past what can be counted
+-- the parts of a term of n words below d binders have fewer words together, and no slot of it is past what can be
+-- counted
 abbrev pub PartsFit : ℕ → ℕ → Shape → Type 0
 PartsFit n d (shape.Word w) = Unit {0}
 PartsFit n d (shape.One w a) = (size_at a < n) × Fits d a

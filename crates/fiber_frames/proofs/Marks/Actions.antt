@@ -1,10 +1,13 @@
 -- What a row of a word without parts makes: a value, an error or such a word, no child, and no mark but that of `say`.
 use Rattle.std.proofs.Common.{ℕ, true, false, if◌then◌else◌, List, [], ◌∷◌, Option, Some, None}
 use Rattle.std.specs.Prelude.{ℤ, pos, ◌+ℤ◌}
-use Rattle.derived_ops.specs.Tree.{Act, Action, Add, Await, Canceled, Cede, Complete, Ending, Get, Handle, Modify, Never, Number, Pure, Raise, Request, Say, Set, Tree, Operand}
+use Rattle.derived_ops.specs.Tree.{Act, Action, Add, Await, Canceled, Cede, Complete, Ending, Get, Handle}
+use Rattle.derived_ops.specs.Tree.{Modify, Never, Number, Pure, Raise, Request, Say, Set, Tree, Operand}
 use Rattle.effect_term.specs.declared.reply.Outcome.{Outcome}
 use Rattle.effect_term.specs.declared.reply.Reply.{Reply}
-use Rattle.fiber_frames.specs.Rows.{Born, Ceded, Ended, Kind, Plain, Row, Waited, action_row, after_end, after_read, fits, is_ended, number_of, outcome_in, read_in, sum_or_raise, unit, wait}
+use Rattle.fiber_frames.specs.Rows.{Born, Ceded, Ended, Kind, Plain, Row, Waited, action_row, after_end}
+use Rattle.fiber_frames.specs.Rows.{after_read, fits, is_ended, number_of, outcome_in, read_in, sum_or_raise}
+use Rattle.fiber_frames.specs.Rows.{unit, wait}
 use Rattle.fiber_frames.specs.declared.ask.Ask.{Ask}
 use Rattle.fiber_frames.specs.declared.mark.Mark.{Mark}
 use Rattle.fiber_frames.specs.declared.mark.Mark.TheVariants as mark
@@ -58,7 +61,8 @@ module _ (i next : ℕ) (r : Reply) where
   read_simple (Some z) d = a_value _
 
   abbrev pub ActionRow : (Row Tree → Type 0) → Type 0
-  ActionRow P = (a : Ask) (t : Tree) (ms : List Mark) (k : Kind) → Simple t → Says ms → NoBirth k → P (record { call = a; becomes = t; marks = ms; next = next; kind = k })
+  ActionRow P = (a : Ask) (t : Tree) (ms : List Mark) (k : Kind) → Simple t → Says ms → NoBirth k →
+      P (record { call = a; becomes = t; marks = ms; next = next; kind = k })
 
   pub action_case : (P : Row Tree → Type 0) → ActionRow P → (c : Action) → P (action_row i next r c)
   action_case P f (Add v w) = f _ _ _ _ (sum_simple (number_of v +ℤ number_of w)) silent tt

@@ -1,5 +1,6 @@
 -- The balanced words are those that a stack takes from empty to empty.
-use Rattle.std.proofs.Common.{◌≡◌, ℕ, ◌+◌, ◌≤◌, Bool, true, false, if◌then◌else◌, nat_eq, List, [], ◌∷◌, ◌++◌, Option, Some, None, refl, sym, ap, ◌∙◌, subst, arith, append_assoc}
+use Rattle.std.proofs.Common.{◌≡◌, ℕ, ◌+◌, ◌≤◌, Bool, true, false, if◌then◌else◌, nat_eq, List, [], ◌∷◌, ◌++◌}
+use Rattle.std.proofs.Common.{Option, Some, None, refl, sym, ap, ◌∙◌, subst, arith, append_assoc}
 use Rattle.std.proofs.lemmas.Bool.{eqb-true, eq-eqb}
 use Rattle.fiber_frames.specs.Marks.{Bracket_step, IsOpenBalanced, Nested, bracket, empty, times_acquired, two}
 use Rattle.fiber_frames.specs.Marks as steps
@@ -25,7 +26,9 @@ abbrev pub signs : List Bracket_step → List Held_number → Option (List Held_
 signs [] s = Some s
 signs (x ∷ xs) s = then_signs (sign x s) (signs xs)
 
-signs_step : (a b : List Bracket_step) (o : Option (List Held_number)) → ((s : List Held_number) → signs (a ++ b) s ≡ then_signs (signs a s) (signs b)) → then_signs o (signs (a ++ b)) ≡ then_signs (then_signs o (signs a)) (signs b)
+signs_step : (a b : List Bracket_step) (o : Option (List Held_number)) →
+    ((s : List Held_number) → signs (a ++ b) s ≡ then_signs (signs a s) (signs b)) →
+    then_signs o (signs (a ++ b)) ≡ then_signs (then_signs o (signs a)) (signs b)
 signs_step a b None h = refl
 signs_step a b (Some s) h = h s
 
@@ -71,13 +74,17 @@ signs_close (steps.Acquired i ∷ w) s e =
     let h = signs_close w (Held i ∷ s) e in
     let x : List Bracket_step = steps.Acquired i ∷ (h.0 ++ steps.Releasing i ∷ (h.1 ++ steps.Released i ∷ [])) in
     let inner : (h.1 ++ steps.Released i ∷ []) ++ h.2 ≡ h.1 ++ steps.Released i ∷ h.2 = append_assoc h.1 (steps.Released i ∷ []) h.2 in
-    let whole : x ++ h.2 ≡ steps.Acquired i ∷ w = ap (λ y. steps.Acquired i ∷ y) (append_assoc h.0 (steps.Releasing i ∷ (h.1 ++ steps.Released i ∷ [])) h.2 ∙ ap (λ y. h.0 ++ steps.Releasing i ∷ y) inner ∙ sym h.6) in
+    let whole : x ++ h.2 ≡ steps.Acquired i ∷ w =
+    ap (λ y. steps.Acquired i ∷ y) (append_assoc h.0 (steps.Releasing i ∷ (h.1 ++ steps.Released i ∷ [])) h.2 ∙
+    ap (λ y. h.0 ++ steps.Releasing i ∷ y) inner ∙ sym h.6) in
     subst (λ y. Closes s y) whole (closes_after x s h.2 (bracket i h.3 h.4) h.5)
 signs_close (steps.Releasing i ∷ w) [] e = cc
 signs_close (steps.Releasing i ∷ w) (Freeing j ∷ s) e = cc
 signs_close (steps.Releasing i ∷ w) (Held j ∷ s) e = going_close i j w s (nat_eq i j) refl e (signs_close w (Freeing j ∷ s))
   where
-    going_close : (i j : ℕ) (w : List Bracket_step) (s : List Held_number) (b : Bool) → nat_eq i j ≡ b → then_signs (if b then Some (Freeing j ∷ s) else None) (signs w) ≡ Some [] → (signs w (Freeing j ∷ s) ≡ Some [] → Closes (Freeing j ∷ s) w) → Closes (Held j ∷ s) (steps.Releasing i ∷ w)
+    going_close : (i j : ℕ) (w : List Bracket_step) (s : List Held_number) (b : Bool) → nat_eq i j ≡ b →
+        then_signs (if b then Some (Freeing j ∷ s) else None) (signs w) ≡ Some [] → (signs w (Freeing j ∷ s) ≡ Some [] → Closes (Freeing j ∷ s) w) →
+        Closes (Held j ∷ s) (steps.Releasing i ∷ w)
     going_close i j w s true n e f =
         let h = f e in
         let same : i ≡ j = eqb-true i j n in
@@ -87,7 +94,8 @@ signs_close (steps.Released i ∷ w) [] e = cc
 signs_close (steps.Released i ∷ w) (Held j ∷ s) e = cc
 signs_close (steps.Released i ∷ w) (Freeing j ∷ s) e = gone_close i j w s (nat_eq i j) refl e (signs_close w s)
   where
-    gone_close : (i j : ℕ) (w : List Bracket_step) (s : List Held_number) (b : Bool) → nat_eq i j ≡ b → then_signs (if b then Some s else None) (signs w) ≡ Some [] → (signs w s ≡ Some [] → Closes s w) → Closes (Freeing j ∷ s) (steps.Released i ∷ w)
+    gone_close : (i j : ℕ) (w : List Bracket_step) (s : List Held_number) (b : Bool) → nat_eq i j ≡ b →
+        then_signs (if b then Some s else None) (signs w) ≡ Some [] → (signs w s ≡ Some [] → Closes s w) → Closes (Freeing j ∷ s) (steps.Released i ∷ w)
     gone_close i j w s true n e f =
         let same : i ≡ j = eqb-true i j n in
         ([], w, empty, f e, λ k. steps.Released (same k) ∷ w)
@@ -106,7 +114,8 @@ closing_signs : (s : List Held_number) → signs (closing s) s ≡ Some []
 unfolding closing
 closing_signs [] = refl
 closing_signs (Held i ∷ s) =
-    ap (λ o. then_signs o (signs (steps.Released i ∷ closing s))) (going_same i s) ∙ ap (λ o. then_signs o (signs (closing s))) (gone_same i s) ∙ closing_signs s
+    ap (λ o. then_signs o (signs (steps.Released i ∷ closing s))) (going_same i s) ∙ ap (λ o. then_signs o (signs (closing s))) (gone_same i s) ∙
+    closing_signs s
 closing_signs (Freeing i ∷ s) = ap (λ o. then_signs o (signs (closing s))) (gone_same i s) ∙ closing_signs s
 
 closing_times : (i : ℕ) (s : List Held_number) → times_acquired i (closing s) ≡ 0
@@ -122,5 +131,10 @@ times_acquired-append i (steps.Releasing j ∷ a) b = times_acquired-append i a 
 times_acquired-append i (steps.Released j ∷ a) b = times_acquired-append i a b
 
 pub open_balanced : (w : List Bracket_step) (s : List Held_number) → ((i : ℕ) → times_acquired i w ≤ 1) → signs w [] ≡ Some s → IsOpenBalanced w
-open_balanced w s once e =
-    (closing s, (empty_balanced (w ++ closing s) (signs-append w (closing s) [] ∙ ap (λ o. then_signs o (signs (closing s))) e ∙ closing_signs s), λ i. omega (arith, times_acquired-append i w (closing s), closing_times i s, once i)))
+open_balanced w s once e = (
+  closing s,
+  (
+    empty_balanced (w ++ closing s) (signs-append w (closing s) [] ∙ ap (λ o. then_signs o (signs (closing s))) e ∙ closing_signs s),
+    λ i. omega (arith, times_acquired-append i w (closing s), closing_times i s, once i),
+  ),
+)

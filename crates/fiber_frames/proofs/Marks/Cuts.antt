@@ -1,6 +1,8 @@
 -- A cut leaves a chain of finalizers.
 use Rattle.std.proofs.Common.{◌≡◌, ℕ, inl, inr, List, [], ◌∷◌, ◌++◌, Option, Some, None, refl, sym, ap, subst}
-use Rattle.derived_ops.specs.Tree.{Act, Cancel, Guarded, Handled, If0, Join, Let, Loop, Make, Mask, Masked, Note, On_cancel, Pair, Poll, Polled, Pure, Raise, Seq, Start, Tree, Uncancelable}
+use Rattle.derived_ops.specs.Tree.{Act, Cancel, Guarded, Handled, If0, Join, Let, Loop, Make, Mask, Masked}
+use Rattle.derived_ops.specs.Tree.{Note, On_cancel, Pair, Poll, Polled, Pure, Raise, Seq, Start, Tree}
+use Rattle.derived_ops.specs.Tree.{Uncancelable}
 use Rattle.fiber_frames.proofs.Marks.Typed.{Fine, If_ends, In, Leads, Masks, Stack, Typed, Weaker}
 use Rattle.fiber_frames.proofs.Marks.Weaken.{weaker_in}
 use Rattle.fiber_frames.proofs.Walk.{finalizers_below, masks_below}
@@ -35,7 +37,8 @@ module _ (i : ℕ) (P : Masks) where
   chain_none [] s e = cc
   chain_none (g ∷ fins) s c = chain_none fins c.0 c.3
 
-  guarded_chain : (j k : Option Stack) (fins : List Tree) (fin : Tree) (s : Stack) → If_ends k (In P) → Leads j k (λ a b. Finalizes a b fin) → Chain fins s j → Chain (fins ++ fin ∷ []) s k
+  guarded_chain : (j k : Option Stack) (fins : List Tree) (fin : Tree) (s : Stack) → If_ends k (In P) → Leads j k (λ a b. Finalizes a b fin) →
+      Chain fins s j → Chain (fins ++ fin ∷ []) s k
   guarded_chain None k fins fin s kn l c = absurd (chain_none fins s c)
   guarded_chain (Some j) None fins fin s kn l c = absurd l
   guarded_chain (Some j) (Some k) fins fin s kn l c = chain_more fins fin s j k kn c l
@@ -45,7 +48,8 @@ module _ (i : ℕ) (P : Masks) where
   weaker_chain j k fins s (inr e) c = subst (λ y. Chain fins s y) e c
 
   -- the pending finalizers of a term below no active mask
-  pub cut_chain : (t : Tree) (up : List Mask) (k : Option Stack) (s : Stack) (n x : Option Stack) → If_ends k (In P) → masks_below i up t ≡ [] → Typed i P up k s n x t → Chain (finalizers_below t) s k
+  pub cut_chain : (t : Tree) (up : List Mask) (k : Option Stack) (s : Stack) (n x : Option Stack) → If_ends k (In P) → masks_below i up t ≡ [] →
+      Typed i P up k s n x t → Chain (finalizers_below t) s k
   cut_chain (Let e v b) up k s n x kn a h = cut_chain e up k s h.0 x kn a h.2
   cut_chain (Seq o e b) up k s n x kn a h = cut_chain e up k s h.0 x kn a h.2
   cut_chain (Handled e v b) up k s n x kn a h = weaker_chain h.2 k (finalizers_below e) s h.3 (cut_chain e up h.2 s n h.0 (weaker_in P h.2 k h.3 kn) a h.4)

@@ -3,7 +3,9 @@ use Rattle.std.proofs.Common.{◌≡◌, ℕ, ◌+◌, ◌≤◌, true, false, i
 use Rattle.std.specs.Prelude.{max}
 use Rattle.derived_ops.specs.Counts.{masks}
 use Rattle.derived_ops.specs.Put.{Put, Put_handle, Put_mask, Put_value, put}
-use Rattle.derived_ops.specs.Tree.{Act, Action, Always, Cancel, Guarded, Handle, Handled, If0, Join, Last, Let, Loop, Make, Mask, Masked, New_deferred, New_ref, Note, On_cancel, Pair, Poll, Polled, Pure, Raise, Rest, Seq, Start, Times, Tree, Turns, Uncancelable}
+use Rattle.derived_ops.specs.Tree.{Act, Action, Always, Cancel, Guarded, Handle, Handled, If0, Join, Last, Let}
+use Rattle.derived_ops.specs.Tree.{Loop, Make, Mask, Masked, New_deferred, New_ref, Note, On_cancel, Pair, Poll}
+use Rattle.derived_ops.specs.Tree.{Polled, Pure, Raise, Rest, Seq, Start, Times, Tree, Turns, Uncancelable}
 use Rattle.effect_term.specs.declared.reply.Outcome.{Outcome}
 use Rattle.effect_term.specs.declared.reply.Reply.{Reply}
 use Rattle.fiber_frames.proofs.Marks.Actions.{ActionRow, If_born, action_case, none_born, simple_case, wait_none}
@@ -13,10 +15,15 @@ use Rattle.fiber_frames.proofs.Marks.Moves.{cut_run, move_by, noted}
 use Rattle.fiber_frames.proofs.Marks.Regions.{static_put}
 use Rattle.fiber_frames.proofs.Marks.Runs.{AllStatic, LiveRun, born_root, pending_static}
 use Rattle.fiber_frames.proofs.Marks.Spending.{handle_runtime, mask_runtime, value_runtime}
-use Rattle.fiber_frames.proofs.Walk.{End, Gives, Throws, Works, active_path, active_root, end_of, finalizers_below, masks_below, root_row, row_root, under, walk}
+use Rattle.fiber_frames.proofs.Walk.{End, Gives, Throws, Works, active_path, active_root, end_of}
+use Rattle.fiber_frames.proofs.Walk.{finalizers_below, masks_below, root_row, row_root, under, walk}
 use Rattle.fiber_frames.specs.Fiber.{Cuts, Fiber, Looks, Move_case, Reduces, Rests, begins, child, cut, kind_in, kind_of, move, move_case, term_born}
-use Rattle.fiber_frames.specs.Path.{At_final, At_term, Broken, Final, In_guarded, In_handle, In_let, In_masked, In_polled, In_seq, Over, Running, Runs, active_at, focus, is_effective, same_mask, undone, without_first}
-use Rattle.fiber_frames.specs.Rows.{Born, Ceded, Ended, Kind, Plain, Row, Waited, action_row, branch, is_positive, is_zero, looped, number_in, number_of, one_less, outcome_in, row_at, unit}
+use Rattle.fiber_frames.specs.Path.{At_final, At_term, Broken, Final, In_guarded, In_handle, In_let, In_masked}
+use Rattle.fiber_frames.specs.Path.{In_polled, In_seq, Over, Running, Runs, active_at, focus, is_effective}
+use Rattle.fiber_frames.specs.Path.{same_mask, undone, without_first}
+use Rattle.fiber_frames.specs.Rows.{Born, Ceded, Ended, Kind, Plain, Row, Waited, action_row, branch}
+use Rattle.fiber_frames.specs.Rows.{is_positive, is_zero, looped, number_in, number_of, one_less, outcome_in}
+use Rattle.fiber_frames.specs.Rows.{row_at, unit}
 use Rattle.fiber_frames.specs.declared.mark.Mark.TheVariants as mark
 use Rattle.effect_term.specs.declared.reply.Outcome.TheVariants as outcome
 use Rattle.effect_term.specs.declared.reply.Reply.TheVariants as reply
@@ -43,8 +50,14 @@ masks_put (Note h q) p = refl
 masks_put (Cancel f) p = refl
 
 undone_shorter : (q : Mask) (up : List Mask) → length (undone q up) ≤ length up
-undone_shorter q [] = elim (is_effective q []) as (λ b. length {A = Mask} (if b then without_first [] else []) ≤ length {A = Mask} []) [ true ↦ omega arith | false ↦ omega arith ]
-undone_shorter q (a ∷ up) = elim (same_mask q a) as (λ b. length {A = Mask} (if b then up else a ∷ up) ≤ length {A = Mask} (a ∷ up)) [ true ↦ omega arith | false ↦ omega arith ]
+undone_shorter q [] =
+    elim (is_effective q []) as (λ b. length {A = Mask} (if b then without_first [] else []) ≤ length {A = Mask} []) [
+      | true ↦ omega arith
+      | false ↦
+          omega arith
+    ]
+undone_shorter q (a ∷ up) =
+    elim (same_mask q a) as (λ b. length {A = Mask} (if b then up else a ∷ up) ≤ length {A = Mask} (a ∷ up)) [ true ↦ omega arith | false ↦ omega arith ]
 
 abbrev pub Small : ℕ → Tree → Type 0
 Small B e = Static e × (masks e ≤ B)
@@ -131,22 +144,28 @@ module _ (i B : ℕ) where
     pub born : If_born a.kind (Small B)
 
   module _ (n : ℕ) (r : Reply) where
-    let_room : (up : List Mask) (v : ℕ) (b : Tree) → Static b → length up + masks b ≤ B → length up ≤ B → (E : End) (a : Row Tree) → Roomy up a → Roomy up (under i n up (In_let v b) E a)
-    let_room up v b s l z (Gives w) a h = record { term = put_room b (Put_value v (number_of w)) up (static_put b (Put_value v (number_of w)) (value_runtime v (number_of w)) s) l; born = tt }
+    let_room : (up : List Mask) (v : ℕ) (b : Tree) → Static b → length up + masks b ≤ B → length up ≤ B → (E : End) (a : Row Tree) → Roomy up a →
+        Roomy up (under i n up (In_let v b) E a)
+    let_room up v b s l z (Gives w) a h =
+        record { term = put_room b (Put_value v (number_of w)) up (static_put b (Put_value v (number_of w)) (value_runtime v (number_of w)) s) l; born = tt }
     let_room up v b s l z (Throws w) a h = record { term = omega arith; born = tt }
     let_room up v b s l z Works a h = record { term = (h.term, l); born = h.born }
 
-    seq_room : (up : List Mask) (o : Rest) (b : Tree) → Static b → length up + masks b ≤ B → length up ≤ B → (E : End) (a : Row Tree) → Roomy up a → Roomy up (under i n up (In_seq o b) E a)
+    seq_room : (up : List Mask) (o : Rest) (b : Tree) → Static b → length up + masks b ≤ B → length up ≤ B → (E : End) (a : Row Tree) → Roomy up a →
+        Roomy up (under i n up (In_seq o b) E a)
     seq_room up o b s l z (Gives w) a h = record { term = static_room b up s l; born = tt }
     seq_room up o b s l z (Throws w) a h = record { term = omega arith; born = tt }
     seq_room up o b s l z Works a h = record { term = (h.term, l); born = h.born }
 
-    handle_room : (up : List Mask) (v : ℕ) (b : Tree) → Static b → length up + masks b ≤ B → length up ≤ B → (E : End) (a : Row Tree) → Roomy up a → Roomy up (under i n up (In_handle v b) E a)
+    handle_room : (up : List Mask) (v : ℕ) (b : Tree) → Static b → length up + masks b ≤ B → length up ≤ B → (E : End) (a : Row Tree) → Roomy up a →
+        Roomy up (under i n up (In_handle v b) E a)
     handle_room up v b s l z (Gives w) a h = record { term = omega arith; born = tt }
-    handle_room up v b s l z (Throws w) a h = record { term = put_room b (Put_value v (number_of w)) up (static_put b (Put_value v (number_of w)) (value_runtime v (number_of w)) s) l; born = tt }
+    handle_room up v b s l z (Throws w) a h =
+        record { term = put_room b (Put_value v (number_of w)) up (static_put b (Put_value v (number_of w)) (value_runtime v (number_of w)) s) l; born = tt }
     handle_room up v b s l z Works a h = record { term = (h.term, l); born = h.born }
 
-    guarded_room : (up : List Mask) (fin : Tree) → masks fin + 1 ≤ B → length up ≤ B → (E : End) (a : Row Tree) → Roomy up a → Roomy up (under i n up (In_guarded fin) E a)
+    guarded_room : (up : List Mask) (fin : Tree) → masks fin + 1 ≤ B → length up ≤ B → (E : End) (a : Row Tree) → Roomy up a →
+        Roomy up (under i n up (In_guarded fin) E a)
     guarded_room up fin l z (Gives w) a h = record { term = omega arith; born = tt }
     guarded_room up fin l z (Throws w) a h = record { term = omega arith; born = tt }
     guarded_room up fin l z Works a h = record { term = (h.term, l); born = h.born }
@@ -161,16 +180,23 @@ module _ (i B : ℕ) where
     polled_room up q z (Throws w) a h = record { term = omega arith; born = tt }
     polled_room up q z Works a h = record { term = (z, h.term); born = h.born }
 
-    branch_room : (o : Option Outcome) (f : Handle) (v : ℕ) (b : Tree) (w : ℕ) (c e : Tree) (up : List Mask) → Static (Join f v b w c e) → length up + masks (Join f v b w c e) ≤ B → Room up (branch o f v b w c e)
+    branch_room : (o : Option Outcome) (f : Handle) (v : ℕ) (b : Tree) (w : ℕ) (c e : Tree) (up : List Mask) → Static (Join f v b w c e) →
+        length up + masks (Join f v b w c e) ≤ B → Room up (branch o f v b w c e)
     branch_room None f v b w c e up l h = h
-    branch_room (Some (outcome.Succeeded z)) f v b w c e up l h = put_room b (Put_value v z) up (static_put b (Put_value v z) (value_runtime v z) l.0) (omega arith)
-    branch_room (Some (outcome.Errored z)) f v b w c e up l h = put_room c (Put_value w z) up (static_put c (Put_value w z) (value_runtime w z) l.1) (omega arith)
+    branch_room (Some (outcome.Succeeded z)) f v b w c e up l h =
+        put_room b (Put_value v z) up (static_put b (Put_value v z) (value_runtime v z) l.0) (omega arith)
+    branch_room (Some (outcome.Errored z)) f v b w c e up l h =
+        put_room c (Put_value w z) up (static_put c (Put_value w z) (value_runtime w z) l.1) (omega arith)
     branch_room (Some outcome.Canceled) f v b w c e up l h = static_room e up l.2 (omega arith)
 
     looped_room : (m : Turns) (e : Tree) (up : List Mask) → Static e → length up + masks e ≤ B → Room up (looped m e)
     looped_room Always e up s h = (static_room e up s h, h)
     looped_room (Times v) e up s h =
-        elim (is_positive v) as (λ b. Room up (if b then Seq Last e (Loop (Times (one_less v)) e) else unit)) [ true ↦ (static_room e up s h, h) | false ↦ omega arith ]
+        elim (is_positive v) as (λ b. Room up (if b then Seq Last e (Loop (Times (one_less v)) e) else unit)) [
+          | true ↦
+              (static_room e up s h, h)
+          | false ↦ omega arith
+        ]
 
     act_room : (c : Action) (up : List Mask) → length up ≤ B → Roomy up (action_row i n r c)
     act_room c up z =
@@ -188,20 +214,33 @@ module _ (i B : ℕ) where
     row_room (Seq w e b) up l h = seq_room up w b l.1 h.1 (room_here e up h.0) (end_of e) (walk i n r up e) (row_room e up l.0 h.0)
     row_room (Handled e v b) up l h = handle_room up v b l.1 h.1 (room_here e up h.0) (end_of e) (walk i n r up e) (row_room e up l.0 h.0)
     row_room (If0 v b c) up l h =
-        record { term = elim (is_zero v) as (λ y. Room up (if y then b else c)) [ true ↦ static_room b up l.0 (omega arith) | false ↦ static_room c up l.1 (omega arith) ]; born = tt }
+        record {
+          term = elim (is_zero v) as (λ y. Room up (if y then b else c)) [
+            | true ↦ static_room b up l.0 (omega arith)
+            | false ↦
+                static_room c up l.1 (omega arith)
+          ];
+          born = tt;
+        }
     row_room (Join f v b w c e) up l h = record { term = branch_room (outcome_in r) f v b w c e up l h; born = none_born _ _ (wait_none (outcome_in r)) }
     row_room (Make (New_ref w) v b) up l h =
         record { term = (omega arith, omega (arith, masks_put b (Put_handle v (number_in r)))); born = tt }
     row_room (Make New_deferred v b) up l h =
         record { term = put_room b (Put_handle v (number_in r)) up (static_put b (Put_handle v (number_in r)) (handle_runtime v (number_in r)) l) h; born = tt }
     row_room (Start v e b) up l h =
-        record { term = put_room b (Put_handle v (number_in r)) up (static_put b (Put_handle v (number_in r)) (handle_runtime v (number_in r)) l.1) (omega arith); born = (l.0, omega arith) }
+        record {
+          term = put_room b (Put_handle v (number_in r)) up (static_put b (Put_handle v (number_in r)) (handle_runtime v (number_in r)) l.1)
+              (omega arith);
+          born = (l.0, omega arith);
+        }
     row_room (Loop m e) up l h = record { term = looped_room m e up l h; born = tt }
     row_room (Uncancelable v e) up l h =
         record { term = put_room e (Put_mask v i n) (Pair i n ∷ up) (static_put e (Put_mask v i n) (mask_runtime v i n) l.0) (omega arith); born = tt }
     row_room (Poll q e) up l h = record { term = (omega arith, static_room e (undone q up) l (omega (arith, undone_shorter q up))); born = tt }
     row_room (On_cancel e fin) up l h = record { term = (static_room e up l.0 (omega arith), omega arith); born = tt }
-    row_room (Masked m e) up l h = masked_room up m (let z : length (Pair i m ∷ up) ≤ B = room_here e (Pair i m ∷ up) h in omega arith) (end_of e) (walk i n r (Pair i m ∷ up) e) (row_room e (Pair i m ∷ up) l h)
+    row_room (Masked m e) up l h =
+        masked_room up m (let z : length (Pair i m ∷ up) ≤ B = room_here e (Pair i m ∷ up) h in omega arith) (end_of e)
+        (walk i n r (Pair i m ∷ up) e) (row_room e (Pair i m ∷ up) l h)
     row_room (Polled q e) up l h = polled_room up q h.0 (end_of e) (walk i n r (undone q up) e) (row_room e (undone q up) l h.1)
     row_room (Guarded e fin) up l h = guarded_room up fin h.1 (room_here e up h.0) (end_of e) (walk i n r up e) (row_room e up l.0 h.0)
 
@@ -226,7 +265,8 @@ root_room f B (Gives v) a h = tt
 root_room f B (Throws v) a h = tt
 root_room f B Works a h = h.term
 
-final_room : (f : Fiber) (B z : ℕ) (gs : List Tree) (E : End) (a : Row Tree) → AllStatic gs → AllRoom B gs → Roomy f.number B (Pair f.number z ∷ []) a → RoomRun f.number B (root_row f.number f.next (At_final z gs) E a).becomes
+final_room : (f : Fiber) (B z : ℕ) (gs : List Tree) (E : End) (a : Row Tree) → AllStatic gs → AllRoom B gs →
+    Roomy f.number B (Pair f.number z ∷ []) a → RoomRun f.number B (root_row f.number f.next (At_final z gs) E a).becomes
 final_room f B z gs (Gives v) a s l h = finals_room f.number B z gs s l
 final_room f B z gs (Throws v) a s l h = finals_room f.number B z gs s l
 final_room f B z gs Works a s l h = (h.term, l)
@@ -242,11 +282,17 @@ rows_room f r B (Final z []) l h = (tt, tt)
 rows_room f r B (Runs t) l h =
     let a = walk f.number f.next r [] t in
     let k = row_room f.number B f.next r t [] l h in
-    subst (RoomyRow f B) (sym (row_root f.number f.next r At_term t)) (root_room f B (end_of t) a k, born_root f.number f.next At_term (end_of t) a (Small B) k.born)
+    subst (RoomyRow f B) (sym (row_root f.number f.next r At_term t)) (
+      root_room f B (end_of t) a k,
+      born_root f.number f.next At_term (end_of t) a (Small B) k.born,
+    )
 rows_room f r B (Final z (g ∷ gs)) l h =
     let a = walk f.number f.next r (Pair f.number z ∷ []) g in
     let k = row_room f.number B f.next r g (Pair f.number z ∷ []) l.0 h.0 in
-    subst (RoomyRow f B) (sym (row_root f.number f.next r (At_final z gs) g)) (final_room f B z gs (end_of g) a l.1 h.1 k, born_root f.number f.next (At_final z gs) (end_of g) a (Small B) k.born)
+    subst (RoomyRow f B) (sym (row_root f.number f.next r (At_final z gs) g)) (
+      final_room f B z gs (end_of g) a l.1 h.1 k,
+      born_root f.number f.next (At_final z gs) (end_of g) a (Small B) k.born,
+    )
 
 room-append : (B : ℕ) (a : List Tree) (g : Tree) → AllRoom B a → masks g + 1 ≤ B → AllRoom B (a ++ g ∷ [])
 room-append B [] g h k = (k, tt)
@@ -273,7 +319,8 @@ cut_room f B t e l m =
 
 pub move_room : (f : Fiber) (r : Reply) (B : ℕ) → Lawful f → LiveRun f.running → RoomOf B f → RoomOf B (move f r)
 move_room f r B h l m =
-    move_by (RoomOf B) f r m m (λ t e a. cut_room f B t e (subst LiveRun e l) (subst (RoomRun f.number B) e m)) (λ z gs e a. absurd (final_masked f z gs h e a)) ((rows_room f r B f.running l m).0)
+    move_by (RoomOf B) f r m m (λ t e a. cut_room f B t e (subst LiveRun e l) (subst (RoomRun f.number B) e m))
+    (λ z gs e a. absurd (final_masked f z gs h e a)) ((rows_room f r B f.running l m).0)
 
 pub born_room : (f : Fiber) (r : Reply) (B : ℕ) → LiveRun f.running → RoomOf B f → If_born (kind_of f r) (Small B)
 born_room f r B l m = go (move_case f)

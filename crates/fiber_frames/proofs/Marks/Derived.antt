@@ -2,7 +2,8 @@
 use Rattle.std.proofs.Common.{◌≡◌, ◌≢◌, ℕ, ◌+◌, ◌≤◌, ◌⊎◌, inl, inr, pos, if◌then◌else◌, List, [], ◌∷◌, Option, Some, None, refl, sym, ap, subst, arith}
 use Rattle.std.proofs.lemmas.Bool.{eq-eqb}
 use Rattle.derived_ops.specs.Expansion.{bracket_case, in_order}
-use Rattle.derived_ops.specs.Tree.{Handled, Last, Mask, More, Named, Note, Number, On_cancel, Pair, Poll, Pure, Raise, Released, Releasing, Rest, Seq, Slot, Tree, Operand}
+use Rattle.derived_ops.specs.Tree.{Handled, Last, Mask, More, Named, Note, Number, On_cancel, Pair, Poll, Pure}
+use Rattle.derived_ops.specs.Tree.{Raise, Released, Releasing, Rest, Seq, Slot, Tree, Operand}
 use Rattle.fiber_frames.proofs.Marks.Cutting.{Active}
 use Rattle.fiber_frames.proofs.Marks.Opened.{Freeing, Held}
 use Rattle.fiber_frames.proofs.Marks.Typed.{Fine, If_ends, In, Leads, Masks, Stack, Typed, with_slot}
@@ -27,7 +28,8 @@ freed_and p e = in_order (Note Released p) e
 
 -- A term that polls masks of V and binds slots from d on leaves open what was open.
 abbrev pub Neutral : Masks → ℕ → Tree → Type 1
-Neutral V d t = (i : ℕ) (P : Masks) (up : List Mask) (k : Option Stack) (s : Stack) → ((q : Mask) → V q → P q) → ((v : ℕ) → d ≤ v → P (Named v) → ⊥) → In P s → Safe V d up k s → Typed i P up k s (Some s) (Some s) t
+Neutral V d t = (i : ℕ) (P : Masks) (up : List Mask) (k : Option Stack) (s : Stack) → ((q : Mask) → V q → P q) →
+    ((v : ℕ) → d ≤ v → P (Named v) → ⊥) → In P s → Safe V d up k s → Typed i P up k s (Some s) (Some s) t
 
 pub safe_fine : (V : Masks) (d : ℕ) (up : List Mask) (k : Option Stack) (s : Stack) → Safe V d up k s → Fine up k s
 safe_fine V d [] k s (inl e) = subst (λ y. Fine [] y s) (sym e) refl
@@ -65,11 +67,13 @@ module _ (i : ℕ) (P : Masks) (a : Mask) (up : List Mask) (k : Option Stack) (s
   free_pure : (x : Option Stack) (v : Operand) → Typed i P (a ∷ up) k F (Some s) x (freed_and p (Pure v))
   free_pure x v = (Some s, known, (tt, here, s, refl, refl, tt), (tt, refl))
 
-  release_typed : (o : Rest) (n x : Option Stack) (e : Tree) (w : ℕ) (h rest : Tree) → Typed i P (a ∷ up) None F (Some F) (Some F) e → Typed i P (a ∷ up) k F (Some F) x h → Typed i P (a ∷ up) k F n x rest → Typed i P (a ∷ up) k H n x (released_by o p e w h rest)
+  release_typed : (o : Rest) (n x : Option Stack) (e : Tree) (w : ℕ) (h rest : Tree) → Typed i P (a ∷ up) None F (Some F) (Some F) e →
+      Typed i P (a ∷ up) k F (Some F) x h → Typed i P (a ∷ up) k F n x rest → Typed i P (a ∷ up) k H n x (released_by o p e w h rest)
   release_typed o n x e w h rest he hh hr =
       (Some F, (here, known), (tt, here, F, (s, refl, refl), refl, tt), (Some F, (here, known), (Some F, (here, known), None, inl refl, he, hh), hr))
 
-pub bracket_neutral : (V : Masks) (d : ℕ) (acq body rs re rc : Tree) → ((v : ℕ) → d ≤ v → V (Named v) → ⊥) → Neutral (with_slot V d) (d + 1) acq → Neutral V (d + 3) body → Neutral V (d + 4) rs → Neutral V (d + 4) re → Neutral V (d + 3) rc → Neutral V d (bracket_case d acq body rs re rc)
+pub bracket_neutral : (V : Masks) (d : ℕ) (acq body rs re rc : Tree) → ((v : ℕ) → d ≤ v → V (Named v) → ⊥) → Neutral (with_slot V d) (d + 1) acq →
+    Neutral V (d + 3) body → Neutral V (d + 4) rs → Neutral V (d + 4) re → Neutral V (d + 3) rc → Neutral V d (bracket_case d acq body rs re rc)
 bracket_neutral V d acq body rs re rc below na nb ns ne nc i P up k s vp fresh known safe =
     let p = Named d in
     let q = Named (d + 2) in
@@ -88,25 +92,42 @@ bracket_neutral V d acq body rs re rc below na nb ns ne nc i P up k s vp fresh k
     let vp1 : (c : Mask) → with_slot V d c → P1 c = λ c. elim [ inl h ↦ inl (vp c h) | inr h ↦ inr h ] in
     let safe1 : Safe (with_slot V d) (d + 1) up1 k s = elim safe [
       | inl h ↦ inl h
-      | inr h ↦ inr (h.0, h.1, record { member = inr h.2.member; hidden = elim [ inl g ↦ h.2.hidden g | inr g ↦ h.2.outside d (omega arith) g ]; outside = λ v l. h.2.outside v (omega arith) })
+      | inr h ↦ inr (
+        h.0,
+        h.1,
+        record {
+          member = inr h.2.member;
+          hidden = elim [ inl g ↦ h.2.hidden g | inr g ↦ h.2.outside d (omega arith) g ];
+          outside =
+              λ v l. h.2.outside v (omega arith);
+        },
+      )
     ] in
-    let bars : (c : ℕ) → d + 1 ≤ c → Bars V c up2 p = λ c l. record { member = inr (inl refl); hidden = below d (omega arith); outside = λ v g e. named_ne d v (omega arith) e } in
+    let bars : (c : ℕ) → d + 1 ≤ c → Bars V c up2 p =
+    λ c l. record { member = inr (inl refl); hidden = below d (omega arith); outside = λ v g e. named_ne d v (omega arith) e } in
     let vp2 : (c : Mask) → V c → P2 c = λ c h. inl (inl (vp c h)) in
-    let on_cut : (f m : ℕ) → (P2 (Pair f m) → ⊥) → Typed i P2 (Pair f m ∷ []) None H (Some s) (Some s) (released_by Last p rc (d + 3) (freed_and p (Raise (Slot (d + 3)))) (Note Released p)) =
+    let on_cut : (f m : ℕ) → (P2 (Pair f m) → ⊥) →
+    Typed i P2 (Pair f m ∷ []) None H (Some s) (Some s) (released_by Last p rc (d + 3) (freed_and p (Raise (Slot (d + 3)))) (Note Released p)) =
     λ f m u. release_typed i P2 (Pair f m) [] None s p seen known2 Last (Some s) (Some s) rc (d + 3) (freed_and p (Raise (Slot (d + 3)))) (Note Released p)
-    (nc i P2 (Pair f m ∷ []) None F vp2 fresh2 (seen, known2) (inr (refl, Pair f m, record { member = inl refl; hidden = λ h. u (vp2 (Pair f m) h); outside = λ v g e. pair_named f m v e })))
+    (nc i P2 (Pair f m ∷ []) None F vp2 fresh2 (seen, known2)
+    (inr (refl, Pair f m, record { member = inl refl; hidden = λ h. u (vp2 (Pair f m) h); outside = λ v g e. pair_named f m v e })))
     (free_raise i P2 (Pair f m) [] None s p seen known2 (Some F) (Slot (d + 3)))
     (tt, seen, s, refl, refl, tt) in
     let fin = released_by Last p rc (d + 3) (freed_and p (Raise (Slot (d + 3)))) (Note Released p) in
-    let guarded_at : (j : Option Stack) → If_ends j (In P2) → Safe V (d + 3) up j H → Leads j k (λ a b. (f m : ℕ) → (P2 (Pair f m) → ⊥) → Typed i P2 (Pair f m ∷ []) None a (Some b) (Some b) fin) → Typed i P2 up2 k H (Some H) (Some H) (On_cancel (Poll q (Poll p body)) fin) =
+    let guarded_at : (j : Option Stack) → If_ends j (In P2) → Safe V (d + 3) up j H →
+    Leads j k (λ a b. (f m : ℕ) → (P2 (Pair f m) → ⊥) → Typed i P2 (Pair f m ∷ []) None a (Some b) (Some b) fin) →
+    Typed i P2 up2 k H (Some H) (Some H) (On_cancel (Poll q (Poll p body)) fin) =
     λ j kn sf l.
-    let inner : Typed i P2 (undone p (p ∷ up)) j H (Some H) (Some H) body = subst (λ u. Typed i P2 u j H (Some H) (Some H) body) (sym (undone_same d up)) (nb i P2 up j H vp2 fresh2 (seen, known2) sf) in
+    let inner : Typed i P2 (undone p (p ∷ up)) j H (Some H) (Some H) body =
+    subst (λ u. Typed i P2 u j H (Some H) (Some H) body) (sym (undone_same d up)) (nb i P2 up j H vp2 fresh2 (seen, known2) sf) in
     let polled : Typed i P2 (p ∷ up) j H (Some H) (Some H) (Poll p body) = (tt, seen, tt, tt, inner) in
-    let polled2 : Typed i P2 (undone q up2) j H (Some H) (Some H) (Poll p body) = subst (λ u. Typed i P2 u j H (Some H) (Some H) (Poll p body)) (sym (undone_same (d + 2) (p ∷ up))) polled in
+    let polled2 : Typed i P2 (undone q up2) j H (Some H) (Some H) (Poll p body) =
+    subst (λ u. Typed i P2 u j H (Some H) (Some H) (Poll p body)) (sym (undone_same (d + 2) (p ∷ up))) polled in
     (tt, j, kn, (tt, inr refl, tt, tt, polled2), l, tt, tt) in
     let guarded : Typed i P2 up2 k H (Some H) (Some H) (On_cancel (Poll q (Poll p body)) fin) =
     elim safe [
-      | inl e ↦ guarded_at (Some H) (seen, known2) (inl refl) (subst (λ y. Leads (Some H) y (λ a b. (f m : ℕ) → (P2 (Pair f m) → ⊥) → Typed i P2 (Pair f m ∷ []) None a (Some b) (Some b) fin)) (sym e) on_cut)
+      | inl e ↦ guarded_at (Some H) (seen, known2) (inl refl)
+          (subst (λ y. Leads (Some H) y (λ a b. (f m : ℕ) → (P2 (Pair f m) → ⊥) → Typed i P2 (Pair f m ∷ []) None a (Some b) (Some b) fin)) (sym e) on_cut)
       | inr h ↦ guarded_at None tt (inr (refl, h.1, record { member = h.2.member; hidden = h.2.hidden; outside = λ v g. h.2.outside v (omega arith) })) tt
     ] in
     let on_error : Typed i P2 up2 k H (Some H) (Some s) (released_by More p re (d + 4) (Pure (Number (pos 0))) (freed_and p (Raise (Slot (d + 3))))) =
@@ -114,7 +135,8 @@ bracket_neutral V d acq body rs re rc below na nb ns ne nc i P up k s vp fresh k
     (ne i P2 up2 None F vp2 (λ v l. fresh2 v (omega arith)) (seen, known2) (inr (refl, p, bars (d + 4) (omega arith))))
     (tt, refl)
     (free_raise i P2 q up1 k s p seen known2 (Some H) (Slot (d + 3))) in
-    let on_value : Typed i P2 up2 k H (Some s) (Some s) (released_by More p rs (d + 4) (freed_and p (Raise (Slot (d + 4)))) (freed_and p (Pure (Slot (d + 3))))) =
+    let on_value : Typed i P2 up2 k H (Some s) (Some s)
+    (released_by More p rs (d + 4) (freed_and p (Raise (Slot (d + 4)))) (freed_and p (Pure (Slot (d + 3))))) =
     release_typed i P2 q up1 k s p seen known2 More (Some s) (Some s) rs (d + 4) (freed_and p (Raise (Slot (d + 4)))) (freed_and p (Pure (Slot (d + 3))))
     (ns i P2 up2 None F vp2 (λ v l. fresh2 v (omega arith)) (seen, known2) (inr (refl, p, bars (d + 4) (omega arith))))
     (free_raise i P2 q up1 k s p seen known2 (Some F) (Slot (d + 4)))

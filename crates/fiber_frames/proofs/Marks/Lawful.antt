@@ -28,7 +28,8 @@ abbrev pub Lives : ℕ → ℕ → Running → Stack → Type 0
 Lives i n (Runs t) s = In (Known i n) s × Typed i (Known i n) [] (Some []) s (Some []) (Some []) t
 Lives i n (Final z []) s = s ≡ []
 Lives i n (Final z (g ∷ gs)) s =
-    (z < n) × In (Known_final i z n) s × (t : Stack) × In (Known_final i z n) t × Typed i (Known_final i z n) (Pair i z ∷ []) None s (Some t) (Some t) g × Chain i (Known_final i z n) gs t (Some [])
+    (z < n) × In (Known_final i z n) s × (t : Stack) × In (Known_final i z n) t ×
+    Typed i (Known_final i z n) (Pair i z ∷ []) None s (Some t) (Some t) g × Chain i (Known_final i z n) gs t (Some [])
 Lives i n (Over o) s = s ≡ []
 Lives i n Broken s = Unit {0}
 
@@ -38,7 +39,9 @@ pub record Lawful (f : Fiber) : Type 0 where
   pub own : In (Own f.number) now
   pub lives : Lives f.number f.next f.running now
 
-and_step : (i : ℕ) (ms ns : List Mark) (o : Option Stack) → ((t : Stack) → after_marks i (ms ++ ns) t ≡ and_then (after_marks i ms t) (after_marks i ns)) → and_then o (after_marks i (ms ++ ns)) ≡ and_then (and_then o (after_marks i ms)) (after_marks i ns)
+and_step : (i : ℕ) (ms ns : List Mark) (o : Option Stack) →
+    ((t : Stack) → after_marks i (ms ++ ns) t ≡ and_then (after_marks i ms t) (after_marks i ns)) →
+    and_then o (after_marks i (ms ++ ns)) ≡ and_then (and_then o (after_marks i ms)) (after_marks i ns)
 and_step i ms ns None h = refl
 and_step i ms ns (Some t) h = h t
 
@@ -69,54 +72,80 @@ module _ (i : ℕ) where
   all_known : (P : Masks) (s : Stack) → s ≡ [] → In P s
   all_known P s e = subst (In P) (sym e) tt
 
-  pub runs_keep : (n : ℕ) (r : Reply) (t : Tree) (s : Stack) → In (Known i n) s → In (Own i) s → Typed i (Known i n) [] (Some []) s (Some []) (Some []) t → Keeps i (Known i) n [] (Some []) s (Some []) (Some []) (walk i n r [] t)
+  pub runs_keep : (n : ℕ) (r : Reply) (t : Tree) (s : Stack) → In (Known i n) s → In (Own i) s →
+      Typed i (Known i n) [] (Some []) s (Some []) (Some []) t → Keeps i (Known i) n [] (Some []) s (Some []) (Some []) (walk i n r [] t)
   runs_keep n r t s k o h =
-      walk_keeps i (Known i) (λ n t h. h) known_grows known_fresh n (known_new n) r t [] (Some []) s (Some []) (Some []) (record { masks = tt; expected = tt; open_now = k; given = tt; raised = tt }) tt o h
+      walk_keeps i (Known i) (λ n t h. h) known_grows known_fresh n (known_new n) r t [] (Some []) s (Some []) (Some [])
+      (record { masks = tt; expected = tt; open_now = k; given = tt; raised = tt }) tt o h
 
-  pub final_keep : (z n : ℕ) (r : Reply) (t : Tree) (s u : Stack) → z < n → In (Known_final i z n) s → In (Known_final i z n) u → In (Own i) s → Typed i (Known_final i z n) (Pair i z ∷ []) None s (Some u) (Some u) t → Keeps i (Known_final i z) n (Pair i z ∷ []) None s (Some u) (Some u) (walk i n r (Pair i z ∷ []) t)
+  pub final_keep : (z n : ℕ) (r : Reply) (t : Tree) (s u : Stack) → z < n → In (Known_final i z n) s → In (Known_final i z n) u → In (Own i) s →
+      Typed i (Known_final i z n) (Pair i z ∷ []) None s (Some u) (Some u) t →
+      Keeps i (Known_final i z) n (Pair i z ∷ []) None s (Some u) (Some u) (walk i n r (Pair i z ∷ []) t)
   final_keep z n r t s u l k ku o h =
       let older : Pair i z ≢ Pair i n = λ e. (let same : z ≡ n = pair_injective i z i n e in omega arith) in
-      walk_keeps i (Known_final i z) (λ n t h. h.0) (λ n q h. (known_grows n q h.0, h.1)) (λ n h. known_fresh n h.0) n (final_new z n l) r t (Pair i z ∷ []) None s (Some u) (Some u) (record { masks = (older, tt); expected = tt; open_now = k; given = ku; raised = ku }) ((z, refl), tt) o h
+      walk_keeps i (Known_final i z) (λ n t h. h.0) (λ n q h. (known_grows n q h.0, h.1)) (λ n h. known_fresh n h.0) n (final_new z n l) r t
+      (Pair i z ∷ []) None s (Some u) (Some u) (record { masks = (older, tt); expected = tt; open_now = k; given = ku; raised = ku }) ((z, refl), tt) o h
 
   -- ---- finalizers under more known masks
   chain_later : (P P' : Masks) → Grows P P' → (gs : List Tree) (s : Stack) (k : Option Stack) → Chain i P gs s k → Chain i P' gs s k
   chain_later P P' w [] s k c = c
-  chain_later P P' w (g ∷ gs) s k c =
-      (c.0, in_more P P' w.more c.0 c.1, (λ f m u. typed_more g i P P' (Pair f m ∷ []) None s (Some c.0) (Some c.0) w (c.2 f m (λ h. u (w.more (Pair f m) h)))), chain_later P P' w gs c.0 k c.3)
+  chain_later P P' w (g ∷ gs) s k c = (
+    c.0,
+    in_more P P' w.more c.0 c.1,
+    (λ f m u. typed_more g i P P' (Pair f m ∷ []) None s (Some c.0) (Some c.0) w (c.2 f m (λ h. u (w.more (Pair f m) h)))),
+    chain_later P P' w gs c.0 k c.3,
+  )
 
   -- the finalizers that are left, where the one before has ended
-  chain_lives : (z n : ℕ) (gs : List Tree) (s : Stack) → z < n → In (Known_final i z n) s → Chain i (Known_final i z n) gs s (Some []) → Lives i n (Final z gs) s
+  chain_lives : (z n : ℕ) (gs : List Tree) (s : Stack) → z < n → In (Known_final i z n) s → Chain i (Known_final i z n) gs s (Some []) →
+      Lives i n (Final z gs) s
   chain_lives z n [] s l k c = cc
   chain_lives z n (g ∷ gs) s l k c = (l, k, c.0, c.1, c.2 i z (λ h. h.1 refl), c.3)
 
   same_stack : (s t : Stack) → Some s ≡ Some t → s ≡ t
   same_stack s t e = cc
 
-  lawful_end : (f : Fiber) (s : Stack) (ms : List Mark) (w : Running) → f.number ≡ i → after_marks f.number f.marks [] ≡ Some s → after_marks f.number ms s ≡ Some s → In (Own f.number) s → Lives f.number f.next w s → Lawful (noted f w f.next ms)
+  lawful_end : (f : Fiber) (s : Stack) (ms : List Mark) (w : Running) → f.number ≡ i → after_marks f.number f.marks [] ≡ Some s →
+      after_marks f.number ms s ≡ Some s → In (Own f.number) s → Lives f.number f.next w s → Lawful (noted f w f.next ms)
   lawful_end f s ms w e m q o l = record { now = s; marks = after_more f.number f.marks ms [] s s m q; own = o; lives = l }
 
 -- a row at the root
-root_keeps : (f : Fiber) (s : Stack) → after_marks f.number f.marks [] ≡ Some s → In (Own f.number) s → (E : End) → EndsAs E [] (Some []) s (Some []) (Some []) → (a : Row Tree) → Keeps f.number (Known f.number) f.next [] (Some []) s (Some []) (Some []) a → Lawful (reduced f (root_row f.number f.next At_term E a))
+root_keeps : (f : Fiber) (s : Stack) → after_marks f.number f.marks [] ≡ Some s → In (Own f.number) s → (E : End) →
+    EndsAs E [] (Some []) s (Some []) (Some []) → (a : Row Tree) → Keeps f.number (Known f.number) f.next [] (Some []) s (Some []) (Some []) a →
+    Lawful (reduced f (root_row f.number f.next At_term E a))
 root_keeps f s m o (Gives v) e a k = lawful_end f.number f s [] _ refl m refl o (let none : Some [] ≡ Some s = e.1 in cc)
 root_keeps f s m o (Throws v) e a k = lawful_end f.number f s [] _ refl m refl o (let none : Some [] ≡ Some s = e.1 in cc)
 root_keeps f s m o Works e a k =
     record { now = k.now; marks = after_more f.number f.marks a.marks [] s k.now m k.marks; own = k.own; lives = (k.known, k.typed) }
 
 -- a row of a finalizer
-final_keeps : (f : Fiber) (z : ℕ) (gs : List Tree) (s u : Stack) → z < f.next → In (Known_final f.number z f.next) s → In (Known_final f.number z f.next) u → Chain f.number (Known_final f.number z f.next) gs u (Some []) → after_marks f.number f.marks [] ≡ Some s → In (Own f.number) s → (E : End) → EndsAs E (Pair f.number z ∷ []) None s (Some u) (Some u) → (a : Row Tree) → Keeps f.number (Known_final f.number z) f.next (Pair f.number z ∷ []) None s (Some u) (Some u) a → Lawful (reduced f (root_row f.number f.next (At_final z gs) E a))
+final_keeps : (f : Fiber) (z : ℕ) (gs : List Tree) (s u : Stack) → z < f.next → In (Known_final f.number z f.next) s →
+    In (Known_final f.number z f.next) u → Chain f.number (Known_final f.number z f.next) gs u (Some []) → after_marks f.number f.marks [] ≡ Some s →
+    In (Own f.number) s → (E : End) → EndsAs E (Pair f.number z ∷ []) None s (Some u) (Some u) → (a : Row Tree) →
+    Keeps f.number (Known_final f.number z) f.next (Pair f.number z ∷ []) None s (Some u) (Some u) a →
+    Lawful (reduced f (root_row f.number f.next (At_final z gs) E a))
 final_keeps f z gs s u l ks ku c m o (Gives v) e a k =
     let same : u ≡ s = same_stack f.number u s e.1 in
-    lawful_end f.number f s [] _ refl m refl o (chain_lives f.number z f.next gs s l ks (subst (λ y. Chain f.number (Known_final f.number z f.next) gs y (Some [])) same c))
+    lawful_end f.number f s [] _ refl m refl o
+    (chain_lives f.number z f.next gs s l ks (subst (λ y. Chain f.number (Known_final f.number z f.next) gs y (Some [])) same c))
 final_keeps f z gs s u l ks ku c m o (Throws v) e a k =
     let same : u ≡ s = same_stack f.number u s e.1 in
-    lawful_end f.number f s (mark.Dropped _ ∷ []) _ refl m refl o (chain_lives f.number z f.next gs s l ks (subst (λ y. Chain f.number (Known_final f.number z f.next) gs y (Some [])) same c))
+    lawful_end f.number f s (mark.Dropped _ ∷ []) _ refl m refl o
+    (chain_lives f.number z f.next gs s l ks (subst (λ y. Chain f.number (Known_final f.number z f.next) gs y (Some [])) same c))
 final_keeps f z gs s u l ks ku c m o Works e a k =
     let w : Grows (Known_final f.number z f.next) (Known_final f.number z a.next) = record { more = k.grown; back = λ t h. absurd h.0 } in
     record {
       now = k.now;
       marks = after_more f.number f.marks a.marks [] s k.now m k.marks;
       own = k.own;
-      lives = ((let later : f.next ≤ a.next = k.later in omega arith), k.known, u, in_more (Known_final f.number z f.next) (Known_final f.number z a.next) k.grown u ku, k.typed, chain_later f.number (Known_final f.number z f.next) (Known_final f.number z a.next) w gs u (Some []) c);
+      lives = (
+        (let later : f.next ≤ a.next = k.later in omega arith),
+        k.known,
+        u,
+        in_more (Known_final f.number z f.next) (Known_final f.number z a.next) k.grown u ku,
+        k.typed,
+        chain_later f.number (Known_final f.number z f.next) (Known_final f.number z a.next) w gs u (Some []) c,
+      );
     }
 
 rows_keep : (f : Fiber) (r : Reply) (w : Running) → f.running ≡ w → Lawful f → Lawful (reduced f (row_at f.number f.next r (focus w) w))
@@ -129,12 +158,15 @@ rows_keep f r (Final z []) e h =
 rows_keep f r (Runs t) e h =
     let l : Lives f.number f.next (Runs t) h.now = subst (λ w. Lives f.number f.next w h.now) e h.lives in
     subst (λ y. Lawful (reduced f y)) (sym (row_root f.number f.next r At_term t))
-    (root_keeps f h.now h.marks h.own (end_of t) (typed_end f.number (Known f.number f.next) t [] (Some []) h.now (Some []) (Some []) l.1) (walk f.number f.next r [] t) (runs_keep f.number f.next r t h.now l.0 h.own l.1))
+    (root_keeps f h.now h.marks h.own (end_of t) (typed_end f.number (Known f.number f.next) t [] (Some []) h.now (Some []) (Some []) l.1)
+    (walk f.number f.next r [] t) (runs_keep f.number f.next r t h.now l.0 h.own l.1))
 rows_keep f r (Final z (g ∷ gs)) e h =
     let l : Lives f.number f.next (Final z (g ∷ gs)) h.now = subst (λ w. Lives f.number f.next w h.now) e h.lives in
     let P = Known_final f.number z f.next in
     subst (λ y. Lawful (reduced f y)) (sym (row_root f.number f.next r (At_final z gs) g))
-    (final_keeps f z gs h.now l.2 l.0 l.1 l.3 l.5 h.marks h.own (end_of g) (typed_end f.number P g (Pair f.number z ∷ []) None h.now (Some l.2) (Some l.2) l.4) (walk f.number f.next r (Pair f.number z ∷ []) g) (final_keep f.number z f.next r g h.now l.2 l.0 l.1 l.3 h.own l.4))
+    (final_keeps f z gs h.now l.2 l.0 l.1 l.3 l.5 h.marks h.own (end_of g)
+    (typed_end f.number P g (Pair f.number z ∷ []) None h.now (Some l.2) (Some l.2) l.4) (walk f.number f.next r (Pair f.number z ∷ []) g)
+    (final_keep f.number z f.next r g h.now l.2 l.0 l.1 l.3 h.own l.4))
 
 -- the known masks once the next one is the finalizers'
 more_final : (i n : ℕ) → Grows (Known i n) (Known_final i n (n + 1))
@@ -162,7 +194,8 @@ cut_keeps f t e a h =
       now = h.now;
       marks = after_more f.number f.marks (mark.Cut ∷ []) [] h.now h.now h.marks refl;
       own = h.own;
-      lives = chain_lives f.number f.next (f.next + 1) (finalizers_below t) h.now (omega arith) k (chain_later f.number P P' w (finalizers_below t) h.now (Some []) c);
+      lives = chain_lives f.number f.next (f.next + 1) (finalizers_below t) h.now (omega arith) k
+          (chain_later f.number P P' w (finalizers_below t) h.now (Some []) c);
     } in
     subst Lawful (sym (cut_run f t e)) after
 
@@ -186,4 +219,10 @@ known_born i n c l = record { more = go; back = λ t h. h }
 
 pub born_lawful : (i n c : ℕ) (e : Tree) → i < c → ((c : ℕ) → Typed c (Known i n) [] (Some []) [] (Some []) (Some []) e) → Lawful (begins c e)
 born_lawful i n c e l h =
-    record { now = []; marks = refl; own = tt; lives = (tt, typed_more e c (Known i n) (Known c 0) [] (Some []) [] (Some []) (Some []) (known_born i n c l) (h c)) }
+    record {
+      now = [];
+      marks = refl;
+      own = tt;
+      lives =
+          (tt, typed_more e c (Known i n) (Known c 0) [] (Some []) [] (Some []) (Some []) (known_born i n c l) (h c));
+    }

@@ -1,5 +1,6 @@
 -- Lists of marks: what is taken, what is on, and the stack of open brackets by their numbers.
-use Rattle.std.proofs.Common.{◌≡◌, ◌≢◌, ◌⊎◌, inl, inr, ℕ, ◌+◌, Bool, true, false, if◌then◌else◌, nat_eq, List, [], ◌∷◌, ◌++◌, Some, None, refl, sym, ap, ◌∙◌, subst, arith, append_assoc}
+use Rattle.std.proofs.Common.{◌≡◌, ◌≢◌, ◌⊎◌, inl, inr, ℕ, ◌+◌, Bool, true, false, if◌then◌else◌, nat_eq, List}
+use Rattle.std.proofs.Common.{[], ◌∷◌, ◌++◌, Some, None, refl, sym, ap, ◌∙◌, subst, arith, append_assoc}
 use Rattle.std.proofs.lemmas.Bool.{eqb-true, eqb-false, eq-eqb}
 use Rattle.std.specs.Prelude.{◌&&◌}
 use Rattle.derived_ops.specs.Tree.{Mask, Pair}
@@ -74,7 +75,8 @@ off_in m n b true ms e (inl h) = inl (off_prefix m (mark.PollIn n) ms h)
 off_in m n b true ms e (inr h) = let same : n ≡ m = eqb-true n m e in inl ([], ms, ap (λ k. mark.PollIn k ∷ ms) same, h.2)
 off_in m n b false ms e h = off_skip m b (mark.PollIn n) ms (λ x. cc) (λ x. cc) h
 
-off_left : (m n : ℕ) (b c : Bool) (ms : List Mark) → nat_eq n m ≡ c → (Has (mark.Leave m) (mark.Leave n ∷ ms) → ⊥) → Off m (if c then false else b) ms → Off m b (mark.Leave n ∷ ms)
+off_left : (m n : ℕ) (b c : Bool) (ms : List Mark) → nat_eq n m ≡ c → (Has (mark.Leave m) (mark.Leave n ∷ ms) → ⊥) →
+    Off m (if c then false else b) ms → Off m b (mark.Leave n ∷ ms)
 off_left m n b true ms e u h = absurd (u (inl (ap mark.Leave (eqb-true n m e))))
 off_left m n b false ms e u h = off_skip m b (mark.Leave n) ms (λ x. cc) (λ x. cc) h
 
@@ -118,10 +120,13 @@ on_numbers i (mark.Acquired m ∷ ms) s t o e = on_numbers i ms (Held (Pair i m)
 on_numbers i (mark.Releasing m ∷ ms) [] t o e = cc
 on_numbers i (mark.Releasing m ∷ ms) (Freeing p ∷ s) t o e = cc
 on_numbers i (mark.Releasing m ∷ ms) (Held p ∷ s) t o e =
-    subst (λ b. then_signs (if b then Some (balance.Freeing (mask_number p) ∷ slots s) else None) (signs (bracket_steps ms)) ≡ Some (slots t)) (same_number i m p o.0)
+    subst (λ b. then_signs (if b then Some (balance.Freeing (mask_number p) ∷ slots s) else None) (signs (bracket_steps ms)) ≡ Some (slots t))
+    (same_number i m p o.0)
     (go (on_numbers i ms (Freeing p ∷ s) t o) (same_mask (Pair i m) p) e)
   where
-    go : (after_marks i ms (Freeing p ∷ s) ≡ Some t → signs (bracket_steps ms) (balance.Freeing (mask_number p) ∷ slots s) ≡ Some (slots t)) → (b : Bool) → and_then (if b then Some (Freeing p ∷ s) else None) (after_marks i ms) ≡ Some t → then_signs (if b then Some (balance.Freeing (mask_number p) ∷ slots s) else None) (signs (bracket_steps ms)) ≡ Some (slots t)
+    go : (after_marks i ms (Freeing p ∷ s) ≡ Some t → signs (bracket_steps ms) (balance.Freeing (mask_number p) ∷ slots s) ≡ Some (slots t)) →
+        (b : Bool) → and_then (if b then Some (Freeing p ∷ s) else None) (after_marks i ms) ≡ Some t →
+        then_signs (if b then Some (balance.Freeing (mask_number p) ∷ slots s) else None) (signs (bracket_steps ms)) ≡ Some (slots t)
     go f true e = f e
     go f false e = cc
 on_numbers i (mark.Released m ∷ ms) [] t o e = cc
@@ -130,7 +135,9 @@ on_numbers i (mark.Released m ∷ ms) (Freeing p ∷ s) t o e =
     subst (λ b. then_signs (if b then Some (slots s) else None) (signs (bracket_steps ms)) ≡ Some (slots t)) (same_number i m p o.0)
     (go (on_numbers i ms s t o.1) (same_mask (Pair i m) p) e)
   where
-    go : (after_marks i ms s ≡ Some t → signs (bracket_steps ms) (slots s) ≡ Some (slots t)) → (b : Bool) → and_then (if b then Some s else None) (after_marks i ms) ≡ Some t → then_signs (if b then Some (slots s) else None) (signs (bracket_steps ms)) ≡ Some (slots t)
+    go : (after_marks i ms s ≡ Some t → signs (bracket_steps ms) (slots s) ≡ Some (slots t)) → (b : Bool) →
+        and_then (if b then Some s else None) (after_marks i ms) ≡ Some t →
+        then_signs (if b then Some (slots s) else None) (signs (bracket_steps ms)) ≡ Some (slots t)
     go f true e = f e
     go f false e = cc
 on_numbers i (mark.Say m ∷ ms) s t o e = on_numbers i ms s t o e

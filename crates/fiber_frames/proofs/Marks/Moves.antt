@@ -15,7 +15,9 @@ pub active_run : (f : Fiber) (w : Running) (up : List Mask) → f.running ≡ w 
 active_run f w up e a = ap (λ y. active_at f.number (focus y)) (sym e) ∙ a
 
 -- what holds of each of its cases holds of the move
-pub move_by : (Q : Fiber → Type 0) (f : Fiber) (r : Reply) → Q f → Q (looked f r) → ((t : Tree) → f.running ≡ Runs t → masks_below f.number [] t ≡ [] → Q (cut f)) → ((m : ℕ) (gs : List Tree) → f.running ≡ Final m gs → active_of f ≡ [] → Q (cut f)) → Q (reduced f (row_of f r)) → Q (move f r)
+pub move_by : (Q : Fiber → Type 0) (f : Fiber) (r : Reply) → Q f → Q (looked f r) →
+    ((t : Tree) → f.running ≡ Runs t → masks_below f.number [] t ≡ [] → Q (cut f)) →
+    ((m : ℕ) (gs : List Tree) → f.running ≡ Final m gs → active_of f ≡ [] → Q (cut f)) → Q (reduced f (row_of f r)) → Q (move f r)
 move_by Q f r same looks cuts_run cuts_final rows = go f.running refl (active_of f) refl f.look
   where
     go : (w : Running) → f.running ≡ w → (up : List Mask) → active_of f ≡ up → (l : Look) → Q (move_in f r (case_in w up l))

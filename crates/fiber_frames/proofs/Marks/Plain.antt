@@ -1,8 +1,11 @@
 -- The words of a program leave open what was open, below whatever masks, and may acquire each mask at most once.
-use Rattle.std.proofs.Common.{◌≡◌, ◌≢◌, ℕ, ◌+◌, ◌≤◌, ◌<◌, inl, inr, Bool, true, false, if◌then◌else◌, List, [], ◌∷◌, Some, None, refl, sym, ap, ◌∙◌, subst, arith}
+use Rattle.std.proofs.Common.{◌≡◌, ◌≢◌, ℕ, ◌+◌, ◌≤◌, ◌<◌, inl, inr, Bool, true, false, if◌then◌else◌, List, []}
+use Rattle.std.proofs.Common.{◌∷◌, Some, None, refl, sym, ap, ◌∙◌, subst, arith}
 use Rattle.std.proofs.lemmas.Bool.{ne_eqb}
 use Rattle.derived_ops.specs.Expansion.{bracket_case}
-use Rattle.derived_ops.specs.Tree.{Act, Action, Cancel, Handle, Handled, If0, Join, Let, Loop, Make, Maker, Mask, Named, On_cancel, Pair, Poll, Pure, Raise, Rest, Seq, Start, Tree, Turns, Uncancelable, Operand}
+use Rattle.derived_ops.specs.Tree.{Act, Action, Cancel, Handle, Handled, If0, Join, Let, Loop, Make, Maker}
+use Rattle.derived_ops.specs.Tree.{Mask, Named, On_cancel, Pair, Poll, Pure, Raise, Rest, Seq, Start, Tree}
+use Rattle.derived_ops.specs.Tree.{Turns, Uncancelable, Operand}
 use Rattle.fiber_frames.proofs.Marks.Cutting.{Active, Static, only, spends}
 use Rattle.fiber_frames.proofs.Marks.Derived.{Neutral, Safe, bracket_neutral, named_ne, pair_named, safe_at, safe_fine}
 use Rattle.fiber_frames.proofs.Marks.Regions.{same_true}
@@ -73,7 +76,14 @@ module _ (V : Masks) (d : ℕ) where
   pub part_handle : (e : Tree) (v : ℕ) (b : Tree) → Part V d e → Part V d b → Part V d (Handled e v b)
   part_handle e v b he hb =
       record {
-        neutral = λ i P up k s vp fresh known safe. (Some s, known, k, inr refl, he.neutral i P up k s vp fresh known safe, hb.neutral i P up k s vp fresh known safe);
+        neutral = λ i P up k s vp fresh known safe. (
+          Some s,
+          known,
+          k,
+          inr refl,
+          he.neutral i P up k s vp fresh known safe,
+          hb.neutral i P up k s vp fresh known safe,
+        );
         static = (he.static, hb.static);
         unspent = λ q l. omega (arith, he.unspent q l, hb.unspent q l);
       }
@@ -81,7 +91,11 @@ module _ (V : Masks) (d : ℕ) where
   pub part_if0 : (v : Operand) (e b : Tree) → Part V d e → Part V d b → Part V d (If0 v e b)
   part_if0 v e b he hb =
       record {
-        neutral = λ i P up k s vp fresh known safe. (safe_fine V d up k s safe, he.neutral i P up k s vp fresh known safe, hb.neutral i P up k s vp fresh known safe);
+        neutral = λ i P up k s vp fresh known safe. (
+          safe_fine V d up k s safe,
+          he.neutral i P up k s vp fresh known safe,
+          hb.neutral i P up k s vp fresh known safe,
+        );
         static = (he.static, hb.static);
         unspent = λ q l. omega (arith, he.unspent q l, hb.unspent q l);
       }
@@ -89,7 +103,12 @@ module _ (V : Masks) (d : ℕ) where
   pub part_join : (f : Handle) (v : ℕ) (a : Tree) (w : ℕ) (b c : Tree) → Part V d a → Part V d b → Part V d c → Part V d (Join f v a w b c)
   part_join f v a w b c ha hb hc =
       record {
-        neutral = λ i P up k s vp fresh known safe. (safe_fine V d up k s safe, ha.neutral i P up k s vp fresh known safe, hb.neutral i P up k s vp fresh known safe, hc.neutral i P up k s vp fresh known safe);
+        neutral = λ i P up k s vp fresh known safe. (
+          safe_fine V d up k s safe,
+          ha.neutral i P up k s vp fresh known safe,
+          hb.neutral i P up k s vp fresh known safe,
+          hc.neutral i P up k s vp fresh known safe,
+        );
         static = (ha.static, hb.static, hc.static);
         unspent = λ q l. omega (arith, ha.unspent q l, hb.unspent q l, hc.unspent q l);
       }
@@ -105,7 +124,11 @@ module _ (V : Masks) (d : ℕ) where
   pub part_start : (v : ℕ) (e b : Tree) → Part V d e → Part V d b → Part V d (Start v e b)
   part_start v e b he hb =
       record {
-        neutral = λ i P up k s vp fresh known safe. (safe_fine V d up k s safe, (λ c. he.neutral c P [] (Some []) [] vp fresh tt (inl refl)), hb.neutral i P up k s vp fresh known safe);
+        neutral = λ i P up k s vp fresh known safe. (
+          safe_fine V d up k s safe,
+          (λ c. he.neutral c P [] (Some []) [] vp fresh tt (inl refl)),
+          hb.neutral i P up k s vp fresh known safe,
+        );
         static = (he.static, hb.static);
         unspent = λ q l. omega (arith, he.unspent q l, hb.unspent q l);
       }
@@ -124,12 +147,27 @@ module _ (V : Masks) (d : ℕ) where
         neutral = λ i P up k s vp fresh known safe.
             let fine : Fine up k s = safe_fine V d up k s safe in
             let more : (q : Mask) → with_slot V d q → with_slot P d q = λ q. elim [ inl h ↦ inl (vp q h) | inr h ↦ inr h ] in
-            let fresh1 : (v : ℕ) → d + 1 ≤ v → with_slot P d (Named v) → ⊥ = λ v l. elim [ inl h ↦ fresh v (omega arith) h | inr h ↦ named_ne v d (omega arith) h ] in
+            let fresh1 : (v : ℕ) → d + 1 ≤ v → with_slot P d (Named v) → ⊥ =
+            λ v l. elim [ inl h ↦ fresh v (omega arith) h | inr h ↦ named_ne v d (omega arith) h ] in
             let safe1 : Safe (with_slot V d) (d + 1) (Named d ∷ up) k s = elim safe [
               | inl h ↦ inl h
-              | inr h ↦ inr (h.0, h.1, record { member = inr h.2.member; hidden = elim [ inl g ↦ h.2.hidden g | inr g ↦ h.2.outside d (omega arith) g ]; outside = λ v l. h.2.outside v (omega arith) })
-            ] in
-            (fine, fresh d (omega arith), fine, fine, he.neutral i (with_slot P d) (Named d ∷ up) k s more fresh1 (in_more P (with_slot P d) (λ q h. inl h) s known) safe1);
+              | inr h ↦ inr (
+                h.0,
+                h.1,
+                record {
+                  member = inr h.2.member;
+                  hidden = elim [ inl g ↦ h.2.hidden g | inr g ↦ h.2.outside d (omega arith) g ];
+                  outside =
+                      λ v l. h.2.outside v (omega arith);
+                },
+              )
+            ] in (
+              fine,
+              fresh d (omega arith),
+              fine,
+              fine,
+              he.neutral i (with_slot P d) (Named d ∷ up) k s more fresh1 (in_more P (with_slot P d) (λ q h. inl h) s known) safe1,
+            );
         static = (he.static, (let none : spends (only (Named d)) e ≡ 0 = he.unspent (Named d) (omega arith) in omega arith));
         unspent = λ q l. he.unspent q (below_up d (d + 1) q (omega arith) l);
       }
@@ -153,7 +191,11 @@ module _ (V : Masks) (d : ℕ) where
             let fine : Fine up k s = safe_fine V d up k s safe in
             let safe1 : Safe V d (undone q up) k s = elim safe [
               | inl h ↦ inl h
-              | inr h ↦ inr (h.0, h.1, record { member = active_undone q h.1 up (λ g. h.2.hidden (subst V g vq)) h.2.member; hidden = h.2.hidden; outside = h.2.outside })
+              | inr h ↦ inr (
+                h.0,
+                h.1,
+                record { member = active_undone q h.1 up (λ g. h.2.hidden (subst V g vq)) h.2.member; hidden = h.2.hidden; outside = h.2.outside },
+              )
             ] in
             (fine, vp q vq, fine, fine, he.neutral i P (undone q up) k s vp fresh known safe1);
         static = he.static;
@@ -166,21 +208,44 @@ module _ (V : Masks) (d : ℕ) where
         neutral = λ i P up k s vp fresh known safe.
             let fine : Fine up k s = safe_fine V d up k s safe in
             let runs : (f m : ℕ) → (P (Pair f m) → ⊥) → Typed i P (Pair f m ∷ []) None s (Some s) (Some s) fin =
-            λ f m u. hf.neutral i P (Pair f m ∷ []) None s vp fresh known (inr (refl, Pair f m, record { member = inl refl; hidden = λ h. u (vp (Pair f m) h); outside = λ v g. pair_named f m v })) in
+            λ f m u. hf.neutral i P (Pair f m ∷ []) None s vp fresh known
+            (inr (refl, Pair f m, record { member = inl refl; hidden = λ h. u (vp (Pair f m) h); outside = λ v g. pair_named f m v })) in
             elim safe [
-              | inl h ↦ (fine, Some s, known, he.neutral i P up (Some s) s vp fresh known (inl refl), subst (λ y. Leads (Some s) y (λ a b. (f m : ℕ) → (P (Pair f m) → ⊥) → Typed i P (Pair f m ∷ []) None a (Some b) (Some b) fin)) (sym h) runs, fine, fine)
+              | inl h ↦ (
+                fine,
+                Some s,
+                known,
+                he.neutral i P up (Some s) s vp fresh known (inl refl),
+                subst (λ y. Leads (Some s) y (λ a b. (f m : ℕ) → (P (Pair f m) → ⊥) → Typed i P (Pair f m ∷ []) None a (Some b) (Some b) fin))
+                    (sym h) runs,
+                fine,
+                fine,
+              )
               | inr h ↦ (fine, None, tt, he.neutral i P up None s vp fresh known (inr (refl, h.1, h.2)), tt, fine, fine)
             ];
         static = (he.static, hf.static);
         unspent = λ q l. omega (arith, he.unspent q l, hf.unspent q l);
       }
 
-  pub part_bracket : (acq body rs re rc : Tree) → ((v : ℕ) → d ≤ v → V (Named v) → ⊥) → Part (with_slot V d) (d + 1) acq → Part V (d + 3) body → Part V (d + 4) rs → Part V (d + 4) re → Part V (d + 3) rc → Part V d (bracket_case d acq body rs re rc)
+  pub part_bracket : (acq body rs re rc : Tree) → ((v : ℕ) → d ≤ v → V (Named v) → ⊥) → Part (with_slot V d) (d + 1) acq → Part V (d + 3) body →
+      Part V (d + 4) rs → Part V (d + 4) re → Part V (d + 3) rc → Part V d (bracket_case d acq body rs re rc)
   part_bracket acq body rs re rc below ha hb hs he hc =
-      let u1 : (q : Mask) → Below (d + 1) q → (spends (only q) acq ≡ 0) × (spends (only q) body ≡ 0) × (spends (only q) rs ≡ 0) × (spends (only q) re ≡ 0) × (spends (only q) rc ≡ 0) =
-      λ q l. (ha.unspent q l, hb.unspent q (below_up (d + 1) (d + 3) q (omega arith) l), hs.unspent q (below_up (d + 1) (d + 4) q (omega arith) l), he.unspent q (below_up (d + 1) (d + 4) q (omega arith) l), hc.unspent q (below_up (d + 1) (d + 3) q (omega arith) l)) in
-      let u2 : (spends (only (Named (d + 2))) body ≡ 0) × (spends (only (Named (d + 2))) rs ≡ 0) × (spends (only (Named (d + 2))) re ≡ 0) × (spends (only (Named (d + 2))) rc ≡ 0) =
-      (hb.unspent (Named (d + 2)) (omega arith), hs.unspent (Named (d + 2)) (omega arith), he.unspent (Named (d + 2)) (omega arith), hc.unspent (Named (d + 2)) (omega arith)) in
+      let u1 : (q : Mask) → Below (d + 1) q → (spends (only q) acq ≡ 0) × (spends (only q) body ≡ 0) × (spends (only q) rs ≡ 0) ×
+      (spends (only q) re ≡ 0) × (spends (only q) rc ≡ 0) =
+      λ q l. (
+        ha.unspent q l,
+        hb.unspent q (below_up (d + 1) (d + 3) q (omega arith) l),
+        hs.unspent q (below_up (d + 1) (d + 4) q (omega arith) l),
+        he.unspent q (below_up (d + 1) (d + 4) q (omega arith) l),
+        hc.unspent q (below_up (d + 1) (d + 3) q (omega arith) l),
+      ) in
+      let u2 : (spends (only (Named (d + 2))) body ≡ 0) × (spends (only (Named (d + 2))) rs ≡ 0) × (spends (only (Named (d + 2))) re ≡ 0) ×
+      (spends (only (Named (d + 2))) rc ≡ 0) = (
+        hb.unspent (Named (d + 2)) (omega arith),
+        hs.unspent (Named (d + 2)) (omega arith),
+        he.unspent (Named (d + 2)) (omega arith),
+        hc.unspent (Named (d + 2)) (omega arith),
+      ) in
       let here = u1 (Named d) (omega arith) in
       record {
         neutral = bracket_neutral V d acq body rs re rc below ha.neutral hb.neutral hs.neutral he.neutral hc.neutral;
@@ -189,7 +254,10 @@ module _ (V : Masks) (d : ℕ) where
             ha.static,
             (
               tt,
-              ((((hb.static, (tt, ((hc.static, (tt, tt)), tt))), (tt, ((he.static, tt), (tt, tt)))), (tt, ((hs.static, (tt, tt)), (tt, tt)))), omega (arith, u2.0, u2.1, u2.2, u2.3)),
+              (
+                (((hb.static, (tt, ((hc.static, (tt, tt)), tt))), (tt, ((he.static, tt), (tt, tt)))), (tt, ((hs.static, (tt, tt)), (tt, tt)))),
+                omega (arith, u2.0, u2.1, u2.2, u2.3),
+              ),
             ),
           ),
           omega (arith, here.0, here.1, here.2, here.3, here.4, only_one (Named d) (Named d)),

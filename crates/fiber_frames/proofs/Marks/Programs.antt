@@ -1,7 +1,8 @@
 -- The expansion of every closed, well-kinded program leaves open what was open, and acquires each mask at most once.
 use Rattle.std.proofs.Common.{◌≡◌, ◌≢◌, ℕ, zero, suc, ◌+◌, ◌≤◌, ◌<◌, inl, inr, List, [], ◌∷◌, ◌++◌, Some, refl, arith, slice_get, sym, subst, append_assoc}
 use Rattle.std.specs.Prelude.{pos}
-use Rattle.derived_ops.specs.Expansion.{awaits, both_side, code_of, ended, expansion, gives_up, guarantee, nil, pair_race, race_side, runs_side, slot_at, value_in}
+use Rattle.derived_ops.specs.Expansion.{awaits, both_side, code_of, ended, expansion, gives_up, guarantee, nil}
+use Rattle.derived_ops.specs.Expansion.{pair_race, race_side, runs_side, slot_at, value_in}
 use Rattle.derived_ops.specs.Reading.{seq_of, source_of, value_of}
 use Rattle.derived_ops.specs.Source.{Source}
 use Rattle.derived_ops.specs.Tree.{Act, Always, Canceled, Complete, Named, Never, New_deferred, New_ref, Number, Open_slot, Slot, Times, Tree, Uncancelable}
@@ -9,14 +10,18 @@ use Rattle.effect_term.specs.Kinds.{AllWellKinded, WellKinded}
 use Rattle.effect_term.specs.declared.term.Kind.{Kind}
 use Rattle.effect_term.specs.declared.term.Term.{Row_of-Term, Term, end_of-Term, more_of-Term}
 use Rattle.fiber_frames.proofs.Marks.Derived.{named_ne}
-use Rattle.fiber_frames.proofs.Marks.Plain.{Part, part_act, part_bracket, part_cancel, part_down, part_handle, part_if0, part_join, part_let, part_loop, part_make, part_on_cancel, part_poll, part_pure, part_raise, part_seq, part_start, part_uncancelable}
+use Rattle.fiber_frames.proofs.Marks.Plain.{Part, part_act, part_bracket, part_cancel, part_down, part_handle}
+use Rattle.fiber_frames.proofs.Marks.Plain.{part_if0, part_join, part_let, part_loop, part_make, part_on_cancel}
+use Rattle.fiber_frames.proofs.Marks.Plain.{part_poll, part_pure, part_raise, part_seq, part_start}
+use Rattle.fiber_frames.proofs.Marks.Plain.{part_uncancelable}
 use Rattle.fiber_frames.proofs.Marks.Typed.{Masks, with_slot}
 use Rattle.effect_term.specs.declared.term.Kind.TheVariants as kind
 use Rattle.effect_term.specs.declared.term.Term.TheVariants as term
 use Rattle.derived_ops.specs.Source as word
 
 -- ---- the derived words
-part_guarantee : (V : Masks) (d : ℕ) (e fin on_error on_value : Tree) → Part (with_slot V d) (d + 1) e → Part (with_slot V d) (d + 1) fin → Part (with_slot V d) (d + 1) on_error → Part (with_slot V d) (d + 1) on_value → Part V d (guarantee d e fin on_error on_value)
+part_guarantee : (V : Masks) (d : ℕ) (e fin on_error on_value : Tree) → Part (with_slot V d) (d + 1) e → Part (with_slot V d) (d + 1) fin →
+    Part (with_slot V d) (d + 1) on_error → Part (with_slot V d) (d + 1) on_value → Part V d (guarantee d e fin on_error on_value)
 part_guarantee V d e fin on_error on_value he hf hr hv =
     let W : Masks = with_slot V d in
     let c = d + 1 in
@@ -29,7 +34,8 @@ part_guarantee V d e fin on_error on_value he hf hr hv =
 
 module _ (V : Masks) (d : ℕ) where
   part_ended : (c f : ℕ) → Part V d (ended c f)
-  part_ended c f = part_join V d (Open_slot f) c nil c nil nil (part_pure V d (Number (pos 0))) (part_pure V d (Number (pos 0))) (part_pure V d (Number (pos 0)))
+  part_ended c f = part_join V d (Open_slot f) c nil c nil nil (part_pure V d (Number (pos 0))) (part_pure V d (Number (pos 0)))
+      (part_pure V d (Number (pos 0)))
 
   part_gives_up : (p : ℕ) → V (Named p) → Part V d (gives_up p)
   part_gives_up p h = part_seq V d _ _ _ (part_poll V d (Named p) _ h (part_act V d Canceled)) (part_act V d Never)
@@ -53,12 +59,14 @@ module _ (V : Masks) (d : ℕ) where
   part_both_side p r c f g second first h =
       part_join V d (Open_slot f) c _ c _ _
       (part_seq V d _ _ _ (part_awaits p (c + 1) g h)
-      (part_join V d (Open_slot g) (c + 1) _ (c + 1) _ _ (part_seq V d _ _ _ (part_act V d _) (part_pure V d (Slot first))) (part_raise V d (Slot (c + 1))) (part_gives_up p h)))
+      (part_join V d (Open_slot g) (c + 1) _ (c + 1) _ _ (part_seq V d _ _ _ (part_act V d _) (part_pure V d (Slot first)))
+      (part_raise V d (Slot (c + 1))) (part_gives_up p h)))
       (part_seq V d _ _ _ (part_cancel V d (Open_slot g)) (part_raise V d (Slot c)))
       (part_seq V d _ _ _ (part_cancel V d (Open_slot g)) (part_gives_up p h))
 
 -- below the poll of the race
-part_pair : (V : Masks) (p : ℕ) (a b s : Tree) → V (Named p) → Part (with_slot V (p + 2)) (p + 2 + 1) a → Part (with_slot V (p + 3)) (p + 3 + 1) b → Part V (p + 1) s → Part V (p + 1) (pair_race p a b s)
+part_pair : (V : Masks) (p : ℕ) (a b s : Tree) → V (Named p) → Part (with_slot V (p + 2)) (p + 2 + 1) a → Part (with_slot V (p + 3)) (p + 3 + 1) b →
+    Part V (p + 1) s → Part V (p + 1) (pair_race p a b s)
 part_pair V p a b s h ha hb hs =
     let d = p + 1 in
     part_make V d New_deferred (p + 1) _
@@ -66,7 +74,8 @@ part_pair V p a b s h ha hb hs =
     (part_start V d (p + 3) _ _ (part_side V d (p + 3) 1 (p + 1) b (omega arith) hb)
     (part_let V d _ (p + 4) s
     (part_on_cancel V d _ _ (part_poll V d (Named p) _ h (part_act V d _))
-    (part_start V d (p + 4) _ _ (part_cancel V d _) (part_start V d (p + 5) _ _ (part_cancel V d _) (part_seq V d _ _ _ (part_ended V d (p + 6) (p + 4)) (part_ended V d (p + 6) (p + 5))))))
+    (part_start V d (p + 4) _ _ (part_cancel V d _)
+    (part_start V d (p + 5) _ _ (part_cancel V d _) (part_seq V d _ _ _ (part_ended V d (p + 6) (p + 4)) (part_ended V d (p + 6) (p + 5))))))
     hs)))
 
 -- ---- the binders of a program around a piece
@@ -87,7 +96,9 @@ even_more (x ∷ g) (y ∷ m) k c h = even_more g m k c h
 even_more [] (y ∷ m) k c h = absurd h
 even_more (x ∷ g) [] k c h = absurd h
 
-polls_more : (g : List Kind) (m : List ℕ) (k : Kind) (c : ℕ) (V : Masks) → Even g m → ((v : ℕ) → slice_get g v ≡ Some kind.Poll → V (Named (slot_at m v))) → (k ≡ kind.Poll → V (Named c)) → (v : ℕ) → slice_get (g ++ k ∷ []) v ≡ Some kind.Poll → V (Named (slot_at (m ++ c ∷ []) v))
+polls_more : (g : List Kind) (m : List ℕ) (k : Kind) (c : ℕ) (V : Masks) → Even g m →
+    ((v : ℕ) → slice_get g v ≡ Some kind.Poll → V (Named (slot_at m v))) → (k ≡ kind.Poll → V (Named c)) → (v : ℕ) →
+    slice_get (g ++ k ∷ []) v ≡ Some kind.Poll → V (Named (slot_at (m ++ c ∷ []) v))
 polls_more [] [] k c V e h new zero x = new (cc)
 polls_more [] [] k c V e h new (suc v) x = cc
 polls_more (y ∷ g) (z ∷ m) k c V e h new zero x = h zero x
@@ -96,7 +107,8 @@ polls_more [] (y ∷ m) k c V e h new v x = absurd e
 polls_more (y ∷ g) [] k c V e h new v x = absurd e
 
 -- below a binder of the program that is no poll
-scope_plain : (g : List Kind) (m : List ℕ) (V : Masks) (d : ℕ) (k : Kind) (c e : ℕ) → k ≢ kind.Poll → d ≤ e → Scope g m V d → Scope (g ++ k ∷ []) (m ++ c ∷ []) V e
+scope_plain : (g : List Kind) (m : List ℕ) (V : Masks) (d : ℕ) (k : Kind) (c e : ℕ) → k ≢ kind.Poll → d ≤ e → Scope g m V d →
+    Scope (g ++ k ∷ []) (m ++ c ∷ []) V e
 scope_plain g m V d k c e ne l s =
     record { even = even_more g m k c s.even; polls = polls_more g m k c V s.even s.polls (λ x. absurd (ne x)); fresh = λ v y. s.fresh v (omega arith) }
 
@@ -145,7 +157,8 @@ module _ (g : List Kind) (m : List ℕ) (d : ℕ) (V : Masks) (s : Scope g m V d
   bound : (k : Kind) (ne : k ≢ kind.Poll) (t : Term) → Sound t → WellKinded (g ++ k ∷ []) t → Part V d (expansion (m ++ d ∷ []) (d + 1) (source_of t))
   bound k ne t h w = part_down V d (d + 1) _ (omega arith) (h (g ++ k ∷ []) (m ++ d ∷ []) (d + 1) V (scope_plain g m V d k d (d + 1) ne (omega arith) s) w)
 
-  guarantee_sound : (e fin : Term) → Sound e → Sound fin → WellKinded g e → WellKinded g fin → Part V d (expansion m d (word.Guarantee (source_of e) (source_of fin)))
+  guarantee_sound : (e fin : Term) → Sound e → Sound fin → WellKinded g e → WellKinded g fin →
+      Part V d (expansion m d (word.Guarantee (source_of e) (source_of fin)))
   guarantee_sound e fin he hf we wf =
       let W : Masks = with_slot V d in
       let s1 = scope_under g m V d d (d + 1) (omega arith) (omega arith) s in
@@ -157,10 +170,12 @@ module _ (g : List Kind) (m : List ℕ) (d : ℕ) (V : Masks) (s : Scope g m V d
   in_value : (c : ℕ) (t : Term) → d + 2 ≤ c → Sound t → WellKinded (g ++ kind.Value ∷ []) t → Part V c (expansion (m ++ (d + 1) ∷ []) c (source_of t))
   in_value c t l h w = h (g ++ kind.Value ∷ []) (m ++ (d + 1) ∷ []) c V (scope_plain g m V d kind.Value (d + 1) c not_poll_value (omega arith) s) w
 
-  in_end : (c : ℕ) (t : Term) → d + 4 ≤ c → Sound t → WellKinded (g ++ kind.Value ∷ kind.Value ∷ []) t → Part V c (expansion ((m ++ (d + 1) ∷ []) ++ (d + 3) ∷ []) c (source_of t))
+  in_end : (c : ℕ) (t : Term) → d + 4 ≤ c → Sound t → WellKinded (g ++ kind.Value ∷ kind.Value ∷ []) t →
+      Part V c (expansion ((m ++ (d + 1) ∷ []) ++ (d + 3) ∷ []) c (source_of t))
   in_end c t l h w =
       let s1 = scope_plain g m V d kind.Value (d + 1) c not_poll_value (omega arith) s in
-      h ((g ++ kind.Value ∷ []) ++ kind.Value ∷ []) ((m ++ (d + 1) ∷ []) ++ (d + 3) ∷ []) c V (scope_plain (g ++ kind.Value ∷ []) (m ++ (d + 1) ∷ []) V c kind.Value (d + 3) c not_poll_value (omega arith) s1) (two_binders g t w)
+      h ((g ++ kind.Value ∷ []) ++ kind.Value ∷ []) ((m ++ (d + 1) ∷ []) ++ (d + 3) ∷ []) c V
+      (scope_plain (g ++ kind.Value ∷ []) (m ++ (d + 1) ∷ []) V c kind.Value (d + 3) c not_poll_value (omega arith) s1) (two_binders g t w)
 
   -- a side of a race, below its poll p and the poll c of its guarantee
   in_side : (p c e : ℕ) (t : Term) → d ≤ p → p < e → c < e → Sound t → WellKinded g t → Part (with_slot (with_slot V p) c) e (expansion m e (source_of t))
@@ -171,25 +186,33 @@ module _ (g : List Kind) (m : List ℕ) (d : ℕ) (V : Masks) (s : Scope g m V d
   race_sound a b ha hb wa wb =
       let W : Masks = with_slot V d in
       let here : W (Named d) = inr refl in
-      let pa : Part (with_slot W (d + 2)) (d + 2 + 1) (expansion m (d + 3) (source_of a)) = part_down (with_slot W (d + 2)) (d + 2 + 1) (d + 3) _ (omega arith) (in_side d (d + 2) (d + 3) a (omega arith) (omega arith) (omega arith) ha wa) in
-      let pb : Part (with_slot W (d + 3)) (d + 3 + 1) (expansion m (d + 4) (source_of b)) = part_down (with_slot W (d + 3)) (d + 3 + 1) (d + 4) _ (omega arith) (in_side d (d + 3) (d + 4) b (omega arith) (omega arith) (omega arith) hb wb) in
+      let pa : Part (with_slot W (d + 2)) (d + 2 + 1) (expansion m (d + 3) (source_of a)) =
+      part_down (with_slot W (d + 2)) (d + 2 + 1) (d + 3) _ (omega arith) (in_side d (d + 2) (d + 3) a (omega arith) (omega arith) (omega arith) ha wa) in
+      let pb : Part (with_slot W (d + 3)) (d + 3 + 1) (expansion m (d + 4) (source_of b)) =
+      part_down (with_slot W (d + 3)) (d + 3 + 1) (d + 4) _ (omega arith) (in_side d (d + 3) (d + 4) b (omega arith) (omega arith) (omega arith) hb wb) in
       part_uncancelable V d _
       (part_pair W d _ _ _ here pa pb
-      (part_if0 W (d + 1) (Slot (d + 4)) _ _ (part_race_side W (d + 1) d (d + 5) (d + 2) (d + 3) here) (part_race_side W (d + 1) d (d + 5) (d + 3) (d + 2) here)))
+      (part_if0 W (d + 1) (Slot (d + 4)) _ _ (part_race_side W (d + 1) d (d + 5) (d + 2) (d + 3) here)
+      (part_race_side W (d + 1) d (d + 5) (d + 3) (d + 2) here)))
 
-  both_sound : (a b k : Term) → Sound a → Sound b → Sound k → WellKinded g a → WellKinded g b → WellKinded (g ++ kind.Value ∷ kind.Value ∷ []) k → Part V d (expansion m d (word.Both (source_of a) (source_of b) (source_of k)))
+  both_sound : (a b k : Term) → Sound a → Sound b → Sound k → WellKinded g a → WellKinded g b → WellKinded (g ++ kind.Value ∷ kind.Value ∷ []) k →
+      Part V d (expansion m d (word.Both (source_of a) (source_of b) (source_of k)))
   both_sound a b k ha hb hk wa wb wk =
       let p = d + 1 in
       let W : Masks = with_slot V p in
       let here : W (Named p) = inr refl in
-      let pa : Part (with_slot W (p + 2)) (p + 2 + 1) (expansion m (d + 4) (source_of a)) = part_down (with_slot W (p + 2)) (p + 2 + 1) (d + 4) _ (omega arith) (in_side p (p + 2) (d + 4) a (omega arith) (omega arith) (omega arith) ha wa) in
-      let pb : Part (with_slot W (p + 3)) (p + 3 + 1) (expansion m (d + 5) (source_of b)) = part_down (with_slot W (p + 3)) (p + 3 + 1) (d + 5) _ (omega arith) (in_side p (p + 3) (d + 5) b (omega arith) (omega arith) (omega arith) hb wb) in
+      let pa : Part (with_slot W (p + 2)) (p + 2 + 1) (expansion m (d + 4) (source_of a)) =
+      part_down (with_slot W (p + 2)) (p + 2 + 1) (d + 4) _ (omega arith) (in_side p (p + 2) (d + 4) a (omega arith) (omega arith) (omega arith) ha wa) in
+      let pb : Part (with_slot W (p + 3)) (p + 3 + 1) (expansion m (d + 5) (source_of b)) =
+      part_down (with_slot W (p + 3)) (p + 3 + 1) (d + 5) _ (omega arith) (in_side p (p + 3) (d + 5) b (omega arith) (omega arith) (omega arith) hb wb) in
       let s1 = scope_plain g m V d kind.Value (d + 1) (d + 3) not_poll_value (omega arith) s in
       let rest : Part V (d + 3) (expansion ((m ++ (d + 1) ∷ []) ++ (d + 2) ∷ []) (d + 3) (source_of k)) =
-      hk ((g ++ kind.Value ∷ []) ++ kind.Value ∷ []) ((m ++ (d + 1) ∷ []) ++ (d + 2) ∷ []) (d + 3) V (scope_plain (g ++ kind.Value ∷ []) (m ++ (d + 1) ∷ []) V (d + 3) kind.Value (d + 2) (d + 3) not_poll_value (omega arith) s1) (two_binders g k wk) in
+      hk ((g ++ kind.Value ∷ []) ++ kind.Value ∷ []) ((m ++ (d + 1) ∷ []) ++ (d + 2) ∷ []) (d + 3) V
+      (scope_plain (g ++ kind.Value ∷ []) (m ++ (d + 1) ∷ []) V (d + 3) kind.Value (d + 2) (d + 3) not_poll_value (omega arith) s1) (two_binders g k wk) in
       let raced : Part V p (Uncancelable p _) = part_uncancelable V p _
       (part_pair W p _ _ _ here pa pb
-      (part_if0 W (p + 1) (Slot (p + 4)) _ _ (part_both_side W (p + 1) p d (p + 5) (p + 2) (p + 3) (p + 6) (p + 5) here) (part_both_side W (p + 1) p d (p + 5) (p + 3) (p + 2) (p + 5) (p + 6) here))) in
+      (part_if0 W (p + 1) (Slot (p + 4)) _ _ (part_both_side W (p + 1) p d (p + 5) (p + 2) (p + 3) (p + 6) (p + 5) here)
+      (part_both_side W (p + 1) p d (p + 5) (p + 3) (p + 2) (p + 5) (p + 6) here))) in
       part_make V d (New_ref (Number (pos 0))) d _
       (part_let V d _ (d + 1) _ (part_down V d p _ (omega arith) raced)
       (part_let V d _ (d + 2) _ (part_act V d _) (part_down V d (d + 3) _ (omega arith) rest)))
@@ -208,12 +231,14 @@ mutual
   sound term.Cede g m d V s w = part_act V d _
   sound term.Never g m d V s w = part_act V d _
   sound term.Canceled g m d V s w = part_act V d _
-  sound (term.Uncancelable' _ e) g m d V s w = part_uncancelable V d _ (sound e (g ++ kind.Poll ∷ []) (m ++ d ∷ []) (d + 1) (with_slot V d) (scope_poll g m V d s) w)
+  sound (term.Uncancelable' _ e) g m d V s w =
+      part_uncancelable V d _ (sound e (g ++ kind.Poll ∷ []) (m ++ d ∷ []) (d + 1) (with_slot V d) (scope_poll g m V d s) w)
   sound (term.Poll' p _ e) g m d V s w = part_poll V d (Named (slot_at m p.slot)) _ (s.polls p.slot w.0.0) (sound e g m d V s w.1)
   sound (term.OnCancel' _ e _ fin) g m d V s w = part_on_cancel V d _ _ (sound e g m d V s w.0) (sound fin g m d V s w.1)
   sound (term.Start' _ e _ k) g m d V s w = part_start V d d _ _ (sound e g m d V s w.0) (bound g m d V s kind.Fiber not_poll_fiber k (sound k) w.1)
   sound (term.Join' f _ a _ b _ c) g m d V s w =
-      part_join V d (Open_slot (slot_at m f.slot)) d _ d _ _ (bound g m d V s kind.Value not_poll_value a (sound a) w.1) (bound g m d V s kind.Value not_poll_value b (sound b) w.2) (sound c g m d V s w.3)
+      part_join V d (Open_slot (slot_at m f.slot)) d _ d _ _ (bound g m d V s kind.Value not_poll_value a (sound a) w.1)
+      (bound g m d V s kind.Value not_poll_value b (sound b) w.2) (sound c g m d V s w.3)
   sound (term.Cancel f) g m d V s w = part_cancel V d _
   sound (term.Ref' v _ k) g m d V s w = part_make V d (New_ref (value_in m (value_of v))) d _ (bound g m d V s kind.Ref not_poll_ref k (sound k) w.1)
   sound (term.Get r) g m d V s w = part_act V d _
@@ -228,20 +253,25 @@ mutual
   sound (term.Bracket' _ a _ b _ r) g m d V s w =
       let below : Scope g m (with_slot V d) (d + 1) = scope_under g m V d d (d + 1) (omega arith) (omega arith) s in
       let end : Part V (d + 4) (expansion (m ++ (d + 1) ∷ []) (d + 4) (source_of r)) = in_value g m d V s (d + 4) r (omega arith) (sound r) w.2 in
-      part_bracket V d _ _ _ _ _ s.fresh (sound a g m (d + 1) (with_slot V d) below w.0) (in_value g m d V s (d + 3) b (omega arith) (sound b) w.1) end end (in_value g m d V s (d + 3) r (omega arith) (sound r) w.2)
+      part_bracket V d _ _ _ _ _ s.fresh (sound a g m (d + 1) (with_slot V d) below w.0) (in_value g m d V s (d + 3) b (omega arith) (sound b) w.1)
+      end end (in_value g m d V s (d + 3) r (omega arith) (sound r) w.2)
   sound (term.BracketCase' _ a _ b _ rs _ re _ rc) g m d V s w =
       let below : Scope g m (with_slot V d) (d + 1) = scope_under g m V d d (d + 1) (omega arith) (omega arith) s in
       part_bracket V d _ _ _ _ _ s.fresh (sound a g m (d + 1) (with_slot V d) below w.0) (in_value g m d V s (d + 3) b (omega arith) (sound b) w.1)
-      (in_end g m d V s (d + 4) rs (omega arith) (sound rs) w.2) (in_end g m d V s (d + 4) re (omega arith) (sound re) w.3) (in_value g m d V s (d + 3) rc (omega arith) (sound rc) w.4)
+      (in_end g m d V s (d + 4) rs (omega arith) (sound rs) w.2) (in_end g m d V s (d + 4) re (omega arith) (sound re) w.3)
+      (in_value g m d V s (d + 3) rc (omega arith) (sound rc) w.4)
   sound (term.BracketFull' _ a _ b _ rs _ re _ rc) g m d V s w =
       let below : Scope (g ++ kind.Poll ∷ []) (m ++ d ∷ []) (with_slot V d) (d + 1) = scope_poll g m V d s in
-      part_bracket V d _ _ _ _ _ s.fresh (sound a (g ++ kind.Poll ∷ []) (m ++ d ∷ []) (d + 1) (with_slot V d) below w.0) (in_value g m d V s (d + 3) b (omega arith) (sound b) w.1)
-      (in_end g m d V s (d + 4) rs (omega arith) (sound rs) w.2) (in_end g m d V s (d + 4) re (omega arith) (sound re) w.3) (in_value g m d V s (d + 3) rc (omega arith) (sound rc) w.4)
+      part_bracket V d _ _ _ _ _ s.fresh (sound a (g ++ kind.Poll ∷ []) (m ++ d ∷ []) (d + 1) (with_slot V d) below w.0)
+      (in_value g m d V s (d + 3) b (omega arith) (sound b) w.1)
+      (in_end g m d V s (d + 4) rs (omega arith) (sound rs) w.2) (in_end g m d V s (d + 4) re (omega arith) (sound re) w.3)
+      (in_value g m d V s (d + 3) rc (omega arith) (sound rc) w.4)
   sound (term.Race' _ a _ b) g m d V s w = race_sound g m d V s a b (sound a) (sound b) w.0 w.1
   sound (term.Both' _ a _ b _ k) g m d V s w = both_sound g m d V s a b k (sound a) (sound b) (sound k) w.0 w.1 w.2
 
   -- a `seq` of these two parts and more
-  sound_seq : (g : List Kind) (m : List ℕ) (d : ℕ) (V : Masks) → Scope g m V d → (a b : Source) {n : _} (more : Row_of-Term n) → Part V d (expansion m d a) → Part V d (expansion m d b) → AllWellKinded g more → Part V d (expansion m d (seq_of a b more))
+  sound_seq : (g : List Kind) (m : List ℕ) (d : ℕ) (V : Masks) → Scope g m V d → (a b : Source) {n : _} (more : Row_of-Term n) →
+      Part V d (expansion m d a) → Part V d (expansion m d b) → AllWellKinded g more → Part V d (expansion m d (seq_of a b more))
   sound_seq g m d V s a b end_of-Term ha hb w = part_seq V d _ _ _ ha hb
   sound_seq g m d V s a b (more_of-Term c rest) ha hb w =
       part_seq V d _ _ _ ha (sound_seq g m d V s b (source_of c) rest hb (sound c g m d V s w.0) w.1)

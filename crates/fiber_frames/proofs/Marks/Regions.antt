@@ -3,7 +3,10 @@ use Rattle.std.proofs.Common.{◌≡◌, inl, inr, ℕ, Bool, true, false, if◌
 use Rattle.std.specs.Prelude.{◌&&◌}
 use Rattle.std.proofs.lemmas.Bool.{eqb-true, eqb-false}
 use Rattle.derived_ops.specs.Put.{Put, Put_handle, Put_mask, Put_value, put}
-use Rattle.derived_ops.specs.Tree.{Acquired, Act, Action, Always, Bracket_mark, Cancel, Guarded, Handle, Handled, If0, Join, Last, Let, Loop, Make, Mask, Masked, Named, New_deferred, New_ref, Note, On_cancel, Pair, Poll, Polled, Pure, Raise, Released, Releasing, Rest, Seq, Start, Times, Tree, Turns, Uncancelable}
+use Rattle.derived_ops.specs.Tree.{Acquired, Act, Action, Always, Bracket_mark, Cancel, Guarded, Handle}
+use Rattle.derived_ops.specs.Tree.{Handled, If0, Join, Last, Let, Loop, Make, Mask, Masked, Named, New_deferred}
+use Rattle.derived_ops.specs.Tree.{New_ref, Note, On_cancel, Pair, Poll, Polled, Pure, Raise, Released}
+use Rattle.derived_ops.specs.Tree.{Releasing, Rest, Seq, Start, Times, Tree, Turns, Uncancelable}
 use Rattle.effect_term.specs.declared.reply.Outcome.{Outcome}
 use Rattle.effect_term.specs.declared.reply.Reply.{Reply}
 use Rattle.fiber_frames.proofs.Marks.Actions.{ActionRow, Says, action_case, said, silent, simple_case}
@@ -14,7 +17,9 @@ use Rattle.fiber_frames.proofs.Marks.Spending.{Runtime, handle_runtime, mask_run
 use Rattle.fiber_frames.proofs.Marks.Typed.{AllOf}
 use Rattle.fiber_frames.proofs.Walk.{End, Gives, Throws, Works, end_of, masks_below, under, walk}
 use Rattle.fiber_frames.specs.Path.{In_guarded, In_handle, In_let, In_masked, In_polled, In_seq, is_effective, same_mask, undone}
-use Rattle.fiber_frames.specs.Rows.{Kind, Plain, Row, action_row, branch, calls, enters, is_positive, is_zero, looped, mask_number, note_mark, notes, number_in, number_of, one_less, outcome_in, switches, unit}
+use Rattle.fiber_frames.specs.Rows.{Kind, Plain, Row, action_row, branch, calls, enters, is_positive, is_zero}
+use Rattle.fiber_frames.specs.Rows.{looped, mask_number, note_mark, notes, number_in, number_of, one_less}
+use Rattle.fiber_frames.specs.Rows.{outcome_in, switches, unit}
 use Rattle.fiber_frames.specs.declared.ask.Ask.{Ask}
 use Rattle.fiber_frames.specs.declared.mark.Mark.{Mark}
 use Rattle.fiber_frames.specs.declared.ask.Ask.TheVariants as ask
@@ -78,19 +83,22 @@ pub record Agrees (i : ℕ) (before up : List Mask) (a : Row Tree) : Type 0 wher
   pub agrees : (m : ℕ) (b : Bool) → (b ≡ true → Active (Pair i m) before) → is_on m b a.marks ≡ true → Active (Pair i m) (masks_below i up a.becomes)
 
 -- ---- masks and marks
-on_left : (i m n : ℕ) (b c : Bool) (up : List Mask) → nat_eq n m ≡ c → (b ≡ true → Active (Pair i m) (Pair i n ∷ up)) → (if c then false else b) ≡ true → Active (Pair i m) up
+on_left : (i m n : ℕ) (b c : Bool) (up : List Mask) → nat_eq n m ≡ c → (b ≡ true → Active (Pair i m) (Pair i n ∷ up)) →
+    (if c then false else b) ≡ true → Active (Pair i m) up
 on_left i m n b true up e h g = cc
 on_left i m n b false up e h g = elim (h g) [ inl same ↦ absurd (eqb-false n m e (number_same same)) | inr more ↦ more ]
   where
     number_same : Pair i m ≡ Pair i n → n ≡ m
     number_same s = cc
 
-on_entered : (i m n : ℕ) (b c : Bool) (up : List Mask) → nat_eq n m ≡ c → (b ≡ true → Active (Pair i m) up) → (if c then true else b) ≡ true → Active (Pair i m) (Pair i n ∷ up)
+on_entered : (i m n : ℕ) (b c : Bool) (up : List Mask) → nat_eq n m ≡ c → (b ≡ true → Active (Pair i m) up) → (if c then true else b) ≡ true →
+    Active (Pair i m) (Pair i n ∷ up)
 on_entered i m n b true up e h g = inl (ap (Pair i) (sym (eqb-true n m e)))
 on_entered i m n b false up e h g = inr (h g)
 
 module _ (i next : ℕ) (r : Reply) where
-  marked_quiet : (c : Ask) (kd : Kind) (before up : List Mask) (t : Tree) (ms : List Mark) → Static t → before ≡ up → ((m : ℕ) (b : Bool) → is_on m b ms ≡ b) → Agrees i before up (record { call = c; becomes = t; marks = ms; next = next; kind = kd })
+  marked_quiet : (c : Ask) (kd : Kind) (before up : List Mask) (t : Tree) (ms : List Mark) → Static t → before ≡ up →
+      ((m : ℕ) (b : Bool) → is_on m b ms ≡ b) → Agrees i before up (record { call = c; becomes = t; marks = ms; next = next; kind = kd })
   marked_quiet c kd before up t ms h e q =
       record { live = static_live t h; agrees = λ m b w g. subst (Active (Pair i m)) (e ∙ sym (static_active i t up h)) (w (sym (q m b) ∙ g)) }
 
@@ -103,7 +111,8 @@ module _ (i next : ℕ) (r : Reply) where
 
   act_agrees : (up : List Mask) (c : Action) → Agrees i up up (action_row i next r c)
   act_agrees up c =
-      let quietly : ActionRow i next r (Agrees i up up) = λ a t ms k p q b. marked_quiet a k up up t ms (simple_case Static (λ v. tt) (λ v. tt) (λ d. tt) t p) refl (says_quiet ms q) in
+      let quietly : ActionRow i next r (Agrees i up up) =
+      λ a t ms k p q b. marked_quiet a k up up t ms (simple_case Static (λ v. tt) (λ v. tt) (λ d. tt) t p) refl (says_quiet ms q) in
       action_case i next r (Agrees i up up) quietly c
 
   note_quiet : (e : Bracket_mark) (n m : ℕ) (b : Bool) → is_on m b (note_mark e n ∷ []) ≡ b
@@ -141,7 +150,8 @@ module _ (i next : ℕ) (r : Reply) where
       go true false x y z = cc
       go false c x y z = cc
 
-  polls_in : (c : Ask) (q : Mask) (e : Tree) (up : List Mask) → AllOf (Own i) up → Static e → Agrees i up up (switches i next (is_effective q up) c (mark.PollIn (mask_number q)) (Polled q e))
+  polls_in : (c : Ask) (q : Mask) (e : Tree) (up : List Mask) → AllOf (Own i) up → Static e →
+      Agrees i up up (switches i next (is_effective q up) c (mark.PollIn (mask_number q)) (Polled q e))
   polls_in c q e [] o h =
       record { live = static_live e h; agrees = λ m b w g. subst (Active (Pair i m)) (sym (static_active i e [] h)) (w g) }
   polls_in c q e (a ∷ up) o h = go (same_mask q a) refl
@@ -153,20 +163,24 @@ module _ (i next : ℕ) (r : Reply) where
           record {
             live = static_live e h;
             agrees = λ m b w g.
-                let marks : is_on m b (if same_mask q a then mark.PollIn (mask_number q) ∷ [] else []) ≡ (if nat_eq o.0.0 m then false else b) = ap (λ y. is_on m b (if y then mark.PollIn (mask_number q) ∷ [] else [])) x ∙ ap (λ y. if nat_eq y m then false else b) n in
+                let marks : is_on m b (if same_mask q a then mark.PollIn (mask_number q) ∷ [] else []) ≡ (if nat_eq o.0.0 m then false else b) =
+                ap (λ y. is_on m b (if y then mark.PollIn (mask_number q) ∷ [] else [])) x ∙ ap (λ y. if nat_eq y m then false else b) n in
                 let below : masks_below i (undone q (a ∷ up)) e ≡ up = static_active i e (undone q (a ∷ up)) h ∙ ap (λ y. if y then up else a ∷ up) x in
-                subst (Active (Pair i m)) (sym below) (on_left i m o.0.0 b (nat_eq o.0.0 m) up refl (λ y. subst (λ z. Active (Pair i m) (z ∷ up)) o.0.1 (w y)) (sym marks ∙ g));
+                subst (Active (Pair i m)) (sym below)
+                (on_left i m o.0.0 b (nat_eq o.0.0 m) up refl (λ y. subst (λ z. Active (Pair i m) (z ∷ up)) o.0.1 (w y)) (sym marks ∙ g));
           }
       go false x =
           record {
             live = static_live e h;
             agrees = λ m b w g.
-                let marks : is_on m b (if same_mask q a then mark.PollIn (mask_number q) ∷ [] else []) ≡ b = ap (λ y. is_on m b (if y then mark.PollIn (mask_number q) ∷ [] else [])) x in
+                let marks : is_on m b (if same_mask q a then mark.PollIn (mask_number q) ∷ [] else []) ≡ b =
+                ap (λ y. is_on m b (if y then mark.PollIn (mask_number q) ∷ [] else [])) x in
                 let below : masks_below i (undone q (a ∷ up)) e ≡ a ∷ up = static_active i e (undone q (a ∷ up)) h ∙ ap (λ y. if y then up else a ∷ up) x in
                 subst (Active (Pair i m)) (sym below) (w (sym marks ∙ g));
           }
 
-  polls_out : (c : Ask) (q : Mask) (v : Tree) (up : List Mask) → AllOf (Own i) up → Static v → Agrees i (undone q up) up (switches i next (is_effective q up) c (mark.PollOut (mask_number q)) v)
+  polls_out : (c : Ask) (q : Mask) (v : Tree) (up : List Mask) → AllOf (Own i) up → Static v →
+      Agrees i (undone q up) up (switches i next (is_effective q up) c (mark.PollOut (mask_number q)) v)
   polls_out c q v [] o h = record { live = static_live v h; agrees = λ m b w g. subst (Active (Pair i m)) (sym (static_active i v [] h)) (w g) }
   polls_out c q v (a ∷ up) o h = go (same_mask q a) refl
     where
@@ -177,16 +191,19 @@ module _ (i next : ℕ) (r : Reply) where
           record {
             live = static_live v h;
             agrees = λ m b w g.
-                let marks : is_on m b (if same_mask q a then mark.PollOut (mask_number q) ∷ [] else []) ≡ (if nat_eq o.0.0 m then true else b) = ap (λ y. is_on m b (if y then mark.PollOut (mask_number q) ∷ [] else [])) x ∙ ap (λ y. if nat_eq y m then true else b) n in
+                let marks : is_on m b (if same_mask q a then mark.PollOut (mask_number q) ∷ [] else []) ≡ (if nat_eq o.0.0 m then true else b) =
+                ap (λ y. is_on m b (if y then mark.PollOut (mask_number q) ∷ [] else [])) x ∙ ap (λ y. if nat_eq y m then true else b) n in
                 let here : undone q (a ∷ up) ≡ up = ap (λ y. if y then up else a ∷ up) x in
-                let found : Active (Pair i m) (Pair i o.0.0 ∷ up) = on_entered i m o.0.0 b (nat_eq o.0.0 m) up refl (λ y. subst (Active (Pair i m)) here (w y)) (sym marks ∙ g) in
+                let found : Active (Pair i m) (Pair i o.0.0 ∷ up) =
+                on_entered i m o.0.0 b (nat_eq o.0.0 m) up refl (λ y. subst (Active (Pair i m)) here (w y)) (sym marks ∙ g) in
                 subst (Active (Pair i m)) (sym (static_active i v (a ∷ up) h)) (subst (λ z. Active (Pair i m) (z ∷ up)) (sym o.0.1) found);
           }
       go false x =
           record {
             live = static_live v h;
             agrees = λ m b w g.
-                let marks : is_on m b (if same_mask q a then mark.PollOut (mask_number q) ∷ [] else []) ≡ b = ap (λ y. is_on m b (if y then mark.PollOut (mask_number q) ∷ [] else [])) x in
+                let marks : is_on m b (if same_mask q a then mark.PollOut (mask_number q) ∷ [] else []) ≡ b =
+                ap (λ y. is_on m b (if y then mark.PollOut (mask_number q) ∷ [] else [])) x in
                 let here : undone q (a ∷ up) ≡ a ∷ up = ap (λ y. if y then up else a ∷ up) x in
                 subst (Active (Pair i m)) (sym (static_active i v (a ∷ up) h)) (subst (Active (Pair i m)) here (w (sym marks ∙ g)));
           }
@@ -202,38 +219,53 @@ module _ (i next : ℕ) (r : Reply) where
   stops (Raise v) up = refl
   stops _ up = tt
 
-  let_agrees : (before up : List Mask) (v : ℕ) (b : Tree) → Static b → (E : End) → Stops E before up → (a : Row Tree) → Agrees i before up a → Agrees i before up (under i next up (In_let v b) E a)
+  let_agrees : (before up : List Mask) (v : ℕ) (b : Tree) → Static b → (E : End) → Stops E before up → (a : Row Tree) → Agrees i before up a →
+      Agrees i before up (under i next up (In_let v b) E a)
   let_agrees before up v b h (Gives w) e a g = quiet _ before up _ (static_put b (Put_value v (number_of w)) (value_runtime v (number_of w)) h) e
   let_agrees before up v b h (Throws w) e a g = quiet _ before up _ tt e
   let_agrees before up v b h Works e a g = record { live = (g.live, h); agrees = g.agrees }
 
-  seq_agrees : (before up : List Mask) (o : Rest) (b : Tree) → Static b → (E : End) → Stops E before up → (a : Row Tree) → Agrees i before up a → Agrees i before up (under i next up (In_seq o b) E a)
+  seq_agrees : (before up : List Mask) (o : Rest) (b : Tree) → Static b → (E : End) → Stops E before up → (a : Row Tree) → Agrees i before up a →
+      Agrees i before up (under i next up (In_seq o b) E a)
   seq_agrees before up o b h (Gives w) e a g = quiet _ before up _ h e
   seq_agrees before up o b h (Throws w) e a g = quiet _ before up _ tt e
   seq_agrees before up o b h Works e a g = record { live = (g.live, h); agrees = g.agrees }
 
-  handle_agrees : (before up : List Mask) (v : ℕ) (b : Tree) → Static b → (E : End) → Stops E before up → (a : Row Tree) → Agrees i before up a → Agrees i before up (under i next up (In_handle v b) E a)
+  handle_agrees : (before up : List Mask) (v : ℕ) (b : Tree) → Static b → (E : End) → Stops E before up → (a : Row Tree) → Agrees i before up a →
+      Agrees i before up (under i next up (In_handle v b) E a)
   handle_agrees before up v b h (Gives w) e a g = quiet _ before up _ tt e
   handle_agrees before up v b h (Throws w) e a g = quiet _ before up _ (static_put b (Put_value v (number_of w)) (value_runtime v (number_of w)) h) e
   handle_agrees before up v b h Works e a g = record { live = (g.live, h); agrees = g.agrees }
 
-  guarded_agrees : (before up : List Mask) (fin : Tree) → Static fin → (E : End) → Stops E before up → (a : Row Tree) → Agrees i before up a → Agrees i before up (under i next up (In_guarded fin) E a)
+  guarded_agrees : (before up : List Mask) (fin : Tree) → Static fin → (E : End) → Stops E before up → (a : Row Tree) → Agrees i before up a →
+      Agrees i before up (under i next up (In_guarded fin) E a)
   guarded_agrees before up fin h (Gives w) e a g = quiet _ before up _ tt e
   guarded_agrees before up fin h (Throws w) e a g = quiet _ before up _ tt e
   guarded_agrees before up fin h Works e a g = record { live = (g.live, h); agrees = g.agrees }
 
   leaves : (before up : List Mask) (n : ℕ) (v : Tree) → Static v → before ≡ Pair i n ∷ up → Agrees i before up (notes i next ask.Unmask (mark.Leave n) v)
   leaves before up n v h e =
-      record { live = static_live v h; agrees = λ m b w g. subst (Active (Pair i m)) (sym (static_active i v up h)) (on_left i m n b (nat_eq n m) up refl (λ y. subst (Active (Pair i m)) e (w y)) g) }
+      record {
+        live = static_live v h;
+        agrees =
+            λ m b w g. subst (Active (Pair i m)) (sym (static_active i v up h))
+            (on_left i m n b (nat_eq n m) up refl (λ y. subst (Active (Pair i m)) e (w y)) g);
+      }
 
-  masked_agrees : (before up : List Mask) (n : ℕ) (E : End) → Stops E before (Pair i n ∷ up) → (a : Row Tree) → Agrees i before (Pair i n ∷ up) a → Agrees i before up (under i next up (In_masked n) E a)
+  masked_agrees : (before up : List Mask) (n : ℕ) (E : End) → Stops E before (Pair i n ∷ up) → (a : Row Tree) → Agrees i before (Pair i n ∷ up) a →
+      Agrees i before up (under i next up (In_masked n) E a)
   masked_agrees before up n (Gives w) e a g = leaves before up n (Pure w) tt e
   masked_agrees before up n (Throws w) e a g = leaves before up n (Raise w) tt e
   masked_agrees before up n Works e a g = record { live = g.live; agrees = g.agrees }
 
-  polled_agrees : (before up : List Mask) (q : Mask) → AllOf (Own i) up → (E : End) → Stops E before (undone q up) → (a : Row Tree) → Agrees i before (undone q up) a → Agrees i before up (under i next up (In_polled q) E a)
-  polled_agrees before up q o (Gives w) e a g = subst (λ y. Agrees i y up (switches i next (is_effective q up) ask.Mask (mark.PollOut (mask_number q)) (Pure w))) (sym e) (polls_out ask.Mask q (Pure w) up o tt)
-  polled_agrees before up q o (Throws w) e a g = subst (λ y. Agrees i y up (switches i next (is_effective q up) ask.Mask (mark.PollOut (mask_number q)) (Raise w))) (sym e) (polls_out ask.Mask q (Raise w) up o tt)
+  polled_agrees : (before up : List Mask) (q : Mask) → AllOf (Own i) up → (E : End) → Stops E before (undone q up) → (a : Row Tree) →
+      Agrees i before (undone q up) a → Agrees i before up (under i next up (In_polled q) E a)
+  polled_agrees before up q o (Gives w) e a g =
+      subst (λ y. Agrees i y up (switches i next (is_effective q up) ask.Mask (mark.PollOut (mask_number q)) (Pure w))) (sym e)
+      (polls_out ask.Mask q (Pure w) up o tt)
+  polled_agrees before up q o (Throws w) e a g =
+      subst (λ y. Agrees i y up (switches i next (is_effective q up) ask.Mask (mark.PollOut (mask_number q)) (Raise w))) (sym e)
+      (polls_out ask.Mask q (Raise w) up o tt)
   polled_agrees before up q o Works e a g = record { live = g.live; agrees = g.agrees }
 
   pub row_agrees : (t : Tree) (up : List Mask) → AllOf (Own i) up → Live t → Agrees i (masks_below i up t) up (walk i next r up t)
@@ -251,12 +283,18 @@ module _ (i next : ℕ) (r : Reply) where
   row_agrees (Make New_deferred v b) up o h = quiet _ up up _ (static_put b (Put_handle v (number_in r)) (handle_runtime v (number_in r)) h) refl
   row_agrees (Start v e b) up o h =
       let k : Static (put (Put_handle v (number_in r)) b) = static_put b (Put_handle v (number_in r)) (handle_runtime v (number_in r)) h.1 in
-      record { live = static_live (put (Put_handle v (number_in r)) b) k; agrees = λ m c w g. subst (Active (Pair i m)) (sym (static_active i (put (Put_handle v (number_in r)) b) up k)) (w g) }
+      record {
+        live = static_live (put (Put_handle v (number_in r)) b) k;
+        agrees =
+            λ m c w g. subst (Active (Pair i m)) (sym (static_active i (put (Put_handle v (number_in r)) b) up k)) (w g);
+      }
   row_agrees (Loop m e) up o h = quiet _ up up _ (looped_static m e h) refl
   row_agrees (Uncancelable v e) up o h = enters_agrees up _ (static_put e (Put_mask v i next) (mask_runtime v i next) h.0)
   row_agrees (Poll q e) up o h = polls_in ask.Unmask q e up o h
   row_agrees (On_cancel e fin) up o h =
       record { live = (static_live e h.0, h.1); agrees = λ m c w g. subst (Active (Pair i m)) (sym (static_active i e up h.0)) (w g) }
-  row_agrees (Masked n e) up o h = masked_agrees _ up n (end_of e) (stops e (Pair i n ∷ up)) (walk i next r (Pair i n ∷ up) e) (row_agrees e (Pair i n ∷ up) ((n, refl), o) h)
-  row_agrees (Polled q e) up o h = polled_agrees _ up q o (end_of e) (stops e (undone q up)) (walk i next r (undone q up) e) (row_agrees e (undone q up) (AllOf-undone (Own i) q up o) h)
+  row_agrees (Masked n e) up o h =
+      masked_agrees _ up n (end_of e) (stops e (Pair i n ∷ up)) (walk i next r (Pair i n ∷ up) e) (row_agrees e (Pair i n ∷ up) ((n, refl), o) h)
+  row_agrees (Polled q e) up o h =
+      polled_agrees _ up q o (end_of e) (stops e (undone q up)) (walk i next r (undone q up) e) (row_agrees e (undone q up) (AllOf-undone (Own i) q up o) h)
   row_agrees (Guarded e fin) up o h = guarded_agrees _ up fin h.1 (end_of e) (stops e up) (walk i next r up e) (row_agrees e up o h.0)

@@ -1,5 +1,6 @@
 -- What a row puts, a number or a new mask, keeps a term typed.
-use Rattle.std.proofs.Common.{◌≡◌, ◌≢◌, ℕ, ◌+◌, inl, inr, Bool, true, false, if◌then◌else◌, nat_eq, List, [], ◌∷◌, Option, Some, None, refl, sym, ap, ◌∙◌, subst}
+use Rattle.std.proofs.Common.{◌≡◌, ◌≢◌, ℕ, ◌+◌, inl, inr, Bool, true, false, if◌then◌else◌, nat_eq, List, []}
+use Rattle.std.proofs.Common.{◌∷◌, Option, Some, None, refl, sym, ap, ◌∙◌, subst}
 use Rattle.std.proofs.lemmas.Bool.{eqb-true, eqb-false, eq-eqb, ne_eqb}
 use Rattle.std.specs.Prelude.{◌&&◌, ℤ}
 use Rattle.derived_ops.specs.Put.{Put, Put_handle, Put_mask, Put_value, mask_at, put}
@@ -28,9 +29,12 @@ end_fixed : (p : Put) (n : Option Stack) → If_ends n (In (Fixed p)) → end_at
 end_fixed p None h = refl
 end_fixed p (Some s) h = ap Some (stack_fixed p s h)
 
-pub typed_along : (i : ℕ) (P : Masks) (t : Tree) (up up' : List Mask) (k k' : Option Stack) (s s' : Stack) (n n' x x' : Option Stack) → up ≡ up' → k ≡ k' → s ≡ s' → n ≡ n' → x ≡ x' → Typed i P up k s n x t → Typed i P up' k' s' n' x' t
+pub typed_along : (i : ℕ) (P : Masks) (t : Tree) (up up' : List Mask) (k k' : Option Stack) (s s' : Stack) (n n' x x' : Option Stack) → up ≡ up' →
+    k ≡ k' → s ≡ s' → n ≡ n' → x ≡ x' → Typed i P up k s n x t → Typed i P up' k' s' n' x' t
 typed_along i P t up up' k k' s s' n n' x x' a b c d e h =
-    subst (λ y. Typed i P up' k' s' n' y t) e (subst (λ y. Typed i P up' k' s' y x t) d (subst (λ y. Typed i P up' k' y n x t) c (subst (λ y. Typed i P up' y s n x t) b (subst (λ y. Typed i P y k s n x t) a h))))
+    subst (λ y. Typed i P up' k' s' n' y t) e
+    (subst (λ y. Typed i P up' k' s' y x t) d
+    (subst (λ y. Typed i P up' k' y n x t) c (subst (λ y. Typed i P up' y s n x t) b (subst (λ y. Typed i P y k s n x t) a h))))
 
 -- what holds of the masks around a term
 pub record Around (P R : Masks) (up : List Mask) (k : Option Stack) (s : Stack) (n x : Option Stack) : Type 0 where
@@ -40,11 +44,14 @@ pub record Around (P R : Masks) (up : List Mask) (k : Option Stack) (s : Stack) 
   pub given : If_ends n (In P)
   pub raised : If_ends x (In P)
 
-pub fixed_put : (i : ℕ) (p : Put) (P : Masks) (t : Tree) (up : List Mask) (k : Option Stack) (s : Stack) (n x : Option Stack) → Around (Fixed p) (Fixed p) up k s n x → Typed i P (masks_at p up) (end_at p k) (stack_at p s) (end_at p n) (end_at p x) t → Typed i P up k s n x t
+pub fixed_put : (i : ℕ) (p : Put) (P : Masks) (t : Tree) (up : List Mask) (k : Option Stack) (s : Stack) (n x : Option Stack) →
+    Around (Fixed p) (Fixed p) up k s n x → Typed i P (masks_at p up) (end_at p k) (stack_at p s) (end_at p n) (end_at p x) t → Typed i P up k s n x t
 fixed_put i p P t up k s n x f h =
-    typed_along i P t _ up _ k _ s _ n _ x (masks_fixed p up f.masks) (end_fixed p k f.expected) (stack_fixed p s f.open_now) (end_fixed p n f.given) (end_fixed p x f.raised) h
+    typed_along i P t _ up _ k _ s _ n _ x (masks_fixed p up f.masks) (end_fixed p k f.expected) (stack_fixed p s f.open_now) (end_fixed p n f.given)
+    (end_fixed p x f.raised) h
 
-around_more : (P P' R R' : Masks) (up : List Mask) (k : Option Stack) (s : Stack) (n x : Option Stack) → ((q : Mask) → P q → P' q) → ((q : Mask) → R q → R' q) → Around P R up k s n x → Around P' R' up k s n x
+around_more : (P P' R R' : Masks) (up : List Mask) (k : Option Stack) (s : Stack) (n x : Option Stack) → ((q : Mask) → P q → P' q) →
+    ((q : Mask) → R q → R' q) → Around P R up k s n x → Around P' R' up k s n x
 around_more P P' R R' up k s n x f g a =
     record {
       masks = all_more R R' g up a.masks;
@@ -69,19 +76,23 @@ pub handle_no_mask : (s m : ℕ) → NoMask (Put_handle s m)
 handle_no_mask s m (Named t) = refl
 handle_no_mask s m (Pair f j) = refl
 
-pub typed_plain : (i : ℕ) (p : Put) → NoMask p → (P R : Masks) (t : Tree) (up : List Mask) (k : Option Stack) (s : Stack) (n x : Option Stack) → Around P R up k s n x → Typed i P up k s n x t → Typed i P up k s n x (put p t)
+pub typed_plain : (i : ℕ) (p : Put) → NoMask p → (P R : Masks) (t : Tree) (up : List Mask) (k : Option Stack) (s : Stack) (n x : Option Stack) →
+    Around P R up k s n x → Typed i P up k s n x t → Typed i P up k s n x (put p t)
 unfolding Any
 typed_plain i p no_mask P R t up k s n x a h =
     let z : Same Any p = record { named = λ t. tt; same = λ q a _ _. λ j. same_mask (no_mask q j) (no_mask a j) } in
-    let w : Puts P P Any p = record { known = λ q g. subst P (sym (no_mask q)) g; back = λ t g. g; regular = λ q g. tt; unknown = λ f m u. tt; above = λ t u. no_mask (Named t) } in
+    let w : Puts P P Any p =
+    record { known = λ q g. subst P (sym (no_mask q)) g; back = λ t g. g; regular = λ q g. tt; unknown = λ f m u. tt; above = λ t u. no_mask (Named t) } in
     let anyway : AllOf Any up = all_more R Any (λ q g. tt) up a.masks in
-    fixed_put i p P (put p t) up k s n x (around_more P (Fixed p) R (Fixed p) up k s n x (λ q g. no_mask q) (λ q g. no_mask q) a) (typed_put Any p z t i P P up k s n x w anyway h)
+    fixed_put i p P (put p t) up k s n x (around_more P (Fixed p) R (Fixed p) up k s n x (λ q g. no_mask q) (λ q g. no_mask q) a)
+    (typed_put Any p z t i P P up k s n x w anyway h)
 
 -- ---- the put of a new mask
 other_pair : (t i m : ℕ) → Named t ≢ Pair i m
 other_pair t i m e = cc
 
-pair_other : (t u i n : ℕ) (v : ℕ) (b c : Bool) → nat_eq v t ≡ b → nat_eq v u ≡ c → same_mask (if b then Pair i n else Named t) (if c then Pair i n else Named u) ≡ nat_eq t u
+pair_other : (t u i n : ℕ) (v : ℕ) (b c : Bool) → nat_eq v t ≡ b → nat_eq v u ≡ c →
+    same_mask (if b then Pair i n else Named t) (if c then Pair i n else Named u) ≡ nat_eq t u
 pair_other t u i n v true true e f =
     let te : v ≡ t = eqb-true v t e in
     let ue : v ≡ u = eqb-true v u f in
@@ -103,7 +114,8 @@ named_pair : (t i n f m v : ℕ) → Pair f m ≢ Pair i n → (b : Bool) → sa
 named_pair t i n f m v h true = pairs_differ f m i n h
 named_pair t i n f m v h false = refl
 
-module _ (i : ℕ) (Q : ℕ → Masks) (closed : (n t : ℕ) → Q n (Named t) → ⊥) (grows : (n : ℕ) (q : Mask) → Q n q → Q (n + 1) q) (fresh : (n : ℕ) → Q n (Pair i n) → ⊥) (next : ℕ) (made_known : Q (next + 1) (Pair i next)) where
+module _ (i : ℕ) (Q : ℕ → Masks) (closed : (n t : ℕ) → Q n (Named t) → ⊥) (grows : (n : ℕ) (q : Mask) → Q n q → Q (n + 1) q)
+    (fresh : (n : ℕ) → Q n (Pair i n) → ⊥) (next : ℕ) (made_known : Q (next + 1) (Pair i next)) where
   abbrev pub Other : Masks
   Other q = q ≢ Pair i next
 
@@ -157,7 +169,9 @@ module _ (i : ℕ) (Q : ℕ → Masks) (closed : (n t : ℕ) → Q n (Named t) �
   own_fixed : (v : ℕ) (q : Mask) → (m : ℕ) × (q ≡ Pair i m) → mask_at (new_put v) q ≡ q
   own_fixed v q o = ap (mask_at (new_put v)) o.1 ∙ sym o.1
 
-  pub typed_new : (v : ℕ) (t : Tree) (up : List Mask) (k : Option Stack) (s : Stack) (n x : Option Stack) → Around (Q next) Other up k s n x → AllOf (λ q. (m : ℕ) × (q ≡ Pair i m)) up → Typed i (with_slot (Q next) v) (Named v ∷ up) k s n x t → Typed i (Q (next + 1)) (Pair i next ∷ up) k s n x (put (new_put v) t)
+  pub typed_new : (v : ℕ) (t : Tree) (up : List Mask) (k : Option Stack) (s : Stack) (n x : Option Stack) → Around (Q next) Other up k s n x →
+      AllOf (λ q. (m : ℕ) × (q ≡ Pair i m)) up → Typed i (with_slot (Q next) v) (Named v ∷ up) k s n x t →
+      Typed i (Q (next + 1)) (Pair i next ∷ up) k s n x (put (new_put v) t)
   typed_new v t up k s n x a o h =
       let other_up : AllOf Other up = a.masks in
       let fixed_up : AllOf (Fixed (new_put v)) up = all_more (λ q. (m : ℕ) × (q ≡ Pair i m)) (Fixed (new_put v)) (own_fixed v) up o in
@@ -169,6 +183,8 @@ module _ (i : ℕ) (Q : ℕ → Masks) (closed : (n t : ℕ) → Q n (Named t) �
         given = if_ends_more n (In (Q next)) (In (Fixed (new_put v))) (in_more (Q next) (Fixed (new_put v)) (fixed_at v)) a.given;
         raised = if_ends_more x (In (Q next)) (In (Fixed (new_put v))) (in_more (Q next) (Fixed (new_put v)) (fixed_at v)) a.raised;
       } in
-      let g = typed_put Other (new_put v) (new_same v) t i (with_slot (Q next) v) (Q (next + 1)) (Named v ∷ up) k s n x (new_puts v) (other_pair v i next, other_up) h in
+      let g = typed_put Other (new_put v) (new_same v) t i (with_slot (Q next) v) (Q (next + 1)) (Named v ∷ up) k s n x (new_puts v)
+      (other_pair v i next, other_up) h in
       let first : mask_at (new_put v) (Named v) ≡ Pair i next = ap (λ b. if b then Pair i next else Named v) (eq-eqb v v refl) in
-      typed_along i (Q (next + 1)) (put (new_put v) t) _ (Pair i next ∷ up) _ k _ s _ n _ x (λ j. first j ∷ masks_fixed (new_put v) up f.masks j) (end_fixed (new_put v) k f.expected) (stack_fixed (new_put v) s f.open_now) (end_fixed (new_put v) n f.given) (end_fixed (new_put v) x f.raised) g
+      typed_along i (Q (next + 1)) (put (new_put v) t) _ (Pair i next ∷ up) _ k _ s _ n _ x (λ j. first j ∷ masks_fixed (new_put v) up f.masks j)
+      (end_fixed (new_put v) k f.expected) (stack_fixed (new_put v) s f.open_now) (end_fixed (new_put v) n f.given) (end_fixed (new_put v) x f.raised) g

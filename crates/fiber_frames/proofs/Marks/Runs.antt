@@ -1,5 +1,6 @@
 -- What holds of every state of a fiber, whatever it is answered; and so its marks are lawful.
-use Rattle.std.proofs.Common.{◌≡◌, ◌≢◌, ◌⊎◌, inl, inr, ℕ, ◌+◌, ◌-◌, ◌≤◌, ◌<◌, Bool, true, false, if◌then◌else◌, nat_eq, List, [], ◌∷◌, ◌++◌, Some, None, refl, sym, ap, ◌∙◌, subst, arith}
+use Rattle.std.proofs.Common.{◌≡◌, ◌≢◌, ◌⊎◌, inl, inr, ℕ, ◌+◌, ◌-◌, ◌≤◌, ◌<◌, Bool, true, false, if◌then◌else◌}
+use Rattle.std.proofs.Common.{nat_eq, List, [], ◌∷◌, ◌++◌, Some, None, refl, sym, ap, ◌∙◌, subst, arith}
 use Rattle.std.proofs.lemmas.Bool.{eqb-true}
 use Rattle.std.proofs.lemmas.List.{append-nil}
 use Rattle.std.specs.Prelude.{◌&&◌}
@@ -19,7 +20,9 @@ use Rattle.fiber_frames.proofs.Marks.Saving.{Saves, Smaller, made_weight, row_sa
 use Rattle.fiber_frames.proofs.Marks.Typed.{Stack, Typed}
 use Rattle.fiber_frames.proofs.Marks.Weaken.{Grows, typed_more}
 use Rattle.fiber_frames.proofs.Walk.{End, Gives, Throws, Works, end_of, finalizers_below, masks_below, root_row, row_root, walk}
-use Rattle.fiber_frames.specs.Fiber.{Cuts, Fiber, Looks, Move_case, Reduces, Rests, begins, child, cut, kind_in, kind_of, looked, lost, move, move_case, outcome_in, outcome_of, reduced, term_born}
+use Rattle.fiber_frames.specs.Fiber.{Cuts, Fiber, Looks, Move_case, Reduces, Rests, begins, child, cut, kind_in}
+use Rattle.fiber_frames.specs.Fiber.{kind_of, looked, lost, move, move_case, outcome_in, outcome_of, reduced}
+use Rattle.fiber_frames.specs.Fiber.{term_born}
 use Rattle.fiber_frames.specs.Marks.{AreLawful, EndsLawfully, Has, IsCutOnce, NoCut, UncutRegions, bracket_steps, times_acquired}
 use Rattle.fiber_frames.specs.Path.{At_final, At_term, Broken, Final, Over, Root, Running, Runs, focus}
 use Rattle.fiber_frames.specs.Rows.{Born, Ceded, Ended, Kind, Plain, Row, Waited, number_of, row_at, unit}
@@ -94,12 +97,17 @@ module _ (i n : ℕ) where
       go false c x y = refl
 
   -- the counts after a row
-  row_once : (t : Tree) (a : Row Tree) (ms : List Mark) (x : (Mask → ℕ) → ℕ) → Saves i n t a → (m : ℕ) → taken i (only (Pair i m)) ms + (spends (only (Pair i m)) t + x (only (Pair i m))) ≤ 1 → (n ≡ m → taken i (only (Pair i m)) ms + (spends (only (Pair i m)) t + x (only (Pair i m))) ≡ 0) → taken i (only (Pair i m)) (ms ++ a.marks) + (spends (only (Pair i m)) a.becomes + x (only (Pair i m))) ≤ 1
+  row_once : (t : Tree) (a : Row Tree) (ms : List Mark) (x : (Mask → ℕ) → ℕ) → Saves i n t a → (m : ℕ) →
+      taken i (only (Pair i m)) ms + (spends (only (Pair i m)) t + x (only (Pair i m))) ≤ 1 →
+      (n ≡ m → taken i (only (Pair i m)) ms + (spends (only (Pair i m)) t + x (only (Pair i m))) ≡ 0) →
+      taken i (only (Pair i m)) (ms ++ a.marks) + (spends (only (Pair i m)) a.becomes + x (only (Pair i m))) ≤ 1
   row_once t a ms x h m b z =
       let w = only (Pair i m) in
       omega (arith, taken-append i w ms a.marks, h.count i m (omega arith), made_once a.next m (taken i w ms + (spends w t + x w)) h.step b z)
 
-  row_unknown : (t : Tree) (a : Row Tree) (ms : List Mark) (x : (Mask → ℕ) → ℕ) → Saves i n t a → (g m : ℕ) → (Known i a.next (Pair g m) → ⊥) → taken i (only (Pair g m)) ms + (spends (only (Pair g m)) t + x (only (Pair g m))) ≡ 0 → taken i (only (Pair g m)) (ms ++ a.marks) + (spends (only (Pair g m)) a.becomes + x (only (Pair g m))) ≡ 0
+  row_unknown : (t : Tree) (a : Row Tree) (ms : List Mark) (x : (Mask → ℕ) → ℕ) → Saves i n t a → (g m : ℕ) → (Known i a.next (Pair g m) → ⊥) →
+      taken i (only (Pair g m)) ms + (spends (only (Pair g m)) t + x (only (Pair g m))) ≡ 0 →
+      taken i (only (Pair g m)) (ms ++ a.marks) + (spends (only (Pair g m)) a.becomes + x (only (Pair g m))) ≡ 0
   row_unknown t a ms x h g m u z =
       let w = only (Pair g m) in
       omega (arith, taken-append i w ms a.marks, h.count g m (omega arith), made_none a.next g m u)
@@ -111,10 +119,12 @@ no_marks h = h
 over_rest : (i n : ℕ) (o : Outcome) (w : Running) (ms : List Mark) → Remains i n w ms → Cutness i (Over o) ms → Remains i n (Over o) (ms ++ [])
 over_rest i n o w ms h c =
     let e = append-nil ms in
-    let g : Remains i n (Over o) ms = record { live = tt; once = λ m. omega (arith, h.once m); unknown = λ g m u. omega (arith, h.unknown g m u); cutness = c } in
+    let g : Remains i n (Over o) ms =
+    record { live = tt; once = λ m. omega (arith, h.once m); unknown = λ g m u. omega (arith, h.unknown g m u); cutness = c } in
     subst (λ y. Remains i n (Over o) y) (sym e) g
 
-root_rest : (f : Fiber) (t : Tree) (E : End) (a : Row Tree) → Remains f.number f.next (Runs t) f.marks → Saves f.number f.next t a → Agrees f.number (masks_below f.number [] t) [] a → RestOf (reduced f (root_row f.number f.next At_term E a))
+root_rest : (f : Fiber) (t : Tree) (E : End) (a : Row Tree) → Remains f.number f.next (Runs t) f.marks → Saves f.number f.next t a →
+    Agrees f.number (masks_below f.number [] t) [] a → RestOf (reduced f (root_row f.number f.next At_term E a))
 root_rest f t (Gives v) a h s g = over_rest f.number f.next (outcome.Succeeded (number_of v)) (Runs t) f.marks h (inl (h.cutness.0, (λ e. cc)))
 root_rest f t (Throws v) a h s g = over_rest f.number f.next (outcome.Errored (number_of v)) (Runs t) f.marks h (inl (h.cutness.0, (λ e. cc)))
 root_rest f t Works a h s g =
@@ -123,7 +133,8 @@ root_rest f t Works a h s g =
     record {
       live = g.live;
       once = λ m.
-          let z : n ≡ m → taken i (only (Pair i m)) f.marks + spends (only (Pair i m)) t ≡ 0 = λ e. h.unknown i m (λ k. next_unknown i n (subst (λ y. Known i n (Pair i y)) (sym e) k)) in
+          let z : n ≡ m → taken i (only (Pair i m)) f.marks + spends (only (Pair i m)) t ≡ 0 =
+          λ e. h.unknown i m (λ k. next_unknown i n (subst (λ y. Known i n (Pair i y)) (sym e) k)) in
           omega (arith, row_once i n t a f.marks (λ w. 0) s m (omega (arith, h.once m)) (λ e. omega (arith, z e)));
       unknown = λ y m u.
           let before : taken i (only (Pair y m)) f.marks + spends (only (Pair y m)) t ≡ 0 = h.unknown y m (λ k. u (known_later i n a.next s.later y m k)) in
@@ -142,7 +153,8 @@ finals_live z (g ∷ gs) h = (static_live g h.0, h.1)
 one_dropped : (v : Operand) → NoCut (mark.Dropped (number_of v) ∷ [])
 one_dropped v = elim [ inl e ↦ cc | inr e ↦ e ]
 
-final_rest : (f : Fiber) (z : ℕ) (t : Tree) (gs : List Tree) (E : End) (a : Row Tree) → Remains f.number f.next (Final z (t ∷ gs)) f.marks → Saves f.number f.next t a → Live a.becomes → RestOf (reduced f (root_row f.number f.next (At_final z gs) E a))
+final_rest : (f : Fiber) (z : ℕ) (t : Tree) (gs : List Tree) (E : End) (a : Row Tree) → Remains f.number f.next (Final z (t ∷ gs)) f.marks →
+    Saves f.number f.next t a → Live a.becomes → RestOf (reduced f (root_row f.number f.next (At_final z gs) E a))
 final_rest f z t gs (Gives v) a h s l =
     record {
       live = finals_live z gs h.live.1;
@@ -162,7 +174,8 @@ final_rest f z t gs Works a h s l =
     let n = f.next in
     record {
       live = (l, h.live.1);
-      once = λ m. row_once i n t a f.marks (λ w. spends_all w gs) s m (h.once m) (λ e. h.unknown i m (λ k. next_unknown i n (subst (λ y. Known i n (Pair i y)) (sym e) k)));
+      once = λ m. row_once i n t a f.marks (λ w. spends_all w gs) s m (h.once m)
+          (λ e. h.unknown i m (λ k. next_unknown i n (subst (λ y. Known i n (Pair i y)) (sym e) k)));
       unknown = λ y m u. row_unknown i n t a f.marks (λ w. spends_all w gs) s y m u (h.unknown y m (λ k. u (known_later i n a.next s.later y m k)));
       cutness = cut_once_more f.marks a.marks h.cutness s.no_cut;
     }
@@ -176,12 +189,15 @@ saves_runs f r t h e l =
     let d : Lives f.number f.next (Runs t) h.now = subst (λ w. Lives f.number f.next w h.now) e h.lives in
     row_saves f.number f.next r t [] l (typed_owned t f.number (Known f.number f.next) [] (Some []) h.now (Some []) (Some []) tt d.1)
 
-saves_final : (f : Fiber) (r : Reply) (z : ℕ) (t : Tree) (gs : List Tree) → Lawful f → f.running ≡ Final z (t ∷ gs) → Live t → Saves f.number f.next t (walk f.number f.next r (Pair f.number z ∷ []) t)
+saves_final : (f : Fiber) (r : Reply) (z : ℕ) (t : Tree) (gs : List Tree) → Lawful f → f.running ≡ Final z (t ∷ gs) → Live t →
+    Saves f.number f.next t (walk f.number f.next r (Pair f.number z ∷ []) t)
 saves_final f r z t gs h e l =
     let d : Lives f.number f.next (Final z (t ∷ gs)) h.now = subst (λ w. Lives f.number f.next w h.now) e h.lives in
-    row_saves f.number f.next r t (Pair f.number z ∷ []) l (typed_owned t f.number (Known_final f.number z f.next) (Pair f.number z ∷ []) None h.now (Some d.2) (Some d.2) ((z, refl), tt) d.4)
+    row_saves f.number f.next r t (Pair f.number z ∷ []) l
+    (typed_owned t f.number (Known_final f.number z f.next) (Pair f.number z ∷ []) None h.now (Some d.2) (Some d.2) ((z, refl), tt) d.4)
 
-rows_rest : (f : Fiber) (r : Reply) (w : Running) → f.running ≡ w → Lawful f → Remains f.number f.next w f.marks → RestOf (reduced f (row_at f.number f.next r (focus w) w))
+rows_rest : (f : Fiber) (r : Reply) (w : Running) → f.running ≡ w → Lawful f → Remains f.number f.next w f.marks →
+    RestOf (reduced f (row_at f.number f.next r (focus w) w))
 rows_rest f r (Over o) e h g = over_rest f.number f.next o (Over o) f.marks g g.cutness
 rows_rest f r Broken e h g =
     subst (λ y. Remains f.number f.next Broken y) (sym (append-nil f.marks)) g
@@ -231,16 +247,25 @@ cut_rest f t e none h =
       live = finals_live f.next (finalizers_below t) (pending_static t h.live);
       once = λ m. omega (arith, h.once m, taken-append f.number (only (Pair f.number m)) f.marks (mark.Cut ∷ []), pending_spends (only (Pair f.number m)) t);
       unknown = λ y m u.
-          let before : taken f.number (only (Pair y m)) f.marks + spends (only (Pair y m)) t ≡ 0 = h.unknown y m (λ k. u (known_later f.number f.next (f.next + 1) (omega arith) y m k)) in
+          let before : taken f.number (only (Pair y m)) f.marks + spends (only (Pair y m)) t ≡ 0 =
+          h.unknown y m (λ k. u (known_later f.number f.next (f.next + 1) (omega arith) y m k)) in
           omega (arith, taken-append f.number (only (Pair y m)) f.marks (mark.Cut ∷ []), pending_spends (only (Pair y m)) t);
-      cutness = (f.marks, [], refl, h.cutness.0, no_marks, (λ m e u. off_polled m f.marks (λ on. nothing_active f.number m (masks_below f.number [] t) none (h.cutness.1 m on)) e u));
+      cutness = (
+        f.marks,
+        [],
+        refl,
+        h.cutness.0,
+        no_marks,
+        (λ m e u. off_polled m f.marks (λ on. nothing_active f.number m (masks_below f.number [] t) none (h.cutness.1 m on)) e u),
+      );
     } in
     subst RestOf (sym (cut_run f t e)) after
 
 move_rest : (f : Fiber) (r : Reply) → Lawful f → RestOf f → RestOf (move f r)
 move_rest f r h g =
     let same : RestOf (looked f r) = record { live = g.live; once = g.once; unknown = g.unknown; cutness = g.cutness } in
-    move_by RestOf f r g same (λ t e a. cut_rest f t e a (subst (λ v. Remains f.number f.next v f.marks) e g)) (λ m gs e a. absurd (final_masked f m gs h e a)) (rows_rest f r f.running refl h g)
+    move_by RestOf f r g same (λ t e a. cut_rest f t e a (subst (λ v. Remains f.number f.next v f.marks) e g))
+    (λ m gs e a. absurd (final_masked f m gs h e a)) (rows_rest f r f.running refl h g)
 
 -- a fiber that lost its term
 lost_cutness : (i : ℕ) (w : Running) (ms : List Mark) → Cutness i w ms → UncutRegions ms
@@ -251,7 +276,13 @@ lost_cutness i Broken ms h = h
 
 lost_rest : (f : Fiber) → RestOf f → RestOf (lost f)
 lost_rest f g =
-    record { live = tt; once = λ m. omega (arith, g.once m); unknown = λ y m u. omega (arith, g.unknown y m u); cutness = lost_cutness f.number f.running f.marks g.cutness }
+    record {
+      live = tt;
+      once = λ m. omega (arith, g.once m);
+      unknown = λ y m u. omega (arith, g.unknown y m u);
+      cutness =
+          lost_cutness f.number f.running f.marks g.cutness;
+    }
 
 -- ---- births
 final_more : (i z n : ℕ) → Grows (Known_final i z n) (Known i n)
@@ -274,7 +305,8 @@ born_root i n (At_final m gs) (Throws v) a F h = tt
 born_root i n (At_final m gs) Works a F h = h
 
 abbrev Born_ok : Fiber → Running → Tree → Type 0
-Born_ok f w e = ((c : ℕ) → Typed c (Known f.number f.next) [] (Some []) [] (Some []) (Some []) e) × Static e × ((g m : ℕ) → spends (only (Pair g m)) e ≤ spends_in (only (Pair g m)) w)
+Born_ok f w e = ((c : ℕ) → Typed c (Known f.number f.next) [] (Some []) [] (Some []) (Some []) e) × Static e ×
+    ((g m : ℕ) → spends (only (Pair g m)) e ≤ spends_in (only (Pair g m)) w)
 
 born_row : (f : Fiber) (r : Reply) (w : Running) → f.running ≡ w → Lawful f → LiveRun w → If_born (row_at f.number f.next r (focus w) w).kind (Born_ok f w)
 born_row f r (Over o) x h l = tt
@@ -286,19 +318,22 @@ born_row f r (Runs t) x h l =
     let s = saves_runs f r t h x l in
     let a = walk f.number f.next r [] t in
     subst (λ y. If_born y.kind (Born_ok f (Runs t))) (sym (row_root f.number f.next r At_term t))
-    (born_root f.number f.next At_term (end_of t) a (Born_ok f (Runs t)) (born_both a.kind _ (Smaller t) (Born_ok f (Runs t)) (λ e y z. (y, z.0, z.1)) k.born s.born))
+    (born_root f.number f.next At_term (end_of t) a (Born_ok f (Runs t))
+    (born_both a.kind _ (Smaller t) (Born_ok f (Runs t)) (λ e y z. (y, z.0, z.1)) k.born s.born))
 born_row f r (Final z (t ∷ gs)) x h l =
     let d : Lives f.number f.next (Final z (t ∷ gs)) h.now = subst (λ w. Lives f.number f.next w h.now) x h.lives in
     let k = final_keep f.number z f.next r t h.now d.2 d.0 d.1 d.3 h.own d.4 in
     let s = saves_final f r z t gs h x l.0 in
     let a = walk f.number f.next r (Pair f.number z ∷ []) t in
-    let all : (e : Tree) → ((c : ℕ) → Typed c (Known_final f.number z f.next) [] (Some []) [] (Some []) (Some []) e) → Smaller t e → Born_ok f (Final z (t ∷ gs)) e = λ e y small. (
+    let all : (e : Tree) → ((c : ℕ) → Typed c (Known_final f.number z f.next) [] (Some []) [] (Some []) (Some []) e) → Smaller t e →
+    Born_ok f (Final z (t ∷ gs)) e = λ e y small. (
       (λ c. typed_more e c (Known_final f.number z f.next) (Known f.number f.next) [] (Some []) [] (Some []) (Some []) (final_more f.number z f.next) (y c)),
       small.0,
       (λ g m. omega (arith, small.1 g m)),
     ) in
     subst (λ y. If_born y.kind (Born_ok f (Final z (t ∷ gs)))) (sym (row_root f.number f.next r (At_final z gs) t))
-    (born_root f.number f.next (At_final z gs) (end_of t) a (Born_ok f (Final z (t ∷ gs))) (born_both a.kind _ (Smaller t) (Born_ok f (Final z (t ∷ gs))) all k.born s.born))
+    (born_root f.number f.next (At_final z gs) (end_of t) a (Born_ok f (Final z (t ∷ gs)))
+    (born_both a.kind _ (Smaller t) (Born_ok f (Final z (t ∷ gs))) all k.born s.born))
 
 born_move : (f : Fiber) (r : Reply) → Lawful f → RestOf f → If_born (kind_of f r) (Born_ok f f.running)
 born_move f r h g = go (move_case f)
@@ -325,7 +360,8 @@ new_rest c e s u =
 
 holds_from : (f : Fiber) (c : ℕ) (e : Tree) → Holds f → f.number < c → Born_ok f f.running e → Holds (begins c e)
 holds_from f c e h l k =
-    let older : (g m : ℕ) → (Known c 0 (Pair g m) → ⊥) → Known f.number f.next (Pair g m) → ⊥ = λ g m u x. (let y : g ≤ f.number = x.0 in u (omega arith, (λ same. absurd (omega arith)))) in
+    let older : (g m : ℕ) → (Known c 0 (Pair g m) → ⊥) → Known f.number f.next (Pair g m) → ⊥ =
+    λ g m u x. (let y : g ≤ f.number = x.0 in u (omega arith, (λ same. absurd (omega arith)))) in
     record {
       lawful = born_lawful f.number f.next c e l k.0;
       rest = new_rest c e k.1 (λ g m u. omega (arith, k.2 g m, h.rest.unknown g m (older g m u)));
@@ -384,7 +420,8 @@ move_holds f r k = record { lawful = move_keeps f r k.lawful; rest = move_rest f
 pub holds_lawful : (f : Fiber) → Holds f → AreLawful f.marks (outcome_of f)
 holds_lawful f h =
     record {
-      brackets = open_balanced (bracket_steps f.marks) (slots h.lawful.now) (times_once f h.rest) (on_numbers f.number f.marks [] h.lawful.now tt h.lawful.marks);
+      brackets = open_balanced (bracket_steps f.marks) (slots h.lawful.now) (times_once f h.rest)
+          (on_numbers f.number f.marks [] h.lawful.now tt h.lawful.marks);
       regions = lost_cutness f.number f.running f.marks h.rest.cutness;
       end = end_of_run f f.running refl h.lawful h.rest h.rest.cutness;
     }

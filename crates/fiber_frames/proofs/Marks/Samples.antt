@@ -9,7 +9,9 @@ use Rattle.fiber_frames.proofs.Marks.Balance.{balanced_signs}
 use Rattle.fiber_frames.proofs.Marks.Typed.{If_ends, Masks, Stack, Typed, with_slot}
 
 -- a bracket in the acquired part of another one
-nested : Nested (bracket_steps (mark.Enter 0 ∷ mark.Acquired 0 ∷ mark.Enter 1 ∷ mark.Acquired 1 ∷ mark.Releasing 1 ∷ mark.Released 1 ∷ mark.Releasing 0 ∷ mark.Leave 1 ∷ mark.Released 0 ∷ []))
+nested : Nested (bracket_steps
+    (mark.Enter 0 ∷ mark.Acquired 0 ∷ mark.Enter 1 ∷ mark.Acquired 1 ∷ mark.Releasing 1 ∷ mark.Released 1 ∷ mark.Releasing 0 ∷ mark.Leave
+    1 ∷ mark.Released 0 ∷ []))
 nested = bracket 0 (bracket 1 empty empty) empty
 
 -- the outer bracket releases first
@@ -29,7 +31,8 @@ polled : UncutRegions (mark.Enter 0 ∷ mark.PollIn 0 ∷ mark.Cut ∷ [])
 polled =
     inr (mark.Enter 0 ∷ mark.PollIn 0 ∷ [], [], refl, elim [ inl e ↦ cc | inr g ↦ elim g [ inl e ↦ cc | inr h ↦ h ] ], (λ h. h), there)
   where
-    there : (m : ℕ) → Has (mark.Enter m) (mark.Enter 0 ∷ mark.PollIn 0 ∷ []) → (Has (mark.Leave m) (mark.Enter 0 ∷ mark.PollIn 0 ∷ []) → ⊥) → IsPolled m (mark.Enter 0 ∷ mark.PollIn 0 ∷ [])
+    there : (m : ℕ) → Has (mark.Enter m) (mark.Enter 0 ∷ mark.PollIn 0 ∷ []) → (Has (mark.Leave m) (mark.Enter 0 ∷ mark.PollIn 0 ∷ []) → ⊥) →
+        IsPolled m (mark.Enter 0 ∷ mark.PollIn 0 ∷ [])
     there m (inl e) u = let same : 0 ≡ m = cc in subst (λ m. IsPolled m (mark.Enter 0 ∷ mark.PollIn 0 ∷ [])) same (mark.Enter 0 ∷ [], [], refl, (λ h. h))
     there m (inr (inl e)) u = cc
     there m (inr (inr h)) u = absurd h
@@ -54,11 +57,13 @@ masked (inr h) = go h.0 h.1 h.2 h.5
     go (x ∷ y ∷ z ∷ a) b e f = cc
 
 -- a bracket marked as acquired before an acquisition that polls: a cut there would leave it open
-acquired_before : (i : ℕ) (P : Masks) (n x : Option Stack) → Typed i P [] (Some []) [] n x (Uncancelable 0 (Seq Last (Note tree.Acquired (Named 0)) (Poll (Named 0) (Act Canceled)))) → ⊥
+acquired_before : (i : ℕ) (P : Masks) (n x : Option Stack) →
+    Typed i P [] (Some []) [] n x (Uncancelable 0 (Seq Last (Note tree.Acquired (Named 0)) (Poll (Named 0) (Act Canceled)))) → ⊥
 acquired_before i P n x h =
     let (m, known, note, polled) = h.4 in
     let (g, own, t, at, ends, here) = note in
     let W : Masks = with_slot P 0 in
-    let inner : Typed i W (Named 0 ∷ []) (Some []) t n x (Poll (Named 0) (Act Canceled)) = subst (λ o. If_ends o (λ s. Typed i W (Named 0 ∷ []) (Some []) s n x (Poll (Named 0) (Act Canceled)))) ends polled in
+    let inner : Typed i W (Named 0 ∷ []) (Some []) t n x (Poll (Named 0) (Act Canceled)) =
+    subst (λ o. If_ends o (λ s. Typed i W (Named 0 ∷ []) (Some []) s n x (Poll (Named 0) (Act Canceled)))) ends polled in
     let opened : t ≡ [] = inner.4.0 in
     cc (opened, at.1)

@@ -1,9 +1,13 @@
 -- A row makes no acquire mark that its term couldn't make before.
-use Rattle.std.proofs.Common.{◌≡◌, ◌≢◌, inl, inr, ℕ, ◌+◌, ◌-◌, ◌≤◌, Bool, true, false, if◌then◌else◌, nat_eq, List, [], ◌∷◌, Option, Some, None, refl, sym, ap, subst, arith}
+use Rattle.std.proofs.Common.{◌≡◌, ◌≢◌, inl, inr, ℕ, ◌+◌, ◌-◌, ◌≤◌, Bool, true, false, if◌then◌else◌, nat_eq}
+use Rattle.std.proofs.Common.{List, [], ◌∷◌, Option, Some, None, refl, sym, ap, subst, arith}
 use Rattle.std.proofs.lemmas.Bool.{eqb-true, eq-eqb}
 use Rattle.std.specs.Prelude.{◌&&◌}
 use Rattle.derived_ops.specs.Put.{Put_mask, Put_value, put}
-use Rattle.derived_ops.specs.Tree.{Acquired, Act, Action, Always, Cancel, Guarded, Handle, Handled, If0, Join, Last, Let, Loop, Make, Mask, Masked, Named, New_deferred, New_ref, Note, On_cancel, Pair, Poll, Polled, Pure, Raise, Released, Releasing, Rest, Seq, Start, Times, Tree, Turns, Uncancelable}
+use Rattle.derived_ops.specs.Tree.{Acquired, Act, Action, Always, Cancel, Guarded, Handle, Handled, If0, Join}
+use Rattle.derived_ops.specs.Tree.{Last, Let, Loop, Make, Mask, Masked, Named, New_deferred, New_ref, Note}
+use Rattle.derived_ops.specs.Tree.{On_cancel, Pair, Poll, Polled, Pure, Raise, Released, Releasing, Rest, Seq}
+use Rattle.derived_ops.specs.Tree.{Start, Times, Tree, Turns, Uncancelable}
 use Rattle.effect_term.specs.declared.reply.Outcome.{Outcome}
 use Rattle.effect_term.specs.declared.reply.Reply.{Reply}
 use Rattle.fiber_frames.proofs.Marks.Actions.{ActionRow, If_born, NoBirth, Says, action_case, none_born, said, silent, simple_case, wait_none}
@@ -15,7 +19,9 @@ use Rattle.fiber_frames.proofs.Marks.Typed.{AllOf, Masks, Stack, Typed}
 use Rattle.fiber_frames.proofs.Walk.{End, Gives, Throws, Works, end_of, under, walk, within}
 use Rattle.fiber_frames.specs.Marks.{NoCut}
 use Rattle.fiber_frames.specs.Path.{In_guarded, In_handle, In_let, In_masked, In_polled, In_seq, Step, around, is_effective, same_mask, undone}
-use Rattle.fiber_frames.specs.Rows.{Born, Ceded, Ended, Kind, Plain, Row, Waited, action_row, branch, calls, enters, is_positive, is_zero, looped, mask_number, number_in, number_of, one_less, outcome_in, switches, unit}
+use Rattle.fiber_frames.specs.Rows.{Born, Ceded, Ended, Kind, Plain, Row, Waited, action_row, branch, calls}
+use Rattle.fiber_frames.specs.Rows.{enters, is_positive, is_zero, looped, mask_number, number_in, number_of}
+use Rattle.fiber_frames.specs.Rows.{one_less, outcome_in, switches, unit}
 use Rattle.fiber_frames.specs.declared.ask.Ask.{Ask}
 use Rattle.fiber_frames.specs.declared.mark.Mark.{Mark}
 use Rattle.fiber_frames.specs.declared.ask.Ask.TheVariants as ask
@@ -36,7 +42,8 @@ abbrev pub Smaller : Tree → Tree → Type 0
 Smaller t e = Static e × ((f m : ℕ) → spends (only (Pair f m)) e ≤ spends (only (Pair f m)) t)
 
 pub record Saves (i next : ℕ) (t : Tree) (a : Row Tree) : Type 0 where
-  pub count : (f m : ℕ) → spends (only (Pair f m)) t ≤ 1 → taken i (only (Pair f m)) a.marks + spends (only (Pair f m)) a.becomes ≤ spends (only (Pair f m)) t + made_weight i next a.next (Pair f m)
+  pub count : (f m : ℕ) → spends (only (Pair f m)) t ≤ 1 →
+      taken i (only (Pair f m)) a.marks + spends (only (Pair f m)) a.becomes ≤ spends (only (Pair f m)) t + made_weight i next a.next (Pair f m)
   pub later : next ≤ a.next
   pub step : a.next ≤ next + 1
   pub no_cut : NoCut a.marks
@@ -53,7 +60,8 @@ Owned i (Polled q e) = Owned i e
 Owned i (Guarded e fin) = Owned i e
 Owned i _ = Unit {0}
 
-pub typed_owned : (t : Tree) (i : ℕ) (P : Masks) (up : List Mask) (k : Option Stack) (s : Stack) (n x : Option Stack) → AllOf (Own i) up → Typed i P up k s n x t → Owned i t
+pub typed_owned : (t : Tree) (i : ℕ) (P : Masks) (up : List Mask) (k : Option Stack) (s : Stack) (n x : Option Stack) → AllOf (Own i) up →
+    Typed i P up k s n x t → Owned i t
 typed_owned (Note Acquired q) i P [] k s n x o h = absurd h.3
 typed_owned (Note Acquired q) i P (a ∷ up) k s n x o h = subst (Own i) (sym h.3.0) o.0
 typed_owned (Let e v b) i P up k s n x o h = typed_owned e i P up k s h.0 x o h.2
@@ -65,14 +73,22 @@ typed_owned (Guarded e fin) i P up k s n x o h = typed_owned e i P up h.0 s n x 
 typed_owned _ i P up k s n x o h = tt
 
 module _ (i next : ℕ) (r : Reply) where
-  quiet_saves : (c : Ask) (kd : Kind) (t u : Tree) (ms : List Mark) → NoBirth kd → ((w : Mask → ℕ) → taken i w ms ≡ 0) → NoCut ms → ((w : Mask → ℕ) → spends w t ≤ 1 → spends w u ≤ spends w t) → Saves i next t (record { call = c; becomes = u; marks = ms; next = next; kind = kd })
+  quiet_saves : (c : Ask) (kd : Kind) (t u : Tree) (ms : List Mark) → NoBirth kd → ((w : Mask → ℕ) → taken i w ms ≡ 0) → NoCut ms →
+      ((w : Mask → ℕ) → spends w t ≤ 1 → spends w u ≤ spends w t) → Saves i next t (record { call = c; becomes = u; marks = ms; next = next; kind = kd })
   quiet_saves c kd t u ms b q z h =
-      record { count = λ f m l. omega (arith, q (only (Pair f m)), h (only (Pair f m)) l); later = omega arith; step = omega arith; no_cut = z; born = none_born kd _ b }
+      record {
+        count = λ f m l. omega (arith, q (only (Pair f m)), h (only (Pair f m)) l);
+        later = omega arith;
+        step = omega arith;
+        no_cut = z;
+        born = none_born kd _ b;
+      }
 
   plain_saves : (c : Ask) (t u : Tree) → ((w : Mask → ℕ) → spends w t ≤ 1 → spends w u ≤ spends w t) → Saves i next t (calls i next c u)
   plain_saves c t u h = quiet_saves c Plain t u [] tt (λ w. refl) (λ e. e) h
 
-  switch_saves : (b : Bool) (c : Ask) (m : Mark) (t u : Tree) → ((w : Mask → ℕ) → taken i w (m ∷ []) ≡ 0) → NoCut (m ∷ []) → ((w : Mask → ℕ) → spends w t ≤ 1 → spends w u ≤ spends w t) → Saves i next t (switches i next b c m u)
+  switch_saves : (b : Bool) (c : Ask) (m : Mark) (t u : Tree) → ((w : Mask → ℕ) → taken i w (m ∷ []) ≡ 0) → NoCut (m ∷ []) →
+      ((w : Mask → ℕ) → spends w t ≤ 1 → spends w u ≤ spends w t) → Saves i next t (switches i next b c m u)
   switch_saves true c m t u q z h = quiet_saves c Plain t u (m ∷ []) tt q z h
   switch_saves false c m t u q z h = plain_saves ask.Silent t u h
 
@@ -83,7 +99,9 @@ module _ (i next : ℕ) (r : Reply) where
   smaller_more e t Ceded l h = tt
   smaller_more e t (Ended o) l h = tt
 
-  frame_saves : (e t : Tree) (s : Step) (x : (Mask → ℕ) → ℕ) (a : Row Tree) → ((w : Mask → ℕ) (u : Tree) → spends w (around s u) ≡ spends w u + x w) → ((w : Mask → ℕ) → spends w t ≡ spends w e + x w) → Saves i next e a → Saves i next t (within i next s a)
+  frame_saves : (e t : Tree) (s : Step) (x : (Mask → ℕ) → ℕ) (a : Row Tree) →
+      ((w : Mask → ℕ) (u : Tree) → spends w (around s u) ≡ spends w u + x w) → ((w : Mask → ℕ) → spends w t ≡ spends w e + x w) → Saves i next e a →
+      Saves i next t (within i next s a)
   frame_saves e t s x a y z h =
       record {
         count = λ f m l.
@@ -95,7 +113,8 @@ module _ (i next : ℕ) (r : Reply) where
         born = smaller_more e t a.kind (λ w. omega (arith, z w)) h.born;
       }
 
-  let_saves : (up : List Mask) (e : Tree) (v : ℕ) (b : Tree) (E : End) (a : Row Tree) → Saves i next e a → Saves i next (Let e v b) (under i next up (In_let v b) E a)
+  let_saves : (up : List Mask) (e : Tree) (v : ℕ) (b : Tree) (E : End) (a : Row Tree) → Saves i next e a →
+      Saves i next (Let e v b) (under i next up (In_let v b) E a)
   let_saves up e v b (Gives w) a h = plain_saves _ (Let e v b) (put (Put_value v (number_of w)) b) (λ u l. omega (arith, spends_value v (number_of w) u b))
   let_saves up e v b (Throws c) a h = plain_saves _ (Let e v b) (Raise c) (λ u l. omega arith)
   let_saves up e v b Works a h = frame_saves e (Let e v b) (In_let v b) (λ w. spends w b) a (λ w u. refl) (λ w. refl) h
@@ -105,12 +124,15 @@ module _ (i next : ℕ) (r : Reply) where
   seq_saves up o e b (Throws c) a h = plain_saves _ (Seq o e b) (Raise c) (λ u l. omega arith)
   seq_saves up o e b Works a h = frame_saves e (Seq o e b) (In_seq o b) (λ w. spends w b) a (λ w u. refl) (λ w. refl) h
 
-  handle_saves : (up : List Mask) (e : Tree) (v : ℕ) (b : Tree) (E : End) (a : Row Tree) → Saves i next e a → Saves i next (Handled e v b) (under i next up (In_handle v b) E a)
+  handle_saves : (up : List Mask) (e : Tree) (v : ℕ) (b : Tree) (E : End) (a : Row Tree) → Saves i next e a →
+      Saves i next (Handled e v b) (under i next up (In_handle v b) E a)
   handle_saves up e v b (Gives w) a h = plain_saves _ (Handled e v b) (Pure w) (λ u l. omega arith)
-  handle_saves up e v b (Throws c) a h = plain_saves _ (Handled e v b) (put (Put_value v (number_of c)) b) (λ u l. omega (arith, spends_value v (number_of c) u b))
+  handle_saves up e v b (Throws c) a h =
+      plain_saves _ (Handled e v b) (put (Put_value v (number_of c)) b) (λ u l. omega (arith, spends_value v (number_of c) u b))
   handle_saves up e v b Works a h = frame_saves e (Handled e v b) (In_handle v b) (λ w. spends w b) a (λ w u. refl) (λ w. refl) h
 
-  guarded_saves : (up : List Mask) (e fin : Tree) (E : End) (a : Row Tree) → Saves i next e a → Saves i next (Guarded e fin) (under i next up (In_guarded fin) E a)
+  guarded_saves : (up : List Mask) (e fin : Tree) (E : End) (a : Row Tree) → Saves i next e a →
+      Saves i next (Guarded e fin) (under i next up (In_guarded fin) E a)
   guarded_saves up e fin (Gives w) a h = plain_saves _ (Guarded e fin) (Pure w) (λ u l. omega arith)
   guarded_saves up e fin (Throws c) a h = plain_saves _ (Guarded e fin) (Raise c) (λ u l. omega arith)
   guarded_saves up e fin Works a h = frame_saves e (Guarded e fin) (In_guarded fin) (λ w. spends w fin) a (λ w u. refl) (λ w. refl) h
@@ -123,19 +145,24 @@ module _ (i next : ℕ) (r : Reply) where
   masked_saves up m e (Throws c) a h = quiet_saves _ _ (Masked m e) (Raise c) (mark.Leave m ∷ []) tt (λ w. refl) (no_left m) (λ u l. omega arith)
   masked_saves up m e Works a h = frame_saves e (Masked m e) (In_masked m) (λ w. 0) a (λ w u. omega arith) (λ w. omega arith) h
 
-  polled_saves : (up : List Mask) (q : Mask) (e : Tree) (E : End) (a : Row Tree) → Saves i next e a → Saves i next (Polled q e) (under i next up (In_polled q) E a)
+  polled_saves : (up : List Mask) (q : Mask) (e : Tree) (E : End) (a : Row Tree) → Saves i next e a →
+      Saves i next (Polled q e) (under i next up (In_polled q) E a)
   polled_saves up q e (Gives w) a h =
-      switch_saves (is_effective q up) ask.Mask (mark.PollOut (mask_number q)) (Polled q e) (Pure w) (λ w. refl) (elim [ inl e ↦ cc | inr e ↦ e ]) (λ u l. omega arith)
+      switch_saves (is_effective q up) ask.Mask (mark.PollOut (mask_number q)) (Polled q e) (Pure w) (λ w. refl) (elim [ inl e ↦ cc | inr e ↦ e ])
+      (λ u l. omega arith)
   polled_saves up q e (Throws c) a h =
-      switch_saves (is_effective q up) ask.Mask (mark.PollOut (mask_number q)) (Polled q e) (Raise c) (λ w. refl) (elim [ inl e ↦ cc | inr e ↦ e ]) (λ u l. omega arith)
+      switch_saves (is_effective q up) ask.Mask (mark.PollOut (mask_number q)) (Polled q e) (Raise c) (λ w. refl) (elim [ inl e ↦ cc | inr e ↦ e ])
+      (λ u l. omega arith)
   polled_saves up q e Works a h = frame_saves e (Polled q e) (In_polled q) (λ w. 0) a (λ w u. omega arith) (λ w. omega arith) h
 
-  entered_saves : (t u : Tree) → ((f m : ℕ) → spends (only (Pair f m)) u ≤ spends (only (Pair f m)) t + made_weight i next (next + 1) (Pair f m)) → Saves i next t (enters i next u)
+  entered_saves : (t u : Tree) → ((f m : ℕ) → spends (only (Pair f m)) u ≤ spends (only (Pair f m)) t + made_weight i next (next + 1) (Pair f m)) →
+      Saves i next t (enters i next u)
   entered_saves t u h =
       record { count = λ f m l. omega (arith, h f m); later = omega arith; step = omega arith; no_cut = elim [ inl e ↦ cc | inr e ↦ e ]; born = tt }
 
   -- the body of an uncancelable, with its new mask
-  masking : (v : ℕ) (e : Tree) → spends (only (Named v)) e ≤ 1 → (f m : ℕ) → spends (only (Pair f m)) (put (Put_mask v i next) e) ≤ spends (only (Pair f m)) e + made_weight i next (next + 1) (Pair f m)
+  masking : (v : ℕ) (e : Tree) → spends (only (Named v)) e ≤ 1 → (f m : ℕ) →
+      spends (only (Pair f m)) (put (Put_mask v i next) e) ≤ spends (only (Pair f m)) e + made_weight i next (next + 1) (Pair f m)
   masking v e h f m = go (nat_eq i f) (nat_eq next m) refl refl
     where
       differs : (b c : Bool) → nat_eq i f ≡ b → nat_eq next m ≡ c → (b && c) ≡ false → Pair i next ≢ Pair f m
@@ -146,19 +173,22 @@ module _ (i next : ℕ) (r : Reply) where
       other : Pair i next ≢ Pair f m → spends (only (Pair f m)) (put (Put_mask v i next) e) ≤ spends (only (Pair f m)) e
       other ne = spends_put e (Put_mask v i next) (only (Pair f m)) (only (Pair f m)) (other_weight v f m i next ne)
 
-      go : (b c : Bool) → nat_eq i f ≡ b → nat_eq next m ≡ c → spends (only (Pair f m)) (put (Put_mask v i next) e) ≤ spends (only (Pair f m)) e + made_weight i next (next + 1) (Pair f m)
+      go : (b c : Bool) → nat_eq i f ≡ b → nat_eq next m ≡ c →
+          spends (only (Pair f m)) (put (Put_mask v i next) e) ≤ spends (only (Pair f m)) e + made_weight i next (next + 1) (Pair f m)
       go true true x y =
           let fi : i ≡ f = eqb-true i f x in
           let mn : next ≡ m = eqb-true next m y in
           let here : made_weight i next (next + 1) (Pair f m) ≡ next + 1 - next = ap (λ c. if c then next + 1 - next else 0) (λ j. x j && y j) in
-          let base : spends (only (Pair i next)) (put (Put_mask v i next) e) ≤ spends (only (Named v)) e + spends (only (Pair i next)) e = spends_new v i next e in
+          let base : spends (only (Pair i next)) (put (Put_mask v i next) e) ≤ spends (only (Named v)) e + spends (only (Pair i next)) e =
+          spends_new v i next e in
           let moved : spends (only (Pair f m)) (put (Put_mask v i next) e) ≤ spends (only (Named v)) e + spends (only (Pair f m)) e =
           subst (λ q. spends (only q) (put (Put_mask v i next) e) ≤ spends (only (Named v)) e + spends (only q) e) (λ j. Pair (fi j) (mn j)) base in
           omega (arith, moved, h, here)
       go true false x y = omega (arith, other (differs true false x y refl))
       go false c x y = omega (arith, other (differs false c x y refl))
 
-  branch_saves : (o : Option Outcome) (f : Handle) (v : ℕ) (b : Tree) (w : ℕ) (c e : Tree) (u : Mask → ℕ) → spends u (branch o f v b w c e) ≤ spends u (Join f v b w c e)
+  branch_saves : (o : Option Outcome) (f : Handle) (v : ℕ) (b : Tree) (w : ℕ) (c e : Tree) (u : Mask → ℕ) →
+      spends u (branch o f v b w c e) ≤ spends u (Join f v b w c e)
   branch_saves None f v b w c e u = omega arith
   branch_saves (Some (outcome.Succeeded z)) f v b w c e u = omega (arith, spends_value v z u b)
   branch_saves (Some (outcome.Errored z)) f v b w c e u = omega (arith, spends_value w z u c)
@@ -166,7 +196,12 @@ module _ (i next : ℕ) (r : Reply) where
 
   looped_saves : (m : Turns) (e : Tree) (u : Mask → ℕ) → spends u (Loop m e) ≤ 1 → spends u (looped m e) ≤ spends u (Loop m e)
   looped_saves Always e u l = omega arith
-  looped_saves (Times v) e u l = elim (is_positive v) as (λ b. spends u (if b then Seq Last e (Loop (Times (one_less v)) e) else unit) ≤ spends u e + spends u e) [ true ↦ omega arith | false ↦ omega arith ]
+  looped_saves (Times v) e u l =
+      elim (is_positive v) as (λ b. spends u (if b then Seq Last e (Loop (Times (one_less v)) e) else unit) ≤ spends u e + spends u e) [
+        | true ↦
+            omega arith
+        | false ↦ omega arith
+      ]
 
   says_taken : (ms : List Mark) (w : Mask → ℕ) → Says ms → taken i w ms ≡ 0
   says_taken _ w silent = refl
@@ -179,7 +214,8 @@ module _ (i next : ℕ) (r : Reply) where
   act_saves : (c : Action) → Saves i next (Act c) (action_row i next r c)
   act_saves c =
       let saved : ActionRow i next r (Saves i next (Act c)) = λ a t ms k p q b.
-      quiet_saves a k (Act c) t ms b (λ w. says_taken ms w q) (says_no_cut ms q) (simple_case (λ t. (w : Mask → ℕ) → 0 ≤ 1 → spends w t ≤ 0) (λ v w l. omega arith) (λ v w l. omega arith) (λ d w l. omega arith) t p) in
+      quiet_saves a k (Act c) t ms b (λ w. says_taken ms w q) (says_no_cut ms q)
+      (simple_case (λ t. (w : Mask → ℕ) → 0 ≤ 1 → spends w t ≤ 0) (λ v w l. omega arith) (λ v w l. omega arith) (λ d w l. omega arith) t p) in
       action_case i next r (Saves i next (Act c)) saved c
 
   pub row_saves : (t : Tree) (up : List Mask) → Live t → Owned i t → Saves i next t (walk i next r up t)
@@ -200,8 +236,11 @@ module _ (i next : ℕ) (r : Reply) where
   row_saves (Let e v b) up l o = let_saves up e v b (end_of e) (walk i next r up e) (row_saves e up l.0 o)
   row_saves (Seq w e b) up l o = seq_saves up w e b (end_of e) (walk i next r up e) (row_saves e up l.0 o)
   row_saves (Handled e v b) up l o = handle_saves up e v b (end_of e) (walk i next r up e) (row_saves e up l.0 o)
-  row_saves (If0 v b c) up l o = plain_saves _ (If0 v b c) _ (λ w l. elim (is_zero v) as (λ y. spends w (if y then b else c) ≤ spends w b + spends w c) [ true ↦ omega arith | false ↦ omega arith ])
-  row_saves (Join f v b w c e) up l o = quiet_saves _ _ (Join f v b w c e) _ _ (wait_none (outcome_in r)) (λ w. refl) (λ e. e) (λ u l. branch_saves (outcome_in r) f v b w c e u)
+  row_saves (If0 v b c) up l o =
+      plain_saves _ (If0 v b c) _
+      (λ w l. elim (is_zero v) as (λ y. spends w (if y then b else c) ≤ spends w b + spends w c) [ true ↦ omega arith | false ↦ omega arith ])
+  row_saves (Join f v b w c e) up l o =
+      quiet_saves _ _ (Join f v b w c e) _ _ (wait_none (outcome_in r)) (λ w. refl) (λ e. e) (λ u l. branch_saves (outcome_in r) f v b w c e u)
   row_saves (Make (New_ref w) v b) up l o = plain_saves _ (Make (New_ref w) v b) _ (λ u l. omega (arith, spends_handle v (number_in r) u b))
   row_saves (Make New_deferred v b) up l o = plain_saves _ (Make New_deferred v b) _ (λ u l. spends_handle v (number_in r) u b)
   row_saves (Start v e b) up l o =
@@ -214,7 +253,9 @@ module _ (i next : ℕ) (r : Reply) where
       }
   row_saves (Loop m e) up l o = plain_saves _ (Loop m e) _ (looped_saves m e)
   row_saves (Uncancelable v e) up l o = entered_saves (Uncancelable v e) _ (masking v e l.1)
-  row_saves (Poll q e) up l o = switch_saves (is_effective q up) ask.Unmask (mark.PollIn (mask_number q)) (Poll q e) (Polled q e) (λ w. refl) (elim [ inl e ↦ cc | inr e ↦ e ]) (λ w l. omega arith)
+  row_saves (Poll q e) up l o =
+      switch_saves (is_effective q up) ask.Unmask (mark.PollIn (mask_number q)) (Poll q e) (Polled q e) (λ w. refl) (elim [ inl e ↦ cc | inr e ↦ e ])
+      (λ w l. omega arith)
   row_saves (On_cancel e fin) up l o = plain_saves _ (On_cancel e fin) (Guarded e fin) (λ w l. omega arith)
   row_saves (Masked m e) up l o = masked_saves up m e (end_of e) (walk i next r (Pair i m ∷ up) e) (row_saves e (Pair i m ∷ up) l o)
   row_saves (Polled q e) up l o = polled_saves up q e (end_of e) (walk i next r (undone q up) e) (row_saves e (undone q up) l o)

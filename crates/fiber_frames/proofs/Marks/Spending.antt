@@ -3,7 +3,9 @@ use Rattle.std.proofs.Common.{◌≡◌, ◌≢◌, ℕ, ◌+◌, ◌≤◌, Boo
 use Rattle.std.proofs.lemmas.Bool.{eqb-true, eq-eqb}
 use Rattle.std.specs.Prelude.{◌&&◌, ℤ}
 use Rattle.derived_ops.specs.Put.{Put, Put_handle, Put_mask, Put_value, mask_at, put}
-use Rattle.derived_ops.specs.Tree.{Acquired, Act, Cancel, Guarded, Handled, If0, Join, Let, Loop, Make, Mask, Masked, Named, Note, On_cancel, Pair, Poll, Polled, Pure, Raise, Released, Releasing, Seq, Start, Tree, Uncancelable}
+use Rattle.derived_ops.specs.Tree.{Acquired, Act, Cancel, Guarded, Handled, If0, Join, Let, Loop, Make, Mask}
+use Rattle.derived_ops.specs.Tree.{Masked, Named, Note, On_cancel, Pair, Poll, Polled, Pure, Raise, Released}
+use Rattle.derived_ops.specs.Tree.{Releasing, Seq, Start, Tree, Uncancelable}
 use Rattle.fiber_frames.proofs.Marks.Cutting.{only, spends}
 use Rattle.fiber_frames.specs.Path.{same_mask}
 
@@ -103,7 +105,11 @@ new_weight v f m (Named u) = go (nat_eq v u) refl
 
 pub spends_new : (v f m : ℕ) (t : Tree) → spends (only (Pair f m)) (put (Put_mask v f m) t) ≤ spends (only (Named v)) t + spends (only (Pair f m)) t
 spends_new v f m t =
-    omega (arith, spends_put t (Put_mask v f m) (only (Pair f m)) (λ x. only (Named v) x + only (Pair f m) x) (new_weight v f m), spends_add t (only (Named v)) (only (Pair f m)))
+    omega (
+      arith,
+      spends_put t (Put_mask v f m) (only (Pair f m)) (λ x. only (Named v) x + only (Pair f m) x) (new_weight v f m),
+      spends_add t (only (Named v)) (only (Pair f m)),
+    )
 
 -- puts of values and of handles
 pub spends_value : (s : ℕ) (z : ℤ) (w : Mask → ℕ) (t : Tree) → spends w (put (Put_value s z) t) ≤ spends w t

@@ -1,6 +1,8 @@
 -- Which marks a term makes: the brackets that are open before it, and after each of its ends.
 use Rattle.std.specs.Prelude.{◌≡◌, ℕ, ◌⊎◌, List, [], ◌∷◌, Option, Some, None}
-use Rattle.derived_ops.specs.Tree.{Acquired, Act, Bracket_mark, Cancel, Guarded, Handled, If0, Join, Let, Loop, Make, Mask, Masked, Named, Note, On_cancel, Pair, Poll, Polled, Pure, Raise, Released, Releasing, Seq, Start, Tree, Uncancelable}
+use Rattle.derived_ops.specs.Tree.{Acquired, Act, Bracket_mark, Cancel, Guarded, Handled, If0, Join, Let, Loop}
+use Rattle.derived_ops.specs.Tree.{Make, Mask, Masked, Named, Note, On_cancel, Pair, Poll, Polled, Pure, Raise}
+use Rattle.derived_ops.specs.Tree.{Released, Releasing, Seq, Start, Tree, Uncancelable}
 use Rattle.fiber_frames.proofs.Marks.Opened.{Freeing, Held, Opened}
 use Rattle.fiber_frames.specs.Path.{undone}
 
@@ -79,8 +81,10 @@ Typed i P up k s n x (Uncancelable p e) =
     Fine up k s × (P (Named p) → ⊥) × Leaves up k n × Leaves up k x × Typed i (with_slot P p) (Named p ∷ up) k s n x e
 Typed i P up k s n x (Poll q e) = Fine up k s × P q × Leaves up k n × Leaves up k x × Typed i P (undone q up) k s n x e
 Typed i P up k s n x (On_cancel e fin) =
-    Fine up k s × (j : Option Stack) × If_ends j (In P) × Typed i P up j s n x e × Leads j k (λ a b. (f m : ℕ) → (P (Pair f m) → ⊥) → Typed i P (Pair f m ∷ []) None a (Some b) (Some b) fin) × Leaves up k n × Leaves up k x
+    Fine up k s × (j : Option Stack) × If_ends j (In P) × Typed i P up j s n x e ×
+    Leads j k (λ a b. (f m : ℕ) → (P (Pair f m) → ⊥) → Typed i P (Pair f m ∷ []) None a (Some b) (Some b) fin) × Leaves up k n × Leaves up k x
 Typed i P up k s n x (Masked m e) = P (Pair i m) × Leaves up k n × Leaves up k x × Typed i P (Pair i m ∷ up) k s n x e
 Typed i P up k s n x (Polled q e) = P q × Leaves up k n × Leaves up k x × Typed i P (undone q up) k s n x e
 Typed i P up k s n x (Guarded e fin) =
-    (j : Option Stack) × If_ends j (In P) × Typed i P up j s n x e × Leads j k (λ a b. (f m : ℕ) → (P (Pair f m) → ⊥) → Typed i P (Pair f m ∷ []) None a (Some b) (Some b) fin) × Leaves up k n × Leaves up k x
+    (j : Option Stack) × If_ends j (In P) × Typed i P up j s n x e ×
+    Leads j k (λ a b. (f m : ℕ) → (P (Pair f m) → ⊥) → Typed i P (Pair f m ∷ []) None a (Some b) (Some b) fin) × Leaves up k n × Leaves up k x

@@ -1,6 +1,8 @@
 -- A term stays typed where more masks may be named.
 use Rattle.std.proofs.Common.{ℕ, inl, inr, List, [], ◌∷◌, Option, Some, None, sym, subst}
-use Rattle.derived_ops.specs.Tree.{Act, Cancel, Guarded, Handled, If0, Join, Let, Loop, Make, Mask, Masked, Named, Note, On_cancel, Pair, Poll, Polled, Pure, Raise, Seq, Start, Tree, Uncancelable}
+use Rattle.derived_ops.specs.Tree.{Act, Cancel, Guarded, Handled, If0, Join, Let, Loop, Make, Mask, Masked}
+use Rattle.derived_ops.specs.Tree.{Named, Note, On_cancel, Pair, Poll, Polled, Pure, Raise, Seq, Start, Tree}
+use Rattle.derived_ops.specs.Tree.{Uncancelable}
 use Rattle.fiber_frames.proofs.Marks.Opened.{Freeing, Held}
 use Rattle.fiber_frames.proofs.Marks.Typed.{AllOf, If_ends, In, Leads, Masks, Stack, Typed, Weaker, with_slot}
 use Rattle.fiber_frames.specs.Path.{undone}
@@ -34,18 +36,33 @@ leads_more None k F G f h = tt
 leads_more (Some j) None F G f h = h
 leads_more (Some j) (Some k) F G f h = f j k h
 
-pub typed_more : (t : Tree) (i : ℕ) (P P' : Masks) (up : List Mask) (k : Option Stack) (s : Stack) (n x : Option Stack) → Grows P P' → Typed i P up k s n x t → Typed i P' up k s n x t
+pub typed_more : (t : Tree) (i : ℕ) (P P' : Masks) (up : List Mask) (k : Option Stack) (s : Stack) (n x : Option Stack) → Grows P P' →
+    Typed i P up k s n x t → Typed i P' up k s n x t
 typed_more (Pure v) i P P' up k s n x w h = h
 typed_more (Raise v) i P P' up k s n x w h = h
 typed_more (Act c) i P P' up k s n x w h = h
 typed_more (Note e q) i P P' up k s n x w h = (h.0, w.more q h.1, h.2, h.3, h.4, h.5)
 typed_more (Cancel f) i P P' up k s n x w h = h
-typed_more (Let e v b) i P P' up k s n x w h =
-    (h.0, if_ends_more h.0 (In P) (In P') (in_more P P' w.more) h.1, typed_more e i P P' up k s h.0 x w h.2, if_ends_more h.0 (λ t. Typed i P up k t n x b) (λ t. Typed i P' up k t n x b) (λ t g. typed_more b i P P' up k t n x w g) h.3)
-typed_more (Seq o e b) i P P' up k s n x w h =
-    (h.0, if_ends_more h.0 (In P) (In P') (in_more P P' w.more) h.1, typed_more e i P P' up k s h.0 x w h.2, if_ends_more h.0 (λ t. Typed i P up k t n x b) (λ t. Typed i P' up k t n x b) (λ t g. typed_more b i P P' up k t n x w g) h.3)
-typed_more (Handled e v b) i P P' up k s n x w h =
-    (h.0, if_ends_more h.0 (In P) (In P') (in_more P P' w.more) h.1, h.2, h.3, typed_more e i P P' up h.2 s n h.0 w h.4, if_ends_more h.0 (λ t. Typed i P up k t n x b) (λ t. Typed i P' up k t n x b) (λ t g. typed_more b i P P' up k t n x w g) h.5)
+typed_more (Let e v b) i P P' up k s n x w h = (
+  h.0,
+  if_ends_more h.0 (In P) (In P') (in_more P P' w.more) h.1,
+  typed_more e i P P' up k s h.0 x w h.2,
+  if_ends_more h.0 (λ t. Typed i P up k t n x b) (λ t. Typed i P' up k t n x b) (λ t g. typed_more b i P P' up k t n x w g) h.3,
+)
+typed_more (Seq o e b) i P P' up k s n x w h = (
+  h.0,
+  if_ends_more h.0 (In P) (In P') (in_more P P' w.more) h.1,
+  typed_more e i P P' up k s h.0 x w h.2,
+  if_ends_more h.0 (λ t. Typed i P up k t n x b) (λ t. Typed i P' up k t n x b) (λ t g. typed_more b i P P' up k t n x w g) h.3,
+)
+typed_more (Handled e v b) i P P' up k s n x w h = (
+  h.0,
+  if_ends_more h.0 (In P) (In P') (in_more P P' w.more) h.1,
+  h.2,
+  h.3,
+  typed_more e i P P' up h.2 s n h.0 w h.4,
+  if_ends_more h.0 (λ t. Typed i P up k t n x b) (λ t. Typed i P' up k t n x b) (λ t g. typed_more b i P P' up k t n x w g) h.5,
+)
 typed_more (If0 v b c) i P P' up k s n x w h = (h.0, typed_more b i P P' up k s n x w h.1, typed_more c i P P' up k s n x w h.2)
 typed_more (Join f u b v c e) i P P' up k s n x w h =
     (h.0, typed_more b i P P' up k s n x w h.1, typed_more c i P P' up k s n x w h.2, typed_more e i P P' up k s n x w h.3)
@@ -62,7 +79,8 @@ typed_more (On_cancel e fin) i P P' up k s n x w h = (
   h.1,
   if_ends_more h.1 (In P) (In P') (in_more P P' w.more) h.2,
   typed_more e i P P' up h.1 s n x w h.3,
-  leads_more h.1 k _ (λ y z. (f m : ℕ) → (P' (Pair f m) → ⊥) → Typed i P' (Pair f m ∷ []) None y (Some z) (Some z) fin) (λ y z g f m u. typed_more fin i P P' (Pair f m ∷ []) None y (Some z) (Some z) w (g f m (λ v. u (w.more (Pair f m) v)))) h.4,
+  leads_more h.1 k _ (λ y z. (f m : ℕ) → (P' (Pair f m) → ⊥) → Typed i P' (Pair f m ∷ []) None y (Some z) (Some z) fin)
+      (λ y z g f m u. typed_more fin i P P' (Pair f m ∷ []) None y (Some z) (Some z) w (g f m (λ v. u (w.more (Pair f m) v)))) h.4,
   h.5,
   h.6,
 )
@@ -73,7 +91,8 @@ typed_more (Guarded e fin) i P P' up k s n x w h = (
   h.0,
   if_ends_more h.0 (In P) (In P') (in_more P P' w.more) h.1,
   typed_more e i P P' up h.0 s n x w h.2,
-  leads_more h.0 k _ (λ y z. (f m : ℕ) → (P' (Pair f m) → ⊥) → Typed i P' (Pair f m ∷ []) None y (Some z) (Some z) fin) (λ y z g f m u. typed_more fin i P P' (Pair f m ∷ []) None y (Some z) (Some z) w (g f m (λ v. u (w.more (Pair f m) v)))) h.3,
+  leads_more h.0 k _ (λ y z. (f m : ℕ) → (P' (Pair f m) → ⊥) → Typed i P' (Pair f m ∷ []) None y (Some z) (Some z) fin)
+      (λ y z g f m u. typed_more fin i P P' (Pair f m ∷ []) None y (Some z) (Some z) w (g f m (λ v. u (w.more (Pair f m) v)))) h.3,
   h.4,
   h.5,
 )

@@ -20,7 +20,8 @@ returns-in_err-fibers-clause-lost c =
       | inr l ↦ inr (
         l.0,
         l.1,
-        missing c.args.registry.now c.args.tasks.items c.in_ok-met.met c.born-born.new.pass c.in_ok-met.configs.items c.born-born.result l.0 c.in_ok-met.ensures.home c.in_ok-met.ensures.taken c.born-born.ensures.counted
+        missing c.args.registry.now c.args.tasks.items c.in_ok-met.met c.born-born.new.pass c.in_ok-met.configs.items c.born-born.result l.0
+            c.in_ok-met.ensures.home c.in_ok-met.ensures.taken c.born-born.ensures.counted
             (subst (λ (s : List Fiber). IsLeast s c.born-born.result l.0) c.as_slice.ensures.value l.2),
       )
     ])
@@ -28,7 +29,8 @@ returns-in_err-fibers-clause-lost c =
 pub returns-clause-schedule : goal.returns-clause-schedule
 returns-clause-schedule c =
     subst (λ (l : List FiberReport). IsOfSomeSchedule c.args.code.now c.args.registry.now.limits record { fibers = l }) (sym c.new.ensures)
-    (gathered_report c.args.registry.now c.args.code.now c.in_ok-met.met c.in_ok-met.configs.items c.born-born.result c.born-born.new.pass c.in_ok-fibers.fibers.items (c.in_ok-met.ensures.gathered c.args.code.now c.requires) c.born-born.ensures.counted
+    (gathered_report c.args.registry.now c.args.code.now c.in_ok-met.met c.in_ok-met.configs.items c.born-born.result c.born-born.new.pass
+    c.in_ok-fibers.fibers.items (c.in_ok-met.ensures.gathered c.args.code.now c.requires) c.born-born.ensures.counted
     (subst (λ (s : List Fiber). AreLines s c.born-born.result c.in_ok-fibers.fibers.items) c.as_slice.ensures.value c.in_ok-fibers.ensures.lines))
 
 pub returns-clause-lawful : goal.returns-clause-lawful
@@ -37,12 +39,14 @@ returns-clause-lawful c = subst (λ (l : List FiberReport). All IsLawful l) (sym
 pub returns-clause-each : goal.returns-clause-each
 returns-clause-each c =
     subst (λ (l : List FiberReport). TellsEach c.args.tasks.items record { fibers = l }) (sym c.new.ensures)
-    (tells_each c.args.tasks.items c.in_ok-met.met c.born-born.new.pass c.in_ok-met.configs.items c.born-born.result c.in_ok-fibers.fibers.items c.in_ok-met.ensures.taken
+    (tells_each c.args.tasks.items c.in_ok-met.met c.born-born.new.pass c.in_ok-met.configs.items c.born-born.result c.in_ok-fibers.fibers.items
+    c.in_ok-met.ensures.taken
     (subst (λ (s : List Fiber). AreLines s c.born-born.result c.in_ok-fibers.fibers.items) c.as_slice.ensures.value c.in_ok-fibers.ensures.lines)
     c.born-born.ensures.counted c.born-born.ensures.lawful c.born-born.ensures.same)
 
 pub returns-clause-only : goal.returns-clause-only
 returns-clause-only c =
     subst (λ (l : List FiberReport). TellsNoOther c.args.tasks.items record { fibers = l }) (sym c.new.ensures)
-    (tells_no_other c.args.tasks.items c.in_ok-met.met c.born-born.new.pass c.in_ok-met.configs.items c.born-born.result c.in_ok-fibers.fibers.items c.in_ok-met.ensures.taken
+    (tells_no_other c.args.tasks.items c.in_ok-met.met c.born-born.new.pass c.in_ok-met.configs.items c.born-born.result c.in_ok-fibers.fibers.items
+    c.in_ok-met.ensures.taken
     (subst (λ (s : List Fiber). AreLines s c.born-born.result c.in_ok-fibers.fibers.items) c.as_slice.ensures.value c.in_ok-fibers.ensures.lines))

@@ -6,7 +6,8 @@ pub returns-in_default : goal.returns-in_default
 returns-in_default c =
     let t = c.in-Ok.ensures.turned in
     record {
-      turn = rw c.yield_now.ensures.pending (still_polled c.args.self.now.task c.turn-turned.new.self c.args.self.now.budget c.in-Ok.turn t c.in_default.not-Ended c.in_default.not-OutOfMoves);
+      turn = rw c.yield_now.ensures.pending
+          (still_polled c.args.self.now.task c.turn-turned.new.self c.args.self.now.budget c.in-Ok.turn t c.in_default.not-Ended c.in_default.not-OutOfMoves);
       budget = refl;
       yielded = search rules;
       value = search rules;

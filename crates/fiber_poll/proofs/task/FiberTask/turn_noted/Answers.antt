@@ -12,7 +12,8 @@ pub returns-in-Over-clause-turned : goal.returns-in-Over-clause-turned
 returns-in-Over-clause-turned g c = over_here _ _ c.self.view_is c.args.budget c.ask.result c.in-Over.outcome c.ask.ensures.tells c.in-Over.is
 
 pub returns-in-Broken-clause-stopped : goal.returns-in-Broken-clause-stopped
-returns-in-Broken-clause-stopped g c = broken_here _ _ c.self.view_is c.args.budget c.ask.result c.self.invariant c.requires.budget c.ask.ensures.tells c.in-Broken.is
+returns-in-Broken-clause-stopped g c =
+    broken_here _ _ c.self.view_is c.args.budget c.ask.result c.self.invariant c.requires.budget c.ask.ensures.tells c.in-Broken.is
 
 pub go-requires : goal.go-requires
 go-requires g c = record {
@@ -24,7 +25,10 @@ pub returns-in_default : goal.returns-in_default
 returns-in_default g c = record {
   turned = c.go.ensures.turned;
   stopped = c.go.ensures.stopped;
-  ended = λ o e. absurd (c.in_default.not-Over o (c.ask.ensures.ask ∙ subst (λ (t : TaskView). ask_of t.state ≡ ask.Over o) (sym c.self.view_is) (over_asked c.args.self.now.state o e)));
-  stays = λ home code of. stays_of code home c.args.self.now c.go.new.self c.args.budget c.go.result (subst IsTask c.self.view_is c.self.invariant) c.go.ensures.turned c.go.ensures.stopped of;
+  ended = λ o e. absurd
+      (c.in_default.not-Over o
+      (c.ask.ensures.ask ∙ subst (λ (t : TaskView). ask_of t.state ≡ ask.Over o) (sym c.self.view_is) (over_asked c.args.self.now.state o e)));
+  stays = λ home code of. stays_of code home c.args.self.now c.go.new.self c.args.budget c.go.result (subst IsTask c.self.view_is c.self.invariant)
+      c.go.ensures.turned c.go.ensures.stopped of;
   broken = λ e. absurd (c.in_default.not-Broken (c.ask.ensures.ask ∙ subst (λ (t : TaskView). ask_of t.state ≡ ask.Broken) (sym c.self.view_is) e));
 }

@@ -10,4 +10,6 @@ push_as-requires-clause-pushes c = puts _ _ _
 
 pub returns-clause-ok : goal.returns-clause-ok
 returns-clause-ok c =
-    rw (← c.self.view_is) (ok_of_first c.push_as.result (PutLast (worker_view c.self.inside.deque) (c.args.number ∷ []) (worker_view c.push_as.new.self)) _ _ c.push_as.ensures.rule)
+    rw (← c.self.view_is)
+    (ok_of_first c.push_as.result (PutLast (worker_view c.self.inside.deque) (c.args.number ∷ []) (worker_view c.push_as.new.self)) _ _
+    c.push_as.ensures.rule)

@@ -10,4 +10,5 @@ push_as-requires-clause-rule g c = puts _ _ _
 
 pub returns-clause-ok : goal.returns-clause-ok
 returns-clause-ok g c =
-    rw (← c.self.view_is) (ok_of c.push_as.result (PutLast (injector_view c.self.inside.pass) (c.args.number ∷ []) (injector_view c.push_as.new.pass)) _ c.push_as.ensures.rule)
+    rw (← c.self.view_is)
+    (ok_of c.push_as.result (PutLast (injector_view c.self.inside.pass) (c.args.number ∷ []) (injector_view c.push_as.new.pass)) _ c.push_as.ensures.rule)

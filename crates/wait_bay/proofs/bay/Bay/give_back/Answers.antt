@@ -13,8 +13,11 @@ store-requires c =
     let seat = c.args.seat.now in
     let fibers = ap (λ (b : BayView). b.fibers) c.self.view_is in
     let out = c.requires.out in
-    let P : List (ℕ × Option TaskView) → Type 0 = λ l. Allows (KeepsTasks shared.key) shared.table_id.slots seat.id (seat.me.0, l) c.args.f (λ _. 0) (λ _. ComesHome (step shared.table_id.slots c.args.f 0 0 none) (seat.me.0, l) 0) in (
+    let P : List (ℕ × Option TaskView) → Type 0 =
+    λ l. Allows (KeepsTasks shared.key) shared.table_id.slots seat.id (seat.me.0, l) c.args.f (λ _. 0)
+    (λ _. ComesHome (step shared.table_id.slots c.args.f 0 0 none) (seat.me.0, l) 0) in (
       c.requires.here ∙ sym (ap (λ (b : BayView). b.table) c.self.view_is),
       omega (arith, c.self.invariant.2, c.requires.within, fibers),
-      subst P (sym out.1) (returns_home shared.key shared.table_id.slots seat.id seat.me.0 c.args.f out.0 (omega (arith, c.self.invariant.3, c.requires.within, fibers)) out.2),
+      subst P (sym out.1) (returns_home shared.key shared.table_id.slots seat.id seat.me.0 c.args.f out.0
+          (omega (arith, c.self.invariant.3, c.requires.within, fibers)) out.2),
     )
