@@ -27,6 +27,7 @@ first_fault-found xs ys e found = first_fault-append xs ys ∙ ap (λ o. option_
 pub ruleset faults = (first_fault-good, first_fault-found)
 
 -- the uses of the terms from one on are its own and those of the next
-pub uses_of_all-at : (around : List Kind) (ts : List Term) (i : ℕ) (t : Term) → i < length ts → t ≡ get_or ts i t → uses_of_all around (drop i ts) ≡ uses_of around t ++ uses_of_all around (drop (i + 1) ts)
+pub uses_of_all-at : (around : List Kind) (ts : List Term) (i : ℕ) (t : Term) → i < length ts → t ≡ get_or ts i t →
+    uses_of_all around (drop i ts) ≡ uses_of around t ++ uses_of_all around (drop (i + 1) ts)
 uses_of_all-at around ts i t within is =
     at_drop_more (uses_of_all around) ts i t within ∙ ap (λ x. uses_of around x ++ uses_of_all around (drop (i + 1) ts)) (sym is)

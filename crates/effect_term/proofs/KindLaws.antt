@@ -12,7 +12,12 @@ use Rattle.effect_term.specs.Kinds.{Fits, ValueFits, WellKinded, AllWellKinded}
 use Rattle.effect_term.specs.Names.{Use, same_kind, fault_with, first_fault, use_of, value_uses, uses_of, uses_of_row}
 use Rattle.effect_term.proofs.Faults.{first_fault-append, first_fault-good}
 use Rattle.effect_term.specs.declared.term.Term.{Term, Row_of-Term, end_of-Term, more_of-Term}
-use Rattle.effect_term.specs.declared.term.Term.TheVariants.{Pure, Raise, Let', Seq', Handle', If0', Add, Say, Cede, Never, Canceled, Uncancelable', Poll', OnCancel', Start', Join', Cancel, Ref', Get, Set, Modify, Deferred', Complete, Await, Repeat', Forever', Guarantee', Bracket', BracketCase', BracketFull', Race', Both'}
+use Rattle.effect_term.specs.declared.term.Term.TheVariants.{Pure, Raise, Let', Seq', Handle', If0', Add, Say}
+use Rattle.effect_term.specs.declared.term.Term.TheVariants.{Cede, Never, Canceled, Uncancelable', Poll'}
+use Rattle.effect_term.specs.declared.term.Term.TheVariants.{OnCancel', Start', Join', Cancel, Ref', Get, Set}
+use Rattle.effect_term.specs.declared.term.Term.TheVariants.{Modify, Deferred', Complete, Await, Repeat'}
+use Rattle.effect_term.specs.declared.term.Term.TheVariants.{Forever', Guarantee', Bracket', BracketCase'}
+use Rattle.effect_term.specs.declared.term.Term.TheVariants.{BracketFull', Race', Both'}
 
 first_none : (a b : Option TermError) → option_or a b ≡ None → a ≡ None
 first_none None b h = refl
@@ -191,11 +196,23 @@ mutual
       let each = split_three (uses_of around acq) (uses_of (around ++ Value ∷ []) body) (uses_of (around ++ Value ∷ []) rel) good in
       (well_kinded around acq each.0, well_kinded (around ++ Value ∷ []) body each.1, well_kinded (around ++ Value ∷ []) rel each.2)
   well_kinded around (BracketCase' p acq q body r rs s re t rc) good =
-      let each = split_five (uses_of around acq) (uses_of (around ++ Value ∷ []) body) (uses_of (around ++ Value ∷ Value ∷ []) rs) (uses_of (around ++ Value ∷ Value ∷ []) re) (uses_of (around ++ Value ∷ []) rc) good in
-      (well_kinded around acq each.0, well_kinded (around ++ Value ∷ []) body each.1, well_kinded (around ++ Value ∷ Value ∷ []) rs each.2, well_kinded (around ++ Value ∷ Value ∷ []) re each.3, well_kinded (around ++ Value ∷ []) rc each.4)
+      let each = split_five (uses_of around acq) (uses_of (around ++ Value ∷ []) body) (uses_of (around ++ Value ∷ Value ∷ []) rs)
+      (uses_of (around ++ Value ∷ Value ∷ []) re) (uses_of (around ++ Value ∷ []) rc) good in (
+        well_kinded around acq each.0,
+        well_kinded (around ++ Value ∷ []) body each.1,
+        well_kinded (around ++ Value ∷ Value ∷ []) rs each.2,
+        well_kinded (around ++ Value ∷ Value ∷ []) re each.3,
+        well_kinded (around ++ Value ∷ []) rc each.4,
+      )
   well_kinded around (BracketFull' p acq q body r rs s re t rc) good =
-      let each = split_five (uses_of (around ++ Poll ∷ []) acq) (uses_of (around ++ Value ∷ []) body) (uses_of (around ++ Value ∷ Value ∷ []) rs) (uses_of (around ++ Value ∷ Value ∷ []) re) (uses_of (around ++ Value ∷ []) rc) good in
-      (well_kinded (around ++ Poll ∷ []) acq each.0, well_kinded (around ++ Value ∷ []) body each.1, well_kinded (around ++ Value ∷ Value ∷ []) rs each.2, well_kinded (around ++ Value ∷ Value ∷ []) re each.3, well_kinded (around ++ Value ∷ []) rc each.4)
+      let each = split_five (uses_of (around ++ Poll ∷ []) acq) (uses_of (around ++ Value ∷ []) body) (uses_of (around ++ Value ∷ Value ∷ []) rs)
+      (uses_of (around ++ Value ∷ Value ∷ []) re) (uses_of (around ++ Value ∷ []) rc) good in (
+        well_kinded (around ++ Poll ∷ []) acq each.0,
+        well_kinded (around ++ Value ∷ []) body each.1,
+        well_kinded (around ++ Value ∷ Value ∷ []) rs each.2,
+        well_kinded (around ++ Value ∷ Value ∷ []) re each.3,
+        well_kinded (around ++ Value ∷ []) rc each.4,
+      )
   well_kinded around (Race' p a q b) good =
       let each = split_two (uses_of around a) (uses_of around b) good in
       (well_kinded around a each.0, well_kinded around b each.1)
@@ -272,11 +289,15 @@ mutual
       join_three (uses_of around acq) (uses_of (around ++ Value ∷ []) body) (uses_of (around ++ Value ∷ []) rel)
       (no_fault around acq fits.0) (no_fault (around ++ Value ∷ []) body fits.1) (no_fault (around ++ Value ∷ []) rel fits.2)
   no_fault around (BracketCase' p acq q body r rs s re t rc) fits =
-      join_five (uses_of around acq) (uses_of (around ++ Value ∷ []) body) (uses_of (around ++ Value ∷ Value ∷ []) rs) (uses_of (around ++ Value ∷ Value ∷ []) re) (uses_of (around ++ Value ∷ []) rc)
-      (no_fault around acq fits.0) (no_fault (around ++ Value ∷ []) body fits.1) (no_fault (around ++ Value ∷ Value ∷ []) rs fits.2) (no_fault (around ++ Value ∷ Value ∷ []) re fits.3) (no_fault (around ++ Value ∷ []) rc fits.4)
+      join_five (uses_of around acq) (uses_of (around ++ Value ∷ []) body) (uses_of (around ++ Value ∷ Value ∷ []) rs)
+      (uses_of (around ++ Value ∷ Value ∷ []) re) (uses_of (around ++ Value ∷ []) rc)
+      (no_fault around acq fits.0) (no_fault (around ++ Value ∷ []) body fits.1) (no_fault (around ++ Value ∷ Value ∷ []) rs fits.2)
+      (no_fault (around ++ Value ∷ Value ∷ []) re fits.3) (no_fault (around ++ Value ∷ []) rc fits.4)
   no_fault around (BracketFull' p acq q body r rs s re t rc) fits =
-      join_five (uses_of (around ++ Poll ∷ []) acq) (uses_of (around ++ Value ∷ []) body) (uses_of (around ++ Value ∷ Value ∷ []) rs) (uses_of (around ++ Value ∷ Value ∷ []) re) (uses_of (around ++ Value ∷ []) rc)
-      (no_fault (around ++ Poll ∷ []) acq fits.0) (no_fault (around ++ Value ∷ []) body fits.1) (no_fault (around ++ Value ∷ Value ∷ []) rs fits.2) (no_fault (around ++ Value ∷ Value ∷ []) re fits.3) (no_fault (around ++ Value ∷ []) rc fits.4)
+      join_five (uses_of (around ++ Poll ∷ []) acq) (uses_of (around ++ Value ∷ []) body) (uses_of (around ++ Value ∷ Value ∷ []) rs)
+      (uses_of (around ++ Value ∷ Value ∷ []) re) (uses_of (around ++ Value ∷ []) rc)
+      (no_fault (around ++ Poll ∷ []) acq fits.0) (no_fault (around ++ Value ∷ []) body fits.1) (no_fault (around ++ Value ∷ Value ∷ []) rs fits.2)
+      (no_fault (around ++ Value ∷ Value ∷ []) re fits.3) (no_fault (around ++ Value ∷ []) rc fits.4)
   no_fault around (Race' p a q b) fits =
       join_two (uses_of around a) (uses_of around b)
       (no_fault around a fits.0) (no_fault around b fits.1)

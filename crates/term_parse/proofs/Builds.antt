@@ -24,17 +24,20 @@ terms_atoms-add (u ∷ ts) t = ap (λ r. atoms_of u ++ r) (terms_atoms-add ts t)
 pub rest_more : (ps qs : List Piece) (t : Term) (p : Piece) → ps ≡ p ∷ qs → p ≡ pieces.Term t → AllTerms (sorts ps) → AllTerms (sorts qs)
 rest_more ps qs t p e k a = subst (λ x. AllTerms (sort_of x ∷ sorts qs)) k (subst (λ x. AllTerms (sorts x)) e a)
 
-pub rest_atoms : (all : List Atom) (ts new : List Term) (ps qs : List Piece) (t : Term) (p : Piece) → ps ≡ p ∷ qs → p ≡ pieces.Term t → new ≡ ts ++ t ∷ [] → all ≡ terms_atoms ts ++ ends ps → all ≡ terms_atoms new ++ ends qs
+pub rest_atoms : (all : List Atom) (ts new : List Term) (ps qs : List Piece) (t : Term) (p : Piece) → ps ≡ p ∷ qs → p ≡ pieces.Term t → new ≡ ts ++
+    t ∷ [] → all ≡ terms_atoms ts ++ ends ps → all ≡ terms_atoms new ++ ends qs
 rest_atoms all ts new ps qs t p e k n a =
     let front : ends ps ≡ atoms_of t ++ ends qs = ap ends e ∙ ap (λ x. ends (x ∷ qs)) k ∙ append_assoc (atoms_of t) (pieces_atoms qs) (ended ∷ []) in
-    a ∙ ap (λ x. terms_atoms ts ++ x) front ∙ sym (append_assoc (terms_atoms ts) (atoms_of t) (ends qs)) ∙ ap (λ x. x ++ ends qs) (sym (terms_atoms-add ts t)) ∙ ap (λ x. terms_atoms x ++ ends qs) (sym n)
+    a ∙ ap (λ x. terms_atoms ts ++ x) front ∙ sym (append_assoc (terms_atoms ts) (atoms_of t) (ends qs)) ∙
+    ap (λ x. x ++ ends qs) (sym (terms_atoms-add ts t)) ∙ ap (λ x. terms_atoms x ++ ends qs) (sym n)
 
 pub row_atoms-row : (m : _) (row : Row_of-Term m) → row_atoms row ≡ terms_atoms (items-the_row-Term m row)
 row_atoms-row _ end_of-Term = refl
 row_atoms-row _ (more_of-Term t rest) = ap (λ r. atoms_of t ++ r) (row_atoms-row _ rest)
 
 -- each word has its arm
-pub no_other : (w : Word) → NotPlain w → NotOne w → NotTwo w → (w ≡ words.Seq → ⊥) → (w ≡ words.Join → ⊥) → (w ≡ words.Bracket → ⊥) → (w ≡ words.BracketCase → ⊥) → (w ≡ words.BracketFull → ⊥) → (w ≡ words.Both → ⊥) → ⊥
+pub no_other : (w : Word) → NotPlain w → NotOne w → NotTwo w → (w ≡ words.Seq → ⊥) → (w ≡ words.Join → ⊥) → (w ≡ words.Bracket → ⊥) →
+    (w ≡ words.BracketCase → ⊥) → (w ≡ words.BracketFull → ⊥) → (w ≡ words.Both → ⊥) → ⊥
 no_other words.Pure a b c m0 m1 m2 m3 m4 m5 = a.0 refl
 no_other words.Raise a b c m0 m1 m2 m3 m4 m5 = a.1 refl
 no_other words.Let a b c m0 m1 m2 m3 m4 m5 = c.0 refl

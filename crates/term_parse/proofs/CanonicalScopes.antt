@@ -1,5 +1,7 @@
 -- The names of a canonical text: each binder is spelled by its kind and its slot.
-use Rattle.std.proofs.Common.{◌≡◌, ◌+◌, ◌^◌, ◌<◌, ◌≤◌, ◌==◌, ℕ, zero, suc, Bool, true, false, cond, List, [], ◌∷◌, ◌++◌, length, Some, Ok, refl, ap, sym, ◌∙◌, arith, decimal, append_assoc, slice_get, length-append}
+use Rattle.std.proofs.Common.{◌≡◌, ◌+◌, ◌^◌, ◌<◌, ◌≤◌, ◌==◌, ℕ, zero, suc, Bool, true, false, cond, List, []}
+use Rattle.std.proofs.Common.{◌∷◌, ◌++◌, length, Some, Ok, refl, ap, sym, ◌∙◌, arith, decimal, append_assoc}
+use Rattle.std.proofs.Common.{slice_get, length-append}
 use Rattle.std.proofs.lemmas.Fmt.{decimal_injective}
 use Rattle.effect_term.specs.declared.term.Kind.{Kind}
 use Rattle.effect_term.specs.declared.term.Name.{Name}
@@ -44,7 +46,8 @@ split_at (j ∷ ks) (suc i) k e = let s = split_at ks i k e in (j ∷ s.0, s.1, 
 pub slot_below : (ks : List Kind) (i : ℕ) (k : Kind) → slice_get ks i ≡ Some k → i < length ks
 slot_below ks i k e = let s = split_at ks i k e in omega (arith, s.3, ap length s.2, length-append s.0 (k ∷ s.1))
 
-innermost : (ks : List Kind) (n : Name) (k : Kind) → slice_get ks n.slot ≡ Some k → n.kind ≡ k → length ks < 2 ^ 64 → IsInnermost (scope_of ks) (name_spelling n.kind n.slot) n
+innermost : (ks : List Kind) (n : Name) (k : Kind) → slice_get ks n.slot ≡ Some k → n.kind ≡ k → length ks < 2 ^ 64 →
+    IsInnermost (scope_of ks) (name_spelling n.kind n.slot) n
 innermost ks n k e q l =
     let s = split_at ks n.slot k e in
     let at : 0 + length s.0 ≡ n.slot = omega (arith, s.3) in
@@ -60,7 +63,8 @@ innermost ks n k e q l =
       kind_is = q;
     }
 
-pub meant : (ks : List Kind) (n : Name) (k : Kind) (at : ℕ) → slice_get ks n.slot ≡ Some k → n.kind ≡ k → length ks < 2 ^ 64 → meaning (scope_of ks) k (name_spelling n.kind n.slot) at ≡ Ok n
+pub meant : (ks : List Kind) (n : Name) (k : Kind) (at : ℕ) → slice_get ks n.slot ≡ Some k → n.kind ≡ k → length ks < 2 ^ 64 →
+    meaning (scope_of ks) k (name_spelling n.kind n.slot) at ≡ Ok n
 meant ks n k at e q l = meaning-from_innermost (scope_of ks) k (name_spelling n.kind n.slot) at n (innermost ks n k e q l, q)
 
 -- a form's own binder: its kind, and how many of the form's binders enclose it
@@ -77,16 +81,20 @@ pub own_names-append : (n : ℕ) (bs cs : List Own) → own_names n (bs ++ cs) �
 own_names-append n [] cs = refl
 own_names-append n (b ∷ bs) cs = ap (λ x. record { spelling = name_spelling b.kind (n + b.outer); kind = b.kind } ∷ x) (own_names-append n bs cs)
 
-slice_get-own : (n : ℕ) (bs : List Own) (i : ℕ) (o : Own) → slice_get bs i ≡ Some o → slice_get (own_names n bs) i ≡ Some (record { spelling = name_spelling o.kind (n + o.outer); kind = o.kind })
+slice_get-own : (n : ℕ) (bs : List Own) (i : ℕ) (o : Own) → slice_get bs i ≡ Some o →
+    slice_get (own_names n bs) i ≡ Some (record { spelling = name_spelling o.kind (n + o.outer); kind = o.kind })
 slice_get-own n [] i o e = cc
-slice_get-own n (b ∷ bs) zero o e = let same : b ≡ o = cc in ap (λ (x : Own). Some (record { spelling = name_spelling x.kind (n + x.outer); kind = x.kind })) same
+slice_get-own n (b ∷ bs) zero o e = let same : b ≡ o = cc in
+    ap (λ (x : Own). Some (record { spelling = name_spelling x.kind (n + x.outer); kind = x.kind })) same
 slice_get-own n (b ∷ bs) (suc i) o e = slice_get-own n bs i o e
 
-picked_own : (n : ℕ) (bs : List Own) (i : ℕ) (o : Own) → slice_get bs i ≡ Some o → picked (own_names n bs) i ≡ record { spelling = name_spelling o.kind (n + o.outer); kind = o.kind } ∷ []
+picked_own : (n : ℕ) (bs : List Own) (i : ℕ) (o : Own) → slice_get bs i ≡ Some o →
+    picked (own_names n bs) i ≡ record { spelling = name_spelling o.kind (n + o.outer); kind = o.kind } ∷ []
 unfolding picked
 picked_own n bs i o e = rw (slice_get-own n bs i o e, picked) refl
 
-pub entered_under : (ks : List Kind) (bs : List Own) (i : ℕ) (k : Kind) → slice_get bs i ≡ Some (record { kind = k; outer = 0 }) → entered (scope_of ks) (own_names (length ks) bs) (Under i) ≡ scope_of (ks ++ k ∷ [])
+pub entered_under : (ks : List Kind) (bs : List Own) (i : ℕ) (k : Kind) → slice_get bs i ≡ Some (record { kind = k; outer = 0 }) →
+    entered (scope_of ks) (own_names (length ks) bs) (Under i) ≡ scope_of (ks ++ k ∷ [])
 unfolding entered
 entered_under ks bs i k e =
     let at : length ks + 0 ≡ 0 + length ks = omega arith in
@@ -94,14 +102,17 @@ entered_under ks bs i k e =
     ∙ ap (λ m. scope_of ks ++ (record { spelling = name_spelling k m; kind = k } ∷ [])) at
     ∙ sym (names_from-append 0 ks (k ∷ []))
 
-pub entered_both : (ks : List Kind) (bs : List Own) (i j : ℕ) (k l : Kind) → slice_get bs i ≡ Some (record { kind = k; outer = 0 }) → slice_get bs j ≡ Some (record { kind = l; outer = 1 }) → entered (scope_of ks) (own_names (length ks) bs) (UnderBoth i j) ≡ scope_of (ks ++ k ∷ l ∷ [])
+pub entered_both : (ks : List Kind) (bs : List Own) (i j : ℕ) (k l : Kind) → slice_get bs i ≡ Some (record { kind = k; outer = 0 }) →
+    slice_get bs j ≡ Some (record { kind = l; outer = 1 }) → entered (scope_of ks) (own_names (length ks) bs) (UnderBoth i j) ≡ scope_of (ks ++ k ∷ l ∷ [])
 unfolding entered
 entered_both ks bs i j k l e f =
     let at : length ks + 0 ≡ 0 + length ks = omega arith in
     let next : length ks + 1 ≡ suc (0 + length ks) = omega arith in
     ap (λ x. (scope_of ks ++ x) ++ picked (own_names (length ks) bs) j) (picked_own (length ks) bs i (record { kind = k; outer = 0 }) e)
-    ∙ ap (λ x. (scope_of ks ++ (record { spelling = name_spelling k (length ks + 0); kind = k } ∷ [])) ++ x) (picked_own (length ks) bs j (record { kind = l; outer = 1 }) f)
-    ∙ append_assoc (scope_of ks) (record { spelling = name_spelling k (length ks + 0); kind = k } ∷ []) (record { spelling = name_spelling l (length ks + 1); kind = l } ∷ [])
+    ∙ ap (λ x. (scope_of ks ++ (record { spelling = name_spelling k (length ks + 0); kind = k } ∷ [])) ++ x)
+    (picked_own (length ks) bs j (record { kind = l; outer = 1 }) f)
+    ∙ append_assoc (scope_of ks) (record { spelling = name_spelling k (length ks + 0); kind = k } ∷ [])
+    (record { spelling = name_spelling l (length ks + 1); kind = l } ∷ [])
     ∙ ap (λ m. scope_of ks ++ (record { spelling = name_spelling k m; kind = k } ∷ record { spelling = name_spelling l (length ks + 1); kind = l } ∷ [])) at
     ∙ ap (λ m. scope_of ks ++ (record { spelling = name_spelling k (0 + length ks); kind = k } ∷ record { spelling = name_spelling l m; kind = l } ∷ [])) next
     ∙ sym (names_from-append 0 ks (k ∷ l ∷ []))

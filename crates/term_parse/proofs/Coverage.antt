@@ -1,5 +1,6 @@
 -- What is read is spelled by the grammar: the tokens of a reading are cut into what each want takes of them.
-use Rattle.std.proofs.Common.{◌≡◌, ◌+◌, ◌≤◌, ◌<◌, ℕ, suc, List, [], ◌∷◌, ◌++◌, Option, Some, None, Result, Ok, Err, Bool, true, false, nat_lt, refl, ap, sym, subst, ◌∙◌, arith, append_assoc}
+use Rattle.std.proofs.Common.{◌≡◌, ◌+◌, ◌≤◌, ◌<◌, ℕ, suc, List, [], ◌∷◌, ◌++◌, Option, Some, None, Result, Ok}
+use Rattle.std.proofs.Common.{Err, Bool, true, false, nat_lt, refl, ap, sym, subst, ◌∙◌, arith, append_assoc}
 use Rattle.std.proofs.lemmas.Bool.{ltb-true}
 use Rattle.effect_term.specs.declared.term.Kind.TheVariants as kinds
 use Rattle.effect_term.specs.declared.term.Name.{Name}
@@ -12,7 +13,8 @@ use Rattle.term_parse.specs.declared.error.ParseError.TheVariants as errors
 use Rattle.term_parse.specs.Atoms.{Atom, word, value, name, ended}
 use Rattle.term_parse.specs.Language.{word_spelling, parts_of, word_of}
 use Rattle.term_parse.specs.Lexemes.{Lexeme, opens, closes, called, number, bad_number, bad_byte, Placed}
-use Rattle.term_parse.specs.Reading.{Bound, Want, term, a_word, parts, Step, want_step, part_step, begun, used, opening, entered, meaning, open_of, with_front, reads}
+use Rattle.term_parse.specs.Reading.{Bound, Want, term, a_word, parts, Step, want_step, part_step, begun, used}
+use Rattle.term_parse.specs.Reading.{opening, entered, meaning, open_of, with_front, reads}
 use Rattle.term_parse.specs.Grammar.{Phrase, done, spelled, counted, form, tokens_of, depth_of, Means}
 use Rattle.term_parse.proofs.Fronts.{with_front-ok}
 use Rattle.term_parse.proofs.Words.{spelling-found}
@@ -45,7 +47,8 @@ stepped s = Ok s
 same_step : (st s : Step) → stepped st ≡ stepped s → st ≡ s
 same_step st s h = cc
 
-opening_was : (P : Step → Type 0) (depth at : ℕ) (ws : List Want) (s : Step) → (depth < 100 → P (record { atoms = []; wants = ws })) → (b : Bool) → nat_lt depth 100 ≡ b → opening depth at ws ≡ Ok s → P s
+opening_was : (P : Step → Type 0) (depth at : ℕ) (ws : List Want) (s : Step) → (depth < 100 → P (record { atoms = []; wants = ws })) → (b : Bool) →
+    nat_lt depth 100 ≡ b → opening depth at ws ≡ Ok s → P s
 opening_was P depth at ws s k true q h =
     let e : opening depth at ws ≡ Ok (record { atoms = []; wants = ws }) = rw q refl in
     subst P (same_step (record { atoms = []; wants = ws }) s (sym e ∙ h)) (k (ltb-true depth 100 q))
@@ -53,11 +56,13 @@ opening_was P depth at ws s k false q h =
     let e : opening depth at ws ≡ Err (errors.TooDeep at) = rw q refl in
     cc
 
-used_was : (P : Step → Type 0) (m : Result Name ParseError) (atom : Name → Atom) (after : Want) (s : Step) → ((n : Name) → m ≡ Ok n → P (record { atoms = atom n ∷ []; wants = after ∷ [] })) → used m atom after ≡ Ok s → P s
+used_was : (P : Step → Type 0) (m : Result Name ParseError) (atom : Name → Atom) (after : Want) (s : Step) →
+    ((n : Name) → m ≡ Ok n → P (record { atoms = atom n ∷ []; wants = after ∷ [] })) → used m atom after ≡ Ok s → P s
 used_was P (Ok n) atom after s k h = subst P (same_step (record { atoms = atom n ∷ []; wants = after ∷ [] }) s h) (k n refl)
 used_was P (Err e) atom after s k h = cc
 
-begun_was : (P : Step → Type 0) (o : Option Word) (scope : List Bound) (at : ℕ) (s : Step) → ((r : Word) → o ≡ Some r → P (record { atoms = word r ∷ []; wants = parts scope [] (parts_of r) ∷ [] })) → begun o scope at ≡ Ok s → P s
+begun_was : (P : Step → Type 0) (o : Option Word) (scope : List Bound) (at : ℕ) (s : Step) →
+    ((r : Word) → o ≡ Some r → P (record { atoms = word r ∷ []; wants = parts scope [] (parts_of r) ∷ [] })) → begun o scope at ≡ Ok s → P s
 begun_was P (Some r) scope at s k h = subst P (same_step (record { atoms = word r ∷ []; wants = parts scope [] (parts_of r) ∷ [] }) s h) (k r refl)
 begun_was P None scope at s k h = cc
 
@@ -67,7 +72,8 @@ Formed s' s b ps ps' =
     (at c : ℕ) (w : Word) (q p : Phrase) (first rest : List Atom) → Means s' [] (parts_of w) q first → Means s b ps' p rest →
     Means s b ps (form at c w q p) (word w ∷ (first ++ rest))
 
-formed : (s' s b : List Bound) (ps ps' : List Part) (at : ℕ) (ws : List Want) (ts : List Placed) (ys : List Atom) → Formed s' s b ps ps' → open_of (parts s b ps ∷ ws) < 100 → Onward (parts s b ps) opens at ws ts ys (record { atoms = []; wants = a_word s' ∷ parts s b ps' ∷ [] })
+formed : (s' s b : List Bound) (ps ps' : List Part) (at : ℕ) (ws : List Want) (ts : List Placed) (ys : List Atom) → Formed s' s b ps ps' →
+    open_of (parts s b ps ∷ ws) < 100 → Onward (parts s b ps) opens at ws ts ys (record { atoms = []; wants = a_word s' ∷ parts s b ps' ∷ [] })
 formed s' s b ps ps' at ws ts ys k low cover =
     let (c, w, q, first, more, rest, e, ye, m, deep, inside) = cover (omega arith) in
     let (p, first', more', rest', e', ye', m', deep', outside) = inside in (
@@ -75,14 +81,17 @@ formed s' s b ps ps' at ws ts ys k low cover =
       word w ∷ (first ++ first'),
       more',
       rest',
-      ap (λ x. record { lexeme = opens; place = at } ∷ x) (e ∙ ap (λ x. record { lexeme = called (word_spelling w); place = c } ∷ (tokens_of q ++ x)) e' ∙ ap (λ x. record { lexeme = called (word_spelling w); place = c } ∷ x) (sym (append_assoc (tokens_of q) (tokens_of p) more'))),
+      ap (λ x. record { lexeme = opens; place = at } ∷ x)
+          (e ∙ ap (λ x. record { lexeme = called (word_spelling w); place = c } ∷ (tokens_of q ++ x)) e' ∙
+          ap (λ x. record { lexeme = called (word_spelling w); place = c } ∷ x) (sym (append_assoc (tokens_of q) (tokens_of p) more'))),
       ye ∙ ap (λ x. word w ∷ (first ++ x)) ye' ∙ ap (λ x. word w ∷ x) (sym (append_assoc first first' rest')),
       k at c w q p first first' m m',
       omega arith,
       outside,
     )
 
-part_onward : (s b : List Bound) (p : Part) (ps : List Part) (l : Lexeme) (at : ℕ) (ws : List Want) (ts : List Placed) (ys : List Atom) (st : Step) → suc (open_of ws) ≤ 100 → part_step (suc (open_of ws)) s b p ps l at ≡ Ok st → Onward (parts s b (p ∷ ps)) l at ws ts ys st
+part_onward : (s b : List Bound) (p : Part) (ps : List Part) (l : Lexeme) (at : ℕ) (ws : List Want) (ts : List Placed) (ys : List Atom) (st : Step) →
+    suc (open_of ws) ≤ 100 → part_step (suc (open_of ws)) s b p ps l at ≡ Ok st → Onward (parts s b (p ∷ ps)) l at ws ts ys st
 unfolding part_step
 part_onward s b (Bind k) ps (called x) at ws ts ys st low h =
     subst (Onward (parts s b (Bind k ∷ ps)) (called x) at ws ts ys) (same_step _ st h) (λ cover.
@@ -90,35 +99,69 @@ part_onward s b (Bind k) ps (called x) at ws ts ys st low h =
     (spelled at x p, first, more, rest, ap (λ z. record { lexeme = called x; place = at } ∷ z) e, ye, m, deep, outside))
 part_onward s b (Use k) ps (called x) at ws ts ys st low h =
     used_was (Onward (parts s b (Use k ∷ ps)) (called x) at ws ts ys) (meaning s k x at) (λ n. name n) (parts s b ps) st (λ n mean cover.
-    let (p, first, more, rest, e, ye, m, deep, outside) = cover low in
-    (spelled at x p, name n ∷ first, more, rest, ap (λ z. record { lexeme = called x; place = at } ∷ z) e, ap (λ z. name n ∷ z) ye, (n, first, (innermost-from_meaning s k x at n mean).0, (innermost-from_meaning s k x at n mean).1, refl, m), deep, outside)) h
+    let (p, first, more, rest, e, ye, m, deep, outside) = cover low in (
+      spelled at x p,
+      name n ∷ first,
+      more,
+      rest,
+      ap (λ z. record { lexeme = called x; place = at } ∷ z) e,
+      ap (λ z. name n ∷ z) ye,
+      (n, first, (innermost-from_meaning s k x at n mean).0, (innermost-from_meaning s k x at n mean).1, refl, m),
+      deep,
+      outside,
+    )) h
 part_onward s b Value ps (called x) at ws ts ys st low h =
     used_was (Onward (parts s b (Value ∷ ps)) (called x) at ws ts ys) (meaning s kinds.Value x at) (λ n. value (Named n)) (parts s b ps) st (λ n mean cover.
-    let (p, first, more, rest, e, ye, m, deep, outside) = cover low in
-    (spelled at x p, value (Named n) ∷ first, more, rest, ap (λ z. record { lexeme = called x; place = at } ∷ z) e, ap (λ z. value (Named n) ∷ z) ye, (n, first, (innermost-from_meaning s kinds.Value x at n mean).0, (innermost-from_meaning s kinds.Value x at n mean).1, refl, m), deep, outside)) h
+    let (p, first, more, rest, e, ye, m, deep, outside) = cover low in (
+      spelled at x p,
+      value (Named n) ∷ first,
+      more,
+      rest,
+      ap (λ z. record { lexeme = called x; place = at } ∷ z) e,
+      ap (λ z. value (Named n) ∷ z) ye,
+      (n, first, (innermost-from_meaning s kinds.Value x at n mean).0, (innermost-from_meaning s kinds.Value x at n mean).1, refl, m),
+      deep,
+      outside,
+    )) h
 part_onward s b Value ps (number n) at ws ts ys st low h =
     subst (Onward (parts s b (Value ∷ ps)) (number n) at ws ts ys) (same_step _ st h) (λ cover.
-    let (p, first, more, rest, e, ye, m, deep, outside) = cover low in
-    (counted at n p, value (Number n) ∷ first, more, rest, ap (λ z. record { lexeme = number n; place = at } ∷ z) e, ap (λ z. value (Number n) ∷ z) ye, (first, refl, m), deep, outside))
+    let (p, first, more, rest, e, ye, m, deep, outside) = cover low in (
+      counted at n p,
+      value (Number n) ∷ first,
+      more,
+      rest,
+      ap (λ z. record { lexeme = number n; place = at } ∷ z) e,
+      ap (λ z. value (Number n) ∷ z) ye,
+      (first, refl, m),
+      deep,
+      outside,
+    ))
 part_onward s b Term ps opens at ws ts ys st low h =
     opening_was (Onward (parts s b (Term ∷ ps)) opens at ws ts ys) (suc (open_of ws)) at (a_word (entered s b Term) ∷ parts s b ps ∷ []) st
-    (formed (entered s b Term) s b (Term ∷ ps) ps at ws ts ys (λ at' c w q p first rest m m'. (first, rest, refl, m, m'))) (nat_lt (suc (open_of ws)) 100) refl h
+    (formed (entered s b Term) s b (Term ∷ ps) ps at ws ts ys (λ at' c w q p first rest m m'. (first, rest, refl, m, m')))
+    (nat_lt (suc (open_of ws)) 100) refl h
 part_onward s b (Under i) ps opens at ws ts ys st low h =
     opening_was (Onward (parts s b (Under i ∷ ps)) opens at ws ts ys) (suc (open_of ws)) at (a_word (entered s b (Under i)) ∷ parts s b ps ∷ []) st
-    (formed (entered s b (Under i)) s b (Under i ∷ ps) ps at ws ts ys (λ at' c w q p first rest m m'. (first, rest, refl, m, m'))) (nat_lt (suc (open_of ws)) 100) refl h
+    (formed (entered s b (Under i)) s b (Under i ∷ ps) ps at ws ts ys (λ at' c w q p first rest m m'. (first, rest, refl, m, m')))
+    (nat_lt (suc (open_of ws)) 100) refl h
 part_onward s b (UnderBoth i j) ps opens at ws ts ys st low h =
     opening_was (Onward (parts s b (UnderBoth i j ∷ ps)) opens at ws ts ys) (suc (open_of ws)) at (a_word (entered s b (UnderBoth i j)) ∷ parts s b ps ∷ []) st
-    (formed (entered s b (UnderBoth i j)) s b (UnderBoth i j ∷ ps) ps at ws ts ys (λ at' c w q p first rest m m'. (first, rest, refl, m, m'))) (nat_lt (suc (open_of ws)) 100) refl h
+    (formed (entered s b (UnderBoth i j)) s b (UnderBoth i j ∷ ps) ps at ws ts ys (λ at' c w q p first rest m m'. (first, rest, refl, m, m')))
+    (nat_lt (suc (open_of ws)) 100) refl h
 part_onward s b More ps opens at ws ts ys st low h =
     opening_was (Onward (parts s b (More ∷ ps)) opens at ws ts ys) (suc (open_of ws)) at (a_word (entered s b More) ∷ parts s b (More ∷ ps) ∷ []) st
-    (formed (entered s b More) s b (More ∷ ps) (More ∷ ps) at ws ts ys (λ at' c w q p first rest m m'. (first, rest, refl, m, m'))) (nat_lt (suc (open_of ws)) 100) refl h
+    (formed (entered s b More) s b (More ∷ ps) (More ∷ ps) at ws ts ys (λ at' c w q p first rest m m'. (first, rest, refl, m, m')))
+    (nat_lt (suc (open_of ws)) 100) refl h
 part_onward s b More ps closes at ws ts ys st low h =
-    subst (Onward (parts s b (More ∷ ps)) closes at ws ts ys) (same_step _ st h) (λ cover. (done at, ended ∷ [], ts, ys, refl, refl, refl, omega arith, cover (omega arith)))
+    subst (Onward (parts s b (More ∷ ps)) closes at ws ts ys) (same_step _ st h)
+    (λ cover. (done at, ended ∷ [], ts, ys, refl, refl, refl, omega arith, cover (omega arith)))
 part_onward s b Close ps closes at ws ts ys st low h =
-    subst (Onward (parts s b (Close ∷ ps)) closes at ws ts ys) (same_step _ st h) (λ cover. (done at, ended ∷ [], ts, ys, refl, refl, refl, omega arith, cover (omega arith)))
+    subst (Onward (parts s b (Close ∷ ps)) closes at ws ts ys) (same_step _ st h)
+    (λ cover. (done at, ended ∷ [], ts, ys, refl, refl, refl, omega arith, cover (omega arith)))
 part_onward s b p ps l at ws ts ys st low h = cc
 
-onward : (w : Want) (l : Lexeme) (at : ℕ) (ws : List Want) (ts : List Placed) (ys : List Atom) (st : Step) → open_of (w ∷ ws) ≤ 100 → want_step (open_of (w ∷ ws)) w l at ≡ Ok st → Onward w l at ws ts ys st
+onward : (w : Want) (l : Lexeme) (at : ℕ) (ws : List Want) (ts : List Placed) (ys : List Atom) (st : Step) → open_of (w ∷ ws) ≤ 100 →
+    want_step (open_of (w ∷ ws)) w l at ≡ Ok st → Onward w l at ws ts ys st
 unfolding want_step
 onward w bad_byte at ws ts ys st low h = cc
 onward w bad_number at ws ts ys st low h = cc
@@ -129,13 +172,27 @@ onward (term s) opens at ws ts ys st low h =
 onward (term s) l at ws ts ys st low h = cc
 onward (a_word s) (called x) at ws ts ys st low h =
     begun_was (Onward (a_word s) (called x) at ws ts ys) (word_of x) s at st (λ w found cover.
-    let (p, first, more, rest, e, ye, m, deep, outside) = cover low in
-    (at, w, p, first, more, rest, ap (λ z. record { lexeme = called x; place = at } ∷ z) e ∙ ap (λ z. record { lexeme = called z; place = at } ∷ (tokens_of p ++ more)) (spelling-found x w found), ap (λ z. word w ∷ z) ye, m, deep, outside)) h
+    let (p, first, more, rest, e, ye, m, deep, outside) = cover low in (
+      at,
+      w,
+      p,
+      first,
+      more,
+      rest,
+      ap (λ z. record { lexeme = called x; place = at } ∷ z) e ∙
+          ap (λ z. record { lexeme = called z; place = at } ∷ (tokens_of p ++ more)) (spelling-found x w found),
+      ap (λ z. word w ∷ z) ye,
+      m,
+      deep,
+      outside,
+    )) h
 onward (a_word s) l at ws ts ys st low h = cc
 onward (parts s b []) l at ws ts ys st low h = cc
 onward (parts s b (p ∷ ps)) l at ws ts ys st low h = part_onward s b p ps l at ws ts ys st low h
 
-covered_more : (end : ℕ) (t : Placed) (ts : List Placed) (w : Want) (ws : List Want) (xs : List Atom) → ((vs : List Want) (ys : List Atom) → open_of vs ≤ 100 → reads end vs ts ≡ Ok ys → Covered vs ts ys) → open_of (w ∷ ws) ≤ 100 → reads end (w ∷ ws) (t ∷ ts) ≡ Ok xs → (r : Result Step ParseError) → want_step (open_of (w ∷ ws)) w t.lexeme t.place ≡ r → Covered (w ∷ ws) (t ∷ ts) xs
+covered_more : (end : ℕ) (t : Placed) (ts : List Placed) (w : Want) (ws : List Want) (xs : List Atom) →
+    ((vs : List Want) (ys : List Atom) → open_of vs ≤ 100 → reads end vs ts ≡ Ok ys → Covered vs ts ys) → open_of (w ∷ ws) ≤ 100 →
+    reads end (w ∷ ws) (t ∷ ts) ≡ Ok xs → (r : Result Step ParseError) → want_step (open_of (w ∷ ws)) w t.lexeme t.place ≡ r → Covered (w ∷ ws) (t ∷ ts) xs
 unfolding reads
 covered_more end t ts w ws xs ih low h (Err e) q = let l : reads end (w ∷ ws) (t ∷ ts) ≡ Err e = rw (q, reads) refl in cc
 covered_more end t ts w ws xs ih low h (Ok s) q =
@@ -148,4 +205,5 @@ unfolding reads
 covered end [] [] xs low h = (refl, cc)
 covered end [] (w ∷ ws) xs low h = cc
 covered end (t ∷ ts) [] xs low h = cc
-covered end (t ∷ ts) (w ∷ ws) xs low h = covered_more end t ts w ws xs (λ vs ys. covered end ts vs ys) low h (want_step (open_of (w ∷ ws)) w t.lexeme t.place) refl
+covered end (t ∷ ts) (w ∷ ws) xs low h =
+    covered_more end t ts w ws xs (λ vs ys. covered end ts vs ys) low h (want_step (open_of (w ∷ ws)) w t.lexeme t.place) refl

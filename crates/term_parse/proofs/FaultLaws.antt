@@ -14,7 +14,8 @@ fault_here end [] (t ∷ ts) e b = ap (λ x. Err x) (sym b)
 fault_here end (w ∷ ws) [] e b = ap (λ x. Err x) (sym b)
 fault_here end (w ∷ ws) (t ∷ ts) e b = rw (b, reads) refl
 
-fault_later : (end : ℕ) (front : List Placed) (ws after : List Want) (rest : List Placed) (e : ParseError) → Fit ws front after → Breaks end after rest e → reads end ws (front ++ rest) ≡ Err e
+fault_later : (end : ℕ) (front : List Placed) (ws after : List Want) (rest : List Placed) (e : ParseError) → Fit ws front after →
+    Breaks end after rest e → reads end ws (front ++ rest) ≡ Err e
 unfolding reads
 fault_later end [] ws after rest e h b = rw h (fault_here end after rest e b)
 fault_later end (t ∷ ts) [] after rest e h b = absurd h
@@ -24,7 +25,9 @@ pub reads-from_fault : (end : ℕ) (ws : List Want) (ts : List Placed) (e : Pars
 reads-from_fault end ws ts e h = rw h.tokens_are (fault_later end h.front ws h.todo h.rest e h.fits h.breaks)
 
 -- a reading that fails at its first token, or later
-fault_more : (end : ℕ) (t : Placed) (ts : List Placed) (w : Want) (ws : List Want) (e : ParseError) → ((vs : List Want) → reads end vs ts ≡ Err e → IsFirstFault end vs ts e) → reads end (w ∷ ws) (t ∷ ts) ≡ Err e → (r : Result Step ParseError) → want_step (open_of (w ∷ ws)) w t.lexeme t.place ≡ r → IsFirstFault end (w ∷ ws) (t ∷ ts) e
+fault_more : (end : ℕ) (t : Placed) (ts : List Placed) (w : Want) (ws : List Want) (e : ParseError) →
+    ((vs : List Want) → reads end vs ts ≡ Err e → IsFirstFault end vs ts e) → reads end (w ∷ ws) (t ∷ ts) ≡ Err e → (r : Result Step ParseError) →
+    want_step (open_of (w ∷ ws)) w t.lexeme t.place ≡ r → IsFirstFault end (w ∷ ws) (t ∷ ts) e
 unfolding reads
 fault_more end t ts w ws e ih h (Err g) q =
     let l : reads end (w ∷ ws) (t ∷ ts) ≡ Err g = rw (q, reads) refl in
@@ -40,7 +43,8 @@ unfolding reads
 fault-from_reads end [] [] e h = cc
 fault-from_reads end [] (w ∷ ws) e h = record { front = []; rest = []; todo = w ∷ ws; tokens_are = refl; fits = refl; breaks = cc }
 fault-from_reads end (t ∷ ts) [] e h = record { front = []; rest = t ∷ ts; todo = []; tokens_are = refl; fits = refl; breaks = cc }
-fault-from_reads end (t ∷ ts) (w ∷ ws) e h = fault_more end t ts w ws e (λ vs. fault-from_reads end ts vs e) h (want_step (open_of (w ∷ ws)) w t.lexeme t.place) refl
+fault-from_reads end (t ∷ ts) (w ∷ ws) e h =
+    fault_more end t ts w ws e (λ vs. fault-from_reads end ts vs e) h (want_step (open_of (w ∷ ws)) w t.lexeme t.place) refl
 
 reading-fault_where : (text : List ℕ) (e : ParseError) (b : Bool) → nat_lt 65536 (length text) ≡ b → FaultWhere b text e → reading text ≡ Err e
 unfolding reading reads_at

@@ -18,7 +18,8 @@ with_front-err a (Ok x) e h = cc
 with_front-err a (Err x) e h = h
 
 -- the rest of what was read, behind its front
-pub with_front-ok : (a : List Atom) (r : Result (List Atom) ParseError) (xs : List Atom) → with_front a r ≡ Ok xs → (ys : List Atom) × (r ≡ Ok ys) × (xs ≡ a ++ ys)
+pub with_front-ok : (a : List Atom) (r : Result (List Atom) ParseError) (xs : List Atom) → with_front a r ≡ Ok xs → (ys : List Atom) × (r ≡ Ok ys) ×
+    (xs ≡ a ++ ys)
 with_front-ok a (Ok y) xs h = (y, refl, cc)
 with_front-ok a (Err e) xs h = cc
 

@@ -1,5 +1,6 @@
 -- What the grammar spells is closed and well kinded: each use of a name has a binder of its place's kind.
-use Rattle.std.proofs.Common.{◌≡◌, ℕ, List, [], ◌∷◌, ◌++◌, length, Option, Some, None, Result, Ok, Err, IfOk, slice_get, map, refl, ap, sym, subst, ◌∙◌, append_assoc}
+use Rattle.std.proofs.Common.{◌≡◌, ℕ, List, [], ◌∷◌, ◌++◌, length, Option, Some, None, Result, Ok, Err, IfOk}
+use Rattle.std.proofs.Common.{slice_get, map, refl, ap, sym, subst, ◌∙◌, append_assoc}
 use Rattle.std.specs.Option.{option_map}
 use Rattle.std.proofs.lemmas.List.{map-append}
 use Rattle.std.proofs.lemmas.Option.{slice_get-map}
@@ -8,7 +9,12 @@ use Rattle.effect_term.specs.declared.term.Kind.TheVariants as kinds
 use Rattle.effect_term.specs.declared.term.Name.{Name}
 use Rattle.effect_term.specs.declared.term.Operand.TheVariants.{Number, Named}
 use Rattle.effect_term.specs.declared.term.Term.{Term, Row_of-Term, end_of-Term, more_of-Term}
-use Rattle.effect_term.specs.declared.term.Term.TheVariants.{Pure, Raise, Let', Seq', Handle', If0', Add, Say, Cede, Never, Canceled, Uncancelable', Poll', OnCancel', Start', Join', Cancel, Ref', Get, Set, Modify, Deferred', Complete, Await, Repeat', Forever', Guarantee', Bracket', BracketCase', BracketFull', Race', Both'}
+use Rattle.effect_term.specs.declared.term.Term.TheVariants.{Pure, Raise, Let', Seq', Handle', If0', Add, Say}
+use Rattle.effect_term.specs.declared.term.Term.TheVariants.{Cede, Never, Canceled, Uncancelable', Poll'}
+use Rattle.effect_term.specs.declared.term.Term.TheVariants.{OnCancel', Start', Join', Cancel, Ref', Get, Set}
+use Rattle.effect_term.specs.declared.term.Term.TheVariants.{Modify, Deferred', Complete, Await, Repeat'}
+use Rattle.effect_term.specs.declared.term.Term.TheVariants.{Forever', Guarantee', Bracket', BracketCase'}
+use Rattle.effect_term.specs.declared.term.Term.TheVariants.{BracketFull', Race', Both'}
 use Rattle.effect_term.specs.Kinds.{Fits, ValueFits, WellKinded, AllWellKinded}
 use Rattle.term_parse.specs.declared.error.ParseError.{ParseError}
 use Rattle.term_parse.specs.declared.table.Part.{Part}
@@ -47,7 +53,8 @@ KindedParts ks bs (parts.Use k ∷ ps) (name_then n s) = Fits ks k n × KindedPa
 KindedParts ks bs (parts.Value ∷ ps) (value_then v s) = ValueFits ks v × KindedParts ks bs ps s
 KindedParts ks bs (parts.Term ∷ ps) (form_then w x s) = KindedParts ks [] (parts_of w) x × KindedParts ks bs ps s
 KindedParts ks bs (parts.Under i ∷ ps) (form_then w x s) = KindedParts (ks ++ binder_at bs i) [] (parts_of w) x × KindedParts ks bs ps s
-KindedParts ks bs (parts.UnderBoth i j ∷ ps) (form_then w x s) = KindedParts (ks ++ (binder_at bs i ++ binder_at bs j)) [] (parts_of w) x × KindedParts ks bs ps s
+KindedParts ks bs (parts.UnderBoth i j ∷ ps) (form_then w x s) = KindedParts (ks ++ (binder_at bs i ++ binder_at bs j)) [] (parts_of w) x ×
+    KindedParts ks bs ps s
 KindedParts ks bs (parts.More ∷ ps) (form_then w x s) = KindedParts ks [] (parts_of w) x × KindedParts ks bs (parts.More ∷ ps) s
 KindedParts ks bs ps s = ⊥
 
@@ -62,7 +69,8 @@ slice_get-kinds (x ∷ xs) b ys = slice_get-kinds xs b ys
 
 innermost_fits : (s : List Bound) (x : List ℕ) (n : Name) (k : Kind) → IsInnermost s x n → n.kind ≡ k → Fits (kinds_of s) k n
 innermost_fits s x n k i same = (
-  ap (λ z. slice_get (kinds_of z) n.slot) i.scope_is ∙ ap (slice_get (kinds_of (i.before ++ i.binder ∷ i.behind))) i.slot_is ∙ slice_get-kinds i.before i.binder i.behind ∙ ap Some (sym i.kind_is ∙ same),
+  ap (λ z. slice_get (kinds_of z) n.slot) i.scope_is ∙ ap (slice_get (kinds_of (i.before ++ i.binder ∷ i.behind))) i.slot_is ∙
+      slice_get-kinds i.before i.binder i.behind ∙ ap Some (sym i.kind_is ∙ same),
   same,
 )
 
@@ -78,7 +86,8 @@ kinds_of-under : (s b : List Bound) (i : ℕ) → kinds_of (entered s b (parts.U
 unfolding entered
 kinds_of-under s b i = map-append kind_of s (picked b i) ∙ ap (λ z. kinds_of s ++ z) (kinds_of-picked b i)
 
-kinds_of-both : (s b : List Bound) (i j : ℕ) → kinds_of (entered s b (parts.UnderBoth i j)) ≡ kinds_of s ++ (binder_at (kinds_of b) i ++ binder_at (kinds_of b) j)
+kinds_of-both : (s b : List Bound) (i j : ℕ) → kinds_of (entered s b (parts.UnderBoth i j)) ≡ kinds_of s ++
+    (binder_at (kinds_of b) i ++ binder_at (kinds_of b) j)
 unfolding entered
 kinds_of-both s b i j =
     map-append kind_of (s ++ picked b i) (picked b j)
@@ -167,25 +176,30 @@ as_form (Race' p a q b) rest = (_, _, refl)
 as_form (Both' p a q b r k) rest = (_, _, refl)
 
 -- a term where a part wants one, and what stands behind it
-split_term : (t : Term) (rest : Shape) (ks bs : List Kind) (ps : List Part) → KindedParts ks bs (parts.Term ∷ ps) (term_then t rest) → KindedForm ks (term_then t rest) × KindedParts ks bs ps rest
+split_term : (t : Term) (rest : Shape) (ks bs : List Kind) (ps : List Part) → KindedParts ks bs (parts.Term ∷ ps) (term_then t rest) →
+    KindedForm ks (term_then t rest) × KindedParts ks bs ps rest
 split_term t rest ks bs ps h =
     let (w, x, is) = as_form t rest in
     let g : KindedParts ks bs (parts.Term ∷ ps) (form_then w x rest) = subst (KindedParts ks bs (parts.Term ∷ ps)) is h in
     (subst (KindedForm ks) (sym is) g.0, g.1)
 
-split_more : (t : Term) (rest : Shape) (ks bs : List Kind) (ps : List Part) → KindedParts ks bs (parts.More ∷ ps) (term_then t rest) → KindedForm ks (term_then t rest) × KindedParts ks bs (parts.More ∷ ps) rest
+split_more : (t : Term) (rest : Shape) (ks bs : List Kind) (ps : List Part) → KindedParts ks bs (parts.More ∷ ps) (term_then t rest) →
+    KindedForm ks (term_then t rest) × KindedParts ks bs (parts.More ∷ ps) rest
 split_more t rest ks bs ps h =
     let (w, x, is) = as_form t rest in
     let g : KindedParts ks bs (parts.More ∷ ps) (form_then w x rest) = subst (KindedParts ks bs (parts.More ∷ ps)) is h in
     (subst (KindedForm ks) (sym is) g.0, g.1)
 
-split_under : (i : ℕ) (t : Term) (rest : Shape) (ks bs : List Kind) (ps : List Part) → KindedParts ks bs (parts.Under i ∷ ps) (term_then t rest) → KindedForm (ks ++ binder_at bs i) (term_then t rest) × KindedParts ks bs ps rest
+split_under : (i : ℕ) (t : Term) (rest : Shape) (ks bs : List Kind) (ps : List Part) → KindedParts ks bs (parts.Under i ∷ ps) (term_then t rest) →
+    KindedForm (ks ++ binder_at bs i) (term_then t rest) × KindedParts ks bs ps rest
 split_under i t rest ks bs ps h =
     let (w, x, is) = as_form t rest in
     let g : KindedParts ks bs (parts.Under i ∷ ps) (form_then w x rest) = subst (KindedParts ks bs (parts.Under i ∷ ps)) is h in
     (subst (KindedForm (ks ++ binder_at bs i)) (sym is) g.0, g.1)
 
-split_both : (i j : ℕ) (t : Term) (rest : Shape) (ks bs : List Kind) (ps : List Part) → KindedParts ks bs (parts.UnderBoth i j ∷ ps) (term_then t rest) → KindedForm (ks ++ (binder_at bs i ++ binder_at bs j)) (term_then t rest) × KindedParts ks bs ps rest
+split_both : (i j : ℕ) (t : Term) (rest : Shape) (ks bs : List Kind) (ps : List Part) →
+    KindedParts ks bs (parts.UnderBoth i j ∷ ps) (term_then t rest) → KindedForm (ks ++ (binder_at bs i ++ binder_at bs j)) (term_then t rest) ×
+    KindedParts ks bs ps rest
 split_both i j t rest ks bs ps h =
     let (w, x, is) = as_form t rest in
     let g : KindedParts ks bs (parts.UnderBoth i j ∷ ps) (form_then w x rest) = subst (KindedParts ks bs (parts.UnderBoth i j ∷ ps)) is h in
@@ -235,8 +249,12 @@ mutual
   kinded_term (Join' f p s q e r c) ks rest m =
       let in_s = split_under 0 s (term_then e (term_then c closed)) ks (kinds.Value ∷ []) _ m.1 in
       let in_e = split_under 1 e (term_then c closed) ks (kinds.Value ∷ kinds.Value ∷ []) _ in_s.1 in
-      let in_c = split_term c closed ks (kinds.Value ∷ kinds.Value ∷ []) _ in_e.1 in
-      (m.0, kinded_term s (ks ++ kinds.Value ∷ []) (term_then e (term_then c closed)) in_s.0, kinded_term e (ks ++ kinds.Value ∷ []) (term_then c closed) in_e.0, kinded_term c ks closed in_c.0)
+      let in_c = split_term c closed ks (kinds.Value ∷ kinds.Value ∷ []) _ in_e.1 in (
+        m.0,
+        kinded_term s (ks ++ kinds.Value ∷ []) (term_then e (term_then c closed)) in_s.0,
+        kinded_term e (ks ++ kinds.Value ∷ []) (term_then c closed) in_e.0,
+        kinded_term c ks closed in_c.0,
+      )
   kinded_term (Cancel f) ks rest m = m.0
   kinded_term (Ref' v p k) ks rest m =
       let in_k = split_under 0 k closed ks (kinds.Ref ∷ []) _ m.1 in
@@ -262,22 +280,35 @@ mutual
   kinded_term (Bracket' p acq q body r rel) ks rest m =
       let in_acq = split_term acq (term_then body (term_then rel closed)) ks (kinds.Value ∷ []) _ m in
       let in_body = split_under 0 body (term_then rel closed) ks (kinds.Value ∷ []) _ in_acq.1 in
-      let in_rel = split_under 0 rel closed ks (kinds.Value ∷ []) _ in_body.1 in
-      (kinded_term acq ks (term_then body (term_then rel closed)) in_acq.0, kinded_term body (ks ++ kinds.Value ∷ []) (term_then rel closed) in_body.0, kinded_term rel (ks ++ kinds.Value ∷ []) closed in_rel.0)
+      let in_rel = split_under 0 rel closed ks (kinds.Value ∷ []) _ in_body.1 in (
+        kinded_term acq ks (term_then body (term_then rel closed)) in_acq.0,
+        kinded_term body (ks ++ kinds.Value ∷ []) (term_then rel closed) in_body.0,
+        kinded_term rel (ks ++ kinds.Value ∷ []) closed in_rel.0,
+      )
   kinded_term (BracketCase' p acq q body r rs s re t rc) ks rest m =
       let in_acq = split_term acq (term_then body (term_then rs (term_then re (term_then rc closed)))) ks (kinds.Value ∷ []) _ m in
       let in_body = split_under 0 body (term_then rs (term_then re (term_then rc closed))) ks (kinds.Value ∷ []) _ in_acq.1 in
       let in_rs = split_both 0 1 rs (term_then re (term_then rc closed)) ks (kinds.Value ∷ kinds.Value ∷ []) _ in_body.1 in
       let in_re = split_both 0 2 re (term_then rc closed) ks (kinds.Value ∷ kinds.Value ∷ kinds.Value ∷ []) _ in_rs.1 in
-      let in_rc = split_under 0 rc closed ks (kinds.Value ∷ kinds.Value ∷ kinds.Value ∷ []) _ in_re.1 in
-      (kinded_term acq ks (term_then body (term_then rs (term_then re (term_then rc closed)))) in_acq.0, kinded_term body (ks ++ kinds.Value ∷ []) (term_then rs (term_then re (term_then rc closed))) in_body.0, kinded_term rs (ks ++ kinds.Value ∷ kinds.Value ∷ []) (term_then re (term_then rc closed)) in_rs.0, kinded_term re (ks ++ kinds.Value ∷ kinds.Value ∷ []) (term_then rc closed) in_re.0, kinded_term rc (ks ++ kinds.Value ∷ []) closed in_rc.0)
+      let in_rc = split_under 0 rc closed ks (kinds.Value ∷ kinds.Value ∷ kinds.Value ∷ []) _ in_re.1 in (
+        kinded_term acq ks (term_then body (term_then rs (term_then re (term_then rc closed)))) in_acq.0,
+        kinded_term body (ks ++ kinds.Value ∷ []) (term_then rs (term_then re (term_then rc closed))) in_body.0,
+        kinded_term rs (ks ++ kinds.Value ∷ kinds.Value ∷ []) (term_then re (term_then rc closed)) in_rs.0,
+        kinded_term re (ks ++ kinds.Value ∷ kinds.Value ∷ []) (term_then rc closed) in_re.0,
+        kinded_term rc (ks ++ kinds.Value ∷ []) closed in_rc.0,
+      )
   kinded_term (BracketFull' p acq q body r rs s re t rc) ks rest m =
       let in_acq = split_under 0 acq (term_then body (term_then rs (term_then re (term_then rc closed)))) ks (kinds.Poll ∷ kinds.Value ∷ []) _ m in
       let in_body = split_under 1 body (term_then rs (term_then re (term_then rc closed))) ks (kinds.Poll ∷ kinds.Value ∷ []) _ in_acq.1 in
       let in_rs = split_both 1 2 rs (term_then re (term_then rc closed)) ks (kinds.Poll ∷ kinds.Value ∷ kinds.Value ∷ []) _ in_body.1 in
       let in_re = split_both 1 3 re (term_then rc closed) ks (kinds.Poll ∷ kinds.Value ∷ kinds.Value ∷ kinds.Value ∷ []) _ in_rs.1 in
-      let in_rc = split_under 1 rc closed ks (kinds.Poll ∷ kinds.Value ∷ kinds.Value ∷ kinds.Value ∷ []) _ in_re.1 in
-      (kinded_term acq (ks ++ kinds.Poll ∷ []) (term_then body (term_then rs (term_then re (term_then rc closed)))) in_acq.0, kinded_term body (ks ++ kinds.Value ∷ []) (term_then rs (term_then re (term_then rc closed))) in_body.0, kinded_term rs (ks ++ kinds.Value ∷ kinds.Value ∷ []) (term_then re (term_then rc closed)) in_rs.0, kinded_term re (ks ++ kinds.Value ∷ kinds.Value ∷ []) (term_then rc closed) in_re.0, kinded_term rc (ks ++ kinds.Value ∷ []) closed in_rc.0)
+      let in_rc = split_under 1 rc closed ks (kinds.Poll ∷ kinds.Value ∷ kinds.Value ∷ kinds.Value ∷ []) _ in_re.1 in (
+        kinded_term acq (ks ++ kinds.Poll ∷ []) (term_then body (term_then rs (term_then re (term_then rc closed)))) in_acq.0,
+        kinded_term body (ks ++ kinds.Value ∷ []) (term_then rs (term_then re (term_then rc closed))) in_body.0,
+        kinded_term rs (ks ++ kinds.Value ∷ kinds.Value ∷ []) (term_then re (term_then rc closed)) in_rs.0,
+        kinded_term re (ks ++ kinds.Value ∷ kinds.Value ∷ []) (term_then rc closed) in_re.0,
+        kinded_term rc (ks ++ kinds.Value ∷ []) closed in_rc.0,
+      )
   kinded_term (Race' p a q b) ks rest m =
       let in_a = split_term a (term_then b closed) ks [] _ m in
       let in_b = split_term b closed ks [] _ in_a.1 in
@@ -285,10 +316,14 @@ mutual
   kinded_term (Both' p a q b r k) ks rest m =
       let in_a = split_term a (term_then b (term_then k closed)) ks [] _ m in
       let in_b = split_term b (term_then k closed) ks [] _ in_a.1 in
-      let in_k = split_both 0 1 k closed ks (kinds.Value ∷ kinds.Value ∷ []) _ in_b.1 in
-      (kinded_term a ks (term_then b (term_then k closed)) in_a.0, kinded_term b ks (term_then k closed) in_b.0, kinded_term k (ks ++ kinds.Value ∷ kinds.Value ∷ []) closed in_k.0)
+      let in_k = split_both 0 1 k closed ks (kinds.Value ∷ kinds.Value ∷ []) _ in_b.1 in (
+        kinded_term a ks (term_then b (term_then k closed)) in_a.0,
+        kinded_term b ks (term_then k closed) in_b.0,
+        kinded_term k (ks ++ kinds.Value ∷ kinds.Value ∷ []) closed in_k.0,
+      )
 
-  kinded_row : {m : _} (more : Row_of-Term m) (ks bs : List Kind) (ps : List Part) → KindedParts ks bs (parts.More ∷ ps) (row_then more closed) → AllWellKinded ks more
+  kinded_row : {m : _} (more : Row_of-Term m) (ks bs : List Kind) (ps : List Part) → KindedParts ks bs (parts.More ∷ ps) (row_then more closed) →
+      AllWellKinded ks more
   kinded_row end_of-Term ks bs ps h = tt
   kinded_row (more_of-Term t more) ks bs ps h =
       let in_t = split_more t (row_then more closed) ks bs ps h in

@@ -26,17 +26,21 @@ unfolding find_from
 find-from_other from [] b x e = rw e refl
 find-from_other from (c ∷ bs) b x e = rw (find-from_other (suc from) bs b x e) refl
 
-pub found_last : (text : List ℕ) (scope around : List Binding) (b : Binding) (x : List ℕ) → scope ≡ around ++ b ∷ [] → bytes_eq (slice_range text b.start b.end) x ≡ true → find_from 0 (bounds text scope) x ≡ Some (record { slot = length around; kind = b.kind })
+pub found_last : (text : List ℕ) (scope around : List Binding) (b : Binding) (x : List ℕ) → scope ≡ around ++ b ∷ [] →
+    bytes_eq (slice_range text b.start b.end) x ≡ true → find_from 0 (bounds text scope) x ≡ Some (record { slot = length around; kind = b.kind })
 found_last text scope around b x s e =
     let named : ℕ → Option Name = λ k. Some (record { slot = k; kind = b.kind }) in
     let at : 0 + length (bounds text around) ≡ length around = omega (arith, bounds-length text around) in
     let spelled : slice_range text b.start b.end ≡ x = (bytes_eq-Decides (slice_range text b.start b.end) x).0 e in
-    let inner : find_from 0 (bounds text around ++ bound_of text b ∷ []) x ≡ named (0 + length (bounds text around)) = find-from_innermost 0 (bounds text around) (bound_of text b) [] x spelled tt in
-    let parted : find_from 0 (bounds text (around ++ b ∷ [])) x ≡ find_from 0 (bounds text around ++ bound_of text b ∷ []) x = ap (λ (y : List Bound). find_from 0 y x) (bounds-append text around (b ∷ [])) in
+    let inner : find_from 0 (bounds text around ++ bound_of text b ∷ []) x ≡ named (0 + length (bounds text around)) =
+    find-from_innermost 0 (bounds text around) (bound_of text b) [] x spelled tt in
+    let parted : find_from 0 (bounds text (around ++ b ∷ [])) x ≡ find_from 0 (bounds text around ++ bound_of text b ∷ []) x =
+    ap (λ (y : List Bound). find_from 0 y x) (bounds-append text around (b ∷ [])) in
     let found : find_from 0 (bounds text (around ++ b ∷ [])) x ≡ named (length around) = parted ∙ inner ∙ ap named at in
     subst (λ (y : List Binding). find_from 0 (bounds text y) x ≡ named (length around)) (sym s) found
 
-pub found_around : (text : List ℕ) (scope around : List Binding) (b : Binding) (x : List ℕ) → scope ≡ around ++ b ∷ [] → bytes_eq (slice_range text b.start b.end) x ≡ false → find_from 0 (bounds text scope) x ≡ find_from 0 (bounds text around) x
+pub found_around : (text : List ℕ) (scope around : List Binding) (b : Binding) (x : List ℕ) → scope ≡ around ++ b ∷ [] →
+    bytes_eq (slice_range text b.start b.end) x ≡ false → find_from 0 (bounds text scope) x ≡ find_from 0 (bounds text around) x
 found_around text scope around b x s e =
     ap (λ y. find_from 0 (bounds text y) x) s
     ∙ ap (λ y. find_from 0 y x) (bounds-append text around (b ∷ []))
@@ -53,7 +57,8 @@ last_within text (c ∷ around) b h = last_within text around b h.3
 pub around_in_text : (text : List ℕ) (scope around : List Binding) (b : Binding) → scope ≡ around ++ b ∷ [] → InText text scope → InText text around
 around_in_text text scope around b s h = around_within text around b (subst (InText text) s h)
 
-pub last_in_text : (text : List ℕ) (scope around : List Binding) (b : Binding) → scope ≡ around ++ b ∷ [] → InText text scope → (b.start ≤ b.end) × (b.end ≤ length text)
+pub last_in_text : (text : List ℕ) (scope around : List Binding) (b : Binding) → scope ≡ around ++ b ∷ [] → InText text scope → (b.start ≤ b.end) ×
+    (b.end ≤ length text)
 last_in_text text scope around b s h = last_within text around b (subst (InText text) s h)
 
 last_hash : (text : List ℕ) (around : List Binding) (b : Binding) → InText text (around ++ b ∷ []) →

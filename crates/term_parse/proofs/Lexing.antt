@@ -1,6 +1,9 @@
 -- One byte of a text, as the tokens see it.
 use Prim.Native.Nat.{zero}
-use Rattle.std.proofs.Common.{◌≡◌, ◌≤◌, ◌<◌, ◌+◌, ◌-◌, ◌*◌, ◌/◌, ◌^◌, ◌==◌, ◌||◌, ◌&&◌, ℕ, suc, Bool, true, false, nat_lt, nat_le, List, [], ◌∷◌, ◌++◌, length, get_or, take, drop, refl, ap, sym, ◌∙◌, arith, rules, length-drop, append_assoc, drop-cons, add-one, pos, neg_ℤ, None}
+use Rattle.std.proofs.Common.{◌≡◌, ◌≤◌, ◌<◌, ◌+◌, ◌-◌, ◌*◌, ◌/◌, ◌^◌, ◌==◌, ◌||◌, ◌&&◌, ℕ, suc, Bool, true}
+use Rattle.std.proofs.Common.{false, nat_lt, nat_le, List, [], ◌∷◌, ◌++◌, length, get_or, take, drop, refl, ap}
+use Rattle.std.proofs.Common.{sym, ◌∙◌, arith, rules, length-drop, append_assoc, drop-cons, add-one, pos, neg_ℤ}
+use Rattle.std.proofs.Common.{None}
 use Rattle.std.specs.List.{slice_range}
 use Rattle.std.specs.Char.{digit_value}
 use Rattle.std.specs.Str.Parse.{digits_value}
@@ -27,7 +30,8 @@ lexemes-run_over : (b at : ℕ) (bs : List ℕ) → is_run b ≡ false → lexem
 unfolding lexemes
 lexemes-run_over b at bs h = rw h refl
 
-lexemes-token : (b at : ℕ) (bs : List ℕ) → is_space b ≡ false → lexemes false at (b ∷ bs) ≡ record { lexeme = lexeme_of b bs; place = at } ∷ lexemes (is_run b || (b == 45)) (suc at) bs
+lexemes-token : (b at : ℕ) (bs : List ℕ) → is_space b ≡ false →
+    lexemes false at (b ∷ bs) ≡ record { lexeme = lexeme_of b bs; place = at } ∷ lexemes (is_run b || (b == 45)) (suc at) bs
 unfolding lexemes
 lexemes-token b at bs h = rw h refl
 
@@ -64,7 +68,8 @@ run_goes_on text from at r h s =
     record {
       low = omega (arith, r.low);
       high = omega arith;
-      run = rw (slice_more text from at r.low h, append_assoc) (ap (λ x. slice_range text from at ++ x) (sym (run_of-more b (drop (at + 1) text) s) ∙ ap run_of (sym d)) ∙ r.run);
+      run = rw (slice_more text from at r.low h, append_assoc)
+          (ap (λ x. slice_range text from at ++ x) (sym (run_of-more b (drop (at + 1) text) s) ∙ ap run_of (sym d)) ∙ r.run);
       skipped = r.skipped ∙ ap (lexemes true at) d ∙ lexemes-run b at (drop (at + 1) text) s ∙ ap (λ n. lexemes true n (drop (at + 1) text)) (sym (add-one at));
     }
 
@@ -109,7 +114,8 @@ and_fails false y h = refl
 digits_more_suc : (ds : List ℕ) (i : ℕ) → i < length ds → all_digits (take i ds) ≡ true → is_digit (get_or ds i 0) ≡ true → all_digits (take (suc i) ds) ≡ true
 digits_more_suc [] i h a d = absurd (omega arith)
 digits_more_suc (b ∷ bs) zero h a d = rw d refl
-digits_more_suc (b ∷ bs) (suc i) h a d = and_keeps (is_digit b) (all_digits (take i bs)) (all_digits (take (suc i) bs)) (λ r. digits_more_suc bs i (omega arith) r d) a
+digits_more_suc (b ∷ bs) (suc i) h a d =
+    and_keeps (is_digit b) (all_digits (take i bs)) (all_digits (take (suc i) bs)) (λ r. digits_more_suc bs i (omega arith) r d) a
 
 -- the digits of a number
 pub digits_more : (ds : List ℕ) (i : ℕ) → i < length ds → all_digits (take i ds) ≡ true → is_digit (get_or ds i 0) ≡ true → all_digits (take (i + 1) ds) ≡ true
@@ -125,19 +131,27 @@ slice_first text at end h l =
     let n : end - at ≡ suc (end - (at + 1)) = omega arith in
     rw (n, drop-cons text at 0 l, add-one) refl
 
-pub token_begins : (text : List ℕ) (at : ℕ) → at < length text → is_space (get_or text at 0) ≡ false → lexemes_at at text ≡ record { lexeme = lexeme_of (get_or text at 0) (drop (at + 1) text); place = at } ∷ lexemes (is_run (get_or text at 0) || (get_or text at 0 == 45)) (at + 1) (drop (at + 1) text)
+pub token_begins : (text : List ℕ) (at : ℕ) → at < length text → is_space (get_or text at 0) ≡ false →
+    lexemes_at at text ≡ record { lexeme = lexeme_of (get_or text at 0) (drop (at + 1) text); place = at } ∷ lexemes
+    (is_run (get_or text at 0) || (get_or text at 0 == 45)) (at + 1) (drop (at + 1) text)
 unfolding lexemes_at
 token_begins text at h s = rw (add-one, drop-cons text at 0 h) (lexemes-token (get_or text at 0) at (drop (suc at) text) s)
 
 -- a token that is a run
-pub long_token : (text : List ℕ) (at end : ℕ) (k : TokenKind) → at < length text → is_space (get_or text at 0) ≡ false → (is_run (get_or text at 0) || (get_or text at 0 == 45)) ≡ true → at + 1 ≤ end → end ≤ length text → slice_range text (at + 1) end ≡ run_of (drop (at + 1) text) → lexemes true (at + 1) (drop (at + 1) text) ≡ lexemes_at end text → seen_kind (slice_range text at end) k ≡ lexeme_as (get_or text at 0) (slice_range text at end) → IsNext text at (record { kind = k; start = at; end = end })
+pub long_token : (text : List ℕ) (at end : ℕ) (k : TokenKind) → at < length text → is_space (get_or text at 0) ≡ false →
+    (is_run (get_or text at 0) || (get_or text at 0 == 45)) ≡ true → at + 1 ≤ end → end ≤ length text →
+    slice_range text (at + 1) end ≡ run_of (drop (at + 1) text) → lexemes true (at + 1) (drop (at + 1) text) ≡ lexemes_at end text →
+    seen_kind (slice_range text at end) k ≡ lexeme_as (get_or text at 0) (slice_range text at end) → IsNext text at (record { kind = k; start = at; end = end })
 unfolding lexeme_of lexeme_as
 long_token text at end k h s r low high run skipped kind =
     let b = get_or text at 0 in
     let bytes : slice_range text at end ≡ b ∷ run_of (drop (at + 1) text) = slice_first text at end (omega arith) h ∙ ap (λ x. b ∷ x) run in
     let same : seen_kind (slice_range text at end) k ≡ lexeme_of b (drop (at + 1) text) = kind ∙ ap (lexeme_as b) bytes in
     record {
-      tokens = token_begins text at h s ∙ ap (λ x. record { lexeme = lexeme_of b (drop (at + 1) text); place = at } ∷ lexemes x (at + 1) (drop (at + 1) text)) r ∙ ap (λ x. record { lexeme = lexeme_of b (drop (at + 1) text); place = at } ∷ x) skipped ∙ ap (λ x. record { lexeme = x; place = at } ∷ lexemes_at end text) (sym same);
+      tokens = token_begins text at h s ∙
+          ap (λ x. record { lexeme = lexeme_of b (drop (at + 1) text); place = at } ∷ lexemes x (at + 1) (drop (at + 1) text)) r ∙
+          ap (λ x. record { lexeme = lexeme_of b (drop (at + 1) text); place = at } ∷ x) skipped ∙
+          ap (λ x. record { lexeme = x; place = at } ∷ lexemes_at end text) (sym same);
       within = high;
       later = omega arith;
       some = omega arith;
@@ -155,13 +169,19 @@ lexeme_as-short b x y h =
     rw (o.0, o.1) refl
 
 -- a token of one byte
-pub short_token : (text : List ℕ) (at : ℕ) (k : TokenKind) → at < length text → is_space (get_or text at 0) ≡ false → (is_run (get_or text at 0) || (get_or text at 0 == 45)) ≡ false → seen_kind (slice_range text at (at + 1)) k ≡ lexeme_as (get_or text at 0) (slice_range text at (at + 1)) → IsNext text at (record { kind = k; start = at; end = at + 1 })
+pub short_token : (text : List ℕ) (at : ℕ) (k : TokenKind) → at < length text → is_space (get_or text at 0) ≡ false →
+    (is_run (get_or text at 0) || (get_or text at 0 == 45)) ≡ false →
+    seen_kind (slice_range text at (at + 1)) k ≡ lexeme_as (get_or text at 0) (slice_range text at (at + 1)) →
+    IsNext text at (record { kind = k; start = at; end = at + 1 })
 unfolding lexeme_of lexeme_as lexemes_at
 short_token text at k h s r kind =
     let b = get_or text at 0 in
-    let same : seen_kind (slice_range text at (at + 1)) k ≡ lexeme_of b (drop (at + 1) text) = kind ∙ lexeme_as-short b (slice_range text at (at + 1)) (b ∷ run_of (drop (at + 1) text)) r in
+    let same : seen_kind (slice_range text at (at + 1)) k ≡ lexeme_of b (drop (at + 1) text) = kind ∙
+    lexeme_as-short b (slice_range text at (at + 1)) (b ∷ run_of (drop (at + 1) text)) r in
     record {
-      tokens = token_begins text at h s ∙ ap (λ x. record { lexeme = lexeme_of b (drop (at + 1) text); place = at } ∷ lexemes x (at + 1) (drop (at + 1) text)) r ∙ ap (λ x. record { lexeme = x; place = at } ∷ lexemes_at (at + 1) text) (sym same);
+      tokens = token_begins text at h s ∙
+          ap (λ x. record { lexeme = lexeme_of b (drop (at + 1) text); place = at } ∷ lexemes x (at + 1) (drop (at + 1) text)) r ∙
+          ap (λ x. record { lexeme = x; place = at } ∷ lexemes_at (at + 1) text) (sym same);
       within = omega arith;
       later = omega arith;
       some = omega arith;
@@ -178,7 +198,8 @@ plain_large ds h =
     let n : nat_le (digits_value 10 ds) (2 ^ 62) ≡ false = grind (arith, nat_tests) in
     rw (and_fails (is_plain ds) (nat_le (digits_value 10 ds) (2 ^ 62)) n) refl
 
-pub value_more : (ds : List ℕ) (i v r : ℕ) → i < length ds → is_digit (get_or ds i 0) ≡ true → r ≡ get_or ds i 0 - 48 → v ≡ digits_value 10 (take i ds) → v * 10 + r ≡ digits_value 10 (take (i + 1) ds)
+pub value_more : (ds : List ℕ) (i v r : ℕ) → i < length ds → is_digit (get_or ds i 0) ≡ true → r ≡ get_or ds i 0 - 48 →
+    v ≡ digits_value 10 (take i ds) → v * 10 + r ≡ digits_value 10 (take (i + 1) ds)
 value_more ds i v r h d e value =
     let worth : digit_value (get_or ds i 0) ≡ get_or ds i 0 - 48 = grind (arith, nat_tests) in
     rw (digits_value_more 10 ds i h, worth, value, e) refl

@@ -48,7 +48,8 @@ nearby-spelled words.BracketFull = refl
 nearby-spelled words.Race = refl
 nearby-spelled words.Both = refl
 
-chosen_passes : (p : Word → Bool) (v w : Word) (others : Option Word) (b : Bool) → p v ≡ b → (others ≡ Some w → p w ≡ true) → (if b then Some v else others) ≡ Some w → p w ≡ true
+chosen_passes : (p : Word → Bool) (v w : Word) (others : Option Word) (b : Bool) → p v ≡ b → (others ≡ Some w → p w ≡ true) →
+    (if b then Some v else others) ≡ Some w → p w ≡ true
 chosen_passes p v w others true q later e = let same : v ≡ w = cc in subst (λ u. p u ≡ true) same q
 chosen_passes p v w others false q later e = later e
 

@@ -16,7 +16,9 @@ weight_at (x ∷ xs) zero t l e = omega (arith, ap weight e)
 weight_at (x ∷ xs) (suc i) t l e = omega (arith, weight_at xs i t (omega arith) e)
 
 -- a space, the term, and what stands behind it
-pub next_text : (ts : List Term) (i : ℕ) (t : Term) (around : ℕ) (out new all : List ℕ) → i < length ts → t ≡ get_or ts i t → new ≡ (out ++ 32 ∷ []) ++ spelling t around → out ++ more_spelling around (terms_spelled (drop i ts)) ≡ all → new ++ more_spelling around (terms_spelled (drop (i + 1) ts)) ≡ all
+pub next_text : (ts : List Term) (i : ℕ) (t : Term) (around : ℕ) (out new all : List ℕ) → i < length ts → t ≡ get_or ts i t →
+    new ≡ (out ++ 32 ∷ []) ++ spelling t around → out ++ more_spelling around (terms_spelled (drop i ts)) ≡ all → new ++
+    more_spelling around (terms_spelled (drop (i + 1) ts)) ≡ all
 next_text ts i t around out new all within is e so_far =
     let behind : List ℕ = more_spelling around (terms_spelled (drop (i + 1) ts)) in
     let here : more_spelling around (terms_spelled (drop i ts)) ≡ 32 ∷ (spelling (get_or ts i t) around ++ behind) =
@@ -26,15 +28,18 @@ next_text ts i t around out new all within is e so_far =
     ∙ ap (λ x. out ++ 32 ∷ (spelling x around ++ behind)) is ∙ ap (λ x. out ++ x) (sym here) ∙ so_far
 
 -- behind the last stands the closing bracket
-pub last_text : (ts : List Term) (i : ℕ) (around : ℕ) (out new all : List ℕ) → length ts ≤ i → new ≡ out ++ 41 ∷ [] → out ++ more_spelling around (terms_spelled (drop i ts)) ≡ all → new ≡ all
+pub last_text : (ts : List Term) (i : ℕ) (around : ℕ) (out new all : List ℕ) → length ts ≤ i → new ≡ out ++ 41 ∷ [] → out ++
+    more_spelling around (terms_spelled (drop i ts)) ≡ all → new ≡ all
 last_text ts i around out new all over e so_far =
     e ∙ ap (λ x. out ++ x) (sym (at_drop_all (λ xs. more_spelling around (terms_spelled xs)) ts i over)) ∙ so_far
 
-pub next_numbers : (ts : List Term) (i : ℕ) (t : Term) → i < length ts → t ≡ get_or ts i t → NumbersFit (atoms_of t) → NumbersFit (terms_atoms (drop (i + 1) ts) (ended ∷ [])) → NumbersFit (terms_atoms (drop i ts) (ended ∷ []))
+pub next_numbers : (ts : List Term) (i : ℕ) (t : Term) → i < length ts → t ≡ get_or ts i t → NumbersFit (atoms_of t) →
+    NumbersFit (terms_atoms (drop (i + 1) ts) (ended ∷ [])) → NumbersFit (terms_atoms (drop i ts) (ended ∷ []))
 next_numbers ts i t within is here behind =
     let all : terms_atoms (drop i ts) (ended ∷ []) ≡ atoms_of (get_or ts i t) ++ terms_atoms (drop (i + 1) ts) (ended ∷ []) =
     at_drop_more (λ xs. terms_atoms xs (ended ∷ [])) ts i t within in
-    subst NumbersFit (sym all) (join_numbers (atoms_of (get_or ts i t)) (terms_atoms (drop (i + 1) ts) (ended ∷ [])) (subst (λ (x : Term). NumbersFit (atoms_of x)) is here) behind)
+    subst NumbersFit (sym all)
+    (join_numbers (atoms_of (get_or ts i t)) (terms_atoms (drop (i + 1) ts) (ended ∷ [])) (subst (λ (x : Term). NumbersFit (atoms_of x)) is here) behind)
 
 pub last_numbers : (ts : List Term) (i : ℕ) → length ts ≤ i → NumbersFit (terms_atoms (drop i ts) (ended ∷ []))
 last_numbers ts i over = subst NumbersFit (sym (at_drop_all (λ xs. terms_atoms xs (ended ∷ [])) ts i over)) tt

@@ -22,14 +22,17 @@ pub spelled_from : (text : List ℕ) (r : Result terms.Term ParseError) → IfOk
 spelled_from text (Ok t) f = spelled-from_reading text (atoms_of t) f
 spelled_from text (Err e) f = tt
 
-pub one_term_from : (text : List ℕ) (r : Result terms.Term ParseError) → IfOk r (λ t. reading text ≡ Ok (atoms_of t)) → IfOk r (λ t. (u : terms.Term) → Spells text (atoms_of u) → shape_of u ≡ shape_of t)
+pub one_term_from : (text : List ℕ) (r : Result terms.Term ParseError) → IfOk r (λ t. reading text ≡ Ok (atoms_of t)) →
+    IfOk r (λ t. (u : terms.Term) → Spells text (atoms_of u) → shape_of u ≡ shape_of t)
 one_term_from text (Ok t) f = λ u s. one_term text t u f (reading-from_spelled text (atoms_of u) s)
 one_term_from text (Err e) f = tt
 
-pub first_fault_from : (text : List ℕ) (r : Result terms.Term ParseError) → IfErr r (λ e. Fails e (reading text)) → IfErr r (λ e. e ≢ errors.NoMemory → IsFaultOf text e)
+pub first_fault_from : (text : List ℕ) (r : Result terms.Term ParseError) → IfErr r (λ e. Fails e (reading text)) →
+    IfErr r (λ e. e ≢ errors.NoMemory → IsFaultOf text e)
 first_fault_from text (Ok t) f = tt
 first_fault_from text (Err e) f = λ other. fault-from_reading text e (f other)
 
-pub one_fault_from : (text : List ℕ) (r : Result terms.Term ParseError) → IfErr r (λ e. Fails e (reading text)) → IfErr r (λ e. e ≢ errors.NoMemory → (g : ParseError) → IsFaultOf text g → g ≡ e)
+pub one_fault_from : (text : List ℕ) (r : Result terms.Term ParseError) → IfErr r (λ e. Fails e (reading text)) →
+    IfErr r (λ e. e ≢ errors.NoMemory → (g : ParseError) → IsFaultOf text g → g ≡ e)
 one_fault_from text (Ok t) f = tt
 one_fault_from text (Err e) f = λ other g h. one_first_fault text g e h (fault-from_reading text e (f other))

@@ -28,17 +28,20 @@ append_none : (xs : List Bound) → xs ++ [] ≡ xs
 append_none [] = refl
 append_none (x ∷ xs) = ap (λ r. x ∷ r) (append_none xs)
 
-pub picked_some : (text : List ℕ) (scope bound new : List Binding) (i : ℕ) (b : Binding) → i < length bound → b ≡ get_or bound i b → new ≡ scope ++ b ∷ [] → bounds text new ≡ bounds text scope ++ picked (bounds text bound) i
+pub picked_some : (text : List ℕ) (scope bound new : List Binding) (i : ℕ) (b : Binding) → i < length bound → b ≡ get_or bound i b → new ≡ scope ++
+    b ∷ [] → bounds text new ≡ bounds text scope ++ picked (bounds text bound) i
 unfolding picked
 picked_some text scope bound new i b l e n =
     let g : slice_get bound i ≡ Some b = slice_get-get_or bound i b l ∙ ap (λ y. Some y) (sym e) in
     rw (n, bounds-get text bound i b g, picked) (bounds-append text scope (b ∷ []))
 
-pub picked_none : (text : List ℕ) (scope bound : List Binding) (i : ℕ) → length bound ≤ i → bounds text scope ≡ bounds text scope ++ picked (bounds text bound) i
+pub picked_none : (text : List ℕ) (scope bound : List Binding) (i : ℕ) → length bound ≤ i → bounds text scope ≡ bounds text scope ++
+    picked (bounds text bound) i
 unfolding picked
 picked_none text scope bound i l = rw (bounds-get_none text bound i (slice_get_past bound i l), picked) (sym (append_none (bounds text scope)))
 
-pub picked_within : (text : List ℕ) (scope bound new : List Binding) (i : ℕ) (b : Binding) → i < length bound → b ≡ get_or bound i b → new ≡ scope ++ b ∷ [] → InText text scope → InText text bound → InText text new
+pub picked_within : (text : List ℕ) (scope bound new : List Binding) (i : ℕ) (b : Binding) → i < length bound → b ≡ get_or bound i b → new ≡ scope ++
+    b ∷ [] → InText text scope → InText text bound → InText text new
 picked_within text scope bound new i b l e n s h =
     let g : slice_get bound i ≡ Some b = slice_get-get_or bound i b l ∙ ap (λ y. Some y) (sym e) in
     rw n (in_text-append text scope (b ∷ []) s (in_text-get text bound i b g h))

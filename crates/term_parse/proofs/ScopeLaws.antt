@@ -1,5 +1,6 @@
 -- The meaning of a name is the innermost binder of its spelling.
-use Rattle.std.proofs.Common.{◌≡◌, ◌≢◌, ◌↔◌, ◌+◌, ℕ, suc, List, [], ◌∷◌, ◌++◌, length, Option, Some, None, Result, Ok, Err, Bool, true, false, refl, ap, sym, subst, ◌∙◌, arith}
+use Rattle.std.proofs.Common.{◌≡◌, ◌≢◌, ◌↔◌, ◌+◌, ℕ, suc, List, [], ◌∷◌, ◌++◌, length, Option, Some, None}
+use Rattle.std.proofs.Common.{Result, Ok, Err, Bool, true, false, refl, ap, sym, subst, ◌∙◌, arith}
 use Rattle.std.specs.Str.{bytes_eq}
 use Rattle.std.proofs.lemmas.Slice.Eq.{bytes_eq-Decides}
 use Rattle.std.proofs.lemmas.Bool.Decides.{not_from_Decides}
@@ -28,7 +29,8 @@ abbrev Found : ℕ → List Bound → List ℕ → Option Name → Type 0
 Found from scope x None = Unspelled scope x
 Found from scope x (Some n) = IsInnermostFrom from scope x n
 
-found_more : (from : ℕ) (b : Bound) (bs : List Bound) (x : List ℕ) (o : Option Name) → find_from (suc from) bs x ≡ o → Found (suc from) bs x o → (t : Bool) → bytes_eq b.spelling x ≡ t → Found from (b ∷ bs) x (find_from from (b ∷ bs) x)
+found_more : (from : ℕ) (b : Bound) (bs : List Bound) (x : List ℕ) (o : Option Name) → find_from (suc from) bs x ≡ o → Found (suc from) bs x o →
+    (t : Bool) → bytes_eq b.spelling x ≡ t → Found from (b ∷ bs) x (find_from from (b ∷ bs) x)
 unfolding find_from
 found_more from b bs x (Some n) q h t u =
     rw (q, find_from) record {
@@ -74,7 +76,8 @@ find_none from (b ∷ bs) x h =
     let other : bytes_eq b.spelling x ≡ false = bytes_differ b.spelling x h.0 in
     rw (rest, find_from) (rw other refl)
 
-pub find-from_innermost : (from : ℕ) (before : List Bound) (binder : Bound) (behind : List Bound) (x : List ℕ) → binder.spelling ≡ x → Unspelled behind x → find_from from (before ++ binder ∷ behind) x ≡ Some (record { slot = from + length before; kind = binder.kind })
+pub find-from_innermost : (from : ℕ) (before : List Bound) (binder : Bound) (behind : List Bound) (x : List ℕ) → binder.spelling ≡ x →
+    Unspelled behind x → find_from from (before ++ binder ∷ behind) x ≡ Some (record { slot = from + length before; kind = binder.kind })
 unfolding find_from
 find-from_innermost from [] binder behind x e u =
     let rest : find_from (suc from) behind x ≡ None = find_none (suc from) behind x u in
@@ -82,16 +85,19 @@ find-from_innermost from [] binder behind x e u =
     let at : from ≡ from + 0 = omega arith in
     rw (rest, find_from) (rw same (ap (λ k. Some (record { slot = k; kind = binder.kind })) at))
 find-from_innermost from (b ∷ before) binder behind x e u =
-    let rest : find_from (suc from) (before ++ binder ∷ behind) x ≡ Some (record { slot = suc from + length before; kind = binder.kind }) = find-from_innermost (suc from) before binder behind x e u in
+    let rest : find_from (suc from) (before ++ binder ∷ behind) x ≡ Some (record { slot = suc from + length before; kind = binder.kind }) =
+    find-from_innermost (suc from) before binder behind x e u in
     let at : suc from + length before ≡ from + suc (length before) = omega arith in
     rw (rest, find_from) (ap (λ k. Some (record { slot = k; kind = binder.kind })) at)
 
 find-innermost : (scope : List Bound) (x : List ℕ) (n : Name) → IsInnermost scope x n → find_from 0 scope x ≡ Some n
 find-innermost scope x n h =
     let at : 0 + length h.before ≡ n.slot = omega (arith, h.slot_is) in
-    rw h.scope_is (find-from_innermost 0 h.before h.binder h.behind x h.spelled h.unshadowed ∙ ap (λ k. Some (record { slot = k; kind = h.binder.kind })) at ∙ ap (λ k. Some (record { slot = n.slot; kind = k })) (sym h.kind_is))
+    rw h.scope_is (find-from_innermost 0 h.before h.binder h.behind x h.spelled h.unshadowed ∙
+    ap (λ k. Some (record { slot = k; kind = h.binder.kind })) at ∙ ap (λ k. Some (record { slot = n.slot; kind = k })) (sym h.kind_is))
 
-innermost-from_find : (scope : List Bound) (x : List ℕ) (n : Name) (o : Option Name) → find_from 0 scope x ≡ o → o ≡ Some n → Found 0 scope x o → IsInnermost scope x n
+innermost-from_find : (scope : List Bound) (x : List ℕ) (n : Name) (o : Option Name) → find_from 0 scope x ≡ o → o ≡ Some n → Found 0 scope x o →
+    IsInnermost scope x n
 innermost-from_find scope x n None q e h = cc
 innermost-from_find scope x n (Some m) q e h =
     let same : m ≡ n = cc in
@@ -128,22 +134,26 @@ meaning_none : (scope : List Bound) (kind : Kind) (x : List ℕ) (at : ℕ) → 
 unfolding meaning
 meaning_none scope kind x at q = rw (q, meaning) refl
 
-meaning_same : (scope : List Bound) (kind : Kind) (x : List ℕ) (at : ℕ) (n : Name) → find_from 0 scope x ≡ Some n → same_kind n.kind kind ≡ true → meaning scope kind x at ≡ Ok n
+meaning_same : (scope : List Bound) (kind : Kind) (x : List ℕ) (at : ℕ) (n : Name) → find_from 0 scope x ≡ Some n → same_kind n.kind kind ≡ true →
+    meaning scope kind x at ≡ Ok n
 unfolding meaning
 meaning_same scope kind x at n q t = rw (q, meaning) (rw t refl)
 
-meaning_other : (scope : List Bound) (kind : Kind) (x : List ℕ) (at : ℕ) (n : Name) → find_from 0 scope x ≡ Some n → same_kind n.kind kind ≡ false → meaning scope kind x at ≡ Err (errors.NameKind at)
+meaning_other : (scope : List Bound) (kind : Kind) (x : List ℕ) (at : ℕ) (n : Name) → find_from 0 scope x ≡ Some n → same_kind n.kind kind ≡ false →
+    meaning scope kind x at ≡ Err (errors.NameKind at)
 unfolding meaning
 meaning_other scope kind x at n q t = rw (q, meaning) (rw t refl)
 
-pub meaning-from_innermost : (scope : List Bound) (kind : Kind) (x : List ℕ) (at : ℕ) (n : Name) → IsInnermost scope x n × (n.kind ≡ kind) → meaning scope kind x at ≡ Ok n
+pub meaning-from_innermost : (scope : List Bound) (kind : Kind) (x : List ℕ) (at : ℕ) (n : Name) → IsInnermost scope x n × (n.kind ≡ kind) →
+    meaning scope kind x at ≡ Ok n
 meaning-from_innermost scope kind x at n (h, k) =
     meaning_same scope kind x at n (find-innermost scope x n h) (ap (λ y. same_kind n.kind y) (sym k) ∙ same_kind_self n.kind)
 
 meaning-unspelled : (scope : List Bound) (kind : Kind) (x : List ℕ) (at : ℕ) → Unspelled scope x → meaning scope kind x at ≡ Err (errors.UnknownName at)
 meaning-unspelled scope kind x at h = meaning_none scope kind x at (find_none 0 scope x h)
 
-meaning-other_kind : (scope : List Bound) (kind : Kind) (x : List ℕ) (at : ℕ) → (n : Name) × IsInnermost scope x n × (n.kind ≢ kind) → meaning scope kind x at ≡ Err (errors.NameKind at)
+meaning-other_kind : (scope : List Bound) (kind : Kind) (x : List ℕ) (at : ℕ) → (n : Name) × IsInnermost scope x n × (n.kind ≢ kind) →
+    meaning scope kind x at ≡ Err (errors.NameKind at)
 meaning-other_kind scope kind x at (n, h, k) = meaning_other scope kind x at n (find-innermost scope x n h) (other_kind n.kind kind k)
 
 -- the innermost binder is the wanted one, or of another kind, or there is none
@@ -155,7 +165,8 @@ data Said (scope : List Bound) (kind : Kind) (x : List ℕ) (at : ℕ) : Type 0 
 differs : (j k : Kind) → same_kind j k ≡ false → j ≢ k
 differs j k f e = let t : same_kind j k ≡ true = ap (λ y. same_kind j y) (sym e) ∙ same_kind_self j in cc
 
-said_kind : (scope : List Bound) (kind : Kind) (x : List ℕ) (at : ℕ) (n : Name) → find_from 0 scope x ≡ Some n → IsInnermost scope x n → (t : Bool) → same_kind n.kind kind ≡ t → Said scope kind x at
+said_kind : (scope : List Bound) (kind : Kind) (x : List ℕ) (at : ℕ) (n : Name) → find_from 0 scope x ≡ Some n → IsInnermost scope x n → (t : Bool) →
+    same_kind n.kind kind ≡ t → Said scope kind x at
 said_kind scope kind x at n q h true u = meant n h (same_kind_same n.kind kind u) (meaning_same scope kind x at n q u)
 said_kind scope kind x at n q h false u = otherwise n h (differs n.kind kind u) (meaning_other scope kind x at n q u)
 
@@ -166,36 +177,44 @@ said_of scope kind x at (Some n) q h = said_kind scope kind x at n q (innermost-
 said : (scope : List Bound) (kind : Kind) (x : List ℕ) (at : ℕ) → Said scope kind x at
 said scope kind x at = said_of scope kind x at (find_from 0 scope x) refl (found 0 scope x)
 
-innermost_ok : {scope : List Bound} {kind : Kind} {x : List ℕ} {at : ℕ} → Said scope kind x at → (n : Name) → meaning scope kind x at ≡ Ok n → IsInnermost scope x n × (n.kind ≡ kind)
+innermost_ok : {scope : List Bound} {kind : Kind} {x : List ℕ} {at : ℕ} → Said scope kind x at → (n : Name) → meaning scope kind x at ≡ Ok n →
+    IsInnermost scope x n × (n.kind ≡ kind)
 innermost_ok {scope} {kind} {x} {at} (meant m h k e) n f = let same : m ≡ n = cc in subst (λ (y : Name). IsInnermost scope x y × (y.kind ≡ kind)) same (h, k)
 innermost_ok (otherwise m h k e) n f = cc
 innermost_ok (unknown h e) n f = cc
 
-unspelled_unknown : {scope : List Bound} {kind : Kind} {x : List ℕ} {at : ℕ} → Said scope kind x at → meaning scope kind x at ≡ Err (errors.UnknownName at) → Unspelled scope x
+unspelled_unknown : {scope : List Bound} {kind : Kind} {x : List ℕ} {at : ℕ} → Said scope kind x at →
+    meaning scope kind x at ≡ Err (errors.UnknownName at) → Unspelled scope x
 unspelled_unknown (meant m h k e) f = cc
 unspelled_unknown (otherwise m h k e) f = cc
 unspelled_unknown (unknown h e) f = h
 
-other_refused : {scope : List Bound} {kind : Kind} {x : List ℕ} {at : ℕ} → Said scope kind x at → meaning scope kind x at ≡ Err (errors.NameKind at) → (n : Name) × IsInnermost scope x n × (n.kind ≢ kind)
+other_refused : {scope : List Bound} {kind : Kind} {x : List ℕ} {at : ℕ} → Said scope kind x at →
+    meaning scope kind x at ≡ Err (errors.NameKind at) → (n : Name) × IsInnermost scope x n × (n.kind ≢ kind)
 other_refused (meant m h k e) f = cc
 other_refused (otherwise m h k e) f = (m, h, k)
 other_refused (unknown h e) f = cc
 
-pub innermost-from_meaning : (scope : List Bound) (kind : Kind) (x : List ℕ) (at : ℕ) (n : Name) → meaning scope kind x at ≡ Ok n → IsInnermost scope x n × (n.kind ≡ kind)
+pub innermost-from_meaning : (scope : List Bound) (kind : Kind) (x : List ℕ) (at : ℕ) (n : Name) → meaning scope kind x at ≡ Ok n →
+    IsInnermost scope x n × (n.kind ≡ kind)
 innermost-from_meaning scope kind x at n f = innermost_ok (said scope kind x at) n f
 
 unspelled-from_meaning : (scope : List Bound) (kind : Kind) (x : List ℕ) (at : ℕ) → meaning scope kind x at ≡ Err (errors.UnknownName at) → Unspelled scope x
 unspelled-from_meaning scope kind x at f = unspelled_unknown (said scope kind x at) f
 
-other_kind-from_meaning : (scope : List Bound) (kind : Kind) (x : List ℕ) (at : ℕ) → meaning scope kind x at ≡ Err (errors.NameKind at) → (n : Name) × IsInnermost scope x n × (n.kind ≢ kind)
+other_kind-from_meaning : (scope : List Bound) (kind : Kind) (x : List ℕ) (at : ℕ) → meaning scope kind x at ≡ Err (errors.NameKind at) →
+    (n : Name) × IsInnermost scope x n × (n.kind ≢ kind)
 other_kind-from_meaning scope kind x at f = other_refused (said scope kind x at) f
 
 -- what is answered for a use, in plain words
-pub meant_where : (scope : List Bound) (kind : Kind) (x : List ℕ) (at : ℕ) (r : Result Name ParseError) → r ≡ meaning scope kind x at → (n : Name) → (r ≡ Ok n) ↔ (IsInnermost scope x n × (n.kind ≡ kind))
+pub meant_where : (scope : List Bound) (kind : Kind) (x : List ℕ) (at : ℕ) (r : Result Name ParseError) → r ≡ meaning scope kind x at → (n : Name) →
+    (r ≡ Ok n) ↔ (IsInnermost scope x n × (n.kind ≡ kind))
 meant_where scope kind x at r e n = (λ h. innermost-from_meaning scope kind x at n (sym e ∙ h), λ h. e ∙ meaning-from_innermost scope kind x at n h)
 
-pub unknown_where : (scope : List Bound) (kind : Kind) (x : List ℕ) (at : ℕ) (r : Result Name ParseError) → r ≡ meaning scope kind x at → (r ≡ Err (errors.UnknownName at)) ↔ Unspelled scope x
+pub unknown_where : (scope : List Bound) (kind : Kind) (x : List ℕ) (at : ℕ) (r : Result Name ParseError) → r ≡ meaning scope kind x at →
+    (r ≡ Err (errors.UnknownName at)) ↔ Unspelled scope x
 unknown_where scope kind x at r e = (λ h. unspelled-from_meaning scope kind x at (sym e ∙ h), λ h. e ∙ meaning-unspelled scope kind x at h)
 
-pub other_where : (scope : List Bound) (kind : Kind) (x : List ℕ) (at : ℕ) (r : Result Name ParseError) → r ≡ meaning scope kind x at → (r ≡ Err (errors.NameKind at)) ↔ ((n : Name) × IsInnermost scope x n × (n.kind ≢ kind))
+pub other_where : (scope : List Bound) (kind : Kind) (x : List ℕ) (at : ℕ) (r : Result Name ParseError) → r ≡ meaning scope kind x at →
+    (r ≡ Err (errors.NameKind at)) ↔ ((n : Name) × IsInnermost scope x n × (n.kind ≢ kind))
 other_where scope kind x at r e = (λ h. other_kind-from_meaning scope kind x at (sym e ∙ h), λ h. e ∙ meaning-other_kind scope kind x at h)

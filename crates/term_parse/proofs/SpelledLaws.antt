@@ -15,7 +15,8 @@ reads_spelled : (text : List ℕ) (atoms : List Atom) → Spells text atoms → 
 unfolding reads want_step
 reads_spelled text atoms s =
     rw s.tokens (opened (length text) s.opening_place s.word_place s.first (term []) [] [] [] (tokens_of s.rest) refl (omega arith)
-    ∙ ap (with_front (word s.first ∷ [])) (ap (reads (length text) (parts [] [] (parts_of s.first) ∷ [])) (sym (append-nil (tokens_of s.rest))) ∙ reads_phrase (length text) s.rest [] [] (parts_of s.first) s.inner [] [] s.means (omega (arith, s.shallow)) ∙ ap (λ x. Ok x) (append-nil s.inner))
+    ∙ ap (with_front (word s.first ∷ [])) (ap (reads (length text) (parts [] [] (parts_of s.first) ∷ [])) (sym (append-nil (tokens_of s.rest))) ∙
+    reads_phrase (length text) s.rest [] [] (parts_of s.first) s.inner [] [] s.means (omega (arith, s.shallow)) ∙ ap (λ x. Ok x) (append-nil s.inner))
     ∙ ap (λ x. Ok x) (sym s.atoms_are))
 
 pub reading-from_spelled : (text : List ℕ) (atoms : List Atom) → Spells text atoms → reading text ≡ Ok atoms
@@ -35,7 +36,8 @@ spelled-from_covered text atoms short cover =
       inner = first;
       short = short;
       shallow = omega (arith, deep);
-      tokens = e ∙ ap (λ x. record { lexeme = opens; place = a } ∷ record { lexeme = called (word_spelling w); place = c } ∷ (tokens_of p ++ x)) last.0 ∙ ap (λ x. record { lexeme = opens; place = a } ∷ record { lexeme = called (word_spelling w); place = c } ∷ x) (append-nil (tokens_of p));
+      tokens = e ∙ ap (λ x. record { lexeme = opens; place = a } ∷ record { lexeme = called (word_spelling w); place = c } ∷ (tokens_of p ++ x))
+          last.0 ∙ ap (λ x. record { lexeme = opens; place = a } ∷ record { lexeme = called (word_spelling w); place = c } ∷ x) (append-nil (tokens_of p));
       means = m;
       atoms_are = xe ∙ ap (λ x. word w ∷ (first ++ x)) last.1 ∙ ap (λ x. word w ∷ x) (append-nil first);
     }

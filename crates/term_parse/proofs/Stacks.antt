@@ -1,5 +1,7 @@
 -- What one token does to the forms that are open.
-use Rattle.std.proofs.Common.{◌≡◌, ◌≤◌, ◌<◌, ◌+◌, ℕ, suc, true, false, nat_lt, List, [], ◌∷◌, ◌++◌, length, drop, Result, Ok, Err, IfOk, IfErr, refl, ap, sym, subst, ◌∙◌, arith, append_assoc}
+use Rattle.std.proofs.Common.{◌≡◌, ◌≤◌, ◌<◌, ◌+◌, ℕ, suc, true, false, nat_lt, List, [], ◌∷◌, ◌++◌, length}
+use Rattle.std.proofs.Common.{drop, Result, Ok, Err, IfOk, IfErr, refl, ap, sym, subst, ◌∙◌, arith}
+use Rattle.std.proofs.Common.{append_assoc}
 use Rattle.std.proofs.lemmas.Bool.{lt-ltb, le-ltb}
 use Rattle.effect_term.specs.declared.term.Term as terms
 use Rattle.term_parse.specs.declared.error.ParseError.{ParseError}
@@ -84,7 +86,8 @@ stack_reads text at next f g fs s r l w =
     let todo = todo_onto text [] fs in
     record {
       within = w;
-      left = sym (with_both (fronts fs) (front_of g) (reads_at text next (want_of text g ∷ todo))) ∙ ap (with_front (fronts fs)) (sym (r.goes_on todo)) ∙ with_both (fronts fs) (front_of f) (reads_at text at (want_of text f ∷ todo)) ∙ s.left;
+      left = sym (with_both (fronts fs) (front_of g) (reads_at text next (want_of text g ∷ todo))) ∙
+          ap (with_front (fronts fs)) (sym (r.goes_on todo)) ∙ with_both (fronts fs) (front_of f) (reads_at text at (want_of text f ∷ todo)) ∙ s.left;
       sound = r.sound s.sound;
       awaits = s.awaits;
       few = omega (arith, s.few, ap length r.same_scope);
@@ -97,10 +100,19 @@ pub stack_opens : (text : List ℕ) (at next depth : ℕ) (f outer inner : OpenF
     at + 2 ≤ next → next ≤ length text → IsStack text next inner new
 stack_opens text at next depth f outer inner fs new s o d n l w =
     let todo = todo_onto text [] fs in
-    let fronts_are : fronts (fs ++ outer ∷ []) ++ front_of inner ≡ fronts fs ++ (front_of outer ++ front_of inner) = ap (λ x. x ++ front_of inner) (fronts-add fs outer) ∙ append_assoc (fronts fs) (front_of outer) (front_of inner) in
+    let fronts_are : fronts (fs ++ outer ∷ []) ++ front_of inner ≡ fronts fs ++ (front_of outer ++ front_of inner) =
+    ap (λ x. x ++ front_of inner) (fronts-add fs outer) ∙ append_assoc (fronts fs) (front_of outer) (front_of inner) in
     let todo_is : todo_onto text [] (fs ++ outer ∷ []) ≡ want_of text outer ∷ todo = todo-add text [] fs outer in
-    let one : with_front (fronts (fs ++ outer ∷ []) ++ front_of inner) (reads_at text next (want_of text inner ∷ todo_onto text [] (fs ++ outer ∷ []))) ≡ with_front (fronts fs ++ (front_of outer ++ front_of inner)) (reads_at text next (want_of text inner ∷ want_of text outer ∷ todo)) = ap (λ x. with_front x (reads_at text next (want_of text inner ∷ todo_onto text [] (fs ++ outer ∷ [])))) fronts_are ∙ ap (λ x. with_front (fronts fs ++ (front_of outer ++ front_of inner)) (reads_at text next (want_of text inner ∷ x))) todo_is in
-    let two : with_front (fronts fs ++ (front_of outer ++ front_of inner)) (reads_at text next (want_of text inner ∷ want_of text outer ∷ todo)) ≡ reads_at text 0 (term [] ∷ []) = sym (with_both (fronts fs) (front_of outer ++ front_of inner) (reads_at text next (want_of text inner ∷ want_of text outer ∷ todo))) ∙ ap (with_front (fronts fs)) (sym (o.goes_on todo (depth_is text fs depth d))) ∙ with_both (fronts fs) (front_of f) (reads_at text at (want_of text f ∷ todo)) ∙ s.left in
+    let one : with_front (fronts (fs ++ outer ∷ []) ++ front_of inner)
+    (reads_at text next (want_of text inner ∷ todo_onto text [] (fs ++ outer ∷ []))) ≡ with_front
+    (fronts fs ++ (front_of outer ++ front_of inner)) (reads_at text next (want_of text inner ∷ want_of text outer ∷ todo)) =
+    ap (λ x. with_front x (reads_at text next (want_of text inner ∷ todo_onto text [] (fs ++ outer ∷ [])))) fronts_are ∙
+    ap (λ x. with_front (fronts fs ++ (front_of outer ++ front_of inner)) (reads_at text next (want_of text inner ∷ x))) todo_is in
+    let two : with_front (fronts fs ++ (front_of outer ++ front_of inner)) (reads_at text next (want_of text inner ∷ want_of text outer ∷ todo))
+    ≡ reads_at text 0 (term [] ∷ []) =
+    sym (with_both (fronts fs) (front_of outer ++ front_of inner) (reads_at text next (want_of text inner ∷ want_of text outer ∷ todo))) ∙
+    ap (with_front (fronts fs)) (sym (o.goes_on todo (depth_is text fs depth d))) ∙
+    with_both (fronts fs) (front_of f) (reads_at text at (want_of text f ∷ todo)) ∙ s.left in
     subst (IsStack text next inner) (sym n) (record {
       within = w;
       left = one ∙ two;
@@ -123,7 +135,8 @@ stack_ends text at next f fs t s n c a w =
     let s' : IsStack text at f [] = subst (IsStack text at f) n s in
     record {
       within = w;
-      left = sym s'.left ∙ ap (with_front (front_of f)) (c.goes_on []) ∙ with_both (front_of f) (ended ∷ []) (reads_at text next []) ∙ ap (λ x. with_front x (reads_at text next [])) (sym a);
+      left = sym s'.left ∙ ap (with_front (front_of f)) (c.goes_on []) ∙ with_both (front_of f) (ended ∷ []) (reads_at text next []) ∙
+          ap (λ x. with_front x (reads_at text next [])) (sym a);
     }
 
 pub stack_closes : (text : List ℕ) (at next : ℕ) (f outer g : OpenForm) (fs rest : List OpenForm) (t : terms.Term) →
@@ -144,11 +157,18 @@ stack_closes text at next f outer g fs rest t s n c a d l w =
     rw (row, given) (ap (λ y. word outer.word ∷ y) (pieces_atoms-add outer.pieces (pieces.Term t))) in
     let completes : drop g.next (parts_of g.word) ≡ drop outer.next (parts_of outer.word) = rw (row, part) refl in
     let aw : Awaits text outer = await-last text rest outer s'.awaits in
-    let r1 : reads_at text at (want_of text f ∷ todo_onto text [] (rest ++ outer ∷ [])) ≡ with_front (ended ∷ []) (reads_at text next (want_of text outer ∷ todo)) = c.goes_on (todo_onto text [] (rest ++ outer ∷ [])) ∙ ap (λ x. with_front (ended ∷ []) (reads_at text next x)) (todo-add text [] rest outer) in
-    let fronts_are : (all ++ front_of f) ++ ended ∷ [] ≡ fronts rest ++ front_of g = append_assoc all (front_of f) (ended ∷ []) ∙ ap (λ x. all ++ x) (sym a) ∙ ap (λ x. x ++ atoms_of t) (fronts-add rest outer) ∙ append_assoc (fronts rest) (front_of outer) (atoms_of t) ∙ ap (λ x. fronts rest ++ x) (sym front) in
+    let r1 : reads_at text at (want_of text f ∷ todo_onto text [] (rest ++ outer ∷ [])) ≡ with_front (ended ∷ [])
+    (reads_at text next (want_of text outer ∷ todo)) = c.goes_on (todo_onto text [] (rest ++ outer ∷ [])) ∙
+    ap (λ x. with_front (ended ∷ []) (reads_at text next x)) (todo-add text [] rest outer) in
+    let fronts_are : (all ++ front_of f) ++ ended ∷ [] ≡ fronts rest ++ front_of g = append_assoc all (front_of f) (ended ∷ []) ∙
+    ap (λ x. all ++ x) (sym a) ∙ ap (λ x. x ++ atoms_of t) (fronts-add rest outer) ∙ append_assoc (fronts rest) (front_of outer) (atoms_of t) ∙
+    ap (λ x. fronts rest ++ x) (sym front) in
     record {
       within = w;
-      left = ap (λ x. with_front (fronts rest ++ front_of g) (reads_at text next (x ∷ todo))) want ∙ ap (λ x. with_front x (reads_at text next (want_of text outer ∷ todo))) (sym fronts_are) ∙ sym (with_both (all ++ front_of f) (ended ∷ []) (reads_at text next (want_of text outer ∷ todo))) ∙ ap (with_front (all ++ front_of f)) (sym r1) ∙ s'.left;
+      left = ap (λ x. with_front (fronts rest ++ front_of g) (reads_at text next (x ∷ todo))) want ∙
+          ap (λ x. with_front x (reads_at text next (want_of text outer ∷ todo))) (sym fronts_are) ∙
+          sym (with_both (all ++ front_of f) (ended ∷ []) (reads_at text next (want_of text outer ∷ todo))) ∙
+          ap (with_front (all ++ front_of f)) (sym r1) ∙ s'.left;
       sound = record {
         shape = λ more h. rw (row, given)
             (subst (Shaped outer.word) (sym (sorts-add outer.pieces (pieces.Term t) more))
@@ -163,7 +183,8 @@ stack_closes text at next f outer g fs rest t s n c a d l w =
     }
 
 -- the opening bracket of the whole term
-term_misfit : (d : ℕ) (s : List Bound) (run : List ℕ) (k : TokenKind) (at : ℕ) → IsGood k → (k ≡ tokens.Open → ⊥) → want_step d (term s) (seen_kind run k) at ≡ Err (errors.Arity at)
+term_misfit : (d : ℕ) (s : List Bound) (run : List ℕ) (k : TokenKind) (at : ℕ) → IsGood k → (k ≡ tokens.Open → ⊥) →
+    want_step d (term s) (seen_kind run k) at ≡ Err (errors.Arity at)
 unfolding want_step
 term_misfit d s run tokens.Open at g h = absurd (h refl)
 term_misfit d s run tokens.Close at g h = refl
@@ -172,12 +193,16 @@ term_misfit d s run (tokens.Number n) at g h = refl
 term_misfit d s run tokens.BadNumber at g h = absurd g
 term_misfit d s run tokens.BadByte at g h = absurd g
 
-pub no_opening : (text : List ℕ) (at : ℕ) (t : Token) → IsNext text at t → IsGood t.kind → (t.kind ≡ tokens.Open → ⊥) → reads_at text at (term [] ∷ []) ≡ Err (errors.Arity t.start)
+pub no_opening : (text : List ℕ) (at : ℕ) (t : Token) → IsNext text at t → IsGood t.kind → (t.kind ≡ tokens.Open → ⊥) →
+    reads_at text at (term [] ∷ []) ≡ Err (errors.Arity t.start)
 no_opening text at t n g h = read_fault text at t (term []) [] (errors.Arity t.start) n (term_misfit 0 [] (slice_range text t.start t.end) t.kind t.start g h)
 
-pub first_opening : (text : List ℕ) (at : ℕ) (t : Token) → IsNext text at t → t.kind ≡ tokens.Open → reads_at text at (term [] ∷ []) ≡ reads_at text t.end (a_word [] ∷ [])
+pub first_opening : (text : List ℕ) (at : ℕ) (t : Token) → IsNext text at t → t.kind ≡ tokens.Open →
+    reads_at text at (term [] ∷ []) ≡ reads_at text t.end (a_word [] ∷ [])
 unfolding want_step
-first_opening text at t n k = read_step text at t (term []) [] (record { atoms = []; wants = a_word [] ∷ [] }) n (ap (λ y. want_step 0 (term []) (seen_kind (slice_range text t.start t.end) y) t.start) k) ∙ with_none _
+first_opening text at t n k =
+    read_step text at t (term []) [] (record { atoms = []; wants = a_word [] ∷ [] }) n
+    (ap (λ y. want_step 0 (term []) (seen_kind (slice_range text t.start t.end) y) t.start) k) ∙ with_none _
 
 -- the whole text
 pub reading_long : (text : List ℕ) → 65536 < length text → reading text ≡ Err (errors.TooLong 65536)
@@ -188,13 +213,15 @@ pub reading_short : (text : List ℕ) → length text ≤ 65536 → reading text
 unfolding reading
 reading_short text l = let t : nat_lt 65536 (length text) ≡ false = le-ltb 65536 (length text) l in rw t refl
 
-pub reading_over : (text : List ℕ) (t : terms.Term) (end : ℕ) → length text ≤ 65536 → IsWhole text t end → lexemes_at end text ≡ [] → reading text ≡ Ok (atoms_of t)
+pub reading_over : (text : List ℕ) (t : terms.Term) (end : ℕ) → length text ≤ 65536 → IsWhole text t end → lexemes_at end text ≡ [] →
+    reading text ≡ Ok (atoms_of t)
 unfolding reads_at reads
 reading_over text t end l w e =
     let nothing : reads_at text end [] ≡ Ok [] = rw e refl in
     reading_short text l ∙ w.left ∙ ap (with_front (atoms_of t)) nothing ∙ ap (λ x. Ok x) (no_more (atoms_of t))
 
-pub reading_trails : (text : List ℕ) (t : terms.Term) (end : ℕ) (k : Token) → length text ≤ 65536 → IsWhole text t end → IsNext text end k → reading text ≡ Err (errors.Trailing k.start)
+pub reading_trails : (text : List ℕ) (t : terms.Term) (end : ℕ) (k : Token) → length text ≤ 65536 → IsWhole text t end → IsNext text end k →
+    reading text ≡ Err (errors.Trailing k.start)
 unfolding reads_at reads
 reading_trails text t end k l w n =
     let more : reads_at text end [] ≡ Err (errors.Trailing k.start) = rw (n.tokens) refl in
@@ -218,10 +245,12 @@ only_memory (errors.TooLong p) r atoms f h = let q : r ≡ Err (errors.TooLong p
 only_memory (errors.Trailing p) r atoms f h = let q : r ≡ Err (errors.Trailing p) = f (λ x. cc) in cc
 
 -- where the reading gives atoms, want of memory alone is answered in place of their term
-pub only_from : (r : Result terms.Term ParseError) (q : Result (List Atom) ParseError) (atoms : List Atom) → IfErr r (λ e. Fails e q) → q ≡ Ok atoms → IfErr r (λ e. e ≡ errors.NoMemory)
+pub only_from : (r : Result terms.Term ParseError) (q : Result (List Atom) ParseError) (atoms : List Atom) → IfErr r (λ e. Fails e q) →
+    q ≡ Ok atoms → IfErr r (λ e. e ≡ errors.NoMemory)
 only_from (Ok t) q atoms f h = tt
 only_from (Err e) q atoms f h = only_memory e q atoms f h
 
-pub refused_from : (r : Result terms.Term ParseError) (q : Result (List Atom) ParseError) (e : ParseError) → IfOk r (λ t. q ≡ Ok (atoms_of t)) → q ≡ Err e → IfOk r (λ t. ⊥)
+pub refused_from : (r : Result terms.Term ParseError) (q : Result (List Atom) ParseError) (e : ParseError) → IfOk r (λ t. q ≡ Ok (atoms_of t)) →
+    q ≡ Err e → IfOk r (λ t. ⊥)
 refused_from (Ok t) q e f h = cc
 refused_from (Err g) q e f h = tt

@@ -1,5 +1,6 @@
 -- What one token does where a part of a form is wanted.
-use Rattle.std.proofs.Common.{◌≡◌, ◌≤◌, ◌<◌, ◌+◌, ℕ, suc, ℤ, true, false, nat_lt, List, [], ◌∷◌, ◌++◌, length, drop, Result, Ok, Err, Some, None, refl, ap, sym, subst, ◌∙◌, arith, append_assoc}
+use Rattle.std.proofs.Common.{◌≡◌, ◌≤◌, ◌<◌, ◌+◌, ℕ, suc, ℤ, true, false, nat_lt, List, [], ◌∷◌, ◌++◌, length}
+use Rattle.std.proofs.Common.{drop, Result, Ok, Err, Some, None, refl, ap, sym, subst, ◌∙◌, arith, append_assoc}
 use Rattle.std.specs.List.{slice_range}
 use Rattle.std.proofs.lemmas.Grind.{common_steps}
 use Rattle.std.proofs.lemmas.Bool.{lt-ltb, le-ltb}
@@ -23,17 +24,22 @@ use Rattle.term_parse.specs.OpenForms.{OpenForm}
 use Rattle.term_parse.specs.Atoms.{Atom, word, value, name, ended}
 use Rattle.term_parse.specs.Language.{parts_of, word_of}
 use Rattle.term_parse.specs.Lexemes.{opens, closes, called, bad_number, bad_byte, lexemes_at}
-use Rattle.term_parse.specs.Reading.{Bound, Want, a_word, parts, Step, want_step, part_step, begun, used, opening, entered, meaning, open_of, with_front, reads, reads_at}
+use Rattle.term_parse.specs.Reading.{Bound, Want, a_word, parts, Step, want_step, part_step, begun, used}
+use Rattle.term_parse.specs.Reading.{opening, entered, meaning, open_of, with_front, reads, reads_at}
 use Rattle.term_parse.specs.Seen.{seen, seen_kind, IsNext, IsGood}
 use Rattle.term_parse.specs.Bindings.{bounds, bound_of, hash_of, InText}
 use Rattle.term_parse.proofs.Words.{completed}
-use Rattle.term_parse.specs.Forms.{Sort, a_term, sorts, sort_of, pieces_atoms, piece_atoms, Completes, Shaped, want_of, front_of, NextIs, Adds, IsTermPart, IsOneTerm, after, FailsAt, Reads, Opens, Closes}
+use Rattle.term_parse.specs.Forms.{Sort, a_term, sorts, sort_of, pieces_atoms, piece_atoms, Completes, Shaped}
+use Rattle.term_parse.specs.Forms.{want_of, front_of, NextIs, Adds, IsTermPart, IsOneTerm, after, FailsAt}
+use Rattle.term_parse.specs.Forms.{Reads, Opens, Closes}
 
-pub read_step : (text : List ℕ) (at : ℕ) (t : Token) (w : Want) (todo : List Want) (s : Step) → IsNext text at t → want_step (open_of (w ∷ todo)) w (seen text t) t.start ≡ Ok s → reads_at text at (w ∷ todo) ≡ with_front s.atoms (reads_at text t.end (s.wants ++ todo))
+pub read_step : (text : List ℕ) (at : ℕ) (t : Token) (w : Want) (todo : List Want) (s : Step) → IsNext text at t →
+    want_step (open_of (w ∷ todo)) w (seen text t) t.start ≡ Ok s → reads_at text at (w ∷ todo) ≡ with_front s.atoms (reads_at text t.end (s.wants ++ todo))
 unfolding reads_at reads
 read_step text at t w todo s n f = rw (n.tokens) (rw (f, reads) refl)
 
-pub read_fault : (text : List ℕ) (at : ℕ) (t : Token) (w : Want) (todo : List Want) (e : ParseError) → IsNext text at t → want_step (open_of (w ∷ todo)) w (seen text t) t.start ≡ Err e → reads_at text at (w ∷ todo) ≡ Err e
+pub read_fault : (text : List ℕ) (at : ℕ) (t : Token) (w : Want) (todo : List Want) (e : ParseError) → IsNext text at t →
+    want_step (open_of (w ∷ todo)) w (seen text t) t.start ≡ Err e → reads_at text at (w ∷ todo) ≡ Err e
 unfolding reads_at reads
 read_fault text at t w todo e n f = rw (n.tokens) (rw (f, reads) refl)
 
@@ -50,11 +56,17 @@ bad_number_fault : (d : ℕ) (w : Want) (at : ℕ) → want_step d w bad_number 
 unfolding want_step
 bad_number_fault d w at = refl
 
-pub read_bad_byte : (text : List ℕ) (at : ℕ) (t : Token) → IsNext text at t → t.kind ≡ tokens.BadByte → (w : Want) (todo : List Want) → reads_at text at (w ∷ todo) ≡ Err (errors.BadByte t.start)
-read_bad_byte text at t n k w todo = read_fault text at t w todo (errors.BadByte t.start) n (ap (λ x. want_step (open_of (w ∷ todo)) w (seen_kind (slice_range text t.start t.end) x) t.start) k ∙ bad_byte_fault (open_of (w ∷ todo)) w t.start)
+pub read_bad_byte : (text : List ℕ) (at : ℕ) (t : Token) → IsNext text at t → t.kind ≡ tokens.BadByte → (w : Want) (todo : List Want) →
+    reads_at text at (w ∷ todo) ≡ Err (errors.BadByte t.start)
+read_bad_byte text at t n k w todo =
+    read_fault text at t w todo (errors.BadByte t.start) n
+    (ap (λ x. want_step (open_of (w ∷ todo)) w (seen_kind (slice_range text t.start t.end) x) t.start) k ∙ bad_byte_fault (open_of (w ∷ todo)) w t.start)
 
-pub read_bad_number : (text : List ℕ) (at : ℕ) (t : Token) → IsNext text at t → t.kind ≡ tokens.BadNumber → (w : Want) (todo : List Want) → reads_at text at (w ∷ todo) ≡ Err (errors.BadNumber t.start)
-read_bad_number text at t n k w todo = read_fault text at t w todo (errors.BadNumber t.start) n (ap (λ x. want_step (open_of (w ∷ todo)) w (seen_kind (slice_range text t.start t.end) x) t.start) k ∙ bad_number_fault (open_of (w ∷ todo)) w t.start)
+pub read_bad_number : (text : List ℕ) (at : ℕ) (t : Token) → IsNext text at t → t.kind ≡ tokens.BadNumber → (w : Want) (todo : List Want) →
+    reads_at text at (w ∷ todo) ≡ Err (errors.BadNumber t.start)
+read_bad_number text at t n k w todo =
+    read_fault text at t w todo (errors.BadNumber t.start) n
+    (ap (λ x. want_step (open_of (w ∷ todo)) w (seen_kind (slice_range text t.start t.end) x) t.start) k ∙ bad_number_fault (open_of (w ∷ todo)) w t.start)
 
 pub with_none : (r : Result (List Atom) ParseError) → with_front [] r ≡ r
 with_none (Ok x) = refl
@@ -65,15 +77,24 @@ with_both a b (Ok x) = ap (λ y. Ok y) (sym (append_assoc a b x))
 with_both a b (Err e) = refl
 
 -- the word of a form
-pub read_word : (text : List ℕ) (at : ℕ) (t : Token) (r : Word) → IsNext text at t → t.kind ≡ tokens.Called → word_of (slice_range text t.start t.end) ≡ Some r → (s : List Bound) (todo : List Want) → reads_at text at (a_word s ∷ todo) ≡ with_front (word r ∷ []) (reads_at text t.end (parts s [] (parts_of r) ∷ todo))
+pub read_word : (text : List ℕ) (at : ℕ) (t : Token) (r : Word) → IsNext text at t → t.kind ≡ tokens.Called →
+    word_of (slice_range text t.start t.end) ≡ Some r → (s : List Bound) (todo : List Want) →
+    reads_at text at (a_word s ∷ todo) ≡ with_front (word r ∷ []) (reads_at text t.end (parts s [] (parts_of r) ∷ todo))
 unfolding want_step
-read_word text at t r n k f s todo = read_step text at t (a_word s) todo (record { atoms = word r ∷ []; wants = parts s [] (parts_of r) ∷ [] }) n (ap (λ x. want_step (suc (open_of todo)) (a_word s) (seen_kind (slice_range text t.start t.end) x) t.start) k ∙ ap (λ x. begun x s t.start) f)
+read_word text at t r n k f s todo =
+    read_step text at t (a_word s) todo (record { atoms = word r ∷ []; wants = parts s [] (parts_of r) ∷ [] }) n
+    (ap (λ x. want_step (suc (open_of todo)) (a_word s) (seen_kind (slice_range text t.start t.end) x) t.start) k ∙ ap (λ x. begun x s t.start) f)
 
-pub read_no_word : (text : List ℕ) (at : ℕ) (t : Token) → IsNext text at t → t.kind ≡ tokens.Called → word_of (slice_range text t.start t.end) ≡ None → (s : List Bound) (todo : List Want) → reads_at text at (a_word s ∷ todo) ≡ Err (errors.UnknownWord t.start)
+pub read_no_word : (text : List ℕ) (at : ℕ) (t : Token) → IsNext text at t → t.kind ≡ tokens.Called →
+    word_of (slice_range text t.start t.end) ≡ None → (s : List Bound) (todo : List Want) →
+    reads_at text at (a_word s ∷ todo) ≡ Err (errors.UnknownWord t.start)
 unfolding want_step
-read_no_word text at t n k f s todo = read_fault text at t (a_word s) todo (errors.UnknownWord t.start) n (ap (λ x. want_step (suc (open_of todo)) (a_word s) (seen_kind (slice_range text t.start t.end) x) t.start) k ∙ ap (λ x. begun x s t.start) f)
+read_no_word text at t n k f s todo =
+    read_fault text at t (a_word s) todo (errors.UnknownWord t.start) n
+    (ap (λ x. want_step (suc (open_of todo)) (a_word s) (seen_kind (slice_range text t.start t.end) x) t.start) k ∙ ap (λ x. begun x s t.start) f)
 
-word_misfit : (d : ℕ) (s : List Bound) (run : List ℕ) (k : TokenKind) (at : ℕ) → IsGood k → (k ≡ tokens.Called → ⊥) → want_step d (a_word s) (seen_kind run k) at ≡ Err (errors.UnknownWord at)
+word_misfit : (d : ℕ) (s : List Bound) (run : List ℕ) (k : TokenKind) (at : ℕ) → IsGood k → (k ≡ tokens.Called → ⊥) →
+    want_step d (a_word s) (seen_kind run k) at ≡ Err (errors.UnknownWord at)
 unfolding want_step
 word_misfit d s run tokens.Open at g h = refl
 word_misfit d s run tokens.Close at g h = refl
@@ -82,8 +103,10 @@ word_misfit d s run (tokens.Number n) at g h = refl
 word_misfit d s run tokens.BadNumber at g h = absurd g
 word_misfit d s run tokens.BadByte at g h = absurd g
 
-pub read_not_a_word : (text : List ℕ) (at : ℕ) (t : Token) → IsNext text at t → IsGood t.kind → (t.kind ≡ tokens.Called → ⊥) → (s : List Bound) (todo : List Want) → reads_at text at (a_word s ∷ todo) ≡ Err (errors.UnknownWord t.start)
-read_not_a_word text at t n g h s todo = read_fault text at t (a_word s) todo (errors.UnknownWord t.start) n (word_misfit (suc (open_of todo)) s (slice_range text t.start t.end) t.kind t.start g h)
+pub read_not_a_word : (text : List ℕ) (at : ℕ) (t : Token) → IsNext text at t → IsGood t.kind → (t.kind ≡ tokens.Called → ⊥) →
+    (s : List Bound) (todo : List Want) → reads_at text at (a_word s ∷ todo) ≡ Err (errors.UnknownWord t.start)
+read_not_a_word text at t n g h s todo =
+    read_fault text at t (a_word s) todo (errors.UnknownWord t.start) n (word_misfit (suc (open_of todo)) s (slice_range text t.start t.end) t.kind t.start g h)
 
 -- what is wanted of a form whose next part is this
 at_part : (text : List ℕ) (at : ℕ) (f : OpenForm) (p : Part) → NextIs f.word f.next p → (todo : List Want) →
@@ -106,7 +129,8 @@ fails_part text at f p t e n i h depth todo o ne = at_part text at f p i todo �
     (p ∷ drop (f.next + 1) (parts_of f.word))) todo e n
     (h (suc (open_of todo)) (bounds text f.bound) (drop (f.next + 1) (parts_of f.word)))
 
-bind_misfit : (d : ℕ) (s b : List Bound) (q : Kind) (ps : List Part) (run : List ℕ) (k : TokenKind) (at : ℕ) → IsGood k → (k ≡ tokens.Called → ⊥) → want_step d (parts s b (Bind q ∷ ps)) (seen_kind run k) at ≡ Err (errors.Arity at)
+bind_misfit : (d : ℕ) (s b : List Bound) (q : Kind) (ps : List Part) (run : List ℕ) (k : TokenKind) (at : ℕ) → IsGood k → (k ≡ tokens.Called → ⊥) →
+    want_step d (parts s b (Bind q ∷ ps)) (seen_kind run k) at ≡ Err (errors.Arity at)
 unfolding want_step part_step
 bind_misfit d s b q ps run tokens.Open at g h = refl
 bind_misfit d s b q ps run tokens.Close at g h = refl
@@ -115,7 +139,8 @@ bind_misfit d s b q ps run (tokens.Number n) at g h = refl
 bind_misfit d s b q ps run tokens.BadNumber at g h = absurd g
 bind_misfit d s b q ps run tokens.BadByte at g h = absurd g
 
-use_misfit : (d : ℕ) (s b : List Bound) (q : Kind) (ps : List Part) (run : List ℕ) (k : TokenKind) (at : ℕ) → IsGood k → (k ≡ tokens.Called → ⊥) → want_step d (parts s b (Use q ∷ ps)) (seen_kind run k) at ≡ Err (errors.Arity at)
+use_misfit : (d : ℕ) (s b : List Bound) (q : Kind) (ps : List Part) (run : List ℕ) (k : TokenKind) (at : ℕ) → IsGood k → (k ≡ tokens.Called → ⊥) →
+    want_step d (parts s b (Use q ∷ ps)) (seen_kind run k) at ≡ Err (errors.Arity at)
 unfolding want_step part_step
 use_misfit d s b q ps run tokens.Open at g h = refl
 use_misfit d s b q ps run tokens.Close at g h = refl
@@ -124,7 +149,8 @@ use_misfit d s b q ps run (tokens.Number n) at g h = refl
 use_misfit d s b q ps run tokens.BadNumber at g h = absurd g
 use_misfit d s b q ps run tokens.BadByte at g h = absurd g
 
-value_misfit : (d : ℕ) (s b : List Bound) (ps : List Part) (run : List ℕ) (k : TokenKind) (at : ℕ) → IsGood k → (k ≡ tokens.Called → ⊥) → ((n : ℤ) → k ≡ tokens.Number n → ⊥) → want_step d (parts s b (Value ∷ ps)) (seen_kind run k) at ≡ Err (errors.Arity at)
+value_misfit : (d : ℕ) (s b : List Bound) (ps : List Part) (run : List ℕ) (k : TokenKind) (at : ℕ) → IsGood k → (k ≡ tokens.Called → ⊥) →
+    ((n : ℤ) → k ≡ tokens.Number n → ⊥) → want_step d (parts s b (Value ∷ ps)) (seen_kind run k) at ≡ Err (errors.Arity at)
 unfolding want_step part_step
 value_misfit d s b ps run tokens.Open at g h i = refl
 value_misfit d s b ps run tokens.Close at g h i = refl
@@ -133,7 +159,8 @@ value_misfit d s b ps run (tokens.Number n) at g h i = absurd (i n refl)
 value_misfit d s b ps run tokens.BadNumber at g h i = absurd g
 value_misfit d s b ps run tokens.BadByte at g h i = absurd g
 
-close_misfit : (d : ℕ) (s b : List Bound) (ps : List Part) (run : List ℕ) (k : TokenKind) (at : ℕ) → IsGood k → (k ≡ tokens.Close → ⊥) → want_step d (parts s b (Close ∷ ps)) (seen_kind run k) at ≡ Err (errors.Arity at)
+close_misfit : (d : ℕ) (s b : List Bound) (ps : List Part) (run : List ℕ) (k : TokenKind) (at : ℕ) → IsGood k → (k ≡ tokens.Close → ⊥) →
+    want_step d (parts s b (Close ∷ ps)) (seen_kind run k) at ≡ Err (errors.Arity at)
 unfolding want_step part_step
 close_misfit d s b ps run tokens.Open at g h = refl
 close_misfit d s b ps run tokens.Close at g h = absurd (h refl)
@@ -142,7 +169,8 @@ close_misfit d s b ps run (tokens.Number n) at g h = refl
 close_misfit d s b ps run tokens.BadNumber at g h = absurd g
 close_misfit d s b ps run tokens.BadByte at g h = absurd g
 
-more_misfit : (d : ℕ) (s b : List Bound) (ps : List Part) (run : List ℕ) (k : TokenKind) (at : ℕ) → IsGood k → (k ≡ tokens.Open → ⊥) → (k ≡ tokens.Close → ⊥) → want_step d (parts s b (More ∷ ps)) (seen_kind run k) at ≡ Err (errors.Arity at)
+more_misfit : (d : ℕ) (s b : List Bound) (ps : List Part) (run : List ℕ) (k : TokenKind) (at : ℕ) → IsGood k → (k ≡ tokens.Open → ⊥) →
+    (k ≡ tokens.Close → ⊥) → want_step d (parts s b (More ∷ ps)) (seen_kind run k) at ≡ Err (errors.Arity at)
 unfolding want_step part_step
 more_misfit d s b ps run tokens.Open at g h i = absurd (h refl)
 more_misfit d s b ps run tokens.Close at g h i = absurd (i refl)
@@ -151,7 +179,8 @@ more_misfit d s b ps run (tokens.Number n) at g h i = refl
 more_misfit d s b ps run tokens.BadNumber at g h i = absurd g
 more_misfit d s b ps run tokens.BadByte at g h i = absurd g
 
-plain_term_misfit : (d : ℕ) (s b : List Bound) (ps : List Part) (run : List ℕ) (k : TokenKind) (at : ℕ) → IsGood k → (k ≡ tokens.Open → ⊥) → want_step d (parts s b (Term ∷ ps)) (seen_kind run k) at ≡ Err (errors.Arity at)
+plain_term_misfit : (d : ℕ) (s b : List Bound) (ps : List Part) (run : List ℕ) (k : TokenKind) (at : ℕ) → IsGood k → (k ≡ tokens.Open → ⊥) →
+    want_step d (parts s b (Term ∷ ps)) (seen_kind run k) at ≡ Err (errors.Arity at)
 unfolding want_step part_step
 plain_term_misfit d s b ps run tokens.Open at g h = absurd (h refl)
 plain_term_misfit d s b ps run tokens.Close at g h = refl
@@ -160,7 +189,8 @@ plain_term_misfit d s b ps run (tokens.Number n) at g h = refl
 plain_term_misfit d s b ps run tokens.BadNumber at g h = absurd g
 plain_term_misfit d s b ps run tokens.BadByte at g h = absurd g
 
-under_misfit : (d : ℕ) (s b : List Bound) (i : ℕ) (ps : List Part) (run : List ℕ) (k : TokenKind) (at : ℕ) → IsGood k → (k ≡ tokens.Open → ⊥) → want_step d (parts s b (Under i ∷ ps)) (seen_kind run k) at ≡ Err (errors.Arity at)
+under_misfit : (d : ℕ) (s b : List Bound) (i : ℕ) (ps : List Part) (run : List ℕ) (k : TokenKind) (at : ℕ) → IsGood k → (k ≡ tokens.Open → ⊥) →
+    want_step d (parts s b (Under i ∷ ps)) (seen_kind run k) at ≡ Err (errors.Arity at)
 unfolding want_step part_step
 under_misfit d s b i ps run tokens.Open at g h = absurd (h refl)
 under_misfit d s b i ps run tokens.Close at g h = refl
@@ -169,7 +199,8 @@ under_misfit d s b i ps run (tokens.Number n) at g h = refl
 under_misfit d s b i ps run tokens.BadNumber at g h = absurd g
 under_misfit d s b i ps run tokens.BadByte at g h = absurd g
 
-under_both_misfit : (d : ℕ) (s b : List Bound) (i j : ℕ) (ps : List Part) (run : List ℕ) (k : TokenKind) (at : ℕ) → IsGood k → (k ≡ tokens.Open → ⊥) → want_step d (parts s b (UnderBoth i j ∷ ps)) (seen_kind run k) at ≡ Err (errors.Arity at)
+under_both_misfit : (d : ℕ) (s b : List Bound) (i j : ℕ) (ps : List Part) (run : List ℕ) (k : TokenKind) (at : ℕ) → IsGood k →
+    (k ≡ tokens.Open → ⊥) → want_step d (parts s b (UnderBoth i j ∷ ps)) (seen_kind run k) at ≡ Err (errors.Arity at)
 unfolding want_step part_step
 under_both_misfit d s b i j ps run tokens.Open at g h = absurd (h refl)
 under_both_misfit d s b i j ps run tokens.Close at g h = refl
@@ -178,7 +209,8 @@ under_both_misfit d s b i j ps run (tokens.Number n) at g h = refl
 under_both_misfit d s b i j ps run tokens.BadNumber at g h = absurd g
 under_both_misfit d s b i j ps run tokens.BadByte at g h = absurd g
 
-term_misfit : (d : ℕ) (s b : List Bound) (p : Part) (ps : List Part) (run : List ℕ) (k : TokenKind) (at : ℕ) → IsOneTerm p → IsGood k → (k ≡ tokens.Open → ⊥) → want_step d (parts s b (p ∷ ps)) (seen_kind run k) at ≡ Err (errors.Arity at)
+term_misfit : (d : ℕ) (s b : List Bound) (p : Part) (ps : List Part) (run : List ℕ) (k : TokenKind) (at : ℕ) → IsOneTerm p → IsGood k →
+    (k ≡ tokens.Open → ⊥) → want_step d (parts s b (p ∷ ps)) (seen_kind run k) at ≡ Err (errors.Arity at)
 term_misfit d s b Term ps run k at o g h = plain_term_misfit d s b ps run k at g h
 term_misfit d s b (Under i) ps run k at o g h = under_misfit d s b i ps run k at g h
 term_misfit d s b (UnderBoth i j) ps run k at o g h = under_both_misfit d s b i j ps run k at g h
@@ -230,7 +262,8 @@ fails_term text at f p t n g i o h =
     fails_part text at f p t (errors.Arity t.start) n i
     (λ d b ps. term_misfit d (bounds text f.scope) b p ps (slice_range text t.start t.end) t.kind t.start o g h)
 
-over_misfit : (d : ℕ) (s b : List Bound) (run : List ℕ) (k : TokenKind) (at : ℕ) → IsGood k → want_step d (parts s b []) (seen_kind run k) at ≡ Err (errors.Arity at)
+over_misfit : (d : ℕ) (s b : List Bound) (run : List ℕ) (k : TokenKind) (at : ℕ) → IsGood k →
+    want_step d (parts s b []) (seen_kind run k) at ≡ Err (errors.Arity at)
 unfolding want_step
 over_misfit d s b run tokens.Open at g = refl
 over_misfit d s b run tokens.Close at g = refl
@@ -248,11 +281,13 @@ fails_over text at f t n g h depth todo o ne =
     t.kind t.start g)
 
 -- a use whose name has no such meaning
-misused : (d : ℕ) (s b : List Bound) (q : Kind) (ps : List Part) (x : List ℕ) (at : ℕ) (e : ParseError) → meaning s q x at ≡ Err e → want_step d (parts s b (Use q ∷ ps)) (called x) at ≡ Err e
+misused : (d : ℕ) (s b : List Bound) (q : Kind) (ps : List Part) (x : List ℕ) (at : ℕ) (e : ParseError) → meaning s q x at ≡ Err e →
+    want_step d (parts s b (Use q ∷ ps)) (called x) at ≡ Err e
 unfolding want_step part_step
 misused d s b q ps x at e h = ap (λ r. used r (λ n. name n) (parts s b ps)) h
 
-misvalued : (d : ℕ) (s b : List Bound) (ps : List Part) (x : List ℕ) (at : ℕ) (e : ParseError) → meaning s kinds.Value x at ≡ Err e → want_step d (parts s b (Value ∷ ps)) (called x) at ≡ Err e
+misvalued : (d : ℕ) (s b : List Bound) (ps : List Part) (x : List ℕ) (at : ℕ) (e : ParseError) → meaning s kinds.Value x at ≡ Err e →
+    want_step d (parts s b (Value ∷ ps)) (called x) at ≡ Err e
 unfolding want_step part_step
 misvalued d s b ps x at e h = ap (λ r. used r (λ n. value (Named n)) (parts s b ps)) h
 
@@ -322,8 +357,12 @@ reads_bind text at f g t q n k i row next scope bound pieces =
     let left : drop g.next (parts_of g.word) ≡ ps = rw (row, next) refl in
     record {
       goes_on = λ todo.
-          let step : reads_at text at (want_of text f ∷ todo) ≡ with_front [] (reads_at text t.end (parts ss (bs ++ record { spelling = x; kind = q } ∷ []) ps ∷ todo)) = at_part text at f (Bind q) i todo ∙ read_step text at t (parts ss bs (Bind q ∷ ps)) todo s n (ap (λ y. want_step (suc (open_of todo)) (parts ss bs (Bind q ∷ ps)) (seen_kind x y) t.start) k) in
-          ap (with_front (front_of f)) (step ∙ with_none _ ∙ ap (λ w. reads_at text t.end (w ∷ todo)) (sym want)) ∙ ap (λ a. with_front a (reads_at text t.end (want_of text g ∷ todo))) (sym front);
+          let step : reads_at text at (want_of text f ∷ todo) ≡ with_front []
+          (reads_at text t.end (parts ss (bs ++ record { spelling = x; kind = q } ∷ []) ps ∷ todo)) = at_part text at f (Bind q) i todo ∙
+          read_step text at t (parts ss bs (Bind q ∷ ps)) todo s n
+          (ap (λ y. want_step (suc (open_of todo)) (parts ss bs (Bind q ∷ ps)) (seen_kind x y) t.start) k) in
+          ap (with_front (front_of f)) (step ∙ with_none _ ∙ ap (λ w. reads_at text t.end (w ∷ todo)) (sym want)) ∙
+          ap (λ a. with_front a (reads_at text t.end (want_of text g ∷ todo))) (sym front);
       sound = λ h. record {
         shape = λ more c. rw (row, pieces) (h.shape more (complete_at f (Bind q) more i (subst (λ y. Completes y more) left c)));
         scope = rw scope h.scope;
@@ -360,8 +399,11 @@ reads_piece text at f g t p piece n i a fits completes =
     let left : drop g.next (parts_of g.word) ≡ ps = rw (row, next) refl in
     record {
       goes_on = λ todo.
-          let step : reads_at text at (want_of text f ∷ todo) ≡ with_front (piece_atoms piece) (reads_at text t.end (parts ss bs ps ∷ todo)) = at_part text at f p i todo ∙ read_step text at t (parts ss bs (p ∷ ps)) todo s n (fits (suc (open_of todo)) bs ps) in
-          ap (with_front (front_of f)) step ∙ with_both (front_of f) (piece_atoms piece) (reads_at text t.end (parts ss bs ps ∷ todo)) ∙ ap (λ w. with_front (front_of f ++ piece_atoms piece) (reads_at text t.end (w ∷ todo))) (sym want) ∙ ap (λ y. with_front y (reads_at text t.end (want_of text g ∷ todo))) (sym front);
+          let step : reads_at text at (want_of text f ∷ todo) ≡ with_front (piece_atoms piece) (reads_at text t.end (parts ss bs ps ∷ todo)) =
+          at_part text at f p i todo ∙ read_step text at t (parts ss bs (p ∷ ps)) todo s n (fits (suc (open_of todo)) bs ps) in
+          ap (with_front (front_of f)) step ∙ with_both (front_of f) (piece_atoms piece) (reads_at text t.end (parts ss bs ps ∷ todo)) ∙
+          ap (λ w. with_front (front_of f ++ piece_atoms piece) (reads_at text t.end (w ∷ todo))) (sym want) ∙
+          ap (λ y. with_front y (reads_at text t.end (want_of text g ∷ todo))) (sym front);
       sound = λ h. record {
         shape = λ more c. rw (row, pieces)
             (subst (Shaped f.word) (sym (sorts-add f.pieces piece more))
@@ -418,7 +460,10 @@ closes_form text at f t p n k i fits completes =
     let bs = bounds text f.bound in
     let ps = drop (f.next + 1) (parts_of f.word) in
     record {
-      goes_on = λ todo. at_part text at f p i todo ∙ read_step text at t (parts ss bs (p ∷ ps)) todo (record { atoms = ended ∷ []; wants = [] }) n (ap (λ y. want_step (suc (open_of todo)) (parts ss bs (p ∷ ps)) (seen_kind (slice_range text t.start t.end) y) t.start) k ∙ fits (suc (open_of todo)) ss bs ps);
+      goes_on = λ todo. at_part text at f p i todo ∙
+          read_step text at t (parts ss bs (p ∷ ps)) todo (record { atoms = ended ∷ []; wants = [] }) n
+          (ap (λ y. want_step (suc (open_of todo)) (parts ss bs (p ∷ ps)) (seen_kind (slice_range text t.start t.end) y) t.start) k ∙
+          fits (suc (open_of todo)) ss bs ps);
       shaped = λ h. subst (Shaped f.word) (sorts_none (sorts f.pieces))
           (h.shape [] (complete_at f p [] i (completes ps)));
     }
@@ -434,7 +479,8 @@ unfolding want_step part_step
 closes_more text at f t n k i = closes_form text at f t More n k i (λ d s b ps. refl) (λ ps. tt)
 
 -- an opening bracket
-term_opens : (d : ℕ) (s b : List Bound) (p : Part) (ps : List Part) (at : ℕ) → IsTermPart p → want_step d (parts s b (p ∷ ps)) opens at ≡ opening d at (a_word (entered s b p) ∷ parts s b (after p ps) ∷ [])
+term_opens : (d : ℕ) (s b : List Bound) (p : Part) (ps : List Part) (at : ℕ) → IsTermPart p →
+    want_step d (parts s b (p ∷ ps)) opens at ≡ opening d at (a_word (entered s b p) ∷ parts s b (after p ps) ∷ [])
 unfolding want_step part_step
 term_opens d s b Term ps at h = refl
 term_opens d s b (Under i) ps at h = refl
@@ -491,7 +537,9 @@ reads_opening text at depth f t p n k i h l todo o =
     let bs = bounds text f.bound in
     let ps = drop (f.next + 1) (parts_of f.word) in
     let ws : List Want = a_word (entered ss bs p) ∷ parts ss bs (after p ps) ∷ [] in
-    at_part text at f p i todo ∙ read_step text at t (parts ss bs (p ∷ ps)) todo (record { atoms = []; wants = ws }) n (opened text at f t p k h (suc (open_of todo)) ∙ opening_low (suc (open_of todo)) t.start ws (omega arith)) ∙ with_none _
+    at_part text at f p i todo ∙
+    read_step text at t (parts ss bs (p ∷ ps)) todo (record { atoms = []; wants = ws }) n (opened text at f t p k h (suc (open_of todo)) ∙
+    opening_low (suc (open_of todo)) t.start ws (omega arith)) ∙ with_none _
 
 pub fails_word : (text : List ℕ) (at depth : ℕ) (f : OpenForm) (t : Token) (p : Part) (e : ParseError) →
     IsNext text at t → t.kind ≡ tokens.Open → NextIs f.word f.next p → IsTermPart p → depth < 100 →
@@ -520,12 +568,20 @@ opens_form text at depth f outer inner t p r rest next n k i h l left row part s
     let inner_front : front_of inner ≡ word r ∷ [] = rw (irow, ipieces) refl in
     record {
       goes_on = λ todo o.
-          let r1 : reads_at text at (want_of text f ∷ todo) ≡ with_front (word r ∷ []) (reads_at text next (parts (entered ss bs p) [] (parts_of r) ∷ parts ss bs (after p ps) ∷ todo)) = reads_opening text at depth f t p n k i h l todo o ∙ found (entered ss bs p) (parts ss bs (after p ps) ∷ todo) in
-          let fronts : front_of outer ++ front_of inner ≡ front_of f ++ (word r ∷ []) = ap (λ a. a ++ front_of inner) outer_front ∙ ap (λ a. front_of f ++ a) inner_front in
-          let wants : reads_at text next (want_of text inner ∷ want_of text outer ∷ todo) ≡ reads_at text next (parts (entered ss bs p) [] (parts_of r) ∷ parts ss bs (after p ps) ∷ todo) = ap (λ w. reads_at text next (w ∷ want_of text outer ∷ todo)) inner_want ∙ ap (λ w. reads_at text next (parts (entered ss bs p) [] (parts_of r) ∷ w ∷ todo)) outer_want in
-          ap (with_front (front_of f)) r1 ∙ with_both (front_of f) (word r ∷ []) _ ∙ ap (with_front (front_of f ++ (word r ∷ []))) (sym wants) ∙ ap (λ a. with_front a (reads_at text next (want_of text inner ∷ want_of text outer ∷ todo))) (sym fronts);
+          let r1 : reads_at text at (want_of text f ∷ todo) ≡ with_front (word r ∷ [])
+          (reads_at text next (parts (entered ss bs p) [] (parts_of r) ∷ parts ss bs (after p ps) ∷ todo)) =
+          reads_opening text at depth f t p n k i h l todo o ∙ found (entered ss bs p) (parts ss bs (after p ps) ∷ todo) in
+          let fronts : front_of outer ++ front_of inner ≡ front_of f ++ (word r ∷ []) = ap (λ a. a ++ front_of inner) outer_front ∙
+          ap (λ a. front_of f ++ a) inner_front in
+          let wants : reads_at text next (want_of text inner ∷ want_of text outer ∷ todo) ≡ reads_at text next
+          (parts (entered ss bs p) [] (parts_of r) ∷ parts ss bs (after p ps) ∷ todo) =
+          ap (λ w. reads_at text next (w ∷ want_of text outer ∷ todo)) inner_want ∙
+          ap (λ w. reads_at text next (parts (entered ss bs p) [] (parts_of r) ∷ w ∷ todo)) outer_want in
+          ap (with_front (front_of f)) r1 ∙ with_both (front_of f) (word r ∷ []) _ ∙ ap (with_front (front_of f ++ (word r ∷ []))) (sym wants) ∙
+          ap (λ a. with_front a (reads_at text next (want_of text inner ∷ want_of text outer ∷ todo))) (sym fronts);
       awaits = λ s. record {
-        shape = λ more c. rw (row, pieces) (s.shape (a_term ∷ more) (complete_at f p (a_term ∷ more) i (term_completes p ps more h (subst (λ y. Completes y more) outer_left c))));
+        shape = λ more c. rw (row, pieces)
+            (s.shape (a_term ∷ more) (complete_at f p (a_term ∷ more) i (term_completes p ps more h (subst (λ y. Completes y more) outer_left c))));
         scope = rw scope s.scope;
         bound = rw bound s.bound;
       };

@@ -1,5 +1,7 @@
 -- The tokens of what the printer writes.
-use Rattle.std.proofs.Common.{◌≡◌, ◌^◌, ◌<◌, ◌≤◌, ◌==◌, ◌&&◌, ◌||◌, ℕ, suc, ℤ, pos, negsuc, neg_ℤ, Bool, true, false, cond, nat_lt, nat_le, List, [], ◌∷◌, ◌++◌, length, get_or, Option, Some, refl, ap, ◌∙◌, arith, rules, zero, decimal}
+use Rattle.std.proofs.Common.{◌≡◌, ◌^◌, ◌<◌, ◌≤◌, ◌==◌, ◌&&◌, ◌||◌, ℕ, suc, ℤ, pos, negsuc, neg_ℤ, Bool, true}
+use Rattle.std.proofs.Common.{false, cond, nat_lt, nat_le, List, [], ◌∷◌, ◌++◌, length, get_or, Option, Some}
+use Rattle.std.proofs.Common.{refl, ap, ◌∙◌, arith, rules, zero, decimal}
 use Rattle.std.specs.Fmt.{signed_decimal}
 use Rattle.std.specs.Str.Parse.{digits_value}
 use Rattle.std.proofs.lemmas.Bool.{and_parts, lt-ltb, leb-true, le-leb, lt-leb, ne_eqb}
@@ -51,10 +53,17 @@ lexemes-run at (x ∷ xs) rest h e =
     (more.0, lexemes-goes at x (xs ++ rest) here ∙ more.1)
 
 -- an identifier: its first byte begins one
-pub identifier : (at c : ℕ) (xs rest : List ℕ) → ((bs : List ℕ) → lexemes false at (c ∷ bs) ≡ record { lexeme = called (c ∷ run_of bs); place = at } ∷ lexemes true (suc at) bs) → all_run xs ≡ true → Ends rest → (next : ℕ) × (lexemes false at (c ∷ (xs ++ rest)) ≡ record { lexeme = called (c ∷ xs); place = at } ∷ lexemes false next rest)
+pub identifier : (at c : ℕ) (xs rest : List ℕ) →
+    ((bs : List ℕ) → lexemes false at (c ∷ bs) ≡ record { lexeme = called (c ∷ run_of bs); place = at } ∷ lexemes true (suc at) bs) →
+    all_run xs ≡ true → Ends rest → (next : ℕ) ×
+    (lexemes false at (c ∷ (xs ++ rest)) ≡ record { lexeme = called (c ∷ xs); place = at } ∷ lexemes false next rest)
 identifier at c xs rest head h e =
-    let more = lexemes-run (suc at) xs rest h e in
-    (more.0, head (xs ++ rest) ∙ ap (λ ys. record { lexeme = called (c ∷ ys); place = at } ∷ lexemes true (suc at) (xs ++ rest)) (run_of-append xs rest h e) ∙ ap (λ ts. record { lexeme = called (c ∷ xs); place = at } ∷ ts) more.1)
+    let more = lexemes-run (suc at) xs rest h e in (
+      more.0,
+      head (xs ++ rest) ∙
+          ap (λ ys. record { lexeme = called (c ∷ ys); place = at } ∷ lexemes true (suc at) (xs ++ rest)) (run_of-append xs rest h e) ∙
+          ap (λ ts. record { lexeme = called (c ∷ xs); place = at } ∷ ts) more.1,
+    )
 
 -- digits
 own : IsNumeralModel (λ ds. all_digits ds ≡ true) (digits_value 10)
@@ -76,7 +85,8 @@ all_run-digits (d ∷ ds) h =
     let here : is_run d ≡ true = run_digit d ((and_parts (is_digit d) (all_digits ds) h).0) in
     rw here (all_run-digits ds ((and_parts (is_digit d) (all_digits ds) h).1))
 
-letter_begins : (kind : Kind) (at : ℕ) (bs : List ℕ) → lexemes false at (letter_of kind ∷ bs) ≡ record { lexeme = called (letter_of kind ∷ run_of bs); place = at } ∷ lexemes true (suc at) bs
+letter_begins : (kind : Kind) (at : ℕ) (bs : List ℕ) →
+    lexemes false at (letter_of kind ∷ bs) ≡ record { lexeme = called (letter_of kind ∷ run_of bs); place = at } ∷ lexemes true (suc at) bs
 unfolding lexemes lexeme_of
 letter_begins kinds.Value at bs = refl
 letter_begins kinds.Poll at bs = refl
@@ -84,11 +94,14 @@ letter_begins kinds.Fiber at bs = refl
 letter_begins kinds.Ref at bs = refl
 letter_begins kinds.Deferred at bs = refl
 
-pub name_token : (kind : Kind) (slot at : ℕ) (rest : List ℕ) → slot < 2 ^ 64 → Ends rest → (next : ℕ) × (lexemes false at (name_spelling kind slot ++ rest) ≡ record { lexeme = called (name_spelling kind slot); place = at } ∷ lexemes false next rest)
-name_token kind slot at rest l e = identifier at (letter_of kind) (decimal slot) rest (letter_begins kind at) (all_run-digits (decimal slot) (decimal-digits slot l)) e
+pub name_token : (kind : Kind) (slot at : ℕ) (rest : List ℕ) → slot < 2 ^ 64 → Ends rest → (next : ℕ) ×
+    (lexemes false at (name_spelling kind slot ++ rest) ≡ record { lexeme = called (name_spelling kind slot); place = at } ∷ lexemes false next rest)
+name_token kind slot at rest l e =
+    identifier at (letter_of kind) (decimal slot) rest (letter_begins kind at) (all_run-digits (decimal slot) (decimal-digits slot l)) e
 
 -- a digit begins a number
-digit_begins : (d at : ℕ) (bs : List ℕ) → 48 ≤ d → d ≤ 57 → lexemes false at (d ∷ bs) ≡ record { lexeme = numbered (number_of (d ∷ run_of bs)); place = at } ∷ lexemes true (suc at) bs
+digit_begins : (d at : ℕ) (bs : List ℕ) → 48 ≤ d → d ≤ 57 →
+    lexemes false at (d ∷ bs) ≡ record { lexeme = numbered (number_of (d ∷ run_of bs)); place = at } ∷ lexemes true (suc at) bs
 unfolding lexemes lexeme_of
 digit_begins d at bs low high =
     let a : (d == 32) ≡ false = ne_eqb d 32 (λ e. omega arith) in
@@ -102,11 +115,13 @@ digit_begins d at bs low high =
     let k : nat_le d 57 ≡ true = le-leb d 57 high in
     rw (a, b, c, f, g, h, i, j, k) refl
 
-minus_begins : (at : ℕ) (bs : List ℕ) → lexemes false at (45 ∷ bs) ≡ record { lexeme = numbered (number_of (45 ∷ run_of bs)); place = at } ∷ lexemes true (suc at) bs
+minus_begins : (at : ℕ) (bs : List ℕ) →
+    lexemes false at (45 ∷ bs) ≡ record { lexeme = numbered (number_of (45 ∷ run_of bs)); place = at } ∷ lexemes true (suc at) bs
 unfolding lexemes lexeme_of
 minus_begins at bs = refl
 
-digits_token : (ds : List ℕ) (z : ℤ) (at : ℕ) (rest : List ℕ) → all_digits ds ≡ true → 0 < length ds → number_of ds ≡ Some z → Ends rest → (next : ℕ) × (lexemes false at (ds ++ rest) ≡ record { lexeme = number z; place = at } ∷ lexemes false next rest)
+digits_token : (ds : List ℕ) (z : ℤ) (at : ℕ) (rest : List ℕ) → all_digits ds ≡ true → 0 < length ds → number_of ds ≡ Some z → Ends rest →
+    (next : ℕ) × (lexemes false at (ds ++ rest) ≡ record { lexeme = number z; place = at } ∷ lexemes false next rest)
 unfolding numbered
 digits_token [] z at rest h l n e = absurd (omega arith)
 digits_token (d ∷ ds) z at rest h l n e =
@@ -142,7 +157,8 @@ number_of-plain (b ∷ bs) n h v l s =
     let t : nat_lt (digits_value 10 (b ∷ bs)) (2 ^ 62) ≡ true = lt-ltb (digits_value 10 (b ∷ bs)) (2 ^ 62) (omega (arith, v)) in
     number_chosen (b == 48) (is_plain (b ∷ bs)) (nat_lt (digits_value 10 (b ∷ bs)) (2 ^ 62)) _ _ _ _ a p t ∙ ap (λ k. Some (pos k)) v
 
-number_of-minus : (ds : List ℕ) (n : ℕ) → all_digits ds ≡ true → digits_value 10 ds ≡ suc n → 48 < get_or ds 0 0 → n < 2 ^ 62 → number_of (45 ∷ ds) ≡ Some (negsuc n)
+number_of-minus : (ds : List ℕ) (n : ℕ) → all_digits ds ≡ true → digits_value 10 ds ≡ suc n → 48 < get_or ds 0 0 → n < 2 ^ 62 →
+    number_of (45 ∷ ds) ≡ Some (negsuc n)
 unfolding number_of
 number_of-minus [] n h v l s = absurd (omega arith)
 number_of-minus (b ∷ bs) n h v l s =
@@ -154,9 +170,11 @@ number_of-decimal : (n : ℕ) → n < 2 ^ 62 → number_of (decimal n) ≡ Some 
 unfolding number_of
 number_of-decimal zero l = ap number_of (decimal_digit 0 (omega arith))
 number_of-decimal (suc n) l =
-    number_of-plain (decimal (suc n)) (suc n) (decimal-digits (suc n) (omega arith)) (decimal_is_IsNumeral (suc n) (omega arith)).1 (first_decimal (suc n) (omega arith) (omega arith)) l
+    number_of-plain (decimal (suc n)) (suc n) (decimal-digits (suc n) (omega arith)) (decimal_is_IsNumeral (suc n) (omega arith)).1
+    (first_decimal (suc n) (omega arith) (omega arith)) l
 
-pub number_token : (z : ℤ) (at : ℕ) (rest : List ℕ) → IsValue z → Ends rest → (next : ℕ) × (lexemes false at (signed_decimal z ++ rest) ≡ record { lexeme = number z; place = at } ∷ lexemes false next rest)
+pub number_token : (z : ℤ) (at : ℕ) (rest : List ℕ) → IsValue z → Ends rest → (next : ℕ) ×
+    (lexemes false at (signed_decimal z ++ rest) ≡ record { lexeme = number z; place = at } ∷ lexemes false next rest)
 unfolding numbered
 number_token (pos n) at rest f e =
     let l : n < 2 ^ 62 = f in
@@ -168,13 +186,16 @@ number_token (negsuc n) at rest f e =
     let more = lexemes-run (suc at) (decimal (suc n)) rest run e in (
       more.0,
       minus_begins at (decimal (suc n) ++ rest)
-          ∙ ap (λ ys. record { lexeme = numbered (number_of (45 ∷ ys)); place = at } ∷ lexemes true (suc at) (decimal (suc n) ++ rest)) (run_of-append (decimal (suc n)) rest run e)
-          ∙ ap (λ o. record { lexeme = numbered o; place = at } ∷ lexemes true (suc at) (decimal (suc n) ++ rest)) (number_of-minus (decimal (suc n)) n ds (decimal_is_IsNumeral (suc n) (omega arith)).1 (first_decimal (suc n) (omega arith) (omega arith)) l)
+          ∙ ap (λ ys. record { lexeme = numbered (number_of (45 ∷ ys)); place = at } ∷ lexemes true (suc at) (decimal (suc n) ++ rest))
+          (run_of-append (decimal (suc n)) rest run e)
+          ∙ ap (λ o. record { lexeme = numbered o; place = at } ∷ lexemes true (suc at) (decimal (suc n) ++ rest))
+          (number_of-minus (decimal (suc n)) n ds (decimal_is_IsNumeral (suc n) (omega arith)).1 (first_decimal (suc n) (omega arith) (omega arith)) l)
           ∙ ap (λ ts. record { lexeme = number (negsuc n); place = at } ∷ ts) more.1,
     )
 
 -- the word behind an opening bracket
-pub word_token : (w : Word) (at : ℕ) (rest : List ℕ) → Ends rest → (next : ℕ) × (lexemes false at (word_spelling w ++ rest) ≡ record { lexeme = called (word_spelling w); place = at } ∷ lexemes false next rest)
+pub word_token : (w : Word) (at : ℕ) (rest : List ℕ) → Ends rest → (next : ℕ) ×
+    (lexemes false at (word_spelling w ++ rest) ≡ record { lexeme = called (word_spelling w); place = at } ∷ lexemes false next rest)
 unfolding word_spelling lexemes lexeme_of
 word_token words.Pure at rest e = identifier at 112 (117 ∷ 114 ∷ 101 ∷ []) rest (λ bs. refl) refl e
 word_token words.Raise at rest e = identifier at 114 (97 ∷ 105 ∷ 115 ∷ 101 ∷ []) rest (λ bs. refl) refl e

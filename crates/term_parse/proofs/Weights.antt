@@ -36,5 +36,6 @@ length-pieces_atoms (Some (held.Term t) ∷ ps) end = omega (arith, length-appen
 length-pieces_atoms (None ∷ ps) end = omega arith
 
 -- a form weighs more than its pieces together
-pub weight_form : (t : Term) (w : Word) (ps : List (Option Piece)) (ts : List Term) → atoms_of t ≡ word w ∷ pieces_atoms ps (terms_atoms ts (ended ∷ [])) → weight t ≡ 2 + (pieces_weight ps + terms_weight ts)
+pub weight_form : (t : Term) (w : Word) (ps : List (Option Piece)) (ts : List Term) →
+    atoms_of t ≡ word w ∷ pieces_atoms ps (terms_atoms ts (ended ∷ [])) → weight t ≡ 2 + (pieces_weight ps + terms_weight ts)
 weight_form t w ps ts e = omega (arith, ap length e, length-pieces_atoms ps (terms_atoms ts (ended ∷ [])), length-terms_atoms ts (ended ∷ []))

@@ -77,7 +77,8 @@ word_of-spelled words.BracketFull = refl
 word_of-spelled words.Race = refl
 word_of-spelled words.Both = refl
 
-chosen_passes : (p : Word → Bool) (v w : Word) (others : Option Word) (b : Bool) → p v ≡ b → (others ≡ Some w → p w ≡ true) → (if b then Some v else others) ≡ Some w → p w ≡ true
+chosen_passes : (p : Word → Bool) (v w : Word) (others : Option Word) (b : Bool) → p v ≡ b → (others ≡ Some w → p w ≡ true) →
+    (if b then Some v else others) ≡ Some w → p w ≡ true
 chosen_passes p v w others true q later e = let same : v ≡ w = cc in subst (λ u. p u ≡ true) same q
 chosen_passes p v w others false q later e = later e
 

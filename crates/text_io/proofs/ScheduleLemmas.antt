@@ -1,5 +1,8 @@
 -- Numbers, items and texts of items.
-use Rattle.std.proofs.Common.{◌≡◌, ◌≢◌, ◌+◌, ◌<◌, ◌≤◌, ◌^◌, ℕ, true, List, [], ◌∷◌, ◌++◌, length, get_or, Result, Ok, Err, IfOk, Option, Some, None, MatchOption, arith, refl, sym, ap, ◌∙◌, inl, inr, append_assoc, replicate, ◌/◌, ◌%◌, ◌-◌, length-append, Bor, suc, append-nil}
+use Rattle.std.proofs.Common.{◌≡◌, ◌≢◌, ◌+◌, ◌<◌, ◌≤◌, ◌^◌, ℕ, true, List, [], ◌∷◌, ◌++◌, length, get_or}
+use Rattle.std.proofs.Common.{Result, Ok, Err, IfOk, Option, Some, None, MatchOption, arith, refl, sym, ap, ◌∙◌}
+use Rattle.std.proofs.Common.{inl, inr, append_assoc, replicate, ◌/◌, ◌%◌, ◌-◌, length-append, Bor, suc}
+use Rattle.std.proofs.Common.{append-nil}
 use Rattle.std.specs.Fmt.{decimal}
 use Rattle.std.specs.List.{AllByRecursion}
 use Rattle.std.specs.Str.Parse.{AllDigits, digits_value, ParsesUnsigned}
@@ -9,7 +12,9 @@ use Rattle.std.proofs.lemmas.Bool.{cases_lt}
 use Rattle.std.proofs.lemmas.List.{length-replicate}
 use Rattle.std.proofs.lemmas.Grind.{common_steps}
 use Rattle.text_io.specs.Digits.{is_plain}
-use Rattle.text_io.specs.Schedule.{Item, once, repeated, IsItem, fiber_of, times_of, spelling, text_of, entries_of, front_of, BeginsWith, IsFirstBad, HasNo, IsItemOf, SpellsEntries, GivesEntries, RefusesAt}
+use Rattle.text_io.specs.Schedule.{Item, once, repeated, IsItem, fiber_of, times_of, spelling, text_of}
+use Rattle.text_io.specs.Schedule.{entries_of, front_of, BeginsWith, IsFirstBad, HasNo, IsItemOf, SpellsEntries}
+use Rattle.text_io.specs.Schedule.{GivesEntries, RefusesAt}
 use Rattle.text_io.specs.Reading.{HasRead}
 use Rattle.text_io.specs.declared.schedule.ScheduleError.{ScheduleError}
 use Rattle.text_io.specs.declared.schedule.ScheduleError.TheVariants.{NoMemory, BadSchedule}
@@ -97,14 +102,17 @@ no_cut c (p ∷ a) (q ∷ b) y h e = let rest : a ≡ b ++ c ∷ y = cc in no_cu
 
 no_space : (i : Item) → IsItem i → HasNo 32 (spelling i)
 no_space (once f) g = no_digit 32 f (omega arith) (omega arith)
-no_space (repeated f k) g = no_append 32 (decimal f) (42 ∷ decimal k) (no_digit 32 f (omega arith) (omega (arith, g.0))) ((λ e. omega arith), no_digit 32 k (omega arith) (omega (arith, g.2)))
+no_space (repeated f k) g =
+    no_append 32 (decimal f) (42 ∷ decimal k) (no_digit 32 f (omega arith) (omega (arith, g.0)))
+    ((λ e. omega arith), no_digit 32 k (omega arith) (omega (arith, g.2)))
 
 spelling_same : (i j : Item) → IsItem i → IsItem j → spelling i ≡ spelling j → i ≡ j
 spelling_same (once f) (once g) p q e = ap once (decimal_injective f g (omega arith) (omega arith) e)
 spelling_same (once f) (repeated g l) p q e = absurd (no_cut 42 (decimal f) (decimal g) (decimal l) (no_digit 42 f (omega arith) (omega arith)) e)
 spelling_same (repeated f k) (once g) p q e = absurd (no_cut 42 (decimal g) (decimal f) (decimal k) (no_digit 42 g (omega arith) (omega arith)) (sym e))
 spelling_same (repeated f k) (repeated g l) p q e =
-    let both = cut_same 42 (decimal f) (decimal g) (decimal k) (decimal l) (no_digit 42 f (omega arith) (omega (arith, p.0))) (no_digit 42 g (omega arith) (omega (arith, q.0))) e in
+    let both = cut_same 42 (decimal f) (decimal g) (decimal k) (decimal l) (no_digit 42 f (omega arith) (omega (arith, p.0)))
+    (no_digit 42 g (omega arith) (omega (arith, q.0))) e in
     let fs : f ≡ g = decimal_injective f g (omega (arith, p.0)) (omega (arith, q.0)) both.0 in
     let ks : k ≡ l = decimal_injective k l (omega (arith, p.2)) (omega (arith, q.2)) both.1 in
     cc
@@ -114,7 +122,8 @@ pub unstarred : (text : List ℕ) → HasNo 42 text → ((f : ℕ) → f ≤ 999
 unstarred text alone bad (once f) g e = bad f (omega arith) e
 unstarred text alone bad (repeated f k) g e = no_cut 42 text (decimal f) (decimal k) alone e
 
-pub starred : (text a b : List ℕ) → text ≡ a ++ 42 ∷ b → HasNo 42 a → ((f k : ℕ) → f ≤ 999 → 0 < k → k ≤ 100000 → a ≡ decimal f → b ≡ decimal k → ⊥) → (i : Item) → IsItem i → text ≡ spelling i → ⊥
+pub starred : (text a b : List ℕ) → text ≡ a ++ 42 ∷ b → HasNo 42 a →
+    ((f k : ℕ) → f ≤ 999 → 0 < k → k ≤ 100000 → a ≡ decimal f → b ≡ decimal k → ⊥) → (i : Item) → IsItem i → text ≡ spelling i → ⊥
 starred text a b cut alone bad (once f) g e = no_cut 42 (decimal f) a b (no_digit 42 f (omega arith) (omega arith)) (sym e ∙ cut)
 starred text a b cut alone bad (repeated f k) g e =
     let both = cut_same 42 a (decimal f) b (decimal k) alone (no_digit 42 f (omega arith) (omega (arith, g.0))) (sym cut ∙ e) in
@@ -132,7 +141,8 @@ front_more (j ∷ items) i = rw (front_more items i) (sym (append_assoc (spellin
 
 pub entries_more : (items : List Item) (i : Item) → entries_of (items ++ i ∷ []) ≡ entries_of items ++ replicate (times_of i) (fiber_of i)
 entries_more [] i = append-nil (replicate (times_of i) (fiber_of i))
-entries_more (j ∷ items) i = rw (entries_more items i) (sym (append_assoc (replicate (times_of j) (fiber_of j)) (entries_of items) (replicate (times_of i) (fiber_of i))))
+entries_more (j ∷ items) i =
+    rw (entries_more items i) (sym (append_assoc (replicate (times_of j) (fiber_of j)) (entries_of items) (replicate (times_of i) (fiber_of i))))
 
 pub text_more : (items : List Item) (i : Item) → text_of (items ++ i ∷ []) ≡ front_of items ++ spelling i
 text_more [] i = refl
@@ -152,21 +162,30 @@ none_longer [] ys e l = omega arith
 none_longer (x ∷ xs) ys e l = cc
 
 -- a text of good items has no first bad one
-not_bad : (n : ℕ) (i : Item) (items before : List Item) (rest : List ℕ) → AllByRecursion IsItem (i ∷ items) → AllByRecursion IsItem before → text_of (i ∷ items) ≡ front_of before ++ rest → n + length (entries_of (i ∷ items)) ≤ 1000000 → ((j : Item) → IsItem j → BeginsWith rest j → n + (length (entries_of before) + times_of j) ≤ 1000000 → ⊥) → ⊥
-not_bad n i [] [] rest g h e few bad = bad i g.0 (inl (sym e)) (omega (arith, length-append (replicate (times_of i) (fiber_of i)) [], length-replicate (times_of i) (fiber_of i)))
-not_bad n i (k ∷ items) [] rest g h e few bad = bad i g.0 (inr (text_of (k ∷ items), sym e)) (omega (arith, length-append (replicate (times_of i) (fiber_of i)) (entries_of (k ∷ items)), length-replicate (times_of i) (fiber_of i)))
-not_bad n i [] (j ∷ before) rest g h e few bad = no_cut 32 (spelling i) (spelling j) (front_of before ++ rest) (no_space i g.0) (e ∙ append_assoc (spelling j) (32 ∷ front_of before) rest)
+not_bad : (n : ℕ) (i : Item) (items before : List Item) (rest : List ℕ) → AllByRecursion IsItem (i ∷ items) → AllByRecursion IsItem before →
+    text_of (i ∷ items) ≡ front_of before ++ rest → n + length (entries_of (i ∷ items)) ≤ 1000000 →
+    ((j : Item) → IsItem j → BeginsWith rest j → n + (length (entries_of before) + times_of j) ≤ 1000000 → ⊥) → ⊥
+not_bad n i [] [] rest g h e few bad =
+    bad i g.0 (inl (sym e)) (omega (arith, length-append (replicate (times_of i) (fiber_of i)) [], length-replicate (times_of i) (fiber_of i)))
+not_bad n i (k ∷ items) [] rest g h e few bad =
+    bad i g.0 (inr (text_of (k ∷ items), sym e))
+    (omega (arith, length-append (replicate (times_of i) (fiber_of i)) (entries_of (k ∷ items)), length-replicate (times_of i) (fiber_of i)))
+not_bad n i [] (j ∷ before) rest g h e few bad =
+    no_cut 32 (spelling i) (spelling j) (front_of before ++ rest) (no_space i g.0) (e ∙ append_assoc (spelling j) (32 ∷ front_of before) rest)
 not_bad n i (k ∷ items) (j ∷ before) rest g h e few bad =
-    let both = cut_same 32 (spelling i) (spelling j) (text_of (k ∷ items)) (front_of before ++ rest) (no_space i g.0) (no_space j h.0) (e ∙ append_assoc (spelling j) (32 ∷ front_of before) rest) in
+    let both = cut_same 32 (spelling i) (spelling j) (text_of (k ∷ items)) (front_of before ++ rest) (no_space i g.0) (no_space j h.0)
+    (e ∙ append_assoc (spelling j) (32 ∷ front_of before) rest) in
     let same : i ≡ j = spelling_same i j g.0 h.0 both.0 in
     let times : times_of i ≡ times_of j = ap times_of same in
     not_bad (n + times_of i) k items before rest g.1 h.1 both.1
     (omega (arith, length-append (replicate (times_of i) (fiber_of i)) (entries_of (k ∷ items)), length-replicate (times_of i) (fiber_of i)))
     (λ m p q l. bad m p q (omega (arith, length-append (replicate (times_of j) (fiber_of j)) (entries_of before), length-replicate (times_of j) (fiber_of j))))
 
-pub no_first_bad : (items : List Item) (text : List ℕ) (place : ℕ) → AllByRecursion IsItem items → text ≡ text_of items → length (entries_of items) ≤ 1000000 → IsFirstBad text place → ⊥
+pub no_first_bad : (items : List Item) (text : List ℕ) (place : ℕ) → AllByRecursion IsItem items → text ≡ text_of items →
+    length (entries_of items) ≤ 1000000 → IsFirstBad text place → ⊥
 no_first_bad [] text place g e few b = let none : length text ≡ 0 = ap length e in omega (arith, b.some)
-no_first_bad (i ∷ items) text place g e few b = not_bad 0 i items b.items b.rest g b.good (sym e ∙ b.text_is) (omega (arith, few)) (λ j p q l. b.bad j p q (omega (arith, l)))
+no_first_bad (i ∷ items) text place g e few b =
+    not_bad 0 i items b.items b.rest g b.good (sym e ∙ b.text_is) (omega (arith, few)) (λ j p q l. b.bad j p q (omega (arith, l)))
 
 -- a text has one reading
 pub same_items : (xs ys : List Item) → AllByRecursion IsItem xs → AllByRecursion IsItem ys → text_of xs ≡ text_of ys → xs ≡ ys
@@ -187,26 +206,31 @@ same_items (i ∷ k ∷ xs) (j ∷ l ∷ ys) g h e =
 pub read_none : (text : List ℕ) → 0 < length text → HasRead text text []
 read_none text l = record { items = []; good = tt; text_is = refl; entries_are = refl; few = omega arith; some = l }
 
-pub read_more : (text rest first behind entries more : List ℕ) (fiber times : ℕ) → HasRead text rest entries → rest ≡ first ++ 32 ∷ behind → IsItemOf first fiber times → more ≡ entries ++ replicate times fiber → length entries + times ≤ 1000000 → HasRead text behind more
+pub read_more : (text rest first behind entries more : List ℕ) (fiber times : ℕ) → HasRead text rest entries → rest ≡ first ++ 32 ∷ behind →
+    IsItemOf first fiber times → more ≡ entries ++ replicate times fiber → length entries + times ≤ 1000000 → HasRead text behind more
 read_more text rest first behind entries more fiber times h cut i e few =
-    let shape : text ≡ front_of h.items ++ (spelling i.item ++ 32 ∷ behind) = h.text_is ∙ ap (λ t. front_of h.items ++ t) (cut ∙ ap (λ t. t ++ 32 ∷ behind) i.text_is) in
+    let shape : text ≡ front_of h.items ++ (spelling i.item ++ 32 ∷ behind) = h.text_is ∙
+    ap (λ t. front_of h.items ++ t) (cut ∙ ap (λ t. t ++ 32 ∷ behind) i.text_is) in
     record {
       items = h.items ++ i.item ∷ [];
       good = good_more h.items i.item h.good i.good;
-      text_is = rw (front_more h.items i.item) (shape ∙ rw (append_assoc (front_of h.items) (spelling i.item ++ 32 ∷ []) behind, append_assoc (spelling i.item) (32 ∷ []) behind) refl);
+      text_is = rw (front_more h.items i.item)
+          (shape ∙ rw (append_assoc (front_of h.items) (spelling i.item ++ 32 ∷ []) behind, append_assoc (spelling i.item) (32 ∷ []) behind) refl);
       entries_are = rw (entries_more h.items i.item, ← i.times_is, ← i.fiber_is, ← h.entries_are) e;
       few = rw e (omega (arith, length-append entries (replicate times fiber), length-replicate times fiber));
       some = h.some;
     }
 
 -- an item of one digit
-pub read_short : (text rest behind entries more : List ℕ) (fiber : ℕ) → HasRead text rest entries → fiber < 10 → rest ≡ (48 + fiber) ∷ 32 ∷ behind → more ≡ entries ++ replicate 1 fiber → length entries < 1000000 → HasRead text behind more
+pub read_short : (text rest behind entries more : List ℕ) (fiber : ℕ) → HasRead text rest entries → fiber < 10 → rest ≡ (48 + fiber) ∷ 32 ∷ behind →
+    more ≡ entries ++ replicate 1 fiber → length entries < 1000000 → HasRead text behind more
 read_short text rest behind entries more fiber h low cut e few =
     let short : IsItemOf ((48 + fiber) ∷ []) fiber 1 =
     record { item = once fiber; good = omega arith; text_is = sym (decimal_digit fiber low); fiber_is = refl; times_is = refl } in
     read_more text rest ((48 + fiber) ∷ []) behind entries more fiber 1 h cut short e (omega arith)
 
-pub read_all : (text rest entries more : List ℕ) (fiber times : ℕ) → HasRead text rest entries → IsItemOf rest fiber times → more ≡ entries ++ replicate times fiber → length entries + times ≤ 1000000 → SpellsEntries text more
+pub read_all : (text rest entries more : List ℕ) (fiber times : ℕ) → HasRead text rest entries → IsItemOf rest fiber times → more ≡ entries ++
+    replicate times fiber → length entries + times ≤ 1000000 → SpellsEntries text more
 read_all text rest entries more fiber times h i e few =
     record {
       items = h.items ++ i.item ∷ [];
@@ -217,13 +241,16 @@ read_all text rest entries more fiber times h i e few =
     }
 
 -- the first item of a text is the only one that it begins with
-begins_first : (rest first : List ℕ) (behind : Option (Bor (List ℕ))) (i : Item) → HasNo 32 first → MatchOption behind (rest ≡ first) (λ b. rest ≡ first ++ 32 ∷ b.now) → IsItem i → BeginsWith rest i → first ≡ spelling i
+begins_first : (rest first : List ℕ) (behind : Option (Bor (List ℕ))) (i : Item) → HasNo 32 first →
+    MatchOption behind (rest ≡ first) (λ b. rest ≡ first ++ 32 ∷ b.now) → IsItem i → BeginsWith rest i → first ≡ spelling i
 begins_first rest first None i alone cut g (inl e) = sym cut ∙ e
 begins_first rest first None i alone cut g (inr w) = absurd (no_cut 32 first (spelling i) w.0 alone (sym cut ∙ w.1))
 begins_first rest first (Some b) i alone cut g (inl e) = absurd (no_cut 32 (spelling i) first b.now (no_space i g) (sym e ∙ cut))
 begins_first rest first (Some b) i alone cut g (inr w) = (cut_same 32 first (spelling i) b.now w.0 alone (no_space i g) (sym cut ∙ w.1)).0
 
-pub read_bad : (text rest first entries : List ℕ) (behind : Option (Bor (List ℕ))) → HasRead text rest entries → HasNo 32 first → MatchOption behind (rest ≡ first) (λ b. rest ≡ first ++ 32 ∷ b.now) → ((i : Item) → IsItem i → first ≡ spelling i → length entries + times_of i ≤ 1000000 → ⊥) → IsFirstBad text (length text - length rest)
+pub read_bad : (text rest first entries : List ℕ) (behind : Option (Bor (List ℕ))) → HasRead text rest entries → HasNo 32 first →
+    MatchOption behind (rest ≡ first) (λ b. rest ≡ first ++ 32 ∷ b.now) →
+    ((i : Item) → IsItem i → first ≡ spelling i → length entries + times_of i ≤ 1000000 → ⊥) → IsFirstBad text (length text - length rest)
 read_bad text rest first entries behind h alone cut bad = record {
   items = h.items;
   rest = rest;
@@ -236,14 +263,16 @@ read_bad text rest first entries behind h alone cut bad = record {
 }
 
 -- too many entries
-pub too_many : (first entries : List ℕ) (fiber times : ℕ) → IsItemOf first fiber times → 1000000 < length entries + times → (i : Item) → IsItem i → first ≡ spelling i → length entries + times_of i ≤ 1000000 → ⊥
+pub too_many : (first entries : List ℕ) (fiber times : ℕ) → IsItemOf first fiber times → 1000000 < length entries + times → (i : Item) → IsItem i →
+    first ≡ spelling i → length entries + times_of i ≤ 1000000 → ⊥
 too_many first entries fiber times f many i g e l =
     let same : f.item ≡ i = spelling_same f.item i f.good g (sym f.text_is ∙ e) in
     let t : times ≡ times_of i = f.times_is ∙ ap times_of same in
     omega arith
 
 -- A reader that tells the first bad item accepts each text of items.
-pub accepts : {A : Type 0} (text : List ℕ) (r : Result (Vec ℕ A) ScheduleError) → IfOk r (λ v. SpellsEntries text v.items) → ((place : ℕ) → r ≡ Err (BadSchedule place) → IsFirstBad text place) → (entries : List ℕ) → SpellsEntries text entries → GivesEntries entries r
+pub accepts : {A : Type 0} (text : List ℕ) (r : Result (Vec ℕ A) ScheduleError) → IfOk r (λ v. SpellsEntries text v.items) →
+    ((place : ℕ) → r ≡ Err (BadSchedule place) → IsFirstBad text place) → (entries : List ℕ) → SpellsEntries text entries → GivesEntries entries r
 accepts text (Ok v) found place entries s =
     found.entries_are ∙ ap entries_of (same_items found.items s.items found.good s.good (sym found.text_is ∙ s.text_is)) ∙ sym s.entries_are
 accepts text (Err NoMemory) found place entries s = tt
@@ -257,14 +286,20 @@ empty_spells text entries l s = s.entries_are ∙ ap entries_of (empty_items s.i
   empty_items (i ∷ items) g e = absurd (omega (arith, text_some i items g.0))
 
 -- a text has one first bad item
-first_bad_same : (n : ℕ) (xs ys : List Item) (r s : List ℕ) → AllByRecursion IsItem xs → AllByRecursion IsItem ys → front_of xs ++ r ≡ front_of ys ++ s → n + length (entries_of xs) ≤ 1000000 → n + length (entries_of ys) ≤ 1000000 → ((i : Item) → IsItem i → BeginsWith r i → n + (length (entries_of xs) + times_of i) ≤ 1000000 → ⊥) → ((i : Item) → IsItem i → BeginsWith s i → n + (length (entries_of ys) + times_of i) ≤ 1000000 → ⊥) → xs ≡ ys
+first_bad_same : (n : ℕ) (xs ys : List Item) (r s : List ℕ) → AllByRecursion IsItem xs → AllByRecursion IsItem ys → front_of xs ++ r ≡ front_of ys ++
+    s → n + length (entries_of xs) ≤ 1000000 → n + length (entries_of ys) ≤ 1000000 →
+    ((i : Item) → IsItem i → BeginsWith r i → n + (length (entries_of xs) + times_of i) ≤ 1000000 → ⊥) →
+    ((i : Item) → IsItem i → BeginsWith s i → n + (length (entries_of ys) + times_of i) ≤ 1000000 → ⊥) → xs ≡ ys
 first_bad_same n [] [] r s g h e few also bad worse = refl
 first_bad_same n [] (y ∷ ys) r s g h e few also bad worse =
-    absurd (bad y h.0 (inr (front_of ys ++ s, e ∙ append_assoc (spelling y) (32 ∷ front_of ys) s)) (omega (arith, length-append (replicate (times_of y) (fiber_of y)) (entries_of ys), length-replicate (times_of y) (fiber_of y))))
+    absurd (bad y h.0 (inr (front_of ys ++ s, e ∙ append_assoc (spelling y) (32 ∷ front_of ys) s))
+    (omega (arith, length-append (replicate (times_of y) (fiber_of y)) (entries_of ys), length-replicate (times_of y) (fiber_of y))))
 first_bad_same n (x ∷ xs) [] r s g h e few also bad worse =
-    absurd (worse x g.0 (inr (front_of xs ++ r, sym e ∙ append_assoc (spelling x) (32 ∷ front_of xs) r)) (omega (arith, length-append (replicate (times_of x) (fiber_of x)) (entries_of xs), length-replicate (times_of x) (fiber_of x))))
+    absurd (worse x g.0 (inr (front_of xs ++ r, sym e ∙ append_assoc (spelling x) (32 ∷ front_of xs) r))
+    (omega (arith, length-append (replicate (times_of x) (fiber_of x)) (entries_of xs), length-replicate (times_of x) (fiber_of x))))
 first_bad_same n (x ∷ xs) (y ∷ ys) r s g h e few also bad worse =
-    let both = cut_same 32 (spelling x) (spelling y) (front_of xs ++ r) (front_of ys ++ s) (no_space x g.0) (no_space y h.0) (sym (append_assoc (spelling x) (32 ∷ front_of xs) r) ∙ e ∙ append_assoc (spelling y) (32 ∷ front_of ys) s) in
+    let both = cut_same 32 (spelling x) (spelling y) (front_of xs ++ r) (front_of ys ++ s) (no_space x g.0) (no_space y h.0)
+    (sym (append_assoc (spelling x) (32 ∷ front_of xs) r) ∙ e ∙ append_assoc (spelling y) (32 ∷ front_of ys) s) in
     let first : x ≡ y = spelling_same x y g.0 h.0 both.0 in
     let times : times_of x ≡ times_of y = ap times_of first in
     let lx = length-append (replicate (times_of x) (fiber_of x)) (entries_of xs) in
@@ -277,16 +312,20 @@ first_bad_same n (x ∷ xs) (y ∷ ys) r s g h e few also bad worse =
 
 pub same_place : (text : List ℕ) (p q : ℕ) → IsFirstBad text p → IsFirstBad text q → p ≡ q
 same_place text p q a b =
-    let same : a.items ≡ b.items = first_bad_same 0 a.items b.items a.rest b.rest a.good b.good (sym a.text_is ∙ b.text_is) (omega (arith, a.few)) (omega (arith, b.few)) (λ i g s l. a.bad i g s (omega (arith, l))) (λ i g s l. b.bad i g s (omega (arith, l))) in
+    let same : a.items ≡ b.items =
+    first_bad_same 0 a.items b.items a.rest b.rest a.good b.good (sym a.text_is ∙ b.text_is) (omega (arith, a.few)) (omega (arith, b.few))
+    (λ i g s l. a.bad i g s (omega (arith, l))) (λ i g s l. b.bad i g s (omega (arith, l))) in
     a.place_is ∙ ap (λ items. length (front_of items)) same ∙ sym b.place_is
 
-pub refuses : {A : Type 0} (text : List ℕ) (r : Result (Vec ℕ A) ScheduleError) → IfOk r (λ v. SpellsEntries text v.items) → ((place : ℕ) → r ≡ Err (BadSchedule place) → IsFirstBad text place) → (place : ℕ) → IsFirstBad text place → RefusesAt place r
+pub refuses : {A : Type 0} (text : List ℕ) (r : Result (Vec ℕ A) ScheduleError) → IfOk r (λ v. SpellsEntries text v.items) →
+    ((place : ℕ) → r ≡ Err (BadSchedule place) → IsFirstBad text place) → (place : ℕ) → IsFirstBad text place → RefusesAt place r
 refuses text (Ok v) found place p b = no_first_bad found.items text p found.good found.text_is (rw (← found.entries_are) found.few) b
 refuses text (Err NoMemory) found place p b = tt
 refuses text (Err (BadSchedule q)) found place p b = same_place text q p (place q refl) b
 
 -- a text has no other entries than those that are given
-pub one_list_from : {A : Type 0} (text : List ℕ) (r : Result (Vec ℕ A) ScheduleError) → IfOk r (λ v. SpellsEntries text v.items) → IfOk r (λ v. (entries : List ℕ) → SpellsEntries text entries → entries ≡ v.items)
+pub one_list_from : {A : Type 0} (text : List ℕ) (r : Result (Vec ℕ A) ScheduleError) → IfOk r (λ v. SpellsEntries text v.items) →
+    IfOk r (λ v. (entries : List ℕ) → SpellsEntries text entries → entries ≡ v.items)
 one_list_from text (Ok v) s = λ entries t.
     t.entries_are ∙ ap entries_of (same_items t.items s.items t.good s.good (sym t.text_is ∙ s.text_is)) ∙ sym s.entries_are
 one_list_from text (Err e) s = tt

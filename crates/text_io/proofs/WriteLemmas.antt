@@ -1,5 +1,6 @@
 -- How a schedule's text is written, item by item.
-use Rattle.std.proofs.Common.{◌≡◌, ◌-◌, Result, Ok, Err, ◌<◌, ◌≤◌, ℕ, List, [], ◌∷◌, ◌++◌, length, take, drop, replicate, refl, sym, ap, ◌∙◌, append_assoc, append-nil, arith, subst}
+use Rattle.std.proofs.Common.{◌≡◌, ◌-◌, Result, Ok, Err, ◌<◌, ◌≤◌, ℕ, List, [], ◌∷◌, ◌++◌, length, take, drop}
+use Rattle.std.proofs.Common.{replicate, refl, sym, ap, ◌∙◌, append_assoc, append-nil, arith, subst}
 use Rattle.std.specs.Prelude.{IfOk}
 use Rattle.std.specs.List.{All}
 use Rattle.std.proofs.lemmas.List.{length-drop, take-append-drop, take_all}
@@ -12,27 +13,34 @@ pub write_none : (entries : List ℕ) → All (λ fiber. fiber < 1000) entries �
 write_none entries fibers some = record { items = []; good = tt; text_is = refl; entries_are = refl; fibers = fibers; some = some }
 
 -- the entries that an item adds
-added : (rest entries : List ℕ) (items : List Item) (i : Item) (times : ℕ) → entries ≡ entries_of items ++ rest → times ≡ times_of i → take times rest ≡ replicate times (fiber_of i) → entries ≡ entries_of (items ++ i ∷ []) ++ drop times rest
+added : (rest entries : List ℕ) (items : List Item) (i : Item) (times : ℕ) → entries ≡ entries_of items ++ rest → times ≡ times_of i →
+    take times rest ≡ replicate times (fiber_of i) → entries ≡ entries_of (items ++ i ∷ []) ++ drop times rest
 added rest entries items i times e t run =
-    let parts : rest ≡ replicate (times_of i) (fiber_of i) ++ drop times rest = sym (take-append-drop times rest) ∙ ap (λ xs. xs ++ drop times rest) (run ∙ ap (λ n. replicate n (fiber_of i)) t) in
-    e ∙ ap (λ xs. entries_of items ++ xs) parts ∙ sym (append_assoc (entries_of items) (replicate (times_of i) (fiber_of i)) (drop times rest)) ∙ ap (λ xs. xs ++ drop times rest) (sym (entries_more items i))
+    let parts : rest ≡ replicate (times_of i) (fiber_of i) ++ drop times rest = sym (take-append-drop times rest) ∙
+    ap (λ xs. xs ++ drop times rest) (run ∙ ap (λ n. replicate n (fiber_of i)) t) in
+    e ∙ ap (λ xs. entries_of items ++ xs) parts ∙ sym (append_assoc (entries_of items) (replicate (times_of i) (fiber_of i)) (drop times rest)) ∙
+    ap (λ xs. xs ++ drop times rest) (sym (entries_more items i))
 
-pub write_more : (text rest entries item more : List ℕ) (fiber times : ℕ) → HasWritten text rest entries → IsItemOf item fiber times → take times rest ≡ replicate times fiber → more ≡ (text ++ item) ++ 32 ∷ [] → 0 < length (drop times rest) → HasWritten more (drop times rest) entries
+pub write_more : (text rest entries item more : List ℕ) (fiber times : ℕ) → HasWritten text rest entries → IsItemOf item fiber times →
+    take times rest ≡ replicate times fiber → more ≡ (text ++ item) ++ 32 ∷ [] → 0 < length (drop times rest) → HasWritten more (drop times rest) entries
 write_more text rest entries item more fiber times h i run is some = record {
   items = h.items ++ i.item ∷ [];
   good = good_more h.items i.item h.good i.good;
-  text_is = is ∙ append_assoc text item (32 ∷ []) ∙ ap (λ t. t ++ (item ++ 32 ∷ [])) h.text_is ∙ ap (λ t. front_of h.items ++ (t ++ 32 ∷ [])) i.text_is ∙ sym (front_more h.items i.item);
+  text_is = is ∙ append_assoc text item (32 ∷ []) ∙ ap (λ t. t ++ (item ++ 32 ∷ [])) h.text_is ∙
+      ap (λ t. front_of h.items ++ (t ++ 32 ∷ [])) i.text_is ∙ sym (front_more h.items i.item);
   entries_are = added rest entries h.items i.item times h.entries_are i.times_is (run ∙ ap (replicate times) i.fiber_is);
   fibers = All-drop (λ f. f < 1000) times rest h.fibers;
   some = some;
 }
 
-pub write_all : (text rest entries item more : List ℕ) (fiber times : ℕ) → HasWritten text rest entries → IsItemOf item fiber times → take times rest ≡ replicate times fiber → more ≡ text ++ item → length (drop times rest) ≡ 0 → length entries ≤ 1000000 → SpellsEntries more entries
+pub write_all : (text rest entries item more : List ℕ) (fiber times : ℕ) → HasWritten text rest entries → IsItemOf item fiber times →
+    take times rest ≡ replicate times fiber → more ≡ text ++ item → length (drop times rest) ≡ 0 → length entries ≤ 1000000 → SpellsEntries more entries
 write_all text rest entries item more fiber times h i run is none few = record {
   items = h.items ++ i.item ∷ [];
   good = good_more h.items i.item h.good i.good;
   text_is = is ∙ ap (λ t. t ++ item) h.text_is ∙ ap (λ t. front_of h.items ++ t) i.text_is ∙ sym (text_more h.items i.item);
-  entries_are = added rest entries h.items i.item times h.entries_are i.times_is (run ∙ ap (replicate times) i.fiber_is) ∙ ap (λ xs. entries_of (h.items ++ i.item ∷ []) ++ xs) (nothing (drop times rest) none) ∙ append-nil (entries_of (h.items ++ i.item ∷ []));
+  entries_are = added rest entries h.items i.item times h.entries_are i.times_is (run ∙ ap (replicate times) i.fiber_is) ∙
+      ap (λ xs. entries_of (h.items ++ i.item ∷ []) ++ xs) (nothing (drop times rest) none) ∙ append-nil (entries_of (h.items ++ i.item ∷ []));
   few = few;
 } where
   nothing : (xs : List ℕ) → length xs ≡ 0 → xs ≡ []
@@ -44,6 +52,7 @@ pub behind : (times : ℕ) (rest : List ℕ) → take (length rest - times) (dro
 behind times rest = take_all (length rest - times) (drop times rest) (omega (arith, length-drop times rest))
 
 -- a text that may be there is an item, if its bytes are one
-pub item_there : {S E : Type 0} (bytes_of : S → List ℕ) (r : Result S E) (bytes : List ℕ) (fiber times : ℕ) → IfOk r (λ s. bytes_of s ≡ bytes) → IsItemOf bytes fiber times → IfOk r (λ s. IsItemOf (bytes_of s) fiber times)
+pub item_there : {S E : Type 0} (bytes_of : S → List ℕ) (r : Result S E) (bytes : List ℕ) (fiber times : ℕ) → IfOk r (λ s. bytes_of s ≡ bytes) →
+    IsItemOf bytes fiber times → IfOk r (λ s. IsItemOf (bytes_of s) fiber times)
 item_there bytes_of (Ok s) bytes fiber times is i = subst (λ b. IsItemOf b fiber times) (sym is) i
 item_there bytes_of (Err e) bytes fiber times is i = tt

@@ -6,6 +6,7 @@ use Rattle.term_parse.proofs.build.five_terms.Goals as goal
 
 pub returns : goal.returns
 returns c =
-    let none : sorts c.boxed-5.new.pieces.items ≡ [] = cc (c.requires, c.boxed.ensures.sorts, c.boxed-2.ensures.sorts, c.boxed-3.ensures.sorts, c.boxed-4.ensures.sorts, c.boxed-5.ensures.sorts) in
+    let none : sorts c.boxed-5.new.pieces.items ≡ [] =
+    cc (c.requires, c.boxed.ensures.sorts, c.boxed-2.ensures.sorts, c.boxed-3.ensures.sorts, c.boxed-4.ensures.sorts, c.boxed-5.ensures.sorts) in
     let last : ends c.boxed-5.new.pieces.items ≡ ended ∷ [] = ends_none c.boxed-5.new.pieces.items none in
     cc (c.in_ok-first.ensures.atoms, c.in_ok-second.ensures.atoms, c.in_ok-third.ensures.atoms, c.in_ok-fourth.ensures.atoms, c.in_ok-fifth.ensures.atoms, last)

@@ -7,7 +7,8 @@ use Rattle.term_parse.proofs.form.advance.Goals as goal
 
 pub returns-in_default-clause-fault : goal.returns-in_default-clause-fault
 returns-in_default-clause-fault c =
-    let over : drop c.args.form.now.next (parts_of c.args.form.now.word) ≡ [] = drop_over (parts_of c.args.form.now.word) c.args.form.now.next (omega (arith, ap length c.parts_of.ensures.value, c.in_default.ensures.lookup.3)) in
+    let over : drop c.args.form.now.next (parts_of c.args.form.now.word) ≡ [] =
+    drop_over (parts_of c.args.form.now.word) c.args.form.now.next (omega (arith, ap length c.parts_of.ensures.value, c.in_default.ensures.lookup.3)) in
     fails_over c.args.text.now c.args.at (innermost c.args.scope.now.items c.args.form.now) c.in-Ok.token
     c.in-Ok.ensures.found c.in-Ok.ensures.good over c.args.depth
 

@@ -10,7 +10,8 @@ returns-in_default c = record {
 }
 
 pub returns-in-Some-clause-found : goal.returns-in-Some-clause-found
-returns-in-Some-clause-found c = read_word c.args.text.now c.args.at c.in_ok-token.token c.in-Some.word c.in_ok-token.ensures.found c.in-Called.is (search rules)
+returns-in-Some-clause-found c = read_word c.args.text.now c.args.at c.in_ok-token.token c.in-Some.word c.in_ok-token.ensures.found c.in-Called.is
+    (search rules)
 
 pub returns-in-None-clause-fault : goal.returns-in-None-clause-fault
 returns-in-None-clause-fault c = read_no_word c.args.text.now c.args.at c.in_ok-token.token c.in_ok-token.ensures.found c.in-Called.is (search rules)

@@ -15,7 +15,8 @@ returns-clause-parsed c = λ kinded deep short.
     subst (λ xs. reading xs ≡ Ok (atoms_of c.args.term.now)) (sym same) (reading-canonical c.args.term.now kinded c.in_ok-write_term.ensures.numbers deep fits)
 
 pub returns-clause-read_back : goal.returns-clause-read_back
-returns-clause-read_back c = λ kinded deep short. spelled-from_reading c.write_term.new.out.items (atoms_of c.args.term.now) (returns-clause-parsed c kinded deep short)
+returns-clause-read_back c =
+    λ kinded deep short. spelled-from_reading c.write_term.new.out.items (atoms_of c.args.term.now) (returns-clause-parsed c kinded deep short)
 
 pub returns-clause-same_term : goal.returns-clause-same_term
 returns-clause-same_term c = λ kinded deep short u h. one_term c.write_term.new.out.items c.args.term.now u (returns-clause-parsed c kinded deep short) h

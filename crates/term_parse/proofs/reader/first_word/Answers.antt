@@ -14,4 +14,5 @@ returns-in-Ok-clause-found c = first_opening c.args.text.now 0 c.in_ok-token.tok
     c.in-Open.is ∙ c.in-Ok.ensures.found [] []
 
 pub returns-in-Err-clause-fault : goal.returns-in-Err-clause-fault
-returns-in-Err-clause-fault c = λ ne. first_opening c.args.text.now 0 c.in_ok-token.token c.in_ok-token.ensures.found c.in-Open.is ∙ c.in-Err.ensures.fault [] []
+returns-in-Err-clause-fault c = λ ne. first_opening c.args.text.now 0 c.in_ok-token.token c.in_ok-token.ensures.found c.in-Open.is ∙
+    c.in-Err.ensures.fault [] []

@@ -10,7 +10,8 @@ returns-then-not-is_digit c = plain_none c.args.digits.now (digits_fail c.args.d
 pub loop-digit-preserved : goal.loop-digit-preserved
 loop-digit-preserved c = record {
   digits = digits_more c.args.digits.now c.loop-digit.digit-index c.loop-digit-test.true c.loop-digit.invariant.digits (search rules);
-  value = value_more c.args.digits.now c.loop-digit.digit-index c.loop-digit.value c.from.result c.loop-digit-test.true (search rules) (search rules) c.loop-digit.invariant.value;
+  value = value_more c.args.digits.now c.loop-digit.digit-index c.loop-digit.value c.from.result c.loop-digit-test.true (search rules) (search rules)
+      c.loop-digit.invariant.value;
 }
 
 pub returns-then-value : goal.returns-then-value

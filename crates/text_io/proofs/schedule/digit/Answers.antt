@@ -14,8 +14,11 @@ returns-then-byte-lt48-clause-none c = λ n l e.
 
 pub returns-then-number-most-clause-found : goal.returns-then-number-most-clause-found
 returns-then-number-most-clause-found c =
-    let number = c.from-number.ensures in
-    (c.if-number-most.true, ap (λ b. b ∷ []) (omega (arith, c.if-byte-lt48.false, c.if-byte-gt57.false)) ∙ sym (decimal_digit c.from-number.result (omega (arith, c.if-byte-lt48.false, c.if-byte-gt57.false))))
+    let number = c.from-number.ensures in (
+      c.if-number-most.true,
+      ap (λ b. b ∷ []) (omega (arith, c.if-byte-lt48.false, c.if-byte-gt57.false)) ∙
+          sym (decimal_digit c.from-number.result (omega (arith, c.if-byte-lt48.false, c.if-byte-gt57.false))),
+    )
 
 pub returns-else-number-most-clause-none : goal.returns-else-number-most-clause-none
 returns-else-number-most-clause-none c = λ n l e.

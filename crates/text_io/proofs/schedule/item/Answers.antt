@@ -12,18 +12,22 @@ returns-in_default-clause-none c =
 pub returns-in_default-number-clause-none : goal.returns-in_default-number-clause-none
 returns-in_default-number-clause-none c =
     let parts = split_parts 42 c.args.text.now (Some (c.in-Some.front, c.in-Some.back)) c.in-Some.ensures.cases (omega arith) in
-    starred c.args.text.now c.in-Some.front.now c.in-Some.back.now parts.0 (no_at 42 c.in-Some.front.now parts.1) (λ f k l some few a b. c.in_default-number.ensures.none f l a)
+    starred c.args.text.now c.in-Some.front.now c.in-Some.back.now parts.0 (no_at 42 c.in-Some.front.now parts.1)
+    (λ f k l some few a b. c.in_default-number.ensures.none f l a)
 
 pub returns-in_default-number-2-clause-none : goal.returns-in_default-number-2-clause-none
 returns-in_default-number-2-clause-none c =
     let parts = split_parts 42 c.args.text.now (Some (c.in-Some.front, c.in-Some.back)) c.in-Some.ensures.cases (omega arith) in
-    starred c.args.text.now c.in-Some.front.now c.in-Some.back.now parts.0 (no_at 42 c.in-Some.front.now parts.1) (λ f k l some few a b. c.in_default-number-2.ensures.none k few b)
+    starred c.args.text.now c.in-Some.front.now c.in-Some.back.now parts.0 (no_at 42 c.in-Some.front.now parts.1)
+    (λ f k l some few a b. c.in_default-number-2.ensures.none k few b)
 
 pub returns-then-times-eq0-clause-none : goal.returns-then-times-eq0-clause-none
 returns-then-times-eq0-clause-none c =
     let parts = split_parts 42 c.args.text.now (Some (c.in-Some.front, c.in-Some.back)) c.in-Some.ensures.cases (omega arith) in
     starred c.args.text.now c.in-Some.front.now c.in-Some.back.now parts.0 (no_at 42 c.in-Some.front.now parts.1) (λ f k l some few a b.
-    let same : c.in-Some-number-3.times ≡ k = decimal_injective c.in-Some-number-3.times k (omega (arith, c.in-Some-number-3.ensures.found.0)) (omega arith) (sym c.in-Some-number-3.ensures.found.1 ∙ b) in
+    let same : c.in-Some-number-3.times ≡ k =
+    decimal_injective c.in-Some-number-3.times k (omega (arith, c.in-Some-number-3.ensures.found.0)) (omega arith)
+    (sym c.in-Some-number-3.ensures.found.1 ∙ b) in
     omega arith)
 
 pub returns-in-Some-number-clause-found : goal.returns-in-Some-number-clause-found

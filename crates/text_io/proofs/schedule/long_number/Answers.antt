@@ -18,11 +18,13 @@ returns-in-Ok-clause-found c =
 
 pub returns-in_default-clause-none : goal.returns-in_default-clause-none
 returns-in_default-clause-none c = λ n l e.
-    let read : c.parse.result ≡ Ok n = parse-decimal 32 n c.args.digits.now c.parse.result (omega (arith, c.ranges.most.fits)) (omega (arith, c.ranges.most.fits)) e c.parse.ensures.value.0 in
+    let read : c.parse.result ≡ Ok n =
+    parse-decimal 32 n c.args.digits.now c.parse.result (omega (arith, c.ranges.most.fits)) (omega (arith, c.ranges.most.fits)) e c.parse.ensures.value.0 in
     let same : c.in-Ok.value ≡ n = cc in
     omega arith
 
 pub returns-in_default-2-clause-none : goal.returns-in_default-2-clause-none
 returns-in_default-2-clause-none c = λ n l e.
-    let read : c.parse.result ≡ Ok n = parse-decimal 32 n c.args.digits.now c.parse.result (omega (arith, c.ranges.most.fits)) (omega (arith, c.ranges.most.fits)) e c.parse.ensures.value.0 in
+    let read : c.parse.result ≡ Ok n =
+    parse-decimal 32 n c.args.digits.now c.parse.result (omega (arith, c.ranges.most.fits)) (omega (arith, c.ranges.most.fits)) e c.parse.ensures.value.0 in
     cc

@@ -10,7 +10,9 @@ returns-then-is_empty-2 c =
     let rest = c.runs.rest.now in
     let more : string_bytes c.push_str.new.self ≡ string_bytes c.runs.text ++ string_bytes c.in_ok-item.item = search rules in
     let none : length (take (length rest - times) (drop times rest)) ≡ 0 = search rules in
-    write_all (string_bytes c.runs.text) rest c.args.entries.now (string_bytes c.in_ok-item.item) (string_bytes c.push_str.new.self) (get_or rest 0 0) times c.runs.invariant c.in_ok-item.ensures c.run_len-times.ensures.run more (ap length (sym (behind times rest)) ∙ none) c.requires.few
+    write_all (string_bytes c.runs.text) rest c.args.entries.now (string_bytes c.in_ok-item.item) (string_bytes c.push_str.new.self)
+    (get_or rest 0 0) times c.runs.invariant c.in_ok-item.ensures c.run_len-times.ensures.run more (ap length (sym (behind times rest)) ∙ none)
+    c.requires.few
 
 pub runs-preserved : goal.runs-preserved
 runs-preserved c =
@@ -20,4 +22,5 @@ runs-preserved c =
     let there : 0 < length (take (length rest - times) (drop times rest)) = search rules in
     let some : 0 < length (drop times rest) = subst (λ (xs : List ℕ). 0 < length xs) (behind times rest) there in
     subst (λ (xs : List ℕ). HasWritten (string_bytes c.push_str-in-runs.new.self) xs c.args.entries.now) (sym (behind times rest))
-    (write_more (string_bytes c.runs.text) rest c.args.entries.now (string_bytes c.in_ok-item.item) (string_bytes c.push_str-in-runs.new.self) (get_or rest 0 0) times c.runs.invariant c.in_ok-item.ensures c.run_len-times.ensures.run more some)
+    (write_more (string_bytes c.runs.text) rest c.args.entries.now (string_bytes c.in_ok-item.item) (string_bytes c.push_str-in-runs.new.self)
+    (get_or rest 0 0) times c.runs.invariant c.in_ok-item.ensures c.run_len-times.ensures.run more some)

@@ -15,7 +15,8 @@ returns-then-length-eq-TEXT_BOUND-clause-read g c =
     let fits : c.loop.text.len ≤ length buffer = omega arith in
     rw (take-append-le c.loop.text.len buffer _ fits)
     (read_full _ _ c.loop.text.len buffer c.loop.invariant.sized fits
-    (consumes_more _ _ _ c.loop.length c.in-Ok.count c.loop.text.len c.loop.text.items buffer (c.in-Ok.ensures.kept ∙ ap (take c.loop.length) c.deref_mut.ensures.value) (omega (arith, c.loop.invariant.sized)) c.loop.invariant.taken c.in-Ok.ensures.bytes.0))
+    (consumes_more _ _ _ c.loop.length c.in-Ok.count c.loop.text.len c.loop.text.items buffer (c.in-Ok.ensures.kept ∙
+    ap (take c.loop.length) c.deref_mut.ensures.value) (omega (arith, c.loop.invariant.sized)) c.loop.invariant.taken c.in-Ok.ensures.bytes.0))
 
 pub returns-clause-turns : goal.returns-clause-turns
 returns-clause-turns g c = λ e.
@@ -31,10 +32,12 @@ loop-preserved g c =
         sized = c.loop.invariant.sized;
         within = omega (arith, w.in-Ok.ensures.bound, c.loop.invariant.sized);
         healthy = w.in-Ok.ensures.failed;
-        unended = w.in-Ok.ensures.ended ∙ found_end-some (g.T.TextIn.has_ended c.loop.input) w.in-Ok.count (drop c.loop.length buffer) w.in-Ok.count-test.1 ∙ c.loop.invariant.unended;
+        unended = w.in-Ok.ensures.ended ∙
+            found_end-some (g.T.TextIn.has_ended c.loop.input) w.in-Ok.count (drop c.loop.length buffer) w.in-Ok.count-test.1 ∙ c.loop.invariant.unended;
         counted = omega (arith, w.in-Ok.ensures.counted, c.loop.invariant.counted);
         taken = rw (take_at buffer _ c.loop.text.len whole)
-            (consumes_more _ _ _ c.loop.length w.in-Ok.count _ c.loop.text.items buffer (w.in-Ok.ensures.kept ∙ ap (take c.loop.length) c.deref_mut.ensures.value) w.length-is c.loop.invariant.taken w.in-Ok.ensures.bytes.0);
+            (consumes_more _ _ _ c.loop.length w.in-Ok.count _ c.loop.text.items buffer (w.in-Ok.ensures.kept ∙
+            ap (take c.loop.length) c.deref_mut.ensures.value) w.length-is c.loop.invariant.taken w.in-Ok.ensures.bytes.0);
       }
       | in-Err-Interrupted w ↦ record {
         sized = c.loop.invariant.sized;
@@ -43,6 +46,7 @@ loop-preserved g c =
         unended = w.in-Err-Interrupted.ensures.ended ∙ or-false (g.T.TextIn.has_ended c.loop.input) ∙ c.loop.invariant.unended;
         counted = omega (arith, w.in-Err-Interrupted.ensures.counted, c.loop.invariant.counted);
         taken = rw (take_at buffer _ c.loop.text.len whole, w.length-is)
-            (consumes_same _ _ _ c.loop.length c.loop.text.items buffer (w.in-Err-Interrupted.ensures.kept ∙ ap (take c.loop.length) c.deref_mut.ensures.value) c.loop.invariant.taken w.in-Err-Interrupted.ensures.bytes);
+            (consumes_same _ _ _ c.loop.length c.loop.text.items buffer (w.in-Err-Interrupted.ensures.kept ∙
+            ap (take c.loop.length) c.deref_mut.ensures.value) c.loop.invariant.taken w.in-Err-Interrupted.ensures.bytes);
       }
     ]
