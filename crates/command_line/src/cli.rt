@@ -25,12 +25,11 @@ use std::time::Clock;
 
 /// What is told where the words give no request. `clap` looks at each of them but the outcomes, and not at
 /// whether flags go together.
-const NO_REQUEST: &str =
-    "an outcome of '--want <OUTCOME>' is none of 'succeeded V', 'errored C', 'canceled' and 'unended',
-or flags don't go together, of which these do:
+const NO_REQUEST: &str = "these words ask for nothing: flags don't go together, of which these do:
   replay   one of '--timeline', '--svg' and '--json', and '--explain'
   explore  one of '--timeline' and '--json', and '--explain'; or '--progress' alone
-  run      '--record', and '--timeline' beside it; or '--json' alone; or '--explain' alone";
+  run      '--record', and '--timeline' beside it; or '--json' alone; or '--explain' alone
+or an outcome of '--want <OUTCOME>' is none of 'succeeded V', 'errored C', 'canceled' and 'unended'";
 
 /// Tells help or the version that was asked for, or what is wrong with the words, in `clap`'s words.
 /// Where help can't be written, that is told as any other fault.

@@ -12,12 +12,12 @@ use std::time::Clock;
 
 /// What is told of an outcome that is wanted and is none, and of flags that don't go together.
 const NO_REQUEST: &str =
-    "error: an outcome of '--want <OUTCOME>' is none of 'succeeded V', 'errored C', 'canceled' and \
-    'unended',\
-    \nor flags don't go together, of which these do:\
+    "error: these words ask for nothing: flags don't go together, of which these do:\
     \n  replay   one of '--timeline', '--svg' and '--json', and '--explain'\
     \n  explore  one of '--timeline' and '--json', and '--explain'; or '--progress' alone\
     \n  run      '--record', and '--timeline' beside it; or '--json' alone; or '--explain' alone\
+    \nor an outcome of '--want <OUTCOME>' is none of 'succeeded V', 'errored C', 'canceled' and \
+    'unended'\
     \n\nUsage: fiber_cli <COMMAND>\
     \n\nFor more information, try '--help'.\
     \n";
