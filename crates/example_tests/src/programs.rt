@@ -1,5 +1,5 @@
-//! Programs that are printed, replayed, explored and run, as in the examples of `term_parse`, `outcome_trace`,
-//! `every_schedule` and `steal_pool`.
+//! Texts that are read and printed, and programs that are replayed, explored and run: the replay and the exploration are
+//! the examples of `outcome_trace` and `every_schedule`.
 
 ghost use Rattle.cell_registry.specs.Cells.{AreLimits};
 
