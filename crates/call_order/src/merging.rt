@@ -1,7 +1,7 @@
 //! The moves of all fibers as one schedule.
 
-use crate::notes::Kind;
-use crate::own_moves::{Own, Step};
+use crate::notes::CallKind;
+use crate::own_moves::{NeededCall, Own};
 use crate::schedules::NoOrder;
 use std::alloc::{AllocError, Global};
 
@@ -15,7 +15,7 @@ const MOST_NUMBERS: usize = 1000;
 #[derive(Clone, Copy)]
 struct Course {
     own: Own,
-    // The next step, and how many moves are made.
+    // The next call, and how many moves are made.
     next: usize,
     made: u32,
     // How many requests for its cancellation are still to be made, and whether one was.
@@ -24,10 +24,10 @@ struct Course {
     ended: bool,
 }
 
-// A schedule that is put together: the fibers, what is known of what they share, and the entries so far.
+/// A schedule that is put together: the fibers, what is known of what they share, and the entries so far.
 #[derive(Drop)]
 pub(crate) struct Merge<'a> {
-    steps: &'a [Step],
+    calls: &'a [NeededCall],
     // By the places of the calls on refs: how many on the same ref come before.
     ranks: &'a [u32],
     courses: Vec<Course>,
@@ -40,15 +40,15 @@ pub(crate) struct Merge<'a> {
 }
 
 impl<'a> Merge<'a> {
-    // Before the first move.
+    /// Before the first move.
     pub(crate) fn new(
         alloc: Global,
         owns: &[Own],
-        steps: &'a [Step],
+        calls: &'a [NeededCall],
         ranks: &'a [u32],
     ) -> Result<Merge<'a>, AllocError> {
         let mut merge = Merge {
-            steps,
+            calls,
             ranks,
             courses: courses(alloc, owns)?,
             born: 1,
@@ -60,9 +60,9 @@ impl<'a> Merge<'a> {
         };
         merge.at_ref.resize(MOST_NUMBERS, 0)?;
         merge.filled.resize(MOST_NUMBERS, false)?;
-        for step in steps {
-            if step.kind == Kind::Asked || step.kind == Kind::Already {
-                if let Some(course) = merge.courses.get_mut(usize::from(step.named)) {
+        for call in calls {
+            if call.kind == CallKind::Asked || call.kind == CallKind::Already {
+                if let Some(course) = merge.courses.get_mut(usize::from(call.named)) {
                     course.asks = course.asks.saturating_add(1);
                 }
             }
@@ -70,7 +70,7 @@ impl<'a> Merge<'a> {
         Ok(merge)
     }
 
-    // The born fibers in turn, each as far as it can go, until none can. `NotFound` where moves are left.
+    /// The born fibers in turn, each as far as it can go, until none can. `NotFound` where moves are left.
     pub(crate) fn sweep(&mut self) -> Result<(), NoOrder> {
         let mut fiber = 0u16;
         let mut idle = 0u16;
@@ -91,7 +91,7 @@ impl<'a> Merge<'a> {
         Ok(())
     }
 
-    // An entry of a fiber, so many times.
+    /// An entry of a fiber, so many times.
     pub(crate) fn enter(&mut self, fiber: u16, times: u32) -> Result<(), NoOrder> {
         let len = self.entries.len().saturating_add(times as usize);
         if len > MOST_ENTRIES {
@@ -108,20 +108,20 @@ impl<'a> Merge<'a> {
             return Ok(false);
         };
         let from = course.made;
-        for _ in 0..self.steps.len() {
-            let Some(step) = self.next_step(&course) else {
+        for _ in 0..self.calls.len() {
+            let Some(call) = self.next_call(&course) else {
                 break;
             };
-            course.made = step.at;
+            course.made = call.at;
             self.keep(place, course);
-            if !self.may(step) {
+            if !self.may(call) {
                 break;
             }
-            course.made = step.at.saturating_add(1);
+            course.made = call.at.saturating_add(1);
             course.next = course.next.saturating_add(1);
-            self.does(&mut course, step);
+            self.does(&mut course, call);
         }
-        if self.next_step(&course).is_none() {
+        if self.next_call(&course).is_none() {
             course.made = course.own.len;
         }
         self.keep(place, course);
@@ -139,30 +139,30 @@ impl<'a> Merge<'a> {
         }
     }
 
-    // The fiber's next step.
-    fn next_step(&self, course: &Course) -> Option<Step> {
+    // The fiber's next call.
+    fn next_call(&self, course: &Course) -> Option<NeededCall> {
         if course.next >= course.own.to {
             return None;
         }
-        self.steps.get(course.next).copied()
+        self.calls.get(course.next).copied()
     }
 
-    // Whether all has come that is to come before this step.
-    fn may(&self, step: Step) -> bool {
-        let named = usize::from(step.named);
-        match step.kind {
-            Kind::Start => self.born == step.named,
-            Kind::NewRef => self.refs == step.named,
-            Kind::NewDeferred => self.deferreds == step.named,
-            Kind::Asked => self.may_ask(named),
-            Kind::Already | Kind::SawRequest => self.is_asked(named),
-            Kind::CancelEnded | Kind::JoinEnded => self.has_ended(named),
-            Kind::Finish => self.asks_of(named) == 0,
-            Kind::Filled => self.filled.get(named).copied() == Some(true),
-            Kind::Get | Kind::Set | Kind::Modify => {
-                self.at_ref.get(named).copied() == self.ranks.get(step.place as usize).copied()
+    // Whether all has come that is to come before this call.
+    fn may(&self, call: NeededCall) -> bool {
+        let named = usize::from(call.named);
+        match call.kind {
+            CallKind::Start => self.born == call.named,
+            CallKind::NewRef => self.refs == call.named,
+            CallKind::NewDeferred => self.deferreds == call.named,
+            CallKind::Asked => self.may_ask(named),
+            CallKind::Already | CallKind::SawRequest => self.is_asked(named),
+            CallKind::CancelEnded | CallKind::JoinEnded => self.has_ended(named),
+            CallKind::Finish => self.asks_of(named) == 0,
+            CallKind::Filled => self.filled.get(named).copied() == Some(true),
+            CallKind::Get | CallKind::Set | CallKind::Modify => {
+                self.at_ref.get(named).copied() == self.ranks.get(call.place as usize).copied()
             }
-            Kind::Complete | Kind::Wait => true,
+            CallKind::Complete | CallKind::Wait => true,
         }
     }
 
@@ -195,27 +195,31 @@ impl<'a> Merge<'a> {
         }
     }
 
-    // What a step of a fiber changes.
-    fn does(&mut self, course: &mut Course, step: Step) {
-        let named = usize::from(step.named);
-        match step.kind {
-            Kind::Start => self.born = self.born.saturating_add(1),
-            Kind::NewRef => self.refs = self.refs.saturating_add(1),
-            Kind::NewDeferred => self.deferreds = self.deferreds.saturating_add(1),
-            Kind::Asked => self.asks(named, true),
-            Kind::Already => self.asks(named, false),
-            Kind::Finish => course.ended = true,
-            Kind::Complete => {
+    // What a call of a fiber changes.
+    fn does(&mut self, course: &mut Course, call: NeededCall) {
+        let named = usize::from(call.named);
+        match call.kind {
+            CallKind::Start => self.born = self.born.saturating_add(1),
+            CallKind::NewRef => self.refs = self.refs.saturating_add(1),
+            CallKind::NewDeferred => self.deferreds = self.deferreds.saturating_add(1),
+            CallKind::Asked => self.asks(named, true),
+            CallKind::Already => self.asks(named, false),
+            CallKind::Finish => course.ended = true,
+            CallKind::Complete => {
                 if let Some(filled) = self.filled.get_mut(named) {
                     *filled = true;
                 }
             }
-            Kind::Get | Kind::Set | Kind::Modify => {
+            CallKind::Get | CallKind::Set | CallKind::Modify => {
                 if let Some(at) = self.at_ref.get_mut(named) {
                     *at = at.saturating_add(1);
                 }
             }
-            Kind::CancelEnded | Kind::SawRequest | Kind::JoinEnded | Kind::Filled | Kind::Wait => {}
+            CallKind::CancelEnded
+            | CallKind::SawRequest
+            | CallKind::JoinEnded
+            | CallKind::Filled
+            | CallKind::Wait => {}
         }
     }
 

@@ -6,9 +6,9 @@ use std::alloc::{AllocError, Global};
 // The most calls that a worker notes.
 const MOST_CALLS: usize = 1_000_000;
 
-// What a call was, and what came of it.
+/// What a call was, and what came of it.
 #[derive(Clone, Copy, PartialEq, Eq)]
-pub(crate) enum Kind {
+pub(crate) enum CallKind {
     // A fiber, a ref or a deferred was given the number.
     Start,
     NewRef,
@@ -34,39 +34,39 @@ pub(crate) enum Kind {
     Wait,
 }
 
-impl Kind {
-    // Whether the call is on a ref.
+impl CallKind {
+    /// Whether the call is on a ref.
     pub(crate) fn is_on_ref(self) -> bool {
         match self {
-            Kind::Get | Kind::Set | Kind::Modify => true,
+            CallKind::Get | CallKind::Set | CallKind::Modify => true,
             _ => false,
         }
     }
 
-    // Whether the call changes nothing that others see.
+    /// Whether the call changes nothing that others see.
     pub(crate) fn is_unseen(self) -> bool {
         match self {
-            Kind::Already
-            | Kind::CancelEnded
-            | Kind::SawRequest
-            | Kind::JoinEnded
-            | Kind::Filled
-            | Kind::Get => true,
+            CallKind::Already
+            | CallKind::CancelEnded
+            | CallKind::SawRequest
+            | CallKind::JoinEnded
+            | CallKind::Filled
+            | CallKind::Get => true,
             _ => false,
         }
     }
 }
 
-// A call of a fiber that might make `left` moves before it, and what it named.
+/// A call of a fiber that might make `left` moves before it, and what it named.
 #[derive(Clone, Copy)]
 pub(crate) struct Noted {
     pub left: u32,
     pub fiber: u16,
     pub named: u16,
-    pub kind: Kind,
+    pub kind: CallKind,
 }
 
-// A call on a ref: what it found, if that is known, what it left, and the clock before it and behind it.
+/// A call on a ref: what it found, if that is known, what it left, and the clock before it and behind it.
 #[derive(Clone, Copy)]
 pub(crate) struct RefCall {
     pub found: Option<i64>,
@@ -75,8 +75,8 @@ pub(crate) struct RefCall {
     pub ended: u64,
 }
 
-// How many moves a fiber might still make behind its last look without a request, behind its last turn, and
-// behind its last turn with a mark, as far as one worker moved it.
+/// How many moves a fiber might still make behind its last look without a request, behind its last turn, and
+/// behind its last turn with a mark, as far as one worker moved it.
 #[derive(Clone, Copy)]
 pub(crate) struct Seen {
     pub look: u32,
@@ -84,7 +84,7 @@ pub(crate) struct Seen {
     pub marked: u32,
 }
 
-// Nothing of a fiber was seen.
+/// Nothing of a fiber was seen.
 pub(crate) const UNSEEN: Seen = Seen {
     look: u32::MAX,
     made: u32::MAX,
@@ -106,11 +106,11 @@ pub enum Whole {
 #[derive(Drop)]
 pub struct Notes {
     pub(crate) calls: Vec<Noted>,
-    // Of those calls that are on refs, in their order.
+    /// Of those calls that are on refs, in their order.
     pub(crate) refs: Vec<RefCall>,
-    // By the fibers' numbers.
+    /// By the fibers' numbers.
     pub(crate) fibers: Vec<Seen>,
-    // The fiber whose call was refused, and the fault.
+    /// The fiber whose call was refused, and the fault.
     pub(crate) refused: Option<(u16, RunError)>,
     pub(crate) whole: Whole,
 }
@@ -136,7 +136,7 @@ impl Notes {
         self.whole
     }
 
-    // Notes a call, and what it did with a ref if it is on one.
+    /// Notes a call, and what it did with a ref if it is on one.
     pub(crate) fn note(&mut self, alloc: Global, call: Noted, on_ref: Option<RefCall>) {
         if self.whole != Whole::Yes {
             return;

@@ -1,30 +1,30 @@
 //! What of a fiber's moves a schedule needs.
 
-use crate::notes::{Kind, Seen};
+use crate::notes::{CallKind, Seen};
 use std::alloc::AllocError;
 
-// A call that was noted: the fiber that made it, how many moves that might make before it, what the call
-// named, and where it stands among the calls on refs, if it is one.
+/// A call that was noted: the fiber that made it, how many moves that might make before it, what the call
+/// named, and where it stands among the calls on refs, if it is one.
 #[derive(Clone, Copy)]
 pub(crate) struct Placed {
     pub fiber: u16,
     pub named: u16,
-    pub kind: Kind,
+    pub kind: CallKind,
     pub left: u32,
     pub place: u32,
 }
 
-// A call that is needed: how many of its fiber's needed moves come before it.
+/// A call that is needed: how many of its fiber's needed moves come before it.
 #[derive(Clone, Copy)]
-pub(crate) struct Step {
+pub(crate) struct NeededCall {
     pub at: u32,
     pub place: u32,
     pub named: u16,
-    pub kind: Kind,
+    pub kind: CallKind,
 }
 
-// The needed moves of a fiber: where its steps begin and end, how many moves there are, and how many of them
-// come before the first request for its cancellation.
+/// The needed moves of a fiber: where its needed calls begin and end, how many moves there are, and how many of them
+/// come before the first request for its cancellation.
 #[derive(Clone, Copy)]
 pub(crate) struct Own {
     pub from: usize,
@@ -67,24 +67,24 @@ impl Front {
     }
 }
 
-// The needed moves of a fiber that might make `first` moves, and made these calls in this order: without its
-// waits, each of which falls away with the look before it, and, unless all of them are needed, without those
-// behind its last mark and its last call that others may see. The calls are added to the steps.
+/// The needed moves of a fiber that might make `first` moves, and made these calls in this order: without its
+/// waits, each of which falls away with the look before it, and, unless all of them are needed, without those
+/// behind its last mark and its last call that others may see. The others of its calls are added to the needed ones.
 pub(crate) fn own_moves(
     calls: &[Placed],
     first: u32,
     seen: Seen,
     all: bool,
-    steps: &mut Vec<Step>,
+    needed: &mut Vec<NeededCall>,
 ) -> Result<Own, AllocError> {
-    let from = steps.len();
+    let from = needed.len();
     let mut look = Front::first(first.saturating_sub(seen.look));
     let mut marked = Front::first(first.saturating_sub(seen.marked));
     let mut gone = 0u32;
     let mut last = 0u32;
     for call in calls {
         let at = first.saturating_sub(call.left);
-        let waits = call.kind == Kind::Wait;
+        let waits = call.kind == CallKind::Wait;
         let begin = if waits && call.named == 1 {
             at.saturating_sub(1)
         } else {
@@ -97,7 +97,7 @@ pub(crate) fn own_moves(
             continue;
         }
         let at = at.saturating_sub(gone);
-        steps.push(Step {
+        needed.push(NeededCall {
             at,
             place: call.place,
             named: call.named,
@@ -113,25 +113,25 @@ pub(crate) fn own_moves(
     } else {
         last.max(marked.count(gone)).min(made)
     };
-    cut(steps, from, len);
+    cut(needed, from, len);
     Ok(Own {
         from,
-        to: steps.len(),
+        to: needed.len(),
         len,
         before_request: look.count(gone).min(len),
     })
 }
 
-// Drops the steps of a fiber, from this one on, that come behind so many moves.
-fn cut(steps: &mut Vec<Step>, from: usize, len: u32) {
-    for _ in 0..steps.len() {
-        match steps.last() {
+// Drops the needed calls of a fiber, from this one on, that come behind so many moves.
+fn cut(needed: &mut Vec<NeededCall>, from: usize, len: u32) {
+    for _ in 0..needed.len() {
+        match needed.last() {
             Some(last) if last.at >= len => {}
             _ => return,
         }
-        if steps.len() <= from {
+        if needed.len() <= from {
             return;
         }
-        let _ = steps.pop();
+        let _ = needed.pop();
     }
 }

@@ -94,7 +94,7 @@ const NO_CALL: RefCall = RefCall {
     ended: 0,
 };
 
-// The calls of these places, which are in the order of their beginnings, in an order that is found.
+/// The calls of these places, which are in the order of their beginnings, in an order that is found.
 pub(crate) fn ref_order(
     alloc: Global,
     calls: &[u32],

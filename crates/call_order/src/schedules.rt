@@ -1,8 +1,8 @@
 //! From the notes of all workers to a schedule.
 
 use crate::merging::Merge;
-use crate::notes::{Kind, Notes, RefCall, Seen, UNSEEN, Whole};
-use crate::own_moves::{Own, Placed, Step, own_moves};
+use crate::notes::{CallKind, Notes, RefCall, Seen, UNSEEN, Whole};
+use crate::own_moves::{NeededCall, Own, Placed, own_moves};
 use crate::ref_order::ref_order;
 use cell_registry::RunError;
 use std::alloc::{AllocError, AllocFailed, Global};
@@ -98,7 +98,7 @@ impl Gathered {
                     self.refs.push(*on_ref)?;
                 }
             }
-            if call.kind == Kind::Start {
+            if call.kind == CallKind::Start {
                 if let Some(first) = self.firsts.get_mut(usize::from(call.named)) {
                     *first = call.left.saturating_sub(1);
                 }
@@ -125,13 +125,13 @@ impl Gathered {
         if let Some((fiber, _)) = refused {
             gathered.need_all(fiber);
         }
-        let mut steps = Vec::new(gathered.alloc);
-        let owns = gathered.owns(&mut steps)?;
-        let ranks = ranks(gathered.alloc, steps.as_slice(), gathered.refs.as_slice())?;
+        let mut needed = Vec::new(gathered.alloc);
+        let owns = gathered.owns(&mut needed)?;
+        let ranks = ranks(gathered.alloc, needed.as_slice(), gathered.refs.as_slice())?;
         let mut merge = Merge::new(
             gathered.alloc,
             owns.as_slice(),
-            steps.as_slice(),
+            needed.as_slice(),
             ranks.as_slice(),
         )?;
         merge.sweep()?;
@@ -153,7 +153,7 @@ impl Gathered {
     }
 
     // The needed moves of each fiber.
-    fn owns(&mut self, steps: &mut Vec<Step>) -> Result<Vec<Own>, AllocError> {
+    fn owns(&mut self, needed: &mut Vec<NeededCall>) -> Result<Vec<Own>, AllocError> {
         self.calls
             .sort_unstable_by_key(|call| (call.fiber, u32::MAX - call.left));
         let mut owns = Vec::new(self.alloc);
@@ -167,7 +167,7 @@ impl Gathered {
             rest = behind;
             let first = self.firsts.get(number).copied().unwrap_or(0);
             let all = self.all.get(number).copied().unwrap_or(false);
-            owns.push(own_moves(calls, first, *seen, all, steps)?)?;
+            owns.push(own_moves(calls, first, *seen, all, needed)?)?;
         }
         Ok(owns)
     }
@@ -190,15 +190,15 @@ fn narrow(place: usize) -> u32 {
 }
 
 // By the places of the calls on refs: how many of those on the same ref come before.
-fn ranks(alloc: Global, steps: &[Step], refs: &[RefCall]) -> Result<Vec<u32>, NoOrder> {
+fn ranks(alloc: Global, needed: &[NeededCall], refs: &[RefCall]) -> Result<Vec<u32>, NoOrder> {
     let mut on_refs = Vec::new(alloc);
-    for step in steps {
-        if step.kind.is_on_ref() {
-            let begun = match refs.get(step.place as usize) {
+    for call in needed {
+        if call.kind.is_on_ref() {
+            let begun = match refs.get(call.place as usize) {
                 Some(call) => call.begun,
                 None => 0,
             };
-            on_refs.push((step.named, begun, step.place))?;
+            on_refs.push((call.named, begun, call.place))?;
         }
     }
     on_refs.sort_unstable();

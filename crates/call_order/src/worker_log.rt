@@ -1,6 +1,6 @@
 //! The log of one worker.
 
-use crate::notes::{Kind, Noted, Notes, RefCall};
+use crate::notes::{CallKind, Noted, Notes, RefCall};
 use cell_registry::RunError;
 use effect_term::{CancelReply, JoinReply, Reply, Value};
 use fiber_frames::Ask;
@@ -68,7 +68,7 @@ impl<'c> WorkerLog<'c> {
     /// fiber may still make so many moves.
     pub fn waited(&mut self, by: u16, left: u32, masked: bool) {
         let looked = if masked { 0 } else { 1 };
-        self.note(by, left.saturating_add(1), Kind::Wait, looked);
+        self.note(by, left.saturating_add(1), CallKind::Wait, looked);
     }
 
     /// A call of the fiber of this number was refused with this fault.
@@ -77,7 +77,7 @@ impl<'c> WorkerLog<'c> {
     }
 
     // Notes a call that isn't on a ref.
-    fn note(&mut self, by: u16, left: u32, kind: Kind, named: u16) {
+    fn note(&mut self, by: u16, left: u32, kind: CallKind, named: u16) {
         let call = Noted {
             left,
             fiber: by,
@@ -109,9 +109,9 @@ impl<'c> WorkerLog<'c> {
     // A request was made of a fiber.
     fn canceled(&mut self, by: u16, left: u32, fiber: u16, reply: CancelReply) {
         let kind = match reply {
-            CancelReply::Asked => Kind::Asked,
-            CancelReply::Already => Kind::Already,
-            CancelReply::Ended => Kind::CancelEnded,
+            CancelReply::Asked => CallKind::Asked,
+            CancelReply::Already => CallKind::Already,
+            CancelReply::Ended => CallKind::CancelEnded,
         };
         self.note(by, left, kind, fiber);
     }
@@ -119,9 +119,9 @@ impl<'c> WorkerLog<'c> {
     // A call on a ref was answered.
     fn on_ref(&mut self, by: u16, left: u32, ask: &Ask, reply: &Reply, begun: u64) {
         let (named, kind) = match ask {
-            Ask::Get(named) => (*named, Kind::Get),
-            Ask::Set(named, _) => (*named, Kind::Set),
-            Ask::Modify(named, _) => (*named, Kind::Modify),
+            Ask::Get(named) => (*named, CallKind::Get),
+            Ask::Set(named, _) => (*named, CallKind::Set),
+            Ask::Modify(named, _) => (*named, CallKind::Modify),
             _ => return,
         };
         let found = match reply {
@@ -146,22 +146,22 @@ impl<'c> WorkerLog<'c> {
     // A call that isn't on a ref was answered.
     fn shared(&mut self, by: u16, left: u32, ask: &Ask, reply: &Reply) {
         match (ask, reply) {
-            (Ask::Start, Reply::Number(number)) => self.note(by, left, Kind::Start, *number),
-            (Ask::NewRef, Reply::Number(number)) => self.note(by, left, Kind::NewRef, *number),
+            (Ask::Start, Reply::Number(number)) => self.note(by, left, CallKind::Start, *number),
+            (Ask::NewRef, Reply::Number(number)) => self.note(by, left, CallKind::NewRef, *number),
             (Ask::NewDeferred, Reply::Number(number)) => {
-                self.note(by, left, Kind::NewDeferred, *number);
+                self.note(by, left, CallKind::NewDeferred, *number);
             }
             (Ask::Cancel(fiber), Reply::Cancel(found)) => self.canceled(by, left, *fiber, *found),
             (Ask::Join(fiber), Reply::Join(JoinReply::Ended(_))) => {
-                self.note(by, left, Kind::JoinEnded, *fiber);
+                self.note(by, left, CallKind::JoinEnded, *fiber);
             }
-            (Ask::Finish(_), _) => self.note(by, left, Kind::Finish, by),
+            (Ask::Finish(_), _) => self.note(by, left, CallKind::Finish, by),
             (Ask::Complete(number, _), Reply::Completed(true)) => {
-                self.note(by, left, Kind::Complete, *number);
+                self.note(by, left, CallKind::Complete, *number);
             }
-            (Ask::Complete(number, _), _) => self.note(by, left, Kind::Filled, *number),
+            (Ask::Complete(number, _), _) => self.note(by, left, CallKind::Filled, *number),
             (Ask::Read(number), Reply::Read(Some(_))) => {
-                self.note(by, left, Kind::Filled, *number);
+                self.note(by, left, CallKind::Filled, *number);
             }
             _ => {}
         }
@@ -187,7 +187,7 @@ impl<'c> CallLog for WorkerLog<'c> {
         match ask {
             Ask::Silent | Ask::Mask | Ask::Unmask | Ask::Cut => {}
             Ask::Look => match reply {
-                Reply::Seen(true) => self.note(by, left, Kind::SawRequest, by),
+                Reply::Seen(true) => self.note(by, left, CallKind::SawRequest, by),
                 _ => self.saw_none(by, left),
             },
             Ask::Get(_) | Ask::Set(_, _) | Ask::Modify(_, _) => {

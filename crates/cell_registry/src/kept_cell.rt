@@ -4,25 +4,17 @@ ghost use Rattle.cell_registry.specs.Words.{has_ended};
 ghost use Rattle.cell_registry.specs.Cells.{awaited, cancel_reply, cut, finished, fresh, join_reply, masked};
 ghost use Rattle.cell_registry.specs.Cells.{requested, spent, unmasked};
 ghost use Rattle.cell_registry.specs.declared.cell.Stage.TheVariants.{Ended, Finalizing, Running};
+ghost use Rattle.cell_registry.specs.Private.Kept.{has_value};
 
 use crate::limits::CellError;
+use crate::phase::Phase;
 use crate::sameness::{Same, mixed};
 use effect_term::{CancelReply, JoinReply, Outcome, Value};
 use std::marker::Model;
 use std::mem::size_of;
 
-// How far a fiber has come, and in which way it ended.
-#[derive(Clone, Copy, PartialEq)]
-enum Phase {
-    Running,
-    Finalizing,
-    Succeeded,
-    Errored,
-    Canceled,
-}
-
-// A cell in 24 bytes, which changes in place. With a stage in it, it would have 40: a stage and its
-// outcome have a tag each. Contracts see the cell.
+/// A cell in 24 bytes, which changes in place. With a stage in it, it would have 40: a stage and its
+/// outcome have a tag each. Contracts see the cell.
 #[derive(Clone, Drop)]
 pub(crate) struct KeptCell {
     count: u64,
@@ -52,7 +44,7 @@ impl Model for KeptCell {
 }
 
 impl KeptCell {
-    // A cell at the opening.
+    /// A cell at the opening.
     pub(crate) fn fresh() -> KeptCell
         ensures { result ≡ fresh }
     {
@@ -66,7 +58,7 @@ impl KeptCell {
         }
     }
 
-    // The cell of a fiber that runs.
+    /// The cell of a fiber that runs.
     pub(crate) fn running(depth: u8, request: bool, waited: bool, count: u64) -> KeptCell
         ensures { result ≡ record {
           stage = Running;
@@ -86,7 +78,7 @@ impl KeptCell {
         }
     }
 
-    // The fiber finalizes.
+    /// The fiber finalizes.
     #[inline(always)]
     pub(crate) fn finalize(&mut self)
         ensures { self.new ≡ record self.old { stage = Finalizing } }
@@ -94,25 +86,17 @@ impl KeptCell {
         self.phase = Phase::Finalizing;
     }
 
-    // The fiber has ended so.
+    /// The fiber has ended so.
     #[inline(always)]
     pub(crate) fn end(&mut self, outcome: Outcome)
         ensures { self.new ≡ record self.old { stage = Ended outcome } }
     {
-        match outcome {
-            Outcome::Succeeded(value) => {
-                self.phase = Phase::Succeeded;
-                self.value = value;
-            }
-            Outcome::Errored(code) => {
-                self.phase = Phase::Errored;
-                self.value = code;
-            }
-            Outcome::Canceled => self.phase = Phase::Canceled,
-        }
+        let (phase, value) = Phase::ended(outcome, self.value);
+        self.phase = phase;
+        self.value = value;
     }
 
-    // Whether the fiber's cancellation is requested.
+    /// Whether the fiber's cancellation is requested.
     #[inline(always)]
     pub(crate) fn is_requested(&self) -> bool
         ensures { result ≡ self.now.request }
@@ -120,7 +104,7 @@ impl KeptCell {
         self.request
     }
 
-    // Whether the fiber has ended.
+    /// Whether the fiber has ended.
     pub(crate) fn has_ended(&self) -> bool
         ensures { result ≡ has_ended self.now.stage }
     {
@@ -130,7 +114,17 @@ impl KeptCell {
         }
     }
 
-    // Requests the fiber's cancellation.
+    // Whether the fiber has ended with a value or an error code.
+    fn has_value(&self) -> bool
+        ensures { result ≡ has_value self.now.stage }
+    {
+        match self.phase {
+            Phase::Running | Phase::Finalizing | Phase::Canceled => false,
+            Phase::Succeeded | Phase::Errored => true,
+        }
+    }
+
+    /// Requests the fiber's cancellation.
     #[inline(always)]
     pub(crate) fn request(&mut self) -> CancelReply
         ensures cell { self.new ≡ requested self.old }
@@ -150,7 +144,7 @@ impl KeptCell {
         }
     }
 
-    // Notes that somebody waits for the fiber's end.
+    /// Notes that somebody waits for the fiber's end.
     #[inline(always)]
     pub(crate) fn join(&mut self) -> JoinReply
         ensures cell { self.new ≡ awaited self.old }
@@ -165,7 +159,7 @@ impl KeptCell {
         }
     }
 
-    // Refuses where the count of changes is used up.
+    /// Refuses where the count of changes is used up.
     #[inline(always)]
     pub(crate) fn refuse_if_spent(&self, limit: u64) -> Result<(), CellError>
         ensures room { IfOk result (λ _. spent self.now.count limit ≡ None) }
@@ -177,7 +171,7 @@ impl KeptCell {
         Ok(())
     }
 
-    // Enters a mask.
+    /// Enters a mask.
     #[inline(always)]
     pub(crate) fn mask(&mut self)
         requires depth { self.old.depth < 255 }
@@ -188,7 +182,7 @@ impl KeptCell {
         self.count += 1;
     }
 
-    // Leaves a mask.
+    /// Leaves a mask.
     #[inline(always)]
     pub(crate) fn unmask(&mut self)
         requires depth { 0 < self.old.depth }
@@ -199,7 +193,7 @@ impl KeptCell {
         self.count += 1;
     }
 
-    // Observes the request, and enters the mask of the finalizers.
+    /// Observes the request, and enters the mask of the finalizers.
     #[inline(always)]
     pub(crate) fn cut(&mut self)
         requires depth { self.old.depth ≡ 0 }
@@ -211,7 +205,7 @@ impl KeptCell {
         self.count += 1;
     }
 
-    // Ends the fiber.
+    /// Ends the fiber.
     #[inline(always)]
     pub(crate) fn finish(&mut self, outcome: Outcome)
         requires { self.old.count + 1 < 2 ^ 64 }
@@ -229,7 +223,7 @@ impl Same for KeptCell {
             && self.depth == other.depth
             && self.request == other.request
             && self.waited == other.waited
-            && self.value.same(&other.value)
+            && (!self.has_value() || self.value.same(&other.value))
     }
 
     fn mixed_into(&self, digest: u64) -> u64 {

@@ -31,6 +31,7 @@ mod knowledge;
 mod limits;
 mod own_calls;
 mod pass;
+mod phase;
 mod plain;
 mod registry;
 mod rule;

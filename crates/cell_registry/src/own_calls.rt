@@ -12,6 +12,7 @@ ghost use Rattle.cell_registry.specs.Passes.{Changes, IsOf, IsPass, IsSpent};
 use crate::cell::Stage;
 use crate::limits::CellError;
 use crate::pass::Pass;
+use crate::phase::Phase;
 use crate::registry::Registry;
 use crate::rule;
 use crate::words::{cell_place, outcome_word, value_place};
@@ -98,7 +99,7 @@ impl Registry {
         self.table
             .shared
             .fetch_add::<rule::Cuts>(&mut pass.seat, cell_place(pass.number), cut_amount());
-        pass.stage = Stage::Finalizing;
+        pass.phase = Phase::Finalizing;
         pass.depth = 1;
         pass.count += 1;
         Ok(())
@@ -118,14 +119,16 @@ impl Registry {
         let value = outcome_word(&outcome);
         refuse_if_spent(pass.count, self.limits.count)?;
         let place = value_place(self.limits, pass.number);
-        let amount = finish_amount(is_finalizing(pass.stage), outcome);
+        let amount = finish_amount(is_finalizing(pass.phase.stage(pass.value)), outcome);
         self.table
             .shared
             .store::<rule::Stores>(&mut pass.seat, place, value);
         self.table
             .shared
             .fetch_add::<rule::Finishes>(&mut pass.seat, cell_place(pass.number), amount);
-        pass.stage = Stage::Ended(outcome);
+        let (phase, value) = Phase::ended(outcome, pass.value);
+        pass.phase = phase;
+        pass.value = value;
         pass.count += 1;
         Ok(())
     }

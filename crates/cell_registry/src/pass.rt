@@ -4,8 +4,11 @@ ghost use Rattle.cell_registry.specs.Passes.{IsPass};
 
 use crate::cell::Stage;
 use crate::knowledge::Knowledge;
+use crate::phase::Phase;
 use atomic_table::Seat;
+use effect_term::Value;
 use std::marker::Model;
+use std::mem::size_of;
 
 /// A fiber's token, with which it makes its calls at the registry that gave it.
 ///
@@ -16,24 +19,31 @@ use std::marker::Model;
 #[derive(Drop)]
 pub struct Pass {
     pub(crate) seat: Seat<u8, Knowledge>,
-    // The wide fields stand first, so that a pass has 40 bytes: it is moved by value.
-    pub(crate) stage: Stage,
+    // A pass is moved by value, and has 24 bytes. With a stage in it, it would have 40: a stage and its
+    // outcome have a tag each.
     pub(crate) count: u64,
+    // What the fiber ended with, if it succeeded or errored.
+    pub(crate) value: Value,
+    pub(crate) phase: Phase,
     pub(crate) number: u16,
     pub(crate) depth: u8,
     pub(crate) saw: bool,
 }
 
+const _: () = prove!(size_of::<Pass>() == 24);
+
 impl Model for Pass {
     ghost use Rattle.std.specs.Prelude.{◌≡◌, []};
     ghost use Rattle.cell_registry.specs.Passes.{IsSeated, PassView, pass_of};
+    ghost use Rattle.cell_registry.specs.Private.Kept.{stage_of};
 
     ghost Value = { PassView };
 
-    ghost view = { λ p. pass_of p.seat.table_id p.seat.me.0 p.number p.stage p.depth p.count p.saw };
+    ghost view = { λ p. pass_of p.seat.table_id p.seat.me.0 p.number (stage_of p.phase p.value) p.depth p.count p.saw };
 
     ghost invariant = { λ p. (p.seat.me.1 ≡ []) ×
-        IsSeated p.seat.me.0 (pass_of p.seat.table_id p.seat.me.0 p.number p.stage p.depth p.count p.saw) };
+        IsSeated p.seat.me.0 (pass_of p.seat.table_id p.seat.me.0 p.number (stage_of p.phase p.value) p.depth p.count
+        p.saw) };
 }
 
 impl Pass {
@@ -56,7 +66,7 @@ impl Pass {
     pub fn phase(&self) -> Stage
         ensures stage { result ≡ self.now.stage }
     {
-        self.stage
+        self.phase.stage(self.value)
     }
 
     /// How often the fiber changed its own cell.

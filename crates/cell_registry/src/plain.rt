@@ -1,5 +1,5 @@
 //! The registry for one thread.
-ghost use Rattle.std.specs.Prelude.{◌≡◌, ◌+◌, ◌<◌, is_none, length, IfErr, IfOk, true};
+ghost use Rattle.std.specs.Prelude.{◌≡◌, ◌≢◌, ◌+◌, ◌<◌, is_none, length, IfErr, IfOk, false, true};
 ghost use Rattle.cell_registry.specs.Cells.{AreLimits, Cells, cell_of, deferred_of};
 ghost use Rattle.cell_registry.specs.Words.{has_ended};
 ghost use Rattle.cell_registry.specs.Private.Shown.{Shows};
@@ -99,7 +99,7 @@ impl PlainRegistry {
         })
     }
 
-    // The registry that these words are left by.
+    /// The registry that these words are left by.
     pub(crate) fn shown(
         alloc: Global,
         words: &[u64],
@@ -373,7 +373,8 @@ impl PlainRegistry {
 
     /// Whether two registries are one: the same limits, numbers given, cells and values.
     pub fn same(&self, other: &PlainRegistry) -> bool
-        ensures { result ≡ true → self.now ≡ other.now }
+        ensures same { result ≡ true → self.now ≡ other.now }
+        ensures other { result ≡ false → self.now ≢ other.now }
     {
         same_limits(self.limits, other.limits)
             && self.next_fiber == other.next_fiber
@@ -398,7 +399,8 @@ impl PlainRegistry {
 
 // Whether the limits are the same.
 fn same_limits(one: Limits, other: Limits) -> bool
-    ensures { result ≡ true → one ≡ other }
+    ensures same { result ≡ true → one ≡ other }
+    ensures other { result ≡ false → one ≢ other }
 {
     one.fibers == other.fibers
         && one.refs == other.refs

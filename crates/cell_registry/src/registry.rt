@@ -10,11 +10,11 @@ ghost use Rattle.cell_registry.specs.Passes.{Calls, Counts, Gives, IsLeftWord, I
 ghost use Rattle.cell_registry.specs.Plain.{IsLeftPlain, IsPlain};
 ghost use Rattle.cell_registry.specs.Passes.{SeesAllGiven, Starts, first_pass};
 
-use crate::cell::Stage;
 use crate::claims::claim;
 use crate::knowledge::Knowledge;
 use crate::limits::{Band, CellError, Limits};
 use crate::pass::Pass;
+use crate::phase::Phase;
 use crate::plain::PlainRegistry;
 use crate::rule::{self, Rule};
 use crate::shown::copied;
@@ -23,7 +23,7 @@ use crate::words::{
     outcome_answer, value_place,
 };
 use atomic_table::Table;
-use effect_term::{CancelReply, JoinReply};
+use effect_term::{CancelReply, JoinReply, Value};
 use std::alloc::{AllocError, Global};
 use std::marker::Model;
 
@@ -91,10 +91,11 @@ impl Registry {
         let (table, seat) = Table::of_words(alloc, words.as_slice(), &limits)?;
         let pass = Pass {
             seat,
-            number: 0,
-            stage: Stage::Running,
-            depth: 0,
             count: 0,
+            value: Value::ZERO,
+            phase: Phase::Running,
+            number: 0,
+            depth: 0,
             saw: false,
         };
         Ok((Registry { table, limits }, pass))
@@ -120,10 +121,11 @@ impl Registry {
         let seat = self.table.shared.split_seat::<rule::Child>(&mut pass.seat);
         Ok(Pass {
             seat,
-            number,
-            stage: Stage::Running,
-            depth: 0,
             count: 0,
+            value: Value::ZERO,
+            phase: Phase::Running,
+            number,
+            depth: 0,
             saw: false,
         })
     }
@@ -234,10 +236,11 @@ impl Registry {
         let mut met = a;
         let Pass {
             seat,
-            number: _,
-            stage: _,
-            depth: _,
             count: _,
+            value: _,
+            phase: _,
+            number: _,
+            depth: _,
             saw: _,
         } = b;
         let shared = &self.table.shared;
@@ -274,10 +277,11 @@ impl Registry {
         let Registry { table, limits: _ } = self;
         let Pass {
             seat,
-            number: _,
-            stage: _,
-            depth: _,
             count: _,
+            value: _,
+            phase: _,
+            number: _,
+            depth: _,
             saw: _,
         } = pass;
         let closed = table.close_with(seat);
@@ -297,10 +301,11 @@ impl Registry {
         let Registry { table, limits } = self;
         let Pass {
             seat,
-            number: _,
-            stage: _,
-            depth: _,
             count: _,
+            value: _,
+            phase: _,
+            number: _,
+            depth: _,
             saw: _,
         } = pass;
         let values = usize::from(limits.fibers);

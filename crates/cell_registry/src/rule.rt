@@ -33,7 +33,7 @@ impl Play<u8, Knowledge> for Joins {
     ghost then = { λ step before found now. (now.1 ≡ []) × AtCell step.word (λ f. Joined f before.0 found now.0) };
 }
 
-// The load after a join that found an end.
+/// The load after a join that found an end.
 pub(crate) struct Finds;
 
 impl Play<u8, Knowledge> for Finds {
@@ -64,7 +64,7 @@ impl Play<u8, Knowledge> for Cuts {
     ghost then = { λ step before found now. (now.1 ≡ []) × WasCut before.0 now.0 };
 }
 
-// The store before an end.
+/// The store before an end.
 pub(crate) struct Stores;
 
 impl Play<u8, Knowledge> for Stores {
@@ -107,7 +107,7 @@ impl Play<u8, Knowledge> for Reads {
     ghost then = { λ step before found now. (now.1 ≡ []) × WasRead step.word before.0 found now.0 };
 }
 
-// The load before a claim.
+/// The load before a claim.
 pub(crate) struct Nexts;
 
 impl Play<u8, Knowledge> for Nexts {
@@ -121,7 +121,7 @@ impl Play<u8, Knowledge> for Claims {
         AtBand step.word (λ b. Tried b step.first before.0 found now.0) };
 }
 
-// A new fiber's number goes to a seat of its own.
+/// A new fiber's number goes to a seat of its own.
 pub(crate) struct Child;
 
 impl Split<Knowledge> for Child {
@@ -130,7 +130,7 @@ impl Split<Knowledge> for Child {
     ghost right = { child };
 }
 
-// One pass takes in another.
+/// One pass takes in another.
 pub(crate) struct Host;
 
 impl Join<Knowledge> for Host {
@@ -139,7 +139,7 @@ impl Join<Knowledge> for Host {
     ghost spent = { nothing };
 }
 
-// The load after that, by which the pass sees the calls of both.
+/// The load after that, by which the pass sees the calls of both.
 pub(crate) struct Meets;
 
 impl Play<u8, Knowledge> for Meets {

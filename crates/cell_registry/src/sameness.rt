@@ -1,6 +1,6 @@
 //! Whether two values are one, and numbers by which values are looked up.
 
-ghost use Rattle.std.specs.Prelude.{◌≡◌, true};
+ghost use Rattle.std.specs.Prelude.{◌≡◌, ◌≢◌, false, true};
 
 use control_word::value_word;
 use effect_term::Value;
@@ -9,7 +9,8 @@ use effect_term::Value;
 pub(crate) trait Same {
     /// Whether the two are one.
     fn same(&self, other: &Self) -> bool
-        ensures { result ≡ true → self.now ≡ other.now };
+        ensures same { result ≡ true → self.now ≡ other.now }
+        ensures other { result ≡ false → self.now ≢ other.now };
 
     /// A digest, and then this value in it.
     fn mixed_into(&self, digest: u64) -> u64;
@@ -44,7 +45,8 @@ impl Same for Option<Value> {
 
 /// Whether two lists have the same items.
 pub(crate) fn same_items<T: Same>(one: &[T], other: &[T]) -> bool
-    ensures { result ≡ true → one.now ≡ other.now }
+    ensures same { result ≡ true → one.now ≡ other.now }
+    ensures other { result ≡ false → one.now ≢ other.now }
 {
     if one.len() != other.len() {
         return false;

@@ -14,7 +14,7 @@ use control_word::{unpack, word_value};
 use effect_term::Value;
 use std::alloc::{AllocError, Global};
 
-// The words of a closed table that has so many.
+/// The words of a closed table that has so many.
 pub(crate) fn copied(
     alloc: Global,
     closed: &Closed<u8, Global>,
@@ -24,7 +24,7 @@ pub(crate) fn copied(
     requires count { slots_len closed.now.words ≡ count }
     ensures { IfOk result (λ it. Copies (slots_items closed.now.words) count it.items) }
 {
-    let mut words = Vec::new(alloc);
+    let mut words = Vec::with_capacity(alloc, count)?;
     for place in 0..count {
         words.push(closed.word(place))?;
     }
@@ -48,7 +48,7 @@ fn cell(word: u64, value: u64) -> KeptCell
     cell
 }
 
-// The cells of all fibers.
+/// The cells of all fibers.
 pub(crate) fn cells(
     alloc: Global,
     words: &[u64],
@@ -58,7 +58,7 @@ pub(crate) fn cells(
     requires words { length words.now ≡ limits.fibers + limits.refs + limits.deferreds + limits.fibers + 3 }
     ensures { IfOk result (λ it. (s : Cells) → Shows limits words.now s → it.items ≡ s.cells) }
 {
-    let mut cells = Vec::new(alloc);
+    let mut cells = Vec::with_capacity(alloc, usize::from(limits.fibers))?;
     for fiber in 0..limits.fibers {
         let word = words[cell_place(fiber)];
         let value = words[value_place(limits, fiber)];
@@ -67,13 +67,13 @@ pub(crate) fn cells(
     Ok(cells)
 }
 
-// The values of all refs.
+/// The values of all refs.
 pub(crate) fn refs(alloc: Global, words: &[u64], limits: Limits) -> Result<Vec<Value>, AllocError>
     requires limits { AreLimits limits }
     requires words { length words.now ≡ limits.fibers + limits.refs + limits.deferreds + limits.fibers + 3 }
     ensures { IfOk result (λ it. (s : Cells) → Shows limits words.now s → it.items ≡ s.refs) }
 {
-    let mut refs = Vec::new(alloc);
+    let mut refs = Vec::with_capacity(alloc, usize::from(limits.refs))?;
     for number in 0..limits.refs {
         let word = words[ref_place(limits, number)];
         refs.push(word_value(word))?;
@@ -81,7 +81,7 @@ pub(crate) fn refs(alloc: Global, words: &[u64], limits: Limits) -> Result<Vec<V
     Ok(refs)
 }
 
-// The values of all deferreds.
+/// The values of all deferreds.
 pub(crate) fn deferreds(
     alloc: Global,
     words: &[u64],
@@ -91,7 +91,7 @@ pub(crate) fn deferreds(
     requires words { length words.now ≡ limits.fibers + limits.refs + limits.deferreds + limits.fibers + 3 }
     ensures { IfOk result (λ it. (s : Cells) → Shows limits words.now s → it.items ≡ s.deferreds) }
 {
-    let mut deferreds = Vec::new(alloc);
+    let mut deferreds = Vec::with_capacity(alloc, usize::from(limits.deferreds))?;
     for number in 0..limits.deferreds {
         let word = words[deferred_place(limits, number)];
         deferreds.push(read_answer(word))?;

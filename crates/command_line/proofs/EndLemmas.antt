@@ -32,8 +32,8 @@ use Rattle.timeline_text.specs.TimelineAnswers.{IsTimelineAnswer, tells, unrepla
 use Rattle.sample_text.specs.SampleAnswers.{IsSampleAnswer, samples, unsampled}
 use Rattle.sample_text.specs.declared.sample_texts.SampleOrder.{SampleOrder}
 use Rattle.steal_pool.specs.declared.options.Options.{Options}
-use Rattle.command_line.specs.declared.replay.Form.{Form}
-use Rattle.command_line.specs.declared.replay.Form.TheVariants.{Report, Timeline, Picture, Json}
+use Rattle.command_line.specs.declared.replay.AnswerForm.{AnswerForm}
+use Rattle.command_line.specs.declared.replay.AnswerForm.TheVariants.{Report, Timeline, Picture, Json}
 use Rattle.command_line.specs.declared.running.RunForm.{RunForm}
 use Rattle.command_line.specs.declared.running.RunForm.TheVariants as ran
 use Rattle.command_line.specs.Checks.{checks_as}
@@ -122,7 +122,7 @@ json_ends : {schedule : List ℕ} {limits : Limits} {text answer : List ℕ} {st
 json_ends (unreplayed_json text answer status h) = json_refusal_ends h
 json_ends (replays_json text answer status t reads program runs) = json_run_ends runs
 
-pub form_ends : (form : Form) (schedule : List ℕ) (limits : Limits) (text answer : List ℕ) (status : Status) →
+pub form_ends : (form : AnswerForm) (schedule : List ℕ) (limits : Limits) (text answer : List ℕ) (status : Status) →
     answers_as form schedule limits text answer status → status ≢ ends.Usage
 form_ends Report schedule limits text answer status h = replay_ends h
 form_ends Timeline schedule limits text answer status h = timeline_ends h

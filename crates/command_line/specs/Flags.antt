@@ -3,8 +3,8 @@ use Rattle.std.specs.Prelude.{◌≡◌, Bool, true, false, List, Some, codes}
 use Rattle.clap.specs.Words.{Row, Text, first_of}
 use Rattle.command_line.specs.declared.exploring.ExploreForm.{ExploreForm}
 use Rattle.command_line.specs.declared.exploring.ExploreForm.TheVariants as explores
-use Rattle.command_line.specs.declared.replay.Form.{Form}
-use Rattle.command_line.specs.declared.replay.Form.TheVariants.{Report, Timeline, Picture, Json}
+use Rattle.command_line.specs.declared.replay.AnswerForm.{AnswerForm}
+use Rattle.command_line.specs.declared.replay.AnswerForm.TheVariants.{Report, Timeline, Picture, Json}
 use Rattle.command_line.specs.declared.running.RunForm.{RunForm}
 use Rattle.command_line.specs.declared.running.RunForm.TheVariants as runs
 
@@ -22,7 +22,7 @@ SaysFlag name options true = IsGiven name options
 SaysFlag name options false = IsLeftOut name options
 
 -- the form that the options of `replay` say: that of the one flag of these three that is given, or a report
-abbrev pub SaysForm : List Row → Form → Type 0
+abbrev pub SaysForm : List Row → AnswerForm → Type 0
 SaysForm options Report =
     IsLeftOut (codes "timeline") options × IsLeftOut (codes "svg") options × IsLeftOut (codes "json") options
 SaysForm options Timeline =

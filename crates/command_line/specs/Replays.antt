@@ -18,23 +18,23 @@ use Rattle.explanations.specs.Schedules.{ExplainsSchedule}
 use Rattle.json_answers.specs.Answers.{IsJsonReplay}
 use Rattle.timeline_svg.specs.PictureAnswers.{IsPictureAnswer}
 use Rattle.timeline_text.specs.TimelineAnswers.{IsTimelineAnswer}
-use Rattle.command_line.specs.declared.replay.Form.{Form}
-use Rattle.command_line.specs.declared.replay.Form.TheVariants.{Report, Timeline, Picture, Json}
+use Rattle.command_line.specs.declared.replay.AnswerForm.{AnswerForm}
+use Rattle.command_line.specs.declared.replay.AnswerForm.TheVariants.{Report, Timeline, Picture, Json}
 use Rattle.command_line.specs.declared.replay.Replay.{Replay}
 use Rattle.command_line.specs.FirstLine.{IsFirstLine, IsInput}
 use Rattle.command_line.specs.Orders.{ObeysOrder}
 use Rattle.command_line.specs.Telling.{LacksMemory, TellsWrong}
 
 -- what is answered to a text under these entries, in this form
-abbrev pub answers_as : Form → List ℕ → Limits → List ℕ → List ℕ → Status → Type 0
+abbrev pub answers_as : AnswerForm → List ℕ → Limits → List ℕ → List ℕ → Status → Type 0
 answers_as Report entries limits = IsReplayAnswer entries limits
 answers_as Timeline entries limits = IsTimelineAnswer entries limits
 answers_as Picture entries limits = IsPictureAnswer entries limits
 answers_as Json entries limits = IsJsonReplay entries limits
 
 -- The schedule is well formed, and the text is answered under its entries, in this form, with reasons or without.
-pub record ScheduledAs (form : Form) (explain : Bool) (schedule : List ℕ) (limits : Limits) (before after : Devices)
-    (status : Status) : Type 0 where
+pub record ScheduledAs (form : AnswerForm) (explain : Bool) (schedule : List ℕ) (limits : Limits)
+    (before after : Devices) (status : Status) : Type 0 where
   pub entries : List ℕ
   pub spelled : SpellsEntries schedule entries
   pub answered :
@@ -54,7 +54,7 @@ pub record UnscheduledAs (explain : Bool) (schedule : List ℕ) (before after : 
   pub told : RefusesAs explain error before.err after.err status
 
 -- the text is answered under the schedule of this text, or that one is bad, and nothing is read
-abbrev pub ObeysSchedule : Form → Bool → List ℕ → Limits → Devices → Devices → Status → Type 0
+abbrev pub ObeysSchedule : AnswerForm → Bool → List ℕ → Limits → Devices → Devices → Status → Type 0
 ObeysSchedule form explain schedule limits before after status =
     ScheduledAs form explain schedule limits before after status ⊎ UnscheduledAs explain schedule before after status
 
@@ -63,8 +63,8 @@ abbrev pub held : List ℕ → Reader
 held text = reader (Some text) false false 0
 
 -- The first line of the input is the text of the schedule, and the program's text is what stands behind it.
-pub record ObeysFirstLine (form : Form) (explain : Bool) (limits : Limits) (before after : Devices) (status : Status) :
-    Type 0 where
+pub record ObeysFirstLine (form : AnswerForm) (explain : Bool) (limits : Limits) (before after : Devices)
+    (status : Status) : Type 0 where
   pub bytes : List ℕ
   pub line : List ℕ
   pub text : List ℕ
@@ -94,7 +94,7 @@ pub record HasNoInput (before after : Devices) (status : Status) : Type 0 where
   pub status_is : status ≡ Fault
 
 -- what comes of an input that has a schedule in its first line
-pub data ObeysInput (form : Form) (explain : Bool) (limits : Limits) (before after : Devices) (status : Status) :
+pub data ObeysInput (form : AnswerForm) (explain : Bool) (limits : Limits) (before after : Devices) (status : Status) :
     Type 0 where
   scheduled : ObeysFirstLine form explain limits before after status →
       ObeysInput form explain limits before after status

@@ -2,7 +2,7 @@
 
 ghost use Rattle.std.specs.Prelude.{◌≡◌, ◌≢◌, ◌<◌, ◌^◌, false};
 ghost use Rattle.command_line.specs.Checks.{ObeysCheck, ObeysShow};
-ghost use Rattle.text_io.specs.Devices.{devices, reader, writer};
+ghost use Rattle.text_io.specs.Devices.{devices};
 
 use crate::checking::{Checking, Showing};
 use crate::order::obey_order;
@@ -20,17 +20,12 @@ pub fn obey_check<I: TextIn, O: TextOut, E: TextOut>(
     out: &mut O,
     err: &mut E,
 ) -> Status
-    requires input { I.has_failed input.old ≡ false }
-    requires countable { I.reads input.old < 2 ^ 63 }
-    requires out { O.has_failed out.old ≡ false }
-    requires err { E.has_failed err.old ≡ false }
-    ensures obeyed { let before = devices (reader (I.remaining input.old) (I.has_failed input.old)
-        (I.has_ended input.old) (I.reads input.old)) (writer (O.contents out.old) (O.has_failed out.old))
-        (writer (E.contents err.old) (E.has_failed err.old)) in
-        let after = devices (reader (I.remaining input.new) (I.has_failed input.new) (I.has_ended input.new)
-        (I.reads input.new)) (writer (O.contents out.new) (O.has_failed out.new))
-        (writer (E.contents err.new) (E.has_failed err.new)) in
-        ObeysCheck checking before after result }
+    requires input { (I.seen input.old).failed ≡ false }
+    requires countable { (I.seen input.old).reads < 2 ^ 63 }
+    requires out { (O.seen out.old).failed ≡ false }
+    requires err { (E.seen err.old).failed ≡ false }
+    ensures obeyed { ObeysCheck checking (devices (I.seen input.old) (O.seen out.old) (E.seen err.old))
+        (devices (I.seen input.new) (O.seen out.new) (E.seen err.new)) result }
     ensures ends { result ≢ Status.Usage }
 {
     let explain = checking.explain;
@@ -49,17 +44,12 @@ pub fn obey_show<I: TextIn, O: TextOut, E: TextOut>(
     out: &mut O,
     err: &mut E,
 ) -> Status
-    requires input { I.has_failed input.old ≡ false }
-    requires countable { I.reads input.old < 2 ^ 63 }
-    requires out { O.has_failed out.old ≡ false }
-    requires err { E.has_failed err.old ≡ false }
-    ensures obeyed { let before = devices (reader (I.remaining input.old) (I.has_failed input.old)
-        (I.has_ended input.old) (I.reads input.old)) (writer (O.contents out.old) (O.has_failed out.old))
-        (writer (E.contents err.old) (E.has_failed err.old)) in
-        let after = devices (reader (I.remaining input.new) (I.has_failed input.new) (I.has_ended input.new)
-        (I.reads input.new)) (writer (O.contents out.new) (O.has_failed out.new))
-        (writer (E.contents err.new) (E.has_failed err.new)) in
-        ObeysShow showing before after result }
+    requires input { (I.seen input.old).failed ≡ false }
+    requires countable { (I.seen input.old).reads < 2 ^ 63 }
+    requires out { (O.seen out.old).failed ≡ false }
+    requires err { (E.seen err.old).failed ≡ false }
+    ensures obeyed { ObeysShow showing (devices (I.seen input.old) (O.seen out.old) (E.seen err.old))
+        (devices (I.seen input.new) (O.seen out.new) (E.seen err.new)) result }
     ensures ends { result ≢ Status.Usage }
 {
     obey_order(

@@ -4,7 +4,7 @@ ghost use Rattle.std.specs.Prelude.{◌≡◌, ◌<◌, ◌^◌, false, map};
 ghost use Rattle.clap.specs.Words.{kind_of};
 ghost use Rattle.command_line.specs.Requests.{HasScheduleInInput, ObeysRequest, Runs, TakesSchedule};
 ghost use Rattle.command_line.specs.Telling.{TellsKind};
-ghost use Rattle.text_io.specs.Devices.{devices, reader, writer};
+ghost use Rattle.text_io.specs.Devices.{devices};
 
 use crate::check_order::{obey_check, obey_show};
 use crate::explore_order::obey_explore;
@@ -23,22 +23,20 @@ use std::sync::Wait;
 use std::thread::Threads;
 use std::time::Clock;
 
-/// What is told where the words give no request. `clap` looks at each of them but the outcomes, and not at
-/// whether flags go together.
+// What is told where the words give no request. `clap` looks at each of them but the outcomes, and not at
+// whether flags go together.
 const NO_REQUEST: &str = "these words ask for nothing: flags don't go together, of which these do:
   replay   one of '--timeline', '--svg' and '--json', and '--explain'
   explore  one of '--timeline' and '--json', and '--explain'; or '--progress' alone
   run      '--record', and '--timeline' beside it; or '--json' alone; or '--explain' alone
 or an outcome of '--want <OUTCOME>' is none of 'succeeded V', 'errored C', 'canceled' and 'unended'";
 
-/// Tells help or the version that was asked for, or what is wrong with the words, in `clap`'s words.
-/// Where help can't be written, that is told as any other fault.
+// Tells help or the version that was asked for, or what is wrong with the words, in `clap`'s words.
+// Where help can't be written, that is told as any other fault.
 fn usage<O: TextOut, E: TextOut>(alloc: Global, error: &Error, out: &mut O, err: &mut E) -> Status
-    requires out { O.has_failed out.old ≡ false }
-    requires err { E.has_failed err.old ≡ false }
-    ensures { TellsKind (kind_of error.now) (writer (O.contents out.old) (O.has_failed out.old))
-        (writer (O.contents out.new) (O.has_failed out.new)) (writer (E.contents err.old) (E.has_failed err.old))
-        (writer (E.contents err.new) (E.has_failed err.new)) result }
+    requires out { (O.seen out.old).failed ≡ false }
+    requires err { (E.seen err.old).failed ≡ false }
+    ensures { TellsKind (kind_of error.now) (O.seen out.old) (O.seen out.new) (E.seen err.old) (E.seen err.new) result }
 {
     if error.kind() == ErrorKind::OutOfMemory {
         return tell_fault(TextFault::NoMemory, err);
@@ -56,7 +54,7 @@ fn usage<O: TextOut, E: TextOut>(alloc: Global, error: &Error, out: &mut O, err:
     }
 }
 
-/// Does what was asked for, and gives the status.
+// Does what was asked for, and gives the status.
 fn obey_request<R, I, O, E>(
     rt: &R,
     request: Request<'_>,
@@ -69,17 +67,12 @@ where
     I: TextIn,
     O: TextOut,
     E: TextOut,
-    requires input { I.has_failed input.old ≡ false }
-    requires countable { I.reads input.old < 2 ^ 63 }
-    requires out { O.has_failed out.old ≡ false }
-    requires err { E.has_failed err.old ≡ false }
-    ensures obeyed { let before = devices (reader (I.remaining input.old) (I.has_failed input.old)
-        (I.has_ended input.old) (I.reads input.old)) (writer (O.contents out.old) (O.has_failed out.old))
-        (writer (E.contents err.old) (E.has_failed err.old)) in
-        let after = devices (reader (I.remaining input.new) (I.has_failed input.new) (I.has_ended input.new)
-        (I.reads input.new)) (writer (O.contents out.new) (O.has_failed out.new))
-        (writer (E.contents err.new) (E.has_failed err.new)) in
-        ObeysRequest request.entry before after result }
+    requires input { (I.seen input.old).failed ≡ false }
+    requires countable { (I.seen input.old).reads < 2 ^ 63 }
+    requires out { (O.seen out.old).failed ≡ false }
+    requires err { (E.seen err.old).failed ≡ false }
+    ensures obeyed { ObeysRequest request.entry (devices (I.seen input.old) (O.seen out.old) (E.seen err.old))
+        (devices (I.seen input.new) (O.seen out.new) (E.seen err.new)) result }
 
     // A bad schedule among the words is told before the text is read.
     ensures unread { result ≡ Status.Usage → (TakesSchedule request.entry → ⊥) → input.new ≡ input.old }
@@ -114,17 +107,12 @@ where
     I: TextIn,
     O: TextOut,
     E: TextOut,
-    requires input { I.has_failed input.old ≡ false }
-    requires countable { I.reads input.old < 2 ^ 63 }
-    requires out { O.has_failed out.old ≡ false }
-    requires err { E.has_failed err.old ≡ false }
-    ensures runs { let before = devices (reader (I.remaining input.old) (I.has_failed input.old)
-        (I.has_ended input.old) (I.reads input.old)) (writer (O.contents out.old) (O.has_failed out.old))
-        (writer (E.contents err.old) (E.has_failed err.old)) in
-        let after = devices (reader (I.remaining input.new) (I.has_failed input.new) (I.has_ended input.new)
-        (I.reads input.new)) (writer (O.contents out.new) (O.has_failed out.new))
-        (writer (E.contents err.new) (E.has_failed err.new)) in
-        Runs (map S.text words.entry.now) before after result }
+    requires input { (I.seen input.old).failed ≡ false }
+    requires countable { (I.seen input.old).reads < 2 ^ 63 }
+    requires out { (O.seen out.old).failed ≡ false }
+    requires err { (E.seen err.old).failed ≡ false }
+    ensures runs { Runs (map S.text words.entry.now) (devices (I.seen input.old) (O.seen out.old) (E.seen err.old))
+        (devices (I.seen input.new) (O.seen out.new) (E.seen err.new)) result }
 
     // Wrong words and a bad schedule among them are told before the input is read.
     ensures unread { result ≡ Status.Usage → (HasScheduleInInput (map S.text words.entry.now) → ⊥) →

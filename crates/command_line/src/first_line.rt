@@ -1,7 +1,6 @@
 //! An input that has the text of a schedule in its first line, and the text of a program behind it.
 
 ghost use Rattle.std.specs.Prelude.{◌≡◌, ◌≢◌, ◌<◌, ◌^◌, ℕ, false, IfOk, vec_len};
-ghost use Rattle.text_io.specs.Devices.{reader};
 ghost use Rattle.text_io.specs.Text.{is_read_fault};
 ghost use Rattle.command_line.specs.FirstLine.{IsFirstLine, IsInput};
 
@@ -9,12 +8,12 @@ use memchr::memchr;
 use outcome_trace::{ReadError, TextFault, TextIn};
 use std::alloc::{AllocError, Global};
 
-/// How many bytes of such an input are read at most, and how many reads are made. A schedule's text has fewer than
-/// 6,000,000, since each of its 1,000,000 entries takes no more than 6, and of a program's text no more than 65,537 are
-/// looked at.
+// How many bytes of such an input are read at most, and how many reads are made. A schedule's text has fewer than
+// 6,000,000, since each of its 1,000,000 entries takes no more than 6, and of a program's text no more than 65,537 are
+// looked at.
 const INPUT_BOUND: usize = 6_065_537;
 
-/// How many bytes one read takes at most.
+// How many bytes one read takes at most.
 const PIECE: usize = 65_536;
 
 // Room for one read.
@@ -30,16 +29,12 @@ fn room(alloc: Global) -> Result<Vec<u8>, AllocError>
 /// The faults are `ReadFault` where a read failed, `TurnBound` where `INPUT_BOUND` reads neither found the end of the
 /// input nor gave as many bytes, and `NoMemory` where memory ran out.
 pub fn read_input<T: TextIn>(alloc: Global, input: &mut T) -> Result<Vec<u8>, TextFault>
-    requires healthy { T.has_failed input.old ≡ false }
-    requires countable { T.reads input.old < 2 ^ 63 }
-    ensures read { let before = reader (T.remaining input.old) (T.has_failed input.old) (T.has_ended input.old)
-        (T.reads input.old) in
-        let after = reader (T.remaining input.new) (T.has_failed input.new) (T.has_ended input.new)
-        (T.reads input.new) in
-        IfOk result (λ bytes. IsInput before after bytes.items) }
+    requires healthy { (T.seen input.old).failed ≡ false }
+    requires countable { (T.seen input.old).reads < 2 ^ 63 }
+    ensures read { IfOk result (λ bytes. IsInput (T.seen input.old) (T.seen input.new) bytes.items) }
 
     // The fault is told exactly where the reader failed.
-    ensures failed { T.has_failed input.new ≡ is_read_fault result }
+    ensures failed { (T.seen input.new).failed ≡ is_read_fault result }
     ensures nothing_written { (written : ℕ) → result ≢ Err (TextFault.WriteFault written) }
 {
     let mut piece = room(alloc)?;

@@ -3,12 +3,12 @@
 ghost use Rattle.std.specs.Prelude.{◌≡◌, Bool, codes, IfSome, IfNone, false, option_map, true};
 ghost use Rattle.clap.specs.Words.{first_of, found_of, rows_of};
 ghost use Rattle.command_line.specs.declared.exploring.ExploreForm.{ExploreForm};
-ghost use Rattle.command_line.specs.declared.replay.Form.{Form};
+ghost use Rattle.command_line.specs.declared.replay.AnswerForm.{AnswerForm};
 ghost use Rattle.command_line.specs.declared.running.RunForm.{RunForm};
 ghost use Rattle.command_line.specs.Flags.{IsGiven, SaysExploreForm, SaysFlag, SaysForm, SaysRunForm};
 
 use crate::exploring::ExploreForm;
-use crate::replay::Form;
+use crate::replay::AnswerForm;
 use crate::running::RunForm;
 use clap::ArgMatches;
 
@@ -33,9 +33,9 @@ pub fn given(options: &ArgMatches<'_>, name: &str) -> bool
 
 /// The form that the options of `replay` say, where they say no two.
 #[tactic(auto, using(crate::proofs::FormLemmas::timeline_with_svg, crate::proofs::FormLemmas::timeline_with_json, crate::proofs::FormLemmas::svg_with_json))]
-pub fn replay_form(options: &ArgMatches<'_>) -> Option<Form>
+pub fn replay_form(options: &ArgMatches<'_>) -> Option<AnswerForm>
     ensures said { IfSome result (SaysForm (rows_of (found_of options.now))) }
-    ensures none { IfNone result ((form : Form) → SaysForm (rows_of (found_of options.now)) form → ⊥) }
+    ensures none { IfNone result ((form : AnswerForm) → SaysForm (rows_of (found_of options.now)) form → ⊥) }
 {
     let timeline = given(options, "timeline");
     let svg = given(options, "svg");
@@ -44,14 +44,18 @@ pub fn replay_form(options: &ArgMatches<'_>) -> Option<Form>
         if svg || json {
             None
         } else {
-            Some(Form::Timeline)
+            Some(AnswerForm::Timeline)
         }
     } else if svg {
-        if json { None } else { Some(Form::Picture) }
+        if json {
+            None
+        } else {
+            Some(AnswerForm::Picture)
+        }
     } else if json {
-        Some(Form::Json)
+        Some(AnswerForm::Json)
     } else {
-        Some(Form::Report)
+        Some(AnswerForm::Report)
     }
 }
 

@@ -6,7 +6,7 @@ use outcome_trace::Limits;
 
 /// In what form it is told what a program came to.
 #[derive(Clone, Copy)]
-pub enum Form {
+pub enum AnswerForm {
     /// As a report.
     Report,
     /// As a report with a timeline behind it.
@@ -23,7 +23,7 @@ pub struct Replay<'a> {
     /// The schedule's text, or `-`, where it is the first line of the input.
     pub schedule: &'a str,
     /// In what form it is told.
-    pub form: Form,
+    pub form: AnswerForm,
     /// Whether reasons are told.
     pub explain: bool,
     /// How many fibers, refs and deferreds there may be, and how often a fiber may change its own state.

@@ -3,10 +3,10 @@
 ghost use Rattle.std.specs.Prelude.{◌≡◌, ◌≢◌, ◌⊎◌, ◌<◌, ◌^◌, codes, false};
 ghost use Rattle.cell_registry.specs.Cells.{AreLimits};
 ghost use Rattle.command_line.specs.Replays.{ObeysInput, ObeysReplay, ObeysSchedule, RefusesAs};
-ghost use Rattle.text_io.specs.Devices.{devices, reader, writer};
+ghost use Rattle.text_io.specs.Devices.{devices};
 
 use crate::first_line::{first_line, read_input};
-use crate::replay::{Form, Replay};
+use crate::replay::{AnswerForm, Replay};
 use crate::replay_forms::obey_entries;
 use crate::wrong_words::refuse_words;
 use explanations::explain_schedule;
@@ -16,7 +16,7 @@ use outcome_trace::{
 use std::alloc::Global;
 use text_io::refuse_schedule;
 
-/// What is told where the first line of the input isn't text, in `clap`'s terms.
+// What is told where the first line of the input isn't text, in `clap`'s terms.
 const NOT_TEXT: &str = "invalid UTF-8 was detected in the schedule, the first line of the input";
 
 // Tells that a schedule's text is bad, with reasons or without.
@@ -27,9 +27,8 @@ fn refuse_as<E: TextOut>(
     error: ScheduleError,
     err: &mut E,
 ) -> Status
-    requires { E.has_failed err.old ≡ false }
-    ensures { RefusesAs explain error (writer (E.contents err.old) (E.has_failed err.old))
-        (writer (E.contents err.new) (E.has_failed err.new)) result }
+    requires { (E.seen err.old).failed ≡ false }
+    ensures { RefusesAs explain error (E.seen err.old) (E.seen err.new) result }
 {
     if explain {
         explain_schedule(alloc, schedule, error, err)
@@ -42,25 +41,21 @@ fn refuse_as<E: TextOut>(
 fn obey_schedule<I: TextIn, O: TextOut, E: TextOut>(
     alloc: Global,
     schedule: &str,
-    form: Form,
+    form: AnswerForm,
     explain: bool,
     limits: Limits,
     input: &mut I,
     out: &mut O,
     err: &mut E,
 ) -> Status
-    requires input { I.has_failed input.old ≡ false }
-    requires countable { I.reads input.old < 2 ^ 63 }
-    requires out { O.has_failed out.old ≡ false }
-    requires err { E.has_failed err.old ≡ false }
+    requires input { (I.seen input.old).failed ≡ false }
+    requires countable { (I.seen input.old).reads < 2 ^ 63 }
+    requires out { (O.seen out.old).failed ≡ false }
+    requires err { (E.seen err.old).failed ≡ false }
     requires limits { AreLimits limits }
-    ensures obeyed { let before = devices (reader (I.remaining input.old) (I.has_failed input.old)
-        (I.has_ended input.old) (I.reads input.old)) (writer (O.contents out.old) (O.has_failed out.old))
-        (writer (E.contents err.old) (E.has_failed err.old)) in
-        let after = devices (reader (I.remaining input.new) (I.has_failed input.new) (I.has_ended input.new)
-        (I.reads input.new)) (writer (O.contents out.new) (O.has_failed out.new))
-        (writer (E.contents err.new) (E.has_failed err.new)) in
-        ObeysSchedule form explain schedule.now limits before after result }
+    ensures obeyed { ObeysSchedule form explain schedule.now limits
+        (devices (I.seen input.old) (O.seen out.old) (E.seen err.old))
+        (devices (I.seen input.new) (O.seen out.new) (E.seen err.new)) result }
     ensures unread { result ≡ Status.Usage → input.new ≡ input.old }
 {
     match read_schedule(alloc, schedule) {
@@ -75,25 +70,20 @@ fn obey_schedule<I: TextIn, O: TextOut, E: TextOut>(
 // Obeys it under the schedule that the first line of the input is, on the text behind that line.
 fn obey_input<I: TextIn, O: TextOut, E: TextOut>(
     alloc: Global,
-    form: Form,
+    form: AnswerForm,
     explain: bool,
     limits: Limits,
     input: &mut I,
     out: &mut O,
     err: &mut E,
 ) -> Status
-    requires input { I.has_failed input.old ≡ false }
-    requires countable { I.reads input.old < 2 ^ 63 }
-    requires out { O.has_failed out.old ≡ false }
-    requires err { E.has_failed err.old ≡ false }
+    requires input { (I.seen input.old).failed ≡ false }
+    requires countable { (I.seen input.old).reads < 2 ^ 63 }
+    requires out { (O.seen out.old).failed ≡ false }
+    requires err { (E.seen err.old).failed ≡ false }
     requires limits { AreLimits limits }
-    ensures { let before = devices (reader (I.remaining input.old) (I.has_failed input.old)
-        (I.has_ended input.old) (I.reads input.old)) (writer (O.contents out.old) (O.has_failed out.old))
-        (writer (E.contents err.old) (E.has_failed err.old)) in
-        let after = devices (reader (I.remaining input.new) (I.has_failed input.new) (I.has_ended input.new)
-        (I.reads input.new)) (writer (O.contents out.new) (O.has_failed out.new))
-        (writer (E.contents err.new) (E.has_failed err.new)) in
-        ObeysInput form explain limits before after result }
+    ensures { ObeysInput form explain limits (devices (I.seen input.old) (O.seen out.old) (E.seen err.old))
+        (devices (I.seen input.new) (O.seen out.new) (E.seen err.new)) result }
 {
     let bytes = match read_input(alloc, input) {
         Ok(bytes) => bytes,
@@ -130,17 +120,12 @@ pub fn obey_replay<I: TextIn, O: TextOut, E: TextOut>(
     out: &mut O,
     err: &mut E,
 ) -> Status
-    requires input { I.has_failed input.old ≡ false }
-    requires countable { I.reads input.old < 2 ^ 63 }
-    requires out { O.has_failed out.old ≡ false }
-    requires err { E.has_failed err.old ≡ false }
-    ensures obeyed { let before = devices (reader (I.remaining input.old) (I.has_failed input.old)
-        (I.has_ended input.old) (I.reads input.old)) (writer (O.contents out.old) (O.has_failed out.old))
-        (writer (E.contents err.old) (E.has_failed err.old)) in
-        let after = devices (reader (I.remaining input.new) (I.has_failed input.new) (I.has_ended input.new)
-        (I.reads input.new)) (writer (O.contents out.new) (O.has_failed out.new))
-        (writer (E.contents err.new) (E.has_failed err.new)) in
-        ObeysReplay replay.entry before after result }
+    requires input { (I.seen input.old).failed ≡ false }
+    requires countable { (I.seen input.old).reads < 2 ^ 63 }
+    requires out { (O.seen out.old).failed ≡ false }
+    requires err { (E.seen err.old).failed ≡ false }
+    ensures obeyed { ObeysReplay replay.entry (devices (I.seen input.old) (O.seen out.old) (E.seen err.old))
+        (devices (I.seen input.new) (O.seen out.new) (E.seen err.new)) result }
     ensures unread { result ≡ Status.Usage → replay.entry.schedule.now ≢ codes "-" → input.new ≡ input.old }
 {
     let Replay {

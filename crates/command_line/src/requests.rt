@@ -51,7 +51,7 @@ pub enum Request<'a> {
     Sample(Sampling),
 }
 
-/// The number of the range that a text spells.
+// The number of the range that a text spells.
 fn number(text: &str, range: NumberRange) -> Option<u64>
     ensures spelled { IfSome result (SaysNumber range (Some text.now)) }
     ensures none { IfNone result (IsNumberOf range text.now → ⊥) }
@@ -62,7 +62,7 @@ fn number(text: &str, range: NumberRange) -> Option<u64>
     }
 }
 
-/// The number that an option says, which is the usual one where the option isn't given.
+// The number that an option says, which is the usual one where the option isn't given.
 fn number_of(matches: &ArgMatches<'_>, name: &str, range: NumberRange) -> Option<u64>
     requires { (range.least ≤ range.usual) × (range.usual ≤ range.most) }
     ensures said { IfSome result (SaysNumber range (first_of name.now (rows_of (found_of matches.now)))) }
@@ -77,8 +77,8 @@ fn number_of(matches: &ArgMatches<'_>, name: &str, range: NumberRange) -> Option
     }
 }
 
-/// The limits that the options of `replay`, of `explore`, of `run` or of `sample` say, with this range of
-/// fibers, of refs and of deferreds.
+// The limits that the options of `replay`, of `explore`, of `run` or of `sample` say, with this range of
+// fibers, of refs and of deferreds.
 fn limits_of(options: &ArgMatches<'_>, band: NumberRange) -> Option<Limits>
     requires least { band.least ≡ 1 }
     requires most { band.most ≡ 1000 }
@@ -99,7 +99,7 @@ fn limits_of(options: &ArgMatches<'_>, band: NumberRange) -> Option<Limits>
     })
 }
 
-/// How the options of `run` say that the run goes.
+// How the options of `run` say that the run goes.
 fn run_options(run: &ArgMatches<'_>) -> Option<Options>
     ensures said { IfSome result (SaysRun (rows_of (found_of run.now))) }
     ensures none { IfNone result ((options : Options) → SaysRun (rows_of (found_of run.now)) options → ⊥) }
@@ -121,7 +121,7 @@ fn run_options(run: &ArgMatches<'_>) -> Option<Options>
     })
 }
 
-/// The run that the options of `run` say.
+// The run that the options of `run` say.
 fn running_of(run: &ArgMatches<'_>) -> Option<Running>
     ensures said { IfSome result (SaysRunning (rows_of (found_of run.now))) }
     ensures none { IfNone result ((said : Running) → SaysRunning (rows_of (found_of run.now)) said → ⊥) }
@@ -135,7 +135,7 @@ fn running_of(run: &ArgMatches<'_>) -> Option<Running>
     })
 }
 
-/// The replay that the options of `replay` say.
+// The replay that the options of `replay` say.
 fn replay_of<'a>(replay: &ArgMatches<'a>) -> Option<Replay<'a>>
     ensures said { IfSome result (SaysReplay (rows_of (found_of replay.now))) }
     ensures none { IfNone result ((said : Replay) → SaysReplay (rows_of (found_of replay.now)) said → ⊥) }
@@ -151,7 +151,7 @@ fn replay_of<'a>(replay: &ArgMatches<'a>) -> Option<Replay<'a>>
     })
 }
 
-/// What the options of `sample` say that schedules are drawn by, and how many, under which limits.
+// What the options of `sample` say that schedules are drawn by, and how many, under which limits.
 fn sample_order(sample: &ArgMatches<'_>) -> Option<SampleOrder>
     ensures said { IfSome result (SaysSample (rows_of (found_of sample.now))) }
     ensures none { IfNone result ((order : SampleOrder) → SaysSample (rows_of (found_of sample.now)) order → ⊥) }
@@ -168,7 +168,7 @@ fn sample_order(sample: &ArgMatches<'_>) -> Option<SampleOrder>
     })
 }
 
-/// The sample that the options of `sample` say.
+// The sample that the options of `sample` say.
 fn sampling_of(sample: &ArgMatches<'_>) -> Option<Sampling>
     ensures said { IfSome result (SaysSampling (rows_of (found_of sample.now))) }
     ensures none { IfNone result ((said : Sampling) → SaysSampling (rows_of (found_of sample.now)) said → ⊥) }
@@ -180,7 +180,7 @@ fn sampling_of(sample: &ArgMatches<'_>) -> Option<Sampling>
     })
 }
 
-/// How far the options of `explore` say that the search goes.
+// How far the options of `explore` say that the search goes.
 fn bounds_of(explore: &ArgMatches<'_>) -> Option<Bounds>
     ensures said { IfSome result (λ b. SaysBounds (rows_of (found_of explore.now)) b.worlds b.entries) }
     ensures none { IfNone result ((worlds : ℕ) (entries : ℕ) →
@@ -195,7 +195,7 @@ fn bounds_of(explore: &ArgMatches<'_>) -> Option<Bounds>
     })
 }
 
-/// The outcomes that texts spell, where each spells one.
+// The outcomes that texts spell, where each spells one.
 fn wants_of(alloc: Global, texts: &[&str]) -> Result<Option<Vec<Want>>, AllocError>
     ensures said { IfOk result (λ found. IfSome found (λ wants. AreWants (map (λ s. s.now) texts.now) wants.items)) }
     ensures none { IfOk result (λ found. IfNone found ((wants : List Want) →
@@ -212,7 +212,7 @@ fn wants_of(alloc: Global, texts: &[&str]) -> Result<Option<Vec<Want>>, AllocErr
     Ok(Some(wants))
 }
 
-/// The outcomes that the options of `explore` say are wanted, where each text spells one.
+// The outcomes that the options of `explore` say are wanted, where each text spells one.
 fn wants_said(alloc: Global, explore: &ArgMatches<'_>) -> Result<Option<Vec<Want>>, AllocError>
     ensures said { IfOk result (λ found. IfSome found (λ wants.
         AreWants (texts_said (codes "want") (rows_of (found_of explore.now))) wants.items)) }
@@ -225,7 +225,7 @@ fn wants_said(alloc: Global, explore: &ArgMatches<'_>) -> Result<Option<Vec<Want
     }
 }
 
-/// What the options of `explore` say that the text is explored under.
+// What the options of `explore` say that the text is explored under.
 fn explore_order(
     alloc: Global,
     explore: &ArgMatches<'_>,
@@ -250,7 +250,7 @@ fn explore_order(
     }))
 }
 
-/// The exploration that the options of `explore` say.
+// The exploration that the options of `explore` say.
 fn exploring_of(alloc: Global, explore: &ArgMatches<'_>) -> Result<Option<Exploring>, AllocError>
     ensures said { IfOk result (λ found. IfSome found (SaysExploring (rows_of (found_of explore.now)))) }
     ensures none { IfOk result (λ found. IfNone found ((said : Exploring) →
@@ -269,7 +269,7 @@ fn exploring_of(alloc: Global, explore: &ArgMatches<'_>) -> Result<Option<Explor
     }
 }
 
-/// The request that `check` gives with its options.
+// The request that `check` gives with its options.
 fn check_request<'a>(options: &ArgMatches<'a>) -> Request<'a>
     ensures { Says (codes "check", rows_of (found_of options.now)) result }
 {
@@ -279,7 +279,7 @@ fn check_request<'a>(options: &ArgMatches<'a>) -> Request<'a>
     })
 }
 
-/// The request that `show` gives with its options.
+// The request that `show` gives with its options.
 fn show_request<'a>(options: &ArgMatches<'a>) -> Request<'a>
     ensures { Says (codes "show", rows_of (found_of options.now)) result }
 {
@@ -288,7 +288,7 @@ fn show_request<'a>(options: &ArgMatches<'a>) -> Request<'a>
     })
 }
 
-/// The request that a subcommand other than `explore` gives with its options.
+// The request that a subcommand other than `explore` gives with its options.
 fn plain_request<'a>(name: &str, options: &ArgMatches<'a>) -> Option<Request<'a>>
     requires { name.now ≢ codes "explore" }
     ensures { GivesRequest (Some (name.now, rows_of (found_of options.now))) result }
@@ -303,7 +303,7 @@ fn plain_request<'a>(name: &str, options: &ArgMatches<'a>) -> Option<Request<'a>
     }
 }
 
-/// The request that `explore` gives with its options.
+// The request that `explore` gives with its options.
 fn explore_request<'a>(
     alloc: Global,
     options: &ArgMatches<'a>,

@@ -8,7 +8,7 @@ ghost use Rattle.cell_registry.specs.Cells.{AreLimits};
 ghost use Rattle.command_line.specs.Runs.{ObeysRun, comes_as, ran_as, refused_as};
 ghost use Rattle.outcome_trace.specs.Answers.{IsRefused};
 ghost use Rattle.steal_pool.specs.Runs.{limits_of};
-ghost use Rattle.text_io.specs.Devices.{devices, reader, writer};
+ghost use Rattle.text_io.specs.Devices.{devices};
 ghost use Rattle.text_io.specs.Exchange.{IsAnswered};
 ghost use Rattle.text_io.specs.Telling.{Answered};
 
@@ -96,18 +96,13 @@ fn run_text<R: Threads + Wait + Sync, I: TextIn, O: TextOut>(
     input: &mut I,
     out: &mut O,
 ) -> Result<Status, TextFault>
-    requires input { I.has_failed input.old ≡ false }
-    requires countable { I.reads input.old < 2 ^ 63 }
-    requires out { O.has_failed out.old ≡ false }
+    requires input { (I.seen input.old).failed ≡ false }
+    requires countable { (I.seen input.old).reads < 2 ^ 63 }
+    requires out { (O.seen out.old).failed ≡ false }
     requires limits { AreLimits (limits_of options) }
     requires budget { 1 < options.budget }
-    ensures { let before = reader (I.remaining input.old) (I.has_failed input.old) (I.has_ended input.old)
-        (I.reads input.old) in
-        let after = reader (I.remaining input.new) (I.has_failed input.new) (I.has_ended input.new)
-        (I.reads input.new) in
-        let old = writer (O.contents out.old) (O.has_failed out.old) in
-        let new = writer (O.contents out.new) (O.has_failed out.new) in
-        IsAnswered (ran_as form options) before after old new result }
+    ensures { IsAnswered (ran_as form options) (I.seen input.old) (I.seen input.new) (O.seen out.old) (O.seen out.new)
+        result }
 {
     let text = read_text(alloc, input)?;
     let answer = text_answer(rt, alloc, text.as_slice(), form, options)?;
@@ -125,19 +120,14 @@ fn answer_run<R: Threads + Wait + Sync, I: TextIn, O: TextOut, E: TextOut>(
     out: &mut O,
     err: &mut E,
 ) -> Status
-    requires input { I.has_failed input.old ≡ false }
-    requires countable { I.reads input.old < 2 ^ 63 }
-    requires out { O.has_failed out.old ≡ false }
-    requires err { E.has_failed err.old ≡ false }
+    requires input { (I.seen input.old).failed ≡ false }
+    requires countable { (I.seen input.old).reads < 2 ^ 63 }
+    requires out { (O.seen out.old).failed ≡ false }
+    requires err { (E.seen err.old).failed ≡ false }
     requires limits { AreLimits (limits_of options) }
     requires budget { 1 < options.budget }
-    ensures { let before = devices (reader (I.remaining input.old) (I.has_failed input.old)
-        (I.has_ended input.old) (I.reads input.old)) (writer (O.contents out.old) (O.has_failed out.old))
-        (writer (E.contents err.old) (E.has_failed err.old)) in
-        let after = devices (reader (I.remaining input.new) (I.has_failed input.new) (I.has_ended input.new)
-        (I.reads input.new)) (writer (O.contents out.new) (O.has_failed out.new))
-        (writer (E.contents err.new) (E.has_failed err.new)) in
-        Answered (ran_as form options) before after result }
+    ensures { Answered (ran_as form options) (devices (I.seen input.old) (O.seen out.old) (E.seen err.old))
+        (devices (I.seen input.new) (O.seen out.new) (E.seen err.new)) result }
 {
     match run_text(rt, alloc, form, options, input, out) {
         Ok(status) => status,
@@ -164,17 +154,12 @@ pub fn obey_run<R: Threads + Wait + Sync, I: TextIn, O: TextOut, E: TextOut>(
     out: &mut O,
     err: &mut E,
 ) -> Status
-    requires input { I.has_failed input.old ≡ false }
-    requires countable { I.reads input.old < 2 ^ 63 }
-    requires out { O.has_failed out.old ≡ false }
-    requires err { E.has_failed err.old ≡ false }
-    ensures obeyed { let before = devices (reader (I.remaining input.old) (I.has_failed input.old)
-        (I.has_ended input.old) (I.reads input.old)) (writer (O.contents out.old) (O.has_failed out.old))
-        (writer (E.contents err.old) (E.has_failed err.old)) in
-        let after = devices (reader (I.remaining input.new) (I.has_failed input.new) (I.has_ended input.new)
-        (I.reads input.new)) (writer (O.contents out.new) (O.has_failed out.new))
-        (writer (E.contents err.new) (E.has_failed err.new)) in
-        ObeysRun running before after result }
+    requires input { (I.seen input.old).failed ≡ false }
+    requires countable { (I.seen input.old).reads < 2 ^ 63 }
+    requires out { (O.seen out.old).failed ≡ false }
+    requires err { (E.seen err.old).failed ≡ false }
+    ensures obeyed { ObeysRun running (devices (I.seen input.old) (O.seen out.old) (E.seen err.old))
+        (devices (I.seen input.new) (O.seen out.new) (E.seen err.new)) result }
     ensures ends { result ≢ Status.Usage }
 {
     if running.explain {

@@ -9,7 +9,7 @@ ghost use Rattle.explanations.specs.Explained.{TellsReasons};
 ghost use Rattle.outcome_trace.specs.Answers.{IsRefusalAnswer, IsRefused};
 ghost use Rattle.outcome_trace.specs.ReplayAnswers.{IsReplayAnswer, IsRunAnswer};
 ghost use Rattle.steal_pool.specs.Runs.{limits_of};
-ghost use Rattle.text_io.specs.Devices.{devices, reader, writer};
+ghost use Rattle.text_io.specs.Devices.{devices};
 ghost use Rattle.text_io.specs.Exchange.{IsAnswered};
 
 use crate::record_answers::entries_of;
@@ -27,21 +27,21 @@ use std::sync::Wait;
 use std::thread::Threads;
 use steal_pool::{OpenGate, Options, Recorded, RunEnd, run_recorded};
 
-/// What is told where no schedule of the run was found.
+// What is told where no schedule of the run was found.
 const NO_REASONS: &[u8] = b"reasons can't be told: no schedule of this run was found\n";
 
-/// How many entries are tried behind the schedule of a run, so that each fiber comes to where it waits: a schedule that
-/// a run hands out leaves out what shows nothing.
+// How many entries are tried behind the schedule of a run, so that each fiber comes to where it waits: a schedule that
+// a run hands out leaves out what shows nothing.
 const MORE_ENTRIES: usize = 100_000;
 
-/// The answer to a text, and the entries of a schedule under which a replay answers it so, if some were found.
+// The answer to a text, and the entries of a schedule under which a replay answers it so, if some were found.
 #[derive(Drop)]
 struct Ran {
     answer: Answer,
     entries: Option<Vec<u16>>,
 }
 
-/// A text that was answered.
+// A text that was answered.
 #[derive(Drop)]
 struct Kept {
     text: Vec<u8>,
@@ -115,28 +115,17 @@ fn keep_run<R: Threads + Wait + Sync, I: TextIn, O: TextOut>(
     input: &mut I,
     out: &mut O,
 ) -> Result<Kept, TextFault>
-    requires input { I.has_failed input.old ≡ false }
-    requires countable { I.reads input.old < 2 ^ 63 }
-    requires out { O.has_failed out.old ≡ false }
+    requires input { (I.seen input.old).failed ≡ false }
+    requires countable { (I.seen input.old).reads < 2 ^ 63 }
+    requires out { (O.seen out.old).failed ≡ false }
     requires limits { AreLimits (limits_of options) }
     requires budget { 1 < options.budget }
-    ensures kept { let before = reader (I.remaining input.old) (I.has_failed input.old) (I.has_ended input.old)
-        (I.reads input.old) in
-        let after = reader (I.remaining input.new) (I.has_failed input.new) (I.has_ended input.new)
-        (I.reads input.new) in
-        let old = writer (O.contents out.old) (O.has_failed out.old) in
-        let new = writer (O.contents out.new) (O.has_failed out.new) in
-        IfOk result (λ kept. IsRunKept options before after old new kept.text.items kept.ran.answer.text.items
-        kept.ran.answer.status) }
+    ensures kept { IfOk result (λ kept. IsRunKept options (I.seen input.old) (I.seen input.new) (O.seen out.old)
+        (O.seen out.new) kept.text.items kept.ran.answer.text.items kept.ran.answer.status) }
     ensures replayed { IfOk result (λ kept. IfSome kept.ran.entries (λ entries. IsReplayAnswer entries.items
         (limits_of options) kept.text.items kept.ran.answer.text.items kept.ran.answer.status)) }
-    ensures fault { let before = reader (I.remaining input.old) (I.has_failed input.old) (I.has_ended input.old)
-        (I.reads input.old) in
-        let after = reader (I.remaining input.new) (I.has_failed input.new) (I.has_ended input.new)
-        (I.reads input.new) in
-        let old = writer (O.contents out.old) (O.has_failed out.old) in
-        let new = writer (O.contents out.new) (O.has_failed out.new) in
-        IfErr result (λ e. IsAnswered (IsRunTextAnswer options) before after old new (Fails e)) }
+    ensures fault { IfErr result (λ e. IsAnswered (IsRunTextAnswer options) (I.seen input.old) (I.seen input.new)
+        (O.seen out.old) (O.seen out.new) (Fails e)) }
 {
     let text = read_text(alloc, input)?;
     let ran = text_ran(rt, alloc, text.as_slice(), options)?;
@@ -216,12 +205,12 @@ fn tell_kept<E: TextOut>(
     entries: Option<Vec<u16>>,
     err: &mut E,
 )
-    requires err { E.has_failed err.old ≡ false }
+    requires err { (E.seen err.old).failed ≡ false }
     requires limits { AreLimits limits }
     requires replayed { IfSome entries (λ entries. IsReplayAnswer entries.items limits text.now
         answer.now.text.items answer.now.status) }
-    ensures { TellsReasons (AreRunReasons limits text.now answer.now.text.items answer.now.status)
-        (writer (E.contents err.old) (E.has_failed err.old)) (writer (E.contents err.new) (E.has_failed err.new)) }
+    ensures { TellsReasons (AreRunReasons limits text.now answer.now.text.items answer.now.status) (E.seen err.old)
+        (E.seen err.new) }
 {
     match entries {
         Some(entries) => {
@@ -249,19 +238,14 @@ pub fn explain_run<R: Threads + Wait + Sync, I: TextIn, O: TextOut, E: TextOut>(
     out: &mut O,
     err: &mut E,
 ) -> Status
-    requires input { I.has_failed input.old ≡ false }
-    requires countable { I.reads input.old < 2 ^ 63 }
-    requires out { O.has_failed out.old ≡ false }
-    requires err { E.has_failed err.old ≡ false }
+    requires input { (I.seen input.old).failed ≡ false }
+    requires countable { (I.seen input.old).reads < 2 ^ 63 }
+    requires out { (O.seen out.old).failed ≡ false }
+    requires err { (E.seen err.old).failed ≡ false }
     requires limits { AreLimits (limits_of options) }
     requires budget { 1 < options.budget }
-    ensures { let before = devices (reader (I.remaining input.old) (I.has_failed input.old)
-        (I.has_ended input.old) (I.reads input.old)) (writer (O.contents out.old) (O.has_failed out.old))
-        (writer (E.contents err.old) (E.has_failed err.old)) in
-        let after = devices (reader (I.remaining input.new) (I.has_failed input.new) (I.has_ended input.new)
-        (I.reads input.new)) (writer (O.contents out.new) (O.has_failed out.new))
-        (writer (E.contents err.new) (E.has_failed err.new)) in
-        ExplainsRun options before after result }
+    ensures { ExplainsRun options (devices (I.seen input.old) (O.seen out.old) (E.seen err.old))
+        (devices (I.seen input.new) (O.seen out.new) (E.seen err.new)) result }
 {
     match keep_run(rt, alloc, options, input, out) {
         Ok(Kept { text, ran }) => {

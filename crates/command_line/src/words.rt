@@ -17,10 +17,10 @@ use crate::ranges::{
 use clap::{Arg, ArgAction, Command, value_parser};
 use std::alloc::{AllocError, Global};
 
-/// What `--version` tells behind the name.
+// What `--version` tells behind the name.
 const VERSION: &str = "0.1.0";
 
-/// A command without words of its own, with its help.
+// A command without words of its own, with its help.
 fn new_command<'a>(alloc: Global, name: &'a str, help: CommandHelp<'a>) -> Command<'a>
     ensures shape { app_of result ≡ new_app name.entry.now }
     ensures local { (out-Command result).has_globals ≡ false }
@@ -30,7 +30,7 @@ fn new_command<'a>(alloc: Global, name: &'a str, help: CommandHelp<'a>) -> Comma
         .after_help(help.after)
 }
 
-/// An option that takes a whole number of this range.
+// An option that takes a whole number of this range.
 fn number_option<'a>(alloc: Global, name: &'a str, help: &'a str, range: NumberRange) -> Arg<'a>
     requires least { range.least < 2 ^ 63 }
     requires most { range.most < 2 ^ 63 }
@@ -45,7 +45,7 @@ fn number_option<'a>(alloc: Global, name: &'a str, help: &'a str, range: NumberR
         .value_parser(value_parser!(u64).range(range.least as i64..=range.most as i64))
 }
 
-/// A flag, which takes no value.
+// A flag, which takes no value.
 fn flag<'a>(alloc: Global, name: &'a str, help: &'a str) -> Arg<'a>
     ensures rule { rule_of result ≡ flag name.entry.now }
     ensures local { result.global ≡ false }
@@ -56,7 +56,7 @@ fn flag<'a>(alloc: Global, name: &'a str, help: &'a str) -> Arg<'a>
         .action(ArgAction::SetTrue)
 }
 
-/// Adds a flag.
+// Adds a flag.
 fn with_flag<'a>(
     alloc: Global,
     command: Command<'a>,
@@ -70,7 +70,7 @@ fn with_flag<'a>(
     command.arg(flag)
 }
 
-/// Adds the flag that asks for reasons.
+// Adds the flag that asks for reasons.
 fn with_reasons<'a>(alloc: Global, command: Command<'a>) -> Result<Command<'a>, AllocError>
     ensures shape { IfOk result (λ c. app_of c ≡ with_rule (app_of command.entry) (flag (codes "explain"))) }
     ensures local { IfOk result (λ c. (out-Command c).has_globals ≡ (out-Command command.entry).has_globals) }
@@ -78,7 +78,7 @@ fn with_reasons<'a>(alloc: Global, command: Command<'a>) -> Result<Command<'a>, 
     with_flag(alloc, command, "explain", help::EXPLAIN)
 }
 
-/// Adds the flags that ask for another form than a report.
+// Adds the flags that ask for another form than a report.
 fn with_forms<'a>(alloc: Global, command: Command<'a>) -> Result<Command<'a>, AllocError>
     ensures shape { IfOk result (λ c. app_of c ≡ with_forms (app_of command.entry)) }
     ensures local { IfOk result (λ c. (out-Command c).has_globals ≡ (out-Command command.entry).has_globals) }
@@ -88,7 +88,7 @@ fn with_forms<'a>(alloc: Global, command: Command<'a>) -> Result<Command<'a>, Al
     with_flag(alloc, command, "json", help::JSON)
 }
 
-/// Adds the flags that ask for another form of an exploration than a list.
+// Adds the flags that ask for another form of an exploration than a list.
 fn with_explore_forms<'a>(alloc: Global, command: Command<'a>) -> Result<Command<'a>, AllocError>
     ensures shape { IfOk result (λ c. app_of c ≡ with_explore_forms (app_of command.entry)) }
     ensures local { IfOk result (λ c. (out-Command c).has_globals ≡ (out-Command command.entry).has_globals) }
@@ -98,7 +98,7 @@ fn with_explore_forms<'a>(alloc: Global, command: Command<'a>) -> Result<Command
     with_flag(alloc, timed, "json", help::JSON)
 }
 
-/// Adds the flags that ask for another form of a run than a report.
+// Adds the flags that ask for another form of a run than a report.
 fn with_run_forms<'a>(alloc: Global, command: Command<'a>) -> Result<Command<'a>, AllocError>
     ensures shape { IfOk result (λ c. app_of c ≡ with_run_forms (app_of command.entry)) }
     ensures local { IfOk result (λ c. (out-Command c).has_globals ≡ (out-Command command.entry).has_globals) }
@@ -108,7 +108,7 @@ fn with_run_forms<'a>(alloc: Global, command: Command<'a>) -> Result<Command<'a>
     with_flag(alloc, timed, "json", help::JSON)
 }
 
-/// The option that takes a schedule's text, which must be given.
+// The option that takes a schedule's text, which must be given.
 fn schedule_option<'a>(alloc: Global) -> Arg<'a>
     ensures rule { rule_of result ≡ schedule_option }
     ensures local { result.global ≡ false }
@@ -121,7 +121,7 @@ fn schedule_option<'a>(alloc: Global) -> Arg<'a>
         .action(ArgAction::Set)
 }
 
-/// The option that takes an outcome of fiber 0 that is wanted, as often as there are such.
+// The option that takes an outcome of fiber 0 that is wanted, as often as there are such.
 fn want_option<'a>(alloc: Global) -> Arg<'a>
     ensures rule { rule_of result ≡ want_option }
     ensures local { result.global ≡ false }
@@ -133,7 +133,7 @@ fn want_option<'a>(alloc: Global) -> Arg<'a>
         .action(ArgAction::Append)
 }
 
-/// Adds the options for the limits of a run.
+// Adds the options for the limits of a run.
 fn with_limits<'a>(
     alloc: Global,
     command: Command<'a>,
@@ -175,7 +175,7 @@ fn replay_command<'a>(alloc: Global) -> Result<Command<'a>, AllocError>
     with_reasons(alloc, with_forms(alloc, command)?)
 }
 
-/// `explore` without its flags.
+// `explore` without its flags.
 fn explore_options<'a>(alloc: Global) -> Result<Command<'a>, AllocError>
     ensures shape { IfOk result (λ c. app_of c ≡ explore_options) }
     ensures local { IfOk result (λ c. (out-Command c).has_globals ≡ false) }
@@ -198,7 +198,7 @@ fn explore_command<'a>(alloc: Global) -> Result<Command<'a>, AllocError>
     with_reasons(alloc, with_explore_forms(alloc, command)?)
 }
 
-/// `run` without its flags.
+// `run` without its flags.
 fn run_options<'a>(alloc: Global) -> Result<Command<'a>, AllocError>
     ensures shape { IfOk result (λ c. app_of c ≡ run_options) }
     ensures local { IfOk result (λ c. (out-Command c).has_globals ≡ false) }
@@ -218,7 +218,7 @@ fn run_command<'a>(alloc: Global) -> Result<Command<'a>, AllocError>
     with_reasons(alloc, with_run_forms(alloc, command)?)
 }
 
-/// `sample` without its flag.
+// `sample` without its flag.
 fn sample_options<'a>(alloc: Global) -> Result<Command<'a>, AllocError>
     ensures shape { IfOk result (λ c. app_of c ≡ sample_options) }
     ensures local { IfOk result (λ c. (out-Command c).has_globals ≡ false) }
@@ -238,7 +238,7 @@ fn sample_command<'a>(alloc: Global) -> Result<Command<'a>, AllocError>
     with_flag(alloc, command, "json", help::JSON)
 }
 
-/// The command without its subcommands.
+// The command without its subcommands.
 fn bare_program<'a>(alloc: Global) -> Command<'a>
     ensures { app_of result ≡ bare_program }
 {

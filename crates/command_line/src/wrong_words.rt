@@ -2,7 +2,6 @@
 
 ghost use Rattle.std.specs.Prelude.{◌≡◌, ◌⊎◌, false};
 ghost use Rattle.command_line.specs.Telling.{LacksMemory, TellsWrong};
-ghost use Rattle.text_io.specs.Devices.{writer};
 
 use crate::words::all_words;
 use clap::error::ErrorKind;
@@ -11,10 +10,9 @@ use std::alloc::Global;
 
 /// Tells what is wrong with words that `clap` doesn't see, or that it takes and that give no request.
 pub fn refuse_words<E: TextOut>(alloc: Global, message: &str, err: &mut E) -> Status
-    requires { E.has_failed err.old ≡ false }
-    ensures { let before = writer (E.contents err.old) (E.has_failed err.old) in
-        let after = writer (E.contents err.new) (E.has_failed err.new) in
-        TellsWrong before after result ⊎ LacksMemory before after result }
+    requires { (E.seen err.old).failed ≡ false }
+    ensures { TellsWrong (E.seen err.old) (E.seen err.new) result ⊎
+        LacksMemory (E.seen err.old) (E.seen err.new) result }
 {
     let Ok(mut all) = all_words(alloc) else {
         return tell_fault(TextFault::NoMemory, err);

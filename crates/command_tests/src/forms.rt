@@ -2,7 +2,7 @@
 
 use crate::answers::expect;
 
-/// What comes of words with such a flag: the rule, the words, the input, the status, what is written, and what is told.
+// What comes of words with such a flag: the rule, the words, the input, the status, what is written, and what is told.
 const FORMED: &[(&str, &[&str], &str, u8, &str, &str)] = &[
     (
         "a timeline stands behind the report",
@@ -78,7 +78,7 @@ const FORMED: &[(&str, &[&str], &str, u8, &str, &str)] = &[
     ),
 ];
 
-/// The same of runs and of explorations.
+// The same of runs and of explorations.
 const FOUND: &[(&str, &[&str], &str, u8, &str, &str)] = &[
     (
         "the report of a run as JSON",

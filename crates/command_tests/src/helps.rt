@@ -2,7 +2,7 @@
 
 use crate::answers::expect;
 
-/// Help: the words, and the text.
+// Help: the words, and the text.
 const HELP: &[(&[&str], &str)] = &[
     (
         &["fiber_cli", "--help"],

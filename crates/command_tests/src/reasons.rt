@@ -2,7 +2,7 @@
 
 use crate::answers::expect;
 
-/// What comes of words with `--explain`: the rule, the words, the input, the status, what is written, and what is told.
+// What comes of words with `--explain`: the rule, the words, the input, the status, what is written, and what is told.
 const EXPLAINED: &[(&str, &[&str], &str, u8, &str, &str)] = &[
     (
         "why a text is no program",
@@ -78,7 +78,7 @@ const EXPLAINED: &[(&str, &[&str], &str, u8, &str, &str)] = &[
     ),
 ];
 
-/// The same of runs.
+// The same of runs.
 const RUN: &[(&str, &[&str], &str, u8, &str, &str)] = &[
     (
         "why a fiber of a run hasn't ended",

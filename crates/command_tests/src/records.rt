@@ -7,9 +7,9 @@ use std::sync::Wait;
 use std::thread::Threads;
 use std::time::Clock;
 
-/// A run on one worker that is recorded, and what comes of it.
+// A run on one worker that is recorded, and what comes of it.
 struct Recorded<'a> {
-    /// What the run shows.
+    // What the run shows.
     rule: &'a str,
     option: &'a str,
     program: &'a str,
@@ -17,7 +17,7 @@ struct Recorded<'a> {
     out: &'a str,
 }
 
-/// Runs whose schedule has no moves but those that their report or their fault needs.
+// Runs whose schedule has no moves but those that their report or their fault needs.
 const RECORDED: &[Recorded<'static>] = &[
     Recorded {
         rule: "a value takes two moves",
@@ -57,7 +57,7 @@ fn tells_the_schedule_of_a_run(rt: HostRuntime) {
     }
 }
 
-/// The same with timelines.
+// The same with timelines.
 const TIMED: &[Recorded<'static>] = &[
     Recorded {
         rule: "the entry that ends the fiber",
@@ -116,7 +116,7 @@ const REPLAYED: &[&str] = &[
     "(uncancelable p (canceled))",
 ];
 
-/// Runs a program on so many workers, and compares what a replay under its schedule gives with its report.
+// Runs a program on so many workers, and compares what a replay under its schedule gives with its report.
 fn expect_replayed<R: Abort + AllocGlobal + Clock + Threads + Wait + Sync>(
     rt: &R,
     workers: &str,

@@ -16,10 +16,10 @@ mod masks;
 mod polled_acquisitions;
 mod races;
 
-/// A replay, and what comes of it.
+// A replay, and what comes of it.
 #[derive(Clone, Copy)]
 struct Replay<'a> {
-    /// What the replay shows.
+    // What the replay shows.
     rule: &'a str,
     program: &'a str,
     schedule: &'a str,
@@ -27,7 +27,7 @@ struct Replay<'a> {
     report: &'a str,
 }
 
-/// Replays a program under its schedule, and compares the report and the status.
+// Replays a program under its schedule, and compares the report and the status.
 fn expect_replay<R: Abort + AllocGlobal + Clock + Threads + Wait + Sync>(
     rt: &R,
     replay: &Replay<'_>,
@@ -43,7 +43,7 @@ fn expect_replay<R: Abort + AllocGlobal + Clock + Threads + Wait + Sync>(
     );
 }
 
-/// The same of each of these.
+// The same of each of these.
 fn expect_replays<R: Abort + AllocGlobal + Clock + Threads + Wait + Sync>(
     rt: &R,
     replays: &[Replay<'_>],

@@ -10,20 +10,20 @@ mod limits;
 mod reports;
 mod schedules;
 
-/// How many workers each program is run on.
+// How many workers each program is run on.
 const WORKERS: &[&str] = &["1", "2", "3", "4", "16"];
 
-/// A run whose report is the same under all schedules, and what comes of it.
+// A run whose report is the same under all schedules, and what comes of it.
 #[derive(Clone, Copy)]
 struct Run<'a> {
-    /// What the run shows.
+    // What the run shows.
     rule: &'a str,
     program: &'a str,
     status: u8,
     report: &'a str,
 }
 
-/// Runs a program with this option on one worker and on more, and compares the report and the status.
+// Runs a program with this option on one worker and on more, and compares the report and the status.
 fn expect_run<R: Abort + AllocGlobal + Clock + Threads + Wait + Sync>(
     rt: &R,
     option: &str,

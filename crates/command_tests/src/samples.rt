@@ -2,7 +2,7 @@
 
 use crate::answers::expect;
 
-/// What comes of samples: the rule, the words, the text, the status, and what is written.
+// What comes of samples: the rule, the words, the text, the status, and what is written.
 const SAMPLES: &[(&str, &[&str], &str, u8, &str)] = &[
     (
         "one fiber has one schedule",

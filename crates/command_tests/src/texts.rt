@@ -8,10 +8,10 @@ use std::test::Fail;
 use std::thread::Threads;
 use std::time::Clock;
 
-/// The rule that a text shows, the text, and what is answered to it.
+// The rule that a text shows, the text, and what is answered to it.
 type Case<'a> = (&'a str, &'a str, &'a str);
 
-/// Texts that a command line answers with one status.
+// Texts that a command line answers with one status.
 struct Answers<'a> {
     words: &'a [&'a str],
     status: u8,
@@ -259,7 +259,7 @@ const ANSWERS: &[Answers<'static>] = &[
     },
 ];
 
-/// Answers these texts.
+// Answers these texts.
 fn expect_answers<R: Abort + AllocGlobal + Clock + Threads + Wait + Sync>(
     rt: &R,
     answers: &Answers<'_>,
@@ -282,7 +282,7 @@ const BRACKETCASE: &str = "(bracketcase x (pure 0) (pure 0) y (pure 0) z (pure 0
 
 const GUARANTEE: &str = "(guarantee (pure 0) ";
 
-/// A text that goes so deep, and what `check` answers to it.
+// A text that goes so deep, and what `check` answers to it.
 #[derive(Clone, Copy)]
 struct Deep<'a> {
     rule: &'a str,
@@ -415,7 +415,7 @@ const DEEP: &[Deep<'static>] = &[
     },
 ];
 
-/// Checks a text that goes so deep.
+// Checks a text that goes so deep.
 fn expect_deep<R: Abort + AllocGlobal + Clock + Threads + Wait + Sync>(
     rt: &R,
     deep: &Deep<'_>,

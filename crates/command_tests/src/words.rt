@@ -10,7 +10,7 @@ use std::test::Fail;
 use std::thread::Threads;
 use std::time::Clock;
 
-/// What is told of an outcome that is wanted and is none, and of flags that don't go together.
+// What is told of an outcome that is wanted and is none, and of flags that don't go together.
 const NO_REQUEST: &str =
     "error: these words ask for nothing: flags don't go together, of which these do:\
     \n  replay   one of '--timeline', '--svg' and '--json', and '--explain'\
@@ -22,7 +22,7 @@ const NO_REQUEST: &str =
     \n\nFor more information, try '--help'.\
     \n";
 
-/// Words whose flags don't go together.
+// Words whose flags don't go together.
 const APART: &[&[&str]] = &[
     &["fiber_cli", "replay", "--svg", "--schedule", "0", "--json"],
     &["fiber_cli", "replay", "--timeline", "--svg", "--schedule=0"],
@@ -48,8 +48,8 @@ const APART: &[&[&str]] = &[
     &["fiber_cli", "run", "--explain", "--timeline", "--record"],
 ];
 
-/// Words that are refused with status 64, before the text is read: the rule, the words, and what is
-/// told.
+// Words that are refused with status 64, before the text is read: the rule, the words, and what is
+// told.
 const WRONG: &[(&str, &[&str], &str)] = &[
     (
         "the place of the first bad item",
@@ -212,8 +212,8 @@ const WRONG: &[(&str, &[&str], &str)] = &[
     ),
 ];
 
-/// An option that takes a number: texts of numbers that it takes, and of numbers that it doesn't, with
-/// its range as it is told of those.
+// An option that takes a number: texts of numbers that it takes, and of numbers that it doesn't, with
+// its range as it is told of those.
 struct Numbers {
     name: &'static str,
     taken: &'static [&'static str],
@@ -221,8 +221,8 @@ struct Numbers {
     range: &'static str,
 }
 
-/// The limits, which `replay` and `run` both have. A narrow number would take the last one that is
-/// refused for 1, or for the least number.
+// The limits, which `replay` and `run` both have. A narrow number would take the last one that is
+// refused for 1, or for the least number.
 const LIMITS: &[Numbers] = &[
     Numbers {
         name: "fibers",
@@ -250,7 +250,7 @@ const LIMITS: &[Numbers] = &[
     },
 ];
 
-/// What `run` has besides. `(pure 7)` takes two moves.
+// What `run` has besides. `(pure 7)` takes two moves.
 const RUNNING: &[Numbers] = &[
     Numbers {
         name: "workers",
@@ -272,7 +272,7 @@ const RUNNING: &[Numbers] = &[
     },
 ];
 
-/// What `explore` has besides. `(pure 7)` has three worlds, and none of its schedules needs more than two entries.
+// What `explore` has besides. `(pure 7)` has three worlds, and none of its schedules needs more than two entries.
 const EXPLORING: &[Numbers] = &[
     Numbers {
         name: "worlds",
@@ -288,7 +288,7 @@ const EXPLORING: &[Numbers] = &[
     },
 ];
 
-/// What `sample` has besides. Each schedule of `(pure 7)` has two entries, whatever is drawn.
+// What `sample` has besides. Each schedule of `(pure 7)` has two entries, whatever is drawn.
 const SAMPLING: &[Numbers] = &[
     Numbers {
         name: "seed",
@@ -318,7 +318,7 @@ const EXPLORE: &[&str] = &["fiber_cli", "explore"];
 
 const SAMPLE: &[&str] = &["fiber_cli", "sample"];
 
-/// What each of them answers to `(pure 7)`.
+// What each of them answers to `(pure 7)`.
 const REPORTED: &str = "fiber 0 succeeded 7\n";
 
 const EXPLORED: &str =
@@ -327,7 +327,7 @@ const EXPLORED: &str =
 const SAMPLED: &str = "sampled 1000 schedules: 1 report, 0 faults\n\n\
     came 1000 times, first under \"0*2\"\nfiber 0 succeeded 7\n";
 
-/// Each command that takes numbers, with its options that do, and its answer.
+// Each command that takes numbers, with its options that do, and its answer.
 const COMMANDS: &[(&[&str], &[Numbers], &str)] = &[
     (REPLAY, LIMITS, REPORTED),
     (EXPLORE, LIMITS, EXPLORED),
@@ -352,7 +352,7 @@ fn tells_flags_that_do_not_go_together(rt: HostRuntime) {
     }
 }
 
-/// Runs a command with an option that takes a number, and compares what comes of it.
+// Runs a command with an option that takes a number, and compares what comes of it.
 fn expect_number<R: Abort + AllocGlobal + Clock + Threads + Wait + Sync>(
     rt: &R,
     command: &[&str],
@@ -378,7 +378,7 @@ fn expect_number<R: Abort + AllocGlobal + Clock + Threads + Wait + Sync>(
     Ok(())
 }
 
-/// The same of a number that is refused, for this reason.
+// The same of a number that is refused, for this reason.
 fn refuses<R: Abort + AllocGlobal + Clock + Threads + Wait + Sync>(
     rt: &R,
     command: &[&str],
@@ -392,7 +392,7 @@ fn refuses<R: Abort + AllocGlobal + Clock + Threads + Wait + Sync>(
     expect_number(rt, command, option, 64, "", err.as_str())
 }
 
-/// The same of one that isn't in this range.
+// The same of one that isn't in this range.
 fn refuses_beyond<R: Abort + AllocGlobal + Clock + Threads + Wait + Sync>(
     rt: &R,
     command: &[&str],
@@ -404,7 +404,7 @@ fn refuses_beyond<R: Abort + AllocGlobal + Clock + Threads + Wait + Sync>(
     refuses(rt, command, option, why.as_str())
 }
 
-/// Texts that are no numbers, and why.
+// Texts that are no numbers, and why.
 const NO_NUMBERS: &[(&str, &str)] = &[
     ("", "cannot parse integer from empty string"),
     ("x", "invalid digit found in string"),
@@ -416,7 +416,7 @@ const NO_NUMBERS: &[(&str, &str)] = &[
     ),
 ];
 
-/// A command takes the numbers of an option's range, with this answer, and nothing else.
+// A command takes the numbers of an option's range, with this answer, and nothing else.
 fn expect_range<R: Abort + AllocGlobal + Clock + Threads + Wait + Sync>(
     rt: &R,
     command: &[&str],

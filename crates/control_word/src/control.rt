@@ -49,7 +49,7 @@ pub fn unpack(word: u64) -> Control
     }
 }
 
-// The bits of `low` below those of `high`.
+/// The bits of `low` below those of `high`.
 pub(crate) fn joined(high: u64, width: u32, low: u64) -> u64
     requires width { width < 64 }
     requires fits { high * 2 ^ width < 2 ^ 64 }

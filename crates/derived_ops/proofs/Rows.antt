@@ -2,14 +2,12 @@
 use Rattle.std.proofs.Common.{◌≡◌, ℕ, ◌+◌, ◌≤◌, ◌<◌, zero, suc, List, [], ◌∷◌, map, length, get_or, ap, refl, arith}
 use Rattle.effect_term.specs.declared.term.Term.{Term, Row_of-Term, end_of-Term, more_of-Term, items-the_row-Term}
 use Rattle.effect_term.specs.ExpansionSize.{expansion_size_of, expansion_sizes_of, total_expansion_size}
-use Rattle.derived_ops.specs.declared.core_term.Core.{Row_of-Core, end_of-Core, more_of-Core, items-the_row-Core}
-use Rattle.derived_ops.specs.Cores.{tree_of, sequence_of}
 use Rattle.derived_ops.specs.Expansion.{expansion}
 use Rattle.derived_ops.specs.Private.Sequences.{sources_in_order, trees_in_order}
 use Rattle.derived_ops.specs.Reading.{source_of, seq_of}
 use Rattle.derived_ops.specs.Source as word
 use Rattle.derived_ops.specs.Source.{Source}
-use Rattle.derived_ops.specs.Tree.{Tree, Seq, More}
+use Rattle.derived_ops.specs.Tree.{Seq, More}
 
 pub seq_of-row : (m : _) (a b : Source) (row : Row_of-Term m) → seq_of a b row ≡ sources_in_order a b (items-the_row-Term m row)
 seq_of-row _ a b end_of-Term = refl
@@ -20,10 +18,6 @@ pub expansion_in_order : (m : List ℕ) (d : ℕ) (a b : Source) (ts : List Term
     expansion m d (sources_in_order a b ts) ≡ trees_in_order (expansion m d a) (expansion m d b) (map (λ t. expansion m d (source_of t)) ts)
 expansion_in_order m d a b [] = refl
 expansion_in_order m d a b (t ∷ ts) = ap (λ s. Seq More (expansion m d a) s) (expansion_in_order m d b (source_of t) ts)
-
-pub sequence_of-row : (m : _) (a b : Tree) (row : Row_of-Core m) → sequence_of a b row ≡ trees_in_order a b (map tree_of (items-the_row-Core m row))
-sequence_of-row _ a b end_of-Core = refl
-sequence_of-row _ a b (more_of-Core t rest) = ap (λ s. Seq More a s) (sequence_of-row _ b (tree_of t) rest)
 
 pub expansion_sizes_of-row : (m : _) (row : Row_of-Term m) → expansion_sizes_of row ≡ total_expansion_size (items-the_row-Term m row)
 expansion_sizes_of-row _ end_of-Term = refl

@@ -1,5 +1,5 @@
 -- What is read from a list of slots.
-use Rattle.std.proofs.Common.{◌≡◌, ◌<◌, ◌≤◌, ℕ, zero, suc, ◌+◌, List, [], ◌∷◌, length, get_or, ◌++◌, take, refl, append_assoc, arith}
+use Rattle.std.proofs.Common.{◌≡◌, ◌<◌, ◌≤◌, ℕ, zero, suc, ◌+◌, List, [], ◌∷◌, length, get_or, take, refl, append_assoc, arith}
 use Rattle.std.proofs.Math.Seq.{take-append_seam, take-length}
 use Rattle.derived_ops.specs.declared.shape.Place.{Place}
 use Rattle.derived_ops.specs.declared.shape.Place.TheVariants as place

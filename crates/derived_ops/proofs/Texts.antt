@@ -1,14 +1,10 @@
 -- Forms as they are written from the left to the right.
-use Rattle.std.proofs.Common.{◌≡◌, ℕ, ◌≤◌, List, [], ◌∷◌, ◌++◌, map, length, drop, codes, refl, sym, ap, ◌∙◌, append_assoc, append-nil}
-use Rattle.std.proofs.lemmas.List.{drop_all}
+use Rattle.std.proofs.Common.{◌≡◌, ℕ, List, [], ◌∷◌, ◌++◌, codes, sym, ap, ◌∙◌, append_assoc}
 use Rattle.std.specs.Fmt.{decimal}
-use Rattle.derived_ops.specs.declared.core_term.Core.{Core}
-use Rattle.derived_ops.specs.Cores.{tree_of}
 use Rattle.derived_ops.specs.CoreText.{action_text, core_text, form, text_in, value_text}
 use Rattle.derived_ops.specs.Private.Heads.{maker_text, turns_text}
-use Rattle.derived_ops.specs.Private.Sequences.{texts_behind, trees_in_order}
 use Rattle.derived_ops.specs.Tree.{Action, Complete, Operand, Open_slot, Maker, New_ref, New_deferred, Turns}
-use Rattle.derived_ops.specs.Tree.{Times, Always, Tree, More, Make, Loop, Uncancelable}
+use Rattle.derived_ops.specs.Tree.{Times, Always, Tree, Rest, More, Seq, Make, Loop, Uncancelable}
 
 complete-written : (s : ℕ) (v : List ℕ) → (codes "(complete d" ++ decimal s) ++
     (codes " " ++ (v ++ codes ")")) ≡ form (codes "complete" ∷ (codes "d" ++ decimal s) ∷ v ∷ [])
@@ -26,31 +22,18 @@ pub uncancelable-pushed : (old new : List ℕ) (t e : Tree) (s : ℕ) → new �
     ((codes "(uncancelable p" ++ decimal s) ++ (codes " " ++ (core_text e ++ codes ")"))) → t ≡ Uncancelable s e → new ≡ old ++ core_text t
 uncancelable-pushed old new t e s h is = rw is (h ∙ ap (λ x. old ++ x) (uncancelable-written s (core_text e)))
 
--- the parts of a sequence, written one after another
-parts-written : (a b : Tree) (ts : List Core) → text_in More (trees_in_order a b (map tree_of ts)) ≡ core_text a ++
-    (codes " " ++ (core_text b ++ texts_behind ts))
-parts-written a b [] = ap (λ x. core_text a ++ (codes " " ++ x)) (sym (append-nil (core_text b)))
-parts-written a b (c ∷ ts) = ap (λ x. core_text a ++ (codes " " ++ x)) (parts-written b (tree_of c) ts)
+-- ---- sequences
+sequence-written : (w : Rest) (e k : Tree) → core_text (Seq w e k) ≡ codes "(seq " ++ (core_text e ++ (codes " " ++ (text_in w k ++ codes ")")))
+sequence-written w e k = simp append_assoc
 
-as_parts : (a b : Tree) (ts : List Tree) → core_text (trees_in_order a b ts) ≡ form (codes "seq" ∷ text_in More (trees_in_order a b ts) ∷ [])
-as_parts a b [] = refl
-as_parts a b (t ∷ ts) = refl
+-- what is written of a sequence, and what is left of it
+pub sequence-begun : (old new : List ℕ) (w : Rest) (e k : Tree) → new ≡ old ++ (codes "(seq" ++ (codes " " ++ core_text e)) →
+    new ++ (codes " " ++ (text_in w k ++ codes ")")) ≡ old ++ core_text (Seq w e k)
+sequence-begun old new w e k h = rw (h, sequence-written w e k) (simp append_assoc)
 
-pub sequence-written : (a b : Tree) (ts : List Core) → core_text (trees_in_order a b (map tree_of ts)) ≡ codes "(seq " ++
-    (core_text a ++ (codes " " ++ (core_text b ++ texts_behind ts))) ++ codes ")"
-sequence-written a b ts = as_parts a b (map tree_of ts) ∙ ap (λ x. form (codes "seq" ∷ x ∷ [])) (parts-written a b ts) ∙ simp append_assoc
-
--- the last bracket of a sequence
-pub sequence-pushed : (old text new : List ℕ) (a b : Tree) (ts : List Core) (i : ℕ) → length ts ≤ i
-    → text ++ texts_behind (drop i ts) ≡ old ++ (codes "(seq " ++ (core_text a ++ (codes " " ++ (core_text b ++ texts_behind ts))))
-    → new ≡ text ++ codes ")" → new ≡ old ++ core_text (trees_in_order a b (map tree_of ts))
-sequence-pushed old text new a b ts i l h e =
-    let all : text ≡ old ++ (codes "(seq " ++ (core_text a ++ (codes " " ++ (core_text b ++ texts_behind ts)))) = sym (append-nil text) ∙
-    ap (λ (cs : List Core). text ++ texts_behind cs) (sym (drop_all i ts l)) ∙ h in
-    e
-    ∙ ap (λ x. x ++ codes ")") all
-    ∙ append_assoc old (codes "(seq " ++ (core_text a ++ (codes " " ++ (core_text b ++ texts_behind ts)))) (codes ")")
-    ∙ ap (λ x. old ++ x) (sym (sequence-written a b ts))
+pub sequence-more : (all text new : List ℕ) (t e k : Tree) (w : Rest) → text ++ (codes " " ++ (text_in More t ++ codes ")")) ≡ all → t ≡ Seq w e k →
+    new ≡ text ++ (codes "" ++ (codes " " ++ core_text e)) → new ++ (codes " " ++ (text_in w k ++ codes ")")) ≡ all
+sequence-more all text new t e k w h is n = rw (n, sym h, is) (simp append_assoc)
 
 -- ---- forms that make a cell or repeat
 made_written : (m : Maker) (s : ℕ) (k : Tree) → core_text (Make m s k) ≡ maker_text m s ++ (codes " " ++ (core_text k ++ codes ")"))

@@ -9,5 +9,6 @@ pub mod Levels
 pub mod Naming
 pub mod Stored
 pub mod Cores
+pub mod Words
 pub mod CoreText
 pub mod Private

@@ -3,3 +3,4 @@ pub mod Closings
 pub mod Heads
 pub mod Sequences
 pub mod Shapes
+pub mod Writing

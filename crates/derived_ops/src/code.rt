@@ -1,60 +1,60 @@
 //! The code of a program.
 
-ghost use Rattle.std.specs.Prelude.{◌≡◌, ◌≤◌, [], IfOk};
+ghost use Rattle.std.specs.Prelude.{◌≡◌, ◌≤◌, ◌<◌, [], length, IfOk};
 ghost use Rattle.effect_term.specs.ExpansionSize.{expansion_size_of};
 ghost use Rattle.effect_term.specs.Masks.{masks_of};
 ghost use Rattle.derived_ops.specs.Codes.{IsCode};
-ghost use Rattle.derived_ops.specs.Cores.{tree_of};
 ghost use Rattle.derived_ops.specs.Counts.{words, masks};
 ghost use Rattle.derived_ops.specs.Expansion.{code_of};
 ghost use Rattle.derived_ops.specs.Levels.{Levelled};
 ghost use Rattle.derived_ops.specs.Naming.{Given, Named};
 ghost use Rattle.derived_ops.specs.Reading.{source_of};
+ghost use Rattle.derived_ops.specs.Words.{tree_of};
 
-use crate::core_term::Core;
-use crate::expansion::Scope;
+use crate::core_word::CoreWord;
+use crate::expansion::Expansion;
 use effect_term::Program;
 use std::alloc::{AllocError, Global};
 use std::marker::Model;
 
-/// The code of a program: a term of core words that is the expansion of a program.
+/// The code of a program: a term of core words that is the expansion of a program, word by word.
 ///
 /// In contracts a code is that term.
 #[derive(Drop)]
 pub struct Code {
-    core: Core,
+    words: Vec<CoreWord>,
 }
 
 impl Model for Code {
+    ghost use Rattle.std.specs.Prelude.{◌<◌, length};
     ghost use Rattle.derived_ops.specs.Tree.{Tree};
     ghost use Rattle.derived_ops.specs.Stored.{tree_code};
-    ghost use Rattle.derived_ops.specs.Cores.{tree_of};
-    ghost use Rattle.effect_term.specs.ExpansionSize.{expansion_size_of};
-    ghost use Rattle.effect_term.specs.Masks.{masks_of};
+    ghost use Rattle.derived_ops.specs.Words.{tree_of};
     ghost use Rattle.derived_ops.specs.Codes.{IsCode};
 
     ghost Value = { Tree };
 
     ghost coded = { tree_code };
 
-    ghost view = { λ c. tree_of c.core };
+    ghost view = { λ c. tree_of c.words.items };
 
-    ghost invariant = { λ c. IsCode (tree_of c.core) };
+    ghost invariant = { λ c. IsCode (tree_of c.words.items) × (length c.words.items < 2000000) };
 }
 
 impl Code {
-    /// The term of this code. The slot of each binder in it is the number of binders around that
-    /// one, and it has at most 1,000,000 words and marks. It names a fiber, a ref or a deferred by the
-    /// slot of a binder of that kind alone, whatever numbers are given.
+    /// The words of this code, fewer than 2,000,000. The slot of each binder in its term is the number of binders
+    /// around that one, and the term has at most 1,000,000 words and marks, where a sequence is one. It names a
+    /// fiber, a ref or a deferred by the slot of a binder of that kind alone, whatever numbers are given.
     #[tactic(auto, using(crate::proofs::Levels::levelled_code, crate::proofs::Coded::named_code, crate::proofs::Counts::small_code))]
-    pub fn core(&self) -> &Core
+    pub fn words(&self) -> &[CoreWord]
         ensures term { tree_of result.now ≡ self.now }
         ensures code { IsCode self.now }
         ensures levelled { Levelled 0 self.now }
         ensures named { (given : Given) → Named given [] self.now }
         ensures small { words self.now ≤ 1000000 }
+        ensures few { length result.now < 2000000 }
     {
-        &self.core
+        self.words.as_slice()
     }
 }
 
@@ -69,6 +69,8 @@ pub fn expand(alloc: Global, program: &Program) -> Result<Code, AllocError>
     ensures words { IfOk result (λ code. words code ≡ expansion_size_of program.now) }
     ensures masks { IfOk result (λ code. masks code ≡ masks_of program.now) }
 {
-    let core = Scope::new(alloc).part(program.term(), 0)?;
-    Ok(Code { core })
+    let mut expansion = Expansion::new(alloc);
+    expansion.part(program.term(), 0)?;
+    let words = expansion.into_words();
+    Ok(Code { words })
 }

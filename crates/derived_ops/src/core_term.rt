@@ -1,4 +1,4 @@
-//! Core terms.
+//! What stands in the words of a code.
 
 use effect_term::Value;
 
@@ -64,45 +64,4 @@ pub enum Turns {
     Times(Operand),
     /// No end of them.
     Always,
-}
-
-/// A term of core words and the marks of brackets.
-///
-/// The slot that a form binds stands before the part that it is bound in. A slot is the number of
-/// binders around its own binder, in the whole term.
-#[derive(Drop)]
-pub enum Core {
-    /// Gives the value.
-    Pure(Operand),
-    /// Raises the code.
-    Raise(Operand),
-    /// A word without parts.
-    Act(Action),
-    /// Notes the mark, with the number of the mask whose poll has this slot, and gives 0.
-    Note(BracketMark, u32),
-    /// Requests the cancellation of the fiber, waits for its end, and gives 0.
-    Cancel(u32),
-    /// The first term, and then the second, which binds the first one's value.
-    Let(Box<Core>, u32, Box<Core>),
-    /// Two or more terms in order. Gives the last one's value.
-    Seq(Box<Core>, Box<Core>, Vec<Core>),
-    /// The term, and where it raises the handler, which binds the code.
-    Handle(Box<Core>, u32, Box<Core>),
-    /// The first term where the value is 0, else the second.
-    If0(Operand, Box<Core>, Box<Core>),
-    /// Waits for the fiber, and goes on by its outcome: the first term binds the value, the second
-    /// the code, and the third is for a fiber that was canceled.
-    Join(u32, u32, Box<Core>, u32, Box<Core>, Box<Core>),
-    /// Makes a ref or a deferred, and binds it.
-    Make(Maker, u32, Box<Core>),
-    /// Starts a fiber that runs the first term, and goes on with the second, which binds the fiber.
-    Start(u32, Box<Core>, Box<Core>),
-    /// The term again and again.
-    Loop(Turns, Box<Core>),
-    /// The term, masked. It binds the mask's poll.
-    Uncancelable(u32, Box<Core>),
-    /// The term, with the mask undone whose poll has this slot.
-    Poll(u32, Box<Core>),
-    /// The term, with a finalizer that runs if cancellation is observed in it.
-    OnCancel(Box<Core>, Box<Core>),
 }

@@ -1,16 +1,20 @@
 //! The text of a code.
 
-ghost use Rattle.std.specs.Prelude.{◌≡◌, ◌++◌, [], ◌∷◌, map, IfOk, OnOk, codes};
+ghost use Rattle.std.specs.Prelude.{◌≡◌, ◌≤◌, ◌<◌, ◌+◌, ◌^◌, ℕ, ◌++◌, [], ◌∷◌, length, IfNone, IfOk, IfSome, OnOk};
+ghost use Rattle.std.specs.Prelude.{codes};
 ghost use Rattle.std.specs.Fmt.{decimal};
-ghost use Rattle.derived_ops.specs.Cores.{action_in_core, bracket_mark_of, maker_in_core, tree_of, turns_in_core};
+ghost use Rattle.derived_ops.specs.Cores.{action_in_core, bracket_mark_of, maker_in_core, turns_in_core};
 ghost use Rattle.derived_ops.specs.Cores.{value_in_core};
-ghost use Rattle.derived_ops.specs.CoreText.{action_text, core_text, form, mark_text, poll_text, value_text};
-ghost use Rattle.derived_ops.specs.Private.Heads.{head_text, maker_text, turns_text};
-ghost use Rattle.derived_ops.specs.Private.Sequences.{trees_in_order};
+ghost use Rattle.derived_ops.specs.CoreText.{action_text, core_text, form, mark_text, poll_text, text_in, value_text};
+ghost use Rattle.derived_ops.specs.Private.Heads.{further, head_text, maker_text, turns_text};
+ghost use Rattle.derived_ops.specs.Words.{rest_of, second, third, tree_at, word_at, word_tree};
+ghost use Rattle.derived_ops.specs.declared.core_word.CoreWord.TheVariants as word;
+ghost use Rattle.derived_ops.specs.declared.core_word.Rest.TheVariants as rest;
 ghost use Rattle.derived_ops.specs.Tree as tree;
 
 use crate::code::Code;
-use crate::core_term::{Action, BracketMark, Core, Maker, Operand, Turns};
+use crate::core_term::{Action, BracketMark, Maker, Operand, Turns};
+use crate::core_word::{CoreWord, Rest};
 use itoa::Buffer;
 use std::alloc::{AllocError, Global};
 
@@ -18,13 +22,13 @@ use std::alloc::{AllocError, Global};
 #[derive(Clone, Copy)]
 enum Tail {
     Plain,
-    Named(u32),
+    Named(usize),
     Valued(Operand),
 }
 
 // Writes the number of a slot, most of which have one digit.
 #[inline(always)]
-fn push_slot(text: &mut Vec<u8>, slot: u32) -> Result<(), AllocError>
+fn push_slot(text: &mut Vec<u8>, slot: usize) -> Result<(), AllocError>
     ensures { OnOk result (text.new.items ≡ text.old.items ++ decimal slot) }
 {
     if slot < 10 {
@@ -46,7 +50,7 @@ fn push_value(text: &mut Vec<u8>, value: Operand) -> Result<(), AllocError>
         }
         Operand::Slot(slot) => {
             text.push(b'v')?;
-            push_slot(text, slot)
+            push_slot(text, slot as usize)
         }
     }
 }
@@ -96,11 +100,16 @@ fn push_action(text: &mut Vec<u8>, action: Action) -> Result<(), AllocError>
         Action::Cede => text.extend_from_slice(b"(cede)"),
         Action::Never => text.extend_from_slice(b"(never)"),
         Action::Canceled => text.extend_from_slice(b"(canceled)"),
-        Action::Get(slot) => push_word(text, b"(get r", Tail::Named(slot)),
-        Action::Set(slot, v) => push_valued(text, b"(set r", Tail::Named(slot), v),
-        Action::Modify(slot, v) => push_valued(text, b"(modify r", Tail::Named(slot), v),
-        Action::Complete(slot, v) => push_valued(text, b"(complete d", Tail::Named(slot), v),
-        Action::Await(slot) => push_word(text, b"(await d", Tail::Named(slot)),
+        Action::Get(slot) => push_word(text, b"(get r", Tail::Named(slot as usize)),
+        Action::Set(slot, v) => push_valued(text, b"(set r", Tail::Named(slot as usize), v),
+        Action::Modify(slot, v) => push_valued(text, b"(modify r", Tail::Named(slot as usize), v),
+        Action::Complete(slot, v) => push_valued(
+            text,
+            b"(complete d",
+            Tail::Named(slot as usize),
+            v,
+        ),
+        Action::Await(slot) => push_word(text, b"(await d", Tail::Named(slot as usize)),
     }
 }
 
@@ -109,14 +118,14 @@ fn push_mark(text: &mut Vec<u8>, mark: BracketMark, poll: u32) -> Result<(), All
         poll_text (tree.Named poll) ∷ [])) }
 {
     match mark {
-        BracketMark::Acquired => push_word(text, b"(acquired p", Tail::Named(poll)),
-        BracketMark::Releasing => push_word(text, b"(releasing p", Tail::Named(poll)),
-        BracketMark::Released => push_word(text, b"(released p", Tail::Named(poll)),
+        BracketMark::Acquired => push_word(text, b"(acquired p", Tail::Named(poll as usize)),
+        BracketMark::Releasing => push_word(text, b"(releasing p", Tail::Named(poll as usize)),
+        BracketMark::Released => push_word(text, b"(released p", Tail::Named(poll as usize)),
     }
 }
 
 // Writes what stands before the part of a term that makes a cell.
-fn push_maker(text: &mut Vec<u8>, maker: Maker, slot: u32) -> Result<(), AllocError>
+fn push_maker(text: &mut Vec<u8>, maker: Maker, slot: usize) -> Result<(), AllocError>
     ensures { OnOk result (text.new.items ≡ text.old.items ++ maker_text (maker_in_core maker) slot) }
 {
     match maker {
@@ -138,82 +147,262 @@ fn push_turns(text: &mut Vec<u8>, turns: Turns) -> Result<(), AllocError>
     }
 }
 
-#[cycle(printing)]
-#[tactic(auto, using(crate::proofs::Texts::looped_written))]
-fn push_core(text: &mut Vec<u8>, core: &Core) -> Result<(), AllocError>
-    ensures { OnOk result (text.new.items ≡ text.old.items ++ core_text (tree_of core.now)) }
-{
-    match core {
-        Core::Pure(v) => push_word(text, b"(pure ", Tail::Valued(*v)),
-        Core::Raise(v) => push_word(text, b"(raise ", Tail::Valued(*v)),
-        Core::Act(action) => push_action(text, *action),
-        Core::Note(mark, p) => push_mark(text, *mark, *p),
-        Core::Cancel(f) => push_word(text, b"(cancel f", Tail::Named(*f)),
-        Core::Let(e, x, k) => push_two(text, b"(let v", Tail::Named(*x), e, k),
-        Core::Seq(a, b, more) => push_sequence(text, a, b, more),
-        Core::Handle(e, x, h) => {
-            push_part(text, b"(handle", Tail::Plain, e)?;
-            push_one(text, b" v", Tail::Named(*x), h)
+// Where a term stands among the words of a code, and how many binders are around it.
+#[derive(Clone, Copy)]
+struct Spot {
+    index: usize,
+    depth: usize,
+}
+
+impl Spot {
+    // The first part of the word here.
+    #[inline(always)]
+    fn part(self) -> Spot
+        requires { self.index < 2 ^ 63 }
+        ensures index { result.index ≡ self.index + 1 }
+        ensures depth { result.depth ≡ self.depth }
+    {
+        Spot {
+            index: self.index + 1,
+            depth: self.depth,
         }
-        Core::If0(v, s, e) => push_two(text, b"(if0 ", Tail::Valued(*v), s, e),
-        Core::Join(f, x, s, y, e, c) => {
-            push_head(text, b"(join f", Tail::Named(*f))?;
-            push_part(text, b" v", Tail::Named(*x), s)?;
-            push_two(text, b" v", Tail::Named(*y), e, c)
+    }
+
+    // A further part of the word here, which stands so far behind the first one.
+    #[inline(always)]
+    fn next(self, distance: u32) -> Spot
+        requires { self.index < 2 ^ 63 }
+        ensures index { result.index ≡ self.index + 1 + distance }
+        ensures depth { result.depth ≡ self.depth }
+    {
+        Spot {
+            index: self.index + 1 + distance as usize,
+            depth: self.depth,
         }
-        Core::Make(maker, slot, k) => {
-            push_maker(text, *maker, *slot)?;
-            push_one(text, b"", Tail::Plain, k)
+    }
+
+    // The same part below one more binder.
+    #[inline(always)]
+    fn bound(self) -> Spot
+        requires { self.depth < 2 ^ 63 }
+        ensures index { result.index ≡ self.index }
+        ensures depth { result.depth ≡ self.depth + 1 }
+    {
+        Spot {
+            index: self.index,
+            depth: self.depth + 1,
         }
-        Core::Start(f, e, k) => push_two(text, b"(start f", Tail::Named(*f), e, k),
-        Core::Loop(turns, e) => {
-            push_turns(text, *turns)?;
-            push_one(text, b"", Tail::Plain, e)
-        }
-        Core::Uncancelable(p, e) => push_one(text, b"(uncancelable p", Tail::Named(*p), e),
-        Core::Poll(p, e) => push_one(text, b"(poll p", Tail::Named(*p), e),
-        Core::OnCancel(e, fin) => push_two(text, b"(oncancel", Tail::Plain, e, fin),
     }
 }
 
-// Writes a sequence of two parts and these.
+// What is left behind the first part of a sequence that is left of another one, and how far behind it that stands;
+// nothing where the last part is left.
+fn further(left: Rest, word: &CoreWord) -> Option<(Rest, u32)>
+    ensures { result ≡ further (rest_of left) word.now }
+{
+    match left {
+        Rest::Last => None,
+        Rest::More => {
+            match word {
+                CoreWord::Seq(rest, distance) => Some((*rest, *distance)),
+                CoreWord::Pure(_)
+                | CoreWord::Raise(_)
+                | CoreWord::Act(_)
+                | CoreWord::Note(_, _)
+                | CoreWord::Cancel(_)
+                | CoreWord::Let(_)
+                | CoreWord::Handle(_)
+                | CoreWord::If0(_, _)
+                | CoreWord::Join(_, _, _)
+                | CoreWord::Make(_)
+                | CoreWord::Start(_)
+                | CoreWord::Loop(_)
+                | CoreWord::Uncancelable
+                | CoreWord::Poll(_)
+                | CoreWord::OnCancel(_) => None,
+            }
+        }
+    }
+}
+
+// The same of the word at a place.
+fn further_at(words: &[CoreWord], left: Rest, index: usize) -> Option<(Rest, u32)>
+    ensures word { result ≡ further (rest_of left) (word_at words.now index) }
+    ensures inside { IfSome result (λ _. index < length words.now) }
+{
+    if index >= words.len() {
+        return None;
+    }
+    further(left, &words[index])
+}
+
+// Writes the term at a place among the words of a code. Past the end nothing goes on.
+#[cycle(printing)]
+fn push_term(text: &mut Vec<u8>, words: &[CoreWord], spot: Spot) -> Result<(), AllocError>
+    requires { spot.depth ≤ spot.index }
+    ensures { OnOk result (text.new.items ≡ text.old.items ++ core_text (tree_at words.now spot.index spot.depth)) }
+{
+    if spot.index >= words.len() {
+        return text.extend_from_slice(b"(never)");
+    }
+    push_word_at(text, words, spot, words[spot.index])
+}
+
+// Writes the term of a word, whose parts stand behind this place.
+#[cycle(printing)]
+#[tactic(auto, using(crate::proofs::Texts::looped_written))]
+fn push_word_at(
+    text: &mut Vec<u8>,
+    words: &[CoreWord],
+    spot: Spot,
+    word: CoreWord,
+) -> Result<(), AllocError>
+    requires inside { spot.index < length words.now }
+    requires depth { spot.depth ≤ spot.index }
+    ensures { OnOk result (text.new.items ≡ text.old.items ++ core_text (word_tree word spot.depth
+        (tree_at words.now (spot.index + 1)) (tree_at words.now (spot.index + 1 + second word))
+        (tree_at words.now (spot.index + 1 + third word)))) }
+{
+    let _ = words.len();
+    let part = spot.part();
+    match word {
+        CoreWord::Pure(v) => push_word(text, b"(pure ", Tail::Valued(v)),
+        CoreWord::Raise(v) => push_word(text, b"(raise ", Tail::Valued(v)),
+        CoreWord::Act(action) => push_action(text, action),
+        CoreWord::Note(mark, p) => push_mark(text, mark, p),
+        CoreWord::Cancel(f) => push_word(text, b"(cancel f", Tail::Named(f as usize)),
+        CoreWord::Let(next) => {
+            let next = spot.next(next).bound();
+            push_two(text, b"(let v", Tail::Named(spot.depth), words, part, next)
+        }
+        CoreWord::Seq(left, next) => push_sequence(text, words, part, left, spot.next(next)),
+        CoreWord::Handle(next) => {
+            push_part(text, b"(handle", Tail::Plain, words, part)?;
+            let next = spot.next(next).bound();
+            push_one(text, b" v", Tail::Named(spot.depth), words, next)
+        }
+        CoreWord::If0(v, next) => {
+            push_two(
+                text,
+                b"(if0 ",
+                Tail::Valued(v),
+                words,
+                part,
+                spot.next(next),
+            )
+        }
+        CoreWord::Join(f, next, last) => {
+            push_head(text, b"(join f", Tail::Named(f as usize))?;
+            push_part(text, b" v", Tail::Named(spot.depth), words, part.bound())?;
+            push_part(
+                text,
+                b" v",
+                Tail::Named(spot.depth),
+                words,
+                spot.next(next).bound(),
+            )?;
+            push_one(text, b"", Tail::Plain, words, spot.next(last))
+        }
+        CoreWord::Make(maker) => {
+            push_maker(text, maker, spot.depth)?;
+            push_one(text, b"", Tail::Plain, words, part.bound())
+        }
+        CoreWord::Start(next) => {
+            let next = spot.next(next).bound();
+            push_two(
+                text,
+                b"(start f",
+                Tail::Named(spot.depth),
+                words,
+                part,
+                next,
+            )
+        }
+        CoreWord::Loop(turns) => {
+            push_turns(text, turns)?;
+            push_one(text, b"", Tail::Plain, words, part)
+        }
+        CoreWord::Uncancelable => {
+            push_one(
+                text,
+                b"(uncancelable p",
+                Tail::Named(spot.depth),
+                words,
+                part.bound(),
+            )
+        }
+        CoreWord::Poll(p) => push_one(text, b"(poll p", Tail::Named(p as usize), words, part),
+        CoreWord::OnCancel(next) => {
+            push_two(
+                text,
+                b"(oncancel",
+                Tail::Plain,
+                words,
+                part,
+                spot.next(next),
+            )
+        }
+    }
+}
+
+// Writes a sequence, of whose first part and of what is left behind it the places are given.
 #[cycle(printing)]
 fn push_sequence(
     text: &mut Vec<u8>,
-    first: &Core,
-    second: &Core,
-    more: &[Core],
+    words: &[CoreWord],
+    first: Spot,
+    left: Rest,
+    second: Spot,
 ) -> Result<(), AllocError>
-    ensures { OnOk result (text.new.items ≡ text.old.items ++
-        core_text (trees_in_order (tree_of first.now) (tree_of second.now) (map tree_of more.now))) }
+    requires order { first.index ≤ second.index }
+    requires first { first.depth ≤ first.index }
+    requires second { second.depth ≤ second.index }
+    ensures { OnOk result (text.new.items ≡ text.old.items ++ core_text (tree.Seq (rest_of left)
+        (tree_at words.now first.index first.depth) (tree_at words.now second.index second.depth))) }
 {
-    push_part(text, b"(seq", Tail::Plain, first)?;
-    push_part(text, b"", Tail::Plain, second)?;
-    for part in more {
-        push_part(text, b"", Tail::Plain, part)?;
+    push_part(text, b"(seq", Tail::Plain, words, first)?;
+    let mut left = left;
+    let mut spot = second;
+    while let Some((rest, next)) = further_at(words, left, spot.index) {
+        push_part(text, b"", Tail::Plain, words, spot.part())?;
+        left = rest;
+        spot = spot.next(next);
     }
-    text.push(b')')?;
-    Ok(())
+    push_one(text, b"", Tail::Plain, words, spot)
 }
 
 // Writes a head, and a part behind it.
 #[cycle(printing)]
-fn push_part(text: &mut Vec<u8>, front: &[u8], tail: Tail, part: &Core) -> Result<(), AllocError>
+fn push_part(
+    text: &mut Vec<u8>,
+    front: &[u8],
+    tail: Tail,
+    words: &[CoreWord],
+    part: Spot,
+) -> Result<(), AllocError>
+    requires { part.depth ≤ part.index }
     ensures { OnOk result (text.new.items ≡ text.old.items ++
-        (head_text front.now tail ++ (codes " " ++ core_text (tree_of part.now)))) }
+        (head_text front.now tail ++ (codes " " ++ core_text (tree_at words.now part.index part.depth)))) }
 {
     push_head(text, front, tail)?;
     text.push(b' ')?;
-    push_core(text, part)
+    push_term(text, words, part)
 }
 
 // Writes a head and the last part of a form.
 #[cycle(printing)]
-fn push_one(text: &mut Vec<u8>, front: &[u8], tail: Tail, part: &Core) -> Result<(), AllocError>
-    ensures { OnOk result (text.new.items ≡ text.old.items ++
-        (head_text front.now tail ++ (codes " " ++ (core_text (tree_of part.now) ++ codes ")")))) }
+fn push_one(
+    text: &mut Vec<u8>,
+    front: &[u8],
+    tail: Tail,
+    words: &[CoreWord],
+    part: Spot,
+) -> Result<(), AllocError>
+    requires { part.depth ≤ part.index }
+    ensures { OnOk result (text.new.items ≡ text.old.items ++ (head_text front.now tail ++
+        (codes " " ++ (core_text (tree_at words.now part.index part.depth) ++ codes ")")))) }
 {
-    push_part(text, front, tail, part)?;
+    push_part(text, front, tail, words, part)?;
     text.push(b')')?;
     Ok(())
 }
@@ -224,15 +413,19 @@ fn push_two(
     text: &mut Vec<u8>,
     front: &[u8],
     tail: Tail,
-    first: &Core,
-    last: &Core,
+    words: &[CoreWord],
+    first: Spot,
+    last: Spot,
 ) -> Result<(), AllocError>
+    requires order { first.index ≤ last.index }
+    requires first { first.depth ≤ first.index }
+    requires last { last.depth ≤ last.index }
     ensures { OnOk result (text.new.items ≡ text.old.items ++
-        (head_text front.now tail ++ (codes " " ++
-        (core_text (tree_of first.now) ++ (codes " " ++ (core_text (tree_of last.now) ++ codes ")")))))) }
+        (head_text front.now tail ++ (codes " " ++ (core_text (tree_at words.now first.index first.depth) ++
+        (codes " " ++ (core_text (tree_at words.now last.index last.depth) ++ codes ")")))))) }
 {
-    push_part(text, front, tail, first)?;
-    push_one(text, b"", Tail::Plain, last)
+    push_part(text, front, tail, words, first)?;
+    push_one(text, b"", Tail::Plain, words, last)
 }
 
 /// The text of a code, or `AllocError` where memory is refused.
@@ -244,6 +437,7 @@ pub fn print_core(alloc: Global, code: &Code) -> Result<Vec<u8>, AllocError>
     ensures { IfOk result (λ text. text.items ≡ core_text code.now) }
 {
     let mut text = Vec::new(alloc);
-    push_core(&mut text, code.core())?;
+    let first = Spot { index: 0, depth: 0 };
+    push_term(&mut text, code.words(), first)?;
     Ok(text)
 }

@@ -1,21 +1,30 @@
-//! The expansion of a term, part by part.
+//! The expansion of a term, part by part, from the last word to the first.
 
-ghost use Rattle.std.specs.Prelude.{◌≡◌, ◌+◌, ◌<◌, ◌^◌, [], map, IfOk, OnOk};
+ghost use Rattle.std.specs.Prelude.{◌≡◌, ◌+◌, ◌<◌, ◌^◌, [], ◌∷◌, map, IfOk, OnOk};
 ghost use Rattle.effect_term.specs.ExpansionSize.{expansion_size_of, total_expansion_size};
-ghost use Rattle.derived_ops.specs.Cores.{tree_of, value_in_core};
-ghost use Rattle.derived_ops.specs.Expansion.{expansion, slot_at, value_in};
-ghost use Rattle.derived_ops.specs.Private.Closings.{closed_on_cancel, closed_on_error, closed_on_value};
-ghost use Rattle.derived_ops.specs.Private.Closings.{last_of_closing};
-ghost use Rattle.derived_ops.specs.Private.Shapes.{depth_at, slots_at, tree_at, tree_of_shape, Fits, EndsFit, PartsFit};
+ghost use Rattle.derived_ops.specs.Cores.{value_in_core};
+ghost use Rattle.derived_ops.specs.Expansion.{attempted, both, bracket_case, expansion, race, released_then_raised};
+ghost use Rattle.derived_ops.specs.Expansion.{runs_side, slot_at, value_in};
+ghost use Rattle.derived_ops.specs.Private.Closings.{closed_on_cancel, closed_on_error, closed_on_value, concluded_by};
+ghost use Rattle.derived_ops.specs.Private.Closings.{guarded_by, handled_by, last_of_closing};
+ghost use Rattle.derived_ops.specs.Private.Sequences.{rest_before, trees_behind, trees_in_order};
+ghost use Rattle.derived_ops.specs.Private.Shapes.{depth_at, end_tree, part_tree, slots_at, tree_of_shape, tree_of_two};
+ghost use Rattle.derived_ops.specs.Private.Shapes.{EndFits, EndsFit, Fits, PartsFit};
+ghost use Rattle.derived_ops.specs.Private.Writing.{before, both_raced, distance, race_before, size, stored_rest};
 ghost use Rattle.derived_ops.specs.Reading.{source_of, value_of};
+ghost use Rattle.derived_ops.specs.Tree as tree;
+ghost use Rattle.derived_ops.specs.Tree.{Named, Tree};
+ghost use Rattle.effect_term.specs.declared.term.Term.{Term};
+ghost use Rattle.derived_ops.specs.declared.core_word.CoreWord.TheVariants as word;
 
-use crate::brackets::{Cases, Closing, bracket, guarantee, on_cancel, on_error, on_value};
-use crate::core_term::{Action, Core, Maker, Operand, Turns};
-use crate::forms::sequence;
+use crate::closing::Closing;
+use crate::core_term::{Action, BracketMark, Maker, Operand, Turns};
+use crate::core_word::{CoreWord, Rest};
 use crate::shape::{
-    Ends, One, Part, Place, Shape, Three, Two, Word, of_one, of_three, of_two, of_word,
+    Atom, End, Ends, One, Part, Place, Shape, Two, word_of_atom, word_of_one, word_of_two,
 };
-use effect_term::{Name, Term};
+use crate::writer::Writer;
+use effect_term::{Name, Term, Value};
 use std::alloc::{AllocError, Global};
 
 // A part of a word at this place.
@@ -28,21 +37,52 @@ macro_rules! part {
     };
 }
 
-/// The binders of a program that are around a term: the new slot of each, outermost first.
-#[derive(Drop)]
-pub(crate) struct Scope {
-    alloc: Global,
-    slots: Vec<u32>,
+// What stands after an outcome: a part at this place.
+macro_rules! end {
+    ($place:ident, $term:expr) => {
+        End::Part(Part { place: Place::$place, term: $term })
+    };
+    ($place:ident($above:literal), $term:expr) => {
+        End::Part(Part { place: Place::$place($above), term: $term })
+    };
 }
 
-impl Scope {
-    pub(crate) fn new(alloc: Global) -> Scope
-        ensures { result.slots.items ≡ [] }
+/// The words of an expansion so far, and the binders of the program that are around the next part: the new slot of
+/// each, outermost first.
+#[derive(Drop)]
+pub(crate) struct Expansion {
+    slots: Vec<u32>,
+    words: Writer,
+}
+
+// What stands after the first of two parts and these.
+fn rest_before(more: &[Term]) -> Rest
+    ensures { (f : Term → Tree) → result ≡ stored_rest (rest_before (map f more.now)) }
+{
+    if more.is_empty() {
+        Rest::Last
+    } else {
+        Rest::More
+    }
+}
+
+impl Expansion {
+    pub(crate) fn new(alloc: Global) -> Expansion
+        ensures slots { result.slots.items ≡ [] }
+        ensures words { result.words ≡ [] }
     {
-        Scope {
-            alloc,
+        Expansion {
             slots: Vec::new(alloc),
+            words: Writer::new(alloc),
         }
+    }
+
+    /// The words in their order.
+    pub(crate) fn into_words(self) -> Vec<CoreWord>
+        ensures { result.items ≡ self.words }
+    {
+        let Expansion { slots: _, words } = self;
+        words.into_words()
     }
 
     // The new slot of a name; 0 for a slot that isn't bound, which no program has.
@@ -74,93 +114,85 @@ impl Scope {
         ensures parts { PartsFit (expansion_size_of term.now) depth result }
     {
         match term {
-            Term::Pure(v) => Shape::Word(Word::Pure(self.value(*v))),
-            Term::Raise(v) => Shape::Word(Word::Raise(self.value(*v))),
-            Term::Let(e, k) => Shape::Two(Two::Let(depth), part!(Here, e), part!(Bound, k)),
-            Term::Seq(a, b, more) => Shape::Seq(part!(Here, a), part!(Here, b), more),
-            Term::Handle(e, h) => Shape::Two(Two::Handle(depth), part!(Here, e), part!(Bound, h)),
+            Term::Pure(v) => Shape::Atom(Atom::Pure(self.value(*v))),
+            Term::Raise(v) => Shape::Atom(Atom::Raise(self.value(*v))),
+            Term::Let(e, k) => Shape::Two(Two::Let, part!(Here, e), part!(Bound, k)),
+            Term::Seq(a, b, more) => Shape::Seq(a, b, more),
+            Term::Handle(e, h) => Shape::Two(Two::Handle, part!(Here, e), part!(Bound, h)),
             Term::If0(v, s, e) => {
                 Shape::Two(Two::If0(self.value(*v)), part!(Here, s), part!(Here, e))
             }
             Term::Add(v, w) => {
-                Shape::Word(Word::Act(Action::Add(self.value(*v), self.value(*w))))
+                Shape::Atom(Atom::Act(Action::Add(self.value(*v), self.value(*w))))
             }
-            Term::Say(v) => Shape::Word(Word::Act(Action::Say(self.value(*v)))),
-            Term::Cede => Shape::Word(Word::Act(Action::Cede)),
-            Term::Never => Shape::Word(Word::Act(Action::Never)),
-            Term::Canceled => Shape::Word(Word::Act(Action::Canceled)),
-            Term::Uncancelable(e) => Shape::One(One::Masked(depth), part!(Bound, e)),
+            Term::Say(v) => Shape::Atom(Atom::Act(Action::Say(self.value(*v)))),
+            Term::Cede => Shape::Atom(Atom::Act(Action::Cede)),
+            Term::Never => Shape::Atom(Atom::Act(Action::Never)),
+            Term::Canceled => Shape::Atom(Atom::Act(Action::Canceled)),
+            Term::Uncancelable(e) => Shape::One(One::Masked, part!(Bound, e)),
             Term::Poll(p, e) => Shape::One(One::Polled(self.slot(*p)), part!(Here, e)),
             Term::OnCancel(e, fin) => Shape::Two(Two::OnCancel, part!(Here, e), part!(Here, fin)),
-            Term::Start(e, k) => Shape::Two(Two::Start(depth), part!(Here, e), part!(Bound, k)),
-            Term::Join(f, s, e, c) => Shape::Three(
-                Three::Join(self.slot(*f), depth),
+            Term::Start(e, k) => Shape::Two(Two::Start, part!(Here, e), part!(Bound, k)),
+            Term::Join(f, s, e, c) => Shape::Join(
+                self.slot(*f),
                 part!(Bound, s),
                 part!(Bound, e),
                 part!(Here, c),
             ),
-            Term::Cancel(f) => Shape::Word(Word::Cancel(self.slot(*f))),
+            Term::Cancel(f) => Shape::Atom(Atom::Cancel(self.slot(*f))),
             Term::Ref(v, k) => {
-                Shape::One(
-                    One::Made(Maker::Ref(self.value(*v)), depth),
-                    part!(Bound, k),
-                )
+                Shape::One(One::Made(Maker::Ref(self.value(*v))), part!(Bound, k))
             }
-            Term::Get(r) => Shape::Word(Word::Act(Action::Get(self.slot(*r)))),
+            Term::Get(r) => Shape::Atom(Atom::Act(Action::Get(self.slot(*r)))),
             Term::Set(r, v) => {
-                Shape::Word(Word::Act(Action::Set(self.slot(*r), self.value(*v))))
+                Shape::Atom(Atom::Act(Action::Set(self.slot(*r), self.value(*v))))
             }
             Term::Modify(r, v) => {
-                Shape::Word(Word::Act(Action::Modify(self.slot(*r), self.value(*v))))
+                Shape::Atom(Atom::Act(Action::Modify(self.slot(*r), self.value(*v))))
             }
-            Term::Deferred(k) => Shape::One(One::Made(Maker::Deferred, depth), part!(Bound, k)),
+            Term::Deferred(k) => Shape::One(One::Made(Maker::Deferred), part!(Bound, k)),
             Term::Complete(d, v) => {
-                Shape::Word(Word::Act(Action::Complete(self.slot(*d), self.value(*v))))
+                Shape::Atom(Atom::Act(Action::Complete(self.slot(*d), self.value(*v))))
             }
-            Term::Await(d) => Shape::Word(Word::Act(Action::Await(self.slot(*d)))),
+            Term::Await(d) => Shape::Atom(Atom::Act(Action::Await(self.slot(*d)))),
             Term::Repeat(v, e) => {
                 Shape::One(One::Repeated(Turns::Times(self.value(*v))), part!(Here, e))
             }
             Term::Forever(e) => Shape::One(One::Repeated(Turns::Always), part!(Here, e)),
             Term::Guarantee(e, fin) => {
                 let ends = Ends {
-                    on_cancel: part!(Above(1), fin),
-                    on_error: part!(Above(2), fin),
-                    on_value: part!(Above(2), fin),
+                    on_cancel: end!(Above(1), fin),
+                    on_error: end!(Above(2), fin),
+                    on_value: end!(Above(2), fin),
                 };
-                Shape::Guarantee(depth, part!(Above(1), e), ends)
+                Shape::Guarantee(part!(Above(1), e), ends)
             }
             Term::Bracket(acq, body, rel) => {
                 let ends = Ends {
-                    on_cancel: part!(Used, rel),
-                    on_error: part!(Released, rel),
-                    on_value: part!(Released, rel),
+                    on_cancel: end!(Used, rel),
+                    on_error: end!(Released, rel),
+                    on_value: end!(Released, rel),
                 };
-                Shape::Bracket(depth, part!(Above(1), acq), part!(Used, body), ends)
+                Shape::Bracket(part!(Above(1), acq), part!(Used, body), ends)
             }
             Term::BracketCase(acq, body, rs, re, rc) => {
                 let ends = Ends {
-                    on_cancel: part!(Used, rc),
-                    on_error: part!(Chosen, re),
-                    on_value: part!(Chosen, rs),
+                    on_cancel: end!(Used, rc),
+                    on_error: end!(Chosen, re),
+                    on_value: end!(Chosen, rs),
                 };
-                Shape::Bracket(depth, part!(Above(1), acq), part!(Used, body), ends)
+                Shape::Bracket(part!(Above(1), acq), part!(Used, body), ends)
             }
             Term::BracketFull(acq, body, rs, re, rc) => {
                 let ends = Ends {
-                    on_cancel: part!(Used, rc),
-                    on_error: part!(Chosen, re),
-                    on_value: part!(Chosen, rs),
+                    on_cancel: end!(Used, rc),
+                    on_error: end!(Chosen, re),
+                    on_value: end!(Chosen, rs),
                 };
-                Shape::Bracket(depth, part!(Bound, acq), part!(Used, body), ends)
+                Shape::Bracket(part!(Bound, acq), part!(Used, body), ends)
             }
-            Term::Race(a, b) => Shape::Two(
-                Two::Race(depth),
-                part!(Above(3), a),
-                part!(Above(4), b),
-            ),
-            Term::Both(a, b, k) => Shape::Three(
-                Three::Both(depth),
+            Term::Race(a, b) => Shape::Race(part!(Above(3), a), part!(Above(4), b)),
+            Term::Both(a, b, k) => Shape::Both(
                 part!(Above(4), a),
                 part!(Above(5), b),
                 part!(Values, k),
@@ -173,6 +205,7 @@ impl Scope {
         requires { depth_at place depth < 2 ^ 32 }
         ensures depth { IfOk result (λ below. below ≡ depth_at place depth) }
         ensures slots { OnOk result (self.new.slots.items ≡ slots_at place self.old.slots.items depth) }
+        ensures words { self.new.words ≡ self.old.words }
     {
         match place {
             Place::Here => Ok(depth),
@@ -202,117 +235,527 @@ impl Scope {
         }
     }
 
-    /// The expansion of a part below so many binders, or `AllocError` where memory is refused.
+    /// Writes the expansion of a term below so many binders, or answers `AllocError` where memory is refused.
     #[cycle(expansion)]
-    pub(crate) fn part(&mut self, term: &Term, depth: u32) -> Result<Core, AllocError>
+    pub(crate) fn part(&mut self, term: &Term, depth: u32) -> Result<(), AllocError>
         requires { depth + expansion_size_of term.now < 2 ^ 32 }
-        ensures core { IfOk result (λ core.
-            tree_of core ≡ expansion self.old.slots.items depth (source_of term.now)) }
+        ensures words { OnOk result (self.new.words ≡
+            before (expansion self.old.slots.items depth (source_of term.now)) self.old.words) }
         ensures slots { OnOk result (self.new.slots.items ≡ self.old.slots.items) }
     {
-        let alloc = self.alloc;
         match self.shape(term, depth) {
-            Shape::Word(word) => Ok(of_word(word)),
-            Shape::One(word, a) => of_one(alloc, word, self.placed(a, depth)?),
-            Shape::Two(word, a, b) => {
-                let (a, b) = self.pair(a, b, depth)?;
-                of_two(alloc, word, a, b)
+            Shape::Atom(atom) => self.words.put(word_of_atom(atom)),
+            Shape::One(word, a) => {
+                self.placed(a, depth)?;
+                self.words.put(word_of_one(word))
             }
-            Shape::Three(word, a, b, c) => {
-                let (a, b) = self.pair(a, b, depth)?;
-                of_three(alloc, word, a, b, self.placed(c, depth)?)
+            Shape::Two(word, a, b) => self.two(word, a, b, depth),
+            Shape::Seq(a, b, more) => self.sequence(a, b, more, depth),
+            Shape::Join(fiber, a, b, c) => self.join(fiber, a, b, c, depth),
+            Shape::Guarantee(body, ends) => {
+                self.concluded(Closing::Finalizer(depth), body, ends, depth)
             }
-            Shape::Guarantee(slot, body, ends) => {
-                let body = self.placed(body, depth)?;
-                let cases = self.cases(Closing::Finalizer(slot), ends, depth)?;
-                guarantee(alloc, slot, body, cases)
-            }
-            Shape::Bracket(slot, acquired, body, ends) => {
-                let (acquired, body) = self.pair(acquired, body, depth)?;
-                let cases = self.cases(Closing::Release(slot), ends, depth)?;
-                bracket(alloc, slot, acquired, body, cases)
-            }
-            Shape::Seq(a, b, more) => {
-                let (a, b) = self.pair(a, b, depth)?;
-                sequence(alloc, a, b, self.all_parts(more, depth)?)
-            }
+            Shape::Bracket(acquired, body, ends) => self.bracket(acquired, body, ends, depth),
+            Shape::Race(a, b) => self.race(a, b, depth),
+            Shape::Both(a, b, k) => self.both(a, b, k, depth),
         }
     }
 
-    // The expansion of a part of a word below so many binders.
+    // Writes a part of a word below so many binders.
     #[cycle(expansion)]
     #[tactic(auto, using(crate::proofs::Slots::slots_before))]
-    fn placed(&mut self, part: Part<'_>, depth: u32) -> Result<Core, AllocError>
+    fn placed(&mut self, part: Part<'_>, depth: u32) -> Result<(), AllocError>
         requires { Fits depth part }
-        ensures core { IfOk result (λ core.
-            tree_of core ≡ tree_at self.old.slots.items depth part.entry) }
+        ensures words { OnOk result (self.new.words ≡
+            before (part_tree self.old.slots.items depth part.entry) self.old.words) }
         ensures slots { OnOk result (self.new.slots.items ≡ self.old.slots.items) }
     {
         let around = self.slots.len();
         let below = self.bind(part.place, depth)?;
-        let core = self.part(part.term, below)?;
+        self.part(part.term, below)?;
         self.slots.truncate(around);
-        Ok(core)
+        Ok(())
     }
 
-    // The expansions of two parts of a word.
+    // Writes a word of two parts.
     #[cycle(expansion)]
-    fn pair(
+    #[tactic(auto, using(crate::proofs::Written::length_before))]
+    fn two(
+        &mut self,
+        word: Two,
+        first: Part<'_>,
+        second: Part<'_>,
+        depth: u32,
+    ) -> Result<(), AllocError>
+        requires first { Fits depth first }
+        requires second { Fits depth second }
+        ensures words { OnOk result (self.new.words ≡ before (tree_of_two depth word
+            (part_tree self.old.slots.items depth first.entry) (part_tree self.old.slots.items depth second.entry))
+            self.old.words) }
+        ensures slots { OnOk result (self.new.slots.items ≡ self.old.slots.items) }
+    {
+        self.placed(second, depth)?;
+        let last = self.words.len();
+        self.placed(first, depth)?;
+        let first = self.words.distance(last);
+        self.words.put(word_of_two(word, first))
+    }
+
+    // Writes what waits for a fiber, and goes on by its outcome.
+    #[cycle(expansion)]
+    #[tactic(auto, using(crate::proofs::Written::length_before))]
+    fn join(
+        &mut self,
+        fiber: u32,
+        succeeded: Part<'_>,
+        errored: Part<'_>,
+        canceled: Part<'_>,
+        depth: u32,
+    ) -> Result<(), AllocError>
+        requires succeeded { Fits depth succeeded }
+        requires errored { Fits depth errored }
+        requires canceled { Fits depth canceled }
+        ensures words { OnOk result (self.new.words ≡ before (tree.Join (tree.Open_slot fiber)
+            depth (part_tree self.old.slots.items depth succeeded.entry)
+            depth (part_tree self.old.slots.items depth errored.entry)
+            (part_tree self.old.slots.items depth canceled.entry)) self.old.words) }
+        ensures slots { OnOk result (self.new.slots.items ≡ self.old.slots.items) }
+    {
+        self.placed(canceled, depth)?;
+        let last = self.words.len();
+        self.placed(errored, depth)?;
+        let later = self.words.len();
+        self.placed(succeeded, depth)?;
+        let first = self.words.distance(later);
+        let both = self.words.distance(last);
+        self.words.put(CoreWord::Join(fiber, first, both))
+    }
+
+    // Writes a part of a sequence before the parts that stand, and the word that tells where these begin.
+    #[cycle(expansion)]
+    #[tactic(auto, using(crate::proofs::Written::length_before))]
+    fn in_front(&mut self, term: &Term, rest: Rest, depth: u32) -> Result<(), AllocError>
+        requires { depth + expansion_size_of term.now < 2 ^ 32 }
+        ensures words { OnOk result (self.new.words ≡
+            word.Seq rest (distance (size (expansion self.old.slots.items depth (source_of term.now)))) ∷
+            before (expansion self.old.slots.items depth (source_of term.now)) self.old.words) }
+        ensures slots { OnOk result (self.new.slots.items ≡ self.old.slots.items) }
+    {
+        let last = self.words.len();
+        self.part(term, depth)?;
+        let first = self.words.distance(last);
+        self.words.put(CoreWord::Seq(rest, first))
+    }
+
+    // Writes a sequence of two parts and more.
+    #[cycle(expansion)]
+    #[tactic(auto, using(crate::proofs::Sequences::in_order_is))]
+    fn sequence(
+        &mut self,
+        first: &Term,
+        second: &Term,
+        more: &[Term],
+        depth: u32,
+    ) -> Result<(), AllocError>
+        requires { depth + expansion_size_of first.now + expansion_size_of second.now +
+            total_expansion_size more.now < 2 ^ 32 }
+        ensures words { OnOk result (self.new.words ≡
+            before (trees_in_order (expansion self.old.slots.items depth (source_of first.now))
+            (expansion self.old.slots.items depth (source_of second.now))
+            (map (λ t. expansion self.old.slots.items depth (source_of t)) more.now)) self.old.words) }
+        ensures slots { OnOk result (self.new.slots.items ≡ self.old.slots.items) }
+    {
+        self.behind(second, more, depth)?;
+        self.in_front(first, rest_before(more), depth)
+    }
+
+    // Writes what stands behind the first part of a sequence: a part, and these.
+    #[cycle(expansion)]
+    fn behind(&mut self, second: &Term, more: &[Term], depth: u32) -> Result<(), AllocError>
+        requires { depth + expansion_size_of second.now + total_expansion_size more.now < 2 ^ 32 }
+        ensures words { OnOk result (self.new.words ≡
+            before (trees_behind (expansion self.old.slots.items depth (source_of second.now))
+            (map (λ t. expansion self.old.slots.items depth (source_of t)) more.now)) self.old.words) }
+        ensures slots { OnOk result (self.new.slots.items ≡ self.old.slots.items) }
+    {
+        if more.is_empty() {
+            return self.part(second, depth);
+        }
+        self.part(&more[more.len() - 1], depth)?;
+        let mut rest = Rest::Last;
+        for i in (0..more.len() - 1).rev() {
+            self.in_front(&more[i], rest, depth)?;
+            rest = Rest::More;
+        }
+        self.in_front(second, rest, depth)
+    }
+
+    // Writes what stands after an outcome.
+    #[cycle(expansion)]
+    fn end(&mut self, end: End<'_>, depth: u32) -> Result<(), AllocError>
+        requires { EndFits depth end }
+        ensures words { OnOk result (self.new.words ≡
+            before (end_tree self.old.slots.items depth end.entry) self.old.words) }
+        ensures slots { OnOk result (self.new.slots.items ≡ self.old.slots.items) }
+    {
+        match end {
+            End::Part(part) => self.placed(part, depth),
+            End::Done(deferred, side) => {
+                let number = Operand::Number(Value::from_i32(i32::from(side)));
+                self.words
+                    .put(CoreWord::Act(Action::Complete(deferred, number)))
+            }
+        }
+    }
+
+    // Writes what stands after an outcome, whose error is dropped.
+    #[cycle(expansion)]
+    #[tactic(auto, using(crate::proofs::Written::length_before))]
+    fn attempted(&mut self, end: End<'_>, depth: u32) -> Result<(), AllocError>
+        requires { EndFits depth end }
+        ensures words { OnOk result (self.new.words ≡
+            before (attempted (end_tree self.old.slots.items depth end.entry) 0) self.old.words) }
+        ensures slots { OnOk result (self.new.slots.items ≡ self.old.slots.items) }
+    {
+        self.words
+            .put(CoreWord::Pure(Operand::Number(Value::ZERO)))?;
+        let last = self.words.len();
+        self.end(end, depth)?;
+        let first = self.words.distance(last);
+        self.words.put(CoreWord::Handle(first))
+    }
+
+    // Writes the release of the bracket of this mask. Where it fails, it is noted as ended, and its error, which has
+    // this slot, goes on.
+    #[cycle(expansion)]
+    #[tactic(auto, using(crate::proofs::Written::length_before))]
+    fn released_then_raised(
+        &mut self,
+        poll: u32,
+        end: End<'_>,
+        slot: u32,
+        depth: u32,
+    ) -> Result<(), AllocError>
+        requires { EndFits depth end }
+        ensures words { OnOk result (self.new.words ≡ before (released_then_raised (Named poll)
+            (end_tree self.old.slots.items depth end.entry) slot) self.old.words) }
+        ensures slots { OnOk result (self.new.slots.items ≡ self.old.slots.items) }
+    {
+        self.words
+            .noted(poll, CoreWord::Raise(Operand::Slot(slot)))?;
+        let last = self.words.len();
+        self.end(end, depth)?;
+        let first = self.words.distance(last);
+        self.words.put(CoreWord::Handle(first))
+    }
+
+    // Writes what is done where the body was canceled.
+    #[cycle(expansion)]
+    #[tactic(auto, using(crate::proofs::Written::length_before))]
+    fn on_cancel(&mut self, closing: Closing, end: End<'_>, depth: u32) -> Result<(), AllocError>
+        requires end { EndFits depth end }
+        requires closing { last_of_closing closing < 2 ^ 32 }
+        ensures words { OnOk result (self.new.words ≡ before (closed_on_cancel closing
+            (end_tree self.old.slots.items depth end.entry)) self.old.words) }
+        ensures slots { OnOk result (self.new.slots.items ≡ self.old.slots.items) }
+    {
+        match closing {
+            Closing::Finalizer(_) => self.end(end, depth),
+            Closing::Release(slot) => {
+                self.words.put(CoreWord::Note(BracketMark::Released, slot))?;
+                let last = self.words.len();
+                self.released_then_raised(slot, end, slot + 3, depth)?;
+                let first = self.words.distance(last);
+                self.words.begun(slot, Rest::Last, first)
+            }
+        }
+    }
+
+    // Writes what is done after the body's error.
+    #[cycle(expansion)]
+    #[tactic(auto, using(crate::proofs::Written::length_before))]
+    fn on_error(&mut self, closing: Closing, end: End<'_>, depth: u32) -> Result<(), AllocError>
+        requires end { EndFits depth end }
+        requires closing { last_of_closing closing < 2 ^ 32 }
+        ensures words { OnOk result (self.new.words ≡ before (closed_on_error closing
+            (end_tree self.old.slots.items depth end.entry)) self.old.words) }
+        ensures slots { OnOk result (self.new.slots.items ≡ self.old.slots.items) }
+    {
+        match closing {
+            Closing::Finalizer(slot) => {
+                self.words.put(CoreWord::Raise(Operand::Slot(slot + 1)))?;
+                let last = self.words.len();
+                self.attempted(end, depth)?;
+                let first = self.words.distance(last);
+                self.words.put(CoreWord::Seq(Rest::Last, first))
+            }
+            Closing::Release(slot) => {
+                self.words
+                    .noted(slot, CoreWord::Raise(Operand::Slot(slot + 3)))?;
+                let last = self.words.len();
+                self.attempted(end, depth)?;
+                let first = self.words.distance(last);
+                self.words.begun(slot, Rest::More, first)
+            }
+        }
+    }
+
+    // Writes what is done after the body's value.
+    #[cycle(expansion)]
+    #[tactic(auto, using(crate::proofs::Written::length_before))]
+    fn on_value(&mut self, closing: Closing, end: End<'_>, depth: u32) -> Result<(), AllocError>
+        requires end { EndFits depth end }
+        requires closing { last_of_closing closing < 2 ^ 32 }
+        ensures words { OnOk result (self.new.words ≡ before (closed_on_value closing
+            (end_tree self.old.slots.items depth end.entry)) self.old.words) }
+        ensures slots { OnOk result (self.new.slots.items ≡ self.old.slots.items) }
+    {
+        match closing {
+            Closing::Finalizer(slot) => {
+                self.words.put(CoreWord::Pure(Operand::Slot(slot + 1)))?;
+                let last = self.words.len();
+                self.end(end, depth)?;
+                let first = self.words.distance(last);
+                self.words.put(CoreWord::Seq(Rest::Last, first))
+            }
+            Closing::Release(slot) => {
+                self.words
+                    .noted(slot, CoreWord::Pure(Operand::Slot(slot + 3)))?;
+                let last = self.words.len();
+                self.released_then_raised(slot, end, slot + 4, depth)?;
+                let first = self.words.distance(last);
+                self.words.begun(slot, Rest::More, first)
+            }
+        }
+    }
+
+    // Writes a body with what is done where it is canceled.
+    #[cycle(expansion)]
+    #[tactic(auto, using(crate::proofs::Written::length_before))]
+    fn guarded(
+        &mut self,
+        closing: Closing,
+        body: Part<'_>,
+        on_cancel: End<'_>,
+        depth: u32,
+    ) -> Result<(), AllocError>
+        requires body { Fits depth body }
+        requires end { EndFits depth on_cancel }
+        requires closing { last_of_closing closing < 2 ^ 32 }
+        ensures words { OnOk result (self.new.words ≡ before (guarded_by closing
+            (part_tree self.old.slots.items depth body.entry)
+            (end_tree self.old.slots.items depth on_cancel.entry)) self.old.words) }
+        ensures slots { OnOk result (self.new.slots.items ≡ self.old.slots.items) }
+    {
+        self.on_cancel(closing, on_cancel, depth)?;
+        let last = self.words.len();
+        self.placed(body, depth)?;
+        self.words.opened(closing)?;
+        let first = self.words.distance(last);
+        self.words.put(CoreWord::OnCancel(first))
+    }
+
+    // Writes a body with what is done where it is canceled, and after its error.
+    #[cycle(expansion)]
+    #[tactic(auto, using(crate::proofs::Written::length_before))]
+    fn handled(
+        &mut self,
+        closing: Closing,
+        body: Part<'_>,
+        ends: Ends<'_>,
+        depth: u32,
+    ) -> Result<(), AllocError>
+        requires body { Fits depth body }
+        requires ends { EndsFit depth ends }
+        requires closing { last_of_closing closing < 2 ^ 32 }
+        ensures words { OnOk result (self.new.words ≡ before (handled_by closing
+            (part_tree self.old.slots.items depth body.entry)
+            (end_tree self.old.slots.items depth ends.entry.on_cancel)
+            (end_tree self.old.slots.items depth ends.entry.on_error)) self.old.words) }
+        ensures slots { OnOk result (self.new.slots.items ≡ self.old.slots.items) }
+    {
+        self.on_error(closing, ends.on_error, depth)?;
+        let last = self.words.len();
+        self.guarded(closing, body, ends.on_cancel, depth)?;
+        let first = self.words.distance(last);
+        self.words.put(CoreWord::Handle(first))
+    }
+
+    // Writes a body in its mask, and then the case of its outcome.
+    #[cycle(expansion)]
+    #[tactic(auto, using(crate::proofs::Written::length_before))]
+    fn concluded(
+        &mut self,
+        closing: Closing,
+        body: Part<'_>,
+        ends: Ends<'_>,
+        depth: u32,
+    ) -> Result<(), AllocError>
+        requires body { Fits depth body }
+        requires ends { EndsFit depth ends }
+        requires closing { last_of_closing closing < 2 ^ 32 }
+        ensures words { OnOk result (self.new.words ≡ before (concluded_by closing
+            (part_tree self.old.slots.items depth body.entry)
+            (end_tree self.old.slots.items depth ends.entry.on_cancel)
+            (end_tree self.old.slots.items depth ends.entry.on_error)
+            (end_tree self.old.slots.items depth ends.entry.on_value)) self.old.words) }
+        ensures slots { OnOk result (self.new.slots.items ≡ self.old.slots.items) }
+    {
+        self.on_value(closing, ends.on_value, depth)?;
+        let last = self.words.len();
+        self.handled(closing, body, ends, depth)?;
+        let first = self.words.distance(last);
+        self.words.masked_let(first)
+    }
+
+    // Writes what is acquired, used by the body, and released by the outcome's case.
+    #[cycle(expansion)]
+    #[tactic(auto, using(crate::proofs::Written::length_before))]
+    fn bracket(
+        &mut self,
+        acquired: Part<'_>,
+        body: Part<'_>,
+        ends: Ends<'_>,
+        depth: u32,
+    ) -> Result<(), AllocError>
+        requires acquired { Fits depth acquired }
+        requires body { Fits depth body }
+        requires ends { EndsFit depth ends }
+        requires slots { depth + 4 < 2 ^ 32 }
+        ensures words { OnOk result (self.new.words ≡ before (bracket_case depth
+            (part_tree self.old.slots.items depth acquired.entry)
+            (part_tree self.old.slots.items depth body.entry)
+            (end_tree self.old.slots.items depth ends.entry.on_value)
+            (end_tree self.old.slots.items depth ends.entry.on_error)
+            (end_tree self.old.slots.items depth ends.entry.on_cancel)) self.old.words) }
+        ensures slots { OnOk result (self.new.slots.items ≡ self.old.slots.items) }
+    {
+        self.concluded(Closing::Release(depth), body, ends, depth)?;
+        self.words.acquired(depth)?;
+        let last = self.words.len();
+        self.placed(acquired, depth)?;
+        let first = self.words.distance(last);
+        self.words.masked_let(first)
+    }
+
+    // Writes the start of a side of a race in a fiber of its own, which completes the deferred with its number after
+    // every outcome.
+    #[cycle(expansion)]
+    #[tactic(auto, using(crate::proofs::Written::length_before))]
+    fn starts_side(
+        &mut self,
+        slot: u32,
+        deferred: u32,
+        side: u8,
+        body: Part<'_>,
+        depth: u32,
+    ) -> Result<(), AllocError>
+        requires body { Fits depth body }
+        requires slots { slot + 2 < 2 ^ 32 }
+        ensures words { OnOk result (self.new.words ≡
+            word.Start (distance (size (runs_side slot deferred side
+            (part_tree self.old.slots.items depth body.entry)))) ∷
+            before (runs_side slot deferred side (part_tree self.old.slots.items depth body.entry)) self.old.words) }
+        ensures slots { OnOk result (self.new.slots.items ≡ self.old.slots.items) }
+    {
+        let last = self.words.len();
+        let done = End::Done(deferred, side);
+        let ends = Ends {
+            on_cancel: done,
+            on_error: done,
+            on_value: done,
+        };
+        self.concluded(Closing::Finalizer(slot), body, ends, depth)?;
+        let first = self.words.distance(last);
+        self.words.put(CoreWord::Start(first))
+    }
+
+    // Writes a race of the poll before what follows it: the slots after the poll's are those of the deferred, the two
+    // fibers, and in what follows the winner.
+    #[cycle(expansion)]
+    fn pair_race(
+        &mut self,
+        poll: u32,
+        first: Part<'_>,
+        second: Part<'_>,
+        depth: u32,
+    ) -> Result<(), AllocError>
+        requires first { Fits depth first }
+        requires second { Fits depth second }
+        requires slots { poll + 6 < 2 ^ 32 }
+        ensures words { OnOk result (self.new.words ≡ race_before poll
+            (part_tree self.old.slots.items depth first.entry)
+            (part_tree self.old.slots.items depth second.entry) self.old.words) }
+        ensures slots { OnOk result (self.new.slots.items ≡ self.old.slots.items) }
+    {
+        self.words.decided(poll)?;
+        self.starts_side(poll + 3, poll + 1, 1, second, depth)?;
+        self.starts_side(poll + 2, poll + 1, 0, first, depth)?;
+        self.words.put(CoreWord::Make(Maker::Deferred))
+    }
+
+    // Writes a race: the outcome of the side that ends first, and of the other one where that was canceled.
+    #[cycle(expansion)]
+    fn race(&mut self, first: Part<'_>, second: Part<'_>, depth: u32) -> Result<(), AllocError>
+        requires first { Fits depth first }
+        requires second { Fits depth second }
+        requires slots { depth + 6 < 2 ^ 32 }
+        ensures words { OnOk result (self.new.words ≡ before (race depth
+            (part_tree self.old.slots.items depth first.entry)
+            (part_tree self.old.slots.items depth second.entry)) self.old.words) }
+        ensures slots { OnOk result (self.new.slots.items ≡ self.old.slots.items) }
+    {
+        self.words.race_outcome(depth)?;
+        self.pair_race(depth, first, second, depth)?;
+        self.words.put(CoreWord::Uncancelable)
+    }
+
+    // Writes the race of `both`. The ref, whose slot is the first, then holds the second value.
+    #[cycle(expansion)]
+    fn both_raced(
         &mut self,
         first: Part<'_>,
         second: Part<'_>,
         depth: u32,
-    ) -> Result<(Core, Core), AllocError>
+    ) -> Result<(), AllocError>
         requires first { Fits depth first }
         requires second { Fits depth second }
-        ensures first { IfOk result (λ pair.
-            tree_of pair.0 ≡ tree_at self.old.slots.items depth first.entry) }
-        ensures second { IfOk result (λ pair.
-            tree_of pair.1 ≡ tree_at self.old.slots.items depth second.entry) }
+        requires slots { depth + 7 < 2 ^ 32 }
+        ensures words { OnOk result (self.new.words ≡ before (both_raced depth
+            (part_tree self.old.slots.items depth first.entry)
+            (part_tree self.old.slots.items depth second.entry)) self.old.words) }
         ensures slots { OnOk result (self.new.slots.items ≡ self.old.slots.items) }
     {
-        let first = self.placed(first, depth)?;
-        let second = self.placed(second, depth)?;
-        Ok((first, second))
+        self.words.both_outcome(depth + 1, depth)?;
+        self.pair_race(depth + 1, first, second, depth)?;
+        self.words.put(CoreWord::Uncancelable)
     }
 
-    // What is done after each outcome of a body.
+    // Writes the values of both sides, bound in what follows. The ref, whose slot is the first, holds the second value.
     #[cycle(expansion)]
-    fn cases(&mut self, closing: Closing, ends: Ends<'_>, depth: u32) -> Result<Cases, AllocError>
-        requires ends { EndsFit depth ends }
-        requires closing { last_of_closing closing < 2 ^ 32 }
-        ensures on_cancel { IfOk result (λ cases. tree_of cases.on_cancel
-            ≡ closed_on_cancel closing (tree_at self.old.slots.items depth ends.entry.on_cancel)) }
-        ensures on_error { IfOk result (λ cases. tree_of cases.on_error
-            ≡ closed_on_error closing (tree_at self.old.slots.items depth ends.entry.on_error)) }
-        ensures on_value { IfOk result (λ cases. tree_of cases.on_value
-            ≡ closed_on_value closing (tree_at self.old.slots.items depth ends.entry.on_value)) }
+    #[tactic(auto, using(crate::proofs::Written::length_before))]
+    fn both(
+        &mut self,
+        first: Part<'_>,
+        second: Part<'_>,
+        next: Part<'_>,
+        depth: u32,
+    ) -> Result<(), AllocError>
+        requires first { Fits depth first }
+        requires second { Fits depth second }
+        requires next { Fits depth next }
+        requires slots { depth + 7 < 2 ^ 32 }
+        ensures words { OnOk result (self.new.words ≡ before (both depth
+            (part_tree self.old.slots.items depth first.entry)
+            (part_tree self.old.slots.items depth second.entry)
+            (part_tree self.old.slots.items depth next.entry)) self.old.words) }
         ensures slots { OnOk result (self.new.slots.items ≡ self.old.slots.items) }
     {
-        let alloc = self.alloc;
-        let on_cancel = on_cancel(alloc, closing, self.placed(ends.on_cancel, depth)?)?;
-        let on_error = on_error(alloc, closing, self.placed(ends.on_error, depth)?)?;
-        let on_value = on_value(alloc, closing, self.placed(ends.on_value, depth)?)?;
-        Ok(Cases {
-            on_cancel,
-            on_error,
-            on_value,
-        })
-    }
-
-    // The expansions of these parts, each below so many binders.
-    #[cycle(expansion)]
-    fn all_parts(&mut self, terms: &[Term], depth: u32) -> Result<Vec<Core>, AllocError>
-        requires { depth + total_expansion_size terms.now < 2 ^ 32 }
-        ensures core { IfOk result (λ parts.
-            map tree_of parts.items ≡ map (λ t. expansion self.old.slots.items depth (source_of t)) terms.now) }
-        ensures slots { OnOk result (self.new.slots.items ≡ self.old.slots.items) }
-    {
-        let mut parts = Vec::with_capacity(self.alloc, terms.len())?;
-        for term in terms {
-            let part = self.part(term, depth)?;
-            parts.push(part)?;
-        }
-        Ok(parts)
+        self.placed(next, depth)?;
+        self.words.get_bound(depth)?;
+        let last = self.words.len();
+        self.both_raced(first, second, depth)?;
+        let raced = self.words.distance(last);
+        self.words.made_let(raced)
     }
 }

@@ -1,17 +1,14 @@
-//! A term as a word and its parts, and the core terms that the words stand for.
+//! A term as a word and its parts, and the words of a code that the words of a program are.
 
-ghost use Rattle.std.specs.Prelude.{◌≡◌, ◌<◌, ◌^◌, IfOk};
-ghost use Rattle.derived_ops.specs.Cores.{tree_of};
-ghost use Rattle.derived_ops.specs.Private.Shapes.{last_of_three, last_of_two, tree_of_one, tree_of_three};
-ghost use Rattle.derived_ops.specs.Private.Shapes.{tree_of_two, tree_of_word};
+ghost use Rattle.std.specs.Prelude.{◌≡◌, ◌∷◌, ℕ, List};
+ghost use Rattle.derived_ops.specs.Tree.{Tree};
+ghost use Rattle.derived_ops.specs.declared.core_word.CoreWord.{CoreWord};
+ghost use Rattle.derived_ops.specs.Private.Shapes.{tree_of_atom, tree_of_one, tree_of_two};
+ghost use Rattle.derived_ops.specs.Private.Writing.{before, distance, size};
 
-use crate::core_term::{Action, Core, Maker, Operand, Turns};
-use crate::forms::{
-    bound, chosen, finalized, handled, joined, made, masked, polled, repeated, started,
-};
-use crate::races::{both, race};
+use crate::core_term::{Action, Maker, Operand, Turns};
+use crate::core_word::CoreWord;
 use effect_term::Term;
-use std::alloc::{AllocError, Global};
 
 /// Where a part of a word stands: how many binders of the word's expansion are around it, and which
 /// of them its program knows.
@@ -40,122 +37,106 @@ pub(crate) struct Part<'a> {
     pub(crate) term: &'a Term,
 }
 
+/// What stands after an outcome of a body.
+#[derive(Clone, Copy)]
+pub(crate) enum End<'a> {
+    /// A part of the word.
+    Part(Part<'a>),
+    /// The deferred of this slot is completed with the number of a side of a race.
+    Done(u32, u8),
+}
+
 /// What stands for each outcome of a body.
 #[derive(Clone, Copy)]
 pub(crate) struct Ends<'a> {
-    pub(crate) on_cancel: Part<'a>,
-    pub(crate) on_error: Part<'a>,
-    pub(crate) on_value: Part<'a>,
+    pub(crate) on_cancel: End<'a>,
+    pub(crate) on_error: End<'a>,
+    pub(crate) on_value: End<'a>,
 }
 
 /// A word without parts.
 #[derive(Clone, Copy)]
-pub(crate) enum Word {
+pub(crate) enum Atom {
     Pure(Operand),
     Raise(Operand),
     Act(Action),
     Cancel(u32),
 }
 
-/// A word of one part, with the slot that it binds.
+/// A word of one part.
 #[derive(Clone, Copy)]
 pub(crate) enum One {
-    Masked(u32),
+    Masked,
     Polled(u32),
-    Made(Maker, u32),
+    Made(Maker),
     Repeated(Turns),
 }
 
-/// A word of two parts, with the slot of its first binder.
+/// A word of two parts.
 #[derive(Clone, Copy)]
 pub(crate) enum Two {
-    Let(u32),
-    Handle(u32),
+    Let,
+    Handle,
     If0(Operand),
     OnCancel,
-    Start(u32),
-    Race(u32),
-}
-
-/// A word of three parts, with the slot of its first binder.
-#[derive(Clone, Copy)]
-pub(crate) enum Three {
-    Join(u32, u32),
-    Both(u32),
+    Start,
 }
 
 /// A term as a word and its parts.
 #[derive(Clone, Copy)]
 pub(crate) enum Shape<'a> {
-    Word(Word),
+    Atom(Atom),
     One(One, Part<'a>),
     Two(Two, Part<'a>, Part<'a>),
-    Three(Three, Part<'a>, Part<'a>, Part<'a>),
-    /// A `guarantee`, with the slot of its mask.
-    Guarantee(u32, Part<'a>, Ends<'a>),
-    /// A bracket, with the slot of its outer mask.
-    Bracket(u32, Part<'a>, Part<'a>, Ends<'a>),
-    Seq(Part<'a>, Part<'a>, &'a [Term]),
+    Seq(&'a Term, &'a Term, &'a [Term]),
+    /// A `join`, with the slot of its fiber.
+    Join(u32, Part<'a>, Part<'a>, Part<'a>),
+    /// A `guarantee`.
+    Guarantee(Part<'a>, Ends<'a>),
+    /// A bracket: what acquires, its body, and its release.
+    Bracket(Part<'a>, Part<'a>, Ends<'a>),
+    Race(Part<'a>, Part<'a>),
+    Both(Part<'a>, Part<'a>, Part<'a>),
 }
 
-/// A word without parts, as a term.
-pub(crate) fn of_word(word: Word) -> Core
-    ensures { tree_of result ≡ tree_of_word word }
+/// The word that a word without parts is.
+#[tactic(auto, using(crate::proofs::StoredParts::stored_value_of, crate::proofs::StoredParts::stored_action_of))]
+pub(crate) fn word_of_atom(atom: Atom) -> CoreWord
+    ensures { (ws : List CoreWord) → before (tree_of_atom atom) ws ≡ result ∷ ws }
 {
-    match word {
-        Word::Pure(value) => Core::Pure(value),
-        Word::Raise(code) => Core::Raise(code),
-        Word::Act(action) => Core::Act(action),
-        Word::Cancel(fiber) => Core::Cancel(fiber),
+    match atom {
+        Atom::Pure(value) => CoreWord::Pure(value),
+        Atom::Raise(code) => CoreWord::Raise(code),
+        Atom::Act(action) => CoreWord::Act(action),
+        Atom::Cancel(fiber) => CoreWord::Cancel(fiber),
     }
 }
 
-/// A word of one part, which is expanded.
-pub(crate) fn of_one(alloc: Global, word: One, part: Core) -> Result<Core, AllocError>
-    ensures { IfOk result (λ core. tree_of core ≡ tree_of_one word (tree_of part)) }
+/// The word that stands before its one part.
+#[tactic(auto, using(crate::proofs::StoredParts::stored_maker_of, crate::proofs::StoredParts::stored_turns_of))]
+pub(crate) fn word_of_one(one: One) -> CoreWord
+    ensures { (slot : ℕ) (e : Tree) (ws : List CoreWord) →
+        before (tree_of_one slot one e) ws ≡ result ∷ before e ws }
 {
-    match word {
-        One::Masked(slot) => masked(alloc, slot, part),
-        One::Polled(poll) => polled(alloc, poll, part),
-        One::Made(maker, slot) => made(alloc, maker, slot, part),
-        One::Repeated(turns) => repeated(alloc, turns, part),
+    match one {
+        One::Masked => CoreWord::Uncancelable,
+        One::Polled(poll) => CoreWord::Poll(poll),
+        One::Made(maker) => CoreWord::Make(maker),
+        One::Repeated(turns) => CoreWord::Loop(turns),
     }
 }
 
-/// A word of two parts, which are expanded.
-pub(crate) fn of_two(
-    alloc: Global,
-    word: Two,
-    first: Core,
-    second: Core,
-) -> Result<Core, AllocError>
-    requires { last_of_two word < 2 ^ 32 }
-    ensures { IfOk result (λ core. tree_of core ≡ tree_of_two word (tree_of first) (tree_of second)) }
+/// The word that stands before its two parts, of which the first has so many words.
+#[tactic(auto, using(crate::proofs::StoredParts::stored_value_of))]
+pub(crate) fn word_of_two(two: Two, first: u32) -> CoreWord
+    ensures { (slot : ℕ) (e k : Tree) (ws : List CoreWord) → first ≡ distance (size e) →
+        before (tree_of_two slot two e k) ws ≡ result ∷ before e (before k ws) }
 {
-    match word {
-        Two::Let(slot) => bound(alloc, first, slot, second),
-        Two::Handle(slot) => handled(alloc, first, slot, second),
-        Two::If0(value) => chosen(alloc, value, first, second),
-        Two::OnCancel => finalized(alloc, first, second),
-        Two::Start(slot) => started(alloc, slot, first, second),
-        Two::Race(slot) => race(alloc, slot, first, second),
-    }
-}
-
-/// A word of three parts, which are expanded.
-pub(crate) fn of_three(
-    alloc: Global,
-    word: Three,
-    first: Core,
-    second: Core,
-    third: Core,
-) -> Result<Core, AllocError>
-    requires { last_of_three word < 2 ^ 32 }
-    ensures { IfOk result (λ core.
-        tree_of core ≡ tree_of_three word (tree_of first) (tree_of second) (tree_of third)) }
-{
-    match word {
-        Three::Join(fiber, slot) => joined(alloc, fiber, slot, first, second, third),
-        Three::Both(slot) => both(alloc, slot, first, second, third),
+    match two {
+        Two::Let => CoreWord::Let(first),
+        Two::Handle => CoreWord::Handle(first),
+        Two::If0(value) => CoreWord::If0(value, first),
+        Two::OnCancel => CoreWord::OnCancel(first),
+        Two::Start => CoreWord::Start(first),
     }
 }

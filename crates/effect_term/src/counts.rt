@@ -8,7 +8,7 @@ ghost use Rattle.effect_term.specs.Starts.{starts_fiber};
 
 use crate::term::Term;
 
-/// Where the count of an expansion stops: one past the greatest expansion of a program.
+// Where the count of an expansion stops: one past the greatest expansion of a program.
 const EXPANSION_STOP: u64 = 1_000_001;
 
 impl Term {
@@ -114,7 +114,7 @@ impl Term {
         }
     }
 
-    // The number of words and marks of the term's expansion, or 1,000,001 where it is above that.
+    /// The number of words and marks of the term's expansion, or 1,000,001 where it is above that.
     pub(crate) fn expansion_size(&self) -> u64
         ensures { result ≡ min (expansion_size_of self.now) EXPANSION_STOP }
     {
@@ -168,7 +168,7 @@ impl Term {
         }
     }
 
-    // Whether a word `start`, `race` or `both` stands in the term.
+    /// Whether a word `start`, `race` or `both` stands in the term.
     pub(crate) fn starts_fiber(&self) -> bool
         ensures { result ≡ starts_fiber self.now }
     {

@@ -7,6 +7,7 @@
 #![tactic(auto)]
 
 mod counts;
+mod facts;
 mod names;
 mod program;
 mod refusal;
@@ -14,6 +15,7 @@ mod reply;
 mod term;
 mod value;
 
+pub use facts::facts_of;
 pub use program::Program;
 pub use refusal::TermError;
 pub use reply::{CancelReply, JoinReply, Outcome, Reply};

@@ -11,10 +11,10 @@ use crate::term::Term;
 use std::alloc::Global;
 use std::marker::Model;
 
-/// The most masks of a program.
+// The most masks of a program.
 const MASKS_LIMIT: u64 = 250;
 
-/// The most words and marks of a program's expansion.
+// The most words and marks of a program's expansion.
 const EXPANSION_LIMIT: u64 = 1_000_000;
 
 /// A closed, well-kinded term with at most 250 masks, whose expansion has at most 1,000,000 words

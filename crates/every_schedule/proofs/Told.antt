@@ -1,5 +1,5 @@
 -- What a search promises of its answers, said of the answers that are told.
-use Rattle.std.proofs.Common.{◌≡◌, inl, inr, ℕ, ◌<◌, ◌≤◌, List, length, Result, Ok, Err, sym, ap, ◌∙◌, subst, arith, get_or}
+use Rattle.std.proofs.Common.{◌≡◌, ◌≢◌, inl, inr, ℕ, ◌<◌, ◌≤◌, List, length, Result, Ok, Err, sym, ap, ◌∙◌, subst, arith, get_or}
 use Rattle.std.specs.Prelude.{Some, IfOk}
 use Rattle.std.specs.List.{All, slice_get}
 use Rattle.std.proofs.lemmas.Option.{get_or_from_slice_get, same_Some, slice_get-get_or, slice_get_cases, slice_get_within}
@@ -16,8 +16,9 @@ use Rattle.world_search.specs.declared.landings.Landing.TheVariants as to
 use Rattle.world_search.specs.Answers as search
 use Rattle.world_search.specs.Systems as systems
 use Rattle.every_schedule.specs.declared.exploration.Answer.{Answer}
-use Rattle.every_schedule.specs.Explored.{IsAnswered, IsCovered, IsListed, IsReached}
+use Rattle.every_schedule.specs.Explored.{IsAnswered, IsCovered, IsListed, IsReached, ListOnce}
 use Rattle.every_schedule.specs.Places.{Kept, Place, first_place, placed, report_at, stepped}
+use Rattle.every_schedule.specs.Private.Keeping.{AreSingle}
 use Rattle.every_schedule.specs.Private.Telling.{AreTold, IsEnd, IsTold, IsWithin}
 use Rattle.every_schedule.proofs.Placed.{core_run, settles, settles_place}
 
@@ -42,6 +43,23 @@ pub all_within : (kept : Kept) (first : Place) (found : List Found) → All (sea
     All (λ a. IsWithin kept a.end) found
 all_within kept first found right = all_from (λ a. IsWithin kept a.end) found (λ i f e.
     within kept first f.schedule.items f.end (all_at (search.IsRight stepped report_at kept.places kept.faults first) found i f e right))
+
+same_ok : (r s : Report) → (let x : Result Report RunError = Ok r in x) ≡ Ok s → r ≡ s
+same_ok r s e = cc
+
+same_err : (d e : RunError) → (let x : Result Report RunError = Err d in x) ≡ Err e → d ≡ e
+same_err d e h = cc
+
+-- ends that are apart are told otherwise
+ends_apart : (kept : Kept) → AreSingle kept.faults → (l m : Landing) (x y : Result Report RunError) → search.AreApart report_at kept.places l m →
+    IsEnd kept l x → IsEnd kept m y → x ≢ y
+ends_apart kept single (to.World i) (to.World j) x y apart e f = λ same.
+    apart e.0 f.0 e.1 f.1 (same_ok (report_at e.0) (report_at f.0) (sym e.2 ∙ same ∙ f.2))
+ends_apart kept single (to.World i) (to.Fault j) x y apart e f = λ same. let no : Ok (report_at e.0) ≡ Err f.0 = sym e.2 ∙ same ∙ f.2 in cc
+ends_apart kept single (to.Fault i) (to.World j) x y apart e f = λ same. let no : Err e.0 ≡ Ok (report_at f.0) = sym e.2 ∙ same ∙ f.2 in cc
+ends_apart kept single (to.Fault i) (to.Fault j) x y apart e f = λ same.
+    let is : f.0 ≡ e.0 = sym (same_err e.0 f.0 (sym e.2 ∙ same ∙ f.2)) in
+    apart (single i j e.0 e.1 (subst (λ (d : RunError). slice_get kept.faults j ≡ Some d) is f.1))
 
 module _ (kept : Kept) (found : List Found) (answers : List Answer) (told : AreTold kept found answers) where
   -- an end of the search is the end that is told
@@ -118,3 +136,9 @@ module _ (kept : Kept) (found : List Found) (answers : List Answer) (told : AreT
   short most h = all_from (λ a. length a.schedule ≤ most) answers (λ i a e.
       let it = found_at i a e in
       subst (λ s. length s ≤ most) (sym it.2.schedule) (all_at (search.IsShort most) found i it.0 it.1 h))
+
+  pub once : AreSingle kept.faults → search.TellOnce report_at kept.places found → ListOnce answers
+  once single h i j a b less ati atj =
+      let f = found_at i a ati in
+      let g = found_at j b atj in
+      ends_apart kept single f.0.end g.0.end a.end b.end (h i j f.0 g.0 less f.1 g.1) f.2.ends g.2.ends

@@ -1,17 +1,20 @@
 -- Trails that go on, and the answers of the reduced search with the entries of their schedules one by one.
-use Rattle.std.proofs.Common.{◌≡◌, inl, inr, ℕ, ◌+◌, ◌<◌, List, [], ◌∷◌, ◌++◌, length, Some, Result, Ok, Err, refl, sym}
-use Rattle.std.proofs.Common.{ap, ◌∙◌, subst, arith, append-nil, append_assoc}
-use Rattle.std.specs.List.{All, slice_get}
+use Rattle.std.proofs.Common.{◌≡◌, ◌≢◌, ◌⊎◌, inl, inr, ℕ, ◌+◌, ◌<◌, List, [], ◌∷◌, ◌++◌, length, Some, Result, Ok, Err, refl, sym}
+use Rattle.std.proofs.Common.{ap, ◌∙◌, subst, arith, append-nil, append_assoc, get_or}
+use Rattle.std.specs.List.{All, slice_get, swap}
 use Rattle.std.specs.List.Sorted.{IsPermutation}
 use Rattle.std.proofs.lemmas.List.Elements.{All-push}
-use Rattle.std.proofs.lemmas.List.Sorted.{All-permutation, IsPermutation-sym}
-use Rattle.std.proofs.lemmas.Option.{same_Some}
+use Rattle.std.proofs.lemmas.Bool.{cases_order}
+use Rattle.std.proofs.lemmas.List.Edits.{length-swap, swapped_from_swap}
+use Rattle.std.proofs.lemmas.List.Sorted.{All-permutation, IsPermutation-keeps, IsPermutation-sym}
+use Rattle.std.proofs.lemmas.Option.{get_or_from_slice_get, same_Some, slice_get-get_or, slice_get_within}
 use mathlib.Core.Logic.{dite}
 use native.Mathlib.Decide.{ℕ_discrete}
 use Rattle.cell_registry.specs.declared.limits.RunError.{RunError}
 use Rattle.outcome_trace.proofs.Lists.{parted}
 use Rattle.world_search.specs.declared.answers.Answer.{Answer as Found}
 use Rattle.world_search.specs.declared.landings.Landing.{Landing}
+use Rattle.world_search.specs.declared.landings.Landing.TheVariants as to
 use Rattle.world_search.specs.Answers as search
 use Rattle.world_search.specs.Lists.{IsIn}
 use Rattle.world_search.specs.Systems.{run}
@@ -20,7 +23,7 @@ use Rattle.world_search.proofs.Lists.{get_end, get_last, more_by, more_in}
 use Rattle.world_search.proofs.Free.{covers, goes_onward, leads_up}
 use Rattle.every_schedule.specs.Places.{Kept, Place, report_at, stepped}
 use Rattle.every_schedule.specs.Reduced.{IsOwn, leapt}
-use Rattle.every_schedule.specs.Private.Trails.{AreUnfolded, IsKeptIn, IsTrail, IsUnfolded, IsUnfoldedOf}
+use Rattle.every_schedule.specs.Private.Trails.{AreUnfolded, EndApart, IsKeptIn, IsTrail, IsUnfolded, IsUnfoldedOf}
 use Rattle.every_schedule.proofs.Commuting.{own_are_free}
 use Rattle.every_schedule.proofs.Growing.{reports_grow, size}
 use Rattle.every_schedule.proofs.Leaps.{leaps}
@@ -134,3 +137,149 @@ module _ (kept : Kept) (first : Place) (n most : ℕ) (found answers : List Foun
     all_onward h s =
         let on = goes_onward stepped IsOwn own_are_free (leapt n) (leaps n) report_at size reports_grow kept.places kept.faults found first h s in
         (on.0, end_so (run stepped (Ok first) (s ++ on.0)) on.1)
+
+-- ---- ends at different numbers
+-- each of these answers ends as one of the first n that were found
+abbrev pub EndsBefore : List Found → ℕ → List Found → Type 0
+EndsBefore found n answers = (k : ℕ) (a : Found) → slice_get answers k ≡ Some a → (m : ℕ) × (b : Found) × (m < n) × (slice_get found m ≡ Some b) ×
+    (a.end ≡ b.end)
+
+pub before_more : (found answers : List Found) (n : ℕ) → EndsBefore found n answers → EndsBefore found (n + 1) answers
+before_more found answers n h k a at = let x = h k a at in let low = x.2 in (x.0, x.1, omega arith, x.3, x.4)
+
+pub before_next : (found old : List Found) (n : ℕ) (it one : Found) → slice_get found n ≡ Some it → one.end ≡ it.end → EndsBefore found n old →
+    EndsBefore found (n + 1) (old ++ one ∷ [])
+before_next found old n it one at same h k a e = elim (get_end old one a k e) [
+  | inl early ↦ before_more found old n h k a early
+  | inr last ↦ (n, it, omega arith, at, sym (ap (λ (x : Found). x.end) last.1) ∙ same)
+]
+
+pub apart_next : (found old : List Found) (n : ℕ) (it one : Found) → slice_get found n ≡ Some it → one.end ≡ it.end → EndApart found →
+    EndsBefore found n old → EndApart old → EndApart (old ++ one ∷ [])
+apart_next found old n it one at same all before h i j a b ei ej is = elim (get_end old one a i ei) [
+  | inl x ↦ elim (get_end old one b j ej) [
+    | inl y ↦ h i j a b x y is
+    | inr y ↦
+        let u = before i a x in
+        let low = u.2 in
+        let there = all u.0 n u.1 it u.3 at (sym u.4 ∙ is ∙ sym (ap (λ (x : Found). x.end) y.1) ∙ same) in
+        absurd (omega arith)
+  ]
+  | inr x ↦ elim (get_end old one b j ej) [
+    | inl y ↦
+        let u = before j b y in
+        let low = u.2 in
+        let there = all u.0 n u.1 it u.3 at (sym u.4 ∙ sym is ∙ sym (ap (λ (x : Found). x.end) x.1) ∙ same) in
+        absurd (omega arith)
+    | inr y ↦ x.0 ∙ sym y.0
+  ]
+]
+
+-- where an element stood before two were swapped
+pub record WasAt {A : Type 0} (xs : List A) (m n k : ℕ) (a : A) : Type 0 where
+  pub place : ℕ
+  pub here : slice_get xs place ≡ Some a
+  pub moved : ((k ≡ m) × (place ≡ n)) ⊎ (((k ≡ n) × (place ≡ m)) ⊎ ((k ≢ m) × (k ≢ n) × (place ≡ k)))
+
+was_at : {A : Type 0} (xs : List A) (m n k : ℕ) (a : A) → m < length xs → n < length xs → slice_get (swap xs m n) k ≡ Some a → WasAt xs m n k a
+was_at xs m n k a lm ln e =
+    let s = swapped_from_swap xs (swap xs m n) m n a lm ln refl in
+    let low = slice_get_within (swap xs m n) k a e in
+    let long = length-swap xs m n in
+    let here : get_or (swap xs m n) k a ≡ a = get_or_from_slice_get (swap xs m n) k a a e in
+    dite (ℕ_discrete k m)
+    (λ is. record {
+      place = n;
+      here = slice_get-get_or xs n a ln ∙ ap Some (sym s.0 ∙ ap (λ i. get_or (swap xs m n) i a) (sym is) ∙ here);
+      moved = inl (is, refl);
+    })
+    (λ isnt. dite (ℕ_discrete k n)
+    (λ is. record {
+      place = m;
+      here = slice_get-get_or xs m a lm ∙ ap Some (sym s.1 ∙ ap (λ i. get_or (swap xs m n) i a) (sym is) ∙ here);
+      moved = inr (inl (is, refl));
+    })
+    (λ no. record {
+      place = k;
+      here = slice_get-get_or xs k a (omega arith) ∙ ap Some (sym (s.2 k isnt no) ∙ here);
+      moved = inr (inr (isnt, no, refl));
+    }))
+
+apart_swapped : (xs : List Found) (m n : ℕ) → m < length xs → n < length xs → EndApart xs → EndApart (swap xs m n)
+apart_swapped xs m n lm ln h i j a b ei ej is =
+    let u = was_at xs m n i a lm ln ei in
+    let v = was_at xs m n j b lm ln ej in
+    let same : u.place ≡ v.place = h u.place v.place a b u.here v.here is in
+    elim u.moved [
+      | inl x ↦ elim v.moved [
+        | inl y ↦ x.0 ∙ sym y.0
+        | inr y ↦ elim y [
+          | inl z ↦ x.0 ∙ sym z.1 ∙ sym same ∙ x.1 ∙ sym z.0
+          | inr z ↦ absurd (z.1 (sym z.2 ∙ sym same ∙ x.1))
+        ]
+      ]
+      | inr w ↦ elim w [
+        | inl x ↦ elim v.moved [
+          | inl y ↦ x.0 ∙ sym y.1 ∙ sym same ∙ x.1 ∙ sym y.0
+          | inr y ↦ elim y [
+            | inl z ↦ x.0 ∙ sym z.0
+            | inr z ↦ absurd (z.0 (sym z.2 ∙ sym same ∙ x.1))
+          ]
+        ]
+        | inr x ↦ elim v.moved [
+          | inl y ↦ absurd (x.1 (sym x.2 ∙ same ∙ y.1))
+          | inr y ↦ elim y [
+            | inl z ↦ absurd (x.0 (sym x.2 ∙ same ∙ z.1))
+            | inr z ↦ sym x.2 ∙ same ∙ z.2
+          ]
+        ]
+      ]
+    ]
+
+pub apart_sorted : (xs ys : List Found) → IsPermutation xs ys → EndApart xs → EndApart ys
+apart_sorted xs ys moved h = IsPermutation-keeps xs EndApart h apart_swapped ys moved
+
+-- what tells a report or a fault once names each end once
+not_apart : (k : ℕ) (kept : Kept) (first : Place) (s : List ℕ) (l : Landing) → search.LeadsTo (leapt k) report_at kept.places kept.faults first s l →
+    search.AreApart report_at kept.places l l → ⊥
+not_apart k kept first s (to.World j) h apart = apart h.0 h.0 h.1 h.1 refl
+not_apart k kept first s (to.Fault j) h apart = apart refl
+
+pub found_apart : (k : ℕ) (kept : Kept) (first : Place) (found : List Found) →
+    All (search.IsRight (leapt k) report_at kept.places kept.faults first) found → search.TellOnce report_at kept.places found → EndApart found
+found_apart k kept first found right once i j a b ei ej same =
+    let its = all_at (search.IsRight (leapt k) report_at kept.places kept.faults first) found in
+    elim (cases_order i j) [
+      | inl is ↦ is
+      | inr other ↦ elim other [
+        | inl low ↦ absurd (not_apart k kept first a.schedule.items a.end (its i a ei right)
+            (subst (λ (l : Landing). search.AreApart report_at kept.places a.end l) (sym same) (once i j a b low ei ej)))
+        | inr high ↦ absurd (not_apart k kept first a.schedule.items a.end (its i a ei right)
+            (subst (λ (l : Landing). search.AreApart report_at kept.places l a.end) (sym same) (once j i b a high ej ei)))
+      ]
+    ]
+
+apart_back : (kept : Kept) (l m : Landing) → search.AreApart report_at kept.places l m → search.AreApart report_at kept.places m l
+apart_back kept (to.World i) (to.World j) h = λ v w ev ew same. h w v ew ev (sym same)
+apart_back kept (to.World i) (to.Fault j) h = tt
+apart_back kept (to.Fault i) (to.World j) h = tt
+apart_back kept (to.Fault i) (to.Fault j) h = λ same. h (sym same)
+
+pub unfolded_once : (kept : Kept) (first : Place) (n most : ℕ) (found answers : List Found) → AreUnfolded n most first found answers →
+    search.TellOnce report_at kept.places found → EndApart answers → search.TellOnce report_at kept.places answers
+unfolded_once kept first n most found answers each once apart i j a b less ei ej =
+    let u = each i a ei in
+    let v = each j b ej in
+    let ends = (λ (h : search.AreApart report_at kept.places u.answer.end v.answer.end).
+    subst (λ (l : Landing). search.AreApart report_at kept.places l b.end) (sym u.end)
+    (subst (λ (l : Landing). search.AreApart report_at kept.places u.answer.end l) (sym v.end) h)) in
+    elim (cases_order u.number v.number) [
+      | inl is ↦
+          let one : u.answer ≡ v.answer = same_Some u.answer v.answer (sym u.at ∙ subst (λ x. slice_get found x ≡ Some v.answer) (sym is) v.at) in
+          let both : i ≡ j = apart i j a b ei ej (u.end ∙ ap (λ (x : Found). x.end) one ∙ sym v.end) in
+          absurd (omega arith)
+      | inr other ↦ elim other [
+        | inl low ↦ ends (once u.number v.number u.answer v.answer low u.at v.at)
+        | inr high ↦ ends (apart_back kept v.answer.end u.answer.end (once v.number u.number v.answer u.answer high v.at u.at))
+      ]
+    ]

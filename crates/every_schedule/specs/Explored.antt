@@ -1,5 +1,5 @@
 -- What an exploration tells of a program under every schedule.
-use Rattle.std.specs.Prelude.{◌≡◌, ℕ, List, Some, Result, Ok, Err, IfOk}
+use Rattle.std.specs.Prelude.{◌≡◌, ◌≢◌, ℕ, ◌<◌, List, Some, Result, Ok, Err, IfOk}
 use Rattle.std.specs.List.{All, slice_get}
 use Rattle.derived_ops.specs.Tree.{Tree}
 use Rattle.fiber_frames.specs.Marks.{AreLawful}
@@ -34,6 +34,11 @@ pub record IsReached (code : Tree) (k : Limits) (a : Answer) : Type 0 where
 -- the marks of each fiber in the answer's report are lawful
 abbrev pub HasLawfulMarks : Answer → Type 0
 HasLawfulMarks a = IfOk a.end (λ r. All (λ f. AreLawful f.marks f.outcome) r.fibers)
+
+-- no two answers end alike: a report is listed once, and so is a fault
+abbrev pub ListOnce : List Answer → Type 0
+ListOnce answers = (i j : ℕ) (a b : Answer) → i < j → slice_get answers i ≡ Some a → slice_get answers j ≡ Some b →
+    a.end ≢ b.end
 
 -- no answer is a fault
 abbrev pub HasNoFault : List Answer → Type 0

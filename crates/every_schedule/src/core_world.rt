@@ -13,7 +13,7 @@ use outcome_trace::{enter, first_fibers};
 use std::alloc::{AllocError, Global};
 use std::marker::Model;
 
-// The born fibers, beside the registry that they share.
+/// The born fibers, beside the registry that they share.
 #[derive(Drop)]
 pub(crate) struct CoreWorld {
     fibers: Vec<Config>,
@@ -41,7 +41,7 @@ impl Model for CoreWorld {
 }
 
 impl CoreWorld {
-    // The world of a program before the first move.
+    /// The world of a program before the first move.
     pub(crate) fn first(
         alloc: Global,
         program: &Program,
@@ -61,7 +61,7 @@ impl CoreWorld {
         Ok(CoreWorld { fibers, registry })
     }
 
-    // The entry of a fiber. After an error the world is of no use.
+    /// The entry of a fiber. After an error the world is of no use.
     pub(crate) fn enter(self, fiber: u16) -> Result<CoreWorld, RunError>
         ensures goes { IfOk result (λ w. stepped self fiber ≡ GoesWell w) }
         ensures stops { IfErr result (λ e. (e ≡ RunError.NoMemory) ⊎ (stepped self fiber ≡ Fails e)) }
@@ -74,7 +74,7 @@ impl CoreWorld {
         Ok(CoreWorld { fibers, registry })
     }
 
-    // The world of these fibers and this registry.
+    /// The world of these fibers and this registry.
     pub(crate) fn new(fibers: Vec<Config>, registry: PlainRegistry) -> CoreWorld
         requires { AllFit (world_of fibers.items registry.state) }
         ensures { result ≡ record { limits = registry.limits; world = world_of fibers.items registry.state } }
@@ -82,7 +82,7 @@ impl CoreWorld {
         CoreWorld { fibers, registry }
     }
 
-    // Its fibers.
+    /// Its fibers.
     pub(crate) fn fibers(&self) -> &[Config]
         ensures fibers { result.now ≡ self.now.world.fibers }
         ensures fits { AllFit self.now.world }
@@ -90,14 +90,14 @@ impl CoreWorld {
         self.fibers.as_slice()
     }
 
-    // Its registry.
+    /// Its registry.
     pub(crate) fn registry(&self) -> &PlainRegistry
         ensures { result.now ≡ record { limits = self.now.limits; state = self.now.world.cells } }
     {
         &self.registry
     }
 
-    // The fibers and the registry, given back.
+    /// The fibers and the registry, given back.
     pub(crate) fn into_parts(self) -> (Vec<Config>, PlainRegistry)
         ensures fibers { result.0.items ≡ self.world.fibers }
         ensures registry { result.1 ≡ record { limits = self.limits; state = self.world.cells } }

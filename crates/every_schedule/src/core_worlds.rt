@@ -11,24 +11,25 @@ ghost use Rattle.world_search.specs.Landings.{EntersAt, IsNext};
 ghost use Rattle.world_search.specs.Lists.{IsMore};
 ghost use Rattle.every_schedule.specs.Places.{Place, first_place, report_at};
 ghost use Rattle.every_schedule.specs.Reduced.{leapt};
-ghost use Rattle.every_schedule.specs.Private.Keeping.{IsKept};
+ghost use Rattle.every_schedule.specs.Private.Keeping.{AreSingle, IsKept};
 ghost use Rattle.every_schedule.specs.Private.Numbered.{MayAdd};
 
 use crate::core_world::CoreWorld;
 use crate::current::{Current, States, begun, fibers_of, set_up};
+use crate::faults::Faults;
 use crate::leaping::leap;
 use crate::pool::{Pool, Pooled};
 use crate::reports::same_reports;
 use crate::row::Row;
 use cell_registry::{Limits, RunError};
-use effect_term::Program;
+use effect_term::{Program, facts_of};
 use outcome_trace::{Report, report_of_fibers};
 use std::alloc::{AllocError, Global};
 use std::marker::Model;
 use world_search::{Entered, Landing, Worlds};
 
-// All worlds and faults that were found. The states of fibers and registries are kept once, and a world is a row of
-// their numbers.
+/// All worlds and faults that were found. The states of fibers and registries are kept once, and a world is a row of
+/// their numbers.
 #[derive(Drop)]
 pub(crate) struct CoreWorlds {
     alloc: Global,
@@ -38,7 +39,7 @@ pub(crate) struct CoreWorlds {
     current: Option<Current>,
     // The entries that led from the last world to the current one.
     trail: Vec<u16>,
-    faults: Vec<RunError>,
+    faults: Faults,
 }
 
 impl Model for CoreWorlds {
@@ -57,7 +58,7 @@ impl Model for CoreWorlds {
 
     ghost view = { λ s. record {
       places = map (place_of s.limits s.states.fibers.items.items s.states.registries.items.items) s.rows.items.items;
-      faults = s.faults.items;
+      faults = s.faults;
     } };
 
     ghost invariant = { λ s.
@@ -66,7 +67,7 @@ impl Model for CoreWorlds {
 }
 
 impl CoreWorlds {
-    // The first world of a program, alone.
+    /// The first world of a program, alone.
     pub(crate) fn new(
         alloc: Global,
         program: &Program,
@@ -94,11 +95,11 @@ impl CoreWorlds {
             rows,
             current: Some(current),
             trail: Vec::new(alloc),
-            faults: Vec::new(alloc),
+            faults: Faults::new(alloc),
         })
     }
 
-    // What the fibers of a world have come to.
+    /// What the fibers of a world have come to.
     pub(crate) fn report(&self, world: usize) -> Result<Report, AllocError>
         requires { world < length self.now.places }
         ensures report { IfOk result (λ it. (p : Place) → slice_get self.now.places world ≡ Some p → it ≡ report_at p) }
@@ -109,15 +110,23 @@ impl CoreWorlds {
         report_of_fibers(self.alloc, fibers)
     }
 
-    // A fault that was met.
+    /// A fault that was met.
     pub(crate) fn fault(&self, number: usize) -> RunError
         requires { number < length self.now.faults }
         ensures { slice_get self.now.faults number ≡ Some result }
     {
-        self.faults[number]
+        self.faults.get(number)
     }
 
-    // How many fibers a world has.
+    /// How many faults were met. Each of them is kept once.
+    pub(crate) fn many_faults(&self) -> usize
+        ensures many { result ≡ length self.now.faults }
+        ensures single { AreSingle self.now.faults }
+    {
+        self.faults.len()
+    }
+
+    /// How many fibers a world has.
     pub(crate) fn born_at(&self, world: usize) -> u16
         requires { world < length self.now.places }
         ensures born { (p : Place) → slice_get self.now.places world ≡ Some p → result ≡ length p.world.fibers }
@@ -126,11 +135,11 @@ impl CoreWorlds {
         let row = &self.rows.items[world];
         // The registry is within its limits, and has given each of the fibers its number.
         let registry = &self.states.registries.items[row.registry() as usize];
-        let _ = registry.limits();
+        facts_of(registry.limits());
         row.fibers().len() as u16
     }
 
-    // Makes the entry of a fiber at a world, with at most so many own moves behind it.
+    /// Makes the entry of a fiber at a world, with at most so many own moves behind it.
     pub(crate) fn entry(
         &mut self,
         world: usize,
@@ -188,37 +197,21 @@ fn keep(alloc: Global, rows: &mut Pool<Row>, row: &Row, most: usize) -> Result<E
     Ok(Entered::At(Landing::World(number as usize)))
 }
 
-// The number of a fault, which is kept from now on.
-fn note(faults: &mut Vec<RunError>, fault: RunError) -> Result<usize, AllocError>
-    ensures more { IsMore faults.old.items faults.new.items }
-    ensures noted { IfOk result (λ i. slice_get faults.new.items i ≡ Some fault) }
-{
-    for (i, known) in faults.iter().enumerate() {
-        if *known == fault {
-            return Ok(i);
-        }
-    }
-    let place = faults.len();
-    faults.push(fault)?;
-    Ok(place)
-}
-
 // What came of an entry that ended so: the fault's number, or want of memory.
-fn fault_met(faults: &mut Vec<RunError>, fault: RunError) -> Result<Entered, AllocError>
-    ensures more { IsMore faults.old.items faults.new.items }
+fn fault_met(faults: &mut Faults, fault: RunError) -> Result<Entered, AllocError>
+    ensures more { IsMore faults.old faults.new }
     ensures met { IfOk result (λ it. (places : List Place) (to : TheResult Place RunError) →
-        (fault ≡ RunError.NoMemory) ⊎ (to ≡ Fails fault) → EntersAt places faults.new.items it to) }
+        (fault ≡ RunError.NoMemory) ⊎ (to ≡ Fails fault) → EntersAt places faults.new it to) }
     ensures next { IfOk result (λ it. (before : ℕ) (most : ℕ) → IsNext before before most it) }
 {
     match fault {
         RunError::NoMemory => Err(AllocError),
-        RunError::Full(band, limit) => Ok(Entered::At(Landing::Fault(note(
-            faults,
-            RunError::Full(band, limit),
-        )?))),
-        RunError::Spent(by) => Ok(Entered::At(Landing::Fault(note(faults, RunError::Spent(by))?))),
-        RunError::Lost(by) => Ok(Entered::At(Landing::Fault(note(faults, RunError::Lost(by))?))),
-        RunError::NoWorker => Ok(Entered::At(Landing::Fault(note(faults, RunError::NoWorker)?))),
+        RunError::Full(band, limit) => Ok(Entered::At(Landing::Fault(faults.note(RunError::Full(
+            band, limit,
+        ))?))),
+        RunError::Spent(by) => Ok(Entered::At(Landing::Fault(faults.note(RunError::Spent(by))?))),
+        RunError::Lost(by) => Ok(Entered::At(Landing::Fault(faults.note(RunError::Lost(by))?))),
+        RunError::NoWorker => Ok(Entered::At(Landing::Fault(faults.note(RunError::NoWorker)?))),
     }
 }
 

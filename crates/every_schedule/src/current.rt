@@ -13,25 +13,26 @@ use crate::core_world::CoreWorld;
 use crate::pool::{Pool, Pooled};
 use crate::row::Row;
 use cell_registry::{PlainRegistry, RunError};
+use effect_term::facts_of;
 use fiber_frames::Config;
 use std::alloc::{AllocError, Global};
 
-// The states that worlds are made of.
+/// The states that worlds are made of.
 #[derive(Drop)]
 pub(crate) struct States {
     pub(crate) fibers: Pool<Config>,
     pub(crate) registries: Pool<PlainRegistry>,
 }
 
-// A world at which entries are made, with the numbers of its states. What the next world has in common with it needn't
-// be copied again.
+/// A world at which entries are made, with the numbers of its states. What the next world has in common with it needn't
+/// be copied again.
 #[derive(Drop)]
 pub(crate) struct Current {
     pub(crate) row: Row,
     pub(crate) world: CoreWorld,
 }
 
-// The world of a row, made of another one if there is one.
+/// The world of a row, made of another one if there is one.
 pub(crate) fn set_up(
     alloc: Global,
     before: Option<Current>,
@@ -49,7 +50,7 @@ pub(crate) fn set_up(
     }
 }
 
-// The world of a row.
+/// The world of a row.
 pub(crate) fn fresh(alloc: Global, states: &States, row: &Row) -> Result<Current, AllocError>
     requires row { (k : TheLimits) × IsWorld k states.now.fibers.items.items states.now.registries.items.items row.now }
     ensures current { IfOk result (IsCurrent states.now.fibers.items.items states.now.registries.items.items) }
@@ -117,7 +118,7 @@ fn registry_of(
     pool.items[number as usize].again(alloc)
 }
 
-// The fibers of these numbers.
+/// The fibers of these numbers.
 pub(crate) fn fibers_of(
     alloc: Global,
     pool: &Pool<Config>,
@@ -200,7 +201,7 @@ fn place(fibers: &mut Vec<Config>, i: usize, fiber: Config) -> Result<(), AllocE
     Ok(())
 }
 
-// The world to which the entry of a fiber leads.
+/// The world to which the entry of a fiber leads.
 pub(crate) fn entered(
     alloc: Global,
     current: Current,
@@ -219,12 +220,12 @@ pub(crate) fn entered(
     let next = world.enter(fiber)?;
     let numbers = row.into_fibers();
     // Its fibers fit.
-    let _ = next.fibers();
+    facts_of(next.fibers());
     let row = row_of(alloc, numbers, &next, states, usize::from(fiber))?;
     Ok(Current { row, world: next })
 }
 
-// The world of a program before the first move.
+/// The world of a program before the first move.
 pub(crate) fn begun(
     alloc: Global,
     first: CoreWorld,
@@ -235,7 +236,7 @@ pub(crate) fn begun(
     ensures fits { AllFit first.world }
 {
     // Its fibers fit.
-    let _ = first.fibers();
+    facts_of(first.fibers());
     let row = row_of(alloc, Vec::new(alloc), &first, states, 0)?;
     Ok(Current { row, world: first })
 }

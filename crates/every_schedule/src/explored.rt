@@ -11,7 +11,8 @@ ghost use Rattle.outcome_trace.specs.declared.report.Report.{Report as TheReport
 ghost use Rattle.outcome_trace.specs.Core.{World, core, reported};
 ghost use Rattle.outcome_trace.specs.Finals.{IsSettled};
 ghost use Rattle.every_schedule.specs.Explored.{EndAlike, HasLawfulMarks, HasNoFault, HasOutcome};
-ghost use Rattle.every_schedule.specs.Explored.{IsAnswered, IsCovered, IsReached};
+ghost use Rattle.every_schedule.specs.Explored.{IsAnswered, IsCovered, IsReached, ListOnce};
+ghost use Rattle.every_schedule.specs.Private.Keeping.{AreSingle};
 ghost use Rattle.every_schedule.specs.Private.Telling.{AreTold, IsEnd, IsTold, IsWithin};
 
 use crate::core_worlds::CoreWorlds;
@@ -63,6 +64,7 @@ pub fn explore(
     ensures can_end { IfOk result (λ it. it.complete ≡ true → it.ends ≡ true → (f : ℕ) →
         All (λ a. HasOutcome f a.end) it.answers → (schedule : List ℕ) → (more : List ℕ) ×
         HasOutcome f (reported (core (code_of (source_of program.now)) limits (schedule ++ more)))) }
+    ensures once { IfOk result (λ it. ListOnce it.answers) }
     ensures numbers { IfOk result (λ it. All (λ a. All (λ f. f < 1000) a.schedule) it.answers) }
     ensures short { IfOk result (λ it. All (λ a. length a.schedule ≤ bounds.entries) it.answers) }
     ensures lawful { IfOk result (λ it. All HasLawfulMarks it.answers) }
@@ -96,6 +98,7 @@ pub fn explore_watched<V: Watcher>(
     ensures can_end { IfOk result (λ it. it.complete ≡ true → it.ends ≡ true → (f : ℕ) →
         All (λ a. HasOutcome f a.end) it.answers → (schedule : List ℕ) → (more : List ℕ) ×
         HasOutcome f (reported (core (code_of (source_of program.now)) limits (schedule ++ more)))) }
+    ensures once { IfOk result (λ it. ListOnce it.answers) }
     ensures numbers { IfOk result (λ it. All (λ a. All (λ f. f < 1000) a.schedule) it.answers) }
     ensures short { IfOk result (λ it. All (λ a. length a.schedule ≤ bounds.entries) it.answers) }
     ensures lawful { IfOk result (λ it. All HasLawfulMarks it.answers) }
@@ -152,6 +155,7 @@ pub fn explore_full(
     ensures can_end { IfOk result (λ it. it.complete ≡ true → it.ends ≡ true → (f : ℕ) →
         All (λ a. HasOutcome f a.end) it.answers → (schedule : List ℕ) → (more : List ℕ) ×
         HasOutcome f (reported (core (code_of (source_of program.now)) limits (schedule ++ more)))) }
+    ensures once { IfOk result (λ it. ListOnce it.answers) }
     ensures numbers { IfOk result (λ it. All (λ a. All (λ f. f < 1000) a.schedule) it.answers) }
     ensures short { IfOk result (λ it. All (λ a. length a.schedule ≤ bounds.entries) it.answers) }
     ensures lawful { IfOk result (λ it. All HasLawfulMarks it.answers) }
@@ -177,7 +181,10 @@ fn told(
     requires { All (λ a. IsWithin worlds.now a.end) found.items }
     ensures told { IfOk result (λ answers. AreTold worlds.now found.items answers.items) }
     ensures lawful { IfOk result (λ answers. All HasLawfulMarks answers.items) }
+    ensures single { AreSingle worlds.now.faults }
 {
+    // No fault was kept twice.
+    let _ = worlds.many_faults();
     let mut answers = Vec::new(alloc);
     for it in found {
         answers.push(answer(worlds, it)?)?;

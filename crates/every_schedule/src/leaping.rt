@@ -15,12 +15,13 @@ use crate::core_world::CoreWorld;
 use crate::current::{Current, States, entered, fresh};
 use crate::pool::Pooled;
 use cell_registry::{Call, PlainRegistry, RunError};
+use effect_term::facts_of;
 use fiber_frames::Config;
 use outcome_trace::Wish;
 use std::alloc::{AllocError, Global};
 
-// The world to which the entry of a fiber leads, with at most so many own moves behind it. The entries that were made
-// are added to the trail: one that ends in a fault too, and none of a fiber that isn't born.
+/// The world to which the entry of a fiber leads, with at most so many own moves behind it. The entries that were made
+/// are added to the trail: one that ends in a fault too, and none of a fiber that isn't born.
 pub(crate) fn leap(
     alloc: Global,
     current: Current,
@@ -65,7 +66,7 @@ fn born(world: &CoreWorld) -> usize
     ensures fits { AllFit world.now.world }
 {
     // The registry is within its limits, and has given each of the fibers its number.
-    let _ = world.registry().limits();
+    facts_of(world.registry().limits());
     world.fibers().len()
 }
 
@@ -136,7 +137,7 @@ fn push_once(
     }
 }
 
-// Whether this is want of memory.
+/// Whether this is want of memory.
 pub(crate) fn is_memory(fault: RunError) -> bool
     ensures { result ≡ false → fault ≢ RunError.NoMemory }
 {

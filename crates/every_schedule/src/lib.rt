@@ -22,6 +22,7 @@ mod core_worlds;
 mod current;
 mod exploration;
 mod explored;
+mod faults;
 mod leaping;
 mod pool;
 mod reduced_worlds;

@@ -8,17 +8,17 @@ use fiber_frames::Config;
 use std::alloc::{AllocError, Global};
 use std::collections::HashMap;
 
-// A state that can be looked up among others.
+/// A state that can be looked up among others.
 pub(crate) trait Pooled: Drop {
-    // The same state once more.
+    /// The same state once more.
     fn again(&self, alloc: Global) -> Result<Self, AllocError>
         ensures { IfOk result (λ it. it ≡ self.now) };
 
-    // Whether two states are one, as far as was looked.
+    /// Whether two states are one, as far as was looked.
     fn is(&self, other: &Self) -> bool
         ensures { result ≡ true → self.now ≡ other.now };
 
-    // A number that is the same for states that are taken for one.
+    /// A number that is the same for states that are taken for one.
     fn key(&self) -> u64;
 }
 
@@ -50,9 +50,9 @@ impl Pooled for PlainRegistry {
     }
 }
 
-// States, each of which has its place for its number. One is looked up by its key, under which the last state of this
-// key is filed, and each state names the one before it. Whatever stands there, only a state that is the same is taken
-// for the one that is looked for.
+/// States, each of which has its place for its number. One is looked up by its key, under which the last state of this
+/// key is filed, and each state names the one before it. Whatever stands there, only a state that is the same is taken
+/// for the one that is looked for.
 #[derive(Drop)]
 pub(crate) struct Pool<T> {
     pub(crate) items: Vec<T>,
@@ -61,7 +61,7 @@ pub(crate) struct Pool<T> {
 }
 
 impl<T: Pooled> Pool<T> {
-    // No state yet.
+    /// No state yet.
     pub(crate) fn new(alloc: Global) -> Pool<T>
         ensures { result.items.items ≡ [] }
     {
@@ -72,7 +72,7 @@ impl<T: Pooled> Pool<T> {
         }
     }
 
-    // The number of a state that is kept and is this one, as far as was looked.
+    /// The number of a state that is kept and is this one, as far as was looked.
     pub(crate) fn find(&self, wanted: &T) -> Option<u32>
         ensures { IfSome result (λ n. slice_get self.now.items.items n ≡ Some wanted.now) }
     {
@@ -87,7 +87,7 @@ impl<T: Pooled> Pool<T> {
         None
     }
 
-    // Keeps one more state, which gets the next number. There is no room for more than 2^32 - 1.
+    /// Keeps one more state, which gets the next number. There is no room for more than 2^32 - 1.
     pub(crate) fn add(&mut self, item: T) -> Result<u32, AllocError>
         ensures added { OnOk result (self.new.items.items ≡ self.old.items.items ++ item ∷ []) }
         ensures number { IfOk result (λ n. n ≡ length self.old.items.items) }
@@ -104,7 +104,7 @@ impl<T: Pooled> Pool<T> {
         Ok(number)
     }
 
-    // The number of this state, which is kept from now on.
+    /// The number of this state, which is kept from now on.
     pub(crate) fn number_of(&mut self, alloc: Global, item: &T) -> Result<u32, AllocError>
         ensures more { IsMore self.old.items.items self.new.items.items }
         ensures number { IfOk result (λ n. slice_get self.new.items.items n ≡ Some item.now) }

@@ -13,17 +13,17 @@ use outcome_trace::Report;
 use std::alloc::{AllocError, Global};
 use world_search::{Entered, Worlds};
 
-// So many own moves are made at once behind an entry.
+/// So many own moves are made at once behind an entry.
 pub(crate) const AT_ONCE: usize = 100;
 
-// All worlds and faults that were found, where each entry has its own moves behind it.
+/// All worlds and faults that were found, where each entry has its own moves behind it.
 #[derive(Drop)]
 pub(crate) struct ReducedWorlds {
     pub(crate) worlds: CoreWorlds,
 }
 
 impl ReducedWorlds {
-    // The first world of a program, alone.
+    /// The first world of a program, alone.
     pub(crate) fn new(
         alloc: Global,
         program: &Program,

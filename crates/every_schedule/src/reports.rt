@@ -8,7 +8,7 @@ use fiber_frames::Config;
 use outcome_trace::same_report;
 use std::slice;
 
-// Whether the fibers of these numbers have come to the same as those of the others.
+/// Whether the fibers of these numbers have come to the same as those of the others.
 pub(crate) fn same_reports(pool: &Pool<Config>, one: &[u32], other: &[u32]) -> bool
     requires one { All (λ n. n < length pool.now.items.items) one.now }
     requires other { All (λ n. n < length pool.now.items.items) other.now }

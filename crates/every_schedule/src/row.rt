@@ -5,7 +5,7 @@ use crate::pool::Pooled;
 use std::alloc::{AllocError, Global};
 use std::marker::Model;
 
-// The numbers of a world's states: that of its registry, and those of its fibers.
+/// The numbers of a world's states: that of its registry, and those of its fibers.
 #[derive(Drop)]
 pub(crate) struct Row {
     registry: u32,
@@ -21,28 +21,28 @@ impl Model for Row {
 }
 
 impl Row {
-    // The world of these numbers.
+    /// The world of these numbers.
     pub(crate) fn new(registry: u32, fibers: Vec<u32>) -> Row
         ensures { result ≡ record { registry = registry; fibers = fibers.items } }
     {
         Row { registry, fibers }
     }
 
-    // The number of its registry.
+    /// The number of its registry.
     pub(crate) fn registry(&self) -> u32
         ensures { result ≡ self.now.registry }
     {
         self.registry
     }
 
-    // The numbers of its fibers.
+    /// The numbers of its fibers.
     pub(crate) fn fibers(&self) -> &[u32]
         ensures { result.now ≡ self.now.fibers }
     {
         self.fibers.as_slice()
     }
 
-    // The same, given back.
+    /// The same, given back.
     pub(crate) fn into_fibers(self) -> Vec<u32>
         ensures { result.items ≡ self.fibers }
     {

@@ -7,7 +7,7 @@ ghost use Rattle.derived_ops.specs.Reading.{source_of};
 ghost use Rattle.cell_registry.specs.Cells.{AreLimits};
 ghost use Rattle.world_search.specs.declared.answers.Answer.{Answer as Found};
 ghost use Rattle.every_schedule.specs.Places.{first_place};
-ghost use Rattle.every_schedule.specs.Private.Trails.{AreUnfolded, IsKeptIn, IsUnfolded};
+ghost use Rattle.every_schedule.specs.Private.Trails.{AreUnfolded, EndApart, IsKeptIn, IsUnfolded};
 
 use crate::core_world::CoreWorld;
 use crate::current::{States, begun};
@@ -21,15 +21,15 @@ use world_search::{Answer, Landing};
 // More than any schedule is long.
 const FAULTS: usize = 1 << 62;
 
-// Answers with such schedules.
+/// Answers with such schedules.
 #[derive(Drop)]
 pub(crate) struct Unfolded {
     pub(crate) answers: Vec<Answer>,
-    // None was left out.
+    /// None was left out.
     pub(crate) whole: bool,
 }
 
-// The answers whose schedules are at most so many entries long, in order.
+/// The answers whose schedules are at most so many entries long, in order.
 pub(crate) fn unfold_all(
     alloc: Global,
     program: &Program,
@@ -43,6 +43,7 @@ pub(crate) fn unfold_all(
         AreUnfolded at_once most (first_place (code_of (source_of program.now)) limits) found.now it.answers.items) }
     ensures whole { IfOk result (λ it. it.whole ≡ true → (i : ℕ) (a : Found) → slice_get found.now i ≡ Some a →
         IsKeptIn it.answers.items a) }
+    ensures apart { IfOk result (λ it. EndApart found.now → EndApart it.answers.items) }
     ensures memory { IfErr result (λ e. e ≡ RunError.NoMemory) }
 {
     let mut answers = Vec::new(alloc);

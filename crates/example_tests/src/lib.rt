@@ -1,5 +1,4 @@
-//! How the public calls are used, each in a few lines: the examples with which crates of the library begin, as tests,
-//! and two more.
+//! How the public calls are used, each in a few lines: the examples with which crates of the library begin, as tests.
 //!
 //! The crate has nothing but its tests. It stands apart from the libraries so that they are proved without it.
 #![tactic(auto)]

@@ -1,11 +1,13 @@
-//! Texts that are read and printed, and programs that are replayed, explored and run: the replay and the exploration are
-//! the examples of `outcome_trace` and `every_schedule`.
+//! A text that is read and printed, a fiber that is moved by hand, and programs that are replayed, explored and run, as
+//! in the examples of `term_parse`, `fiber_frames`, `outcome_trace`, `every_schedule` and `steal_pool`.
 
 ghost use Rattle.cell_registry.specs.Cells.{AreLimits};
 
 use cell_registry::Limits;
-use effect_term::Program;
+use derived_ops::expand;
+use effect_term::{Outcome, Program, Value};
 use every_schedule::explore;
+use fiber_frames::{Ask, Config, Mark, Reply};
 use outcome_trace::{read_schedule, replay, text_of_report};
 use std::alloc::Global;
 use std::process::Abort;
@@ -13,7 +15,7 @@ use std::rt::HostRuntime;
 use std::str;
 use std::test::Fail;
 use steal_pool::{OpenGate, Options, run};
-use term_parse::{parse, print};
+use term_parse::{ParseError, parse, print};
 use world_search::Bounds;
 
 const RACE: &[u8] = b"(race (pure 4) (never))";
@@ -21,6 +23,9 @@ const RACE: &[u8] = b"(race (pure 4) (never))";
 const WON: &str = "fiber 0 succeeded 4: enter 0, in 0, out 0, enter 1, leave 1, leave 0\n\
     fiber 1 succeeded 4: enter 0, in 0, out 0, leave 0\n\
     fiber 2 canceled: enter 0, in 0, cut\n";
+
+const RAN: &str = "fiber 0 succeeded 7: say 2\n\
+    fiber 1 succeeded 0: say 1\n";
 
 fn program(alloc: Global, text: &[u8]) -> Result<Program, Fail> {
     Ok(Program::check(alloc, parse(alloc, text)?)?)
@@ -38,7 +43,7 @@ fn few() -> Limits
     }
 }
 
-/// Names are told by how many binders stand around their own.
+// Names are told by how many binders stand around their own.
 #[test]
 fn a_text_is_read_and_printed(rt: HostRuntime) -> Result<(), Fail> {
     let alloc = rt.alloc();
@@ -48,10 +53,36 @@ fn a_text_is_read_and_printed(rt: HostRuntime) -> Result<(), Fail> {
         str::from_utf8(text.as_slice()),
         Ok("(let v0 (pure 1) (pure v0))")
     );
+    assert_eq!(rt;
+        parse(alloc, b"(pure x)").err(),
+        Some(ParseError::UnknownName(6))
+    );
     Ok(())
 }
 
-/// The first side has won before the second one begins.
+// It looks for a request before each of its three moves: the mark, the next part, and its end.
+#[test]
+fn a_fiber_is_moved_by_hand(rt: HostRuntime) -> Result<(), Fail> {
+    let alloc = rt.alloc();
+    let program = program(alloc, b"(seq (say 1) (pure 7))")?;
+    let code = expand(alloc, &program)?;
+    let mut fiber = Config::new(alloc, &code)?;
+    for _move in 0..6u32 {
+        let _moved = match fiber.ask() {
+            Ask::Look => fiber.resume(Reply::Seen(false))?,
+            Ask::Silent | Ask::Finish(_) => fiber.resume(Reply::Done)?,
+            _ => break,
+        };
+    }
+    assert_eq!(rt;
+        fiber.ask(),
+        Ask::Over(Outcome::Succeeded(Value::from_i32(7)))
+    );
+    assert_eq!(rt; fiber.trace(), [Mark::Say(Value::from_i32(1))].as_slice());
+    Ok(())
+}
+
+// The first side has won before the second one begins.
 #[test]
 fn a_program_is_replayed(rt: HostRuntime) -> Result<(), Fail> {
     let alloc = rt.alloc();
@@ -62,8 +93,8 @@ fn a_program_is_replayed(rt: HostRuntime) -> Result<(), Fail> {
     Ok(())
 }
 
-/// Two reports can come of a race whose other side never ends: that one is cut where it has entered its mask and is in
-/// its poll, or before its first move.
+// Two reports can come of a race whose other side never ends: that one is cut where it has entered its mask and is in
+// its poll, or before its first move.
 #[test]
 fn a_program_is_explored(rt: HostRuntime) -> Result<(), Fail> {
     let alloc = rt.alloc();
@@ -78,15 +109,14 @@ fn a_program_is_explored(rt: HostRuntime) -> Result<(), Fail> {
     Ok(())
 }
 
-/// A program of one fiber ends alike on any number of threads.
+// Fibers that share nothing end alike on any number of workers.
 #[test]
 fn a_program_is_run(rt: HostRuntime) -> Result<(), Fail> {
     let alloc = rt.alloc();
-    let program = program(alloc, b"(let a (say 1) (pure 7))")?;
-    let report = run(&rt, alloc, program, Options::new(), &OpenGate)?;
-    assert_eq!(rt;
-        text_of_report(alloc, &report)?.as_str(),
-        "fiber 0 succeeded 7: say 1\n"
-    );
+    let program = program(alloc, b"(start f (say 1) (seq (say 2) (pure 7)))")?;
+    let mut options = Options::new();
+    options.workers = 2;
+    let report = run(&rt, alloc, program, options, &OpenGate)?;
+    assert_eq!(rt; text_of_report(alloc, &report)?.as_str(), RAN);
     Ok(())
 }

@@ -35,7 +35,7 @@ fn request_and_look<R: Threads + Sync>(
     )
 }
 
-/// Whoever comes first, the request is the first one.
+// Whoever comes first, the request is the first one.
 #[test]
 fn two_threads_share_a_registry(rt: HostRuntime) -> Result<(), Fail> {
     let (registry, mut parent) = Registry::new(rt.alloc(), 2, 1, 1, 10)?;

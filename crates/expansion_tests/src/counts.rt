@@ -6,7 +6,7 @@ use std::alloc::Global;
 use std::test::Fail;
 use term_parse::parse;
 
-/// What is told of a program: its size, its nest, its masks, and whether it starts fibers.
+// What is told of a program: its size, its nest, its masks, and whether it starts fibers.
 type Told = (u64, u64, u64, bool);
 
 fn told(alloc: Global, text: &[u8]) -> Result<Told, Fail> {
@@ -144,7 +144,7 @@ fn terms_at_a_limit(rt: HostRuntime) -> Result<(), Fail> {
     Ok(())
 }
 
-/// The refusal of the term of a text, or `None` where it is a program.
+// The refusal of the term of a text, or `None` where it is a program.
 fn refusal(alloc: Global, text: &[u8]) -> Result<Option<TermError>, Fail> {
     match Program::check(alloc, parse(alloc, text)?) {
         Ok(_) => Ok(None),
@@ -161,13 +161,13 @@ fn terms_past_a_limit(rt: HostRuntime) -> Result<(), Fail> {
     Ok(())
 }
 
-/// The size of the term where it is a program's.
+// The size of the term where it is a program's.
 fn checked_size(alloc: Global, term: Term) -> Result<u64, TermError> {
     let program = Program::check(alloc, term)?;
     Ok(program.term().size())
 }
 
-/// Holds whichever request for memory is refused.
+// Holds whichever request for memory is refused.
 #[test]
 fn a_term_is_checked_or_memory_ran_out(rt: HostRuntime) {
     if let Ok(term) = parse(rt.alloc(), b"(let x (cede) (pure x))") {

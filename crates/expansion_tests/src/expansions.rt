@@ -10,13 +10,13 @@ fn is_printed(alloc: Global, code: &Code, text: &[u8]) -> Result<bool, AllocErro
     Ok(print_core(alloc, code)?.as_slice() == text)
 }
 
-/// Whether the text of a program's code is this one, or that memory ran out.
+// Whether the text of a program's code is this one, or that memory ran out.
 fn is_shown(alloc: Global, program: &Program, text: &[u8]) -> Result<bool, AllocError> {
     let code = expand(alloc, program)?;
     is_printed(alloc, &code, text)
 }
 
-/// Whether the text of the code of a term's program is this one.
+// Whether the text of the code of a term's program is this one.
 fn is_expanded_so(alloc: Global, term: Term, text: &[u8]) -> Result<bool, TermError> {
     let program = Program::check(alloc, term)?;
     Ok(is_shown(alloc, &program, text)?)
@@ -142,7 +142,7 @@ fn derived_words_are_what_they_stand_for(rt: HostRuntime) -> Result<(), Fail> {
     Ok(())
 }
 
-/// Whether the program has this text, or memory ran out before that was known.
+// Whether the program has this text, or memory ran out before that was known.
 fn is_whole(alloc: Global, program: &[u8], text: &[u8]) -> bool {
     match parse(alloc, program) {
         Ok(term) => !matches!(is_expanded_so(alloc, term, text), Ok(false)),
@@ -150,7 +150,7 @@ fn is_whole(alloc: Global, program: &[u8], text: &[u8]) -> bool {
     }
 }
 
-/// Holds whichever request for memory is refused.
+// Holds whichever request for memory is refused.
 #[test]
 fn a_text_is_whole_or_memory_ran_out(rt: HostRuntime) {
     for (program, text) in DERIVED_WORDS {

@@ -104,7 +104,7 @@ fn the_first_fault_in_reading_order(rt: HostRuntime) -> Result<(), AllocError> {
     Ok(())
 }
 
-/// The term below 251 masks.
+// The term below 251 masks.
 fn deep(alloc: Global, mut term: Term) -> Result<Term, AllocError> {
     for _ in 0..251 {
         term = masked(alloc, term)?;

@@ -34,7 +34,7 @@ is_settled CouldGoOn = false
 -- what is said of a deferred that is waited for: that nobody completes it, where the world is final
 abbrev pub uncompleted : Bool → List ℕ
 uncompleted true = codes ", which nobody completes" ++ 10 ∷ []
-uncompleted false = codes ", which is empty when the schedule ends" ++ 10 ∷ []
+uncompleted false = codes ", which is empty at the end" ++ 10 ∷ []
 
 -- what is told of fiber n
 abbrev pub why_line : Bool → ℕ → Why → List ℕ
@@ -44,7 +44,7 @@ why_line final n (WaitsForEnd f) =
 why_line final n (WaitsForDeferred d) =
     codes "fiber " ++ (decimal n ++ (codes " waits for deferred " ++ (decimal d ++ uncompleted final)))
 why_line final n WaitsWithoutEnd = codes "fiber " ++ (decimal n ++ (codes " waits without end" ++ 10 ∷ []))
-why_line final n CouldGoOn = codes "the schedule ends before fiber " ++ (decimal n ++ (codes " does" ++ 10 ∷ []))
+why_line final n CouldGoOn = codes "fiber " ++ (decimal n ++ (codes " could still go on" ++ 10 ∷ []))
 
 -- a line for each of these fibers that hasn't ended, whose numbers go up from n
 abbrev pub AreWhyLines : Bool → Cells → ℕ → List Fiber → List ℕ → Type 0

@@ -1,9 +1,9 @@
 //! The forms that are open at a place of a text, and the binders around it.
 
-use crate::language::{is_under, parts_of, spelling_of, words};
+use crate::language::is_under;
 use effect_term::Kind;
 use std::alloc::{AllocError, Global};
-use term_parse::{Part, Word};
+use term_parse::{Part, Word, parts_of, word_of};
 
 /// A name that a form binds.
 #[derive(Clone, Copy)]
@@ -82,16 +82,6 @@ fn start_at(byte: u8, at: usize) -> Option<usize> {
 // Whether a name or a number goes on with this byte.
 fn is_name_byte(byte: u8) -> bool {
     (b'a' <= byte && byte <= b'z') || (b'0' <= byte && byte <= b'9')
-}
-
-/// The word that is spelled so, if there is one.
-pub(crate) fn word_of(spelled: &[u8]) -> Option<Word> {
-    for word in words() {
-        if spelling_of(*word) == spelled {
-            return Some(*word);
-        }
-    }
-    None
 }
 
 impl Around {

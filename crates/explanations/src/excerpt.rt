@@ -3,10 +3,10 @@
 use crate::shown::push_shown;
 use std::alloc::{AllocError, Global};
 
-/// How many bytes of a line are shown on either side of the place.
+// How many bytes of a line are shown on either side of the place.
 const SIDE: usize = 48;
 
-/// What stands for bytes of a line that are left out.
+// What stands for bytes of a line that are left out.
 const CUT: &[u8] = b"...";
 
 /// The line of a text in which a place is, two bytes to the right, and a mark under the place. Of a long line what is

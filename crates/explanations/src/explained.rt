@@ -2,7 +2,7 @@
 
 ghost use Rattle.std.specs.Prelude.{◌≡◌, ◌<◌, ◌^◌, ℕ, List, false, Err as Fails, Ok as GoesWell, IfErr, IfOk};
 ghost use Rattle.text_io.specs.declared.status.Status.{Status};
-ghost use Rattle.text_io.specs.Devices.{devices, reader, writer};
+ghost use Rattle.text_io.specs.Devices.{devices};
 ghost use Rattle.text_io.specs.Exchange.{IsAnswered};
 ghost use Rattle.explanations.specs.Explained.{Explained, IsKept, TellsReasons};
 
@@ -20,12 +20,12 @@ pub trait Reasons {
         ensures { IfOk result (λ told. tells self.now text.now told.items) };
 }
 
-/// A text that was answered.
+// A text that was answered.
 #[derive(Drop)]
 struct Kept {
-    /// The text.
+    // The text.
     text: Vec<u8>,
-    /// The status of its answer.
+    // The status of its answer.
     status: Status,
 }
 
@@ -43,17 +43,13 @@ pub fn obey_explained<A: TextOrder, X: Reasons, I: TextIn, O: TextOut, E: TextOu
     out: &mut O,
     err: &mut E,
 ) -> Status
-    requires input { I.has_failed input.old ≡ false }
-    requires countable { I.reads input.old < 2 ^ 63 }
-    requires out { O.has_failed out.old ≡ false }
-    requires err { E.has_failed err.old ≡ false }
-    ensures { let before = devices (reader (I.remaining input.old) (I.has_failed input.old) (I.has_ended input.old)
-        (I.reads input.old)) (writer (O.contents out.old) (O.has_failed out.old))
-        (writer (E.contents err.old) (E.has_failed err.old)) in
-        let after = devices (reader (I.remaining input.new) (I.has_failed input.new) (I.has_ended input.new)
-        (I.reads input.new)) (writer (O.contents out.new) (O.has_failed out.new))
-        (writer (E.contents err.new) (E.has_failed err.new)) in
-        Explained (A.answers order.now) (X.tells reasons.now) before after result }
+    requires input { (I.seen input.old).failed ≡ false }
+    requires countable { (I.seen input.old).reads < 2 ^ 63 }
+    requires out { (O.seen out.old).failed ≡ false }
+    requires err { (E.seen err.old).failed ≡ false }
+    ensures { Explained (A.answers order.now) (X.tells reasons.now)
+        (devices (I.seen input.old) (O.seen out.old) (E.seen err.old))
+        (devices (I.seen input.new) (O.seen out.new) (E.seen err.new)) result }
 {
     match keep_answered(alloc, order, input, out) {
         Ok(kept) => {
@@ -71,23 +67,13 @@ fn keep_answered<A: TextOrder, I: TextIn, O: TextOut>(
     input: &mut I,
     out: &mut O,
 ) -> Result<Kept, TextFault>
-    requires input { I.has_failed input.old ≡ false }
-    requires countable { I.reads input.old < 2 ^ 63 }
-    requires out { O.has_failed out.old ≡ false }
-    ensures kept { let before = reader (I.remaining input.old) (I.has_failed input.old) (I.has_ended input.old)
-        (I.reads input.old) in
-        let after = reader (I.remaining input.new) (I.has_failed input.new) (I.has_ended input.new)
-        (I.reads input.new) in
-        let old = writer (O.contents out.old) (O.has_failed out.old) in
-        let new = writer (O.contents out.new) (O.has_failed out.new) in
-        IfOk result (λ kept. IsKept (A.answers order.now) before after old new kept.text.items kept.status) }
-    ensures fault { let before = reader (I.remaining input.old) (I.has_failed input.old) (I.has_ended input.old)
-        (I.reads input.old) in
-        let after = reader (I.remaining input.new) (I.has_failed input.new) (I.has_ended input.new)
-        (I.reads input.new) in
-        let old = writer (O.contents out.old) (O.has_failed out.old) in
-        let new = writer (O.contents out.new) (O.has_failed out.new) in
-        IfErr result (λ e. IsAnswered (A.answers order.now) before after old new (Fails e)) }
+    requires input { (I.seen input.old).failed ≡ false }
+    requires countable { (I.seen input.old).reads < 2 ^ 63 }
+    requires out { (O.seen out.old).failed ≡ false }
+    ensures kept { IfOk result (λ kept. IsKept (A.answers order.now) (I.seen input.old) (I.seen input.new)
+        (O.seen out.old) (O.seen out.new) kept.text.items kept.status) }
+    ensures fault { IfErr result (λ e. IsAnswered (A.answers order.now) (I.seen input.old) (I.seen input.new)
+        (O.seen out.old) (O.seen out.new) (Fails e)) }
 {
     let text = read_text(alloc, input)?;
     let answer = order.answer(alloc, text.as_slice())?;
@@ -101,9 +87,8 @@ fn keep_answered<A: TextOrder, I: TextIn, O: TextOut>(
 /// Tells the reasons of a text on a device. Where memory runs out for them, they are left out, and where the device
 /// fails, nothing more is said.
 pub fn tell_reasons<X: Reasons, E: TextOut>(alloc: Global, reasons: &X, text: &[u8], err: &mut E)
-    requires { E.has_failed err.old ≡ false }
-    ensures { TellsReasons (X.tells reasons.now text.now) (writer (E.contents err.old) (E.has_failed err.old))
-        (writer (E.contents err.new) (E.has_failed err.new)) }
+    requires { (E.seen err.old).failed ≡ false }
+    ensures { TellsReasons (X.tells reasons.now text.now) (E.seen err.old) (E.seen err.new) }
 {
     if let Ok(told) = reasons.reasons(alloc, text) {
         let _ = write_text(told.as_slice(), err);

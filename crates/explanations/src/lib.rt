@@ -22,7 +22,6 @@ mod wanting;
 mod why;
 
 pub use explained::{Reasons, obey_explained, tell_reasons};
-pub use language::{form_of, parts_of, spelling_of, words};
 pub use place::{Position, position_at};
 pub use schedules::explain_schedule;
 pub use text_reasons::{ReplayReasons, TextReasons};

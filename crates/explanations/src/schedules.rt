@@ -1,7 +1,6 @@
 //! Why a schedule's text is bad.
 
 ghost use Rattle.std.specs.Prelude.{◌≡◌, ◌++◌, ℕ, List, IfOk, false, string_bytes};
-ghost use Rattle.text_io.specs.Devices.{writer};
 ghost use Rattle.text_io.specs.FaultLines.{schedule_line};
 ghost use Rattle.explanations.specs.Schedules.{ExplainsSchedule};
 
@@ -21,9 +20,8 @@ pub fn explain_schedule<E: TextOut>(
     error: ScheduleError,
     err: &mut E,
 ) -> Status
-    requires { E.has_failed err.old ≡ false }
-    ensures { ExplainsSchedule error (writer (E.contents err.old) (E.has_failed err.old))
-        (writer (E.contents err.new) (E.has_failed err.new)) result }
+    requires { (E.seen err.old).failed ≡ false }
+    ensures { ExplainsSchedule error (E.seen err.old) (E.seen err.new) result }
 {
     let ScheduleError::BadSchedule(place) = error else {
         return refuse_schedule(error, err);
@@ -56,12 +54,20 @@ fn bad_line(alloc: Global, place: usize) -> Result<String, AllocError>
 fn item_text(alloc: Global, schedule: &[u8], place: usize) -> Result<Vec<u8>, AllocError> {
     let mut told = place_heading(alloc, position_at(schedule, place))?;
     let item = item_at(schedule, place);
-    push_quoted(&mut told, item)?;
-    told.extend_from_slice(b" can't be the next item\n")?;
+    push_item(&mut told, item)?;
     push_excerpt(alloc, &mut told, schedule, place)?;
     told.extend_from_slice(item_fault(item))?;
     told.extend_from_slice(b"items are `f` or `f*k`, with one space between two of them\n")?;
     Ok(told)
+}
+
+// That it can't be the next item. Where a space stands in front of the end, or of one more space, there is none.
+fn push_item(told: &mut Vec<u8>, item: &[u8]) -> Result<(), AllocError> {
+    if item.is_empty() {
+        return told.extend_from_slice(b"an item is missing\n");
+    }
+    push_quoted(told, item)?;
+    told.extend_from_slice(b" can't be the next item\n")
 }
 
 // The item that begins at a place.
@@ -82,11 +88,11 @@ fn front_of(bytes: &[u8], end: u8) -> &[u8] {
     bytes
 }
 
-// What is wrong with an item.
+// What is wrong with an item, if it isn't missing.
 fn item_fault(item: &[u8]) -> &'static [u8] {
     let fiber = front_of(item, b'*');
     if item.is_empty() {
-        return b"an item was wanted here\n";
+        return b"";
     }
     if !is_number(fiber, 0, 999) {
         return b"the number of a fiber is 0 to 999, in digits and without zeros in front\n";

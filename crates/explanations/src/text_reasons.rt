@@ -33,8 +33,8 @@ impl Reasons for TextReasons {
 }
 
 /// Why a text is refused, as [`TextReasons`] tells it; of a program's text why each fiber hasn't ended under the
-/// schedule: what it waits for, or that the schedule ends before it does. Where the schedule ends in a fault, its line
-/// tells it, and nothing more is told.
+/// schedule: what it waits for, or that it could still go on. Where the schedule ends in a fault, its line tells it,
+/// and nothing more is told.
 #[derive(Clone, Copy)]
 pub struct ReplayReasons<'a> {
     /// Whose move is next, from the first entry on.

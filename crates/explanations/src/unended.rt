@@ -1,12 +1,9 @@
 //! Why the fibers of a program haven't ended under a schedule.
 
-ghost use Rattle.std.specs.Prelude.{◌≡◌, ◌≢◌, ◌⊎◌, ◌++◌, [], Bool, IfErr, IfOk, OnOk, codes, decimal, true};
-ghost use Rattle.std.specs.Prelude.{Err as Fails, Ok as GoesWell};
-ghost use Rattle.std.specs.List.{fold};
+ghost use Rattle.std.specs.Prelude.{◌≡◌, ◌≢◌, ◌++◌, [], Bool, IfOk, OnOk, codes, decimal, true};
 ghost use Rattle.cell_registry.specs.Cells.{AreLimits};
 ghost use Rattle.derived_ops.specs.Expansion.{code_of};
 ghost use Rattle.derived_ops.specs.Reading.{source_of};
-ghost use Rattle.outcome_trace.specs.Core.{entered};
 ghost use Rattle.outcome_trace.specs.Finals.{IsFinal};
 ghost use Rattle.outcome_trace.specs.Fitting.{AllFit, world_of};
 ghost use Rattle.explanations.specs.Whys.{AreWhyLines, IsUnendedText, is_settled, uncompleted, why_line};
@@ -16,7 +13,7 @@ use cell_registry::{Limits, PlainRegistry, RunError};
 use effect_term::Program;
 use fiber_frames::Config;
 use itoa::Buffer;
-use outcome_trace::{enter, first_fibers};
+use outcome_trace::{enter_all, first_fibers};
 use std::alloc::{AllocError, Global};
 
 /// A line for each fiber of a program that hasn't ended under a schedule, which says why. Nothing where the schedule
@@ -38,7 +35,7 @@ pub(crate) fn unended_reasons(
         limits.deferreds,
         limits.count,
     )?;
-    match entries(&mut fibers, &mut registry, schedule) {
+    match enter_all(&mut fibers, &mut registry, schedule) {
         Ok(()) => why_lines(alloc, fibers.as_slice(), &registry),
         Err(error) => fault_reasons(alloc, error),
     }
@@ -53,27 +50,6 @@ fn fault_reasons(alloc: Global, error: RunError) -> Result<Vec<u8>, AllocError>
         RunError::NoMemory => Err(AllocError),
         _ => Ok(Vec::new(alloc)),
     }
-}
-
-// All entries of a schedule.
-fn entries(
-    fibers: &mut Vec<Config>,
-    registry: &mut PlainRegistry,
-    schedule: &[u16],
-) -> Result<(), RunError>
-    requires { AllFit (world_of fibers.old.items registry.old.state) }
-    ensures goes { OnOk result
-        (fold (entered registry.old.limits) (GoesWell (world_of fibers.old.items registry.old.state))
-        schedule.now ≡ GoesWell (world_of fibers.new.items registry.new.state)) }
-    ensures fits { OnOk result (AllFit (world_of fibers.new.items registry.new.state)) }
-    ensures stops { IfErr result (λ e. (e ≡ RunError.NoMemory) ⊎
-        (fold (entered registry.old.limits) (GoesWell (world_of fibers.old.items registry.old.state))
-        schedule.now ≡ Fails e)) }
-{
-    for number in schedule {
-        enter(fibers, registry, *number)?;
-    }
-    Ok(())
 }
 
 // A line for each fiber that hasn't ended.
@@ -140,7 +116,7 @@ fn push_why(told: &mut Vec<u8>, last: bool, fiber: u16, why: Why) -> Result<(), 
             )
         }
         Why::WaitsWithoutEnd => push_line(told, b"fiber ", fiber, b" waits without end\n"),
-        Why::CouldGoOn => push_line(told, b"the schedule ends before fiber ", fiber, b" does\n"),
+        Why::CouldGoOn => push_line(told, b"fiber ", fiber, b" could still go on\n"),
     }
 }
 
@@ -151,7 +127,7 @@ fn uncompleted(last: bool) -> &'static [u8]
     if last {
         b", which nobody completes\n"
     } else {
-        b", which is empty when the schedule ends\n"
+        b", which is empty at the end\n"
     }
 }
 

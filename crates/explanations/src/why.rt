@@ -1,13 +1,12 @@
 //! Why a fiber hasn't ended.
 
-ghost use Rattle.std.specs.Prelude.{◌≡◌, ◌≢◌, ◌⊎◌, [], false, true};
-ghost use Rattle.cell_registry.specs.Cells.{cell_of};
-ghost use Rattle.fiber_frames.specs.Fiber.{active_of, outcome_of};
 ghost use Rattle.outcome_trace.specs.Fitting.{Fits, cell_registered};
 ghost use Rattle.explanations.specs.Whys.{IsWhy};
 
-use cell_registry::{Outcome, PlainRegistry};
+use cell_registry::PlainRegistry;
+use effect_term::facts_of;
 use fiber_frames::{Ask, Config};
+use outcome_trace::{is_unasked, outcome};
 
 /// Why a fiber hasn't ended, or that it has.
 #[derive(Clone, Copy)]
@@ -31,7 +30,7 @@ pub fn why_of(config: &Config, registry: &PlainRegistry) -> Why
     ensures { IsWhy registry.now.state config.now.number config.now result }
 {
     // The registry is within its limits.
-    let _ = registry.limits();
+    facts_of(registry.limits());
     if outcome(config).is_some() {
         return Why::Ended;
     }
@@ -53,7 +52,22 @@ pub fn why_of(config: &Config, registry: &PlainRegistry) -> Why
                 Why::CouldGoOn
             }
         }
-        _ => {
+        Ask::Look
+        | Ask::Cut
+        | Ask::Mask
+        | Ask::Unmask
+        | Ask::Finish(_)
+        | Ask::Cancel(_)
+        | Ask::Start
+        | Ask::NewRef
+        | Ask::Get(_)
+        | Ask::Set(_, _)
+        | Ask::Modify(_, _)
+        | Ask::NewDeferred
+        | Ask::Complete(_, _)
+        | Ask::Silent
+        | Ask::Over(_)
+        | Ask::Broken => {
             if config.is_never() {
                 Why::WaitsWithoutEnd
             } else {
@@ -61,29 +75,4 @@ pub fn why_of(config: &Config, registry: &PlainRegistry) -> Why
             }
         }
     }
-}
-
-// How a fiber has ended, if it has.
-#[tactic(auto, using(outcome_trace::proofs::Reported::outcome_asked))]
-fn outcome(fiber: &Config) -> Option<Outcome>
-    ensures { result ≡ outcome_of fiber.now }
-{
-    match fiber.ask() {
-        Ask::Over(outcome) => Some(outcome),
-        _ => None,
-    }
-}
-
-// Whether no request for its cancellation reaches the fiber where it is.
-fn is_unasked(config: &Config, registry: &PlainRegistry) -> bool
-    requires { Fits (cell_registered registry.now.state config.now.number) config.now }
-    ensures { result ≡ true → (active_of config.now ≢ []) ⊎
-        ((cell_of registry.now.state config.now.number).request ≡ false) }
-{
-    // The registry is within its limits.
-    let _ = registry.limits();
-    if config.is_masked() {
-        return true;
-    }
-    !registry.is_requested(config.number())
 }

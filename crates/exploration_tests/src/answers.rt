@@ -9,7 +9,7 @@ use outcome_trace::{Answer, Limits, ReplayOrder, TextOrder, read_schedule};
 use std::alloc::Global;
 use std::test::Fail;
 
-/// Limits that small programs keep, with so many fibers (1 to 16).
+// Limits that small programs keep, with so many fibers (1 to 16).
 fn limits(fibers: u16) -> Limits
     ensures { AreLimits result }
 {

@@ -7,16 +7,16 @@ use std::alloc::Global;
 use std::str;
 use std::test::Fail;
 
-/// A program, and all that can come of it.
+// A program, and all that can come of it.
 struct Listed<'a> {
-    /// What it shows.
+    // What it shows.
     rule: &'a str,
     program: &'a str,
     wants: &'a [&'a str],
     status: Status,
-    /// How many reports and faults are listed, as the first line ends.
+    // How many reports and faults are listed, as the first line ends.
     counts: &'a str,
-    /// The reports, in any order, each behind what it is headed with.
+    // The reports, in any order, each behind what it is headed with.
     reports: &'a [(&'a str, &'a str)],
 }
 

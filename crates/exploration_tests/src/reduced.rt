@@ -7,14 +7,14 @@ use outcome_trace::{Limits, read_program, same_end};
 use std::alloc::Global;
 use std::test::Fail;
 
-/// A program, whose answers are the same in both.
+// A program, whose answers are the same in both.
 struct Compared<'a> {
-    /// What it shows.
+    // What it shows.
     rule: &'a str,
     program: &'a str,
     fibers: u16,
     count: u64,
-    /// How many answers there are.
+    // How many answers there are.
     answers: usize,
 }
 
@@ -125,7 +125,7 @@ fn are_among(ones: &[Answer], others: &[Answer]) -> bool {
     true
 }
 
-/// The full exploration of a program, and the reduced one.
+// The full exploration of a program, and the reduced one.
 #[derive(Drop)]
 struct Both {
     full: Exploration,
@@ -177,12 +177,12 @@ fn reduced_explorations_find_the_same(rt: HostRuntime) -> Result<(), Fail> {
     Ok(())
 }
 
-/// A fiber alone, whose worlds are counted by hand.
+// A fiber alone, whose worlds are counted by hand.
 struct Counted<'a> {
     program: &'a str,
-    /// One after each entry, and the first.
+    // One after each entry, and the first.
     full: usize,
-    /// The same without those from which an own move leads on.
+    // The same without those from which an own move leads on.
     reduced: usize,
 }
 

@@ -5,9 +5,9 @@ use outcome_trace::Status;
 use std::alloc::Global;
 use std::test::Fail;
 
-/// An exploration, and what it answers.
+// An exploration, and what it answers.
 struct Explored<'a> {
-    /// What it shows.
+    // What it shows.
     rule: &'a str,
     program: &'a str,
     fibers: u16,
@@ -17,8 +17,8 @@ struct Explored<'a> {
     text: &'a str,
 }
 
-/// A fiber alone: its worlds are those after each of its entries, with the moves behind it that are made at once. A
-/// look isn't one of these while no request is there, nor is an end or a call that others see.
+// A fiber alone: its worlds are those after each of its entries, with the moves behind it that are made at once. A
+// look isn't one of these while no request is there, nor is an end or a call that others see.
 const EXPLORED: &[Explored<'static>] = &[
     Explored {
         rule: "a look and an end",

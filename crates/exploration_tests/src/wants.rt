@@ -16,7 +16,7 @@ pub fn push_wants(wants: &mut Vec<Want>, words: &[&str]) -> Result<(), Fail> {
     Ok(())
 }
 
-/// Texts that spell none.
+// Texts that spell none.
 const UNSPELLED: &[&str] = &[
     "",
     "succeeded",

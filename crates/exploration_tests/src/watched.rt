@@ -13,16 +13,16 @@ use std::process::Abort;
 use std::test::Fail;
 use std::time::{Clock, Duration};
 
-/// A fiber alone that goes on for more worlds than there may be.
+// A fiber alone that goes on for more worlds than there may be.
 const LONG: &str = "(repeat 90000 (cede))";
 
-/// What is told of it, by a clock that stands still.
+// What is told of it, by a clock that stands still.
 const TOLD: &str = "explored 10000 worlds, 0 a second, depth 9999\n\
     explored 20000 worlds, 0 a second, depth 19999\n";
 
 const STOPPED: &str = "stopped at 20500 worlds: 0 reports, 0 faults\n";
 
-/// A clock that stands still, or fails.
+// A clock that stands still, or fails.
 #[derive(Drop)]
 struct Still {
     fails: bool,
@@ -41,7 +41,7 @@ impl Clock for Still {
     }
 }
 
-/// A device that takes nothing.
+// A device that takes nothing.
 #[derive(Drop)]
 struct Closed;
 

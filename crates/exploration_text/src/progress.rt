@@ -18,7 +18,7 @@ pub(crate) struct Progress<'c, 'e, C: Clock, E: TextOut> {
     pub(crate) begun: Option<Instant>,
     pub(crate) err: &'e mut E,
     pub(crate) failed: bool,
-    ghost healthy: { failed ≡ false → E.has_failed err.now ≡ false },
+    ghost healthy: { failed ≡ false → (E.seen err.now).failed ≡ false },
 }
 
 impl<'c, 'e, C: Clock, E: TextOut> Progress<'c, 'e, C, E> {

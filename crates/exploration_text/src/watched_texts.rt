@@ -3,7 +3,6 @@
 ghost use Rattle.std.specs.Prelude.{◌≡◌, ◌<◌, ◌^◌, false, IfOk, Result as TheResult};
 ghost use Rattle.text_io.specs.declared.fault.TextFault.{TextFault as TheFault};
 ghost use Rattle.text_io.specs.declared.status.Status.{Status as TheStatus};
-ghost use Rattle.text_io.specs.Devices.{reader, writer};
 ghost use Rattle.text_io.specs.Exchange.{IsAnswered};
 ghost use Rattle.text_io.specs.Telling.{status_of};
 ghost use Rattle.exploration_text.specs.ExploreAnswers.{IsExploreAnswer, IsExploredAnswer};
@@ -34,19 +33,13 @@ pub fn obey_explore_watched<C: Clock, I: TextIn, O: TextOut, E: TextOut>(
     out: &mut O,
     err: &mut E,
 ) -> Status
-    requires input { I.has_failed input.old ≡ false }
-    requires countable { I.reads input.old < 2 ^ 63 }
-    requires out { O.has_failed out.old ≡ false }
-    requires err { E.has_failed err.old ≡ false }
-    ensures { let before = reader (I.remaining input.old) (I.has_failed input.old) (I.has_ended input.old)
-        (I.reads input.old) in
-        let after = reader (I.remaining input.new) (I.has_failed input.new) (I.has_ended input.new)
-        (I.reads input.new) in
-        let old = writer (O.contents out.old) (O.has_failed out.old) in
-        let new = writer (O.contents out.new) (O.has_failed out.new) in
-        (outcome : TheResult TheStatus TheFault) ×
-        IsAnswered (IsExploreAnswer order.now.limits order.now.wants.items) before after old new outcome ×
-        (result ≡ status_of outcome) }
+    requires input { (I.seen input.old).failed ≡ false }
+    requires countable { (I.seen input.old).reads < 2 ^ 63 }
+    requires out { (O.seen out.old).failed ≡ false }
+    requires err { (E.seen err.old).failed ≡ false }
+    ensures { (outcome : TheResult TheStatus TheFault) × IsAnswered (IsExploreAnswer order.now.limits
+        order.now.wants.items) (I.seen input.old) (I.seen input.new) (O.seen out.old) (O.seen out.new) outcome × (result
+        ≡ status_of outcome) }
 {
     let mut progress = Progress {
         alloc,
@@ -69,16 +62,11 @@ fn watched_text<I: TextIn, O: TextOut, V: Watcher>(
     out: &mut O,
     watcher: &mut V,
 ) -> Result<Status, TextFault>
-    requires input { I.has_failed input.old ≡ false }
-    requires countable { I.reads input.old < 2 ^ 63 }
-    requires out { O.has_failed out.old ≡ false }
-    ensures { let before = reader (I.remaining input.old) (I.has_failed input.old) (I.has_ended input.old)
-        (I.reads input.old) in
-        let after = reader (I.remaining input.new) (I.has_failed input.new) (I.has_ended input.new)
-        (I.reads input.new) in
-        let old = writer (O.contents out.old) (O.has_failed out.old) in
-        let new = writer (O.contents out.new) (O.has_failed out.new) in
-        IsAnswered (IsExploreAnswer order.now.limits order.now.wants.items) before after old new result }
+    requires input { (I.seen input.old).failed ≡ false }
+    requires countable { (I.seen input.old).reads < 2 ^ 63 }
+    requires out { (O.seen out.old).failed ≡ false }
+    ensures { IsAnswered (IsExploreAnswer order.now.limits order.now.wants.items) (I.seen input.old) (I.seen input.new)
+        (O.seen out.old) (O.seen out.new) result }
 {
     let text = read_text(alloc, input)?;
     let answer = read_answer(alloc, text.as_slice(), order, watcher)?;

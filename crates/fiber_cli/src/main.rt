@@ -10,7 +10,7 @@ use std::env;
 use std::io::ErrorKind;
 use std::process::ExitCode;
 
-/// What is told of words that aren't text, which `clap` isn't given here, in its own terms.
+// What is told of words that aren't text, which `clap` isn't given here, in its own terms.
 const NOT_TEXT: &str = "invalid UTF-8 was detected in one or more arguments";
 
 fn main(rt: HostRuntime) -> ExitCode {

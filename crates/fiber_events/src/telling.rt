@@ -16,7 +16,7 @@ ghost use Rattle.fiber_events.specs.Private.Telling.{IsCourse, IsForeseen, IsOwn
 
 use crate::event::{Deed, Event, Events};
 use cell_registry::{Limits, PlainRegistry, RunError};
-use effect_term::Program;
+use effect_term::{Program, facts_of};
 use fiber_frames::{Config, Mark};
 use outcome_trace::{Report, Wish, answer, enter, fault, first_fibers, report_of_fibers};
 use std::alloc::{AllocError, Global};
@@ -85,14 +85,14 @@ fn end_of(
     }
 }
 
-// The way of a schedule, as it is told.
+/// The way of a schedule, as it is told.
 #[derive(Drop)]
 pub(crate) struct Course {
-    // The events of the entries that were made.
+    /// The events of the entries that were made.
     pub(crate) events: Vec<Event>,
-    // How many these are.
+    /// How many these are.
     pub(crate) made: usize,
-    // The fault of the next entry, where not all were made.
+    /// The fault of the next entry, where not all were made.
     pub(crate) fault: Option<RunError>,
 }
 
@@ -202,7 +202,7 @@ fn foresee(fiber: &Config, beside: &mut PlainRegistry) -> Result<Option<Deed>, R
     ensures refused { IfErr result (Refuses beside.old fiber.now.number fiber.now) }
 {
     // The registry is within its limits.
-    let _ = beside.limits();
+    facts_of(beside.limits());
     match Wish::of(fiber.ask()) {
         Wish::Nothing => Ok(None),
         Wish::Alone => Ok(Some(own_deed(fiber))),

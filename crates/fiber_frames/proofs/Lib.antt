@@ -4,9 +4,7 @@ pub mod Marks
 pub mod Reversing
 pub mod Gathering
 pub mod Closing
-pub mod Tables
 pub mod WordKinds
-pub mod Writing
 pub mod Operands
 pub mod Levels
 pub mod Landing
@@ -14,13 +12,13 @@ pub mod Stacking
 pub mod Sounding
 pub mod Births
 pub mod Focus
-pub mod Going
+pub mod TermKept
 pub mod Glue
 pub mod WordRows
 pub mod ResultRows
 pub mod Simulation
-pub mod Asking
-pub mod Moving
+pub mod CallsAndKinds
+pub mod CallBeforeReply
 pub mod Beginning
 pub mod Children
 pub mod Looking

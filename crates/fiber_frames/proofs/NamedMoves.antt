@@ -7,10 +7,10 @@ use Rattle.derived_ops.specs.Tree.{Request, Say, Seq, Set, Start, Tree, Uncancel
 use Rattle.effect_term.specs.declared.reply.Reply.{Reply}
 use Rattle.effect_term.specs.declared.reply.Reply.TheVariants as reply
 use Rattle.fiber_frames.specs.Path.{At_final, At_term, Broken, Final, Over, Running, Runs, focus}
-use Rattle.fiber_frames.specs.Rows.{Born, Ceded, Ended, Kind, Plain, Row, Waited, row_at}
+use Rattle.fiber_frames.specs.Rows.{Born, Ceded, Ended, RowKind, Plain, Row, Waited, row_at}
 use Rattle.fiber_frames.specs.Fiber.{Cuts, Fiber, Looks, Move_case, Reduces, Rests, ask_in, ask_of, begins}
 use Rattle.fiber_frames.specs.Fiber.{child, cut, kind_in, kind_of, move, move_case, move_in, row_of, term_born}
-use Rattle.fiber_frames.proofs.Moving.{call_same}
+use Rattle.fiber_frames.proofs.CallBeforeReply.{call_same}
 use Rattle.fiber_frames.proofs.Walk.{End, Gives, Throws, Works, active_root, end_of, finalizers_below, masks_below, root_row, row_root, walk}
 use Rattle.fiber_frames.proofs.Marks.Actions.{If_born}
 use Rattle.fiber_frames.proofs.Marks.Kept.{Kept, cut_once}
@@ -199,7 +199,7 @@ child_closed b f n h = started (kind_of f (reply.Number n)) (go (move_case f))
     go Rests = tt
     go Reduces = (row_here b f (reply.Number n) h).born
 
-    started : (k : Kind) → If_born k (Closed b) → Closed b (term_born k)
+    started : (k : RowKind) → If_born k (Closed b) → Closed b (term_born k)
     started (Born e) c = c
     started Plain c = (0, tt)
     started Waited c = (0, tt)

@@ -5,8 +5,6 @@ pub mod Answers
 pub mod Moves
 pub mod Marks
 pub mod Reached
-pub mod Table
-pub mod Written
 pub mod Env
 pub mod Leaf
 pub mod Frames

@@ -5,18 +5,18 @@ ghost use Rattle.fiber_frames.specs.Machine.{handle_at, number_at, is_inside, is
 ghost use Rattle.fiber_frames.specs.Machine.{word_ask, result_ask, leaf_ask, row_ask};
 ghost use Rattle.derived_ops.specs.Cores.{value_in_core};
 ghost use Rattle.effect_term.specs.declared.reply.Outcome.TheVariants as outcomes;
-ghost use Rattle.fiber_frames.specs.declared.kind.Kind.TheVariants as kinds;
+ghost use Rattle.fiber_frames.specs.declared.kind.WordKind.TheVariants as kinds;
 ghost use Rattle.fiber_frames.specs.Rows.{number_of};
 ghost use Rattle.fiber_frames.specs.declared.ask.Ask.TheVariants as asks;
-ghost use Rattle.fiber_frames.specs.declared.word.Word.TheVariants as words;
+ghost use Rattle.derived_ops.specs.declared.core_word.CoreWord.TheVariants as words;
 ghost use Rattle.fiber_frames.specs.Machines.{fiber_in, state_of};
 ghost use Rattle.fiber_frames.specs.Frames.{IsLeafAt, Sound};
 ghost use Rattle.fiber_frames.specs.Leaf.{leaf_in, value_held};
 ghost use Rattle.fiber_frames.specs.Fiber.{ask_of};
 
 use crate::ask::Ask;
-use crate::frame::{Frame, Stage};
-use crate::kind::Kind;
+use crate::frame::{Frame, RunStage};
+use crate::kind::WordKind;
 use crate::machine::{Machine, handle, mask, undoes};
 use crate::move_case::MoveCase;
 use crate::table::{awaited, completed, got, joined, modified, polled, set};
@@ -76,13 +76,13 @@ impl Machine {
     {
         let number = self.place.number();
         match self.place.kind {
-            Kind::Error => Outcome::Errored(number),
+            WordKind::Error => Outcome::Errored(number),
             _ => Outcome::Succeeded(number),
         }
     }
 
     // The call of the result at the leaf. Its number is read only where it ends the fiber.
-    #[tactic(auto, using(crate::proofs::Asking::inside_silent))]
+    #[tactic(auto, using(crate::proofs::CallsAndKinds::inside_silent))]
     #[inline(always)]
     fn result_ask(&self) -> Ask
         ensures value { self.now.place.kind ≡ kinds.Value → result ≡
@@ -102,8 +102,8 @@ impl Machine {
             Some(Frame::Forever(_, _) | Frame::Handle(_, _)) => unreachable!(),
             Some(Frame::Guarded(_, _) | Frame::Idle(_)) => unreachable!(),
             None => match self.stage {
-                Stage::Final(_) => Ask::Silent,
-                Stage::Runs | Stage::Drained(_) | Stage::Over(_) | Stage::Broken => {
+                RunStage::Final(_) => Ask::Silent,
+                RunStage::Runs | RunStage::Drained(_) | RunStage::Over(_) | RunStage::Broken => {
                     Ask::Finish(self.outcome())
                 }
             },
@@ -120,10 +120,15 @@ impl Machine {
         ensures silent { result ≡ true → leaf_ask (state_of self.now) (leaf_in self.now.place) ≡ asks.Silent }
     {
         match self.place.kind {
-            Kind::Cede | Kind::Never | Kind::Add | Kind::Say | Kind::Times => true,
-            Kind::Always | Kind::Note | Kind::If0 | Kind::OnCancel | Kind::Turns => true,
+            WordKind::Cede | WordKind::Never | WordKind::Add | WordKind::Say | WordKind::Times =>
+                true,
+            WordKind::Always
+            | WordKind::Note
+            | WordKind::If0
+            | WordKind::OnCancel
+            | WordKind::Turns => true,
             // These don't come here. With them it is one compare.
-            Kind::Value | Kind::Error | Kind::Form => true,
+            WordKind::Value | WordKind::Error | WordKind::Form => true,
             _ => false,
         }
     }
@@ -134,50 +139,55 @@ impl Machine {
         requires { IsLeafAt self.now.words.value (leaf_in self.now.place) }
         ensures { result ≡ leaf_ask (state_of self.now) (leaf_in self.now.place) }
     {
-        if matches!(self.place.kind, Kind::Value | Kind::Error) {
+        if matches!(self.place.kind, WordKind::Value | WordKind::Error) {
             return self.result_ask();
         }
         if self.is_quiet() {
             return Ask::Silent;
         }
         match self.place.kind {
-            Kind::Get => Ask::Get(self.handle_number(got(self.words.as_slice(), self.place.index))),
-            Kind::Set => {
-                let (it, value) = set(self.words.as_slice(), self.place.index);
-                Ask::Set(self.handle_number(it), self.value_number(value))
-            }
-            Kind::Modify => {
-                let (it, value) = modified(self.words.as_slice(), self.place.index);
-                Ask::Modify(self.handle_number(it), self.value_number(value))
-            }
-            Kind::Complete => {
-                let (it, value) = completed(self.words.as_slice(), self.place.index);
-                Ask::Complete(self.handle_number(it), self.value_number(value))
-            }
-            Kind::Await => Ask::Read(self.handle_number(awaited(
+            WordKind::Get => Ask::Get(self.handle_number(got(
                 self.words.as_slice(),
                 self.place.index,
             ))),
-            Kind::Join => {
+            WordKind::Set => {
+                let (it, value) = set(self.words.as_slice(), self.place.index);
+                Ask::Set(self.handle_number(it), self.value_number(value))
+            }
+            WordKind::Modify => {
+                let (it, value) = modified(self.words.as_slice(), self.place.index);
+                Ask::Modify(self.handle_number(it), self.value_number(value))
+            }
+            WordKind::Complete => {
+                let (it, value) = completed(self.words.as_slice(), self.place.index);
+                Ask::Complete(self.handle_number(it), self.value_number(value))
+            }
+            WordKind::Await => Ask::Read(self.handle_number(awaited(
+                self.words.as_slice(),
+                self.place.index,
+            ))),
+            WordKind::Join => {
                 let (fiber, _, _) = joined(self.words.as_slice(), self.place.index);
                 Ask::Join(self.handle_number(fiber))
             }
-            Kind::Poll => self.poll_ask(polled(self.words.as_slice(), self.place.index)),
-            Kind::Request => Ask::Cancel(self.place.fiber()),
-            Kind::Ending => Ask::Join(self.place.fiber()),
-            Kind::Store => Ask::Set(self.place.handle, self.place.number()),
-            Kind::Canceled => Ask::Cancel(self.own),
-            Kind::Cancel | Kind::Uncancelable => Ask::Mask,
-            Kind::NewRef => Ask::NewRef,
-            Kind::NewDeferred => Ask::NewDeferred,
-            Kind::Start => Ask::Start,
-            Kind::Cede | Kind::Never | Kind::Add | Kind::Say | Kind::Times => unreachable!(),
-            Kind::Always | Kind::Note | Kind::If0 | Kind::OnCancel => unreachable!(),
-            Kind::Turns | Kind::Value | Kind::Error | Kind::Form => unreachable!(),
+            WordKind::Poll => self.poll_ask(polled(self.words.as_slice(), self.place.index)),
+            WordKind::Request => Ask::Cancel(self.place.fiber()),
+            WordKind::Ending => Ask::Join(self.place.fiber()),
+            WordKind::Store => Ask::Set(self.place.handle, self.place.number()),
+            WordKind::Canceled => Ask::Cancel(self.own),
+            WordKind::Cancel | WordKind::Uncancelable => Ask::Mask,
+            WordKind::NewRef => Ask::NewRef,
+            WordKind::NewDeferred => Ask::NewDeferred,
+            WordKind::Start => Ask::Start,
+            WordKind::Cede | WordKind::Never | WordKind::Add | WordKind::Say | WordKind::Times =>
+                unreachable!(),
+            WordKind::Always | WordKind::Note | WordKind::If0 | WordKind::OnCancel =>
+                unreachable!(),
+            WordKind::Turns | WordKind::Value | WordKind::Error | WordKind::Form => unreachable!(),
         }
     }
 
-    // The call of the row where the fiber goes on.
+    /// The call of the row where the fiber goes on.
     #[inline(always)]
     pub(crate) fn row_ask(&self) -> Ask
         requires { Sound (state_of self.now) }
@@ -187,14 +197,14 @@ impl Machine {
             return self.leaf_ask();
         }
         match self.stage {
-            Stage::Runs | Stage::Final(_) => unreachable!(),
-            Stage::Drained(_) => Ask::Finish(Outcome::Canceled),
-            Stage::Over(outcome) => Ask::Over(outcome),
-            Stage::Broken => Ask::Broken,
+            RunStage::Runs | RunStage::Final(_) => unreachable!(),
+            RunStage::Drained(_) => Ask::Finish(Outcome::Canceled),
+            RunStage::Over(outcome) => Ask::Over(outcome),
+            RunStage::Broken => Ask::Broken,
         }
     }
 
-    // The shared call that the next move wants.
+    /// The shared call that the next move wants.
     #[inline(always)]
     pub(crate) fn wanted(&self) -> Ask
         requires { Sound (state_of self.now) }

@@ -5,8 +5,8 @@ ghost use Rattle.fiber_frames.specs.Frames.{Sound};
 ghost use Rattle.fiber_frames.specs.Leaf.{handle_held, leaf_in, value_held};
 ghost use Rattle.fiber_frames.specs.Machines.{IsOver, SameParts, fiber_in, state_of};
 
-use crate::frame::{Place, Stage};
-use crate::kind::Kind;
+use crate::frame::{Place, RunStage};
+use crate::kind::WordKind;
 use crate::machine::Machine;
 use crate::sameness::{Digest, Same, mixed, mixed_items, same_items};
 use std::alloc::{AllocError, Global};
@@ -31,7 +31,7 @@ impl Machine {
     fn is_over(&self) -> bool
         ensures { result ≡ true → IsOver self.now.stage }
     {
-        matches!(self.stage, Stage::Over(_))
+        matches!(self.stage, RunStage::Over(_))
     }
 
     // A copy of all that it holds.
@@ -120,10 +120,10 @@ impl Place {
             return false;
         }
         match self.kind {
-            Kind::Value | Kind::Error => self.has_same_value(other),
-            Kind::Request | Kind::Ending => self.has_same_fiber(other),
-            Kind::Store => self.handle == other.handle && self.has_same_value(other),
-            Kind::Turns => {
+            WordKind::Value | WordKind::Error => self.has_same_value(other),
+            WordKind::Request | WordKind::Ending => self.has_same_fiber(other),
+            WordKind::Store => self.handle == other.handle && self.has_same_value(other),
+            WordKind::Turns => {
                 self.index == other.index && self.part == other.part && self.level == other.level
             }
             _ => self.index == other.index && self.level == other.level,
@@ -157,15 +157,15 @@ impl Digest for Place {
     fn mixed_into(&self, digest: u64) -> u64 {
         let digest = mixed(digest, self.kind as u64);
         match self.kind {
-            Kind::Value | Kind::Error => {
+            WordKind::Value | WordKind::Error => {
                 if self.open {
                     mixed(digest, u64::from(self.part))
                 } else {
                     self.number.mixed_into(digest)
                 }
             }
-            Kind::Request | Kind::Ending | Kind::Store => digest,
-            Kind::Turns => mixed(mixed(digest, self.index as u64), u64::from(self.part)),
+            WordKind::Request | WordKind::Ending | WordKind::Store => digest,
+            WordKind::Turns => mixed(mixed(digest, self.index as u64), u64::from(self.part)),
             _ => mixed(mixed(digest, self.index as u64), self.level as u64),
         }
     }

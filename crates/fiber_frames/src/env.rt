@@ -4,13 +4,24 @@ ghost use Rattle.std.specs.Prelude.{◌≡◌, ◌<◌, ◌≤◌, take, length,
 ghost use Rattle.fiber_frames.specs.Env.{env_of, bound};
 
 use crate::stack::push;
-use crate::word::Entry;
+use effect_term::Value;
 use std::alloc::{AllocError, Global};
+
+/// What a level of the environment holds.
+#[derive(Clone, Copy)]
+pub(crate) enum EnvEntry {
+    /// A value or a code.
+    Value(Value),
+    /// The number of a fiber, a ref or a deferred.
+    Handle(u16),
+    /// The number of a fiber, and of a mask in it.
+    Mask(u16, u64),
+}
 
 /// Binds at a level, over what stands there.
 #[tactic(auto, using(crate::proofs::Closing::set_bound))]
 #[inline(always)]
-pub(crate) fn rebind(env: &mut Vec<Entry>, level: usize, entry: Entry)
+pub(crate) fn rebind(env: &mut Vec<EnvEntry>, level: usize, entry: EnvEntry)
     requires { level < vec_len env.old }
     ensures { env.new.items ≡ bound env.old.items level entry }
 {
@@ -20,7 +31,7 @@ pub(crate) fn rebind(env: &mut Vec<Entry>, level: usize, entry: Entry)
 /// Binds at a level, over what stands there if anything does, or `AllocError` where memory is refused.
 #[tactic(auto, using(crate::proofs::Closing::push_bound))]
 #[inline(always)]
-pub(crate) fn bind(env: &mut Vec<Entry>, level: usize, entry: Entry) -> Result<(), AllocError>
+pub(crate) fn bind(env: &mut Vec<EnvEntry>, level: usize, entry: EnvEntry) -> Result<(), AllocError>
     requires { level ≤ vec_len env.old }
     ensures entries { OnOk result (env.new.items ≡ bound env.old.items level entry) }
     ensures err { OnErr result (env.new.items ≡ env.old.items) }
@@ -33,9 +44,9 @@ pub(crate) fn bind(env: &mut Vec<Entry>, level: usize, entry: Entry) -> Result<(
     Ok(())
 }
 
-// What a slot below the level holds.
+/// What a slot below the level holds.
 #[inline(always)]
-pub(crate) fn entry(env: &[Entry], level: usize, slot: u32) -> Option<Entry>
+pub(crate) fn entry(env: &[EnvEntry], level: usize, slot: u32) -> Option<EnvEntry>
     ensures { result ≡ env_of env.now level slot }
 {
     if (slot as usize) < level {
@@ -46,7 +57,11 @@ pub(crate) fn entry(env: &[Entry], level: usize, slot: u32) -> Option<Entry>
 }
 
 /// A copy of the entries below a level, or `AllocError` where memory is refused.
-pub(crate) fn front(alloc: Global, env: &[Entry], level: usize) -> Result<Vec<Entry>, AllocError>
+pub(crate) fn front(
+    alloc: Global,
+    env: &[EnvEntry],
+    level: usize,
+) -> Result<Vec<EnvEntry>, AllocError>
     requires { level ≤ length env.now }
     ensures { IfOk result (λ copy. copy.items ≡ take level env.now) }
 {

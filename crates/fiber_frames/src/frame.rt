@@ -6,10 +6,9 @@ ghost use Rattle.fiber_frames.specs.Frames.{handle_of};
 ghost use Rattle.fiber_frames.specs.Leaf.{handle_held, value_held};
 ghost use Rattle.fiber_frames.specs.Rows.{handle_number, number_of};
 
-use crate::kind::Kind;
+use crate::kind::WordKind;
 use crate::operand::{Handle, Mask};
-use crate::word::Rest;
-use derived_ops::Operand;
+use derived_ops::{Operand, Rest};
 use effect_term::{Outcome, Value};
 use std::mem::size_of;
 
@@ -49,7 +48,7 @@ pub(crate) struct Pending {
 /// Where the next move happens: what stands there, and what its kind has of these.
 #[derive(Clone, Copy)]
 pub(crate) struct Place {
-    pub kind: Kind,
+    pub kind: WordKind,
     /// Nothing is bound to the value, or to the fiber: the slot of its binder is there instead.
     pub open: bool,
     /// The ref, or the fiber of the `cancel`.
@@ -65,7 +64,7 @@ pub(crate) struct Place {
 }
 
 impl Place {
-    // The value is this one.
+    /// The value is this one.
     #[inline(always)]
     pub(crate) fn put_value(&mut self, value: Operand)
         ensures value { value_held self.new ≡ value }
@@ -84,7 +83,7 @@ impl Place {
         }
     }
 
-    // The fiber is this one.
+    /// The fiber is this one.
     #[inline(always)]
     pub(crate) fn put_fiber(&mut self, fiber: Handle)
         ensures fiber { handle_held self.new ≡ fiber }
@@ -102,7 +101,7 @@ impl Place {
         }
     }
 
-    // The number of the value, which a closed term has.
+    /// The number of the value, which a closed term has.
     #[inline(always)]
     pub(crate) fn number(&self) -> Value
         ensures { result ≡ number_of (value_in_core (value_held self.now)) }
@@ -110,7 +109,7 @@ impl Place {
         if self.open { Value::ZERO } else { self.number }
     }
 
-    // The number of the fiber, which a closed term has.
+    /// The number of the fiber, which a closed term has.
     #[inline(always)]
     pub(crate) fn fiber(&self) -> u16
         ensures { result ≡ handle_number (handle_of (handle_held self.now)) }
@@ -121,7 +120,7 @@ impl Place {
 
 /// How far a fiber is.
 #[derive(Clone, Copy)]
-pub(crate) enum Stage {
+pub(crate) enum RunStage {
     /// At the program's term.
     Runs,
     /// After a cut, in a finalizer, below the mask of this number.
@@ -136,7 +135,7 @@ pub(crate) enum Stage {
 
 /// What a row was to the runner of the fiber.
 #[derive(Clone, Copy)]
-pub(crate) enum Turn {
+pub(crate) enum RowEnd {
     Plain,
     Waited,
     Ceded,

@@ -8,6 +8,21 @@
 //! and never substitutes. The crate promises that asks and moves are those of the model, and that the
 //! marks of every fiber are lawful, whatever it is answered: no masked region is cut outside its own
 //! poll, and a fiber that has ended released each acquired bracket exactly once, innermost first.
+//!
+//! A fiber is moved by hand so, where the code is that of `(seq (say 1) (pure 7))`:
+//!
+//! ```
+//! let mut fiber = Config::new(alloc, &code)?;
+//! for _move in 0..6u32 {
+//!     let _moved = match fiber.ask() {
+//!         Ask::Look => fiber.resume(Reply::Seen(false))?,
+//!         Ask::Silent | Ask::Finish(_) => fiber.resume(Reply::Done)?,
+//!         _ => break,
+//!     };
+//! }
+//! assert_eq!(fiber.ask(), Ask::Over(Outcome::Succeeded(Value::from_i32(7))));
+//! assert_eq!(fiber.trace(), [Mark::Say(Value::from_i32(1))].as_slice());
+//! ```
 #![tactic(auto)]
 
 mod ask;
@@ -28,7 +43,6 @@ mod rows;
 mod sameness;
 mod stack;
 mod table;
-mod word;
 
 pub use ask::{Ask, Look};
 pub use config::{Config, Moved};

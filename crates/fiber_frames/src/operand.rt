@@ -24,7 +24,7 @@ pub(crate) enum Mask {
 }
 
 impl Handle {
-    // The number, which a closed term has.
+    /// The number, which a closed term has.
     #[inline(always)]
     pub(crate) fn number(self) -> u16
         ensures { result ≡ handle_number (handle_of self) }
@@ -37,7 +37,7 @@ impl Handle {
 }
 
 impl Mask {
-    // The mask's number, which a closed term has.
+    /// The mask's number, which a closed term has.
     #[inline(always)]
     pub(crate) fn number(self) -> u64
         ensures { result ≡ mask_number (mask_of self) }
@@ -49,7 +49,7 @@ impl Mask {
     }
 }
 
-// The number of a value, which a closed term has.
+/// The number of a value, which a closed term has.
 #[inline(always)]
 pub(crate) fn number(value: Operand) -> Value
     ensures { result ≡ number_of (value_in_core value) }
@@ -60,7 +60,7 @@ pub(crate) fn number(value: Operand) -> Value
     }
 }
 
-// The value is the number 0.
+/// The value is the number 0.
 #[inline(always)]
 pub(crate) fn is_zero(value: Operand) -> bool
     ensures { result ≡ is_zero (value_in_core value) }

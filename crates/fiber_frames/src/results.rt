@@ -3,32 +3,31 @@
 ghost use Rattle.std.specs.Prelude.{◌≡◌, length, OnOk, OnErr, IfOk};
 ghost use Rattle.effect_term.specs.declared.reply.Outcome.TheVariants as outcomes;
 ghost use Rattle.fiber_frames.specs.declared.frame.Frame.TheVariants as frames;
-ghost use Rattle.fiber_frames.specs.declared.kind.Kind.TheVariants as kinds;
+ghost use Rattle.fiber_frames.specs.declared.kind.WordKind.TheVariants as kinds;
 ghost use Rattle.derived_ops.specs.Cores.{value_in_core};
 ghost use Rattle.fiber_frames.specs.Leaf.{value_held};
 ghost use Rattle.fiber_frames.specs.Rows.{number_of};
 ghost use Rattle.fiber_frames.specs.Frames.{Levels, Under};
-ghost use Rattle.fiber_frames.specs.Machine.{over, passed, given, thrown, value_at_root, root_turn, went};
-ghost use Rattle.fiber_frames.specs.Machine.{error_row, result_turn};
+ghost use Rattle.fiber_frames.specs.Machine.{over, passed, given, thrown, value_at_root, root_row_end, went};
+ghost use Rattle.fiber_frames.specs.Machine.{error_row, result_row_end};
 ghost use Rattle.fiber_frames.specs.Machines.{state_of, Kept, KeptWhere};
 
-use crate::env::rebind;
-use crate::frame::{Frame, Stage, Turn};
-use crate::kind::Kind;
+use crate::env::{EnvEntry, rebind};
+use crate::frame::{Frame, RowEnd, RunStage};
+use crate::kind::WordKind;
 use crate::machine::Machine;
 use crate::mark::Mark;
 use crate::stack::push;
-use crate::word::Entry;
 use effect_term::Outcome;
 use std::alloc::AllocError;
 
 impl Machine {
-    // The fiber has ended so.
+    /// The fiber has ended so.
     #[inline(always)]
     pub(crate) fn end(&mut self, outcome: Outcome)
         ensures { state_of self.new ≡ over (state_of self.old) outcome }
     {
-        self.stage = Stage::Over(outcome);
+        self.stage = RunStage::Over(outcome);
         self.masks.clear();
     }
 
@@ -56,7 +55,7 @@ impl Machine {
         self.note(Mark::PollOut(number))
     }
 
-    // The value at the leaf goes on under this frame, which is taken off: at a word, which this gives, or where it is.
+    /// The value at the leaf goes on under this frame, which is taken off: at a word, which this gives, or where it is.
     #[inline(always)]
     pub(crate) fn give_under(&mut self, frame: Frame) -> Result<Option<(usize, usize)>, AllocError>
         requires value { self.old.place.kind ≡ kinds.Value }
@@ -72,18 +71,18 @@ impl Machine {
                 let value = self.place.number();
                 // But for the first time, something is bound at the level.
                 if level < self.env.len() {
-                    rebind(&mut self.env, level, Entry::Value(value));
+                    rebind(&mut self.env, level, EnvEntry::Value(value));
                     return Ok(Some((next, level + 1)));
                 }
                 self.go_below_value(next, level, value)?;
             }
             Frame::Again(body, turns, level) => {
-                self.place.kind = Kind::Turns;
+                self.place.kind = WordKind::Turns;
                 self.place.index = turns;
                 self.place.part = body;
                 self.place.level = level;
             }
-            Frame::Forever(index, level) => self.stand(Kind::Always, index, level),
+            Frame::Forever(index, level) => self.stand(WordKind::Always, index, level),
             Frame::Handle(_, _) | Frame::Guarded(_, _) | Frame::Idle(_) => {}
             Frame::Masked(number) => self.leave_mask(number)?,
             Frame::Polled(number) => self.leave_poll(number)?,
@@ -109,37 +108,37 @@ impl Machine {
         }
     }
 
-    // The row of a value at the leaf, below no frame.
+    /// The row of a value at the leaf, below no frame.
     #[inline(always)]
-    pub(crate) fn value_at_root(&mut self) -> Result<Turn, AllocError>
+    pub(crate) fn value_at_root(&mut self) -> Result<RowEnd, AllocError>
         ensures state { OnOk result (state_of self.new ≡ value_at_root (state_of self.old) (value_held self.old.place)
             self.old.stage) }
-        ensures turn { IfOk result (λ it. it ≡
-            root_turn (outcomes.Succeeded (number_of (value_in_core (value_held self.old.place)))) self.old.stage) }
+        ensures row_end { IfOk result (λ it. it ≡
+            root_row_end (outcomes.Succeeded (number_of (value_in_core (value_held self.old.place)))) self.old.stage) }
         ensures kept { OnErr result (Kept self.old self.new) }
     {
-        if let Stage::Final(mask) = self.stage {
+        if let RunStage::Final(mask) = self.stage {
             self.begin_finalizer(mask)?;
-            return Ok(Turn::Plain);
+            return Ok(RowEnd::Plain);
         }
         let number = self.place.number();
         self.end(Outcome::Succeeded(number));
-        Ok(Turn::Ended(Outcome::Succeeded(number)))
+        Ok(RowEnd::Ended(Outcome::Succeeded(number)))
     }
 
     // What the row of this result is to the runner.
     #[tactic(auto, using(crate::proofs::Reversing::reverse_push))]
     #[inline(always)]
-    fn result_turn(&self, outcome: Outcome) -> Turn
-        ensures { result ≡ result_turn outcome self.now.stage (state_of self.now).frames }
+    fn result_row_end(&self, outcome: Outcome) -> RowEnd
+        ensures { result ≡ result_row_end outcome self.now.stage (state_of self.now).frames }
     {
         if self.frames.last().is_some() {
-            return Turn::Plain;
+            return RowEnd::Plain;
         }
         match self.stage {
-            Stage::Final(_) => Turn::Plain,
-            Stage::Runs | Stage::Drained(_) | Stage::Over(_) | Stage::Broken => {
-                Turn::Ended(outcome)
+            RunStage::Final(_) => RowEnd::Plain,
+            RunStage::Runs | RunStage::Drained(_) | RunStage::Over(_) | RunStage::Broken => {
+                RowEnd::Ended(outcome)
             }
         }
     }
@@ -158,7 +157,7 @@ impl Machine {
         if let Some(frame) = self.frames.pop() {
             return self.throw_under(frame);
         }
-        if let Stage::Final(mask) = self.stage {
+        if let RunStage::Final(mask) = self.stage {
             self.begin_finalizer(mask)?;
             return self.note(Mark::Dropped(code));
         }
@@ -166,20 +165,20 @@ impl Machine {
         Ok(())
     }
 
-    // The row of an error at the leaf.
+    /// The row of an error at the leaf.
     #[inline(always)]
-    pub(crate) fn error_row(&mut self) -> Result<Turn, AllocError>
+    pub(crate) fn error_row(&mut self) -> Result<RowEnd, AllocError>
         requires error { self.old.place.kind ≡ kinds.Error }
         requires under { Under (length self.old.env.items) (state_of self.old).frames }
         ensures state { OnOk result (state_of self.new ≡ error_row (state_of self.old) (value_held self.old.place)
             (state_of self.old).frames) }
-        ensures turn { IfOk result (λ it. it ≡
-            result_turn (outcomes.Errored (number_of (value_in_core (value_held self.old.place))))
+        ensures row_end { IfOk result (λ it. it ≡
+            result_row_end (outcomes.Errored (number_of (value_in_core (value_held self.old.place))))
             (state_of self.old).stage (state_of self.old).frames) }
         ensures kept { OnErr result (Kept self.old self.new) }
     {
-        let turn = self.result_turn(Outcome::Errored(self.place.number()));
+        let row_end = self.result_row_end(Outcome::Errored(self.place.number()));
         self.throw()?;
-        Ok(turn)
+        Ok(row_end)
     }
 }

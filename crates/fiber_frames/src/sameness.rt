@@ -3,11 +3,11 @@
 ghost use Rattle.std.specs.Prelude.{◌≡◌, true};
 
 use crate::ask::Look;
-use crate::frame::{Frame, Pending, Stage};
+use crate::env::EnvEntry;
+use crate::frame::{Frame, Pending, RunStage};
 use crate::mark::Mark;
 use crate::operand::Mask;
-use crate::word::{Entry, Rest, Word};
-use derived_ops::{Action, BracketMark, Maker, Operand, Turns};
+use derived_ops::{Action, BracketMark, CoreWord, Maker, Operand, Rest, Turns};
 use effect_term::{Outcome, Value};
 
 /// Values of which two can be told to be one.
@@ -111,26 +111,26 @@ impl Digest for Look {
     }
 }
 
-impl Same for Stage {
-    fn same(&self, other: &Stage) -> bool {
+impl Same for RunStage {
+    fn same(&self, other: &RunStage) -> bool {
         match (self, other) {
-            (Stage::Runs, Stage::Runs) | (Stage::Broken, Stage::Broken) => true,
-            (Stage::Final(one), Stage::Final(other)) => *one == *other,
-            (Stage::Drained(one), Stage::Drained(other)) => *one == *other,
-            (Stage::Over(one), Stage::Over(other)) => one.same(other),
+            (RunStage::Runs, RunStage::Runs) | (RunStage::Broken, RunStage::Broken) => true,
+            (RunStage::Final(one), RunStage::Final(other)) => *one == *other,
+            (RunStage::Drained(one), RunStage::Drained(other)) => *one == *other,
+            (RunStage::Over(one), RunStage::Over(other)) => one.same(other),
             _ => false,
         }
     }
 }
 
-impl Digest for Stage {
+impl Digest for RunStage {
     fn mixed_into(&self, digest: u64) -> u64 {
         match self {
-            Stage::Runs => mixed(digest, 1),
-            Stage::Final(mask) => mixed(mixed(digest, 2), *mask),
-            Stage::Drained(mask) => mixed(mixed(digest, 3), *mask),
-            Stage::Over(outcome) => outcome.mixed_into(mixed(digest, 4)),
-            Stage::Broken => mixed(digest, 5),
+            RunStage::Runs => mixed(digest, 1),
+            RunStage::Final(mask) => mixed(mixed(digest, 2), *mask),
+            RunStage::Drained(mask) => mixed(mixed(digest, 3), *mask),
+            RunStage::Over(outcome) => outcome.mixed_into(mixed(digest, 4)),
+            RunStage::Broken => mixed(digest, 5),
         }
     }
 }
@@ -238,12 +238,12 @@ impl Same for Pending {
     }
 }
 
-impl Same for Entry {
-    fn same(&self, other: &Entry) -> bool {
+impl Same for EnvEntry {
+    fn same(&self, other: &EnvEntry) -> bool {
         match (self, other) {
-            (Entry::Value(one), Entry::Value(other)) => one.same(other),
-            (Entry::Handle(one), Entry::Handle(other)) => *one == *other,
-            (Entry::Mask(fiber, number), Entry::Mask(fiber_too, number_too)) => {
+            (EnvEntry::Value(one), EnvEntry::Value(other)) => one.same(other),
+            (EnvEntry::Handle(one), EnvEntry::Handle(other)) => *one == *other,
+            (EnvEntry::Mask(fiber, number), EnvEntry::Mask(fiber_too, number_too)) => {
                 *fiber == *fiber_too && *number == *number_too
             }
             _ => false,
@@ -251,12 +251,12 @@ impl Same for Entry {
     }
 }
 
-impl Digest for Entry {
+impl Digest for EnvEntry {
     fn mixed_into(&self, digest: u64) -> u64 {
         match self {
-            Entry::Value(value) => value.mixed_into(mixed(digest, 1)),
-            Entry::Handle(number) => mixed(mixed(digest, 2), u64::from(*number)),
-            Entry::Mask(fiber, number) => mixed(
+            EnvEntry::Value(value) => value.mixed_into(mixed(digest, 1)),
+            EnvEntry::Handle(number) => mixed(mixed(digest, 2), u64::from(*number)),
+            EnvEntry::Mask(fiber, number) => mixed(
                 mixed(mixed(digest, 3), u64::from(*fiber)),
                 *number,
             ),
@@ -331,33 +331,33 @@ impl Same for Turns {
     }
 }
 
-impl Same for Word {
-    fn same(&self, other: &Word) -> bool {
+impl Same for CoreWord {
+    fn same(&self, other: &CoreWord) -> bool {
         match (self, other) {
-            (Word::Pure(one), Word::Pure(other)) => one.same(other),
-            (Word::Raise(one), Word::Raise(other)) => one.same(other),
-            (Word::Act(one), Word::Act(other)) => one.same(other),
-            (Word::Note(mark, mask), Word::Note(mark_too, mask_too)) => {
+            (CoreWord::Pure(one), CoreWord::Pure(other)) => one.same(other),
+            (CoreWord::Raise(one), CoreWord::Raise(other)) => one.same(other),
+            (CoreWord::Act(one), CoreWord::Act(other)) => one.same(other),
+            (CoreWord::Note(mark, mask), CoreWord::Note(mark_too, mask_too)) => {
                 *mask == *mask_too && mark.same(mark_too)
             }
-            (Word::Cancel(one), Word::Cancel(other)) => *one == *other,
-            (Word::Let(one), Word::Let(other)) => *one == *other,
-            (Word::Seq(rest, jump), Word::Seq(rest_too, jump_too)) => {
+            (CoreWord::Cancel(one), CoreWord::Cancel(other)) => *one == *other,
+            (CoreWord::Let(one), CoreWord::Let(other)) => *one == *other,
+            (CoreWord::Seq(rest, jump), CoreWord::Seq(rest_too, jump_too)) => {
                 *jump == *jump_too && rest.same(rest_too)
             }
-            (Word::Handle(one), Word::Handle(other)) => *one == *other,
-            (Word::If0(value, jump), Word::If0(value_too, jump_too)) => {
+            (CoreWord::Handle(one), CoreWord::Handle(other)) => *one == *other,
+            (CoreWord::If0(value, jump), CoreWord::If0(value_too, jump_too)) => {
                 *jump == *jump_too && value.same(value_too)
             }
-            (Word::Join(one, two, three), Word::Join(one_too, two_too, three_too)) => {
+            (CoreWord::Join(one, two, three), CoreWord::Join(one_too, two_too, three_too)) => {
                 *one == *one_too && *two == *two_too && *three == *three_too
             }
-            (Word::Make(one), Word::Make(other)) => one.same(other),
-            (Word::Start(one), Word::Start(other)) => *one == *other,
-            (Word::Loop(one), Word::Loop(other)) => one.same(other),
-            (Word::Uncancelable, Word::Uncancelable) => true,
-            (Word::Poll(one), Word::Poll(other)) => *one == *other,
-            (Word::OnCancel(one), Word::OnCancel(other)) => *one == *other,
+            (CoreWord::Make(one), CoreWord::Make(other)) => one.same(other),
+            (CoreWord::Start(one), CoreWord::Start(other)) => *one == *other,
+            (CoreWord::Loop(one), CoreWord::Loop(other)) => one.same(other),
+            (CoreWord::Uncancelable, CoreWord::Uncancelable) => true,
+            (CoreWord::Poll(one), CoreWord::Poll(other)) => *one == *other,
+            (CoreWord::OnCancel(one), CoreWord::OnCancel(other)) => *one == *other,
             _ => false,
         }
     }

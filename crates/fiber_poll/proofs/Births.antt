@@ -6,7 +6,7 @@ use Rattle.fiber_frames.specs.declared.ask.Ask.{Ask}
 use Rattle.fiber_frames.specs.declared.ask.Ask.TheVariants as ask
 use Rattle.fiber_frames.specs.declared.config.Moved.{Moved}
 use Rattle.fiber_frames.specs.declared.config.Moved.TheVariants as moves
-use Rattle.fiber_frames.specs.Rows.{Kind, Plain, Waited, Ceded, Born, Ended}
+use Rattle.fiber_frames.specs.Rows.{RowKind, Plain, Waited, Ceded, Born, Ended}
 use Rattle.fiber_frames.specs.Fiber.{Fiber, ask_of, child, kind_of, lost, move}
 use Rattle.fiber_frames.specs.Moves.{moved, told}
 use Rattle.fiber_frames.specs.Answers.{Answers}
@@ -25,19 +25,19 @@ use Rattle.fiber_poll.specs.Tasks.{IsTask, TaskView}
 use Rattle.fiber_poll.specs.Stepping.{Failed, IsChild}
 use Rattle.fiber_poll.specs.Private.Told.{Bears, IsAsked}
 use Rattle.outcome_trace.proofs.Standing.Lists.{end_left}
-use Rattle.fiber_poll.proofs.Going.{went_call}
+use Rattle.fiber_poll.proofs.MovesAndCalls.{went_call}
 use Rattle.outcome_trace.proofs.Replied.{start_answers, started_fits}
 use Rattle.fiber_poll.proofs.Steps.{asked_all, fits_going}
 
 -- ---- what is told of a birth
-births : (c : Fiber) (k : Kind) → IsBirth k → told c k ≡ moves.Born c
+births : (c : Fiber) (k : RowKind) → IsBirth k → told c k ≡ moves.Born c
 births c (Born t) h = refl
 births c Plain h = absurd h
 births c Waited h = absurd h
 births c Ceded h = absurd h
 births c (Ended o) h = absurd h
 
-birth_event : (i : ℕ) (a : Ask) (r : Reply) (k : Kind) → IsBirth k → told_by i a r k ≡ Some Starts_child
+birth_event : (i : ℕ) (a : Ask) (r : Reply) (k : RowKind) → IsBirth k → told_by i a r k ≡ Some Starts_child
 birth_event i a r (Born t) h = refl
 birth_event i a r Plain h = absurd h
 birth_event i a r Waited h = absurd h

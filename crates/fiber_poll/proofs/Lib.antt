@@ -1,5 +1,5 @@
 pub mod Outcomes
-pub mod Going
+pub mod MovesAndCalls
 pub mod Steps
 pub mod Births
 pub mod Turnings

@@ -25,7 +25,7 @@ use Rattle.outcome_trace.proofs.Standing.Schedules.{Course, grows, run_from}
 use Rattle.fiber_poll.specs.Turns.{AreAnswers, calls_of, moves}
 use Rattle.fiber_poll.specs.Turns as turns
 use Rattle.fiber_poll.proofs.Childless.{IsOther, RunsChildless, asks_other, move_childless}
-use Rattle.fiber_poll.proofs.Going.{is_done, no_wish}
+use Rattle.fiber_poll.proofs.MovesAndCalls.{is_done, no_wish}
 
 -- ---- calls that start nobody
 abbrev pub NoStart : List Entry → Type 0

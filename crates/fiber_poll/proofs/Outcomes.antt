@@ -33,15 +33,6 @@ outcome_going g h = go g.running h
     go (Over o) i = absurd i
     go Broken i = absurd i
 
-pub outcome_none : (g : Fiber) → ((o : Outcome) → ask_of g ≡ ask.Over o → ⊥) → outcome_of g ≡ None
-outcome_none g h = go g.running refl
-  where
-    go : (w : Running) → g.running ≡ w → outcome_in w ≡ None
-    go (Runs t) e = refl
-    go (Final m gs) e = refl
-    go (Over o) e = absurd (h o (subst (λ w. ask_of (at g w) ≡ ask.Over o) (sym e) refl))
-    go Broken e = refl
-
 -- a fiber that has ended asks nothing
 pub over_asked : (g : Fiber) (o : Outcome) → outcome_of g ≡ Some o → ask_of g ≡ ask.Over o
 over_asked g o h = go g.running refl h

@@ -39,7 +39,7 @@ use Rattle.fiber_poll.specs.Futures.{Comes, IsPending, IsResult, Polled, default
 use Rattle.futures.specs.declared.task.Poll.TheVariants.{Pending}
 use Rattle.fiber_poll.proofs.Childless.{IsChildless}
 use Rattle.fiber_poll.proofs.ChildlessCode.{code_childless}
-use Rattle.fiber_poll.proofs.Going.{went_on}
+use Rattle.fiber_poll.proofs.MovesAndCalls.{went_on}
 use Rattle.fiber_poll.proofs.Lonely.{IsLonely, NoStart, calls_no_start, core_append, lonely, one_fiber, refused, rested, simulated}
 use Rattle.fiber_poll.proofs.Outcomes.{broken_asked, over_asked}
 

@@ -15,14 +15,14 @@ use Rattle.outcome_trace.specs.declared.wish.Wish.{Wish}
 use Rattle.outcome_trace.specs.declared.wish.Wish.TheVariants.{Shared, Alone, Nothing}
 use Rattle.outcome_trace.specs.Stands.{Stands, wish}
 use Rattle.outcome_trace.proofs.Standing.Led.{Bore, Later, Led, Reaches}
-use Rattle.outcome_trace.proofs.Standing.Moving.{later-reaches, stands-bore, stands-longer, stands-went, went-looked}
+use Rattle.outcome_trace.proofs.Standing.AfterATurn.{later-reaches, stands-bore, stands-longer, stands-went, went-looked}
 use Rattle.fiber_poll.specs.declared.turn.Turn.{Turn}
 use Rattle.fiber_poll.specs.declared.turn.Turn.TheVariants as turn
 use Rattle.fiber_poll.specs.Turns.{AreAnswers, calls_of, moves, wished}
 use Rattle.fiber_poll.specs.Tasks.{IsTask, IsTaskOf, TaskView, Went}
 use Rattle.fiber_poll.specs.Stepping.{Failed}
 use Rattle.fiber_poll.specs.Turning.{ChildIsOf, Starts, StaysOf, Stopped, Turned}
-use Rattle.fiber_poll.proofs.Going.{is_done, no_wish}
+use Rattle.fiber_poll.proofs.MovesAndCalls.{is_done, no_wish}
 
 module _ (code : Tree) where
   reach_one : (g : Fiber) (r : Reply) (rs : List Reply) → Answers g.number (ask_of g) r →

@@ -6,7 +6,7 @@ use Rattle.effect_term.specs.declared.reply.Reply.TheVariants as reply
 use Rattle.fiber_frames.specs.declared.ask.Ask.{Ask}
 use Rattle.fiber_frames.specs.declared.ask.Ask.TheVariants as ask
 use Rattle.fiber_frames.specs.declared.config.Moved.{Moved}
-use Rattle.fiber_frames.specs.Rows.{Kind, Plain, Waited, Ceded, Born, Ended}
+use Rattle.fiber_frames.specs.Rows.{RowKind, Plain, Waited, Ceded, Born, Ended}
 use Rattle.fiber_frames.specs.Fiber.{Fiber, ask_of, kind_of, lost, move}
 use Rattle.fiber_frames.specs.Moves.{moved, told}
 use Rattle.fiber_frames.specs.Answers.{Answers}
@@ -37,9 +37,9 @@ use Rattle.fiber_poll.specs.Private.Making.{MayAnswer, Refuses, Replies}
 use Rattle.fiber_poll.specs.Turns.{Ends, event_of, told_by}
 use Rattle.fiber_poll.specs.Tasks.{IsTask, TaskView, Went}
 use Rattle.fiber_poll.specs.Stepping.{Failed}
-use Rattle.fiber_poll.specs.declared.step.Step.{Step}
+use Rattle.fiber_poll.specs.declared.move_end.MoveEnd.{MoveEnd}
 use Rattle.fiber_poll.specs.Private.Told.{Follows, IsAsked, IsStep, Made, Tells, event_at, event_in}
-use Rattle.fiber_poll.proofs.Going.{went_alone, went_call}
+use Rattle.fiber_poll.proofs.MovesAndCalls.{went_alone, went_call}
 
 -- ---- a fiber that goes on
 -- it fits its pass
@@ -173,14 +173,14 @@ module _ (t : TaskView) (q : PassView) (i : IsTask t) (lawful : IsPass q) where
   refused_failed Nothing e n is same r = absurd r
 
 -- ---- what is told of a move
-goes_told : (a : Ask) (c : Fiber) (k : Kind) → GoesOn k → Follows a (told c k)
+goes_told : (a : Ask) (c : Fiber) (k : RowKind) → GoesOn k → Follows a (told c k)
 goes_told a c Plain h = tt
 goes_told a c Waited h = tt
 goes_told a c Ceded h = tt
 goes_told a c (Born t) h = absurd h
 goes_told a c (Ended o) h = absurd h
 
-follows_by : (c : Fiber) (a : Ask) (k : Kind) → IsStep a → KindFits a k → Follows a (told c k)
+follows_by : (c : Fiber) (a : Ask) (k : RowKind) → IsStep a → KindFits a k → Follows a (told c k)
 follows_by c ask.Start k s h = absurd s
 follows_by c (ask.Finish o) k s h = subst (λ x. Follows (ask.Finish o) (told c x)) (sym h) refl
 follows_by c (ask.Over o) k s h = absurd s
@@ -200,7 +200,7 @@ follows_by c (ask.Complete x v) k s h = goes_told (ask.Complete x v) c k h
 follows_by c (ask.Read x) k s h = goes_told (ask.Read x) c k h
 follows_by c ask.Silent k s h = goes_told ask.Silent c k h
 
-event_as : (i : ℕ) (a : Ask) (r : Reply) (c : Fiber) (k : Kind) → event_in i a r (told c k) ≡ told_by i a r k
+event_as : (i : ℕ) (a : Ask) (r : Reply) (c : Fiber) (k : RowKind) → event_in i a r (told c k) ≡ told_by i a r k
 event_as i a r c Plain = refl
 event_as i a r c Waited = refl
 event_as i a r c Ceded = refl
@@ -210,7 +210,7 @@ event_as i a r c (Ended o) = refl
 event_is : (m : Moved) (g : Fiber) (a : Ask) (r : Reply) → a ≡ ask_of g → m ≡ moved g r → event_in g.number a r m ≡ event_of g r
 event_is m g a r is e = ap (event_in g.number a r) e ∙ event_as g.number a r _ (kind_of g r) ∙ ap (λ x. told_by g.number x r (kind_of g r)) is
 
-still_going : (a : Ask) (k : Kind) (w : Way) (i : ℕ) (r : Reply) → IsGoing w → KindFits a k → told_by i a r k ≡ None → IsGoing (way_after a w)
+still_going : (a : Ask) (k : RowKind) (w : Way) (i : ℕ) (r : Reply) → IsGoing w → KindFits a k → told_by i a r k ≡ None → IsGoing (way_after a w)
 still_going ask.Cut k w i r h f e = tt
 still_going (ask.Finish o) k w i r h f e = absurd (let q : Some (Ends o) ≡ None = sym (ap (told_by i (ask.Finish o) r) f) ∙ e in cc)
 still_going _ k w i r h f e = h
@@ -293,7 +293,7 @@ module _ (t : TaskView) (a : Ask) (q : PassView) (r : Reply) (i : IsTask t) (g :
     pub follows : (m : Moved) → m ≡ moved t.state r → Follows a m
     follows m e = subst (Follows a) (sym e) (follows_by _ a (kind_of t.state r) step kind_fits)
 
-    pub made : (new : Fiber) (m : Moved) (s : Step) → 0 < t.moves → new ≡ move t.state r → m ≡ moved t.state r →
+    pub made : (new : Fiber) (m : Moved) (s : MoveEnd) → 0 < t.moves → new ≡ move t.state r → m ≡ moved t.state r →
         event_at a s ≡ event_in t.state.number a r m → Tells a s → Made t a s (record { home = t.home; pass = q; state = new; moves = t.moves - 1 })
     made new m s some e tells noted can = record {
       reply = r;
@@ -354,7 +354,7 @@ module _ (t now : TaskView) (view : t ≡ now) (i : IsTask t) (a : Ask) (asks : 
       pub here_moved : (new : Fiber) (n : ℕ) → new ≡ move t.state r → IsTask record { home = t.home; pass = q; state = new; moves = n }
       here_moved = moved_task t a q r i going asked starts_none is lawful replied
 
-      pub here_made : (new : Fiber) (m : Moved) (s : Step) (n : ℕ) → 0 < now.moves → new ≡ move t.state r → m ≡ moved t.state r →
+      pub here_made : (new : Fiber) (m : Moved) (s : MoveEnd) (n : ℕ) → 0 < now.moves → new ≡ move t.state r → m ≡ moved t.state r →
           n ≡ t.state.number → event_at a s ≡ event_in n a r m → Tells a s → Made now a s (record { home = t.home; pass = q; state = new; moves = t.moves - 1 })
       here_made new m s n some e tells same noted can =
           subst (λ (x : TaskView). Made x a s (record { home = t.home; pass = q; state = new; moves = t.moves - 1 })) view

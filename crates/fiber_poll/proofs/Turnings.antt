@@ -9,15 +9,15 @@ use Rattle.cell_registry.specs.declared.limits.RunError.{RunError}
 use Rattle.cell_registry.specs.declared.limits.RunError.TheVariants as run
 use Rattle.fiber_poll.specs.declared.turn.Turn.{Turn}
 use Rattle.fiber_poll.specs.declared.turn.Turn.TheVariants as turn
-use Rattle.fiber_poll.specs.declared.step.Step.{Step}
-use Rattle.fiber_poll.specs.declared.step.Step.TheVariants as step
+use Rattle.fiber_poll.specs.declared.move_end.MoveEnd.{MoveEnd}
+use Rattle.fiber_poll.specs.declared.move_end.MoveEnd.TheVariants as move_end
 use Rattle.fiber_frames.specs.Leading.{Asked, IsGoing, way_after, way_of}
 use Rattle.fiber_poll.specs.Turns.{AreQuiet, Ends, Event, TellsLast, Waits_for, Wakes_fiber, Wakes_topic, Yields, event_of}
 use Rattle.fiber_poll.specs.Tasks.{IsTask, TaskView, Went}
 use Rattle.fiber_poll.specs.Stepping.{Failed}
 use Rattle.fiber_poll.specs.Turning.{Answered, Stopped, Turned}
 use Rattle.fiber_poll.specs.Private.Told.{Bears, IsAsked, IsLast, Made, ended_at, event_at, event_told, woken_at}
-use Rattle.fiber_poll.proofs.Going.{quiet-push, went_nowhere, went_on}
+use Rattle.fiber_poll.proofs.MovesAndCalls.{quiet-push, went_nowhere, went_on}
 use Rattle.fiber_poll.proofs.Outcomes.{broken_lost, outcome_going, outcome_over, outcome_way}
 
 -- ---- an ended fiber, and a broken one
@@ -57,7 +57,7 @@ pub record Loops (old : TaskView) (made : ℕ) (now : TaskView) : Type 0 where
 pub loop_begins : (t : TaskView) → IsGoing (way_of t.state.running) → Loops t 0 t
 loop_begins t g = record { replies = []; went = went_nowhere t; quiet = tt; many = refl; going = g }
 
-pub loop_goes : (old mid new : TaskView) (n : ℕ) (a : Ask) → Loops old n mid → Made mid a step.Plain new → Loops old (n + 1) new
+pub loop_goes : (old mid new : TaskView) (n : ℕ) (a : Ask) → Loops old n mid → Made mid a move_end.Plain new → Loops old (n + 1) new
 loop_goes old mid new n a l m = record {
   replies = l.replies ++ m.reply ∷ [];
   went = went_on old mid new l.replies (m.reply ∷ []) l.went m.went;
@@ -99,17 +99,17 @@ loop_fails old mid new n budget e l less some i f =
 
 -- ---- the last move of a turn
 -- a fiber ends by asking so
-ends_at : (a : Ask) (s : Step) (o : Outcome) → event_at a s ≡ Some (Ends o) → a ≡ ask.Finish o
-ends_at a step.Plain o e = absurd (cc)
-ends_at a step.Woke o e = absurd (woke a e)
+ends_at : (a : Ask) (s : MoveEnd) (o : Outcome) → event_at a s ≡ Some (Ends o) → a ≡ ask.Finish o
+ends_at a move_end.Plain o e = absurd (cc)
+ends_at a move_end.Woke o e = absurd (woke a e)
   where
     woke : (a : Ask) → woken_at a ≡ Some (Ends o) → ⊥
     woke (ask.Cancel f) e = cc
     woke (ask.Complete d v) e = cc
     woke _ e = cc
-ends_at a step.Waited o e = absurd (cc)
-ends_at a step.Ceded o e = absurd (cc)
-ends_at a step.Ended o e = ended a e
+ends_at a move_end.Waited o e = absurd (cc)
+ends_at a move_end.Ceded o e = absurd (cc)
+ends_at a move_end.Ended o e = ended a e
   where
     ended : (a : Ask) → ended_at a ≡ Some (Ends o) → a ≡ ask.Finish o
     ended (ask.Finish p) e = let same : p ≡ o = cc in ap ask.Finish same
@@ -140,7 +140,7 @@ module _ (old mid new : TaskView) (n budget : ℕ) (l : Loops old n mid) (less :
   answers r (turn.WakeTopic w) e last ends = tells_last r (turn.WakeTopic w) e (Wakes_topic w) refl
   answers r turn.OutOfMoves e last ends = absurd last
 
-  pub loop_tells : (a : Ask) (s : Step) (t : Turn) → Made mid a s new → event_told t ≡ event_at a s → IsLast t → Turned old budget t new
+  pub loop_tells : (a : Ask) (s : MoveEnd) (t : Turn) → Made mid a s new → event_told t ≡ event_at a s → IsLast t → Turned old budget t new
   loop_tells a s t m told last = record {
     replies = l.replies ++ m.reply ∷ [];
     went = went_on old mid new l.replies (m.reply ∷ []) l.went m.went;

@@ -6,7 +6,7 @@ use Rattle.effect_term.specs.declared.reply.Reply.TheVariants as reply
 use Rattle.effect_term.specs.declared.reply.CancelReply.TheVariants as canceled
 use Rattle.fiber_frames.specs.declared.ask.Ask.{Ask}
 use Rattle.fiber_frames.specs.declared.ask.Ask.TheVariants as ask
-use Rattle.fiber_frames.specs.Rows.{Kind, Plain, Waited, Ceded, Born, Ended}
+use Rattle.fiber_frames.specs.Rows.{RowKind, Plain, Waited, Ceded, Born, Ended}
 use Rattle.fiber_frames.specs.Fiber.{Fiber, ask_of, move, kind_of}
 use Rattle.fiber_frames.specs.Answers.{Answers}
 use Rattle.cell_registry.specs.declared.call.Entry.{Entry}
@@ -56,17 +56,49 @@ pub data Event : Type 0 where
 abbrev pub awaited : Ask → Topic
 awaited (ask.Join f) = topic.Fiber f
 awaited (ask.Read d) = topic.Deferred d
-awaited _ = topic.Never
+awaited ask.Look = topic.Never
+awaited ask.Cut = topic.Never
+awaited ask.Mask = topic.Never
+awaited ask.Unmask = topic.Never
+awaited (ask.Finish o) = topic.Never
+awaited (ask.Cancel f) = topic.Never
+awaited ask.Start = topic.Never
+awaited ask.NewRef = topic.Never
+awaited (ask.Get x) = topic.Never
+awaited (ask.Set x v) = topic.Never
+awaited (ask.Modify x v) = topic.Never
+awaited ask.NewDeferred = topic.Never
+awaited (ask.Complete d v) = topic.Never
+awaited ask.Silent = topic.Never
+awaited (ask.Over o) = topic.Never
+awaited ask.Broken = topic.Never
 
 -- whom a plain move of fiber i may wake: another fiber whose cancellation it was the first to request, or those
 -- that wait for the deferred that it completed
 abbrev pub woken : ℕ → Ask → Reply → Option Event
 woken i (ask.Cancel f) (reply.Cancel canceled.Asked) = cond (f == i) None (Some (Wakes_fiber f))
+woken i (ask.Cancel f) r = None
 woken i (ask.Complete d v) (reply.Completed true) = Some (Wakes_topic (topic.Deferred d))
-woken i _ r = None
+woken i (ask.Complete d v) r = None
+woken i ask.Look r = None
+woken i ask.Cut r = None
+woken i ask.Mask r = None
+woken i ask.Unmask r = None
+woken i (ask.Finish o) r = None
+woken i (ask.Join f) r = None
+woken i ask.Start r = None
+woken i ask.NewRef r = None
+woken i (ask.Get x) r = None
+woken i (ask.Set x v) r = None
+woken i (ask.Modify x v) r = None
+woken i ask.NewDeferred r = None
+woken i (ask.Read d) r = None
+woken i ask.Silent r = None
+woken i (ask.Over o) r = None
+woken i ask.Broken r = None
 
 -- the event of a move of fiber i, by its ask, its reply and its kind
-abbrev pub told_by : ℕ → Ask → Reply → Kind → Option Event
+abbrev pub told_by : ℕ → Ask → Reply → RowKind → Option Event
 told_by i a r Plain = woken i a r
 told_by i a r Waited = Some (Waits_for (awaited a))
 told_by i a r Ceded = Some Yields

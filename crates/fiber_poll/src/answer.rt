@@ -2,17 +2,18 @@
 ghost use Rattle.std.specs.Prelude.{◌≡◌, IfOk, IfErr};
 ghost use Rattle.cell_registry.specs.Passes.{IsOf, IsPass};
 ghost use Rattle.effect_term.specs.Outcomes.{OutcomeFits};
-ghost use Rattle.outcome_trace.specs.Core.{wish_of, fault_of};
+ghost use Rattle.outcome_trace.specs.Core.{wish_of};
 ghost use Rattle.outcome_trace.specs.Permits.{Makes, MayMake, RefusedBy};
 ghost use Rattle.fiber_poll.specs.Private.Making.{MayAnswer, Refuses, Replies};
 ghost use Rattle.fiber_poll.specs.Private.Told.{IsStep};
 
-use cell_registry::{Call, CellError, Outcome, Pass, Registry, Reply, RunError};
+use cell_registry::{Call, CellError, Outcome, Pass, Registry, Reply};
+use effect_term::facts_of;
 use fiber_frames::Ask;
 
-// The reply under which a fiber makes the move that asks so, and that starts nobody: the registry's,
-// or `Done` where the move needs no shared call. Or the registry's refusal. That a value is in range is known of
-// what is read of it.
+/// The reply under which a fiber makes the move that asks so, and that starts nobody: the registry's,
+/// or `Done` where the move needs no shared call. Or the registry's refusal. That a value is in range is known of
+/// what is read of it.
 #[inline(always)]
 pub(crate) fn answer(registry: &Registry, pass: &mut Pass, ask: &Ask) -> Result<Reply, CellError>
     requires own { IsOf registry.now pass.old }
@@ -24,7 +25,7 @@ pub(crate) fn answer(registry: &Registry, pass: &mut Pass, ask: &Ask) -> Result<
 {
     match ask {
         Ask::Silent => {
-            let _ = pass.number();
+            facts_of(pass.number());
             Ok(Reply::Done)
         }
         Ask::Look => Ok(Reply::Seen(registry.look(pass))),
@@ -46,17 +47,17 @@ pub(crate) fn answer(registry: &Registry, pass: &mut Pass, ask: &Ask) -> Result<
         Ask::NewRef => Ok(Reply::Number(registry.new_ref(pass)?)),
         Ask::Get(number) => Ok(Reply::Value(registry.get(pass, *number))),
         Ask::Set(number, value) => {
-            let _ = value.get();
+            facts_of(value.get());
             registry.set(pass, *number, *value);
             Ok(Reply::Done)
         }
         Ask::Modify(number, value) => {
-            let _ = value.get();
+            facts_of(value.get());
             Ok(Reply::Value(registry.modify(pass, *number, *value)))
         }
         Ask::NewDeferred => Ok(Reply::Number(registry.new_deferred(pass)?)),
         Ask::Complete(number, value) => {
-            let _ = value.get();
+            facts_of(value.get());
             Ok(Reply::Completed(registry.complete(pass, *number, *value)))
         }
         Ask::Read(number) => Ok(Reply::Read(registry.read(pass, *number))),
@@ -74,24 +75,14 @@ fn finish(registry: &Registry, pass: &mut Pass, outcome: &Outcome) -> Result<Rep
 {
     match outcome {
         Outcome::Succeeded(value) => {
-            let _ = value.get();
+            facts_of(value.get());
             registry.finish(pass, Outcome::Succeeded(*value))?
         }
         Outcome::Errored(code) => {
-            let _ = code.get();
+            facts_of(code.get());
             registry.finish(pass, Outcome::Errored(*code))?
         }
         Outcome::Canceled => registry.finish(pass, Outcome::Canceled)?,
     }
     Ok(Reply::Done)
-}
-
-// The fault of a run in which a call of this fiber was refused.
-pub(crate) fn fault(fiber: u16, error: CellError) -> RunError
-    ensures { result ≡ fault_of fiber error }
-{
-    match error {
-        CellError::Full(band, limit) => RunError::Full(band, limit),
-        CellError::Spent(_) => RunError::Spent(fiber),
-    }
 }

@@ -7,6 +7,7 @@ ghost use Rattle.fiber_poll.specs.Futures.{Comes, Polled};
 use crate::task::FiberTask;
 use crate::turn::Turn;
 use cell_registry::{Outcome, RunError};
+use effect_term::facts_of;
 use futures::Future;
 use futures::task::{Context, Poll};
 use std::mem::drop;
@@ -42,9 +43,9 @@ impl Future for FiberFuture<'_> {
         ensures registered { OnPending result (Covers cx.new (λ _. ⊥)) }
         ensures kept { Keeps cx.old cx.new }
     {
-        let _ = self.task.number();
+        facts_of(self.task.number());
         let turned = self.task.turn(self.budget);
-        let _ = self.task.number();
+        facts_of(self.task.number());
         match turned {
             Ok(turn) => match turn {
                 Turn::Ended(outcome) => Poll::Ready(Ok(Some(outcome))),

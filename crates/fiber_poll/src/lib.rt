@@ -14,9 +14,9 @@
 mod answer;
 mod call_log;
 mod future;
+mod move_end;
 mod opening;
 mod single;
-mod step;
 mod task;
 mod topic;
 mod turn;

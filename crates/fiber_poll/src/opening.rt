@@ -29,7 +29,7 @@ pub fn first<'a>(
     }) }
     ensures of { IfOk result (λ task. IsTaskOf registry.now code.now task) }
 {
-    let _core = code.core();
+    let _words = code.words();
     let config = Config::new(alloc, code)?;
     Ok(FiberTask::new(registry, pass, config, moves))
 }

@@ -18,13 +18,13 @@ use std::alloc::AllocGlobal;
 use std::random::RandomSource;
 use std::sync::Wait;
 
-/// The most fibers, refs and deferreds that a registry is for.
+// The most fibers, refs and deferreds that a registry is for.
 const NUMBERS: u16 = 1000;
 
-/// The most changes of its cell that a fiber may make.
+// The most changes of its cell that a fiber may make.
 const COUNT: u64 = 1_099_511_627_775;
 
-/// The moves that a poll makes at most.
+// The moves that a poll makes at most.
 const BUDGET: u32 = 64;
 
 /// Runs a program in which no word starts a fiber ([`Program::starts`]) for at most so many moves, at

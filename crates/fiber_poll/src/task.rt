@@ -1,8 +1,8 @@
 //! A fiber that anybody can move.
-ghost use Rattle.std.specs.Prelude.{◌≡◌, ◌≢◌, ◌<◌, IfOk, IfErr, Ok as GoesWell, Err as Fails};
+ghost use Rattle.std.specs.Prelude.{◌≡◌, ◌≢◌, ◌<◌, [], true, IfOk, IfErr, Ok as GoesWell, Err as Fails};
 ghost use Rattle.cell_registry.specs.Passes.{IsOf, RegistryView};
 ghost use Rattle.derived_ops.specs.Tree.{Tree};
-ghost use Rattle.fiber_frames.specs.Fiber.{ask_of, outcome_of};
+ghost use Rattle.fiber_frames.specs.Fiber.{active_of, ask_of, outcome_of};
 ghost use Rattle.fiber_frames.specs.Leading.{IsGoing, way_of};
 ghost use Rattle.fiber_frames.specs.Marks.{AreLawful};
 ghost use Rattle.outcome_trace.specs.Fitting.{Fits, pass_registered};
@@ -10,13 +10,14 @@ ghost use Rattle.fiber_poll.specs.Turning.{StaysOf, Stopped, Turned};
 ghost use Rattle.fiber_poll.specs.Stepping.{Failed};
 ghost use Rattle.fiber_poll.specs.Private.Told.{Bears, IsAsked, Made};
 
-use crate::answer::{answer, fault};
+use crate::answer::answer;
 use crate::call_log::{CallLog, NoLog};
-use crate::step::{Step, step_of, told, wakes};
+use crate::move_end::{MoveEnd, move_end_of, told, wakes};
 use crate::turn::Turn;
 use cell_registry::{Outcome, Pass, Registry, RunError};
-use effect_term::Reply;
+use effect_term::{Reply, facts_of};
 use fiber_frames::{Ask, Config, Mark, Moved};
+use outcome_trace::{fault, outcome};
 use std::marker::Model;
 
 /// A fiber that anybody can move: its pass at a registry, its own state, and the moves that it may
@@ -60,7 +61,7 @@ impl<'a> FiberTask<'a> {
         requires fits { Fits (pass_registered pass) config }
         ensures { result ≡ record { home = registry.now; pass = pass; state = config; moves = moves } }
     {
-        let _ = pass.number();
+        facts_of(pass.number());
         FiberTask {
             registry,
             pass,
@@ -90,14 +91,10 @@ impl<'a> FiberTask<'a> {
     }
 
     /// How the fiber has ended, or none where it hasn't.
-    #[tactic(auto, using(crate::proofs::Outcomes::outcome_over, crate::proofs::Outcomes::outcome_none))]
     pub fn outcome(&self) -> Option<Outcome>
         ensures { result ≡ outcome_of self.now.state }
     {
-        match self.config.ask() {
-            Ask::Over(outcome) => Some(outcome),
-            _ => None,
-        }
+        outcome(&self.config)
     }
 
     /// How many moves the task may still make.
@@ -107,8 +104,11 @@ impl<'a> FiberTask<'a> {
         self.moves
     }
 
-    /// Whether a mask is active: the fiber doesn't look for a request before its next move.
-    pub fn is_masked(&self) -> bool {
+    /// Whether a mask is active, so that the fiber doesn't look for a request before its next move. One that has run
+    /// all its finalizers may answer `false`.
+    pub fn is_masked(&self) -> bool
+        ensures { result ≡ true → active_of self.now.state ≢ [] }
+    {
         self.config.is_masked()
     }
 
@@ -186,17 +186,17 @@ impl<'a> FiberTask<'a> {
             }
             match self.config.ask() {
                 Ask::Silent => match self.step(&Ask::Silent, log)? {
-                    Step::Plain => {}
-                    step => return Ok(told(Ask::Silent, step)),
+                    MoveEnd::Plain => {}
+                    end => return Ok(told(Ask::Silent, end)),
                 },
                 Ask::Look => match self.step(&Ask::Look, log)? {
-                    Step::Plain => {}
-                    step => return Ok(told(Ask::Look, step)),
+                    MoveEnd::Plain => {}
+                    end => return Ok(told(Ask::Look, end)),
                 },
                 Ask::Start => return Ok(Turn::Started(self.start(log)?)),
                 ask => match self.step(&ask, log)? {
-                    Step::Plain => {}
-                    step => return Ok(told(ask, step)),
+                    MoveEnd::Plain => {}
+                    end => return Ok(told(ask, end)),
                 },
             }
         }
@@ -205,14 +205,14 @@ impl<'a> FiberTask<'a> {
 
     // A move that asks so, and that starts nobody.
     #[inline(always)]
-    fn step<L: CallLog>(&mut self, ask: &Ask, log: &mut L) -> Result<Step, RunError>
+    fn step<L: CallLog>(&mut self, ask: &Ask, log: &mut L) -> Result<MoveEnd, RunError>
         requires ask { ask.now ≡ ask_of self.old.state }
         requires asked { IsAsked self.old.state ask.now }
         requires going { IsGoing (way_of self.old.state.running) }
         requires other { ask.now ≢ Ask.Start }
         requires left { 0 < self.old.moves }
         ensures lawful { IsTask self.old }
-        ensures made { IfOk result (λ step. Made self.old ask.now step self.new) }
+        ensures made { IfOk result (λ end. Made self.old ask.now end self.new) }
         ensures failed { IfErr result (λ error. Failed self.old error self.new) }
     {
         let number = self.config.number();
@@ -228,7 +228,7 @@ impl<'a> FiberTask<'a> {
         match &resumed {
             Ok(moved) => {
                 self.moves -= 1;
-                Ok(step_of(ask, woke, moved))
+                Ok(move_end_of(ask, woke, moved))
             }
             Err(_) => Err(RunError::NoMemory),
         }
@@ -243,7 +243,7 @@ impl<'a> FiberTask<'a> {
         ensures failed { IfErr result (λ error. Failed self.old error self.new) }
     {
         let number = self.config.number();
-        let _ = self.config.ask();
+        facts_of(self.config.ask());
         let child = match self.registry.start(&mut self.pass) {
             Ok(child) => child,
             Err(error) => return Err(fault(number, error)),

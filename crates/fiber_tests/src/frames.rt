@@ -46,8 +46,8 @@ fn reply(fiber: u16, ask: &Ask, requested: bool) -> Option<Reply>
     }
 }
 
-/// The asks of a fiber until it is over, its marks, how its last move told that it ended, and the
-/// child that it started last.
+// The asks of a fiber until it is over, its marks, how its last move told that it ended, and the
+// child that it started last.
 #[derive(Drop)]
 struct Run {
     asks: Vec<Ask>,
@@ -390,7 +390,7 @@ fn moved(config: &mut Config, marks: &[Mark]) -> Result<(), bool>
     }
 }
 
-/// Holds whichever allocation is refused: the fiber then is broken, and its marks are as they were.
+// Holds whichever allocation is refused: the fiber then is broken, and its marks are as they were.
 #[test]
 fn a_move_is_made_or_the_fiber_breaks(rt: HostRuntime) {
     let Some(mut config) = begun(rt.alloc(), b"(uncancelable p (say 1))") else {
@@ -428,7 +428,7 @@ fn leaves_its_copy(alloc: Global, config: &mut Config) -> Result<bool, AllocErro
 const EACH_MOVE: &[u8] =
     b"(ref r 2 (let x (get r) (uncancelable p (start f (say x) (seq (poll p (oncancel (say 1) (say 2))) (handle (raise 3) e (say e)) (repeat 2 (cede)) (join f y (say y) e (pure 0) (pure 0)))))))";
 
-/// Holds whichever allocation is refused.
+// Holds whichever allocation is refused.
 #[test]
 fn copies_are_one_with_their_fiber_until_it_moves(rt: HostRuntime) {
     let Some(mut config) = begun(rt.alloc(), EACH_MOVE) else {

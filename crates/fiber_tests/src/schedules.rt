@@ -59,7 +59,7 @@ fn is_told(told: &Result<String, RunError>, want: &Result<&str, RunError>) -> bo
     }
 }
 
-/// A program, a schedule, the count, and the report or the fault.
+// A program, a schedule, the count, and the report or the fault.
 type Row = (
     &'static [u8],
     &'static str,
@@ -161,7 +161,7 @@ fn is_one_report(alloc: Global, program: &Program, one: &str, other: &str) -> Re
     }
 }
 
-/// A program, two schedules, and whether they lead to one report.
+// A program, two schedules, and whether they lead to one report.
 const REPORTS: &[(&[u8], &str, &str, bool)] = &[
     // A look tells nothing.
     (b"(say 1)", "", "0", true),

@@ -14,7 +14,7 @@ use std::io::{ErrorKind, Read, Write};
 use std::test::Fail;
 use term_parse::ParseError;
 
-/// Gives one byte for a read, and fails or is interrupted at one read.
+// Gives one byte for a read, and fails or is interrupted at one read.
 #[derive(Drop)]
 struct Drops<'a> {
     left: &'a [u8],
@@ -41,7 +41,7 @@ impl Read for Drops<'_> {
     }
 }
 
-/// Is interrupted at each read.
+// Is interrupted at each read.
 #[derive(Drop)]
 struct Restless;
 
@@ -51,7 +51,7 @@ impl Read for Restless {
     }
 }
 
-/// Takes one byte for a write, and then fails, or takes nothing.
+// Takes one byte for a write, and then fails, or takes nothing.
 #[derive(Drop)]
 struct Narrow {
     taken: Vec<u8>,
@@ -305,7 +305,7 @@ fn push_fibers(fibers: &mut Vec<FiberReport>, alloc: Global) -> Result<(), Alloc
     Ok(())
 }
 
-/// A fiber that made each kind of mark, and fibers with none that ended in each way.
+// A fiber that made each kind of mark, and fibers with none that ended in each way.
 fn some_report(alloc: Global) -> Result<Report, AllocError> {
     let mut fibers = Vec::new(alloc);
     push_fibers(&mut fibers, alloc)?;
@@ -349,7 +349,7 @@ fn prints_reports(rt: HostRuntime) -> Result<(), Fail> {
     Ok(())
 }
 
-/// Counts what it takes, and needs no memory.
+// Counts what it takes, and needs no memory.
 #[derive(Drop)]
 struct Counts {
     taken: usize,
@@ -374,7 +374,7 @@ fn print_and_count(alloc: Global) -> Result<(Result<(), TextFault>, usize), Allo
     Ok((printed, counts.taken))
 }
 
-/// Holds whichever request for memory is refused: then nothing goes out.
+// Holds whichever request for memory is refused: then nothing goes out.
 #[test]
 fn a_report_is_printed_or_memory_ran_out(rt: HostRuntime) {
     match print_and_count(rt.alloc()) {
@@ -384,7 +384,7 @@ fn a_report_is_printed_or_memory_ran_out(rt: HostRuntime) {
     }
 }
 
-/// Holds whichever request for memory is refused.
+// Holds whichever request for memory is refused.
 #[test]
 fn a_line_is_told_or_memory_ran_out(rt: HostRuntime) {
     let refused = Refused::Run(RunError::Full(Band::Deferreds, 1000));
@@ -396,7 +396,7 @@ fn a_line_is_told_or_memory_ran_out(rt: HostRuntime) {
     }
 }
 
-/// A text, what `show` answers to it, and the status.
+// A text, what `show` answers to it, and the status.
 const SHOWN: [(&str, &str, Status); 2] = [
     (
         "(guarantee (say 1) (say 2))",
@@ -429,7 +429,7 @@ fn shows_the_code_of_a_program(rt: HostRuntime) {
     }
 }
 
-/// Holds whichever request for memory is refused: then nothing goes out.
+// Holds whichever request for memory is refused: then nothing goes out.
 #[test]
 fn a_code_is_shown_or_memory_ran_out(rt: HostRuntime) {
     for (text, want, status) in SHOWN {

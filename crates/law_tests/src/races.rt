@@ -69,7 +69,7 @@ fn laws_of_races_hold(rt: HostRuntime) -> Result<(), Fail> {
     Ok(())
 }
 
-/// Races in an uncancelable region, and pairs.
+// Races in an uncancelable region, and pairs.
 const PAIRS: &[Law<'static>] = &[
     Law {
         law: "uncancelable race displaces canceled",

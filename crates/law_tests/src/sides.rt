@@ -38,7 +38,7 @@ pub const UNCANCELED: &[&str] = &[ALONE, JOINED];
 /// Laws of terms that start several fibers, by themselves.
 pub const BY_ITSELF: &[&str] = &[ALONE];
 
-/// Limits that small programs keep.
+// Limits that small programs keep.
 fn limits() -> Limits
     ensures { AreLimits result }
 {

@@ -10,7 +10,7 @@ use Rattle.effect_term.specs.declared.reply.Reply.{Reply}
 use Rattle.effect_term.specs.declared.reply.Reply.TheVariants as reply
 use Rattle.fiber_frames.specs.declared.ask.Ask.{Ask}
 use Rattle.fiber_frames.specs.declared.ask.Ask.TheVariants as ask
-use Rattle.fiber_frames.specs.Rows.{Kind, Plain, Waited, Ceded, Born, Ended, number_in}
+use Rattle.fiber_frames.specs.Rows.{RowKind, Plain, Waited, Ceded, Born, Ended, number_in}
 use Rattle.fiber_frames.specs.Fiber.{Fiber, ask_of, begins, child, kind_of, move}
 use Rattle.fiber_frames.specs.Moves.{moved, told}
 use Rattle.fiber_frames.specs.Answers.{Answers}
@@ -59,21 +59,21 @@ few_masks p f g lawful fits =
     omega arith
 
 -- ---- the child of a move
-no_child : (x : Fiber) (k : Kind) → GoesOn k → children (told x k) ≡ []
+no_child : (x : Fiber) (k : RowKind) → GoesOn k → children (told x k) ≡ []
 no_child x Plain h = refl
 no_child x Waited h = refl
 no_child x Ceded h = refl
 no_child x (Born t) h = absurd h
 no_child x (Ended o) h = absurd h
 
-one_child : (x : Fiber) (k : Kind) → IsBirth k → children (told x k) ≡ x ∷ []
+one_child : (x : Fiber) (k : RowKind) → IsBirth k → children (told x k) ≡ x ∷ []
 one_child x (Born t) h = refl
 one_child x Plain h = absurd h
 one_child x Waited h = absurd h
 one_child x Ceded h = absurd h
 one_child x (Ended o) h = absurd h
 
-shared_children : (g : Fiber) (r : Reply) (a : Ask) (k : Kind) → KindFits a k →
+shared_children : (g : Fiber) (r : Reply) (a : Ask) (k : RowKind) → KindFits a k →
     If_shared (wish_of a) (λ c. children (told (child g (number_in r)) k) ≡ born g c r)
 shared_children g r ask.Start k h = one_child _ k h
 shared_children g r (ask.Finish o) k h = ap (λ x. children (told (child g (number_in r)) x)) h
@@ -82,7 +82,7 @@ shared_children g r (ask.Over o) k h = tt
 shared_children g r ask.Broken k h = tt
 shared_children g r _ k h = no_child _ k h
 
-alone_children : (x : Fiber) (a : Ask) (k : Kind) → wish_of a ≡ Alone → KindFits a k → children (told x k) ≡ []
+alone_children : (x : Fiber) (a : Ask) (k : RowKind) → wish_of a ≡ Alone → KindFits a k → children (told x k) ≡ []
 alone_children x ask.Start k e h = absurd (cc)
 alone_children x (ask.Finish o) k e h = absurd (cc)
 alone_children x _ k e h = no_child x k h

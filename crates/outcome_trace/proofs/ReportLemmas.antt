@@ -3,7 +3,8 @@ use Rattle.std.proofs.Common.{◌≡◌, ℕ, ◌-◌, List, [], ◌∷◌, ◌+
 use Rattle.std.proofs.Common.{refl, sym, ap, ◌∙◌, arith, append_assoc}
 use Rattle.std.specs.Str.{IsAscii}
 use Rattle.std.proofs.lemmas.List.{length-drop, take_all}
-use Rattle.std.proofs.lemmas.Str.Ascii.{IsAscii-cons}
+use Rattle.std.proofs.lemmas.Str.{IsAscii-append}
+use Rattle.std.proofs.lemmas.Str.Ascii.{IsAscii-cons, IsAscii-nil}
 use Rattle.fiber_frames.specs.declared.mark.Mark.{Mark}
 use Rattle.outcome_trace.specs.ReportText.{mark_text, later_marks_text}
 
@@ -17,6 +18,15 @@ later_marks_text-append (m ∷ xs) ys =
 pub first_mark-ascii : (m : Mark) → IsAscii (mark_text m) → IsAscii (codes ": " ++ mark_text m)
 first_mark-ascii m h =
     IsAscii-cons 58 (32 ∷ mark_text m) (omega arith) (IsAscii-cons 32 (mark_text m) (omega arith) h)
+
+pub head-ascii : (number outcome behind : List ℕ) → IsAscii number → IsAscii outcome → IsAscii behind →
+    IsAscii (codes "fiber " ++ (number ++ (codes " " ++ (outcome ++ behind))))
+head-ascii number outcome behind n o b =
+    IsAscii-append (codes "fiber ") (number ++ (codes " " ++ (outcome ++ behind))) (IsAscii-append (codes "fibe") (codes "r ")
+    (IsAscii-cons 102 (codes "ibe") (omega arith) (IsAscii-cons 105 (codes "be") (omega arith) (IsAscii-cons 98 (codes "e") (omega arith)
+    (IsAscii-cons 101 [] (omega arith) IsAscii-nil))))
+    (IsAscii-cons 114 (codes " ") (omega arith) (IsAscii-cons 32 [] (omega arith) IsAscii-nil)))
+    (IsAscii-append number (codes " " ++ (outcome ++ behind)) n (IsAscii-cons 32 (outcome ++ behind) (omega arith) (IsAscii-append outcome behind o b)))
 
 pub take-to_end : (n start : ℕ) (xs : List ℕ) → length xs ≡ n →
     take (n - start) (drop start xs) ≡ drop start xs

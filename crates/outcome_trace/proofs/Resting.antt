@@ -7,7 +7,7 @@ use Rattle.fiber_frames.specs.declared.ask.Ask.TheVariants as ask
 use Rattle.fiber_frames.specs.declared.ask.Look.TheVariants.{Due}
 use Rattle.derived_ops.specs.Tree.{Action, Never, Ending, Await, Operand, Pure, Raise, Act, Let, Seq, Handled, Guarded}
 use Rattle.derived_ops.specs.Tree.{Masked, Polled, Join, Mask, Tree, Make, New_ref, New_deferred}
-use Rattle.fiber_frames.specs.Path.{Running, Runs, Final, Over, Broken, Step, In_let, In_seq, In_handle, In_guarded}
+use Rattle.fiber_frames.specs.Path.{Running, Runs, Final, Over, Broken, PathStep, In_let, In_seq, In_handle, In_guarded}
 use Rattle.fiber_frames.specs.Path.{In_masked, In_polled, Root, At_term, At_final, active, leaf, path, rooted, whole}
 use Rattle.fiber_frames.specs.Path.{focus}
 use Rattle.fiber_frames.specs.Rows.{Waited, Row, wait, outcome_in, read_in, after_end, after_read, branch, action_row}
@@ -42,7 +42,7 @@ module _ (i n : ℕ) (r : Reply) where
   word_stays up (Make New_deferred x k) e = absurd (cc)
   word_stays up _ e = absurd (cc)
 
-  value_goes : (b : Root) (v : Operand) (p : List Step) → (value_row i n b v p).kind ≡ Waited → ⊥
+  value_goes : (b : Root) (v : Operand) (p : List PathStep) → (value_row i n b v p).kind ≡ Waited → ⊥
   value_goes At_term v [] e = cc
   value_goes (At_final m gs) v [] e = cc
   value_goes b v (In_let x k ∷ p) e = cc
@@ -52,7 +52,7 @@ module _ (i n : ℕ) (r : Reply) where
   value_goes b v (In_masked m ∷ p) e = cc
   value_goes b v (In_polled q ∷ p) e = cc
 
-  error_goes : (b : Root) (v : Operand) (p : List Step) → (error_row i n b v p).kind ≡ Waited → ⊥
+  error_goes : (b : Root) (v : Operand) (p : List PathStep) → (error_row i n b v p).kind ≡ Waited → ⊥
   error_goes At_term v [] e = cc
   error_goes (At_final m gs) v [] e = cc
   error_goes b v (In_let x k ∷ p) e = cc
@@ -62,16 +62,16 @@ module _ (i n : ℕ) (r : Reply) where
   error_goes b v (In_masked m ∷ p) e = cc
   error_goes b v (In_polled q ∷ p) e = cc
 
-  placed_stays : (b : Root) (p : List Step) (t : Tree) (w : Row Tree) → Stays n t w → Stays n (rooted b (whole p t)) (placed i n b p w)
+  placed_stays : (b : Root) (p : List PathStep) (t : Tree) (w : Row Tree) → Stays n t w → Stays n (rooted b (whole p t)) (placed i n b p w)
   placed_stays b p t w s = record { becomes = ap (λ x. rooted b (whole p x)) s.becomes; marks = s.marks; next = s.next }
 
-  row_stays : (b : Root) (p : List Step) (t : Tree) → (row i n r b p t).kind ≡ Waited → Stays n (rooted b (whole p t)) (row i n r b p t)
+  row_stays : (b : Root) (p : List PathStep) (t : Tree) → (row i n r b p t).kind ≡ Waited → Stays n (rooted b (whole p t)) (row i n r b p t)
   row_stays b p (Pure v) e = absurd (value_goes b v p e)
   row_stays b p (Raise c) e = absurd (error_goes b c p e)
   row_stays b p t e = placed_stays b p t (word_row i n r (active i b p) t) (word_stays (active i b p) t e)
 
 -- a term is its leaf at the end of its path
-whole_leaf : (t : Tree) (p : List Step) → whole (path t p) (leaf t) ≡ whole p t
+whole_leaf : (t : Tree) (p : List PathStep) → whole (path t p) (leaf t) ≡ whole p t
 whole_leaf (Let e x k) p = whole_leaf e (In_let x k ∷ p)
 whole_leaf (Seq w e k) p = whole_leaf e (In_seq w k ∷ p)
 whole_leaf (Handled e x h) p = whole_leaf e (In_handle x h ∷ p)
@@ -120,7 +120,7 @@ module _ (i n m : ℕ) (r s : Reply) where
   word_waits up (Make New_deferred x k) e = absurd (cc)
   word_waits up _ e = absurd (cc)
 
-  row_waits : (b : Root) (p : List Step) (t : Tree) → (row i n r b p t).kind ≡ Waited → IsWait (row i m s b p t).call
+  row_waits : (b : Root) (p : List PathStep) (t : Tree) → (row i n r b p t).kind ≡ Waited → IsWait (row i m s b p t).call
   row_waits b p (Pure v) e = absurd (value_goes i n r b v p e)
   row_waits b p (Raise c) e = absurd (error_goes i n r b c p e)
   row_waits b p t e = word_waits (active i b p) t e

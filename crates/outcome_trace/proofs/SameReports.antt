@@ -51,6 +51,9 @@ fibers_same a b os ms = ap₂ told os ms
 pub marks_same : (a b xs ys : List Mark) (r : Bool) → xs ≡ a → ys ≡ b → r ≡ pointwise derived.eq-value.it xs ys → r ≡ true → a ≡ b
 marks_same a b xs ys r ex ey is same = sym ex ∙ (marks_decide xs ys r is).0 same ∙ ey
 
+pub marks_other : (a b xs ys : List Mark) (r : Bool) → xs ≡ a → ys ≡ b → r ≡ pointwise derived.eq-value.it xs ys → r ≡ false → a ≢ b
+marks_other a b xs ys r ex ey is other = λ same. not_from_Decides r (marks_decide xs ys r is) other (ex ∙ same ∙ sym ey)
+
 -- two lists differ where what is told of two elements at one index does
 pub maps_apart : {A B : Type 0} (f : A → B) (xs ys : List A) (i : ℕ) (x y : A) → i < length xs → i < length ys → x ≡ get_or xs i x →
     y ≡ get_or ys i y → f x ≢ f y → map f xs ≢ map f ys
@@ -62,3 +65,8 @@ maps_apart f (v ∷ xs) (w ∷ ys) zero x y h l ex ey apart = λ same.
 maps_apart f (v ∷ xs) (w ∷ ys) (suc i) x y h l ex ey apart = λ same.
     let tails : map f xs ≡ map f ys = cc in
     maps_apart f xs ys i x y (omega arith) (omega arith) ex ey apart tails
+
+-- two lists differ where two elements at one index do
+pub lists_apart : {A : Type 0} (xs ys : List A) (i : ℕ) (x y : A) → i < length xs → i < length ys → x ≡ get_or xs i x → y ≡ get_or ys i y →
+    x ≢ y → xs ≢ ys
+lists_apart xs ys i x y h l ex ey apart = λ same. maps_apart (λ v. v) xs ys i x y h l ex ey apart (ap (map (λ v. v)) same)

@@ -1,11 +1,12 @@
 -- What the code asks of a fiber tells whether it rests.
-use Rattle.std.proofs.Common.{◌≡◌, ◌≢◌, ◌⊎◌, inl, inr, ℕ, zero, suc, ◌+◌, ◌<◌, length, Bool, true, false, List, [], ◌∷◌}
+use Rattle.std.proofs.Common.{◌≡◌, ◌≢◌, ◌⊎◌, inl, inr, ℕ, zero, suc, ◌+◌, ◌<◌, length, Bool, true, false, List, [], ◌∷◌, Err}
 use Rattle.std.proofs.Common.{◌++◌, Result, Ok, Option, Some, None, if◌then◌else◌, refl, sym, ap, ◌∙◌, subst, arith}
 use Rattle.std.specs.Prelude.{IfNone, is_none, not}
 use Rattle.std.specs.Option.{is_some}
 use Rattle.std.specs.List.{fold, slice_get}
 use Rattle.cell_registry.specs.declared.limits.Limits.{Limits}
 use Rattle.cell_registry.specs.declared.limits.RunError.{RunError}
+use Rattle.cell_registry.specs.declared.limits.RunError.TheVariants.{NoMemory}
 use Rattle.std.proofs.lemmas.Option.{same_Some}
 use mathlib.Core.Logic.{dite}
 use native.Mathlib.Decide.{ℕ_discrete}
@@ -19,7 +20,7 @@ use Rattle.fiber_frames.specs.declared.ask.Ask.TheVariants as ask
 use Rattle.fiber_frames.specs.declared.ask.Look.{Look}
 use Rattle.fiber_frames.specs.declared.ask.Look.TheVariants.{Clear, Due, Seen}
 use Rattle.fiber_frames.specs.declared.mark.Mark.{Mark}
-use Rattle.fiber_frames.specs.Path.{Running, Runs, Final, Over, Broken, Step, In_let, In_seq, In_handle, In_guarded}
+use Rattle.fiber_frames.specs.Path.{Running, Runs, Final, Over, Broken, PathStep, In_let, In_seq, In_handle, In_guarded}
 use Rattle.fiber_frames.specs.Path.{In_masked, In_polled, Root, At_term, At_final, active, leaf, path, focus}
 use Rattle.fiber_frames.specs.Path.{is_effective}
 use Rattle.fiber_frames.specs.Rows.{Waited, wait, outcome_in, read_in, action_row, word_row, value_row, error_row, row, row_at}
@@ -31,7 +32,7 @@ use Rattle.cell_registry.specs.declared.cell.Stage.TheVariants as at
 use Rattle.cell_registry.specs.Cells.{Cells, cell_of, deferred_of, join_reply, reply_of}
 use Rattle.cell_registry.specs.Words.{has_ended}
 use Rattle.outcome_trace.specs.Core.{World, entered, wish_of}
-use Rattle.outcome_trace.specs.Finals.{GoesOn, HasEnded, IsAtRest, IsUnasked, reply_to, word_wish}
+use Rattle.outcome_trace.specs.Finals.{GoesOn, HasEnded, IsAtRest, IsUnasked, StopsAt, reply_to, word_wish}
 use Rattle.outcome_trace.specs.Fitting.{Fits, LookFits, cell_registered}
 use Rattle.outcome_trace.proofs.Finality.{fold_parts, knowing}
 
@@ -59,7 +60,7 @@ module _ (i n m : ℕ) (r s : Reply) where
   word_kind up (Poll q e) h = absurd ((switch_served (is_effective q up) r).0 h)
   word_kind up _ h = absurd h
 
-  value_served : (b : Root) (v : Operand) (p : List Step) → IsUnserved (value_row i m b v p).call r → ⊥
+  value_served : (b : Root) (v : Operand) (p : List PathStep) → IsUnserved (value_row i m b v p).call r → ⊥
   value_served At_term v [] h = h
   value_served (At_final k gs) v [] h = h
   value_served b v (In_let x k ∷ p) h = h
@@ -69,7 +70,7 @@ module _ (i n m : ℕ) (r s : Reply) where
   value_served b v (In_masked k ∷ p) h = h
   value_served b v (In_polled q ∷ p) h = (switch_served (is_effective q (active i b p)) r).1 h
 
-  error_served : (b : Root) (v : Operand) (p : List Step) → IsUnserved (error_row i m b v p).call r → ⊥
+  error_served : (b : Root) (v : Operand) (p : List PathStep) → IsUnserved (error_row i m b v p).call r → ⊥
   error_served At_term v [] h = h
   error_served (At_final k gs) v [] h = h
   error_served b v (In_let x k ∷ p) h = h
@@ -79,7 +80,7 @@ module _ (i n m : ℕ) (r s : Reply) where
   error_served b v (In_masked k ∷ p) h = h
   error_served b v (In_polled q ∷ p) h = (switch_served (is_effective q (active i b p)) r).1 h
 
-  row_kind : (b : Root) (p : List Step) (t : Tree) → IsUnserved (row i m s b p t).call r → (row i n r b p t).kind ≡ Waited
+  row_kind : (b : Root) (p : List PathStep) (t : Tree) → IsUnserved (row i m s b p t).call r → (row i n r b p t).kind ≡ Waited
   row_kind b p (Pure v) h = absurd (value_served b v p h)
   row_kind b p (Raise c) h = absurd (error_served b c p h)
   row_kind b p t h = word_kind (active i b p) t h
@@ -197,3 +198,16 @@ more_on k l w v x g same h = record {
   leads = fold_parts k (Ok w) g.entries h.entries ∙ ap (λ (y : Result World RunError). fold (entered k) y h.entries) g.leads ∙
       subst (λ (m : Limits). fold (entered m) (Ok v) h.entries ≡ Ok x) same h.leads;
 }
+
+pub stops_on : (k l : Limits) (w v : World) (f : ℕ) (e : RunError) → GoesOn k w v → l ≡ k → entered l (Ok v) f ≡ Err e → StopsAt k w e
+stops_on k l w v f e g same h = record {
+  entries = g.entries ++ f ∷ [];
+  stops = fold_parts k (Ok w) g.entries (f ∷ []) ∙ ap (λ (y : Result World RunError). entered k y f) g.leads ∙
+      subst (λ (m : Limits). entered m (Ok v) f ≡ Err e) same h;
+}
+
+-- want of memory, or such a stop, behind entries that went well
+pub memory_or_stops : (k l : Limits) (w v : World) (f : ℕ) (e : RunError) → GoesOn k w v → l ≡ k →
+    (e ≡ NoMemory) ⊎ (entered l (Ok v) f ≡ Err e) → (e ≡ NoMemory) ⊎ StopsAt k w e
+memory_or_stops k l w v f e g same (inl memory) = inl memory
+memory_or_stops k l w v f e g same (inr stops) = inr (stops_on k l w v f e g same stops)

@@ -2,5 +2,5 @@ pub mod Led
 pub mod Lists
 pub mod Histories
 pub mod Places
-pub mod Moving
+pub mod AfterATurn
 pub mod Schedules

@@ -1,5 +1,5 @@
 -- When a world is final: whatever entries follow, its report stays.
-use Rattle.std.specs.Prelude.{◌≡◌, ◌≢◌, ◌⊎◌, ℕ, List, [], ◌∷◌, Bool, false, get_or, None, Ok, Some}
+use Rattle.std.specs.Prelude.{◌≡◌, ◌≢◌, ◌⊎◌, ℕ, List, [], ◌∷◌, Bool, false, get_or, None, Ok, Err, Some}
 use Rattle.std.specs.List.{fold, slice_get}
 use Rattle.effect_term.specs.declared.reply.Outcome.{Outcome}
 use Rattle.effect_term.specs.declared.reply.Reply.{Reply}
@@ -10,6 +10,7 @@ use Rattle.fiber_frames.specs.declared.ask.Look.TheVariants.{Seen}
 use Rattle.fiber_frames.specs.Rows.{Waited}
 use Rattle.fiber_frames.specs.Fiber.{Fiber, active_of, outcome_of, row_of}
 use Rattle.cell_registry.specs.declared.limits.Limits.{Limits}
+use Rattle.cell_registry.specs.declared.limits.RunError.{RunError}
 use Rattle.cell_registry.specs.Cells.{Cells, cell_of, reply_of}
 use Rattle.outcome_trace.specs.declared.report.Report.{Report}
 use Rattle.outcome_trace.specs.declared.wish.Wish.{Wish}
@@ -68,6 +69,11 @@ pub record IsSettledReport (code : Tree) (k : Limits) (report : Report) : Type 0
 pub record GoesOn (k : Limits) (w v : World) : Type 0 where
   pub entries : List ℕ
   pub leads : fold (entered k) (Ok w) entries ≡ Ok v
+
+-- entries lead from the world to this fault
+pub record StopsAt (k : Limits) (w : World) (e : RunError) : Type 0 where
+  pub entries : List ℕ
+  pub stops : fold (entered k) (Ok w) entries ≡ Err e
 
 -- the fiber f of these hasn't ended, and may make no more moves, where these tell how many are left to each
 pub record IsStopped (fibers : List Fiber) (rests : List ℕ) (f : ℕ) : Type 0 where

@@ -13,7 +13,7 @@ use itoa::write_digits;
 
 // These words.
 #[inline(always)]
-fn put(room: &mut [u8], end: usize, words: &[u8]) -> usize
+pub(crate) fn put(room: &mut [u8], end: usize, words: &[u8]) -> usize
     requires start { length words.now ≤ end }
     requires end { end ≤ length room.old }
     ensures text { drop result room.new ≡ words.now ++ drop end room.old }
@@ -58,7 +58,7 @@ fn put_digits(room: &mut [u8], end: usize, number: u64) -> usize
     write_digits(number, room, end)
 }
 
-// What stands before, and then these words.
+/// What stands before, and then these words.
 #[inline(always)]
 pub(crate) fn put_behind(room: &mut [u8], end: usize, before: &[u8], words: &[u8]) -> usize
     requires start { length before.now + length words.now ≤ end }
@@ -70,7 +70,7 @@ pub(crate) fn put_behind(room: &mut [u8], end: usize, before: &[u8], words: &[u8
     put(room, start, before)
 }
 
-// What stands before, these words, and then the number of one digit: so all of it stands at known distances.
+/// What stands before, these words, and then the number of one digit: so all of it stands at known distances.
 #[inline(always)]
 pub(crate) fn put_short(
     room: &mut [u8],
@@ -90,7 +90,7 @@ pub(crate) fn put_short(
     put_behind(room, digit, before, words)
 }
 
-// What stands before, these words, and then the number.
+/// What stands before, these words, and then the number.
 #[inline(always)]
 pub(crate) fn put_number(
     room: &mut [u8],
@@ -110,7 +110,7 @@ pub(crate) fn put_number(
     put_behind(room, digits, before, words)
 }
 
-// What stands before, these words, and then the value with its sign.
+/// What stands before, these words, and then the value with its sign.
 #[inline(always)]
 pub(crate) fn put_signed(
     room: &mut [u8],

@@ -1,23 +1,25 @@
 //! How the fibers of a run go on until none can.
-ghost use Rattle.std.specs.Prelude.{IfNone, IfOk, IfSome, OnOk, ◌≡◌, ◌≢◌, ◌⊎◌, ◌<◌, ◌++◌, ◌∷◌, ℕ, None as Nobody};
-ghost use Rattle.std.specs.Prelude.{Some as Somebody};
+ghost use Rattle.std.specs.Prelude.{IfErr, IfNone, IfOk, IfSome, OnOk, ◌≡◌, ◌≢◌, ◌⊎◌, ◌<◌, ◌++◌, ◌∷◌, ℕ};
+ghost use Rattle.std.specs.Prelude.{Err as Fails, None as Nobody, Ok as GoesWell, Some as Somebody};
 ghost use Rattle.std.specs.Prelude.{[], true, false, get_or};
 ghost use Rattle.fiber_frames.specs.Fiber.{active_of, outcome_of};
 ghost use Rattle.cell_registry.specs.Cells.{cell_of};
-ghost use Rattle.outcome_trace.specs.Finals.{GoesOn, HasEnded, IsAtRest, IsFinal, IsStopped};
+ghost use Rattle.outcome_trace.specs.Core.{entered};
+ghost use Rattle.outcome_trace.specs.Finals.{GoesOn, HasEnded, IsAtRest, IsFinal, IsStopped, StopsAt};
 ghost use Rattle.outcome_trace.specs.Fitting.{AllFit, Fits, cell_registered, world_of};
 ghost use Rattle.outcome_trace.specs.Private.Settling.{IsUnended, moves_left};
 
 use crate::reports::outcome;
 use crate::scheduled::enter;
 use cell_registry::{PlainRegistry, RunError};
+use effect_term::facts_of;
 use fiber_frames::{Ask, Config};
 use std::alloc::AllocError;
 
 /// What fibers came to that went on until none could.
 #[derive(Clone, Copy, Debug)]
 pub struct Settled {
-    /// How many moves they made.
+    /// How many moves they made. Where it is 0, nothing has changed.
     pub finished: u64,
     /// A fiber that hasn't ended and may make no more moves. Where there is none, the world is final.
     pub stopped: Option<u16>,
@@ -42,6 +44,10 @@ pub fn settle(
         IsFinal (world_of fibers.new.items registry.new.state)) }
     ensures stopped { IfOk result (λ it. (f : ℕ) → it.stopped ≡ Somebody f →
         IsStopped fibers.new.items rests.new.items f) }
+    ensures still { IfOk result (λ it. it.finished ≡ 0 →
+        (fibers.new.items ≡ fibers.old.items) × (registry.new ≡ registry.old)) }
+    ensures stops { IfErr result (λ e. (e ≡ RunError.NoMemory) ⊎
+        StopsAt registry.old.limits (world_of fibers.old.items registry.old.state) e) }
 {
     settle_noted(fibers, registry, rests, &mut NoEntries)
 }
@@ -75,6 +81,10 @@ pub fn settle_noted<L: EntryLog>(
         IsFinal (world_of fibers.new.items registry.new.state)) }
     ensures stopped { IfOk result (λ it. (f : ℕ) → it.stopped ≡ Somebody f →
         IsStopped fibers.new.items rests.new.items f) }
+    ensures still { IfOk result (λ it. it.finished ≡ 0 →
+        (fibers.new.items ≡ fibers.old.items) × (registry.new ≡ registry.old)) }
+    ensures stops { IfErr result (λ e. (e ≡ RunError.NoMemory) ⊎
+        StopsAt registry.old.limits (world_of fibers.old.items registry.old.state) e) }
 {
     let mut finished = 0u64;
     loop {
@@ -151,6 +161,8 @@ fn go_on(
     ensures fits { OnOk result (AllFit (world_of fibers.new.items registry.new.state)) }
     ensures goes { OnOk result (GoesOn registry.old.limits (world_of fibers.old.items registry.old.state)
         (world_of fibers.new.items registry.new.state)) }
+    ensures stops { IfErr result (λ e. (e ≡ RunError.NoMemory) ⊎
+        (entered registry.old.limits (GoesWell (world_of fibers.old.items registry.old.state)) number ≡ Fails e)) }
     ensures less { OnOk result (moves_left registry.old.limits.fibers rests.new.items <
         moves_left registry.old.limits.fibers rests.old.items) }
 {
@@ -158,7 +170,7 @@ fn go_on(
     let rest = rests[usize::from(number)] - 1;
     rests[usize::from(number)] = rest;
     // The registry is within its limits.
-    let _ = registry.limits();
+    facts_of(registry.limits());
     if rests.len() < fibers.len() {
         add(rests, rest)?;
     }
@@ -181,7 +193,7 @@ pub fn is_done(config: &Config, registry: &PlainRegistry) -> bool
     ensures unended { result ≡ false → outcome_of config.now ≡ Nobody }
 {
     // The registry is within its limits.
-    let _ = registry.limits();
+    facts_of(registry.limits());
     if outcome(config).is_some() {
         return true;
     }
@@ -191,18 +203,34 @@ pub fn is_done(config: &Config, registry: &PlainRegistry) -> bool
     match config.word_ask() {
         Ask::Join(fiber) => !registry.has_ended(fiber),
         Ask::Read(number) => registry.is_empty(number),
-        _ => config.is_never(),
+        Ask::Look
+        | Ask::Cut
+        | Ask::Mask
+        | Ask::Unmask
+        | Ask::Finish(_)
+        | Ask::Cancel(_)
+        | Ask::Start
+        | Ask::NewRef
+        | Ask::Get(_)
+        | Ask::Set(_, _)
+        | Ask::Modify(_, _)
+        | Ask::NewDeferred
+        | Ask::Complete(_, _)
+        | Ask::Silent
+        | Ask::Over(_)
+        | Ask::Broken => config.is_never(),
     }
 }
 
-// Whether no request for its cancellation reaches the fiber where it is.
-fn is_unasked(config: &Config, registry: &PlainRegistry) -> bool
+/// Whether no request for its cancellation reaches the fiber where it is: a mask is active, or none was made. It makes
+/// no call.
+pub fn is_unasked(config: &Config, registry: &PlainRegistry) -> bool
     requires { Fits (cell_registered registry.now.state config.now.number) config.now }
     ensures { result ≡ true → (active_of config.now ≢ []) ⊎
         ((cell_of registry.now.state config.now.number).request ≡ false) }
 {
     // The registry is within its limits.
-    let _ = registry.limits();
+    facts_of(registry.limits());
     if config.is_masked() {
         return true;
     }

@@ -36,15 +36,15 @@ mod wish;
 
 pub use answers::{CheckOrder, ShowOrder, read_program, refusal};
 pub use cell_registry::Limits;
-pub use finals::{EntryLog, NoEntries, Settled, is_done, settle, settle_noted};
+pub use finals::{EntryLog, NoEntries, Settled, is_done, is_unasked, settle, settle_noted};
 pub use lines::{Refused, line};
 pub use orders::{Order, obey};
 pub use replay_texts::{ReplayOrder, replay_text, report_answer, report_status};
 pub use report::{FiberReport, FiberReports, Marks, Report};
 pub use report_text::{print_report, text_of_report};
-pub use reports::{report_of_fibers, same_report};
+pub use reports::{outcome, report_of_fibers, same_report};
 pub use same_ends::same_end;
-pub use scheduled::{answer, enter, fault, first_fiber, first_fibers, replay};
+pub use scheduled::{answer, enter, enter_all, fault, first_fiber, first_fibers, replay};
 pub use text_io::{
     Answer, FromRead, MOST_ENTRIES, ReadError, ScheduleError, Sink, Source, Status, TEXT_BOUND,
     TextFault, TextIn, TextOrder, TextOut, ToWrite, WriteFailed, answer_text, obey_text,

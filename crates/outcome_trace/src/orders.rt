@@ -1,7 +1,7 @@
 //! What the program can be told to do, and what comes of it.
 
 ghost use Rattle.std.specs.Prelude.{◌≡◌, ◌<◌, ◌^◌, false};
-ghost use Rattle.text_io.specs.Devices.{devices, reader, writer};
+ghost use Rattle.text_io.specs.Devices.{devices};
 ghost use Rattle.outcome_trace.specs.Orders.{HasLimits, Obeys};
 
 use crate::answers::{CheckOrder, ShowOrder};
@@ -38,18 +38,13 @@ pub fn obey<I: TextIn, O: TextOut, E: TextOut>(
     out: &mut O,
     err: &mut E,
 ) -> Status
-    requires input { I.has_failed input.old ≡ false }
-    requires countable { I.reads input.old < 2 ^ 63 }
-    requires out { O.has_failed out.old ≡ false }
-    requires err { E.has_failed err.old ≡ false }
+    requires input { (I.seen input.old).failed ≡ false }
+    requires countable { (I.seen input.old).reads < 2 ^ 63 }
+    requires out { (O.seen out.old).failed ≡ false }
+    requires err { (E.seen err.old).failed ≡ false }
     requires limits { HasLimits order }
-    ensures obeyed { let before = devices (reader (I.remaining input.old) (I.has_failed input.old)
-        (I.has_ended input.old) (I.reads input.old)) (writer (O.contents out.old) (O.has_failed out.old))
-        (writer (E.contents err.old) (E.has_failed err.old)) in
-        let after = devices (reader (I.remaining input.new) (I.has_failed input.new) (I.has_ended input.new)
-        (I.reads input.new)) (writer (O.contents out.new) (O.has_failed out.new))
-        (writer (E.contents err.new) (E.has_failed err.new)) in
-        Obeys order.entry before after result }
+    ensures obeyed { Obeys order.entry (devices (I.seen input.old) (O.seen out.old) (E.seen err.old))
+        (devices (I.seen input.new) (O.seen out.new) (E.seen err.new)) result }
 
     // Where the schedule is bad, the text isn't read and nothing is answered.
     ensures unread { result ≡ Status.Usage → input.new ≡ input.old }

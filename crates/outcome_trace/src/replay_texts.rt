@@ -2,7 +2,6 @@
 
 ghost use Rattle.std.specs.Prelude.{◌≡◌, ◌≢◌, ◌<◌, ◌^◌, false, IfOk, OnOk};
 ghost use Rattle.cell_registry.specs.Cells.{AreLimits};
-ghost use Rattle.text_io.specs.Devices.{reader, writer};
 ghost use Rattle.text_io.specs.Exchange.{IsAnswered};
 ghost use Rattle.outcome_trace.specs.Lines.{run_line};
 ghost use Rattle.outcome_trace.specs.ReplayAnswers.{IsReplayAnswer, IsRunAnswer, report_status};
@@ -47,7 +46,7 @@ pub fn report_answer(alloc: Global, report: &Report) -> Result<Answer, AllocErro
     })
 }
 
-/// The answer where the run ended with a fault. Want of memory is no answer.
+// The answer where the run ended with a fault. Want of memory is no answer.
 fn fault_answer(alloc: Global, error: RunError) -> Result<Answer, AllocError>
     ensures line { IfOk result (λ a. a.text.items ≡ run_line error) }
     ensures status { IfOk result (λ a. a.status ≡ Status.Fault) }
@@ -62,7 +61,7 @@ fn fault_answer(alloc: Global, error: RunError) -> Result<Answer, AllocError>
     }
 }
 
-/// What comes of a program under a schedule.
+// What comes of a program under a schedule.
 fn run_answer(
     alloc: Global,
     program: &Program,
@@ -111,17 +110,12 @@ pub fn replay_text<I: TextIn, O: TextOut>(
     limits: Limits,
     out: &mut O,
 ) -> Result<Status, TextFault>
-    requires input { I.has_failed input.old ≡ false }
-    requires countable { I.reads input.old < 2 ^ 63 }
-    requires out { O.has_failed out.old ≡ false }
+    requires input { (I.seen input.old).failed ≡ false }
+    requires countable { (I.seen input.old).reads < 2 ^ 63 }
+    requires out { (O.seen out.old).failed ≡ false }
     requires limits { AreLimits limits }
-    ensures { let before = reader (I.remaining input.old) (I.has_failed input.old) (I.has_ended input.old)
-        (I.reads input.old) in
-        let after = reader (I.remaining input.new) (I.has_failed input.new) (I.has_ended input.new)
-        (I.reads input.new) in
-        let old = writer (O.contents out.old) (O.has_failed out.old) in
-        let new = writer (O.contents out.new) (O.has_failed out.new) in
-        IsAnswered (IsReplayAnswer schedule.now limits) before after old new result }
+    ensures { IsAnswered (IsReplayAnswer schedule.now limits) (I.seen input.old) (I.seen input.new) (O.seen out.old)
+        (O.seen out.new) result }
 {
     answer_text(alloc, &ReplayOrder { schedule, limits }, input, out)
 }

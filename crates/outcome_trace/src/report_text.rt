@@ -5,37 +5,35 @@ ghost use Rattle.std.specs.Prelude.{codes, drop, length, string_bytes};
 ghost use Rattle.std.specs.Str.{IsAscii};
 ghost use Rattle.fiber_frames.specs.declared.mark.Mark.TheVariants as marks;
 ghost use Rattle.text_io.specs.Text.{GoesOut, OnlyOutFaults, is_write_fault};
+ghost use Rattle.std.specs.Fmt.{decimal};
 ghost use Rattle.outcome_trace.specs.ReportText.{mark_text, later_marks_text, marks_text, outcome_text, fiber_line};
 ghost use Rattle.outcome_trace.specs.ReportText.{text_of_fibers};
 
-use crate::backwards::{put_behind, put_number, put_short, put_signed};
+use crate::backwards::{put, put_behind, put_number, put_short, put_signed};
 use crate::report::{FiberReport, Report};
 use effect_term::{Outcome, Value};
 use fiber_frames::Mark;
-use itoa::{Buffer, Integer};
 use std::alloc::{AllocError, Global};
 use std::str;
 use text_io::{TextFault, TextOut, write_text};
 
-/// How many bytes a mark may have: the longest word, a space, and the 20 digits of the greatest number.
+// How many bytes a mark may have: the longest word, a space, and the 20 digits of the greatest number.
 const LONGEST_MARK: usize = 30;
 
-/// How many marks are written at once.
+// How many marks are written at once.
 const MARKS_AT_ONCE: usize = 32;
 
-/// How many bytes they may have, each with the comma before it.
+// How many bytes they may have, each with the comma before it.
 const ROOM: usize = MARKS_AT_ONCE * (LONGEST_MARK + 2);
 
-/// A word and a number.
-fn push_number<I: Integer>(text: &mut String, word: &str, number: I) -> Result<(), AllocError>
-    ensures { OnOk result (string_bytes text.new ≡ string_bytes text.old ++ (word.now ++ I.text number)) }
-{
-    let mut digits = Buffer::new();
-    text.push_str(word)?;
-    text.push_str(digits.format(number))
-}
+// How many bytes an outcome may have behind its space: the longest word with a space, and the 20 bytes of a value.
+const LONGEST_OUTCOME: usize = 32;
 
-/// A mark behind a comma or a colon with its space, written so that it ends at `end`. Gives where they start.
+// For how many bytes a line of the text gets room at first: that of a fiber of three digits with an outcome of one
+// digit and no mark has 22.
+const USUAL_LINE: usize = 24;
+
+// A mark behind a comma or a colon with its space, written so that it ends at `end`. Gives where they start.
 #[inline(always)]
 fn put_mark(room: &mut [u8], end: usize, before: &[u8; 2], mark: Mark) -> usize
     requires start { LONGEST_MARK + 2 ≤ end }
@@ -56,7 +54,7 @@ fn put_mark(room: &mut [u8], end: usize, before: &[u8; 2], mark: Mark) -> usize
     put_long_say(room, end, before, value)
 }
 
-/// A `say` of a number that has more digits or a sign, put as [`put_mark`] does.
+// A `say` of a number that has more digits or a sign, put as [`put_mark`] does.
 #[inline(never)]
 fn put_long_say(room: &mut [u8], end: usize, before: &[u8; 2], value: Value) -> usize
     requires start { LONGEST_MARK + 2 ≤ end }
@@ -69,7 +67,7 @@ fn put_long_say(room: &mut [u8], end: usize, before: &[u8; 2], value: Value) -> 
     put_signed(room, end, before, b"say ", value)
 }
 
-/// A mark that says nothing, put as [`put_mark`] does.
+// A mark that says nothing, put as [`put_mark`] does.
 #[inline(never)]
 fn put_other_mark(room: &mut [u8], end: usize, before: &[u8; 2], mark: Mark) -> usize
     requires other { (value : ℤ) → mark ≡ marks.Say value → ⊥ }
@@ -94,8 +92,8 @@ fn put_other_mark(room: &mut [u8], end: usize, before: &[u8; 2], mark: Mark) -> 
     }
 }
 
-/// Marks that stand behind another one, written from the last one to the first so that they end where
-/// the room ends. Gives where they start.
+// Marks that stand behind another one, written from the last one to the first so that they end where
+// the room ends. Gives where they start.
 fn put_later_marks(room: &mut [u8], marks: &[Mark]) -> usize
     requires { length marks.now * (LONGEST_MARK + 2) ≤ length room.old }
     ensures text { drop result room.new ≡ later_marks_text marks.now }
@@ -111,7 +109,7 @@ fn put_later_marks(room: &mut [u8], marks: &[Mark]) -> usize
     start
 }
 
-/// Bytes that are text. They are proved to be, so nobody looks.
+// Bytes that are text. They are proved to be, so nobody looks.
 fn push_ascii(text: &mut String, bytes: &[u8]) -> Result<(), AllocError>
     requires { IsAscii bytes.now }
     ensures { OnOk result (string_bytes text.new ≡ string_bytes text.old ++ bytes.now) }
@@ -119,7 +117,7 @@ fn push_ascii(text: &mut String, bytes: &[u8]) -> Result<(), AllocError>
     text.push_str(unsafe { str::from_utf8_unchecked(bytes) })
 }
 
-/// Marks that stand behind another one, some at a time.
+// Marks that stand behind another one, some at a time.
 fn push_later_marks(
     text: &mut String,
     room: &mut [u8; ROOM],
@@ -141,7 +139,7 @@ fn push_later_marks(
     Ok(())
 }
 
-/// A mark behind its colon.
+// A mark behind its colon.
 fn push_first_mark(text: &mut String, room: &mut [u8; ROOM], mark: Mark) -> Result<(), AllocError>
     ensures { OnOk result (string_bytes text.new ≡ string_bytes text.old ++ (codes ": " ++ mark_text mark)) }
 {
@@ -159,17 +157,44 @@ fn push_marks(text: &mut String, room: &mut [u8; ROOM], marks: &[Mark]) -> Resul
     push_later_marks(text, room, later)
 }
 
-fn push_outcome(text: &mut String, outcome: Option<Outcome>) -> Result<(), AllocError>
-    ensures { OnOk result (string_bytes text.new ≡ string_bytes text.old ++ outcome_text outcome) }
+// How a fiber ended, behind a space, written so that it ends at `end`. Gives where the space stands.
+#[inline(always)]
+fn put_outcome(room: &mut [u8], end: usize, outcome: Option<Outcome>) -> usize
+    requires start { LONGEST_OUTCOME ≤ end }
+    requires end { end ≤ length room.old }
+    ensures text { drop result room.new ≡ codes " " ++ (outcome_text outcome ++ drop end room.old) }
+    ensures start { end ≤ result + LONGEST_OUTCOME }
+    ensures within { result ≤ end }
+    ensures ascii { IsAscii (outcome_text outcome) }
 {
     let Some(ended) = outcome else {
-        return text.push_str("unended");
+        return put_behind(room, end, b" ", b"unended");
     };
     match ended {
-        Outcome::Succeeded(value) => push_number(text, "succeeded ", value.get()),
-        Outcome::Errored(code) => push_number(text, "errored ", code.get()),
-        Outcome::Canceled => text.push_str("canceled"),
+        Outcome::Succeeded(value) => put_signed(room, end, b" ", b"succeeded ", value),
+        Outcome::Errored(code) => put_signed(room, end, b" ", b"errored ", code),
+        Outcome::Canceled => put_behind(room, end, b" ", b"canceled"),
     }
+}
+
+// The number of a fiber, how it ended, and what stands behind that, which has a byte at most.
+#[inline(always)]
+fn push_head(
+    text: &mut String,
+    room: &mut [u8; ROOM],
+    number: usize,
+    outcome: Option<Outcome>,
+    behind: &[u8],
+) -> Result<(), AllocError>
+    requires behind { length behind.now ≤ 1 }
+    requires ascii { IsAscii behind.now }
+    ensures { OnOk result (string_bytes text.new ≡ string_bytes text.old ++ (codes "fiber " ++
+        (decimal number ++ (codes " " ++ (outcome_text outcome ++ behind.now))))) }
+{
+    let end = put(room, ROOM, behind);
+    let end = put_outcome(room, end, outcome);
+    let start = put_number(room, end, b"", b"fiber ", number as u64);
+    push_ascii(text, &room[start..])
 }
 
 fn push_fiber(
@@ -180,10 +205,12 @@ fn push_fiber(
 ) -> Result<(), AllocError>
     ensures { OnOk result (string_bytes text.new ≡ string_bytes text.old ++ fiber_line number fiber.now) }
 {
-    push_number(text, "fiber ", number)?;
-    text.push_str(" ")?;
-    push_outcome(text, fiber.outcome)?;
-    push_marks(text, room, fiber.marks.as_slice())?;
+    let marks = fiber.marks.as_slice();
+    if marks.is_empty() {
+        return push_head(text, room, number, fiber.outcome, b"\n");
+    }
+    push_head(text, room, number, fiber.outcome, b"")?;
+    push_marks(text, room, marks)?;
     text.push_str("\n")
 }
 
@@ -192,9 +219,10 @@ fn push_fiber(
 pub fn text_of_report(alloc: Global, report: &Report) -> Result<String, AllocError>
     ensures { IfOk result (λ text. string_bytes text ≡ text_of_fibers report.now.fibers) }
 {
-    let mut text = String::new(alloc);
+    let fibers = report.fibers.as_slice();
+    let mut text = String::with_capacity(alloc, fibers.len().saturating_mul(USUAL_LINE))?;
     let mut room = [0; ROOM];
-    for (number, fiber) in report.fibers.as_slice().iter().enumerate() {
+    for (number, fiber) in fibers.iter().enumerate() {
         push_fiber(&mut text, &mut room, number, fiber)?;
     }
     Ok(text)
@@ -206,13 +234,14 @@ pub fn print_report<T: TextOut>(
     report: &Report,
     out: &mut T,
 ) -> Result<(), TextFault>
-    requires { T.has_failed out.old ≡ false }
+    requires { (T.seen out.old).failed ≡ false }
 
     // All of it goes out, or as much of its front as the fault tells.
-    ensures text { GoesOut (T.contents out.old) (T.contents out.new) (text_of_fibers report.now.fibers) result }
+    ensures text { GoesOut (T.seen out.old).contents (T.seen out.new).contents (text_of_fibers report.now.fibers)
+        result }
     ensures memory { IsErrOf result TextFault.NoMemory → out.new ≡ out.old }
     ensures only { OnlyOutFaults result }
-    ensures failed { T.has_failed out.new ≡ is_write_fault result }
+    ensures failed { (T.seen out.new).failed ≡ is_write_fault result }
 {
     let text = text_of_report(alloc, report)?;
     write_text(text.as_bytes(), out)

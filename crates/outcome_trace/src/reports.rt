@@ -16,7 +16,7 @@ pub fn report_of_fibers(alloc: Global, fibers: Vec<Config>) -> Result<Report, Al
     ensures reports { IfOk result (λ it. it ≡ record { fibers = map report_of fibers.items }) }
     ensures lawful { IfOk result (λ it. All (λ f. AreLawful f.marks f.outcome) it.fibers) }
 {
-    let mut reports = Vec::new(alloc);
+    let mut reports = Vec::with_capacity(alloc, fibers.len())?;
     for fiber in fibers {
         reports.push(fiber_report(fiber))?;
     }
@@ -51,6 +51,7 @@ fn ended_alike(one: &Config, other: &Config) -> bool
 }
 
 // What a fiber has come to.
+#[inline(always)]
 fn fiber_report(fiber: Config) -> FiberReport
     ensures told { result ≡ report_of fiber }
     ensures lawful { AreLawful result.marks result.outcome }
@@ -62,9 +63,10 @@ fn fiber_report(fiber: Config) -> FiberReport
     }
 }
 
-// How a fiber has ended, if it has.
+/// How a fiber has ended, or none where it hasn't.
+#[inline(always)]
 #[tactic(auto, using(crate::proofs::Reported::outcome_asked))]
-pub(crate) fn outcome(fiber: &Config) -> Option<Outcome>
+pub fn outcome(fiber: &Config) -> Option<Outcome>
     ensures { result ≡ outcome_of fiber.now }
 {
     match fiber.ask() {

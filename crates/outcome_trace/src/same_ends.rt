@@ -1,5 +1,5 @@
 //! Whether two runs have come to the same.
-ghost use Rattle.std.specs.Prelude.{◌≡◌, true};
+ghost use Rattle.std.specs.Prelude.{◌≡◌, ◌≢◌, false, true};
 
 use crate::report::{FiberReport, Marks, Report};
 use cell_registry::RunError;
@@ -7,7 +7,8 @@ use cell_registry::RunError;
 /// Whether two runs have ended alike: with the same report, each fiber's outcome and all of its marks, or
 /// with the same fault.
 pub fn same_end(one: &Result<Report, RunError>, other: &Result<Report, RunError>) -> bool
-    ensures { result ≡ true → one.now ≡ other.now }
+    ensures same { result ≡ true → one.now ≡ other.now }
+    ensures other { result ≡ false → one.now ≢ other.now }
 {
     match one {
         Ok(report) => match other {
@@ -23,7 +24,8 @@ pub fn same_end(one: &Result<Report, RunError>, other: &Result<Report, RunError>
 
 // Whether as many fibers have come to the same.
 fn same_fibers(one: &[FiberReport], other: &[FiberReport]) -> bool
-    ensures { result ≡ true → one.now ≡ other.now }
+    ensures same { result ≡ true → one.now ≡ other.now }
+    ensures other { result ≡ false → one.now ≢ other.now }
 {
     if one.len() != other.len() {
         return false;
@@ -39,14 +41,16 @@ fn same_fibers(one: &[FiberReport], other: &[FiberReport]) -> bool
 // Whether two fibers have ended alike, or neither has, with the same marks.
 #[tactic(auto, using(crate::proofs::SameReports::fibers_same))]
 fn same_fiber(one: &FiberReport, other: &FiberReport) -> bool
-    ensures { result ≡ true → one.now ≡ other.now }
+    ensures same { result ≡ true → one.now ≡ other.now }
+    ensures other { result ≡ false → one.now ≢ other.now }
 {
     one.outcome == other.outcome && same_marks(&one.marks, &other.marks)
 }
 
 // Whether two fibers have noted the same.
 fn same_marks(one: &Marks, other: &Marks) -> bool
-    ensures { result ≡ true → one.now ≡ other.now }
+    ensures same { result ≡ true → one.now ≡ other.now }
+    ensures other { result ≡ false → one.now ≢ other.now }
 {
     one.as_slice() == other.as_slice()
 }

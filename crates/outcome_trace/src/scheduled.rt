@@ -24,7 +24,7 @@ use crate::reports::report_of_fibers;
 use crate::wish::Wish;
 use cell_registry::{Call, CellError, Limits, PlainRegistry, RunError};
 use derived_ops::expand;
-use effect_term::{Outcome, Program, Reply};
+use effect_term::{Outcome, Program, Reply, facts_of};
 use fiber_frames::{Config, Moved};
 use std::alloc::{AllocError, Global};
 
@@ -54,7 +54,7 @@ pub fn replay(
         limits.deferreds,
         limits.count,
     )?;
-    entries(&mut fibers, &mut registry, schedule)?;
+    enter_all(&mut fibers, &mut registry, schedule)?;
     let report = report_of_fibers(alloc, fibers)?;
     Ok(report)
 }
@@ -86,9 +86,14 @@ pub fn first_fibers(alloc: Global, program: &Program) -> Result<Vec<Config>, All
     Ok(fibers)
 }
 
-// All entries of a schedule.
+/// All entries of a schedule, one after another, each as [`enter`] makes it.
+///
+/// The fibers and the registry are a world of the core in which each fiber fits its cell, and what the entries lead to
+/// is such a world again. The first call that the registry refuses ends it with [`RunError::Full`] or
+/// [`RunError::Spent`], the fault of the core; where memory runs out, the answer is [`RunError::NoMemory`]. After an
+/// error nothing is known of the fibers and the registry.
 #[inline(never)]
-fn entries(
+pub fn enter_all(
     fibers: &mut Vec<Config>,
     registry: &mut PlainRegistry,
     schedule: &[u16],
@@ -131,7 +136,7 @@ pub fn enter(
     ensures stops { IfErr result (λ e. (e ≡ RunError.NoMemory) ⊎
         (entered registry.old.limits (GoesWell (world_of fibers.old.items registry.old.state)) number ≡ Fails e)) }
 {
-    entries(fibers, registry, &[number])
+    enter_all(fibers, registry, &[number])
 }
 
 // An entry. What most entries call is inlined into the loop over them: a result that holds fields goes through
@@ -181,7 +186,7 @@ fn make_move(config: &mut Config, registry: &mut PlainRegistry) -> Result<Option
         Refuses registry.old config.old.number config.old e) }
 {
     // The registry is within its limits.
-    let _ = registry.limits();
+    facts_of(registry.limits());
     match Wish::of(config.ask()) {
         Wish::Nothing => Ok(None),
         Wish::Alone => resumed(config, Reply::Done),

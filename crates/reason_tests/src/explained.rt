@@ -7,7 +7,7 @@ use std::alloc::Global;
 use std::io;
 use std::io::{ErrorKind, Read, Write};
 
-/// Takes so many bytes, and then fails.
+// Takes so many bytes, and then fails.
 #[derive(Drop)]
 struct Narrow {
     room: usize,
@@ -30,7 +30,7 @@ impl Write for Narrow {
     }
 }
 
-/// Fails at each read.
+// Fails at each read.
 #[derive(Drop)]
 struct Broken;
 
@@ -40,7 +40,7 @@ impl Read for Broken {
     }
 }
 
-/// A text, its answer by `check`, its status, and what is told.
+// A text, its answer by `check`, its status, and what is told.
 const CHECKED: &[(&str, &str, Status, &str)] = &[
     (
         "(pure 1)",
@@ -161,8 +161,8 @@ fn replayed(alloc: Global, text: &str) -> (Vec<u8>, Vec<u8>, Status) {
     (out, err, status)
 }
 
-/// Holds whichever request for memory is refused: where one of the answer's is, that is told; where one of the
-/// reasons' is, the answer is the same, and they are left out.
+// Holds whichever request for memory is refused: where one of the answer's is, that is told; where one of the
+// reasons' is, the answer is the same, and they are left out.
 #[test]
 fn reasons_are_left_out_where_memory_runs_out(rt: HostRuntime) {
     let (out, err, status) = replayed(rt.alloc(), "(deferred d (await d))");

@@ -9,7 +9,7 @@ use std::alloc::{AllocError, Global};
 use std::str;
 use std::test::Fail;
 
-/// A text, what `check` answers to it in JSON, and its status.
+// A text, what `check` answers to it in JSON, and its status.
 const CHECKED: &[(&str, &str, Status)] = &[
     (
         "(uncancelable p (poll p (say 1)))",
@@ -28,7 +28,7 @@ const CHECKED: &[(&str, &str, Status)] = &[
     ),
 ];
 
-/// A program, what a replay of it answers in JSON, and its status.
+// A program, what a replay of it answers in JSON, and its status.
 const REPLAYED: &[(&str, &str, Status)] = &[
     (
         "(pure 4)",
@@ -87,8 +87,8 @@ const REPLAYED: &[(&str, &str, Status)] = &[
     ),
 ];
 
-/// A program, how many worlds are kept, an outcome that is wanted if any is, what an exploration of it answers in JSON,
-/// and its status.
+// A program, how many worlds are kept, an outcome that is wanted if any is, what an exploration of it answers in JSON,
+// and its status.
 const EXPLORED: &[(&str, usize, &[&str], &str, Status)] = &[
     (
         "(pure 1)",
@@ -151,7 +151,7 @@ const EXPLORED: &[(&str, usize, &[&str], &str, Status)] = &[
     ),
 ];
 
-/// A program, a seed, how many schedules are drawn, what a sample of them answers in JSON, and its status.
+// A program, a seed, how many schedules are drawn, what a sample of them answers in JSON, and its status.
 const SAMPLED: &[(&str, u64, u32, &str, Status)] = &[
     (
         "(pure 1)",
@@ -277,7 +277,7 @@ fn samples_are_told_in_json(rt: HostRuntime) -> Result<(), Fail> {
     Ok(())
 }
 
-/// Holds whichever request for memory is refused: what is told is whole.
+// Holds whichever request for memory is refused: what is told is whole.
 #[test]
 fn json_is_told_whole_or_memory_ran_out(rt: HostRuntime) {
     if let Ok(answer) = replayed(rt.alloc(), "(seq (say 1) (pure 2))") {

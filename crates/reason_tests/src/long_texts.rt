@@ -5,7 +5,7 @@ use std::alloc::{AllocError, Global};
 use std::str;
 use std::test::Fail;
 
-/// A text of one front, so many times, a middle, and one back, as often; and what is told of it.
+// A text of one front, so many times, a middle, and one back, as often; and what is told of it.
 struct Long<'a> {
     front: &'a str,
     times: u32,

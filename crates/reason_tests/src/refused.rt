@@ -5,7 +5,7 @@ use std::alloc::{AllocError, Global};
 use std::str;
 use std::test::Fail;
 
-/// A text, and what is told of it.
+// A text, and what is told of it.
 struct Refused<'a> {
     text: &'a [u8],
     told: &'a str,
@@ -173,7 +173,7 @@ fn reasons_are_told(rt: HostRuntime) -> Result<(), Fail> {
     Ok(())
 }
 
-/// Holds whichever request for memory is refused: what is told is whole.
+// Holds whichever request for memory is refused: what is told is whole.
 #[test]
 fn reasons_are_whole_or_memory_ran_out(rt: HostRuntime) {
     let text = b"(let total (pure 5) (start f (cede) (say totl)))";

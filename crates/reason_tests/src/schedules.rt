@@ -6,7 +6,7 @@ use std::alloc::Global;
 use std::str;
 use std::test::Fail;
 
-/// A schedule's text, and what is told of it.
+// A schedule's text, and what is told of it.
 const SCHEDULES: &[(&str, &str)] = &[
     (
         "0*11 1* 0*8",
@@ -20,10 +20,17 @@ const SCHEDULES: &[(&str, &str)] = &[
     (
         "0  1",
         "fault 27 BadSchedule 2\n\
-            line 1, column 3: `` can't be the next item\n\
+            line 1, column 3: an item is missing\n\
             \x20 0  1\n\
             \x20   ^\n\
-            an item was wanted here\n\
+            items are `f` or `f*k`, with one space between two of them\n",
+    ),
+    (
+        "0*9 ",
+        "fault 27 BadSchedule 4\n\
+            line 1, column 5: an item is missing\n\
+            \x20 0*9 \n\
+            \x20     ^\n\
             items are `f` or `f*k`, with one space between two of them\n",
     ),
     (

@@ -7,9 +7,9 @@ use std::alloc::Global;
 use std::str;
 use std::test::Fail;
 
-/// A program under a schedule, and what is told of it.
+// A program under a schedule, and what is told of it.
 struct Unended<'a> {
-    /// What it shows.
+    // What it shows.
     rule: &'a str,
     program: &'a str,
     schedule: &'a str,
@@ -33,7 +33,7 @@ const UNENDED: &[Unended<'static>] = &[
         rule: "a schedule without entries",
         program: "(cede)",
         schedule: "",
-        told: "the schedule ends before fiber 0 does\n",
+        told: "fiber 0 could still go on\n",
     },
     Unended {
         rule: "two fibers that each wait for the other",
@@ -52,8 +52,8 @@ const UNENDED: &[Unended<'static>] = &[
         rule: "a deferred that somebody could still complete",
         program: "(deferred d (start f (await d) (complete d 1)))",
         schedule: "0*4 1*9",
-        told: "the schedule ends before fiber 0 does\n\
-            fiber 1 waits for deferred 0, which is empty when the schedule ends\n",
+        told: "fiber 0 could still go on\n\
+            fiber 1 waits for deferred 0, which is empty at the end\n",
     },
     Unended {
         rule: "a cancel that waits for a fiber that is masked",
@@ -65,7 +65,7 @@ const UNENDED: &[Unended<'static>] = &[
         rule: "a fiber that waits, but which a request reaches",
         program: "(start f (never) (cancel f))",
         schedule: "0*2 1*3 0*9",
-        told: "fiber 0 waits for the end of fiber 1\nthe schedule ends before fiber 1 does\n",
+        told: "fiber 0 waits for the end of fiber 1\nfiber 1 could still go on\n",
     },
     Unended {
         rule: "one of two fibers has ended",

@@ -46,7 +46,7 @@ fn are_copied(alloc: Global) -> Result<bool, AllocError> {
     Ok(are)
 }
 
-/// Holds whichever allocation is refused.
+// Holds whichever allocation is refused.
 #[test]
 fn want_of_memory_or_a_copy_until_it_changes(rt: HostRuntime) {
     match are_copied(rt.alloc()) {

@@ -121,7 +121,7 @@ fn is_fresh(alloc: Global) -> Result<bool, AllocError> {
     Ok(has_limits && !seen && started && are_answered(&mut registry, &fresh()))
 }
 
-/// Holds whichever allocation is refused.
+// Holds whichever allocation is refused.
 #[test]
 fn want_of_memory_or_a_fresh_plain_registry(rt: HostRuntime) {
     match is_fresh(rt.alloc()) {

@@ -21,7 +21,7 @@ fn is_fresh(alloc: Global) -> Result<bool, AllocError> {
     Ok(is_new(&pass, 0) && registry.last_word(pass, 0) == 0)
 }
 
-/// Holds whichever allocation is refused.
+// Holds whichever allocation is refused.
 #[test]
 fn want_of_memory_or_a_fresh_registry(rt: HostRuntime) {
     match is_fresh(rt.alloc()) {
@@ -283,7 +283,7 @@ fn own_value() -> [Row; 3] {
     ]
 }
 
-/// The value stands in no fiber's word, and a join tells it.
+// The value stands in no fiber's word, and a join tells it.
 #[test]
 fn the_value_of_an_end_has_a_word_of_its_own(rt: HostRuntime) -> Result<(), AllocError> {
     let ended = word_after(rt.alloc(), 1, &own_value()[..1], 0)?;

@@ -58,7 +58,7 @@ pub fn program(alloc: Global, text: &str) -> Result<Program, Fail> {
     Ok(program_of(alloc, term)?)
 }
 
-/// The text of a report, or the line of a fault.
+// The text of a report, or the line of a fault.
 fn spelled(alloc: Global, answer: Result<Report, RunError>) -> Result<String, Fail> {
     match answer {
         Ok(report) => Ok(text_of_report(alloc, &report)?),
@@ -66,8 +66,8 @@ fn spelled(alloc: Global, answer: Result<Report, RunError>) -> Result<String, Fa
     }
 }
 
-/// The text of the report of a run, or the line of its fault. Behind a report stands how many moves were
-/// made after the workers had ended, if there were any.
+// The text of the report of a run, or the line of its fault. Behind a report stands how many moves were
+// made after the workers had ended, if there were any.
 fn told(alloc: Global, answer: Result<RunEnd, RunError>) -> Result<String, Fail> {
     match answer {
         Ok(end) => {
@@ -117,7 +117,7 @@ pub fn recorded_past<R: Threads + Wait + Sync, G: Gate>(
     Ok((run, replay))
 }
 
-/// What a replay under this schedule answers, or why there is none.
+// What a replay under this schedule answers, or why there is none.
 fn replayed(
     alloc: Global,
     text: &str,
@@ -132,8 +132,8 @@ fn replayed(
     }
 }
 
-/// What a replay of the program that this text spells answers, under a schedule's text and within the limits
-/// of these options.
+// What a replay of the program that this text spells answers, under a schedule's text and within the limits
+// of these options.
 fn replay_under(alloc: Global, text: &str, schedule: &str, options: Options) -> Result<String, Fail>
     requires limits { AreLimits (limits_of options) }
 {
@@ -142,7 +142,7 @@ fn replay_under(alloc: Global, text: &str, schedule: &str, options: Options) -> 
     replay_within(alloc, &program, entries.as_slice(), limits(options))
 }
 
-/// The limits of a run with these options.
+// The limits of a run with these options.
 fn limits(options: Options) -> Limits
     ensures { result ≡ limits_of options }
 {
@@ -182,7 +182,7 @@ pub fn replay_of(alloc: Global, program: &Program, schedule: &[u16]) -> Result<S
     replay_within(alloc, program, schedule, widest)
 }
 
-/// What a replay of a program under a schedule answers, within these limits.
+// What a replay of a program under a schedule answers, within these limits.
 fn replay_within(
     alloc: Global,
     program: &Program,
@@ -199,7 +199,7 @@ pub fn push_piece(text: &mut String, piece: Result<String, AllocError>) -> Resul
     text.push_str(piece?.as_str())
 }
 
-/// Whether a text is one of these.
+// Whether a text is one of these.
 fn is_among(text: &str, wanted: &[&str]) -> bool {
     for want in wanted {
         if *want == text {
@@ -209,7 +209,7 @@ fn is_among(text: &str, wanted: &[&str]) -> bool {
     false
 }
 
-/// Runs a text once, and asks that its answer be one of these.
+// Runs a text once, and asks that its answer be one of these.
 fn expect_run<R: Abort + Threads + Wait + Sync>(
     rt: &R,
     alloc: Global,

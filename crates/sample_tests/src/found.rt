@@ -5,7 +5,7 @@ use std::alloc::Global;
 use std::str;
 use std::test::Fail;
 
-/// Programs that an exploration closes. A sample of them finds all that can come, rare orders of events too.
+// Programs that an exploration closes. A sample of them finds all that can come, rare orders of events too.
 const PROGRAMS: &[(&str, &str)] = &[
     (
         "a release that is lost where the request comes between acquisition and guarantee",

@@ -4,7 +4,7 @@ use crate::answers::sampled;
 use std::alloc::Global;
 use std::test::Fail;
 
-/// A program with some reports, which come about equally often.
+// A program with some reports, which come about equally often.
 const PROGRAM: &str = "(ref r 0 (start f (seq (set r 1) (say 1)) (start g (seq (set r 2) (say 2)) \
     (start h (seq (set r 3) (say 3)) (get r)))))";
 

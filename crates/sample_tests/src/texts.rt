@@ -5,9 +5,9 @@ use outcome_trace::{FromRead, Status, TextOrder, ToWrite};
 use sample_text::sample_text;
 use std::alloc::{AllocError, Global};
 
-/// A sample, and what it answers.
+// A sample, and what it answers.
 struct Sampled<'a> {
-    /// What it shows.
+    // What it shows.
     rule: &'a str,
     program: &'a str,
     fibers: u16,
@@ -17,7 +17,7 @@ struct Sampled<'a> {
     text: &'a str,
 }
 
-/// A fiber alone: each of its schedules is the same.
+// A fiber alone: each of its schedules is the same.
 const SAMPLED: &[Sampled<'static>] = &[
     Sampled {
         rule: "a look and an end, as often as it is drawn",
@@ -138,7 +138,7 @@ fn is_answered_if_at_all(alloc: Global, it: &Sampled<'_>) -> bool {
     }
 }
 
-/// Holds whichever request for memory is refused.
+// Holds whichever request for memory is refused.
 #[test]
 fn a_text_is_sampled_or_memory_ran_out(rt: HostRuntime) {
     for it in SAMPLED {

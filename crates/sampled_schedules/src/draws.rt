@@ -4,21 +4,21 @@ ghost use Rattle.std.specs.Prelude.{◌<◌, ◌≤◌};
 use rand_core::{Rng, SeedableRng};
 use rand_xoshiro::Xoshiro256PlusPlus;
 
-// The numbers of xoshiro256++, whose first state SplitMix64 makes of a seed.
+/// The numbers of xoshiro256++, whose first state SplitMix64 makes of a seed.
 #[derive(Drop)]
 pub(crate) struct Draws {
     generator: Xoshiro256PlusPlus,
 }
 
 impl Draws {
-    // Those of this seed.
+    /// Those of this seed.
     pub(crate) fn new(seed: u64) -> Draws {
         Draws {
             generator: Xoshiro256PlusPlus::seed_from_u64(seed),
         }
     }
 
-    // A number below the bound.
+    /// A number below the bound.
     pub(crate) fn below(&mut self, bound: u32) -> u32
         requires { 0 < bound }
         ensures { result < bound }
@@ -26,8 +26,8 @@ impl Draws {
         self.generator.next_u32() % bound
     }
 
-    // How many entries one fiber has in a row. Half of them are single, and some are long: so it also comes that a
-    // fiber goes far while another stands.
+    /// How many entries one fiber has in a row. Half of them are single, and some are long: so it also comes that a
+    /// fiber goes far while another stands.
     pub(crate) fn row(&mut self) -> u32
         ensures { 1 ≤ result }
     {

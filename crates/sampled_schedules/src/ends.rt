@@ -4,7 +4,7 @@ ghost use Rattle.std.specs.Prelude.{◌≡◌, ◌≢◌, true, false};
 use cell_registry::RunError;
 use outcome_trace::{FiberReport, Report};
 
-// Whether both are one report or one fault.
+/// Whether both are one report or one fault.
 pub(crate) fn same_end(one: &Result<Report, RunError>, other: &Result<Report, RunError>) -> bool
     ensures same { result ≡ true → one.now ≡ other.now }
     ensures other { result ≡ false → one.now ≢ other.now }

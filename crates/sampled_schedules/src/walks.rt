@@ -6,11 +6,12 @@ ghost use Rattle.sampled_schedules.specs.Private.Walking.{IsWalk, came};
 
 use crate::draws::Draws;
 use cell_registry::{PlainRegistry, RunError};
+use effect_term::facts_of;
 use fiber_frames::Config;
 use outcome_trace::{enter, is_done};
 use std::alloc::AllocError;
 
-// Entries to the end, where no fiber can go on, or as many as there may be.
+/// Entries to the end, where no fiber can go on, or as many as there may be.
 pub(crate) fn walk(
     fibers: &mut Vec<Config>,
     registry: &mut PlainRegistry,
@@ -47,7 +48,7 @@ fn pick(fibers: &[Config], registry: &PlainRegistry, draws: &mut Draws) -> Optio
     ensures number { IfSome result (λ f. f < 1000) }
 {
     // The registry is within its limits.
-    let _ = registry.limits();
+    facts_of(registry.limits());
     let mut picked = None;
     let mut able = 0;
     for (index, config) in fibers.iter().enumerate() {

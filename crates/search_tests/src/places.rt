@@ -10,7 +10,7 @@ ghost use Rattle.world_search.specs.Lists.{IsMore};
 use std::alloc::{AllocError, Global};
 use world_search::{Entered, Landing, Worlds};
 
-/// Where the entries of fibers 0 and 1 lead, for each place: to a place or, from 100 on, to a fault.
+// Where the entries of fibers 0 and 1 lead, for each place: to a place or, from 100 on, to a fault.
 const MOVES: [u8; 48] = [
     // 0 to 2: a line
     1, 0, //

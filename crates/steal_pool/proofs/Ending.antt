@@ -16,7 +16,7 @@ use Rattle.outcome_trace.specs.Fitting.{AllFit, Fits, cell_registered, world_of}
 use Rattle.outcome_trace.specs.Stands.{IsOfSomeSchedule, Stands}
 use Rattle.outcome_trace.proofs.Continuing.{all_gathered, final_of, fits_longer, leads_on, some_report}
 use Rattle.outcome_trace.proofs.Standing.Lists.{get_early, get_last}
-use Rattle.outcome_trace.proofs.Standing.Moving.{stands-longer}
+use Rattle.outcome_trace.proofs.Standing.AfterATurn.{stands-longer}
 use Rattle.fiber_poll.specs.Tasks.{IsBroken}
 use Rattle.steal_pool.specs.declared.finishing.RunEnd.{RunEnd}
 use Rattle.steal_pool.specs.Private.Gathered.{AreInOrder, Gathered, IsIn}

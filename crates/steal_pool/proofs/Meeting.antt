@@ -14,7 +14,7 @@ use Rattle.outcome_trace.specs.Core.{core, reported}
 use Rattle.outcome_trace.specs.Fitting.{Fits, cell_registered}
 use Rattle.outcome_trace.specs.Stands.{IsOfSomeSchedule, Stands}
 use Rattle.outcome_trace.proofs.Continuing.{fits_longer, fits_pass}
-use Rattle.outcome_trace.proofs.Standing.Moving.{stands-longer}
+use Rattle.outcome_trace.proofs.Standing.AfterATurn.{stands-longer}
 use Rattle.outcome_trace.proofs.Standing.Schedules.{some_schedules}
 use Rattle.fiber_poll.specs.Tasks.{IsTask, IsTaskOf, TaskView}
 use Rattle.steal_pool.specs.Private.Gathered.{AreLines, Gathered, IsAtHome, IsMet}

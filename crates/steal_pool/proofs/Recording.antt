@@ -7,8 +7,10 @@ use Rattle.cell_registry.specs.declared.limits.RunError.{RunError}
 use Rattle.cell_registry.specs.declared.limits.RunError.TheVariants as fault
 use Rattle.outcome_trace.specs.declared.report.Report.{Report}
 use Rattle.outcome_trace.specs.Core.{core, reported}
+use Rattle.outcome_trace.specs.Covers.{IsInEachCover}
 use Rattle.outcome_trace.specs.Finals.{IsSettledReport}
 use Rattle.outcome_trace.proofs.Continuing.{settled_of}
+use Rattle.outcome_trace.proofs.Covering.{settled_listed}
 use Rattle.steal_pool.specs.declared.finishing.RunEnd.{RunEnd}
 use Rattle.steal_pool.specs.Records.{IsRecord}
 use Rattle.steal_pool.specs.Runs.{IsEnd}
@@ -28,3 +30,9 @@ pub settled_end : (code : Tree) (k : Limits) (r : Result RunEnd RunError) → If
     IfOk r (λ it. it.stopped ≡ None → IsSettledReport code k it.report)
 settled_end code k (Ok it) ends = λ none. settled_of code k it.report (ends.complete none)
 settled_end code k (Err e) ends = tt
+
+-- so each list that leaves nothing out has its report
+pub listed_end : (code : Tree) (k : Limits) (r : Result RunEnd RunError) → IfOk r (IsEnd code k) →
+    IfOk r (λ it. it.stopped ≡ None → IsInEachCover code k it.report)
+listed_end code k (Ok it) ends = λ none. settled_listed code k it.report (settled_of code k it.report (ends.complete none))
+listed_end code k (Err e) ends = tt

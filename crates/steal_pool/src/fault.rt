@@ -67,7 +67,7 @@ impl<'r, C: FaultCell> FirstFault<'r, C> {
         self.known_to_one(threads.into_iter().map(|thread| thread.join(rt)))
     }
 
-    /// The first fault that one of these workers knows, or that the cell shows by then.
+    // The first fault that one of these workers knows, or that the cell shows by then.
     fn known_to_one<I: Iterator<Item = Learned<C>> + Drop>(&self, workers: I) -> Option<RunError>
         requires can { I.can_next workers }
         requires ends { IsFinite (I.remaining workers) }

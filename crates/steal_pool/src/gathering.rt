@@ -10,6 +10,7 @@ ghost use Rattle.steal_pool.specs.Gathering.{IsLawful, IsMissing, TellsEach, Tel
 
 use cell_registry::{Pass, Registry, RunError};
 use derived_ops::Code;
+use effect_term::facts_of;
 use fiber_frames::{Ask, Config};
 use fiber_poll::FiberTask;
 use outcome_trace::{FiberReport, FiberReports, Marks, Report};
@@ -46,8 +47,8 @@ pub fn gather<'a>(
     })
 }
 
-// One pass that has met those of all tasks, and the states of their fibers, of which that of the last task
-// comes first.
+/// One pass that has met those of all tasks, and the states of their fibers, of which that of the last task
+/// comes first.
 pub(crate) fn meet<'a>(
     alloc: Global,
     registry: &Registry,
@@ -69,19 +70,19 @@ pub(crate) fn meet<'a>(
     };
     let mut configs = Vec::with_capacity(alloc, many)?;
     let (pass, config) = task.into_parts();
-    let _ = pass.number();
+    facts_of(pass.number());
     let mut met = pass;
     push(&mut configs, config)?;
     while let Some(task) = tasks.pop() {
         let (pass, config) = task.into_parts();
-        let _ = pass.number();
+        facts_of(pass.number());
         met = registry.meet(met, pass);
         push(&mut configs, config)?;
     }
     Ok((met, configs))
 }
 
-// One state more.
+/// One state more.
 pub(crate) fn push(configs: &mut Vec<Config>, config: Config) -> Result<(), RunError>
     ensures pushed { OnOk result (configs.new.items ≡ configs.old.items ++ config ∷ []) }
     ensures refused { IfErr result (λ error. error ≡ RunError.NoMemory) }

@@ -15,7 +15,7 @@ use std::sync::atomic::{AtomicBool, AtomicU64, Ordering};
 /// Whether one worker sleeps, and how it is woken.
 #[derive(Drop)]
 pub(crate) struct Sleeper {
-    /// Whether the worker is parked, and nobody has called it up yet.
+    // Whether the worker is parked, and nobody has called it up yet.
     parked: AtomicBool,
     unparker: Unparker,
 }

@@ -11,6 +11,18 @@
 //! It promises that every report is one that the core gives under some schedule, and that a run's is
 //! complete ([`run_told`]) unless a fiber has used its moves. That wakes arrive and that workers run at
 //! once is tested only.
+//!
+//! A program of two fibers runs on two workers so:
+//!
+//! ```
+//! let program = Program::check(alloc, parse(alloc, b"(start f (say 1) (seq (say 2) (pure 7)))")?)?;
+//! let mut options = Options::new();
+//! options.workers = 2;
+//! let report = run(&rt, alloc, program, options, &OpenGate)?;
+//! // fiber 0 succeeded 7: say 2
+//! // fiber 1 succeeded 0: say 1
+//! let text = text_of_report(alloc, &report)?;
+//! ```
 #![tactic(auto)]
 
 mod deque;

@@ -5,6 +5,7 @@ ghost use Rattle.cell_registry.specs.Cells.{AreLimits};
 ghost use Rattle.derived_ops.specs.Expansion.{code_of};
 ghost use Rattle.derived_ops.specs.Reading.{source_of};
 ghost use Rattle.outcome_trace.specs.Core.{core, reported};
+ghost use Rattle.outcome_trace.specs.Covers.{IsInEachCover};
 ghost use Rattle.outcome_trace.specs.Finals.{IsFinalReport, IsSettledReport};
 ghost use Rattle.outcome_trace.specs.Stands.{IsOfSomeSchedule};
 ghost use Rattle.steal_pool.specs.Gathering.{IsLawful};
@@ -71,6 +72,8 @@ pub fn run_recorded<R: Threads + Wait + Sync, G: Gate>(
         IsFinalReport (code_of (source_of program)) (limits_of options) it.report) }
     ensures settled { IfOk result.end (λ it. it.stopped ≡ Nobody →
         IsSettledReport (code_of (source_of program)) (limits_of options) it.report) }
+    ensures listed { IfOk result.end (λ it. it.stopped ≡ Nobody →
+        IsInEachCover (code_of (source_of program)) (limits_of options) it.report) }
     ensures stopped { IfOk result.end (λ it. (f : ℕ) → it.stopped ≡ Somebody f → TellsUnended it.report f) }
     ensures lawful { IfOk result.end (λ it. All IsLawful it.report.fibers) }
     ensures full { IfErr result.end (IsFaultWithin (limits_of options)) }

@@ -131,7 +131,10 @@ impl<'g, 'f, W: Watch, C: FaultCell> Shared<'g, 'f, W, C> {
     {
         let number = task.number();
         let woken = seat.put(rt, task, false)?;
-        self.wake_all_of(rt, queues, seat, Topic::Fiber(number), number)?;
+        let topic = Topic::Fiber(number);
+        if seat.is_awaited(topic, number)? {
+            self.wake_all_of(rt, queues, seat, topic, number)?;
+        }
         if woken {
             self.pass_on(queues, number)?;
         } else {

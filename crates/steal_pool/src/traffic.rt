@@ -23,7 +23,7 @@ impl Protocol<u16, Traffic> for Ledgered {
     ghost guest = { traffic [] [] };
 }
 
-// A number goes to the end of the list.
+/// A number goes to the end of the list.
 pub(crate) struct Puts;
 
 impl Outcome<u16, Traffic> for Puts {
@@ -32,7 +32,7 @@ impl Outcome<u16, Traffic> for Puts {
     ghost then = { PutLast };
 }
 
-// The first number leaves the list, or the list is empty.
+/// The first number leaves the list, or the list is empty.
 pub(crate) struct Takes;
 
 impl Outcome<u16, Traffic> for Takes {

@@ -77,7 +77,7 @@ impl<'g, 'f, W: Watch, C: FaultCell> Drop for Shared<'g, 'f, W, C> {
 
 // What a look around tells a worker.
 #[derive(Clone, Copy)]
-enum Look {
+enum Searched {
     Found(u16),
     Nothing,
     Over,
@@ -166,20 +166,20 @@ impl<'g, 'f, W: Watch, C: FaultCell> Shared<'g, 'f, W, C> {
         self.idle.begin_search();
         for _ in rt.forever() {
             match self.look_on(rt, queues) {
-                Look::Found(number) => {
+                Searched::Found(number) => {
                     self.idle.end_search();
                     return Some(number);
                 }
-                Look::Over => return None,
-                Look::Nothing => {}
+                Searched::Over => return None,
+                Searched::Nothing => {}
             }
             self.idle.park(worker);
             let last = self.look(rt, queues);
-            if let Look::Nothing = last {
+            if let Searched::Nothing = last {
                 parker.park(rt);
             }
             self.idle.get_up(worker);
-            if let Look::Found(number) = last {
+            if let Searched::Found(number) = last {
                 self.idle.end_search();
                 return Some(number);
             }
@@ -188,26 +188,26 @@ impl<'g, 'f, W: Watch, C: FaultCell> Shared<'g, 'f, W, C> {
     }
 
     // Looks around for a while.
-    fn look_on<R: Wait>(&self, rt: &R, queues: &mut Queues<'_>) -> Look {
+    fn look_on<R: Wait>(&self, rt: &R, queues: &mut Queues<'_>) -> Searched {
         let backoff = Backoff::new();
         for _ in 0..LOOKS {
             let look = self.look(rt, queues);
-            let Look::Nothing = look else {
+            let Searched::Nothing = look else {
                 return look;
             };
             backoff.snooze();
         }
-        Look::Nothing
+        Searched::Nothing
     }
 
     // Looks at all queues once.
-    fn look<R: Wait>(&self, rt: &R, queues: &mut Queues<'_>) -> Look {
+    fn look<R: Wait>(&self, rt: &R, queues: &mut Queues<'_>) -> Searched {
         if self.active.load(Ordering::SeqCst) == 0 || self.first_fault.is_known() {
-            return Look::Over;
+            return Searched::Over;
         }
         match queues.steal(rt) {
-            Some(number) => Look::Found(number),
-            None => Look::Nothing,
+            Some(number) => Searched::Found(number),
+            None => Searched::Nothing,
         }
     }
 

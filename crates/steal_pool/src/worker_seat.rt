@@ -120,6 +120,15 @@ impl<'b, 'a> WorkerSeat<'b, 'a> {
         Ok(())
     }
 
+    /// Whether fibers may wait for a topic of this fiber's turn.
+    #[inline(always)]
+    pub(crate) fn is_awaited(&self, topic: Topic, number: u16) -> Result<bool, RunError> {
+        if !self.bay.has(topic) {
+            return Err(RunError::Lost(number));
+        }
+        Ok(self.bay.is_awaited(topic))
+    }
+
     /// The fibers that wait for a topic of this fiber's turn. Nobody waits for it from then on.
     pub(crate) fn drain(
         &self,

@@ -15,7 +15,7 @@ use std::sync::Wait;
 use std::test::Fail;
 use wait_bay::{Bay, BaySeat, PutError, PutFault};
 
-/// A program whose first turn starts fiber 1.
+// A program whose first turn starts fiber 1.
 const STARTING: &str = "(start f (say 1) (pure 2))";
 
 // The task of fiber 1, which fiber 0 starts.
@@ -209,7 +209,7 @@ fn a_wake_before_the_put_is_kept(rt: HostRuntime) -> Result<(), Fail> {
 
 const DEFERRED: Topic = Topic::Deferred(0);
 
-/// Who comes to wait, and who is then told, topic by topic.
+// Who comes to wait, and who is then told, topic by topic.
 struct Waiting<'a> {
     come: &'a [(Topic, u16)],
     told: &'a [(Topic, &'a [u16])],
@@ -273,7 +273,7 @@ fn those_that_wait_are_told_once_in_their_order(rt: HostRuntime) -> Result<(), F
     Ok(())
 }
 
-/// Whether a bay for three fibers and one deferred has a list for each topic.
+// Whether a bay for three fibers and one deferred has a list for each topic.
 const LISTS: &[(Topic, bool)] = &[
     (Topic::Fiber(2), true),
     (Topic::Fiber(3), false),

@@ -215,7 +215,7 @@ fn shares_moves(alloc: Global, left: u32) -> Result<bool, Fail>
     )
 }
 
-/// Both fibers need eight moves from the start on.
+// Both fibers need eight moves from the start on.
 #[test]
 fn a_child_begins_with_the_moves_that_are_left(rt: HostRuntime) -> Result<(), Fail> {
     for left in 1..11u32 {

@@ -15,7 +15,7 @@ use std::random::RandomSource;
 use std::sync::Wait;
 use wait_bay::{Bay, BaySeat};
 
-/// Three brackets, which are cut in the innermost body.
+// Three brackets, which are cut in the innermost body.
 const NESTED: &str =
     "(bracket a (pure 1) (bracket b (pure 2) (bracket c (pure 3) (canceled) (say c)) (say b)) (say a))";
 
@@ -86,14 +86,14 @@ fn nested_ends(alloc: Global) -> Option<bool> {
     Some(ends(&mut task, Outcome::Canceled, nested_marks().as_slice()))
 }
 
-/// What a turn answers and the marks from then on, or that memory ran out, which each later turn
-/// answers, too.
+// What a turn answers and the marks from then on, or that memory ran out, which each later turn
+// answers, too.
 #[test]
 fn a_turn_ends_the_fiber_or_memory_ran_out(rt: HostRuntime) {
     assert!(rt; nested_ends(rt.alloc()) != Some(false));
 }
 
-/// A program whose first turn starts fiber 1.
+// A program whose first turn starts fiber 1.
 const STARTING: &str =
     "(let x (pure 7) (let y (pure 8) (start f (say y) (join f z (say z) e (pure 0) (pure 0)))))";
 
@@ -120,7 +120,7 @@ fn first_starts(alloc: Global) -> Option<bool> {
     Some(starts(&mut parent))
 }
 
-/// The child's task and its mark, or that memory ran out, which each later turn answers, too.
+// The child's task and its mark, or that memory ran out, which each later turn answers, too.
 #[test]
 fn a_turn_starts_a_fiber_or_memory_ran_out(rt: HostRuntime) {
     assert!(rt; first_starts(rt.alloc()) != Some(false));
@@ -139,7 +139,7 @@ fn nested_ends_alone<R: Wait + RandomSource + AllocGlobal>(rt: &R) -> Option<boo
     }
 }
 
-/// The future's queue asks for memory, too: where it is refused, the thread can't wait.
+// The future's queue asks for memory, too: where it is refused, the thread can't wait.
 #[test]
 fn a_program_ends_alone_or_memory_ran_out(rt: HostRuntime) {
     assert!(&rt; nested_ends_alone(&rt) != Some(false));

@@ -12,7 +12,7 @@ use std::test::Fail;
 
 const ENDED: Told = Told::Succeeded(0);
 
-/// The parent joins the child, and says its value.
+// The parent joins the child, and says its value.
 const JOINING: &str = "(start f (say 1) (join f x (say x) e (raise e) (pure -1)))";
 
 const JOINED: &str = "fiber 0 succeeded 0: say 0\nfiber 1 succeeded 0: say 1\n";
@@ -57,7 +57,7 @@ const JOIN_ORDERS: &[Turns<'static>] = &[
     },
 ];
 
-/// The child adds to a ref before, between or after the parent's two additions.
+// The child adds to a ref before, between or after the parent's two additions.
 const ADDING: &str =
     "(ref r 0 (start f (modify r 1) (let x (modify r 2) (let y (modify r 4) (seq (say x) (say y))))))";
 
@@ -100,7 +100,7 @@ const ADD_ORDERS: &[Turns<'static>] = &[
     },
 ];
 
-/// The parent cancels the child, which is masked but for a poll.
+// The parent cancels the child, which is masked but for a poll.
 const CANCELING: &str =
     "(start f (uncancelable p (seq (say 1) (poll p (say 2)) (say 3))) (cancel f))";
 

@@ -27,7 +27,7 @@ const SPENT: Told = Told::Spent(0);
 
 const CHILD_SPENT: Told = Told::Spent(1);
 
-/// Where each band has one number.
+// Where each band has one number.
 const FULL: &[Turns<'static>] = &[
     Turns {
         rule: "a refused start is refused again",
@@ -55,7 +55,7 @@ const FULL: &[Turns<'static>] = &[
     },
 ];
 
-/// Where there may be two fibers.
+// Where there may be two fibers.
 const TWO_FIBERS: &[Turns<'static>] = &[Turns {
     rule: "a second start is refused, and the fiber of the first one goes on",
     program: "(start f (say 1) (start g (pure 2) (pure 3)))",
@@ -72,7 +72,7 @@ const TWO_FIBERS: &[Turns<'static>] = &[Turns {
     report: "fiber 0 unended\nfiber 1 succeeded 0: say 1\n",
 }];
 
-/// Where a fiber may change its cell once.
+// Where a fiber may change its cell once.
 const ONE_CHANGE: &[Turns<'static>] = &[Turns {
     rule: "the end of a mask is refused",
     program: "(uncancelable p (say 1))",
@@ -82,7 +82,7 @@ const ONE_CHANGE: &[Turns<'static>] = &[Turns {
     report: "fiber 0 unended: enter 0, say 1\n",
 }];
 
-/// Where a fiber may change its cell twice, and there may be three fibers.
+// Where a fiber may change its cell twice, and there may be three fibers.
 const TWO_CHANGES: &[Turns<'static>] = &[
     Turns {
         rule: "an end is refused",
@@ -132,7 +132,7 @@ fn the_task_stands_before_a_change_that_is_not_made(rt: HostRuntime) -> Result<(
     expect_turns(&rt, few(3, 2), TWO_CHANGES)
 }
 
-/// What a fiber asks next.
+// What a fiber asks next.
 #[derive(Clone, Copy, PartialEq)]
 enum Wanted {
     Start,
@@ -140,17 +140,17 @@ enum Wanted {
     Other,
 }
 
-/// A program whose fiber comes to a move that is refused.
+// A program whose fiber comes to a move that is refused.
 #[derive(Drop)]
 struct Refused<'a> {
     program: &'a str,
-    /// What each turn tells.
+    // What each turn tells.
     told: Told,
     marks: &'a [Mark],
     wanted: Wanted,
-    /// The fiber's changes of its cell.
+    // The fiber's changes of its cell.
     count: u64,
-    /// Its active masks.
+    // Its active masks.
     depth: u8,
 }
 

@@ -14,7 +14,7 @@ use std::random::RandomSource;
 use std::sync::Wait;
 use std::test::Fail;
 
-/// A program, how many moves its fiber needs, and how it ends.
+// A program, how many moves its fiber needs, and how it ends.
 const ENDS: &[(&str, u32, Told)] = &[
     (
         "(uncancelable p (let a (canceled) (let b (say 1) (poll p (say 2)))))",
@@ -117,8 +117,8 @@ fn alone_is_the_core_under_entries_of_0(rt: HostRuntime) -> Result<(), Fail> {
     Ok(())
 }
 
-/// A program, how many moves its fiber may make, and the end or the fault where each band has one number
-/// and a cell changes twice.
+// A program, how many moves its fiber may make, and the end or the fault where each band has one number
+// and a cell changes twice.
 const FUTURES: &[(&str, u32, Option<Told>)] = &[
     ("(seq (say 1) (cede) (raise 3))", 10, Some(Told::Errored(3))),
     ("(seq (say 1) (cede) (raise 3))", 9, None),

@@ -1,8 +1,8 @@
 -- The pieces of a term.
 use Rattle.std.proofs.Common.{◌≡◌, List, [], ◌∷◌, ◌++◌, refl, ap, sym, subst, ◌∙◌, append_assoc}
 use Rattle.effect_term.specs.declared.term.Term.{Term, Row_of-Term, end_of-Term, more_of-Term, items-the_row-Term}
-use Rattle.term_parse.specs.declared.form.Piece.{Piece}
-use Rattle.term_parse.specs.declared.form.Piece.TheVariants as pieces
+use Rattle.term_parse.specs.declared.form.ReadPart.{ReadPart}
+use Rattle.term_parse.specs.declared.form.ReadPart.TheVariants as pieces
 use Rattle.term_parse.specs.declared.table.Word.{Word}
 use Rattle.term_parse.specs.declared.table.Word.TheVariants as words
 use Rattle.term_parse.specs.Atoms.{Atom, ended, atoms_of, row_atoms}
@@ -12,7 +12,7 @@ no_more : (xs : List Atom) → xs ++ [] ≡ xs
 no_more [] = refl
 no_more (x ∷ xs) = ap (λ r. x ∷ r) (no_more xs)
 
-pub ends_none : (ps : List Piece) → sorts ps ≡ [] → ends ps ≡ ended ∷ []
+pub ends_none : (ps : List ReadPart) → sorts ps ≡ [] → ends ps ≡ ended ∷ []
 ends_none [] h = refl
 ends_none (p ∷ ps) h = cc
 
@@ -21,10 +21,10 @@ terms_atoms-add [] t = no_more (atoms_of t)
 terms_atoms-add (u ∷ ts) t = ap (λ r. atoms_of u ++ r) (terms_atoms-add ts t) ∙ sym (append_assoc (atoms_of u) (terms_atoms ts) (atoms_of t))
 
 -- one more of the terms of a seq
-pub rest_more : (ps qs : List Piece) (t : Term) (p : Piece) → ps ≡ p ∷ qs → p ≡ pieces.Term t → AllTerms (sorts ps) → AllTerms (sorts qs)
+pub rest_more : (ps qs : List ReadPart) (t : Term) (p : ReadPart) → ps ≡ p ∷ qs → p ≡ pieces.Term t → AllTerms (sorts ps) → AllTerms (sorts qs)
 rest_more ps qs t p e k a = subst (λ x. AllTerms (sort_of x ∷ sorts qs)) k (subst (λ x. AllTerms (sorts x)) e a)
 
-pub rest_atoms : (all : List Atom) (ts new : List Term) (ps qs : List Piece) (t : Term) (p : Piece) → ps ≡ p ∷ qs → p ≡ pieces.Term t → new ≡ ts ++
+pub rest_atoms : (all : List Atom) (ts new : List Term) (ps qs : List ReadPart) (t : Term) (p : ReadPart) → ps ≡ p ∷ qs → p ≡ pieces.Term t → new ≡ ts ++
     t ∷ [] → all ≡ terms_atoms ts ++ ends ps → all ≡ terms_atoms new ++ ends qs
 rest_atoms all ts new ps qs t p e k n a =
     let front : ends ps ≡ atoms_of t ++ ends qs = ap ends e ∙ ap (λ x. ends (x ∷ qs)) k ∙ append_assoc (atoms_of t) (pieces_atoms qs) (ended ∷ []) in

@@ -13,7 +13,7 @@ use Rattle.term_parse.specs.declared.error.ParseError.TheVariants as errors
 use Rattle.term_parse.specs.Atoms.{Atom, word, value, name, ended}
 use Rattle.term_parse.specs.Language.{word_spelling, parts_of, word_of}
 use Rattle.term_parse.specs.Lexemes.{Lexeme, opens, closes, called, number, bad_number, bad_byte, Placed}
-use Rattle.term_parse.specs.Reading.{Bound, Want, term, a_word, parts, Step, want_step, part_step, begun, used}
+use Rattle.term_parse.specs.Reading.{Bound, Want, term, a_word, parts, ReadStep, want_step, part_step, begun, used}
 use Rattle.term_parse.specs.Reading.{opening, entered, meaning, open_of, with_front, reads}
 use Rattle.term_parse.specs.Grammar.{Phrase, done, spelled, counted, form, tokens_of, depth_of, Means}
 use Rattle.term_parse.proofs.Fronts.{with_front-ok}
@@ -36,18 +36,18 @@ Covered (parts s b ps ∷ ws) ts xs =
     × (ts ≡ tokens_of p ++ more) × (xs ≡ first ++ rest) × Means s b ps p first × (suc (open_of ws) + depth_of p ≤ 100) × Covered ws more rest
 
 -- a token that gives this step: what covers the step's wants covers the want
-abbrev pub Onward : Want → Lexeme → ℕ → List Want → List Placed → List Atom → Step → Type 0
+abbrev pub Onward : Want → Lexeme → ℕ → List Want → List Placed → List Atom → ReadStep → Type 0
 Onward w l at ws ts ys st =
     (open_of (st.wants ++ ws) ≤ 100 → Covered (st.wants ++ ws) ts ys) →
     Covered (w ∷ ws) (record { lexeme = l; place = at } ∷ ts) (st.atoms ++ ys)
 
-abbrev stepped : Step → Result Step ParseError
+abbrev stepped : ReadStep → Result ReadStep ParseError
 stepped s = Ok s
 
-same_step : (st s : Step) → stepped st ≡ stepped s → st ≡ s
+same_step : (st s : ReadStep) → stepped st ≡ stepped s → st ≡ s
 same_step st s h = cc
 
-opening_was : (P : Step → Type 0) (depth at : ℕ) (ws : List Want) (s : Step) → (depth < 100 → P (record { atoms = []; wants = ws })) → (b : Bool) →
+opening_was : (P : ReadStep → Type 0) (depth at : ℕ) (ws : List Want) (s : ReadStep) → (depth < 100 → P (record { atoms = []; wants = ws })) → (b : Bool) →
     nat_lt depth 100 ≡ b → opening depth at ws ≡ Ok s → P s
 opening_was P depth at ws s k true q h =
     let e : opening depth at ws ≡ Ok (record { atoms = []; wants = ws }) = rw q refl in
@@ -56,12 +56,12 @@ opening_was P depth at ws s k false q h =
     let e : opening depth at ws ≡ Err (errors.TooDeep at) = rw q refl in
     cc
 
-used_was : (P : Step → Type 0) (m : Result Name ParseError) (atom : Name → Atom) (after : Want) (s : Step) →
+used_was : (P : ReadStep → Type 0) (m : Result Name ParseError) (atom : Name → Atom) (after : Want) (s : ReadStep) →
     ((n : Name) → m ≡ Ok n → P (record { atoms = atom n ∷ []; wants = after ∷ [] })) → used m atom after ≡ Ok s → P s
 used_was P (Ok n) atom after s k h = subst P (same_step (record { atoms = atom n ∷ []; wants = after ∷ [] }) s h) (k n refl)
 used_was P (Err e) atom after s k h = cc
 
-begun_was : (P : Step → Type 0) (o : Option Word) (scope : List Bound) (at : ℕ) (s : Step) →
+begun_was : (P : ReadStep → Type 0) (o : Option Word) (scope : List Bound) (at : ℕ) (s : ReadStep) →
     ((r : Word) → o ≡ Some r → P (record { atoms = word r ∷ []; wants = parts scope [] (parts_of r) ∷ [] })) → begun o scope at ≡ Ok s → P s
 begun_was P (Some r) scope at s k h = subst P (same_step (record { atoms = word r ∷ []; wants = parts scope [] (parts_of r) ∷ [] }) s h) (k r refl)
 begun_was P None scope at s k h = cc
@@ -90,7 +90,7 @@ formed s' s b ps ps' at ws ts ys k low cover =
       outside,
     )
 
-part_onward : (s b : List Bound) (p : Part) (ps : List Part) (l : Lexeme) (at : ℕ) (ws : List Want) (ts : List Placed) (ys : List Atom) (st : Step) →
+part_onward : (s b : List Bound) (p : Part) (ps : List Part) (l : Lexeme) (at : ℕ) (ws : List Want) (ts : List Placed) (ys : List Atom) (st : ReadStep) →
     suc (open_of ws) ≤ 100 → part_step (suc (open_of ws)) s b p ps l at ≡ Ok st → Onward (parts s b (p ∷ ps)) l at ws ts ys st
 unfolding part_step
 part_onward s b (Bind k) ps (called x) at ws ts ys st low h =
@@ -160,7 +160,7 @@ part_onward s b Close ps closes at ws ts ys st low h =
     (λ cover. (done at, ended ∷ [], ts, ys, refl, refl, refl, omega arith, cover (omega arith)))
 part_onward s b p ps l at ws ts ys st low h = cc
 
-onward : (w : Want) (l : Lexeme) (at : ℕ) (ws : List Want) (ts : List Placed) (ys : List Atom) (st : Step) → open_of (w ∷ ws) ≤ 100 →
+onward : (w : Want) (l : Lexeme) (at : ℕ) (ws : List Want) (ts : List Placed) (ys : List Atom) (st : ReadStep) → open_of (w ∷ ws) ≤ 100 →
     want_step (open_of (w ∷ ws)) w l at ≡ Ok st → Onward w l at ws ts ys st
 unfolding want_step
 onward w bad_byte at ws ts ys st low h = cc
@@ -192,7 +192,7 @@ onward (parts s b (p ∷ ps)) l at ws ts ys st low h = part_onward s b p ps l at
 
 covered_more : (end : ℕ) (t : Placed) (ts : List Placed) (w : Want) (ws : List Want) (xs : List Atom) →
     ((vs : List Want) (ys : List Atom) → open_of vs ≤ 100 → reads end vs ts ≡ Ok ys → Covered vs ts ys) → open_of (w ∷ ws) ≤ 100 →
-    reads end (w ∷ ws) (t ∷ ts) ≡ Ok xs → (r : Result Step ParseError) → want_step (open_of (w ∷ ws)) w t.lexeme t.place ≡ r → Covered (w ∷ ws) (t ∷ ts) xs
+    reads end (w ∷ ws) (t ∷ ts) ≡ Ok xs → (r : Result ReadStep ParseError) → want_step (open_of (w ∷ ws)) w t.lexeme t.place ≡ r → Covered (w ∷ ws) (t ∷ ts) xs
 unfolding reads
 covered_more end t ts w ws xs ih low h (Err e) q = let l : reads end (w ∷ ws) (t ∷ ts) ≡ Err e = rw (q, reads) refl in cc
 covered_more end t ts w ws xs ih low h (Ok s) q =

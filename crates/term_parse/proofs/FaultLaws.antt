@@ -3,7 +3,7 @@ use Rattle.std.proofs.Common.{◌≡◌, ℕ, List, [], ◌∷◌, ◌++◌, Res
 use Rattle.term_parse.specs.declared.error.ParseError.{ParseError}
 use Rattle.term_parse.specs.declared.error.ParseError.TheVariants as errors
 use Rattle.term_parse.specs.Lexemes.{Placed, lexemes_at}
-use Rattle.term_parse.specs.Reading.{Want, term, Step, want_step, open_of, reads, reads_at, reading, with_front}
+use Rattle.term_parse.specs.Reading.{Want, term, ReadStep, want_step, open_of, reads, reads_at, reading, with_front}
 use Rattle.term_parse.specs.Faults.{Fit, Breaks, IsFirstFault, IsFaultOf, FaultWhere}
 use Rattle.term_parse.proofs.Fronts.{with_front-err}
 
@@ -26,7 +26,7 @@ reads-from_fault end ws ts e h = rw h.tokens_are (fault_later end h.front ws h.t
 
 -- a reading that fails at its first token, or later
 fault_more : (end : ℕ) (t : Placed) (ts : List Placed) (w : Want) (ws : List Want) (e : ParseError) →
-    ((vs : List Want) → reads end vs ts ≡ Err e → IsFirstFault end vs ts e) → reads end (w ∷ ws) (t ∷ ts) ≡ Err e → (r : Result Step ParseError) →
+    ((vs : List Want) → reads end vs ts ≡ Err e → IsFirstFault end vs ts e) → reads end (w ∷ ws) (t ∷ ts) ≡ Err e → (r : Result ReadStep ParseError) →
     want_step (open_of (w ∷ ws)) w t.lexeme t.place ≡ r → IsFirstFault end (w ∷ ws) (t ∷ ts) e
 unfolding reads
 fault_more end t ts w ws e ih h (Err g) q =

@@ -6,8 +6,8 @@ use Rattle.effect_term.specs.declared.term.Term.TheVariants.{Never, Canceled, Un
 use Rattle.effect_term.specs.declared.term.Term.TheVariants.{Join', Cancel, Ref', Get, Set, Modify, Deferred'}
 use Rattle.effect_term.specs.declared.term.Term.TheVariants.{Complete, Await, Repeat', Forever', Guarantee', Bracket'}
 use Rattle.effect_term.specs.declared.term.Term.TheVariants.{BracketCase', BracketFull', Race', Both'}
-use Rattle.term_parse.specs.declared.printer.Piece.{Piece}
-use Rattle.term_parse.specs.declared.printer.Piece.TheVariants as pieces
+use Rattle.term_parse.specs.declared.printer.PrintedPart.{PrintedPart}
+use Rattle.term_parse.specs.declared.printer.PrintedPart.TheVariants as pieces
 use Rattle.term_parse.specs.declared.table.Word.{Word}
 use Rattle.term_parse.specs.declared.table.Part.{Part}
 use Rattle.term_parse.specs.declared.table.Part.TheVariants as parts
@@ -15,17 +15,17 @@ use Rattle.term_parse.specs.Atoms.{Atom, word, value, name, ended, atoms_of}
 use Rattle.term_parse.specs.Language.{parts_of}
 use Rattle.term_parse.specs.Spelling as spelled
 use Rattle.term_parse.specs.Spelling.{form, spelling}
-use Rattle.term_parse.specs.Pieces.{Held, a_value, a_name, inner, held_by, held_in, held_of, term_word, more_of}
-use Rattle.term_parse.specs.Pieces.{piece_of, pieces_of, piece_atoms, pieces_atoms, terms_spelled, terms_atoms, Suffice}
+use Rattle.term_parse.specs.PrintedParts.{Held, a_value, a_name, inner, held_by, held_in, held_of, term_word, more_of}
+use Rattle.term_parse.specs.PrintedParts.{piece_of, pieces_of, piece_atoms, pieces_atoms, terms_spelled, terms_atoms, Suffice}
 use Rattle.term_parse.proofs.TermRows.{row_spellings_items, row_atoms_items}
 
 -- how this is spelled
-abbrev held_spelled : Held → spelled.Piece
+abbrev held_spelled : Held → spelled.SpelledPart
 held_spelled (a_value v) = spelled.value v
 held_spelled (a_name n) = spelled.name n
 held_spelled (inner t) = spelled.inner (spelling t)
 
-abbrev all_spelled : List Held → List spelled.Piece
+abbrev all_spelled : List Held → List spelled.SpelledPart
 all_spelled [] = []
 all_spelled (h ∷ hs) = held_spelled h ∷ all_spelled hs
 
@@ -49,30 +49,30 @@ Covers (parts.Bind k ∷ ps) hs more = Covers ps hs more
 Covers (p ∷ ps) (h ∷ hs) more = Covers ps hs more
 Covers (p ∷ ps) hs more = ⊥
 
-piece_spelled : (p : Piece) → piece_of p ≡ held_spelled (held_by p)
+piece_spelled : (p : PrintedPart) → piece_of p ≡ held_spelled (held_by p)
 piece_spelled (pieces.Value v) = refl
 piece_spelled (pieces.Name n) = refl
 piece_spelled (pieces.Term t) = refl
 
-pieces_spelled : (ps : List (Option Piece)) → pieces_of ps ≡ all_spelled (held_in ps)
+pieces_spelled : (ps : List (Option PrintedPart)) → pieces_of ps ≡ all_spelled (held_in ps)
 pieces_spelled [] = refl
 pieces_spelled (Some p ∷ ps) =
     ap (λ x. x ∷ pieces_of ps) (piece_spelled p) ∙ ap (λ xs. held_spelled (held_by p) ∷ xs) (pieces_spelled ps)
 pieces_spelled (None ∷ ps) = refl
 
-piece_atoms_held : (p : Piece) → piece_atoms p ≡ held_atoms (held_by p)
+piece_atoms_held : (p : PrintedPart) → piece_atoms p ≡ held_atoms (held_by p)
 piece_atoms_held (pieces.Value v) = refl
 piece_atoms_held (pieces.Name n) = refl
 piece_atoms_held (pieces.Term t) = refl
 
-pieces_atoms_held : (ps : List (Option Piece)) (end : List Atom) → pieces_atoms ps end ≡ all_atoms (held_in ps) end
+pieces_atoms_held : (ps : List (Option PrintedPart)) (end : List Atom) → pieces_atoms ps end ≡ all_atoms (held_in ps) end
 pieces_atoms_held [] end = refl
 pieces_atoms_held (Some p ∷ ps) end =
     ap (λ xs. xs ++ pieces_atoms ps end) (piece_atoms_held p)
     ∙ ap (λ xs. held_atoms (held_by p) ++ xs) (pieces_atoms_held ps end)
 pieces_atoms_held (None ∷ ps) end = refl
 
-suffice_held : (ws : List Part) (ps : List (Option Piece)) (more : List Term) → Covers ws (held_in ps) more →
+suffice_held : (ws : List Part) (ps : List (Option PrintedPart)) (more : List Term) → Covers ws (held_in ps) more →
     Suffice ws ps more
 suffice_held [] ps more h = absurd h
 suffice_held (parts.Close ∷ ws) [] more h = (tt, h)
@@ -206,7 +206,7 @@ covered (Race' p a q b) = refl
 covered (Both' p a q b r k) = refl
 
 -- a term's word, pieces that hold what stands in it, and its further terms are its form
-pub form_spelling : (t : Term) (w : Word) (ps : List (Option Piece)) (more : List Term) → w ≡ term_word t →
+pub form_spelling : (t : Term) (w : Word) (ps : List (Option PrintedPart)) (more : List Term) → w ≡ term_word t →
     held_in ps ≡ held_of t → more ≡ more_of t → spelling t ≡ form w (pieces_of ps) (terms_spelled more)
 form_spelling t w ps more d e f =
     spelling_held t
@@ -214,7 +214,7 @@ form_spelling t w ps more d e f =
     ∙ ap (λ x. form x (pieces_of ps) (terms_spelled (more_of t))) (sym d)
     ∙ ap (λ ts. form w (pieces_of ps) (terms_spelled ts)) (sym f)
 
-pub form_atoms : (t : Term) (w : Word) (ps : List (Option Piece)) (more : List Term) → w ≡ term_word t →
+pub form_atoms : (t : Term) (w : Word) (ps : List (Option PrintedPart)) (more : List Term) → w ≡ term_word t →
     held_in ps ≡ held_of t → more ≡ more_of t → atoms_of t ≡ word w ∷ pieces_atoms ps (terms_atoms more (ended ∷ []))
 form_atoms t w ps more d e f =
     let end : List Atom = terms_atoms (more_of t) (ended ∷ []) in
@@ -222,7 +222,7 @@ form_atoms t w ps more d e f =
     ∙ ap (λ x. word x ∷ pieces_atoms ps end) (sym d)
     ∙ ap (λ ts. word w ∷ pieces_atoms ps (terms_atoms ts (ended ∷ []))) (sym f)
 
-pub form_suffices : (t : Term) (w : Word) (ps : List (Option Piece)) (more : List Term) → w ≡ term_word t →
+pub form_suffices : (t : Term) (w : Word) (ps : List (Option PrintedPart)) (more : List Term) → w ≡ term_word t →
     held_in ps ≡ held_of t → more ≡ more_of t → Suffice (parts_of w) ps more
 form_suffices t w ps more d e f =
     let covers : Covers (parts_of (term_word t)) (held_in ps) (more_of t) =

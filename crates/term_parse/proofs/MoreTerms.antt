@@ -4,7 +4,7 @@ use Rattle.std.proofs.lemmas.List.{at_drop_more, at_drop_all}
 use Rattle.effect_term.specs.declared.term.Term.{Term}
 use Rattle.term_parse.specs.Atoms.{ended, atoms_of}
 use Rattle.term_parse.specs.Numbers.{NumbersFit}
-use Rattle.term_parse.specs.Pieces.{terms_spelled, terms_atoms}
+use Rattle.term_parse.specs.PrintedParts.{terms_spelled, terms_atoms}
 use Rattle.term_parse.specs.Spelling.{spelling, more_spelling}
 use Rattle.term_parse.proofs.PrintedNumbers.{join_numbers}
 use Rattle.term_parse.proofs.Weights.{weight, terms_weight}

@@ -7,10 +7,10 @@ use Rattle.effect_term.specs.declared.term.Term as terms
 use Rattle.term_parse.specs.declared.error.ParseError.{ParseError}
 use Rattle.term_parse.specs.declared.table.Word.{Word}
 use Rattle.term_parse.specs.declared.scope.Binding.{Binding}
-use Rattle.term_parse.specs.declared.form.Piece.TheVariants as pieces
+use Rattle.term_parse.specs.declared.form.ReadPart.TheVariants as pieces
 use Rattle.term_parse.specs.declared.form.Form.{Form}
-use Rattle.term_parse.specs.declared.form.Step.{Step}
-use Rattle.term_parse.specs.declared.form.Step.TheVariants as steps
+use Rattle.term_parse.specs.declared.form.FormStep.{FormStep}
+use Rattle.term_parse.specs.declared.form.FormStep.TheVariants as steps
 use Rattle.term_parse.specs.Atoms.{word, atoms_of}
 use Rattle.term_parse.specs.Language.{parts_of}
 use Rattle.term_parse.specs.Reading.{term, parts, with_front, reads_at, Fails}
@@ -147,7 +147,7 @@ pub forms_few : (text : List ℕ) (at : ℕ) (s : List Binding) (f : Form) (fs :
     IsOpen text at s f fs → length fs ≤ at
 forms_few text at s f fs o = omega (arith, o.stack.forms, outers-length s fs)
 
-pub buildable : (text : List ℕ) (at depth : ℕ) (s t : List Binding) (f g : Form) (step : Step) →
+pub buildable : (text : List ℕ) (at depth : ℕ) (s t : List Binding) (f g : Form) (step : FormStep) →
     Sound text (innermost s f) → Stepped text at depth s f t g step → Buildable g step
 buildable text at depth s t f g (steps.Read next) a h = tt
 buildable text at depth s t f g (steps.Opened w next) a h = tt

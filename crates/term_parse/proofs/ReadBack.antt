@@ -14,7 +14,7 @@ use Rattle.term_parse.specs.declared.table.Word.{Word}
 use Rattle.term_parse.specs.Atoms.{Atom, word, value, name, ended}
 use Rattle.term_parse.specs.Language.{word_spelling, parts_of}
 use Rattle.term_parse.specs.Lexemes.{Lexeme, opens, called, number, Placed, lexeme_of, lexemes}
-use Rattle.term_parse.specs.Reading.{Bound, Want, a_word, parts, Step, want_step, part_step, used, opening, entered, open_of, with_front, reads}
+use Rattle.term_parse.specs.Reading.{Bound, Want, a_word, parts, ReadStep, want_step, part_step, used, opening, entered, open_of, with_front, reads}
 use Rattle.term_parse.specs.Numbers.{NumbersFit}
 use Rattle.term_parse.specs.Spelling as spelled
 use Rattle.term_parse.specs.Spelling.{name_spelling, binders_of, outer_binders, more_spelling, parts_spelling, form}
@@ -35,12 +35,12 @@ pub data Read : Type 0 where
   name_read : Name → Read
   inner_read : Reader → Read
 
-abbrev pub piece_of : Read → spelled.Piece
+abbrev pub piece_of : Read → spelled.SpelledPart
 piece_of (value_read v) = spelled.value v
 piece_of (name_read n) = spelled.name n
 piece_of (inner_read r) = spelled.inner r.text
 
-abbrev pub pieces : List Read → List spelled.Piece
+abbrev pub pieces : List Read → List spelled.SpelledPart
 pieces [] = []
 pieces (x ∷ q) = piece_of x ∷ pieces q
 
@@ -91,7 +91,7 @@ abbrev Onto : ℕ → Want → List Want → List ℕ → List Atom → List ℕ
 Onto end v todo text xs rest = (at : ℕ) → (next : ℕ) ×
     (reads end (v ∷ todo) (lexemes false at (text ++ rest)) ≡ with_front xs (reads end todo (lexemes false next rest)))
 
-reads_step : (end : ℕ) (t : Placed) (ts : List Placed) (v : Want) (todo : List Want) (s : Step) →
+reads_step : (end : ℕ) (t : Placed) (ts : List Placed) (v : Want) (todo : List Want) (s : ReadStep) →
     want_step (open_of (v ∷ todo)) v t.lexeme t.place ≡ Ok s → reads end (v ∷ todo) (t ∷ ts) ≡ with_front s.atoms (reads end (s.wants ++ todo) ts)
 unfolding reads
 reads_step end t ts v todo s e = rw (e, reads) refl

@@ -9,7 +9,7 @@ use Rattle.term_parse.specs.declared.error.ParseError.TheVariants as errors
 use Rattle.term_parse.specs.declared.token.Token.{Token}
 use Rattle.term_parse.specs.declared.token.TokenKind.{TokenKind}
 use Rattle.term_parse.specs.declared.token.TokenKind.TheVariants as tokens
-use Rattle.term_parse.specs.declared.form.Piece.TheVariants as pieces
+use Rattle.term_parse.specs.declared.form.ReadPart.TheVariants as pieces
 use Rattle.term_parse.specs.OpenForms.{OpenForm}
 use Rattle.term_parse.specs.Atoms.{Atom, word, ended, atoms_of}
 use Rattle.term_parse.specs.Language.{parts_of}

@@ -18,13 +18,13 @@ use Rattle.term_parse.specs.declared.token.Token.{Token}
 use Rattle.term_parse.specs.declared.token.TokenKind.{TokenKind}
 use Rattle.term_parse.specs.declared.token.TokenKind.TheVariants as tokens
 use Rattle.term_parse.specs.declared.scope.Binding.{Binding}
-use Rattle.term_parse.specs.declared.form.Piece.{Piece}
-use Rattle.term_parse.specs.declared.form.Piece.TheVariants as pieces
+use Rattle.term_parse.specs.declared.form.ReadPart.{ReadPart}
+use Rattle.term_parse.specs.declared.form.ReadPart.TheVariants as pieces
 use Rattle.term_parse.specs.OpenForms.{OpenForm}
 use Rattle.term_parse.specs.Atoms.{Atom, word, value, name, ended}
 use Rattle.term_parse.specs.Language.{parts_of, word_of}
 use Rattle.term_parse.specs.Lexemes.{opens, closes, called, bad_number, bad_byte, lexemes_at}
-use Rattle.term_parse.specs.Reading.{Bound, Want, a_word, parts, Step, want_step, part_step, begun, used}
+use Rattle.term_parse.specs.Reading.{Bound, Want, a_word, parts, ReadStep, want_step, part_step, begun, used}
 use Rattle.term_parse.specs.Reading.{opening, entered, meaning, open_of, with_front, reads, reads_at}
 use Rattle.term_parse.specs.Seen.{seen, seen_kind, IsNext, IsGood}
 use Rattle.term_parse.specs.Bindings.{bounds, bound_of, hash_of, InText}
@@ -33,7 +33,7 @@ use Rattle.term_parse.specs.Forms.{Sort, a_term, sorts, sort_of, pieces_atoms, p
 use Rattle.term_parse.specs.Forms.{want_of, front_of, NextIs, Adds, IsTermPart, IsOneTerm, after, FailsAt}
 use Rattle.term_parse.specs.Forms.{Reads, Opens, Closes}
 
-pub read_step : (text : List ℕ) (at : ℕ) (t : Token) (w : Want) (todo : List Want) (s : Step) → IsNext text at t →
+pub read_step : (text : List ℕ) (at : ℕ) (t : Token) (w : Want) (todo : List Want) (s : ReadStep) → IsNext text at t →
     want_step (open_of (w ∷ todo)) w (seen text t) t.start ≡ Ok s → reads_at text at (w ∷ todo) ≡ with_front s.atoms (reads_at text t.end (s.wants ++ todo))
 unfolding reads_at reads
 read_step text at t w todo s n f = rw (n.tokens) (rw (f, reads) refl)
@@ -324,11 +324,11 @@ append_none : (xs : List Atom) → xs ++ [] ≡ xs
 append_none [] = refl
 append_none (x ∷ xs) = ap (λ r. x ∷ r) (append_none xs)
 
-pub pieces_atoms-add : (ps : List Piece) (p : Piece) → pieces_atoms (ps ++ p ∷ []) ≡ pieces_atoms ps ++ piece_atoms p
+pub pieces_atoms-add : (ps : List ReadPart) (p : ReadPart) → pieces_atoms (ps ++ p ∷ []) ≡ pieces_atoms ps ++ piece_atoms p
 pieces_atoms-add [] p = append_none (piece_atoms p)
 pieces_atoms-add (q ∷ ps) p = ap (λ r. piece_atoms q ++ r) (pieces_atoms-add ps p) ∙ sym (append_assoc (piece_atoms q) (pieces_atoms ps) (piece_atoms p))
 
-pub sorts-add : (ps : List Piece) (p : Piece) (more : List Sort) → sorts (ps ++ p ∷ []) ++ more ≡ sorts ps ++ (sort_of p ∷ more)
+pub sorts-add : (ps : List ReadPart) (p : ReadPart) (more : List Sort) → sorts (ps ++ p ∷ []) ++ more ≡ sorts ps ++ (sort_of p ∷ more)
 sorts-add [] p more = refl
 sorts-add (q ∷ ps) p more = ap (λ r. sort_of q ∷ r) (sorts-add ps p more)
 
@@ -350,7 +350,7 @@ reads_bind text at f g t q n k i row next scope bound pieces =
     let x = slice_range text t.start t.end in
     let added : List Binding =
     record { start = t.start; end = t.end; kind = q; hash = hash_of (slice_range text t.start t.end) } ∷ [] in
-    let s : Step = record { atoms = []; wants = parts ss (bs ++ record { spelling = x; kind = q } ∷ []) ps ∷ [] } in
+    let s : ReadStep = record { atoms = []; wants = parts ss (bs ++ record { spelling = x; kind = q } ∷ []) ps ∷ [] } in
     let want : want_of text g ≡ parts ss (bs ++ record { spelling = x; kind = q } ∷ []) ps =
     rw (row, next, scope, bound, bounds-append text f.bound added) refl in
     let front : front_of g ≡ front_of f = rw (row, pieces) refl in
@@ -377,7 +377,7 @@ reads_bind text at f g t q n k i row next scope bound pieces =
     }
 
 -- a name or a value is read
-pub reads_piece : (text : List ℕ) (at : ℕ) (f g : OpenForm) (t : Token) (p : Part) (piece : Piece) →
+pub reads_piece : (text : List ℕ) (at : ℕ) (f g : OpenForm) (t : Token) (p : Part) (piece : ReadPart) →
     IsNext text at t → NextIs f.word f.next p → Adds f piece (f.next + 1) g →
     ((d : ℕ) (b : List Bound) (ps : List Part) → want_step d (parts (bounds text f.scope) b (p ∷ ps)) (seen text t)
     t.start ≡ Ok (record { atoms = piece_atoms piece; wants = parts (bounds text f.scope) b ps ∷ [] })) →
@@ -387,7 +387,7 @@ reads_piece text at f g t p piece n i a fits completes =
     let ss = bounds text f.scope in
     let bs = bounds text f.bound in
     let ps = drop (f.next + 1) (parts_of f.word) in
-    let s : Step = record { atoms = piece_atoms piece; wants = parts ss bs ps ∷ [] } in
+    let s : ReadStep = record { atoms = piece_atoms piece; wants = parts ss bs ps ∷ [] } in
     let row : g.word ≡ f.word = a.same_word in
     let next : g.next ≡ f.next + 1 = a.next_is in
     let scope : g.scope ≡ f.scope = a.same_scope in

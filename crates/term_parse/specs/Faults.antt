@@ -4,14 +4,14 @@ use Rattle.std.specs.Prelude.{◌≡◌, ℕ, List, [], ◌∷◌, ◌++◌, Ok,
 use Rattle.term_parse.specs.declared.error.ParseError.{ParseError}
 use Rattle.term_parse.specs.declared.error.ParseError.TheVariants as errors
 use Rattle.term_parse.specs.Lexemes.{Placed, lexemes_at}
-use Rattle.term_parse.specs.Reading.{Want, term, Step, want_step, open_of}
+use Rattle.term_parse.specs.Reading.{Want, term, ReadStep, want_step, open_of}
 
 -- each token fits what is wanted there, and this is wanted after them
 abbrev pub Fit : List Want → List Placed → List Want → Type 0
 Fit ws [] after = ws ≡ after
 Fit [] (t ∷ ts) after = ⊥
 Fit (w ∷ ws) (t ∷ ts) after =
-    (s : Step) × (want_step (open_of (w ∷ ws)) w t.lexeme t.place ≡ Ok s) × Fit (s.wants ++ ws) ts after
+    (s : ReadStep) × (want_step (open_of (w ∷ ws)) w t.lexeme t.place ≡ Ok s) × Fit (s.wants ++ ws) ts after
 
 -- where these are wanted, what comes there is this fault
 abbrev pub Breaks : ℕ → List Want → List Placed → ParseError → Type 0

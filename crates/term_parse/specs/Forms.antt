@@ -6,17 +6,17 @@ use Rattle.term_parse.specs.declared.table.Word.TheVariants as words
 use Rattle.term_parse.specs.declared.table.Part.{Part}
 use Rattle.term_parse.specs.declared.table.Part.TheVariants.{Bind, Use, Value, Term, Under, UnderBoth, More, Close}
 use Rattle.term_parse.specs.declared.error.ParseError.{ParseError}
-use Rattle.term_parse.specs.declared.form.Piece.{Piece}
-use Rattle.term_parse.specs.declared.form.Piece.TheVariants as pieces
+use Rattle.term_parse.specs.declared.form.ReadPart.{ReadPart}
+use Rattle.term_parse.specs.declared.form.ReadPart.TheVariants as pieces
 use Rattle.term_parse.specs.declared.form.Form.{Form}
 use Rattle.term_parse.specs.declared.scope.Binding.{Binding}
 use Rattle.std.specs.declared.alloc.Global.{Global}
 use Rattle.term_parse.specs.OpenForms.{OpenForm, innermost, outer, outers, begun_form, Growing}
-use Rattle.term_parse.specs.declared.form.Step.{Step}
-use Rattle.term_parse.specs.declared.form.Step.TheVariants as steps
+use Rattle.term_parse.specs.declared.form.FormStep.{FormStep}
+use Rattle.term_parse.specs.declared.form.FormStep.TheVariants as steps
 use Rattle.term_parse.specs.declared.reader.Open.{Open}
-use Rattle.term_parse.specs.declared.reader.Turn.{Turn}
-use Rattle.term_parse.specs.declared.reader.Turn.TheVariants as turns
+use Rattle.term_parse.specs.declared.reader.TermStep.{TermStep}
+use Rattle.term_parse.specs.declared.reader.TermStep.TheVariants as turns
 use Rattle.term_parse.specs.Atoms.{Atom, word, value, name, ended, atoms_of}
 use Rattle.term_parse.specs.Reading.{Want, term, parts, open_of, with_front, reads_at, Fails}
 use Rattle.term_parse.specs.Language.{parts_of}
@@ -28,26 +28,26 @@ pub data Sort : Type 0 where
   a_value : Sort
   a_term : Sort
 
-abbrev pub sort_of : Piece → Sort
+abbrev pub sort_of : ReadPart → Sort
 sort_of (pieces.Name n) = a_name
 sort_of (pieces.Value v) = a_value
 sort_of (pieces.Term t) = a_term
 
-abbrev pub sorts : List Piece → List Sort
+abbrev pub sorts : List ReadPart → List Sort
 sorts [] = []
 sorts (p ∷ ps) = sort_of p ∷ sorts ps
 
-abbrev pub piece_atoms : Piece → List Atom
+abbrev pub piece_atoms : ReadPart → List Atom
 piece_atoms (pieces.Name n) = name n ∷ []
 piece_atoms (pieces.Value v) = value v ∷ []
 piece_atoms (pieces.Term t) = atoms_of t
 
-abbrev pub pieces_atoms : List Piece → List Atom
+abbrev pub pieces_atoms : List ReadPart → List Atom
 pieces_atoms [] = []
 pieces_atoms (p ∷ ps) = piece_atoms p ++ pieces_atoms ps
 
 -- the atoms of these pieces, and the end of their form
-abbrev pub ends : List Piece → List Atom
+abbrev pub ends : List ReadPart → List Atom
 ends ps = pieces_atoms ps ++ ended ∷ []
 
 abbrev pub terms_atoms : List terms.Term → List Atom
@@ -167,7 +167,7 @@ after More ps = More ∷ ps
 after p ps = ps
 
 -- g is f with this piece added, and this part wanted next
-pub record Adds (f : OpenForm) (p : Piece) (next : ℕ) (g : OpenForm) : Type 0 where
+pub record Adds (f : OpenForm) (p : ReadPart) (next : ℕ) (g : OpenForm) : Type 0 where
   pub same_word : g.word ≡ f.word
   pub next_is : g.next ≡ next
   pub same_scope : g.scope ≡ f.scope
@@ -204,7 +204,7 @@ pub record Closes (text : List ℕ) (at : ℕ) (f : OpenForm) (next : ℕ) : Typ
 
 -- what a token did to this form and the binders around the innermost, which became g and t, and under which so many
 -- brackets are open
-abbrev pub Stepped : List ℕ → ℕ → ℕ → List Binding → Form → List Binding → Form → Step → Type 0
+abbrev pub Stepped : List ℕ → ℕ → ℕ → List Binding → Form → List Binding → Form → FormStep → Type 0
 Stepped text at depth s f t g (steps.Read next) =
     Reads text at (innermost s f) (innermost t g) next × (at < next) × (next ≤ length text)
 Stepped text at depth s f t g (steps.Opened w next) =
@@ -257,12 +257,12 @@ abbrev pub AreOpen : List ℕ → ℕ → Open → Type 0
 AreOpen text at o = IsOpen text at o.scope.items o.form.value o.around.items
 
 -- what one token did: these forms are open now, or the whole term was read
-abbrev pub Turned : List ℕ → ℕ → Open → Turn → Type 0
+abbrev pub Turned : List ℕ → ℕ → Open → TermStep → Type 0
 Turned text at o (turns.More next) = AreOpen text next o × (at < next)
 Turned text at o (turns.Done t end) = IsWhole text t end
 
 -- a form that was closed has the pieces that its word wants
-abbrev pub Buildable : Form → Step → Type 0
+abbrev pub Buildable : Form → FormStep → Type 0
 Buildable f (steps.Read next) = Unit {0}
 Buildable f (steps.Opened w next) = Unit {0}
 Buildable f (steps.Closed next) = Shaped f.word (sorts f.pieces.items)

@@ -12,5 +12,5 @@ pub mod Grammar
 pub mod Innermost
 pub mod Shapes
 pub mod Spelling
-pub mod Pieces
+pub mod PrintedParts
 pub mod Numbers

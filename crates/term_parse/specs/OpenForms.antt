@@ -4,7 +4,7 @@ use Rattle.std.specs.Prelude.{◌≡◌, ◌≤◌, ℕ, List, [], ◌∷◌, ta
 use Rattle.std.specs.declared.alloc.Global.{Global}
 use Rattle.term_parse.specs.declared.table.Word.{Word}
 use Rattle.term_parse.specs.declared.scope.Binding.{Binding}
-use Rattle.term_parse.specs.declared.form.Piece.{Piece}
+use Rattle.term_parse.specs.declared.form.ReadPart.{ReadPart}
 use Rattle.term_parse.specs.declared.form.Form.{Form}
 
 -- a form whose closing bracket hasn't come: its word, the part that is wanted next, the binders around it and its own,
@@ -14,7 +14,7 @@ pub record OpenForm : Type 0 where
   pub next : ℕ
   pub scope : List Binding
   pub bound : List Binding
-  pub pieces : List Piece
+  pub pieces : List ReadPart
 
 -- the innermost form
 abbrev pub innermost : List Binding → Form → OpenForm

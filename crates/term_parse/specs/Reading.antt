@@ -52,24 +52,24 @@ pub data Want : Type 0 where
   parts : List Bound → List Bound → List Part → Want
 
 -- what a token gives, and what is wanted in its want's place
-pub record Step : Type 0 where
+pub record ReadStep : Type 0 where
   pub atoms : List Atom
   pub wants : List Want
 
 -- an opening bracket that is wanted, where so many are open
-abbrev pub opening : ℕ → ℕ → List Want → Result Step ParseError
+abbrev pub opening : ℕ → ℕ → List Want → Result ReadStep ParseError
 opening depth at wants = if nat_lt depth 100 then Ok (record { atoms = []; wants = wants }) else Err (errors.TooDeep at)
 
-abbrev pub used : Result Name ParseError → (Name → Atom) → Want → Result Step ParseError
+abbrev pub used : Result Name ParseError → (Name → Atom) → Want → Result ReadStep ParseError
 used (Ok n) atom after = Ok (record { atoms = atom n ∷ []; wants = after ∷ [] })
 used (Err e) atom after = Err e
 
-abbrev pub begun : Option Word → List Bound → ℕ → Result Step ParseError
+abbrev pub begun : Option Word → List Bound → ℕ → Result ReadStep ParseError
 begun (Some w) scope at = Ok (record { atoms = word w ∷ []; wants = parts scope [] (parts_of w) ∷ [] })
 begun None scope at = Err (errors.UnknownWord at)
 
 -- a good token where a part of a form is wanted; a token of another kind is a fault of the form
-unfoldable pub part_step : ℕ → List Bound → List Bound → Part → List Part → Lexeme → ℕ → Result Step ParseError
+unfoldable pub part_step : ℕ → List Bound → List Bound → Part → List Part → Lexeme → ℕ → Result ReadStep ParseError
 part_step depth s b (Bind k) ps (called x) at =
     Ok (record { atoms = []; wants = parts s (b ++ record { spelling = x; kind = k } ∷ []) ps ∷ [] })
 part_step depth s b (Use k) ps (called x) at = used (meaning s k x at) (λ n. name n) (parts s b ps)
@@ -86,7 +86,7 @@ part_step depth s b p ps t at = Err (errors.Arity at)
 
 -- the fault table: what a token gives where this is wanted and so many brackets are open, or its fault.
 -- A token that is no good comes before one in the wrong place.
-unfoldable pub want_step : ℕ → Want → Lexeme → ℕ → Result Step ParseError
+unfoldable pub want_step : ℕ → Want → Lexeme → ℕ → Result ReadStep ParseError
 want_step depth w bad_byte at = Err (errors.BadByte at)
 want_step depth w bad_number at = Err (errors.BadNumber at)
 want_step depth (term s) opens at = opening depth at (a_word s ∷ [])

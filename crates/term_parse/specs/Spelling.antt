@@ -35,10 +35,10 @@ operand_spelling (Number n) = signed_decimal n
 operand_spelling (Named n) = name_spelling n.kind n.slot
 
 -- what stands in a form beside its binders: a value, a name, or a term, which is spelled by how many binders enclose it
-pub data Piece : Type 0 where
-  value : Operand → Piece
-  name : Name → Piece
-  inner : (ℕ → List ℕ) → Piece
+pub data SpelledPart : Type 0 where
+  value : Operand → SpelledPart
+  name : Name → SpelledPart
+  inner : (ℕ → List ℕ) → SpelledPart
 
 -- how many of its form's binders enclose a term in this part
 abbrev pub binders_of : Part → ℕ
@@ -53,7 +53,7 @@ outer_binders i (parts.UnderBoth j k ∷ ps) = if k == i then 1 else outer_binde
 outer_binders i (p ∷ ps) = outer_binders i ps
 
 -- a part, where so many binders enclose its form
-abbrev pub piece_spelling : ℕ → Part → Piece → List ℕ
+abbrev pub piece_spelling : ℕ → Part → SpelledPart → List ℕ
 piece_spelling around p (value v) = operand_spelling v
 piece_spelling around p (name n) = name_spelling n.kind n.slot
 piece_spelling around p (inner f) = f (around + binders_of p)
@@ -65,7 +65,7 @@ more_spelling around (f ∷ fs) = 32 ∷ (f around ++ more_spelling around fs)
 
 -- the parts of a form, each behind a space, and the closing bracket, where so many binders enclose the form and so many
 -- of its own stand before
-unfoldable pub parts_spelling : ℕ → ℕ → List Part → List Piece → List (ℕ → List ℕ) → List ℕ
+unfoldable pub parts_spelling : ℕ → ℕ → List Part → List SpelledPart → List (ℕ → List ℕ) → List ℕ
 parts_spelling around bound (parts.Close ∷ ps) q more = 41 ∷ []
 parts_spelling around bound (parts.More ∷ ps) q more = more_spelling around more
 parts_spelling around bound (parts.Bind k ∷ ps) q more =
@@ -75,7 +75,7 @@ parts_spelling around bound (p ∷ ps) (x ∷ q) more =
 parts_spelling around bound ps q more = []
 
 -- a form from its opening bracket to its closing one
-unfoldable pub form : Word → List Piece → List (ℕ → List ℕ) → ℕ → List ℕ
+unfoldable pub form : Word → List SpelledPart → List (ℕ → List ℕ) → ℕ → List ℕ
 form w q more around = 40 ∷ (word_spelling w ++ parts_spelling around 0 (parts_of w) q more)
 
 -- a term, by how many binders enclose it

@@ -5,14 +5,14 @@ ghost use Rattle.term_parse.specs.Atoms.{word as word_atom, value as value_atom,
 ghost use Rattle.term_parse.specs.Forms.{Sort, a_name, a_value, a_term, sorts, ends, terms_atoms, AllTerms, NotPlain};
 ghost use Rattle.term_parse.specs.Forms.{NotOne, NotTwo, Shaped};
 
-use crate::form::Piece;
+use crate::form::ReadPart;
 use crate::table::Word;
 use effect_term::{Name, Operand, Term};
 use std::alloc::{AllocError, Global};
 use std::collections::VecDeque;
 
-/// Takes the name that stands first.
-fn name(pieces: &mut VecDeque<Piece>) -> Name
+// Takes the name that stands first.
+fn name(pieces: &mut VecDeque<ReadPart>) -> Name
     requires { (rest : List Sort) × (sorts pieces.old.items ≡ a_name ∷ rest) }
     ensures atoms { ends pieces.old.items ≡ name_atom result ∷ ends pieces.new.items }
     ensures sorts { sorts pieces.old.items ≡ a_name ∷ sorts pieces.new.items }
@@ -20,14 +20,14 @@ fn name(pieces: &mut VecDeque<Piece>) -> Name
     let Some(piece) = pieces.pop_front() else {
         unreachable!()
     };
-    let Piece::Name(name) = piece else {
+    let ReadPart::Name(name) = piece else {
         unreachable!()
     };
     name
 }
 
-/// Takes the value that stands first.
-fn value(pieces: &mut VecDeque<Piece>) -> Operand
+// Takes the value that stands first.
+fn value(pieces: &mut VecDeque<ReadPart>) -> Operand
     requires { (rest : List Sort) × (sorts pieces.old.items ≡ a_value ∷ rest) }
     ensures atoms { ends pieces.old.items ≡ value_atom result ∷ ends pieces.new.items }
     ensures sorts { sorts pieces.old.items ≡ a_value ∷ sorts pieces.new.items }
@@ -35,14 +35,14 @@ fn value(pieces: &mut VecDeque<Piece>) -> Operand
     let Some(piece) = pieces.pop_front() else {
         unreachable!()
     };
-    let Piece::Value(value) = piece else {
+    let ReadPart::Value(value) = piece else {
         unreachable!()
     };
     value
 }
 
-/// Takes the term that stands first.
-fn term(pieces: &mut VecDeque<Piece>) -> Term
+// Takes the term that stands first.
+fn term(pieces: &mut VecDeque<ReadPart>) -> Term
     requires { (rest : List Sort) × (sorts pieces.old.items ≡ a_term ∷ rest) }
     ensures atoms { ends pieces.old.items ≡ atoms_of result ++ ends pieces.new.items }
     ensures sorts { sorts pieces.old.items ≡ a_term ∷ sorts pieces.new.items }
@@ -50,14 +50,14 @@ fn term(pieces: &mut VecDeque<Piece>) -> Term
     let Some(piece) = pieces.pop_front() else {
         unreachable!()
     };
-    let Piece::Term(term) = piece else {
+    let ReadPart::Term(term) = piece else {
         unreachable!()
     };
     term
 }
 
-/// Takes the term that stands first, into a box.
-fn boxed(alloc: Global, pieces: &mut VecDeque<Piece>) -> Result<Box<Term>, AllocError>
+// Takes the term that stands first, into a box.
+fn boxed(alloc: Global, pieces: &mut VecDeque<ReadPart>) -> Result<Box<Term>, AllocError>
     requires { (rest : List Sort) × (sorts pieces.old.items ≡ a_term ∷ rest) }
     ensures atoms { IfOk result (λ t. ends pieces.old.items ≡ atoms_of t.value ++ ends pieces.new.items) }
     ensures sorts { sorts pieces.old.items ≡ a_term ∷ sorts pieces.new.items }
@@ -67,8 +67,8 @@ fn boxed(alloc: Global, pieces: &mut VecDeque<Piece>) -> Result<Box<Term>, Alloc
     Ok(boxed)
 }
 
-/// A value alone.
-fn one_value(pieces: &mut VecDeque<Piece>) -> Operand
+// A value alone.
+fn one_value(pieces: &mut VecDeque<ReadPart>) -> Operand
     requires { sorts pieces.old.items ≡ a_value ∷ [] }
     ensures { ends pieces.old.items ≡ value_atom result ∷ ended ∷ [] }
 {
@@ -76,8 +76,8 @@ fn one_value(pieces: &mut VecDeque<Piece>) -> Operand
     value
 }
 
-/// Two values.
-fn two_values(pieces: &mut VecDeque<Piece>) -> (Operand, Operand)
+// Two values.
+fn two_values(pieces: &mut VecDeque<ReadPart>) -> (Operand, Operand)
     requires { sorts pieces.old.items ≡ a_value ∷ a_value ∷ [] }
     ensures { ends pieces.old.items ≡ value_atom result.0 ∷ value_atom result.1 ∷ ended ∷ [] }
 {
@@ -86,8 +86,8 @@ fn two_values(pieces: &mut VecDeque<Piece>) -> (Operand, Operand)
     (first, second)
 }
 
-/// A name alone.
-fn one_name(pieces: &mut VecDeque<Piece>) -> Name
+// A name alone.
+fn one_name(pieces: &mut VecDeque<ReadPart>) -> Name
     requires { sorts pieces.old.items ≡ a_name ∷ [] }
     ensures { ends pieces.old.items ≡ name_atom result ∷ ended ∷ [] }
 {
@@ -95,8 +95,8 @@ fn one_name(pieces: &mut VecDeque<Piece>) -> Name
     name
 }
 
-/// A name and a value.
-fn name_and_value(pieces: &mut VecDeque<Piece>) -> (Name, Operand)
+// A name and a value.
+fn name_and_value(pieces: &mut VecDeque<ReadPart>) -> (Name, Operand)
     requires { sorts pieces.old.items ≡ a_name ∷ a_value ∷ [] }
     ensures { ends pieces.old.items ≡ name_atom result.0 ∷ value_atom result.1 ∷ ended ∷ [] }
 {
@@ -105,8 +105,8 @@ fn name_and_value(pieces: &mut VecDeque<Piece>) -> (Name, Operand)
     (name, value)
 }
 
-/// A term alone.
-fn one_term(alloc: Global, pieces: &mut VecDeque<Piece>) -> Result<Box<Term>, AllocError>
+// A term alone.
+fn one_term(alloc: Global, pieces: &mut VecDeque<ReadPart>) -> Result<Box<Term>, AllocError>
     requires { sorts pieces.old.items ≡ a_term ∷ [] }
     ensures { IfOk result (λ r. ends pieces.old.items ≡ atoms_of r.value ++ ended ∷ []) }
 {
@@ -114,10 +114,10 @@ fn one_term(alloc: Global, pieces: &mut VecDeque<Piece>) -> Result<Box<Term>, Al
     Ok(term)
 }
 
-/// A name and a term.
+// A name and a term.
 fn name_and_term(
     alloc: Global,
-    pieces: &mut VecDeque<Piece>,
+    pieces: &mut VecDeque<ReadPart>,
 ) -> Result<(Name, Box<Term>), AllocError>
     requires { sorts pieces.old.items ≡ a_name ∷ a_term ∷ [] }
     ensures { IfOk result (λ r. ends pieces.old.items ≡ name_atom r.0 ∷ (atoms_of r.1.value ++ ended ∷ [])) }
@@ -127,10 +127,10 @@ fn name_and_term(
     Ok((name, term))
 }
 
-/// A value and a term.
+// A value and a term.
 fn value_and_term(
     alloc: Global,
-    pieces: &mut VecDeque<Piece>,
+    pieces: &mut VecDeque<ReadPart>,
 ) -> Result<(Operand, Box<Term>), AllocError>
     requires { sorts pieces.old.items ≡ a_value ∷ a_term ∷ [] }
     ensures { IfOk result (λ r. ends pieces.old.items ≡ value_atom r.0 ∷ (atoms_of r.1.value ++ ended ∷ [])) }
@@ -140,10 +140,10 @@ fn value_and_term(
     Ok((value, term))
 }
 
-/// Two terms.
+// Two terms.
 fn two_terms(
     alloc: Global,
-    pieces: &mut VecDeque<Piece>,
+    pieces: &mut VecDeque<ReadPart>,
 ) -> Result<(Box<Term>, Box<Term>), AllocError>
     requires { sorts pieces.old.items ≡ a_term ∷ a_term ∷ [] }
     ensures { IfOk result (λ r. ends pieces.old.items ≡ atoms_of r.0.value ++ (atoms_of r.1.value ++ ended ∷ [])) }
@@ -153,10 +153,10 @@ fn two_terms(
     Ok((first, second))
 }
 
-/// A value and two terms.
+// A value and two terms.
 fn value_and_two_terms(
     alloc: Global,
-    pieces: &mut VecDeque<Piece>,
+    pieces: &mut VecDeque<ReadPart>,
 ) -> Result<(Operand, Box<Term>, Box<Term>), AllocError>
     requires { sorts pieces.old.items ≡ a_value ∷ a_term ∷ a_term ∷ [] }
     ensures { IfOk result (λ r. ends pieces.old.items ≡ value_atom r.0 ∷
@@ -168,10 +168,10 @@ fn value_and_two_terms(
     Ok((value, first, second))
 }
 
-/// Three terms.
+// Three terms.
 fn three_terms(
     alloc: Global,
-    pieces: &mut VecDeque<Piece>,
+    pieces: &mut VecDeque<ReadPart>,
 ) -> Result<(Box<Term>, Box<Term>, Box<Term>), AllocError>
     requires { sorts pieces.old.items ≡ a_term ∷ a_term ∷ a_term ∷ [] }
     ensures { IfOk result (λ r. ends pieces.old.items ≡ atoms_of r.0.value ++
@@ -183,10 +183,10 @@ fn three_terms(
     Ok((first, second, third))
 }
 
-/// A name and three terms.
+// A name and three terms.
 fn name_and_three_terms(
     alloc: Global,
-    pieces: &mut VecDeque<Piece>,
+    pieces: &mut VecDeque<ReadPart>,
 ) -> Result<(Name, Box<Term>, Box<Term>, Box<Term>), AllocError>
     requires { sorts pieces.old.items ≡ a_name ∷ a_term ∷ a_term ∷ a_term ∷ [] }
     ensures { IfOk result (λ r. ends pieces.old.items ≡ name_atom r.0 ∷
@@ -199,10 +199,10 @@ fn name_and_three_terms(
     Ok((name, first, second, third))
 }
 
-/// Five terms.
+// Five terms.
 fn five_terms(
     alloc: Global,
-    pieces: &mut VecDeque<Piece>,
+    pieces: &mut VecDeque<ReadPart>,
 ) -> Result<(Box<Term>, Box<Term>, Box<Term>, Box<Term>, Box<Term>), AllocError>
     requires { sorts pieces.old.items ≡ a_term ∷ a_term ∷ a_term ∷ a_term ∷ a_term ∷ [] }
     ensures { IfOk result (λ r. ends pieces.old.items ≡ atoms_of r.0.value ++
@@ -216,14 +216,14 @@ fn five_terms(
     Ok((first, second, third, fourth, fifth))
 }
 
-/// The terms that are left.
-fn rest_of(alloc: Global, pieces: &mut VecDeque<Piece>) -> Result<Vec<Term>, AllocError>
+// The terms that are left.
+fn rest_of(alloc: Global, pieces: &mut VecDeque<ReadPart>) -> Result<Vec<Term>, AllocError>
     requires { AllTerms (sorts pieces.old.items) }
     ensures { IfOk result (λ r. ends pieces.old.items ≡ terms_atoms r.items ++ ended ∷ []) }
 {
     let mut terms = Vec::with_capacity(alloc, pieces.len())?;
     while let Some(piece) = pieces.pop_front() {
-        let Piece::Term(term) = piece else {
+        let ReadPart::Term(term) = piece else {
             unreachable!()
         };
         terms.push(term)?;
@@ -231,10 +231,10 @@ fn rest_of(alloc: Global, pieces: &mut VecDeque<Piece>) -> Result<Vec<Term>, All
     Ok(terms)
 }
 
-/// Two terms or more.
+// Two terms or more.
 fn terms_of_seq(
     alloc: Global,
-    pieces: &mut VecDeque<Piece>,
+    pieces: &mut VecDeque<ReadPart>,
 ) -> Result<(Box<Term>, Box<Term>, Vec<Term>), AllocError>
     requires { Shaped Word.Seq (sorts pieces.old.items) }
     ensures { IfOk result (λ r. ends pieces.old.items ≡ atoms_of r.0.value ++
@@ -250,7 +250,7 @@ fn terms_of_seq(
 pub(crate) fn build(
     alloc: Global,
     word: Word,
-    pieces: &mut VecDeque<Piece>,
+    pieces: &mut VecDeque<ReadPart>,
 ) -> Result<Term, AllocError>
     requires { Shaped word (sorts pieces.old.items) }
     ensures { IfOk result (λ t. atoms_of t ≡ word_atom word ∷ ends pieces.old.items) }
@@ -285,11 +285,11 @@ pub(crate) fn build(
     }
 }
 
-/// The same where the word has a term in it.
+// The same where the word has a term in it.
 fn build_with_one(
     alloc: Global,
     word: Word,
-    pieces: &mut VecDeque<Piece>,
+    pieces: &mut VecDeque<ReadPart>,
 ) -> Result<Term, AllocError>
     requires shaped { Shaped word (sorts pieces.old.items) }
     requires not_plain { NotPlain word }
@@ -324,11 +324,11 @@ fn build_with_one(
     }
 }
 
-/// The same where the word has two terms or more in it.
+// The same where the word has two terms or more in it.
 fn build_with_two(
     alloc: Global,
     word: Word,
-    pieces: &mut VecDeque<Piece>,
+    pieces: &mut VecDeque<ReadPart>,
 ) -> Result<Term, AllocError>
     requires shaped { Shaped word (sorts pieces.old.items) }
     requires not_plain { NotPlain word }
@@ -368,11 +368,11 @@ fn build_with_two(
     }
 }
 
-/// The same where the word has three terms or more in it, or any number.
+// The same where the word has three terms or more in it, or any number.
 fn build_with_more(
     alloc: Global,
     word: Word,
-    pieces: &mut VecDeque<Piece>,
+    pieces: &mut VecDeque<ReadPart>,
 ) -> Result<Term, AllocError>
     requires shaped { Shaped word (sorts pieces.old.items) }
     requires not_plain { NotPlain word }

@@ -18,9 +18,9 @@ use effect_term::{Kind, Operand, Term, Value};
 use std::alloc::AllocError;
 use std::collections::VecDeque;
 
-/// A part of a form that has been read, apart from binders.
+/// A piece of a form: a part of it that has been read, apart from binders.
 #[derive(Drop)]
-pub(crate) enum Piece {
+pub(crate) enum ReadPart {
     Name(effect_term::Name),
     Value(Operand),
     Term(Term),
@@ -38,19 +38,19 @@ pub(crate) struct Form {
     /// Its own binders so far.
     pub bound: Vec<Binding>,
     /// What its parts gave so far.
-    pub pieces: VecDeque<Piece>,
+    pub pieces: VecDeque<ReadPart>,
 }
 
 /// What a token did to a form: it read a part of it, opened a form of this word inside it, or closed
 /// it. The number is where the text goes on.
 #[derive(Clone, Copy)]
-pub(crate) enum Step {
+pub(crate) enum FormStep {
     Read(usize),
     Opened(Word, usize),
     Closed(usize),
 }
 
-/// How many brackets may be open.
+// How many brackets may be open.
 const MOST_OPEN: usize = 100;
 
 /// The token that is wanted here, which is a good one.
@@ -92,8 +92,8 @@ pub(crate) fn word(text: &[u8], at: usize) -> Result<(Word, usize), ParseError>
     }
 }
 
-/// Reads a binder.
-fn bind(text: &[u8], form: &mut Form, token: Token, kind: Kind) -> Result<Step, ParseError>
+// Reads a binder.
+fn bind(text: &[u8], form: &mut Form, token: Token, kind: Kind) -> Result<FormStep, ParseError>
     requires within { (token.start ≤ token.end) × (token.end ≤ length text.now) }
     requires good { IsGood token.kind }
     requires part { NextIs form.old.word form.old.next (Part.Bind kind) }
@@ -112,12 +112,12 @@ fn bind(text: &[u8], form: &mut Form, token: Token, kind: Kind) -> Result<Step, 
         hash: hash_of(&text[token.start..token.end]),
     })?;
     form.next += 1;
-    Ok(Step::Read(token.end))
+    Ok(FormStep::Read(token.end))
 }
 
 /// Adds a piece to the form, of which this part is wanted next.
 #[inline(always)]
-pub(crate) fn with_piece(form: &mut Form, piece: Piece, next: usize) -> Result<(), AllocError>
+pub(crate) fn with_piece(form: &mut Form, piece: ReadPart, next: usize) -> Result<(), AllocError>
     ensures { (scope : List Binding) →
         IfOk result (λ _. Adds (innermost scope form.old) piece next (innermost scope form.new)) }
 {
@@ -126,14 +126,14 @@ pub(crate) fn with_piece(form: &mut Form, piece: Piece, next: usize) -> Result<(
     Ok(())
 }
 
-/// Reads a use of a name.
+// Reads a use of a name.
 fn use_name(
     text: &[u8],
     scope: &[Binding],
     form: &mut Form,
     token: Token,
     kind: Kind,
-) -> Result<Step, ParseError>
+) -> Result<FormStep, ParseError>
     requires within { (token.start ≤ token.end) × (token.end ≤ length text.now) }
     requires good { IsGood token.kind }
     requires part { NextIs form.old.word form.old.next (Part.Use kind) }
@@ -151,8 +151,8 @@ fn use_name(
     match meaning(text, scope, kind, spelling, token.start) {
         Ok(name) => {
             let next = form.next + 1;
-            with_piece(form, Piece::Name(name), next)?;
-            Ok(Step::Read(token.end))
+            with_piece(form, ReadPart::Name(name), next)?;
+            Ok(FormStep::Read(token.end))
         }
         Err(error) => Err(error),
     }
@@ -164,8 +164,13 @@ fn number(n: Value) -> Operand
     Operand::Number(n)
 }
 
-/// Reads a number or a use of a value's name.
-fn value(text: &[u8], scope: &[Binding], form: &mut Form, token: Token) -> Result<Step, ParseError>
+// Reads a number or a use of a value's name.
+fn value(
+    text: &[u8],
+    scope: &[Binding],
+    form: &mut Form,
+    token: Token,
+) -> Result<FormStep, ParseError>
     requires within { (token.start ≤ token.end) × (token.end ≤ length text.now) }
     requires good { IsGood token.kind }
     requires part { NextIs form.old.word form.old.next Part.Value }
@@ -180,21 +185,21 @@ fn value(text: &[u8], scope: &[Binding], form: &mut Form, token: Token) -> Resul
     match kind {
         TokenKind::Number(n) => {
             let next = form.next + 1;
-            with_piece(form, Piece::Value(number(n)), next)?;
-            Ok(Step::Read(token.end))
+            with_piece(form, ReadPart::Value(number(n)), next)?;
+            Ok(FormStep::Read(token.end))
         }
         TokenKind::Called => named_value(text, scope, form, token),
         _ => Err(ParseError::Arity(token.start)),
     }
 }
 
-/// Reads a use of a value's name.
+// Reads a use of a value's name.
 fn named_value(
     text: &[u8],
     scope: &[Binding],
     form: &mut Form,
     token: Token,
-) -> Result<Step, ParseError>
+) -> Result<FormStep, ParseError>
     requires within { (token.start ≤ token.end) × (token.end ≤ length text.now) }
     requires called { token.kind ≡ TokenKind.Called }
     requires part { NextIs form.old.word form.old.next Part.Value }
@@ -209,14 +214,14 @@ fn named_value(
     match meaning(text, scope, Kind::Value, spelling, token.start) {
         Ok(name) => {
             let next = form.next + 1;
-            with_piece(form, Piece::Value(Operand::Named(name)), next)?;
-            Ok(Step::Read(token.end))
+            with_piece(form, ReadPart::Value(Operand::Named(name)), next)?;
+            Ok(FormStep::Read(token.end))
         }
         Err(error) => Err(error),
     }
 }
 
-/// Opens a form inside this one, of which this part is wanted once the other has closed.
+// Opens a form inside this one, of which this part is wanted once the other has closed.
 fn open(
     text: &[u8],
     scope: &mut Vec<Binding>,
@@ -225,7 +230,7 @@ fn open(
     part: Part,
     rest: usize,
     depth: usize,
-) -> Result<Step, ParseError>
+) -> Result<FormStep, ParseError>
     requires within { token.end ≤ length text.now }
     requires opens { token.kind ≡ TokenKind.Open }
     requires part { NextIs form.old.word form.old.next part }
@@ -245,13 +250,13 @@ fn open(
     match word(text, token.end) {
         Ok((word, next)) => {
             form.next = rest;
-            Ok(Step::Opened(word, next))
+            Ok(FormStep::Opened(word, next))
         }
         Err(error) => Err(error),
     }
 }
 
-/// Reads the opening bracket of the one term that is wanted.
+// Reads the opening bracket of the one term that is wanted.
 fn one_term(
     text: &[u8],
     scope: &mut Vec<Binding>,
@@ -259,7 +264,7 @@ fn one_term(
     token: Token,
     part: Part,
     depth: usize,
-) -> Result<Step, ParseError>
+) -> Result<FormStep, ParseError>
     requires within { token.end ≤ length text.now }
     requires good { IsGood token.kind }
     requires part { NextIs form.old.word form.old.next part }
@@ -276,14 +281,14 @@ fn one_term(
     open(text, scope, form, token, part, rest, depth)
 }
 
-/// Reads one more term's opening bracket, or the closing bracket.
+// Reads one more term's opening bracket, or the closing bracket.
 fn more_terms(
     text: &[u8],
     scope: &mut Vec<Binding>,
     form: &mut Form,
     token: Token,
     depth: usize,
-) -> Result<Step, ParseError>
+) -> Result<FormStep, ParseError>
     requires within { token.end ≤ length text.now }
     requires good { IsGood token.kind }
     requires part { NextIs form.old.word form.old.next Part.More }
@@ -297,13 +302,13 @@ fn more_terms(
             let rest = form.next;
             open(text, scope, form, token, Part::More, rest, depth)
         }
-        TokenKind::Close => Ok(Step::Closed(token.end)),
+        TokenKind::Close => Ok(FormStep::Closed(token.end)),
         _ => Err(ParseError::Arity(token.start)),
     }
 }
 
-/// Reads the closing bracket.
-fn close(token: Token) -> Result<Step, ParseError>
+// Reads the closing bracket.
+fn close(token: Token) -> Result<FormStep, ParseError>
     requires { IsGood token.kind }
     ensures found { (scope : List Binding) (form : Form) → NextIs form.word form.next Part.Close →
         (text : List ℕ) (at depth : ℕ) → IsNext text at token →
@@ -315,7 +320,7 @@ fn close(token: Token) -> Result<Step, ParseError>
     let TokenKind::Close = token.kind else {
         return Err(ParseError::Arity(token.start));
     };
-    Ok(Step::Closed(token.end))
+    Ok(FormStep::Closed(token.end))
 }
 
 /// What the next token does to the innermost form, under which so many brackets are open.
@@ -325,7 +330,7 @@ pub(crate) fn advance(
     scope: &mut Vec<Binding>,
     form: &mut Form,
     depth: usize,
-) -> Result<Step, ParseError>
+) -> Result<FormStep, ParseError>
     requires at { at ≤ length text.now }
     requires sound { Sound text.now (innermost scope.old.items form.old) }
     requires few { length scope.old.items < 2 ^ 32 }

@@ -13,53 +13,58 @@ ghost use Rattle.term_parse.specs.Shapes.{shape_of};
 ghost use Rattle.term_parse.specs.Spelling.{name_spelling, operand_spelling, letter_of, piece_spelling};
 ghost use Rattle.term_parse.specs.Spelling.{parts_spelling, more_spelling, binders_of, outer_binders, form, spelling};
 ghost use Rattle.term_parse.specs.Spelling.{canonical};
-ghost use Rattle.term_parse.specs.Pieces.{piece_of, pieces_of, terms_spelled, terms_atoms, piece_atoms, pieces_atoms};
-ghost use Rattle.term_parse.specs.Pieces.{Suffice, inner, held_by, held_in, term_word, held_of, more_of};
+ghost use Rattle.term_parse.specs.PrintedParts.{piece_of, pieces_of, terms_spelled, terms_atoms, piece_atoms};
+ghost use Rattle.term_parse.specs.PrintedParts.{pieces_atoms, Suffice, inner, held_by, held_in, term_word, held_of};
+ghost use Rattle.term_parse.specs.PrintedParts.{more_of};
 
 use crate::table::{Part, Word, parts_of, spelling_of};
 use effect_term::{Kind, Name, Operand, Term};
 use itoa::Buffer;
 use std::alloc::{AllocError, Global};
 
-/// What stands in a form beside its binders.
+// A piece of a form that is printed: what stands in it beside its binders.
 #[derive(Clone, Copy)]
-enum Piece<'a> {
+enum PrintedPart<'a> {
     Value(&'a Operand),
     Name(Name),
     Term(&'a Term),
 }
 
-/// A term as its word and pieces. The terms that a `seq` has behind its first two stand apart.
+// A term as its word and pieces. The terms that a `seq` has behind its first two stand apart.
 #[derive(Clone, Copy)]
-struct Form<'a> {
+struct PrintedForm<'a> {
     word: Word,
-    pieces: [Option<Piece<'a>>; 5],
+    pieces: [Option<PrintedPart<'a>>; 5],
     more: &'a [Term],
 }
 
 // No pieces.
-fn no_pieces<'a>() -> [Option<Piece<'a>>; 5]
+fn no_pieces<'a>() -> [Option<PrintedPart<'a>>; 5]
     ensures { held_in result ≡ [] }
 {
     [None, None, None, None, None]
 }
 
 // A piece alone.
-fn one_piece(a: Piece<'_>) -> [Option<Piece<'_>>; 5]
+fn one_piece(a: PrintedPart<'_>) -> [Option<PrintedPart<'_>>; 5]
     ensures { held_in result ≡ held_by a.entry ∷ [] }
 {
     [Some(a), None, None, None, None]
 }
 
 // Two pieces, in this order.
-fn two_pieces<'a>(a: Piece<'a>, b: Piece<'a>) -> [Option<Piece<'a>>; 5]
+fn two_pieces<'a>(a: PrintedPart<'a>, b: PrintedPart<'a>) -> [Option<PrintedPart<'a>>; 5]
     ensures { held_in result ≡ held_by a.entry ∷ held_by b.entry ∷ [] }
 {
     [Some(a), Some(b), None, None, None]
 }
 
 // Three pieces, in this order.
-fn three_pieces<'a>(a: Piece<'a>, b: Piece<'a>, c: Piece<'a>) -> [Option<Piece<'a>>; 5]
+fn three_pieces<'a>(
+    a: PrintedPart<'a>,
+    b: PrintedPart<'a>,
+    c: PrintedPart<'a>,
+) -> [Option<PrintedPart<'a>>; 5]
     ensures { held_in result ≡ held_by a.entry ∷ held_by b.entry ∷ held_by c.entry ∷ [] }
 {
     [Some(a), Some(b), Some(c), None, None]
@@ -67,18 +72,18 @@ fn three_pieces<'a>(a: Piece<'a>, b: Piece<'a>, c: Piece<'a>) -> [Option<Piece<'
 
 // A piece, and three terms behind it.
 fn piece_and_terms<'a>(
-    a: Piece<'a>,
+    a: PrintedPart<'a>,
     b: &'a Term,
     c: &'a Term,
     d: &'a Term,
-) -> [Option<Piece<'a>>; 5]
+) -> [Option<PrintedPart<'a>>; 5]
     ensures { held_in result ≡ held_by a.entry ∷ inner b.now ∷ inner c.now ∷ inner d.now ∷ [] }
 {
     [
         Some(a),
-        Some(Piece::Term(b)),
-        Some(Piece::Term(c)),
-        Some(Piece::Term(d)),
+        Some(PrintedPart::Term(b)),
+        Some(PrintedPart::Term(c)),
+        Some(PrintedPart::Term(d)),
         None,
     ]
 }
@@ -90,15 +95,15 @@ fn five_terms<'a>(
     c: &'a Term,
     d: &'a Term,
     e: &'a Term,
-) -> [Option<Piece<'a>>; 5]
+) -> [Option<PrintedPart<'a>>; 5]
     ensures { held_in result ≡ inner a.now ∷ inner b.now ∷ inner c.now ∷ inner d.now ∷ inner e.now ∷ [] }
 {
     [
-        Some(Piece::Term(a)),
-        Some(Piece::Term(b)),
-        Some(Piece::Term(c)),
-        Some(Piece::Term(d)),
-        Some(Piece::Term(e)),
+        Some(PrintedPart::Term(a)),
+        Some(PrintedPart::Term(b)),
+        Some(PrintedPart::Term(c)),
+        Some(PrintedPart::Term(d)),
+        Some(PrintedPart::Term(e)),
     ]
 }
 
@@ -143,31 +148,44 @@ fn term_word(term: &Term) -> Word
 }
 
 // What stands in a term beside its binders, but for the terms that a `seq` has behind its first two.
-fn pieces_in(term: &Term) -> [Option<Piece<'_>>; 5]
+fn pieces_in(term: &Term) -> [Option<PrintedPart<'_>>; 5]
     ensures { held_in result ≡ held_of term.now }
 {
     match term {
         Term::Cede | Term::Never | Term::Canceled => no_pieces(),
-        Term::Pure(v) | Term::Raise(v) | Term::Say(v) => one_piece(Piece::Value(v)),
-        Term::Cancel(n) | Term::Get(n) | Term::Await(n) => one_piece(Piece::Name(*n)),
-        Term::Uncancelable(e) | Term::Deferred(e) | Term::Forever(e) => one_piece(Piece::Term(e)),
-        Term::Add(v, w) => two_pieces(Piece::Value(v), Piece::Value(w)),
+        Term::Pure(v) | Term::Raise(v) | Term::Say(v) => one_piece(PrintedPart::Value(v)),
+        Term::Cancel(n) | Term::Get(n) | Term::Await(n) => one_piece(PrintedPart::Name(*n)),
+        Term::Uncancelable(e) | Term::Deferred(e) | Term::Forever(e) => one_piece(PrintedPart::Term(
+            e,
+        )),
+        Term::Add(v, w) => two_pieces(PrintedPart::Value(v), PrintedPart::Value(w)),
         Term::Set(n, v) | Term::Modify(n, v) | Term::Complete(n, v) => {
-            two_pieces(Piece::Name(*n), Piece::Value(v))
+            two_pieces(PrintedPart::Name(*n), PrintedPart::Value(v))
         }
-        Term::Ref(v, e) | Term::Repeat(v, e) => two_pieces(Piece::Value(v), Piece::Term(e)),
-        Term::Poll(n, e) => two_pieces(Piece::Name(*n), Piece::Term(e)),
+        Term::Ref(v, e) | Term::Repeat(v, e) => two_pieces(
+            PrintedPart::Value(v),
+            PrintedPart::Term(e),
+        ),
+        Term::Poll(n, e) => two_pieces(PrintedPart::Name(*n), PrintedPart::Term(e)),
         Term::Let(a, b) | Term::Handle(a, b) | Term::Start(a, b) | Term::Seq(a, b, _) => {
-            two_pieces(Piece::Term(a), Piece::Term(b))
+            two_pieces(PrintedPart::Term(a), PrintedPart::Term(b))
         }
         Term::OnCancel(a, b) | Term::Guarantee(a, b) | Term::Race(a, b) => {
-            two_pieces(Piece::Term(a), Piece::Term(b))
+            two_pieces(PrintedPart::Term(a), PrintedPart::Term(b))
         }
-        Term::If0(v, a, b) => three_pieces(Piece::Value(v), Piece::Term(a), Piece::Term(b)),
+        Term::If0(v, a, b) => three_pieces(
+            PrintedPart::Value(v),
+            PrintedPart::Term(a),
+            PrintedPart::Term(b),
+        ),
         Term::Bracket(a, b, c) | Term::Both(a, b, c) => {
-            three_pieces(Piece::Term(a), Piece::Term(b), Piece::Term(c))
+            three_pieces(
+                PrintedPart::Term(a),
+                PrintedPart::Term(b),
+                PrintedPart::Term(c),
+            )
         }
-        Term::Join(n, a, b, c) => piece_and_terms(Piece::Name(*n), a, b, c),
+        Term::Join(n, a, b, c) => piece_and_terms(PrintedPart::Name(*n), a, b, c),
         Term::BracketCase(a, b, c, d, e) | Term::BracketFull(a, b, c, d, e) => {
             five_terms(a, b, c, d, e)
         }
@@ -195,13 +213,13 @@ fn more_of(term: &Term) -> &[Term]
 }
 
 // The form of a term.
-fn form_of(term: &Term) -> Form<'_>
+fn form_of(term: &Term) -> PrintedForm<'_>
     ensures spelled { spelling term.now ≡ form result.word (pieces_of result.pieces) (terms_spelled result.more.now) }
     ensures atoms { atoms_of term.now ≡ a_word result.word ∷
         pieces_atoms result.pieces (terms_atoms result.more.now (ended ∷ [])) }
     ensures enough { Suffice (parts_of result.word) result.pieces result.more.now }
 {
-    Form {
+    PrintedForm {
         word: term_word(term),
         pieces: pieces_in(term),
         more: more_of(term),
@@ -312,7 +330,7 @@ fn write_term(out: &mut Vec<u8>, term: &Term, around: usize) -> Result<(), Alloc
 fn write_parts(
     out: &mut Vec<u8>,
     parts: &[Part],
-    pieces: &[Option<Piece<'_>>],
+    pieces: &[Option<PrintedPart<'_>>],
     more: &[Term],
     around: usize,
     bound: usize,
@@ -358,7 +376,7 @@ fn write_parts(
 fn write_piece(
     out: &mut Vec<u8>,
     part: Part,
-    piece: Piece<'_>,
+    piece: PrintedPart<'_>,
     around: usize,
 ) -> Result<(), AllocError>
     requires { around + 2 ≤ vec_len out.old }
@@ -367,9 +385,9 @@ fn write_piece(
     ensures longer { OnOk result (vec_len out.old ≤ vec_len out.new) }
 {
     match piece {
-        Piece::Value(operand) => write_operand(out, *operand),
-        Piece::Name(name) => write_name(out, name.kind, name.slot as usize),
-        Piece::Term(term) => {
+        PrintedPart::Value(operand) => write_operand(out, *operand),
+        PrintedPart::Name(name) => write_name(out, name.kind, name.slot as usize),
+        PrintedPart::Term(term) => {
             let room = out.len();
             prove!(around < room - 1);
             write_term(out, term, around + binders_of(part))

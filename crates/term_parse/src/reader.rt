@@ -17,7 +17,7 @@ ghost use Rattle.term_parse.specs.OpenForms.{IsBegun, innermost};
 
 use crate::build::build;
 use crate::error::ParseError;
-use crate::form::{Form, Piece, Step, advance, wanted, with_piece, word};
+use crate::form::{Form, FormStep, ReadPart, advance, wanted, with_piece, word};
 use crate::scope::Binding;
 use crate::table::Word;
 use crate::token::{TokenKind, token_at};
@@ -26,12 +26,12 @@ use std::alloc::{AllocError, Global};
 use std::collections::VecDeque;
 use std::mem;
 
-/// How many bytes a text may have.
+// How many bytes a text may have.
 const LONGEST: usize = 65536;
 
 /// What one token did: the place where the text goes on, or the whole term and the place behind it.
 #[derive(Drop)]
-pub(crate) enum Turn {
+pub(crate) enum TermStep {
     More(usize),
     Done(Term, usize),
 }
@@ -49,7 +49,7 @@ pub(crate) struct Open {
     pub closed: Vec<Box<Form>>,
 }
 
-/// The whole term's word, and where the text goes on.
+// The whole term's word, and where the text goes on.
 fn first_word(text: &[u8]) -> Result<(Word, usize), ParseError>
     ensures within { IfOk result (λ r. r.1 ≤ length text.now) }
     ensures found { IfOk result (λ r. reads_at text.now 0 (term [] ∷ []) ≡
@@ -66,7 +66,7 @@ fn first_word(text: &[u8]) -> Result<(Word, usize), ParseError>
     }
 }
 
-/// A form of this word, of which nothing else has been read.
+// A form of this word, of which nothing else has been read.
 fn new_form(alloc: Global, word: Word) -> Result<Box<Form>, AllocError>
     ensures { IfOk result (λ f. IsBegun word f.value) }
 {
@@ -81,7 +81,7 @@ fn new_form(alloc: Global, word: Word) -> Result<Box<Form>, AllocError>
     Ok(form)
 }
 
-/// The same, in the room of a form that has closed, if there is one.
+// The same, in the room of a form that has closed, if there is one.
 fn next_form(
     alloc: Global,
     word: Word,
@@ -101,7 +101,7 @@ fn next_form(
     }
 }
 
-/// The whole term's form alone.
+// The whole term's form alone.
 fn opened(alloc: Global, word: Word) -> Result<Open, AllocError>
     ensures form { IfOk result (λ o. IsBegun word o.form.value) }
     ensures around { IfOk result (λ o. o.around.items ≡ []) }
@@ -116,8 +116,8 @@ fn opened(alloc: Global, word: Word) -> Result<Open, AllocError>
     })
 }
 
-/// Goes on in the form around one that has closed, if there is one.
-fn resume(alloc: Global, stack: &mut Open, next: usize) -> Result<Turn, AllocError>
+// Goes on in the form around one that has closed, if there is one.
+fn resume(alloc: Global, stack: &mut Open, next: usize) -> Result<TermStep, AllocError>
     requires { Shaped stack.old.form.value.word (sorts stack.old.form.value.pieces.items) }
     ensures { (text : List ℕ) (at : ℕ) → AreOpen text at stack.old →
         Closes text at (innermost stack.old.scope.items stack.old.form.value) next → at < next →
@@ -126,19 +126,19 @@ fn resume(alloc: Global, stack: &mut Open, next: usize) -> Result<Turn, AllocErr
     let word = stack.form.word;
     let term = build(alloc, word, &mut stack.form.pieces)?;
     let Some(outer) = stack.around.pop() else {
-        return Ok(Turn::Done(term, next));
+        return Ok(TermStep::Done(term, next));
     };
     let part = outer.next;
     stack.scope.truncate(outer.scope);
     let form = mem::replace(&mut stack.form, outer);
     // Where there is no room to keep it, it is let go.
     let _ = stack.closed.push(form);
-    with_piece(&mut stack.form, Piece::Term(term), part)?;
-    Ok(Turn::More(next))
+    with_piece(&mut stack.form, ReadPart::Term(term), part)?;
+    Ok(TermStep::More(next))
 }
 
-/// Goes on after a step of the innermost form.
-fn apply(alloc: Global, step: Step, stack: &mut Open) -> Result<Turn, AllocError>
+// Goes on after a step of the innermost form.
+fn apply(alloc: Global, step: FormStep, stack: &mut Open) -> Result<TermStep, AllocError>
     requires { Buildable stack.old.form.value step }
     ensures { (text : List ℕ) (at depth : ℕ) (scope : List Binding) (form : Form) →
         IsOpen text at scope form stack.old.around.items → depth ≡ length stack.old.around.items + 1 →
@@ -146,19 +146,24 @@ fn apply(alloc: Global, step: Step, stack: &mut Open) -> Result<Turn, AllocError
         IfOk result (Turned text at stack.new) }
 {
     match step {
-        Step::Read(next) => Ok(Turn::More(next)),
-        Step::Opened(word, next) => {
+        FormStep::Read(next) => Ok(TermStep::More(next)),
+        FormStep::Opened(word, next) => {
             let inner = next_form(alloc, word, &mut stack.closed)?;
             let outer = mem::replace(&mut stack.form, inner);
             stack.around.push(outer)?;
-            Ok(Turn::More(next))
+            Ok(TermStep::More(next))
         }
-        Step::Closed(next) => resume(alloc, stack, next),
+        FormStep::Closed(next) => resume(alloc, stack, next),
     }
 }
 
-/// Reads one token, or the two that open a form.
-fn read_token(alloc: Global, text: &[u8], at: usize, stack: &mut Open) -> Result<Turn, ParseError>
+// Reads one token, or the two that open a form.
+fn read_token(
+    alloc: Global,
+    text: &[u8],
+    at: usize,
+    stack: &mut Open,
+) -> Result<TermStep, ParseError>
     requires forms { AreOpen text.now at stack.old }
     requires short { length text.now ≤ 65536 }
     ensures found { IfOk result (Turned text.now at stack.new) }
@@ -171,7 +176,7 @@ fn read_token(alloc: Global, text: &[u8], at: usize, stack: &mut Open) -> Result
     }
 }
 
-/// The term with which the text begins, and the place behind it.
+// The term with which the text begins, and the place behind it.
 fn whole(alloc: Global, text: &[u8]) -> Result<(Term, usize), ParseError>
     requires { length text.now ≤ 65536 }
     ensures found { IfOk result (λ r. IsWhole text.now r.0 r.1) }
@@ -181,14 +186,14 @@ fn whole(alloc: Global, text: &[u8]) -> Result<(Term, usize), ParseError>
     let mut stack = opened(alloc, word)?;
     'tokens: loop {
         match read_token(alloc, text, at, &mut stack) {
-            Ok(Turn::More(next)) => at = next,
-            Ok(Turn::Done(term, end)) => return Ok((term, end)),
+            Ok(TermStep::More(next)) => at = next,
+            Ok(TermStep::Done(term, end)) => return Ok((term, end)),
             Err(error) => return Err(error),
         }
     }
 }
 
-/// The term, if nothing but space stands behind it.
+// The term, if nothing but space stands behind it.
 fn alone(text: &[u8], term: Term, end: usize) -> Result<Term, ParseError>
     requires short { length text.now ≤ 65536 }
     requires whole { IsWhole text.now term end }
@@ -201,7 +206,7 @@ fn alone(text: &[u8], term: Term, end: usize) -> Result<Term, ParseError>
     }
 }
 
-/// The term of a text, or its first fault.
+// The term of a text, or its first fault.
 fn read(alloc: Global, text: &[u8]) -> Result<Term, ParseError>
     ensures found { IfOk result (λ t. reading text.now ≡ Ok (atoms_of t)) }
     ensures fault { IfErr result (λ e. Fails e (reading text.now)) }

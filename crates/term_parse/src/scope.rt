@@ -36,7 +36,7 @@ pub(crate) fn hash_of(spelling: &[u8]) -> u32
     )
 }
 
-/// Whether this is how the binder is spelled. The spelling's hash is given.
+// Whether this is how the binder is spelled. The spelling's hash is given.
 #[tactic(auto, using(crate::proofs::LastBinder::other_hash))]
 #[inline(always)]
 fn is_spelled(text: &[u8], binding: Binding, spelling: &[u8], hash: u32) -> bool
@@ -48,7 +48,7 @@ fn is_spelled(text: &[u8], binding: Binding, spelling: &[u8], hash: u32) -> bool
     binding.hash == hash && is_same(&text[binding.start..binding.end], spelling)
 }
 
-/// The innermost binder of a spelling, which is the last one.
+// The innermost binder of a spelling, which is the last one.
 #[tactic(auto, using(crate::proofs::LastBinder::found_last, crate::proofs::LastBinder::found_around, crate::proofs::LastBinder::around_in_text, crate::proofs::LastBinder::last_in_text, crate::proofs::LastBinder::last_hashed, crate::proofs::LastBinder::found_none))]
 fn innermost(text: &[u8], scope: &[Binding], spelling: &[u8]) -> Option<Name>
     requires few { length scope.now < 2 ^ 32 }
@@ -113,7 +113,7 @@ pub(crate) fn meaning(
     }
 }
 
-/// Adds the binder of this index to the scope, where there is one.
+// Adds the binder of this index to the scope, where there is one.
 #[tactic(auto, unfolding(crate::specs::Reading::picked))]
 fn pick(scope: &mut Vec<Binding>, bound: &[Binding], index: usize) -> Result<(), AllocError>
     ensures few { IfOk result (λ _. length scope.new.items ≤ length scope.old.items + 1) }

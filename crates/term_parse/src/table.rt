@@ -1,12 +1,12 @@
 //! The words of the language: how each is spelled, and what stands in its form.
 //!
-//! The parser and the printer look a word's parts up here, one after another. A further word is one
-//! more variant, spelling, row of parts and word of its first letter here, and says in `build`,
-//! `printer` and the atoms of a term which of the parts are its own.
+//! The parser and the printer look a word's parts up here, one after another, and so does whoever speaks of a text in
+//! the language's own words. A further word is one more variant, word of the list, spelling, row of parts and word of
+//! its first letter here, and says in `build`, `printer` and the atoms of a term which of the parts are its own.
 
 ghost use Rattle.std.specs.Prelude.{◌≡◌, ◌<◌, ◌≤◌, ℕ, suc, length, find};
 ghost use Rattle.std.specs.Str.{bytes_eq};
-ghost use Rattle.term_parse.specs.Language.{word_spelling, parts_of, word_of};
+ghost use Rattle.term_parse.specs.Language.{every_word, word_spelling, parts_of, word_of};
 ghost use Rattle.term_parse.specs.Lookup.{words_from};
 
 use crate::spelling::is_same;
@@ -70,9 +70,49 @@ pub enum Part {
     Close,
 }
 
+/// All words, in the order in which [`Word`] has them.
+pub fn every_word() -> &'static [Word]
+    ensures { result.now ≡ every_word }
+{
+    &[
+        Word::Pure,
+        Word::Raise,
+        Word::Let,
+        Word::Seq,
+        Word::Handle,
+        Word::If0,
+        Word::Add,
+        Word::Say,
+        Word::Cede,
+        Word::Never,
+        Word::Canceled,
+        Word::Uncancelable,
+        Word::Poll,
+        Word::OnCancel,
+        Word::Start,
+        Word::Join,
+        Word::Cancel,
+        Word::Ref,
+        Word::Get,
+        Word::Set,
+        Word::Modify,
+        Word::Deferred,
+        Word::Complete,
+        Word::Await,
+        Word::Repeat,
+        Word::Forever,
+        Word::Guarantee,
+        Word::Bracket,
+        Word::BracketCase,
+        Word::BracketFull,
+        Word::Race,
+        Word::Both,
+    ]
+}
+
 /// How a word is spelled.
 #[tactic(auto, unfolding(crate::specs::Language::word_spelling))]
-pub(crate) fn spelling_of(word: Word) -> &'static [u8]
+pub fn spelling_of(word: Word) -> &'static [u8]
     ensures value { result.now ≡ word_spelling word }
     ensures long { 3 ≤ length result.now }
 {
@@ -114,7 +154,7 @@ pub(crate) fn spelling_of(word: Word) -> &'static [u8]
 
 /// What stands in the form of a word, behind the word.
 #[tactic(auto, unfolding(crate::specs::Language::parts_of))]
-pub(crate) fn parts_of(word: Word) -> &'static [Part]
+pub fn parts_of(word: Word) -> &'static [Part]
     ensures value { result.now ≡ parts_of word }
     ensures few { length result.now ≤ 10 }
 {
@@ -209,7 +249,7 @@ pub(crate) fn parts_of(word: Word) -> &'static [Part]
     }
 }
 
-/// The words that begin with this letter.
+// The words that begin with this letter.
 #[tactic(auto, unfolding(crate::specs::Lookup::words_from))]
 fn words_from(first: u8) -> &'static [Word]
     ensures { result.now ≡ words_from first }
@@ -241,7 +281,7 @@ fn words_from(first: u8) -> &'static [Word]
     }
 }
 
-/// The one of these words that is spelled so, if there is one.
+// The one of these words that is spelled so, if there is one.
 fn spelled_so(words: &[Word], spelling: &[u8]) -> Option<Word>
     ensures { result ≡ find (λ w. bytes_eq (word_spelling w) spelling.now) words.now }
 {
@@ -255,7 +295,7 @@ fn spelled_so(words: &[Word], spelling: &[u8]) -> Option<Word>
 
 /// The word that is spelled so, if there is one.
 #[tactic(auto, using(crate::proofs::Lookup::no_word))]
-pub(crate) fn word_of(spelling: &[u8]) -> Option<Word>
+pub fn word_of(spelling: &[u8]) -> Option<Word>
     ensures { result ≡ word_of spelling.now }
 {
     let Some((first, _)) = spelling.split_first() else {

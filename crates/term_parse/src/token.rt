@@ -27,7 +27,7 @@ pub(crate) struct Token {
     pub end: usize,
 }
 
-/// The greatest number that may stand behind a minus sign.
+// The greatest number that may stand behind a minus sign.
 const LARGEST: u64 = 4_611_686_018_427_387_904;
 
 fn is_letter(byte: u8) -> bool
@@ -48,7 +48,7 @@ fn is_run(byte: u8) -> bool
     is_letter(byte) || is_digit(byte)
 }
 
-/// Whether an identifier or a number begins with this byte.
+// Whether an identifier or a number begins with this byte.
 fn begins_run(byte: u8) -> bool
     ensures { result ≡ (is_run byte || (byte == 45)) }
 {
@@ -61,7 +61,7 @@ fn is_space(byte: u8) -> bool
     byte == b' ' || byte == b'\t' || byte == b'\r' || byte == b'\n'
 }
 
-/// Where the space ends that begins here.
+// Where the space ends that begins here.
 #[tactic(auto, using(crate::proofs::Lexing::skip_space))]
 fn space_end(text: &[u8], from: usize) -> usize
     requires { from ≤ length text.now }
@@ -79,7 +79,7 @@ fn space_end(text: &[u8], from: usize) -> usize
     at
 }
 
-/// Where the run of letters and digits ends that goes on here.
+// Where the run of letters and digits ends that goes on here.
 #[tactic(auto, using(crate::proofs::Lexing::run_stops, crate::proofs::Lexing::run_ends))]
 fn run_end(text: &[u8], from: usize) -> usize
     requires { from ≤ length text.now }
@@ -97,7 +97,7 @@ fn run_end(text: &[u8], from: usize) -> usize
     at
 }
 
-/// The value of digits that don't begin with 0, where it is at most [`LARGEST`].
+// The value of digits that don't begin with 0, where it is at most [`LARGEST`].
 #[tactic(auto, unfolding(crate::specs::Seen::plain_value))]
 fn plain_value(digits: &[u8]) -> Option<u64>
     ensures { result ≡ plain_value digits.now }
@@ -135,7 +135,7 @@ fn negated(value: u64) -> Value
     value
 }
 
-/// The number that a run is, if it is one.
+// The number that a run is, if it is one.
 #[tactic(auto, unfolding(crate::specs::Seen::plain_value, crate::specs::Lexemes::number_of))]
 fn number(run: &[u8]) -> Option<Value>
     ensures { result ≡ number_of run.now }
@@ -154,7 +154,7 @@ fn number(run: &[u8]) -> Option<Value>
     Value::of(value as i64)
 }
 
-/// What the token is that begins with this byte and, if it is an identifier or a number, has these.
+// What the token is that begins with this byte and, if it is an identifier or a number, has these.
 #[tactic(auto, unfolding(crate::specs::Seen::lexeme_as, crate::specs::Lexemes::numbered))]
 #[inline(always)]
 fn kind_of(first: u8, run: &[u8]) -> TokenKind
@@ -176,7 +176,7 @@ fn kind_of(first: u8, run: &[u8]) -> TokenKind
     }
 }
 
-/// The token of these bytes.
+// The token of these bytes.
 #[inline(always)]
 fn token_of(text: &[u8], start: usize, end: usize) -> Token
     requires within { (start < end) × (end ≤ length text.now) }
@@ -191,7 +191,7 @@ fn token_of(text: &[u8], start: usize, end: usize) -> Token
     }
 }
 
-/// The token that begins here.
+// The token that begins here.
 #[inline(always)]
 fn token_from(text: &[u8], start: usize) -> Token
     requires within { start < length text.now }

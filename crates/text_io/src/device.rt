@@ -1,9 +1,10 @@
 //! Devices that a text is read from and written to.
 
-ghost use Rattle.std.specs.Prelude.{◌≡◌, ◌||◌, ◌+◌, ◌-◌, ◌<◌, ◌^◌, ℕ, Option, List, Bool, false};
+ghost use Rattle.std.specs.Prelude.{◌≡◌, ◌||◌, ◌+◌, ◌-◌, ◌<◌, ◌^◌, false};
 ghost use Rattle.std.specs.Io.{ReadsAtMost, WritesAtMost};
 ghost use Rattle.std.specs.Io.KnownBytes.{ReadConsumes, WriteAppends};
 ghost use Rattle.text_io.specs.Device.{found_end, read_failed, write_failed};
+ghost use Rattle.text_io.specs.Devices.{Reader, Writer};
 
 /// Why a read gave no count.
 #[derive(Clone, Copy, Debug, PartialEq, Eq)]
@@ -20,42 +21,32 @@ pub struct WriteFailed;
 
 /// Where a text comes from.
 pub trait TextIn {
-    // The bytes that reads will give from here on, where they are known.
-    ghost remaining: { Self → Option (List ℕ) };
-
-    // Whether a read has failed.
-    ghost has_failed: { Self → Bool };
-
-    // Whether a read has found the end of the input.
-    ghost has_ended: { Self → Bool };
-
-    // How many reads were made.
-    ghost reads: { Self → ℕ };
+    // What is seen of the device: the bytes that reads will give from here on, where they are known, whether a read has
+    // failed or has found the end of the input, and how many reads were made.
+    ghost seen: { Self → Reader };
 
     /// One read into the front of the buffer. Gives how many bytes it took: none at the end of the
     /// input, or where the buffer is empty.
     fn read_some(&mut self, buffer: &mut [u8]) -> Result<usize, ReadError>
-        requires healthy { has_failed self.old ≡ false }
-        requires countable { reads self.old < 2 ^ 64 - 1 }
+        requires healthy { (seen self.old).failed ≡ false }
+        requires countable { (seen self.old).reads < 2 ^ 64 - 1 }
         ensures bound { ReadsAtMost result buffer.new }
-        ensures bytes { ReadConsumes (remaining self.old) (remaining self.new) result buffer.new }
-        ensures failed { has_failed self.new ≡ read_failed result }
-        ensures ended { has_ended self.new ≡ (has_ended self.old || found_end result buffer.new) }
-        ensures counted { reads self.new ≡ reads self.old + 1 };
+        ensures bytes { ReadConsumes (seen self.old).remaining (seen self.new).remaining result buffer.new }
+        ensures failed { (seen self.new).failed ≡ read_failed result }
+        ensures ended { (seen self.new).ended ≡ ((seen self.old).ended || found_end result buffer.new) }
+        ensures counted { (seen self.new).reads ≡ (seen self.old).reads + 1 };
 }
 
 /// Where a text goes.
 pub trait TextOut {
-    // The bytes that went out, where they are known.
-    ghost contents: { Self → Option (List ℕ) };
-
-    // Whether a write has failed. One that takes nothing of some bytes has.
-    ghost has_failed: { Self → Bool };
+    // What is seen of the device: the bytes that went out, where they are known, and whether a write has failed. One
+    // that takes nothing of some bytes has.
+    ghost seen: { Self → Writer };
 
     /// One write of the front of the bytes. Gives how many it took.
     fn write_some(&mut self, bytes: &[u8]) -> Result<usize, WriteFailed>
-        requires { has_failed self.old ≡ false }
+        requires { (seen self.old).failed ≡ false }
         ensures bound { WritesAtMost result bytes.now }
-        ensures bytes { WriteAppends (contents self.old) (contents self.new) result bytes.now }
-        ensures failed { has_failed self.new ≡ write_failed result bytes.now };
+        ensures bytes { WriteAppends (seen self.old).contents (seen self.new).contents result bytes.now }
+        ensures failed { (seen self.new).failed ≡ write_failed result bytes.now };
 }

@@ -8,8 +8,8 @@ use crate::fault::TextFault;
 use arrayvec::ArrayString;
 use itoa::Buffer;
 
-/// How long a line may be: the words of a bad schedule, the 20 digits of the greatest place, and a
-/// line feed.
+// How long a line may be: the words of a bad schedule, the 20 digits of the greatest place, and a
+// line feed.
 const LONGEST: usize = 42;
 
 /// The line of a text's fault.
@@ -40,7 +40,7 @@ fn words(words: &str) -> ArrayString<LONGEST>
     line
 }
 
-/// Words, a number and a line feed.
+// Words, a number and a line feed.
 fn numbered(words: &str, number: usize) -> ArrayString<LONGEST>
     requires { length words.now ≤ 21 }
     ensures { result.bytes ≡ told words.now number }

@@ -34,7 +34,7 @@ impl From<AllocError> for ScheduleError {
     }
 }
 
-/// No sign, and no zero in front.
+// No sign, and no zero in front.
 fn is_plain(digits: &[u8]) -> bool
     ensures { result ≡ is_plain digits.now }
 {
@@ -45,7 +45,7 @@ fn is_plain(digits: &[u8]) -> bool
     }
 }
 
-/// A number in digits, with no zero in front, and at most `most`.
+// A number in digits, with no zero in front, and at most `most`.
 fn number(digits: &str, most: u32) -> Option<u32>
     ensures found { IfSome result (λ n. (n ≤ most) × (digits.now ≡ decimal n)) }
     ensures none { IfNone result ((n : ℕ) → n ≤ most → digits.now ≡ decimal n → ⊥) }
@@ -56,7 +56,7 @@ fn number(digits: &str, most: u32) -> Option<u32>
     }
 }
 
-/// The number of one digit, where it is at most `most`.
+// The number of one digit, where it is at most `most`.
 fn digit(byte: u8, most: u32) -> Option<u32>
     ensures found { IfSome result (λ n. (n ≤ most) × (byte ∷ [] ≡ decimal n)) }
     ensures none { IfNone result ((n : ℕ) → n ≤ most → byte ∷ [] ≡ decimal n → ⊥) }
@@ -68,7 +68,7 @@ fn digit(byte: u8, most: u32) -> Option<u32>
     if number <= most { Some(number) } else { None }
 }
 
-/// A number in digits, of however many, with no zero in front, and at most `most`.
+// A number in digits, of however many, with no zero in front, and at most `most`.
 fn long_number(digits: &str, most: u32) -> Option<u32>
     ensures found { IfSome result (λ n. (n ≤ most) × (digits.now ≡ decimal n)) }
     ensures none { IfNone result ((n : ℕ) → n ≤ most → digits.now ≡ decimal n → ⊥) }
@@ -82,7 +82,7 @@ fn long_number(digits: &str, most: u32) -> Option<u32>
     }
 }
 
-/// The fiber of an item, and how often it stands.
+// The fiber of an item, and how often it stands.
 fn item(text: &str) -> Option<(u16, u32)>
     ensures found { IfSome result (λ found. IsItemOf text.now found.0 found.1) }
     ensures none { IfNone result ((i : Item) → IsItem i → text.now ≡ spelling i → ⊥) }
@@ -109,7 +109,7 @@ fn item(text: &str) -> Option<(u16, u32)>
     }
 }
 
-/// The first item of a text, and what stands behind its space.
+// The first item of a text, and what stands behind its space.
 fn first_item(text: &str) -> (&str, Option<&str>)
     ensures alone { HasNo 32 result.0.now }
     ensures parts { MatchOption result.1 (text.now ≡ result.0.now) (λ rest. text.now ≡ result.0.now ++ 32 ∷ rest.now) }
@@ -120,7 +120,7 @@ fn first_item(text: &str) -> (&str, Option<&str>)
     }
 }
 
-/// The fiber of an item of one digit that a space stands behind, as most are, and what stands behind the space.
+// The fiber of an item of one digit that a space stands behind, as most are, and what stands behind the space.
 fn short_item(text: &str) -> Option<(u16, &str)>
     ensures { IfSome result (λ found. (found.0 < 10) × (text.now ≡ (48 + found.0) ∷ 32 ∷ found.1.now)) }
 {
@@ -142,13 +142,13 @@ fn push_times(entries: &mut Vec<u16>, fiber: u16, times: u32) -> Result<(), Allo
     entries.resize(len, fiber)
 }
 
-/// For how many entries room is made at first: where each item is one entry, for all, since an item and its
-/// space are two bytes at least.
+// For how many entries room is made at first: where each item is one entry, for all, since an item and its
+// space are two bytes at least.
 fn first_room(text: &str) -> usize {
     MOST_ENTRIES.min(text.len() / 2 + 1)
 }
 
-/// The entries of a text that isn't empty.
+// The entries of a text that isn't empty.
 fn read_items(alloc: Global, text: &str) -> Result<Vec<u16>, ScheduleError>
     requires { 0 < length text.now }
     ensures found { IfOk result (λ schedule. SpellsEntries text.now schedule.items) }

@@ -2,7 +2,7 @@
 
 ghost use Rattle.std.specs.Prelude.{◌≡◌, ◌<◌, ◌^◌, false};
 ghost use Rattle.text_io.specs.FaultLines.{fault_line};
-ghost use Rattle.text_io.specs.Devices.{devices, reader, writer};
+ghost use Rattle.text_io.specs.Devices.{devices};
 ghost use Rattle.text_io.specs.Telling.{Answered, RefusesSchedule, Told, TellsResult, status_of};
 
 use crate::device::{TextIn, TextOut};
@@ -16,20 +16,18 @@ use std::alloc::Global;
 
 /// Tells a fault. It takes no memory. If this device fails too, nothing more is said.
 pub fn tell_fault<E: TextOut>(fault: TextFault, err: &mut E) -> Status
-    requires { E.has_failed err.old ≡ false }
-    ensures told { Told (fault_line fault) (writer (E.contents err.old) (E.has_failed err.old))
-        (writer (E.contents err.new) (E.has_failed err.new)) }
+    requires { (E.seen err.old).failed ≡ false }
+    ensures told { Told (fault_line fault) (E.seen err.old) (E.seen err.new) }
     ensures status { result ≡ Status.Fault }
 {
     let _ = write_text(fault_line(fault).as_str().as_bytes(), err);
     Status::Fault
 }
 
-/// The status of a result, whose fault is told.
+// The status of a result, whose fault is told.
 fn status_of<E: TextOut>(outcome: Result<Status, TextFault>, err: &mut E) -> Status
-    requires { E.has_failed err.old ≡ false }
-    ensures told { TellsResult outcome (writer (E.contents err.old) (E.has_failed err.old))
-        (writer (E.contents err.new) (E.has_failed err.new)) }
+    requires { (E.seen err.old).failed ≡ false }
+    ensures told { TellsResult outcome (E.seen err.old) (E.seen err.new) }
     ensures status { result ≡ status_of outcome }
 {
     match outcome {
@@ -48,17 +46,12 @@ pub fn obey_text<A: TextOrder, I: TextIn, O: TextOut, E: TextOut>(
     out: &mut O,
     err: &mut E,
 ) -> Status
-    requires input { I.has_failed input.old ≡ false }
-    requires countable { I.reads input.old < 2 ^ 63 }
-    requires out { O.has_failed out.old ≡ false }
-    requires err { E.has_failed err.old ≡ false }
-    ensures { let before = devices (reader (I.remaining input.old) (I.has_failed input.old) (I.has_ended input.old)
-        (I.reads input.old)) (writer (O.contents out.old) (O.has_failed out.old))
-        (writer (E.contents err.old) (E.has_failed err.old)) in
-        let after = devices (reader (I.remaining input.new) (I.has_failed input.new) (I.has_ended input.new)
-        (I.reads input.new)) (writer (O.contents out.new) (O.has_failed out.new))
-        (writer (E.contents err.new) (E.has_failed err.new)) in
-        Answered (A.answers order.now) before after result }
+    requires input { (I.seen input.old).failed ≡ false }
+    requires countable { (I.seen input.old).reads < 2 ^ 63 }
+    requires out { (O.seen out.old).failed ≡ false }
+    requires err { (E.seen err.old).failed ≡ false }
+    ensures { Answered (A.answers order.now) (devices (I.seen input.old) (O.seen out.old) (E.seen err.old))
+        (devices (I.seen input.new) (O.seen out.new) (E.seen err.new)) result }
 {
     let outcome = answer_text(alloc, order, input, out);
     status_of(outcome, err)
@@ -66,9 +59,8 @@ pub fn obey_text<A: TextOrder, I: TextIn, O: TextOut, E: TextOut>(
 
 /// Tells that a schedule's text is bad, or that there was no memory for its entries.
 pub fn refuse_schedule<E: TextOut>(error: ScheduleError, err: &mut E) -> Status
-    requires { E.has_failed err.old ≡ false }
-    ensures { RefusesSchedule error (writer (E.contents err.old) (E.has_failed err.old))
-        (writer (E.contents err.new) (E.has_failed err.new)) result }
+    requires { (E.seen err.old).failed ≡ false }
+    ensures { RefusesSchedule error (E.seen err.old) (E.seen err.new) result }
 {
     let ScheduleError::BadSchedule(place) = error else {
         return tell_fault(TextFault::NoMemory, err);

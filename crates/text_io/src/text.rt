@@ -4,7 +4,6 @@ ghost use Rattle.std.specs.Prelude.{◌≡◌, ◌≢◌, ◌||◌, ◌+◌, ◌
 ghost use Rattle.std.specs.Prelude.{drop, vec_len};
 ghost use Rattle.std.specs.Io.KnownBytes.{ReadConsumes};
 ghost use Rattle.text_io.specs.Device.{found_end, read_failed};
-ghost use Rattle.text_io.specs.Devices.{reader};
 ghost use Rattle.text_io.specs.Exchange.{IsOutOfReads, IsRead};
 ghost use Rattle.text_io.specs.Text.{GoesOut, OnlyWriteFaults, is_read_fault, is_write_fault};
 
@@ -22,23 +21,15 @@ pub const TEXT_BOUND: usize = 65_537;
 /// of the input nor gave as many bytes, and `NoMemory` where memory ran out, which is before the
 /// first read.
 pub fn read_text<T: TextIn>(alloc: Global, input: &mut T) -> Result<Vec<u8>, TextFault>
-    requires healthy { T.has_failed input.old ≡ false }
-    requires countable { T.reads input.old < 2 ^ 63 }
+    requires healthy { (T.seen input.old).failed ≡ false }
+    requires countable { (T.seen input.old).reads < 2 ^ 63 }
 
     // It gives what it took from the input, which is all of it, or `TEXT_BOUND` bytes.
-    ensures read { let before = reader (T.remaining input.old) (T.has_failed input.old) (T.has_ended input.old)
-        (T.reads input.old) in
-        let after = reader (T.remaining input.new) (T.has_failed input.new) (T.has_ended input.new)
-        (T.reads input.new) in
-        IfOk result (λ text. IsRead before after text.items) }
+    ensures read { IfOk result (λ text. IsRead (T.seen input.old) (T.seen input.new) text.items) }
 
     // The fault is told exactly where the reader failed.
-    ensures failed { T.has_failed input.new ≡ is_read_fault result }
-    ensures turns { let before = reader (T.remaining input.old) (T.has_failed input.old) (T.has_ended input.old)
-        (T.reads input.old) in
-        let after = reader (T.remaining input.new) (T.has_failed input.new) (T.has_ended input.new)
-        (T.reads input.new) in
-        IsErrOf result TextFault.TurnBound → IsOutOfReads before after }
+    ensures failed { (T.seen input.new).failed ≡ is_read_fault result }
+    ensures turns { IsErrOf result TextFault.TurnBound → IsOutOfReads (T.seen input.old) (T.seen input.new) }
     ensures memory { IsErrOf result TextFault.NoMemory → input.new ≡ input.old }
     ensures nothing_written { (written : ℕ) → result ≢ Err (TextFault.WriteFault written) }
 {
@@ -63,23 +54,24 @@ pub fn read_text<T: TextIn>(alloc: Global, input: &mut T) -> Result<Vec<u8>, Tex
     Err(TextFault::TurnBound)
 }
 
-/// One read into the buffer, behind the bytes that it has already.
+// One read into the buffer, behind the bytes that it has already.
 fn read_after<T: TextIn>(buffer: &mut [u8], len: usize, input: &mut T) -> Result<usize, ReadError>
     requires within { len ≤ length buffer.old }
-    requires healthy { T.has_failed input.old ≡ false }
-    requires countable { T.reads input.old < 2 ^ 64 - 1 }
+    requires healthy { (T.seen input.old).failed ≡ false }
+    requires countable { (T.seen input.old).reads < 2 ^ 64 - 1 }
 
     ensures bound { IfOk result (λ count. len + count ≤ length buffer.new) }
     ensures kept { take len buffer.new ≡ take len buffer.old }
-    ensures bytes { ReadConsumes (T.remaining input.old) (T.remaining input.new) result (drop len buffer.new) }
-    ensures failed { T.has_failed input.new ≡ read_failed result }
-    ensures ended { T.has_ended input.new ≡ (T.has_ended input.old || found_end result (drop len buffer.new)) }
-    ensures counted { T.reads input.new ≡ T.reads input.old + 1 }
+    ensures bytes { ReadConsumes (T.seen input.old).remaining (T.seen input.new).remaining result
+        (drop len buffer.new) }
+    ensures failed { (T.seen input.new).failed ≡ read_failed result }
+    ensures ended { (T.seen input.new).ended ≡ ((T.seen input.old).ended || found_end result (drop len buffer.new)) }
+    ensures counted { (T.seen input.new).reads ≡ (T.seen input.old).reads + 1 }
 {
     input.read_some(&mut buffer[len..])
 }
 
-/// A buffer of this many bytes.
+// A buffer of this many bytes.
 fn zeros(alloc: Global, count: usize) -> Result<Vec<u8>, AllocError>
     ensures { IfOk result (λ buffer. vec_len buffer ≡ count) }
 {
@@ -89,12 +81,12 @@ fn zeros(alloc: Global, count: usize) -> Result<Vec<u8>, AllocError>
 /// Writes the whole text. It takes no memory: the only fault is `WriteFault`, with the number of
 /// bytes that went out before a write failed, was interrupted, or took nothing.
 pub fn write_text<T: TextOut>(text: &[u8], out: &mut T) -> Result<(), TextFault>
-    requires { T.has_failed out.old ≡ false }
+    requires { (T.seen out.old).failed ≡ false }
 
     // All of it goes out, or as much of its front as the fault tells.
-    ensures text { GoesOut (T.contents out.old) (T.contents out.new) text.now result }
+    ensures text { GoesOut (T.seen out.old).contents (T.seen out.new).contents text.now result }
     ensures only { OnlyWriteFaults result }
-    ensures failed { T.has_failed out.new ≡ is_write_fault result }
+    ensures failed { (T.seen out.new).failed ≡ is_write_fault result }
 {
     let mut written: usize = 0;
     while written < text.len() {

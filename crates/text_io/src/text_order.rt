@@ -2,7 +2,6 @@
 
 ghost use Rattle.std.specs.Prelude.{◌≡◌, ◌<◌, ◌^◌, ℕ, List, false, IfOk};
 ghost use Rattle.text_io.specs.declared.status.Status.{Status};
-ghost use Rattle.text_io.specs.Devices.{reader, writer};
 ghost use Rattle.text_io.specs.Exchange.{IsAnswered};
 
 use crate::device::{TextIn, TextOut};
@@ -40,16 +39,11 @@ pub fn answer_text<A: TextOrder, I: TextIn, O: TextOut>(
     input: &mut I,
     out: &mut O,
 ) -> Result<Status, TextFault>
-    requires input { I.has_failed input.old ≡ false }
-    requires countable { I.reads input.old < 2 ^ 63 }
-    requires out { O.has_failed out.old ≡ false }
-    ensures { let before = reader (I.remaining input.old) (I.has_failed input.old) (I.has_ended input.old)
-        (I.reads input.old) in
-        let after = reader (I.remaining input.new) (I.has_failed input.new) (I.has_ended input.new)
-        (I.reads input.new) in
-        let old = writer (O.contents out.old) (O.has_failed out.old) in
-        let new = writer (O.contents out.new) (O.has_failed out.new) in
-        IsAnswered (A.answers order.now) before after old new result }
+    requires input { (I.seen input.old).failed ≡ false }
+    requires countable { (I.seen input.old).reads < 2 ^ 63 }
+    requires out { (O.seen out.old).failed ≡ false }
+    ensures { IsAnswered (A.answers order.now) (I.seen input.old) (I.seen input.new) (O.seen out.old) (O.seen out.new)
+        result }
 {
     let text = read_text(alloc, input)?;
     let answer = order.answer(alloc, text.as_slice())?;

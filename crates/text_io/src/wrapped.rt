@@ -6,6 +6,7 @@ ghost use Rattle.std.specs.IoError.{error_kind};
 ghost use Rattle.std.specs.Io.KnownBytes.{ReadConsumes, WriteAppends};
 ghost use Rattle.std.specs.declared.io.Error.{Error};
 ghost use Rattle.text_io.specs.Device.{found_end, read_failed, write_failed};
+ghost use Rattle.text_io.specs.Devices.{reader, writer};
 ghost use Rattle.text_io.specs.Wrapped.{IsToldRead, IsToldWrite, has_found_end, read_has_failed, reader_of};
 ghost use Rattle.text_io.specs.Wrapped.{reads_of, write_has_failed, writer_of};
 
@@ -67,8 +68,8 @@ impl<W: Write> Sink for W {
     }
 }
 
-/// What a reader's error means: it is to be asked again where it was interrupted, and else it has
-/// failed.
+// What a reader's error means: it is to be asked again where it was interrupted, and else it has
+// failed.
 fn read_error(error: &io::Error) -> ReadError
     ensures { (result ≡ ReadError.Interrupted) ↔ (error_kind error.now ≡ ErrorKind.Interrupted) }
 {
@@ -106,13 +107,7 @@ impl<R> FromRead<R> {
 }
 
 impl<R: Source> TextIn for FromRead<R> {
-    ghost remaining = { λ d. R.remaining (reader_of d) };
-
-    ghost has_failed = { λ d. read_has_failed d };
-
-    ghost has_ended = { λ d. has_found_end d };
-
-    ghost reads = { λ d. reads_of d };
+    ghost seen = { λ d. reader (R.remaining (reader_of d)) (read_has_failed d) (has_found_end d) (reads_of d) };
 
     /// Asks the reader once, with this buffer, and tells what it answered: its count, or that it was
     /// interrupted, or for any other error that it has failed.
@@ -165,9 +160,7 @@ impl<W> ToWrite<W> {
 }
 
 impl<W: Sink> TextOut for ToWrite<W> {
-    ghost contents = { λ d. W.contents (writer_of d) };
-
-    ghost has_failed = { λ d. write_has_failed d };
+    ghost seen = { λ d. writer (W.contents (writer_of d)) (write_has_failed d) };
 
     /// Gives the bytes to the writer once, and tells what it answered: its count, or for any error
     /// that it has failed.

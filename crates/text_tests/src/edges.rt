@@ -8,7 +8,7 @@ use std::alloc::{AllocError, Global};
 use std::test::Fail;
 use term_parse::parse;
 
-/// Whether the text is read as a term of this size and nest, which is printed as the other text.
+// Whether the text is read as a term of this size and nest, which is printed as the other text.
 fn is_read(alloc: Global, text: &[u8], counts: (u64, u64), printed: &[u8]) -> Result<bool, Fail> {
     let read = parse(alloc, text)?;
     let is_counted = read.size() == counts.0 && read.nest() == counts.1;
@@ -20,7 +20,7 @@ fn bound(alloc: Global, first: Term, then: Term) -> Result<Term, AllocError> {
     Ok(Term::Let(first, Box::new(alloc, then)?))
 }
 
-/// So many bindings of a value, each inside the last, and innermost the last value itself.
+// So many bindings of a value, each inside the last, and innermost the last value itself.
 fn nested_lets(alloc: Global, binders: u32) -> Result<Term, AllocError> {
     let slot = binders.saturating_sub(1);
     let mut term = Term::Pure(Operand::Named(Name {
@@ -33,7 +33,7 @@ fn nested_lets(alloc: Global, binders: u32) -> Result<Term, AllocError> {
     Ok(term)
 }
 
-/// Their text: each binder is named by how many stand around it.
+// Their text: each binder is named by how many stand around it.
 fn push_nested_lets(text: &mut String, binders: u32) -> Result<(), AllocError> {
     for slot in 0..binders {
         write!(text, "(let v{slot} (cede) ")?;
@@ -72,7 +72,7 @@ fn push_cedes(parts: &mut Vec<Term>, cedes: usize) -> Result<(), AllocError> {
     Ok(())
 }
 
-/// Two `say` that stand apart, so many more of them, and then so many `cede`.
+// Two `say` that stand apart, so many more of them, and then so many `cede`.
 fn seq(alloc: Global, says: usize, cedes: usize) -> Result<Term, AllocError> {
     let mut more = Vec::new(alloc);
     push_says(&mut more, says)?;

@@ -8,24 +8,24 @@ use event_text::{is_seen, waits};
 use fiber_events::{Deed, Event};
 use std::alloc::{AllocError, Global};
 
-/// How many deferreds a run may have.
+// How many deferreds a run may have.
 const DEFERREDS: usize = 1000;
 
-/// A moment of a fiber.
+// A moment of a fiber.
 #[derive(Clone, Copy, Debug)]
 struct Moment {
     fiber: usize,
     x: usize,
 }
 
-/// What others may wait for, and who waits.
+// What others may wait for, and who waits.
 #[derive(Drop)]
 struct Wakes {
-    /// Of each fiber, its end.
+    // Of each fiber, its end.
     ended: Vec<Option<Moment>>,
-    /// Of each deferred, its completion.
+    // Of each deferred, its completion.
     completed: Vec<Option<Moment>>,
-    /// Of each fiber, whether it waits.
+    // Of each fiber, whether it waits.
     waits: Vec<bool>,
 }
 

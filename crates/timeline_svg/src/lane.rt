@@ -14,21 +14,21 @@ use std::alloc::{AllocError, Global};
 #[derive(Drop)]
 pub(crate) struct Lane {
     fiber: usize,
-    /// Where the shade that is drawn now began.
+    // Where the shade that is drawn now began.
     from: usize,
-    /// How many masks are active.
+    // How many masks are active.
     masks: usize,
-    /// How many polls are applied.
+    // How many polls are applied.
     polls: usize,
-    /// The fiber was cut.
+    // The fiber was cut.
     cut: bool,
-    /// Where it began to wait, if it waits.
+    // Where it began to wait, if it waits.
     waits: Option<usize>,
-    /// Where brackets acquired that haven't released, the innermost last.
+    // Where brackets acquired that haven't released, the innermost last.
     spans: Vec<usize>,
-    /// The signs and words so far, which are drawn over the bars.
+    // The signs and words so far, which are drawn over the bars.
     signs: String,
-    /// Where the last sign stands.
+    // Where the last sign stands.
     signed: usize,
     /// How the fiber ended, if it did.
     pub(crate) outcome: Option<Outcome>,
@@ -290,7 +290,7 @@ fn sign_of(event: &Event) -> Sign {
     }
 }
 
-/// The sign of most events.
+// The sign of most events.
 const TICK: Sign = Sign {
     class: "tick",
     drawing: "v5",

@@ -4,7 +4,7 @@ use crate::scale::{BAR, LEFT, Scale, TOP};
 use crate::shapes::{Place, push_bar, push_counted, push_line, push_sign, push_words};
 use std::alloc::AllocError;
 
-/// How far apart the samples of the legend are.
+// How far apart the samples of the legend are.
 const APART: usize = 104;
 
 /// How high the legend is.
@@ -13,7 +13,7 @@ pub(crate) const HEIGHT: usize = 108;
 /// How wide the legend is.
 pub(crate) const WIDTH: usize = 16 + 7 * APART;
 
-/// The shades, each with its class.
+// The shades, each with its class.
 const SHADES: &[(&str, &str)] = &[
     ("runs", "unmasked"),
     ("masked", "masked"),
@@ -21,7 +21,7 @@ const SHADES: &[(&str, &str)] = &[
     ("final", "finalizers"),
 ];
 
-/// The signs, each with its class and its drawing.
+// The signs, each with its class and its drawing.
 const SIGNS: &[(&str, &str, &str)] = &[
     ("tick", "m7 4v10", "a move"),
     ("says", "m7 4l5 5l-5 5l-5 -5z", "say"),
@@ -31,7 +31,7 @@ const SIGNS: &[(&str, &str, &str)] = &[
     ("gone", "m1 3h12v12h-12z", "canceled"),
 ];
 
-/// The arrows, each with its class.
+// The arrows, each with its class.
 const ARROWS: &[(&str, &str)] = &[
     ("starts", "starts"),
     ("cancels", "requests cancel"),

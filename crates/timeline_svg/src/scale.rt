@@ -17,10 +17,10 @@ pub(crate) const BAR: usize = 18;
 /// How many fibers have a lane.
 pub(crate) const MOST_LANES: usize = 100;
 
-/// How wide an entry is where all have room.
+// How wide an entry is where all have room.
 const STEP: usize = 14;
 
-/// How many entries have room at that width. More stand closer together.
+// How many entries have room at that width. More stand closer together.
 const ROOMY: usize = 120;
 
 /// How far entries are apart, and where lanes begin.

@@ -4,7 +4,7 @@ use crate::answers::with_timeline;
 use outcome_trace::Status;
 use std::test::Fail;
 
-/// Five fibers have room side by side, six haven't.
+// Five fibers have room side by side, six haven't.
 const PROGRAM: &str =
     "(start a (pure 1) (start b (pure 2) (start c (pure 3) (start d (pure 4) (start e (pure 5) \
     (pure 0))))))";

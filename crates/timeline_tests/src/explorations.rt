@@ -6,9 +6,9 @@ use std::alloc::Global;
 use std::str;
 use std::test::Fail;
 
-/// An exploration, and what it answers with timelines, where the rules leave no choice of schedules.
+// An exploration, and what it answers with timelines, where the rules leave no choice of schedules.
 struct Explored<'a> {
-    /// What it shows.
+    // What it shows.
     rule: &'a str,
     program: &'a str,
     fibers: u16,
@@ -76,7 +76,7 @@ const EXPLORED: &[Explored<'static>] = &[
     },
 ];
 
-/// Programs that come to more than one report, without a fault.
+// Programs that come to more than one report, without a fault.
 const BRANCHING: &[&str] = &[
     "(ref r 0 (start f (set r 1) (get r)))",
     "(start f (say 1) (cancel f))",

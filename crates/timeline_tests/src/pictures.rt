@@ -6,9 +6,9 @@ use std::alloc::Global;
 use std::str;
 use std::test::Fail;
 
-/// A program under a schedule, and what its picture has, with how often. The legend has one of each.
+// A program under a schedule, and what its picture has, with how often. The legend has one of each.
 struct Shown<'a> {
-    /// What it shows.
+    // What it shows.
     rule: &'a str,
     program: &'a str,
     schedule: &'a str,
@@ -108,7 +108,7 @@ const SHOWN: &[Shown<'static>] = &[
     },
 ];
 
-/// A small picture behind its style, whole.
+// A small picture behind its style, whole.
 const SMALL: &str = " width=\"100%\" height=\"100%\"/>\n\
     <text class=\"faint\" x=\"16\" y=\"20\">entry</text>\n\
     <text class=\"faint small\" x=\"84\" y=\"20\">0</text>\n\
@@ -195,7 +195,7 @@ fn a_small_picture_is_drawn_whole(rt: HostRuntime) -> Result<(), Fail> {
     Ok(())
 }
 
-/// A mark that a finalizer notes stands behind the bar of the finalizers, and so is drawn over it.
+// A mark that a finalizer notes stands behind the bar of the finalizers, and so is drawn over it.
 #[test]
 fn signs_are_drawn_over_their_bars(rt: HostRuntime) -> Result<(), Fail> {
     let program = "(oncancel (seq (canceled) (say 1)) (say 2))";

@@ -5,9 +5,9 @@ use outcome_trace::Status;
 use std::alloc::Global;
 use std::test::Fail;
 
-/// A program under a schedule, and what is answered with its timeline.
+// A program under a schedule, and what is answered with its timeline.
 struct Told<'a> {
-    /// What it shows.
+    // What it shows.
     rule: &'a str,
     program: &'a str,
     schedule: &'a str,
@@ -190,7 +190,7 @@ const ALONE: &[Told<'static>] = &[
     },
 ];
 
-/// Fibers alone that touch nothing shared but their own masks and requests.
+// Fibers alone that touch nothing shared but their own masks and requests.
 const UNSHARED: &[Told<'static>] = &[
     Told {
         rule: "moves of the fiber's own have no row",

@@ -5,13 +5,13 @@ use fiber_events::Event;
 use itoa::Buffer;
 use std::alloc::{AllocError, Global};
 
-/// How wide a table may be that has a column for each fiber.
+// How wide a table may be that has a column for each fiber.
 const WIDEST: usize = 120;
 
-/// How wide the column of a fiber is at least, with the spaces behind it.
+// How wide the column of a fiber is at least, with the spaces behind it.
 const NARROWEST: usize = 20;
 
-/// How wide the column of the entries is at least: as wide as its heading.
+// How wide the column of the entries is at least: as wide as its heading.
 const ENTRY: usize = 6;
 
 /// The columns of a timeline.

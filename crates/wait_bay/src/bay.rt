@@ -1,5 +1,5 @@
 //! The bay: its slots and lists, and what is done with the lists.
-ghost use Rattle.std.specs.Prelude.{◌≡◌, ◌<◌, ◌↔◌, [], IfOk, IsOk, IsTrue, vec_len};
+ghost use Rattle.std.specs.Prelude.{◌≡◌, ◌<◌, ◌↔◌, [], IfOk, IsNone, IsOk, IsTrue, false, vec_len};
 ghost use Rattle.wait_bay.specs.Names.{named_of};
 ghost use Rattle.wait_bay.specs.Bays.{IsSeatOf, IsWithin};
 
@@ -12,6 +12,7 @@ use derived_ops::Code;
 use fiber_poll::{FiberTask, Topic};
 use std::alloc::{AllocError, Global};
 use std::marker::Model;
+use std::sync::atomic::{AtomicBool, Ordering};
 use std::sync::{Mutex, Wait};
 
 /// The tasks of fibers that no worker has, and the lists of those that wait, which workers on any
@@ -25,8 +26,8 @@ pub struct Bay<'a> {
     pub(crate) alloc: Global,
     pub(crate) count: u16,
     pub(crate) slots: Vec<Mutex<Slot>>,
-    fibers: Vec<Mutex<Waiters>>,
-    deferreds: Vec<Mutex<Waiters>>,
+    fibers: Vec<WaiterList>,
+    deferreds: Vec<WaiterList>,
     pub(crate) table: Table<Option<FiberTask<'a>>, Knowledge, Names<'a>, BayRule, Global>,
 }
 
@@ -124,10 +125,25 @@ impl<'a> Bay<'a> {
         requires within { IsWithin self.now topic }
         ensures never { topic ≡ Topic.Never → IsOk result }
     {
-        match topic {
-            Topic::Fiber(g) => self.fibers[g as usize].lock(rt).register(f),
-            Topic::Deferred(d) => self.deferreds[d as usize].lock(rt).register(f),
-            Topic::Never => Ok(()),
+        let Some(list) = self.list(topic) else {
+            return Ok(());
+        };
+        let mut waiters = list.waiters.lock(rt);
+        waiters.register(f)?;
+        list.noted.store(true, Ordering::SeqCst);
+        Ok(())
+    }
+
+    /// Whether a fiber was noted as waiting for a topic since the topic's list was drained last. It takes no
+    /// lock. A fiber that is noted after a `false` sees at its next look what had come before the call.
+    #[inline(always)]
+    pub fn is_awaited(&self, topic: Topic) -> bool
+        requires within { IsWithin self.now topic }
+        ensures never { topic ≡ Topic.Never → result ≡ false }
+    {
+        match self.list(topic) {
+            Some(list) => list.noted.load(Ordering::SeqCst),
+            None => false,
         }
     }
 
@@ -137,21 +153,46 @@ impl<'a> Bay<'a> {
         requires within { IsWithin self.now topic }
         ensures never { topic ≡ Topic.Never → result.items ≡ [] }
     {
+        let Some(list) = self.list(topic) else {
+            return Vec::new(self.alloc);
+        };
+        let mut waiters = list.waiters.lock(rt);
+        list.noted.store(false, Ordering::SeqCst);
+        waiters.drain()
+    }
+
+    // The list of a topic, which `Never` has none of.
+    #[inline(always)]
+    fn list(&self, topic: Topic) -> Option<&WaiterList>
+        requires within { IsWithin self.now topic }
+        ensures never { topic ≡ Topic.Never → IsNone result }
+    {
         match topic {
-            Topic::Fiber(g) => self.fibers[g as usize].lock(rt).drain(),
-            Topic::Deferred(d) => self.deferreds[d as usize].lock(rt).drain(),
-            Topic::Never => Vec::new(self.alloc),
+            Topic::Fiber(g) => Some(&self.fibers[g as usize]),
+            Topic::Deferred(d) => Some(&self.deferreds[d as usize]),
+            Topic::Never => None,
         }
     }
 }
 
+// Those that wait for a topic, as workers share them.
+#[derive(Drop)]
+struct WaiterList {
+    // Whether somebody was noted since the list was drained last. It changes under the lock.
+    noted: AtomicBool,
+    waiters: Mutex<Waiters>,
+}
+
 // So many lists of nobody.
-fn lists(alloc: Global, count: u16) -> Result<Vec<Mutex<Waiters>>, AllocError>
+fn lists(alloc: Global, count: u16) -> Result<Vec<WaiterList>, AllocError>
     ensures { IfOk result (λ v. vec_len v ≡ count) }
 {
     let mut all = Vec::with_capacity(alloc, usize::from(count))?;
     for _ in 0..count {
-        all.push(Mutex::new(Waiters::new(alloc)))?;
+        all.push(WaiterList {
+            noted: AtomicBool::new(false),
+            waiters: Mutex::new(Waiters::new(alloc)),
+        })?;
     }
     Ok(all)
 }

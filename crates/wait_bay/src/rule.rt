@@ -43,7 +43,7 @@ impl<'a> TableRule<Option<FiberTask<'a>>, Knowledge, Names<'a>> for BayRule {
     ghost first = { λ named. record { named = named } };
 }
 
-// A seat becomes two, which know the same.
+/// A seat becomes two, which know the same.
 pub(crate) struct Same;
 
 impl Split<Knowledge> for Same {
@@ -52,7 +52,7 @@ impl Split<Knowledge> for Same {
     ghost right = { λ v. v };
 }
 
-// A slot goes to the seat, if it is at home.
+/// A slot goes to the seat, if it is at home.
 pub(crate) struct Goes;
 
 impl<'a> Play<Option<FiberTask<'a>>, Knowledge> for Goes {
@@ -61,7 +61,7 @@ impl<'a> Play<Option<FiberTask<'a>>, Knowledge> for Goes {
     ghost then = { GoesOut };
 }
 
-// The slot that the seat took comes home.
+/// The slot that the seat took comes home.
 pub(crate) struct Returns;
 
 impl<'a> Play<Option<FiberTask<'a>>, Knowledge> for Returns {

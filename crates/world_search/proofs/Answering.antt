@@ -1,6 +1,8 @@
 -- Answers that are added.
-use Rattle.std.proofs.Common.{◌≡◌, ℕ, ◌<◌, false, List, [], ◌∷◌, length, Some, Result, Ok, Err, refl, sym, ◌∙◌, subst, arith, inl, inr}
+use Rattle.std.proofs.Common.{◌≡◌, ◌≢◌, ℕ, ◌+◌, ◌<◌, false, List, [], ◌∷◌, length, Some, Result, Ok, Err, refl, sym, ap, ◌∙◌, subst, arith, inl, inr}
+use Rattle.std.proofs.Common.{length-append}
 use Rattle.std.specs.List.{slice_get}
+use Rattle.std.proofs.lemmas.Bool.{cases_lt}
 use Rattle.std.proofs.lemmas.Option.{slice_get_within}
 use mathlib.Core.Logic.{◌⊎◌}
 use Rattle.world_search.specs.declared.answers.Answer.{Answer}
@@ -8,11 +10,11 @@ use Rattle.world_search.specs.declared.graphs.Node.{Node}
 use Rattle.world_search.specs.declared.graphs.Noted.{Noted}
 use Rattle.world_search.specs.declared.landings.Landing.{Landing}
 use Rattle.world_search.specs.declared.landings.Landing.TheVariants as to
-use Rattle.world_search.specs.Answers.{Tells, IsAnswered}
+use Rattle.world_search.specs.Answers.{AreApart, TellOnce, Tells, IsAnswered}
 use Rattle.world_search.specs.Lists.{IsMore}
-use Rattle.world_search.specs.Private.Listed.{Adds, AreListed, IsWorldListed, IsFaultListed, IsNamed}
-use Rattle.world_search.specs.Private.Shapes.{Shape}
-use Rattle.world_search.proofs.Lists.{more_in, get_last, get_end}
+use Rattle.world_search.specs.Private.Listed.{Adds, AddsFaults, AreListed, HaveNoFault, IsWorldListed, IsFaultListed, IsNamed}
+use Rattle.world_search.specs.Private.Shapes.{AreNotedOnce, Shape}
+use Rattle.world_search.proofs.Lists.{more_back, more_in, get_last, get_end}
 
 pub adds_more : (nodes : List Node) (last : Node) (end : Landing) (old new : List Answer) → Adds nodes last end old new → IsMore old new
 adds_more nodes last end old new h = record { more = h.answer ∷ []; is = sym h.is }
@@ -53,6 +55,100 @@ listed_within s answers listed k a j at is = elim (listed k a at) [
       omega arith
   | inr h ↦ let apart : to.Fault h.noted.fault ≡ to.World j = sym h.end ∙ is in absurd (cc)
 ]
+
+-- ---- told once
+-- an answer is added that tells what none told before
+pub adds_once : {W R : Type 0} (report : W → R) (ws : List W) (nodes : List Node) (last : Node) (end : Landing) (old new : List Answer) →
+    Adds nodes last end old new → TellOnce report ws old → ((k : ℕ) (a : Answer) → slice_get old k ≡ Some a → AreApart report ws a.end end) →
+    TellOnce report ws new
+adds_once report ws nodes last end old new h once apart i j a b less ati atj =
+    elim (get_end old h.answer a i (subst (λ (l : List Answer). slice_get l i ≡ Some a) h.is ati)) [
+      | inl before ↦ elim (get_end old h.answer b j (subst (λ (l : List Answer). slice_get l j ≡ Some b) h.is atj)) [
+        | inl both ↦ once i j a b less before both
+        | inr here ↦ subst (λ (l : Landing). AreApart report ws a.end l) (sym h.ends ∙ ap (λ (x : Answer). x.end) here.1) (apart i a before)
+      ]
+      | inr here ↦
+          let low = slice_get_within new j b atj in
+          let long : length new ≡ length old + 1 = ap (λ (l : List Answer). length l) h.is ∙ length-append old (h.answer ∷ []) in
+          let at = here.0 in
+          absurd (omega arith)
+    ]
+
+-- a world is added
+pub adds_faultless : (nodes : List Node) (last : Node) (j : ℕ) (old new : List Answer) → Adds nodes last (to.World j) old new → HaveNoFault old →
+    HaveNoFault new
+adds_faultless nodes last j old new h none k a n at =
+    elim (get_end old h.answer a k (subst (λ (l : List Answer). slice_get l k ≡ Some a) h.is at)) [
+      | inl before ↦ none k a n before
+      | inr here ↦ λ is. let no : to.World j ≡ to.Fault n = sym h.ends ∙ ap (λ (x : Answer). x.end) here.1 ∙ is in cc
+    ]
+
+-- each fault that the answers name is one of the first n that are noted
+abbrev pub NamesNoted : List Noted → ℕ → List Answer → Type 0
+NamesNoted noted n answers =
+    (k j : ℕ) (a : Answer) → slice_get answers k ≡ Some a → a.end ≡ to.Fault j → (i : ℕ) × (m : Noted) × (i < n) × (slice_get noted i ≡ Some m) × (m.fault ≡ j)
+
+pub none_noted : (noted : List Noted) (answers : List Answer) → HaveNoFault answers → NamesNoted noted 0 answers
+none_noted noted answers none k j a at is = absurd (none k a j at is)
+
+pub no_faults : (answers : List Answer) → HaveNoFault answers → AddsFaults answers answers
+no_faults answers none = record {
+  each = λ k a high at. let low = slice_get_within answers k a at in absurd (omega arith);
+  once = λ i j m n a b less ati atj isa isb. absurd (none i a m ati isa);
+}
+
+fault_is : (m n : ℕ) → to.Fault m ≡ to.Fault n → m ≡ n
+fault_is m n e = cc
+
+module _ (nodes : List Node) (f : Noted) (n : ℕ) (noted : List Noted) where
+  pub adds_noted : (old new : List Answer) → Adds nodes f.node (to.Fault f.fault) old new → slice_get noted n ≡ Some f → NamesNoted noted n old →
+      NamesNoted noted (n + 1) new
+  adds_noted old new h here from k j a at is =
+      elim (get_end old h.answer a k (subst (λ (l : List Answer). slice_get l k ≡ Some a) h.is at)) [
+        | inl before ↦ let x = from k j a before is in let low = x.2 in (x.0, x.1, omega arith, x.3, x.4)
+        | inr last ↦ (n, f, omega arith, here, fault_is f.fault j (sym h.ends ∙ ap (λ (x : Answer). x.end) last.1 ∙ is))
+      ]
+
+  pub adds_faults : (first old new : List Answer) → Adds nodes f.node (to.Fault f.fault) old new → AreNotedOnce noted → slice_get noted n ≡ Some f →
+      NamesNoted noted n old → AddsFaults first old → AddsFaults first new
+  adds_faults first old new h single here from known = record {
+    each = λ k a high at. elim (get_end old h.answer a k (subst (λ (l : List Answer). slice_get l k ≡ Some a) h.is at)) [
+      | inl before ↦ known.each k a high before
+      | inr last ↦ (f.fault, sym (ap (λ (x : Answer). x.end) last.1) ∙ h.ends)
+    ];
+    once = λ i j m l a b less ati atj isa isb.
+        elim (get_end old h.answer a i (subst (λ (l : List Answer). slice_get l i ≡ Some a) h.is ati)) [
+          | inl before ↦ elim (get_end old h.answer b j (subst (λ (l : List Answer). slice_get l j ≡ Some b) h.is atj)) [
+            | inl both ↦ known.once i j m l a b less before both isa isb
+            | inr last ↦
+                let x = from i m a before isa in
+                let its : f.fault ≡ l = fault_is f.fault l (sym h.ends ∙ ap (λ (x : Answer). x.end) last.1 ∙ isb) in
+                λ same. single x.0 n x.1 f x.2 x.3 here (x.4 ∙ same ∙ sym its)
+          ]
+          | inr last ↦
+              let low = slice_get_within new j b atj in
+              let long : length new ≡ length old + 1 = ap (λ (l : List Answer). length l) h.is ∙ length-append old (h.answer ∷ []) in
+              let at = last.0 in
+              absurd (omega arith)
+        ];
+  }
+
+fault_apart : {W R : Type 0} (report : W → R) (ws : List W) (l : Landing) (n : ℕ) → ((m : ℕ) → l ≡ to.Fault m → m ≢ n) →
+    AreApart report ws l (to.Fault n)
+fault_apart report ws (to.World m) n h = tt
+fault_apart report ws (to.Fault m) n h = h m refl
+
+-- worlds told once, and behind them faults told once
+pub faults_once : {W R : Type 0} (report : W → R) (ws : List W) (old new : List Answer) → TellOnce report ws old → HaveNoFault old → IsMore old new →
+    AddsFaults old new → TellOnce report ws new
+faults_once report ws old new once none more adds i j a b less ati atj =
+    elim (cases_lt j (length old)) [
+      | inl low ↦ once i j a b less (more_back old new i a more (omega arith) ati) (more_back old new j b more low atj)
+      | inr high ↦
+          let y = adds.each j b high atj in
+          subst (λ (l : Landing). AreApart report ws a.end l) (sym y.1)
+          (fault_apart report ws a.end y.0 (λ m is. adds.once i j m y.0 a b less ati atj is y.1))
+    ]
 
 module _ {W E R : Type 0} (step : W → ℕ → Result W E) (report : W → R) (ws : List W) (es : List E) where
   pub answered_more : (old new : List Answer) (y : Result W E) → IsMore old new → IsAnswered step report ws es old y → IsAnswered step report ws es new y

@@ -1,6 +1,6 @@
 -- What is known of the worlds and entries of a search stays where they go on.
 use Rattle.std.proofs.Common.{◌≡◌, ℕ, ◌+◌, ◌<◌, true, false, List, [], ◌∷◌, ◌++◌, length, Some, Result, Ok, Err, sym}
-use Rattle.std.proofs.Common.{◌∙◌, subst, arith, inl, inr, length-append, length-set}
+use Rattle.std.proofs.Common.{◌∙◌, ap, subst, arith, inl, inr, length-append, length-set}
 use Rattle.std.specs.List.{slice_get}
 use Rattle.std.proofs.lemmas.Option.{same_Some, slice_get_within}
 use mathlib.Core.Logic.{dite}
@@ -9,7 +9,7 @@ use Rattle.world_search.specs.declared.graphs.Node.{Node}
 use Rattle.world_search.specs.declared.graphs.Edge.{Edge}
 use Rattle.world_search.specs.declared.graphs.Noted.{Noted}
 use Rattle.world_search.specs.Lists.{IsMore}
-use Rattle.world_search.specs.Private.Shapes.{Shape, with_node, with_edge, with_noted, with_quiet, with_faulting}
+use Rattle.world_search.specs.Private.Shapes.{AreNotedOnce, IsNotedIn, Shape, with_node, with_edge, with_noted, with_quiet, with_faulting}
 use Rattle.world_search.specs.Private.Graphs.{CanEnter, IsEntry, IsReached, IsEdge, IsNoted, IsTold, IsMet, Stays, IsQuiet, CanFault, Fits, Grows, IsDone}
 use Rattle.world_search.proofs.Lists.{more_same, more_by, more_more, more_get, more_back, more_long, get_end, set_other}
 
@@ -39,6 +39,20 @@ grows_edge ws es s e =
 pub grows_noted : {W E : Type 0} (ws : List W) (es : List E) (s : Shape) (n : Noted) → Grows ws ws es es s (with_noted s n)
 grows_noted ws es s n =
     record { worlds = more_same ws; faults = more_same es; nodes = more_same s.nodes; edges = more_same s.edges; noted = more_by s.noted (n ∷ []) }
+
+-- a fault that wasn't noted is noted once
+noted_once : (noted : List Noted) (n : Noted) → AreNotedOnce noted → (IsNotedIn noted n.fault → ⊥) → AreNotedOnce (noted ++ (n ∷ []))
+noted_once noted n once first k l c d less atk atl = elim (get_end noted n c k atk) [
+  | inl a ↦ elim (get_end noted n d l atl) [
+    | inl b ↦ once k l c d less a b
+    | inr b ↦ λ same. first (k, c, a, same ∙ ap (λ (x : Noted). x.fault) (sym b.1))
+  ]
+  | inr a ↦
+      let here = a.0 in
+      let low = slice_get_within (noted ++ (n ∷ [])) l d atl in
+      let long : length (noted ++ (n ∷ [])) ≡ length noted + 1 = length-append noted (n ∷ []) in
+      absurd (omega arith)
+]
 
 module _ {W E R : Type 0} (step : W → ℕ → Result W E) (report : W → R) (most longest : ℕ) where
   module _ (ws vs : List W) (es ds : List E) (s t : Shape) (g : Grows ws vs es ds s t) where
@@ -118,6 +132,7 @@ module _ {W E R : Type 0} (step : W → ℕ → Result W E) (report : W → R) (
                 grow_reached ws vs es ds s s g d (Ok w) (h.nodes i d w at (more_back ws vs i w m (omega arith) there));
             edges = λ k e at. grow_edge ws vs es ds s s g e (h.edges k e at);
             noted = λ k d at. grow_noted ws vs es ds s s g d (h.noted k d at);
+            once = h.once;
             unsettled = h.unsettled;
             faulting = h.faulting;
             quiet = λ i at. let low = slice_get_within s.unsettled i false at in let a = h.unsettled in let k = h.known in
@@ -145,6 +160,7 @@ module _ {W E R : Type 0} (step : W → ℕ → Result W E) (report : W → R) (
             ];
             edges = λ k e at. grow_edge ws ws es es s t g e (h.edges k e at);
             noted = λ k d at. grow_noted ws ws es es s t g d (h.noted k d at);
+            once = h.once;
             unsettled = let a = length-append s.unsettled (true ∷ []) in let b = h.unsettled in omega arith;
             faulting = let a = length-append s.faulting (false ∷ []) in let b = h.faulting in omega arith;
             quiet = λ i at. elim (get_end s.unsettled true false i at) [
@@ -170,6 +186,7 @@ module _ {W E R : Type 0} (step : W → ℕ → Result W E) (report : W → R) (
               | inr last ↦ subst (λ (x : Edge). IsEdge step report most longest ws es s.nodes x) last.1 new
             ];
             noted = h.noted;
+            once = h.once;
             unsettled = h.unsettled;
             faulting = h.faulting;
             quiet = λ i at. let low = slice_get_within s.unsettled i false at in let a = h.unsettled in let k = h.known in
@@ -177,8 +194,9 @@ module _ {W E R : Type 0} (step : W → ℕ → Result W E) (report : W → R) (
             faults = h.faults;
           }
 
-      pub fits_noted : (n : Noted) → IsNoted step report most longest ws es s.nodes n → Fits step report most longest ws es (with_noted s n)
-      fits_noted n new =
+      pub fits_noted : (n : Noted) → IsNoted step report most longest ws es s.nodes n → (IsNotedIn s.noted n.fault → ⊥) →
+          Fits step report most longest ws es (with_noted s n)
+      fits_noted n new first =
           let g = grows_noted ws es s n in
           let t = with_noted s n in
           record {
@@ -190,6 +208,7 @@ module _ {W E R : Type 0} (step : W → ℕ → Result W E) (report : W → R) (
               | inl old ↦ h.noted k d old
               | inr last ↦ subst (λ (x : Noted). IsNoted step report most longest ws es s.nodes x) last.1 new
             ];
+            once = noted_once s.noted n h.once first;
             unsettled = h.unsettled;
             faulting = h.faulting;
             quiet = h.quiet;
@@ -204,6 +223,7 @@ module _ {W E R : Type 0} (step : W → ℕ → Result W E) (report : W → R) (
         nodes = h.nodes;
         edges = h.edges;
         noted = h.noted;
+        once = h.once;
         unsettled = length-set s.unsettled i false ∙ h.unsettled;
         faulting = h.faulting;
         quiet = λ j at. dite (ℕ_discrete j i)
@@ -219,6 +239,7 @@ module _ {W E R : Type 0} (step : W → ℕ → Result W E) (report : W → R) (
         nodes = h.nodes;
         edges = h.edges;
         noted = h.noted;
+        once = h.once;
         unsettled = h.unsettled;
         faulting = length-set s.faulting i true ∙ h.faulting;
         quiet = h.quiet;

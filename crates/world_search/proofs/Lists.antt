@@ -3,7 +3,7 @@ use Rattle.std.proofs.Common.{◌≡◌, ◌≢◌, ℕ, zero, suc, ◌<◌, ◌
 use Rattle.std.proofs.Common.{◌∙◌, subst, arith, append_assoc, append-nil, length-append, inl, inr, get_or}
 use Rattle.std.specs.Prelude.{IfOk, Result, Ok, Err}
 use Rattle.std.specs.List.{slice_get, All}
-use Rattle.std.proofs.lemmas.Option.{same_Some, slice_get-get_or}
+use Rattle.std.proofs.lemmas.Option.{same_Some, slice_get-get_or, slice_get_within}
 use mathlib.Core.Logic.{◌⊎◌}
 use Rattle.world_search.specs.Lists.{IsIn, IsMore}
 
@@ -36,6 +36,9 @@ get_end [] x y zero e = inr (refl, same_Some x y e)
 get_end [] x y (suc i) e = absurd (cc)
 get_end (z ∷ xs) x y zero e = inl e
 get_end (z ∷ xs) x y (suc i) e = elim (get_end xs x y i e) [ inl l ↦ inl l | inr r ↦ inr (ap suc r.0, r.1) ]
+
+pub got_none : {A : Type 0} (xs : List A) (i : ℕ) (x : A) → xs ≡ [] → slice_get xs i ≡ Some x → ⊥
+got_none xs i x e at = let low = slice_get_within xs i x at in let none : length xs ≡ 0 = ap length e in omega arith
 
 pub get_low : {A : Type 0} (xs : List A) (i : ℕ) → i < length xs → (x : A) × (slice_get xs i ≡ Some x)
 get_low [] i h = absurd (omega arith)

@@ -76,14 +76,14 @@ module _ {W E R : Type 0} (step : W → ℕ → Result W E) (report : W → R) (
           let w = get_low ws n.from (omega arith) in
           let l = lands w.0 w.1 in
           let entry : IsEntry step report most longest ws es s.nodes n (Err l.0) = record { how = how; world = w.0; at = w.1; leads = l.2 } in
-          subst (Fits step report most longest ws es) (sym new)
-          (fits_noted step report most longest ws es s h (record { fault = j; node = n }) (record { why = l.0; at = l.1; entry = entry }))
+          subst (Fits step report most longest ws es) (sym new.1)
+          (fits_noted step report most longest ws es s h (record { fault = j; node = n }) (record { why = l.0; at = l.1; entry = entry }) new.0)
     ]
 
     noted_in : IsNotedIn t.noted j
     noted_in = elim notes [
       | inl old ↦ subst (λ (r : Shape). IsNotedIn r.noted j) (sym old.1) old.0
-      | inr new ↦ subst (λ (r : Shape). IsNotedIn r.noted j) (sym new) (
+      | inr new ↦ subst (λ (r : Shape). IsNotedIn r.noted j) (sym new.1) (
         length s.noted,
         record { fault = j; node = n },
         get_last s.noted (record { fault = j; node = n }),

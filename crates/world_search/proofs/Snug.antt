@@ -1,14 +1,13 @@
 -- That each world of a store was met, and none is deeper than its number.
-use Rattle.std.proofs.Common.{◌≡◌, ℕ, ◌+◌, ◌<◌, ◌≤◌, List, [], ◌∷◌, ◌++◌, length, Some, refl, sym, ap, ◌∙◌, subst}
+use Rattle.std.proofs.Common.{◌≡◌, ℕ, ◌+◌, ◌<◌, ◌≤◌, List, [], ◌∷◌, ◌++◌, length, refl, sym, subst}
 use Rattle.std.proofs.Common.{arith, length-append, inl, inr}
-use Rattle.std.specs.List.{slice_get}
 use Rattle.std.proofs.lemmas.Option.{slice_get_within}
 use mathlib.Core.Logic.{◌⊎◌}
 use Rattle.world_search.specs.declared.graphs.Node.{Node}
 use Rattle.world_search.specs.declared.graphs.Edge.{Edge}
 use Rattle.world_search.specs.declared.expanding.Came.{Came}
 use Rattle.world_search.specs.declared.expanding.Came.TheVariants as came
-use Rattle.world_search.specs.Private.Shapes.{Shape, with_node, with_edge, with_quiet, with_faulting, Keeps, Notes}
+use Rattle.world_search.specs.Private.Shapes.{Shape, with_edge, with_quiet, with_faulting, Keeps, Notes}
 use Rattle.world_search.specs.Private.Graphs.{CanEnter, AreShallow, IsSnug, IsNearly, IsStopped, worse_of}
 use Rattle.world_search.proofs.Lists.{get_end}
 
@@ -84,7 +83,7 @@ faulting_snug s i many h = record { even = h.even; shallow = h.shallow }
 pub noted_snug : (s t : Shape) (fault : ℕ) (n : Node) (many : ℕ) → Notes s t fault n → IsSnug many s → IsSnug many t
 noted_snug s t fault n many notes h = elim notes [
   | inl same ↦ subst (IsSnug many) (sym same.1) h
-  | inr next ↦ subst (IsSnug many) (sym next) (record { even = h.even; shallow = h.shallow })
+  | inr next ↦ subst (IsSnug many) (sym next.1) (record { even = h.even; shallow = h.shallow })
 ]
 
 -- what came is lost only where one part of it is

@@ -1,5 +1,5 @@
 -- What the answers of a search say.
-use Rattle.std.specs.Prelude.{◌≡◌, ◌⊎◌, ℕ, ◌<◌, ◌≤◌, List, length, min, Some, Result, Ok, Err}
+use Rattle.std.specs.Prelude.{◌≡◌, ◌≢◌, ◌⊎◌, ℕ, ◌<◌, ◌≤◌, List, length, min, Some, Result, Ok, Err}
 use Rattle.std.specs.List.{slice_get, All}
 use Rattle.world_search.specs.declared.landings.Landing.{Landing}
 use Rattle.world_search.specs.declared.landings.Landing.TheVariants as to
@@ -19,6 +19,20 @@ IsAtBound bounds worlds = (min bounds.worlds 4294967295 ≤ worlds) ⊎ (min bou
 -- the schedule is of numbers below this one
 abbrev pub IsNumbered : ℕ → Answer → Type 0
 IsNumbered most a = All (λ f. f < most) a.schedule.items
+
+-- the ends are worlds of different reports, or different faults, or a world and a fault
+abbrev pub AreApart : {W R : Type 0} → (W → R) → List W → Landing → Landing → Type 0
+AreApart report ws (to.World i) (to.World j) =
+    (v w : _) → slice_get ws i ≡ Some v → slice_get ws j ≡ Some w → report v ≢ report w
+AreApart report ws (to.World i) (to.Fault j) = Unit {0}
+AreApart report ws (to.Fault i) (to.World j) = Unit {0}
+AreApart report ws (to.Fault i) (to.Fault j) = i ≢ j
+
+-- no report is told twice, and no fault is
+abbrev pub TellOnce : {W R : Type 0} → (W → R) → List W → List Answer → Type 0
+TellOnce report ws answers =
+    (i j : ℕ) (a b : Answer) → i < j → slice_get answers i ≡ Some a → slice_get answers j ≡ Some b →
+    AreApart report ws a.end b.end
 
 module _ {W E R : Type 0} (step : W → ℕ → Result W E) (report : W → R) (ws : List W) (es : List E) where
   -- the schedule leads from this world to the end that is named, where it ends in a fault or in a settled world

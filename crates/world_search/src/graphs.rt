@@ -114,7 +114,8 @@ pub fn note(graph: &mut Graph, fault: usize, node: Node) -> Result<(), AllocErro
 
 // Whether the fault is among those noted.
 fn is_noted(noted: &[Noted], fault: usize) -> bool
-    ensures { result ≡ true → IsNotedIn noted.now fault }
+    ensures yes { result ≡ true → IsNotedIn noted.now fault }
+    ensures no { result ≡ false → IsNotedIn noted.now fault → ⊥ }
 {
     for it in noted {
         if it.fault == fault {

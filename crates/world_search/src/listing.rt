@@ -4,12 +4,13 @@ ghost use Rattle.std.specs.Prelude.{◌≡◌, ◌⊎◌, ℕ, ◌<◌, ◌≤�
 ghost use Rattle.std.specs.List.{slice_get};
 ghost use Rattle.world_search.specs.declared.answers.Answer.{Answer};
 ghost use Rattle.world_search.specs.declared.graphs.Noted.{Noted};
-ghost use Rattle.world_search.specs.Answers.{IsAnswered, Tells};
+ghost use Rattle.world_search.specs.Answers.{AreApart, IsAnswered, TellOnce, Tells};
 ghost use Rattle.world_search.specs.Lists.{IsMore};
 ghost use Rattle.world_search.specs.Private.Flags.{AreWithin};
-ghost use Rattle.world_search.specs.Private.Listed.{Adds, AreListed, AreNotedChained, CanEnd, IsNamed};
+ghost use Rattle.world_search.specs.Private.Listed.{Adds, AddsFaults, AreListed, AreNotedChained, CanEnd, HaveNoFault};
+ghost use Rattle.world_search.specs.Private.Listed.{IsNamed};
 ghost use Rattle.world_search.specs.Private.Paths.{AreChained, IsChained};
-ghost use Rattle.world_search.specs.Private.Shapes.{shape};
+ghost use Rattle.world_search.specs.Private.Shapes.{AreNotedOnce, shape};
 
 use crate::answers::Answer;
 use crate::graphs::{Graph, Node};
@@ -31,6 +32,9 @@ pub fn list_worlds<W: Worlds>(
     requires flags { length graph.now.unsettled.items ≡ length graph.now.nodes.items }
     requires listed { AreListed (shape graph.now) answers.old.items }
     ensures listed { OnOk result (AreListed (shape graph.now) answers.new.items) }
+    ensures once { OnOk result (TellOnce W.report (W.worlds worlds.now) answers.old.items →
+        TellOnce W.report (W.worlds worlds.now) answers.new.items) }
+    ensures faultless { OnOk result (HaveNoFault answers.old.items → HaveNoFault answers.new.items) }
     ensures told { OnOk result ((i : ℕ) (w : W.World) → slice_get graph.now.unsettled.items i ≡ Some false →
         slice_get (W.worlds worlds.now) i ≡ Some w →
         IsAnswered W.step W.report (W.worlds worlds.now) (W.faults worlds.now) answers.new.items (GoesWell w)) }
@@ -56,6 +60,9 @@ fn list_world<W: Worlds>(
     requires low { index < length graph.now.nodes.items }
     ensures listed { OnOk result (AreListed (shape graph.now) answers.new.items) }
     ensures more { OnOk result (IsMore answers.old.items answers.new.items) }
+    ensures once { OnOk result (TellOnce W.report (W.worlds worlds.now) answers.old.items →
+        TellOnce W.report (W.worlds worlds.now) answers.new.items) }
+    ensures faultless { OnOk result (HaveNoFault answers.old.items → HaveNoFault answers.new.items) }
     ensures told { OnOk result ((w : W.World) → slice_get graph.now.unsettled.items index ≡ Some false →
         slice_get (W.worlds worlds.now) index ≡ Some w →
         IsAnswered W.step W.report (W.worlds worlds.now) (W.faults worlds.now) answers.new.items (GoesWell w)) }
@@ -81,8 +88,10 @@ fn is_told<W: Worlds>(worlds: &W, answers: &[Answer], index: usize) -> bool
     requires low { index < length (W.worlds worlds.now) }
     requires within { (k : ℕ) (a : Answer) (j : ℕ) → slice_get answers.now k ≡ Some a → a.end ≡ Landing.World j →
         j < length (W.worlds worlds.now) }
-    ensures { result ≡ true → (w : W.World) → slice_get (W.worlds worlds.now) index ≡ Some w →
+    ensures yes { result ≡ true → (w : W.World) → slice_get (W.worlds worlds.now) index ≡ Some w →
         IsAnswered W.step W.report (W.worlds worlds.now) (W.faults worlds.now) answers.now (GoesWell w) }
+    ensures no { result ≡ false → (k : ℕ) (a : Answer) → slice_get answers.now k ≡ Some a →
+        AreApart W.report (W.worlds worlds.now) a.end (Landing.World index) }
 {
     for it in answers {
         if tells(worlds, it.end, index) {
@@ -96,8 +105,9 @@ fn is_told<W: Worlds>(worlds: &W, answers: &[Answer], index: usize) -> bool
 fn tells<W: Worlds>(worlds: &W, end: Landing, index: usize) -> bool
     requires low { index < length (W.worlds worlds.now) }
     requires within { (j : ℕ) → end ≡ Landing.World j → j < length (W.worlds worlds.now) }
-    ensures { result ≡ true → (w : W.World) → slice_get (W.worlds worlds.now) index ≡ Some w →
+    ensures yes { result ≡ true → (w : W.World) → slice_get (W.worlds worlds.now) index ≡ Some w →
         Tells W.step W.report (W.worlds worlds.now) (W.faults worlds.now) end (GoesWell w) }
+    ensures no { result ≡ false → AreApart W.report (W.worlds worlds.now) end (Landing.World index) }
 {
     match end {
         Landing::World(other) => worlds.same_report(other, index),
@@ -130,9 +140,12 @@ pub fn list_faults(
 ) -> Result<(), AllocError>
     requires chained { AreChained graph.now.nodes.items }
     requires noted { AreNotedChained (shape graph.now) }
+    requires once { AreNotedOnce graph.now.noted.items }
     requires listed { AreListed (shape graph.now) answers.old.items }
+    requires faultless { HaveNoFault answers.old.items }
     ensures listed { OnOk result (AreListed (shape graph.now) answers.new.items) }
     ensures more { OnOk result (IsMore answers.old.items answers.new.items) }
+    ensures adds { OnOk result (AddsFaults answers.old.items answers.new.items) }
     ensures told { OnOk result ((k : ℕ) (n : Noted) → slice_get graph.now.noted.items k ≡ Some n →
         IsNamed answers.new.items (Landing.Fault n.fault)) }
 {

@@ -3,7 +3,7 @@
 ghost use Rattle.std.specs.Prelude.{◌≡◌, ℕ, ◌<◌, ◌≤◌, ◌++◌, List, length, true, false, max, min, Ok as GoesWell};
 ghost use Rattle.std.specs.Prelude.{IfOk, OnOk, Some};
 ghost use Rattle.std.specs.List.{slice_get, All};
-ghost use Rattle.world_search.specs.Answers.{IsAtBound, IsCovered, IsRight, IsEnd, IsShort, IsNumbered};
+ghost use Rattle.world_search.specs.Answers.{IsAtBound, IsCovered, IsRight, IsEnd, IsShort, IsNumbered, TellOnce};
 ghost use Rattle.world_search.specs.Lists.{IsMore};
 ghost use Rattle.world_search.specs.Systems.{run};
 
@@ -34,6 +34,7 @@ pub fn search<W: Worlds>(alloc: Global, worlds: &mut W, bounds: Bounds) -> Resul
         slice_get (W.worlds worlds.old) 0 ≡ Some first → (schedule : List ℕ) →
         (more : List ℕ) × IsEnd W.step W.report (W.worlds worlds.new) (W.faults worlds.new) it.answers.items
         (run W.step (GoesWell first) (schedule ++ more))) }
+    ensures once { IfOk result (λ it. TellOnce W.report (W.worlds worlds.new) it.answers.items) }
     ensures numbers { IfOk result (λ it. All (IsNumbered W.most_born) it.answers.items) }
     ensures short { IfOk result (λ it. All (IsShort bounds.entries) it.answers.items) }
     ensures room { OnOk result (length (W.worlds worlds.new) ≤ max bounds.worlds (length (W.worlds worlds.old))) }
@@ -64,6 +65,7 @@ pub fn search_watched<W: Worlds, V: Watcher>(
         slice_get (W.worlds worlds.old) 0 ≡ Some first → (schedule : List ℕ) →
         (more : List ℕ) × IsEnd W.step W.report (W.worlds worlds.new) (W.faults worlds.new) it.answers.items
         (run W.step (GoesWell first) (schedule ++ more))) }
+    ensures once { IfOk result (λ it. TellOnce W.report (W.worlds worlds.new) it.answers.items) }
     ensures numbers { IfOk result (λ it. All (IsNumbered W.most_born) it.answers.items) }
     ensures short { IfOk result (λ it. All (IsShort bounds.entries) it.answers.items) }
     ensures room { OnOk result (length (W.worlds worlds.new) ≤ max bounds.worlds (length (W.worlds worlds.old))) }

@@ -9,7 +9,7 @@ use std::test::Fail;
 use std::thread::Threads;
 use std::time::Clock;
 
-/// Releases from the inside out.
+// Releases from the inside out.
 const ORDER: &[Replay<'static>] = &[Replay {
     rule: "three brackets that are canceled inside",
     program: "(bracket a (pure 1) (bracket b (pure 2) (bracket c (pure 3) (canceled) (say c)) (say b)) (say a))",
@@ -20,7 +20,7 @@ const ORDER: &[Replay<'static>] = &[Replay {
         2, releasing 0, say 1, released 0\n",
 }];
 
-/// A release that fails is released all the same.
+// A release that fails is released all the same.
 const FAILED_RELEASES: &[Replay<'static>] = &[
     Replay {
         rule: "an error of the release after success becomes the error of the whole",
@@ -47,7 +47,7 @@ const FAILED_RELEASES: &[Replay<'static>] = &[
     },
 ];
 
-/// The release of the outcome runs.
+// The release of the outcome runs.
 const CASES: &[Replay<'static>] = &[
     Replay {
         rule: "the release of success sees both values",
@@ -75,7 +75,7 @@ const CASES: &[Replay<'static>] = &[
     },
 ];
 
-/// Only what was acquired is released.
+// Only what was acquired is released.
 const ACQUISITIONS: &[Replay<'static>] = &[
     Replay {
         rule: "a failed acquisition releases nothing",
@@ -108,7 +108,7 @@ const ACQUISITIONS: &[Replay<'static>] = &[
     },
 ];
 
-/// A guarantee runs its finalizer after each outcome.
+// A guarantee runs its finalizer after each outcome.
 const GUARANTEES: &[Replay<'static>] = &[
     Replay {
         rule: "the finalizer runs after an error",
@@ -149,8 +149,8 @@ fn brackets_and_guarantees(rt: HostRuntime) {
     expect_replays(&rt, GUARANTEES);
 }
 
-/// The marks of guarantees in one another's finalizers: each is entered and its poll opened and
-/// closed before the next one begins, and they are left in reverse.
+// The marks of guarantees in one another's finalizers: each is entered and its poll opened and
+// closed before the next one begins, and they are left in reverse.
 fn guarantees_marks(alloc: Global, depth: usize) -> Result<String, AllocError> {
     let mut report = String::new(alloc);
     report.push_str("fiber 0 succeeded 0:")?;
@@ -166,7 +166,7 @@ fn guarantees_marks(alloc: Global, depth: usize) -> Result<String, AllocError> {
     Ok(report)
 }
 
-/// Replays a program that goes so deep around `(pure 0)`.
+// Replays a program that goes so deep around `(pure 0)`.
 fn expect_deep<R: Abort + AllocGlobal + Clock + Threads + Wait + Sync>(
     rt: &R,
     rule: &str,

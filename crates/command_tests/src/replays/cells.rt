@@ -2,7 +2,7 @@
 
 use super::{Replay, expect_replays};
 
-/// A ref is changed in one step.
+// A ref is changed in one step.
 const REFS: &[Replay<'static>] = &[
     Replay {
         rule: "modify gives the old value and wraps",
@@ -36,7 +36,7 @@ const REFS: &[Replay<'static>] = &[
     },
 ];
 
-/// A deferred is completed once.
+// A deferred is completed once.
 const DEFERREDS: &[Replay<'static>] = &[
     Replay {
         rule: "only the first completion counts",

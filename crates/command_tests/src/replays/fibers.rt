@@ -2,7 +2,7 @@
 
 use super::{Replay, expect_replays};
 
-/// An entry is a move of its fiber.
+// An entry is a move of its fiber.
 const ENTRIES: &[Replay<'static>] = &[
     Replay {
         rule: "a fiber looks, and ends",
@@ -48,7 +48,7 @@ const ENTRIES: &[Replay<'static>] = &[
     },
 ];
 
-/// A join waits for the end.
+// A join waits for the end.
 const JOINS: &[Replay<'static>] = &[
     Replay {
         rule: "a join goes on with the value",
@@ -89,7 +89,7 @@ const JOINS: &[Replay<'static>] = &[
     },
 ];
 
-/// A cancel waits for the end.
+// A cancel waits for the end.
 const CANCELS: &[Replay<'static>] = &[
     Replay {
         rule: "cancel cuts a fiber that waits",
@@ -138,7 +138,7 @@ const CANCELS: &[Replay<'static>] = &[
     },
 ];
 
-/// A start makes a fiber of its own.
+// A start makes a fiber of its own.
 const STARTS: &[Replay<'static>] = &[
     Replay {
         rule: "nobody waits for a fiber that isn't joined",

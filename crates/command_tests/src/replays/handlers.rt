@@ -8,7 +8,7 @@ use std::test::Fail;
 use std::thread::Threads;
 use std::time::Clock;
 
-/// A handler takes errors alone.
+// A handler takes errors alone.
 const HANDLERS: &[Replay<'static>] = &[
     Replay {
         rule: "a sum out of range raises 1001",
@@ -54,7 +54,7 @@ const HANDLERS: &[Replay<'static>] = &[
     },
 ];
 
-/// A choice is by zero.
+// A choice is by zero.
 const CHOICES: &[Replay<'static>] = &[
     Replay {
         rule: "0 takes the first branch",
@@ -72,7 +72,7 @@ const CHOICES: &[Replay<'static>] = &[
     },
 ];
 
-/// A loop goes round so often.
+// A loop goes round so often.
 const LOOPS: &[Replay<'static>] = &[
     Replay {
         rule: "three times",
@@ -111,7 +111,7 @@ fn handlers_choices_and_loops(rt: HostRuntime) {
     expect_replays(&rt, LOOPS);
 }
 
-/// A report of fiber 0 that said 1 so often, and at least once.
+// A report of fiber 0 that said 1 so often, and at least once.
 fn said(alloc: Global, outcome: &str, times: usize) -> Result<String, AllocError> {
     let mut report = format!(in alloc; "fiber 0 {outcome}: say 1")?;
     for _ in 1..times {
@@ -121,7 +121,7 @@ fn said(alloc: Global, outcome: &str, times: usize) -> Result<String, AllocError
     Ok(report)
 }
 
-/// Replays ten thousand times round, of which each says 1.
+// Replays ten thousand times round, of which each says 1.
 fn expect_times_round<R: Abort + AllocGlobal + Clock + Threads + Wait + Sync>(
     rt: &R,
     schedule: &str,

@@ -12,15 +12,15 @@ use std::test::Fail;
 use std::thread::Threads;
 use std::time::Clock;
 
-/// Two programs that can't be told apart.
+// Two programs that can't be told apart.
 struct Law<'a> {
-    /// The law's name in `cats-effect-laws`, or in `cats-laws` where `MonadCancel` inherits it.
+    // The law's name in `cats-effect-laws`, or in `cats-laws` where `MonadCancel` inherits it.
     source: &'a str,
     left: &'a str,
     right: &'a str,
 }
 
-/// Laws on one fiber.
+// Laws on one fiber.
 const ALONE: &[Law<'static>] = &[
     Law {
         source: "MonadCancelLaws.uncancelablePollIsIdentity",
@@ -119,7 +119,7 @@ const ALONE: &[Law<'static>] = &[
     },
 ];
 
-/// Laws on several fibers, and one that holds only of a fiber that nobody cancels from outside.
+// Laws on several fibers, and one that holds only of a fiber that nobody cancels from outside.
 const TOGETHER: &[Law<'static>] = &[
     Law {
         source: "MonadCancelLaws.canceledSequencesOnCancelInOrder",
@@ -204,7 +204,7 @@ const TOGETHER: &[Law<'static>] = &[
     },
 ];
 
-/// In which order up to three fibers take turns, and for how many moves.
+// In which order up to three fibers take turns, and for how many moves.
 const ROUNDS: &[&str] = &[
     "0 1 2",
     "2 1 0",
@@ -216,14 +216,14 @@ const ROUNDS: &[&str] = &[
     "2*40 1*40 0*40",
 ];
 
-/// After so many rounds each of these programs has ended, or waits without end.
+// After so many rounds each of these programs has ended, or waits without end.
 const TIMES: usize = 40;
 
-/// After so many moves each program of one fiber above has ended, or waits without end, also behind a
-/// `cede`.
+// After so many moves each program of one fiber above has ended, or waits without end, also behind a
+// `cede`.
 const MOMENTS: usize = 36;
 
-/// What a replay of the program reports.
+// What a replay of the program reports.
 fn replayed<R: Abort + AllocGlobal + Clock + Threads + Wait + Sync>(
     rt: &R,
     program: &str,
@@ -238,7 +238,7 @@ fn replayed<R: Abort + AllocGlobal + Clock + Threads + Wait + Sync>(
     answer.out
 }
 
-/// Puts what a fiber said at the end.
+// Puts what a fiber said at the end.
 fn push_said(ending: &mut String, marks: &str) -> Result<(), AllocError> {
     for mark in marks.split(", ") {
         if mark.starts_with("say ") {
@@ -249,7 +249,7 @@ fn push_said(ending: &mut String, marks: &str) -> Result<(), AllocError> {
     Ok(())
 }
 
-/// How fiber 0 ended, and what was said, in the order of the fibers.
+// How fiber 0 ended, and what was said, in the order of the fibers.
 fn ending_in(alloc: Global, report: &str) -> Result<String, AllocError> {
     let mut ending = String::new(alloc);
     for line in report.lines() {
@@ -262,7 +262,7 @@ fn ending_in(alloc: Global, report: &str) -> Result<String, AllocError> {
     Ok(ending)
 }
 
-/// How a program ends under a schedule.
+// How a program ends under a schedule.
 fn ending<R: Abort + AllocGlobal + Clock + Threads + Wait + Sync>(
     rt: &R,
     program: &str,
@@ -275,7 +275,7 @@ fn ending<R: Abort + AllocGlobal + Clock + Threads + Wait + Sync>(
     )
 }
 
-/// So many rounds.
+// So many rounds.
 fn schedule(alloc: Global, round: &str, times: usize) -> Result<String, AllocError> {
     let mut schedule = String::from_str(alloc, round)?;
     for _ in 1..times {
@@ -285,7 +285,7 @@ fn schedule(alloc: Global, round: &str, times: usize) -> Result<String, AllocErr
     Ok(schedule)
 }
 
-/// Compares how the two sides of a law end under a schedule.
+// Compares how the two sides of a law end under a schedule.
 fn expect_same<R: Abort + AllocGlobal + Clock + Threads + Wait + Sync>(
     rt: &R,
     law: &Law<'_>,
@@ -301,7 +301,7 @@ fn expect_same<R: Abort + AllocGlobal + Clock + Threads + Wait + Sync>(
     Ok(())
 }
 
-/// Compares how the two sides of each law end under these rounds.
+// Compares how the two sides of each law end under these rounds.
 fn expect_laws<R: Abort + AllocGlobal + Clock + Threads + Wait + Sync>(
     rt: &R,
     round: &str,
@@ -324,8 +324,8 @@ fn the_sides_of_a_law_end_alike_in_every_order(rt: HostRuntime) -> Result<(), Fa
     Ok(())
 }
 
-/// How a program ends in a fiber that is canceled after so many of its moves. The first of them are
-/// those of a `cede`, so the request comes before the program's own first look, too.
+// How a program ends in a fiber that is canceled after so many of its moves. The first of them are
+// those of a `cede`, so the request comes before the program's own first look, too.
 fn canceled_ending<R: Abort + AllocGlobal + Clock + Threads + Wait + Sync>(
     rt: &R,
     whole: &str,
@@ -335,7 +335,7 @@ fn canceled_ending<R: Abort + AllocGlobal + Clock + Threads + Wait + Sync>(
     ending(rt, whole, schedule.as_str())
 }
 
-/// The same after each number of its moves in turn.
+// The same after each number of its moves in turn.
 fn endings<R: Abort + AllocGlobal + Clock + Threads + Wait + Sync>(
     rt: &R,
     program: &str,
@@ -350,7 +350,7 @@ fn endings<R: Abort + AllocGlobal + Clock + Threads + Wait + Sync>(
     Ok(endings)
 }
 
-/// Whether each ending of the one side is among those of the other.
+// Whether each ending of the one side is among those of the other.
 fn are_among(some: &[String], others: &[String]) -> bool {
     for ending in some {
         if !others.contains(ending) {
@@ -360,7 +360,7 @@ fn are_among(some: &[String], others: &[String]) -> bool {
     true
 }
 
-/// The sides of a law have the same endings.
+// The sides of a law have the same endings.
 fn expect_same_endings<R: Abort + AllocGlobal + Clock + Threads + Wait + Sync>(
     rt: &R,
     law: &Law<'_>,

@@ -7,9 +7,9 @@ use std::sync::Wait;
 use std::thread::Threads;
 use std::time::Clock;
 
-/// A replay under an option, and what comes of it.
+// A replay under an option, and what comes of it.
 struct Limited<'a> {
-    /// What the replay shows.
+    // What the replay shows.
     rule: &'a str,
     program: &'a str,
     schedule: &'a str,
@@ -24,7 +24,7 @@ const CUT_BEHIND_A_MASK: &str = "(uncancelable p (canceled))";
 
 const POLL: &str = "(uncancelable p (poll p (pure 1)))";
 
-/// A count is spent by its owner's changes.
+// A count is spent by its owner's changes.
 const COUNTS: &[Limited<'static>] = &[
     Limited {
         rule: "the second mask is one change too many",
@@ -132,7 +132,7 @@ const COUNTS: &[Limited<'static>] = &[
     },
 ];
 
-/// Numbers are given up to the limit.
+// Numbers are given up to the limit.
 const NUMBERS: &[Limited<'static>] = &[
     Limited {
         rule: "a race is three fibers",
@@ -179,7 +179,7 @@ const NUMBERS: &[Limited<'static>] = &[
     },
 ];
 
-/// Nothing is written beside a fault, also after much was noted, in each of two fibers.
+// Nothing is written beside a fault, also after much was noted, in each of two fibers.
 const LATE: &[Limited<'static>] = &[
     Limited {
         rule: "a fiber too many after marks of two fibers",
@@ -224,7 +224,7 @@ const LATE: &[Limited<'static>] = &[
     },
 ];
 
-/// Replays each program under its schedule and option, and compares what is written and the status.
+// Replays each program under its schedule and option, and compares what is written and the status.
 fn expect_limited<R: Abort + AllocGlobal + Clock + Threads + Wait + Sync>(
     rt: &R,
     replays: &[Limited<'_>],

@@ -2,7 +2,7 @@
 
 use super::{Replay, expect_replays};
 
-/// A poll opens its mask.
+// A poll opens its mask.
 const POLLS: &[Replay<'static>] = &[
     Replay {
         rule: "a poll observes the request that its mask suppressed",
@@ -34,7 +34,7 @@ const POLLS: &[Replay<'static>] = &[
     },
 ];
 
-/// A mask suppresses until it is left.
+// A mask suppresses until it is left.
 const LEFT: &[Replay<'static>] = &[
     Replay {
         rule: "a request under a mask is observed behind it, where nothing is left to compute",
@@ -52,7 +52,7 @@ const LEFT: &[Replay<'static>] = &[
     },
 ];
 
-/// Each mask is undone by its own poll.
+// Each mask is undone by its own poll.
 const NESTED: &[Replay<'static>] = &[
     Replay {
         rule: "the outer poll outermost doesn't unmask",
@@ -77,7 +77,7 @@ const NESTED: &[Replay<'static>] = &[
     },
 ];
 
-/// A mask is of one fiber.
+// A mask is of one fiber.
 const OTHER_FIBERS: &[Replay<'static>] = &[
     // The child's mask has the number of its parent's.
     Replay {
@@ -90,7 +90,7 @@ const OTHER_FIBERS: &[Replay<'static>] = &[
     },
 ];
 
-/// Finalizers run masked after a cut alone.
+// Finalizers run masked after a cut alone.
 const FINALIZERS: &[Replay<'static>] = &[
     Replay {
         rule: "finalizers run masked, and no poll unmasks them",
@@ -122,11 +122,11 @@ const FINALIZERS: &[Replay<'static>] = &[
     },
 ];
 
-/// Fiber 0 starts a fiber that polls inside a mask, and cancels it.
+// Fiber 0 starts a fiber that polls inside a mask, and cancels it.
 const CANCELED_IN_A_MASK: &str =
     "(start f (uncancelable p (seq (say 1) (poll p (say 2)) (say 3))) (cancel f))";
 
-/// A request is observed where the fiber is unmasked.
+// A request is observed where the fiber is unmasked.
 const MOMENTS: &[Replay<'static>] = &[
     Replay {
         rule: "a request before the mask cuts the fiber there",

@@ -2,7 +2,7 @@
 
 use super::{Replay, expect_replays};
 
-/// An acquisition is cut inside its poll alone.
+// An acquisition is cut inside its poll alone.
 const OF_ONE_FIBER: &[Replay<'static>] = &[
     Replay {
         rule: "an acquisition is cut inside its poll, and nothing is released",
@@ -52,7 +52,7 @@ const OF_ONE_FIBER: &[Replay<'static>] = &[
     },
 ];
 
-/// An acquisition that waits inside its poll is canceled.
+// An acquisition that waits inside its poll is canceled.
 // The schedule lets the second fiber reach its wait before it is canceled.
 const OF_TWO_FIBERS: &[Replay<'static>] = &[
     Replay {

@@ -2,7 +2,7 @@
 
 use super::{Replay, expect_replays};
 
-/// A race cancels and awaits the loser.
+// A race cancels and awaits the loser.
 const RACES: &[Replay<'static>] = &[
     Replay {
         rule: "the loser's finalizers end before the race does",
@@ -54,7 +54,7 @@ const RACES: &[Replay<'static>] = &[
     },
 ];
 
-/// A pair awaits both sides.
+// A pair awaits both sides.
 const PAIRS: &[Replay<'static>] = &[
     Replay {
         rule: "both values",

@@ -13,15 +13,15 @@ const POLL: &str = "(uncancelable p (poll p (pure 1)))";
 
 const STARTS: &str = "(start f (pure 5) (pure 6))";
 
-/// Programs that an option makes come to one fault.
+// Programs that an option makes come to one fault.
 struct Faults<'a> {
     option: &'a str,
-    /// The rule that a program shows, and the program.
+    // The rule that a program shows, and the program.
     programs: &'a [(&'a str, &'a str)],
     fault: &'a str,
 }
 
-/// The count of a fiber's own changes ends a run.
+// The count of a fiber's own changes ends a run.
 const COUNTS: &[Faults<'static>] = &[
     Faults {
         option: "--count=1",
@@ -62,7 +62,7 @@ const COUNTS: &[Faults<'static>] = &[
     },
 ];
 
-/// A number past its limit ends a run.
+// A number past its limit ends a run.
 const NUMBERS: &[Faults<'static>] = &[
     Faults {
         option: "--fibers=1",
@@ -89,7 +89,7 @@ const NUMBERS: &[Faults<'static>] = &[
     },
 ];
 
-/// Runs that an option leaves as much as they need, which have their report.
+// Runs that an option leaves as much as they need, which have their report.
 const ENOUGH: &[(&str, Run<'static>)] = &[
     (
         "--count=4",
@@ -138,7 +138,7 @@ const ENOUGH: &[(&str, Run<'static>)] = &[
     ),
 ];
 
-/// Runs in which fibers have used their moves, and are unended.
+// Runs in which fibers have used their moves, and are unended.
 const TOO_FEW: &[(&str, Run<'static>)] = &[
     (
         "--moves=1",
@@ -169,7 +169,7 @@ const TOO_FEW: &[(&str, Run<'static>)] = &[
     ),
 ];
 
-/// Runs each program under its option, and compares the fault.
+// Runs each program under its option, and compares the fault.
 fn expect_faults<R: Abort + AllocGlobal + Clock + Threads + Wait + Sync>(
     rt: &R,
     all: &[Faults<'_>],
@@ -187,7 +187,7 @@ fn expect_faults<R: Abort + AllocGlobal + Clock + Threads + Wait + Sync>(
     }
 }
 
-/// Runs each program under its option, and compares the report and the status.
+// Runs each program under its option, and compares the report and the status.
 fn expect_each<R: Abort + AllocGlobal + Clock + Threads + Wait + Sync>(
     rt: &R,
     runs: &[(&str, Run<'_>)],

@@ -6,7 +6,7 @@ use std::sync::Wait;
 use std::thread::Threads;
 use std::time::Clock;
 
-/// A fiber alone ends or waits.
+// A fiber alone ends or waits.
 const ALONE: &[Run<'static>] = &[
     Run {
         rule: "a value",
@@ -40,7 +40,7 @@ const ALONE: &[Run<'static>] = &[
     },
 ];
 
-/// A join waits for the end and gives it.
+// A join waits for the end and gives it.
 const JOINS: &[Run<'static>] = &[
     Run {
         rule: "a join of a fiber that succeeds",
@@ -75,7 +75,7 @@ const JOINS: &[Run<'static>] = &[
     },
 ];
 
-/// A cancel waits for the end.
+// A cancel waits for the end.
 const CANCELS: &[Run<'static>] = &[
     Run {
         rule: "a cancel ends a wait",
@@ -105,7 +105,7 @@ const CANCELS: &[Run<'static>] = &[
     },
 ];
 
-/// Fibers share refs and deferreds.
+// Fibers share refs and deferreds.
 const CELLS: &[Run<'static>] = &[
     Run {
         rule: "no update of a ref is lost",
@@ -122,7 +122,7 @@ const CELLS: &[Run<'static>] = &[
     },
 ];
 
-/// Texts that are refused, so that nothing runs.
+// Texts that are refused, so that nothing runs.
 const REFUSED: &[Run<'static>] = &[
     Run {
         rule: "no text",
@@ -138,7 +138,7 @@ const REFUSED: &[Run<'static>] = &[
     },
 ];
 
-/// Runs each program in turns of the default length, and of two moves.
+// Runs each program in turns of the default length, and of two moves.
 fn expect_runs<R: Abort + AllocGlobal + Clock + Threads + Wait + Sync>(rt: &R, runs: &[Run<'_>]) {
     for option in ["--budget=64", "--budget=2"] {
         for run in runs {

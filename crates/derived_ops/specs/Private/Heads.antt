@@ -1,11 +1,14 @@
--- What is printed of a form before its parts.
-use Rattle.std.specs.Prelude.{ℕ, List, ◌++◌, codes}
+-- What is printed of a form before its parts, and how a sequence goes on.
+use Rattle.std.specs.Prelude.{ℕ, List, ◌++◌, Option, Some, None, codes}
 use Rattle.std.specs.Fmt.{decimal}
 use Rattle.derived_ops.specs.declared.core_text.Tail.{Tail}
 use Rattle.derived_ops.specs.declared.core_text.Tail.TheVariants.{Plain, Named, Valued}
 use Rattle.derived_ops.specs.CoreText.{value_text}
 use Rattle.derived_ops.specs.Cores.{value_in_core}
-use Rattle.derived_ops.specs.Tree.{Maker, New_ref, New_deferred, Turns, Times, Always}
+use Rattle.derived_ops.specs.declared.core_word.CoreWord.{CoreWord}
+use Rattle.derived_ops.specs.declared.core_word.CoreWord.TheVariants as word
+use Rattle.derived_ops.specs.declared.core_word.Rest as rests
+use Rattle.derived_ops.specs.Tree.{Maker, New_ref, New_deferred, Turns, Times, Always, Rest, More}
 
 -- the text, and behind it a slot or a value
 abbrev pub head_text : List ℕ → Tail → List ℕ
@@ -21,3 +24,9 @@ maker_text New_deferred d = codes "(deferred d" ++ decimal d
 abbrev pub turns_text : Turns → List ℕ
 turns_text (Times v) = codes "(repeat " ++ value_text v
 turns_text Always = codes "(forever"
+
+-- what is left behind the first part of a sequence, where this word begins a sequence that is left of another one, and
+-- how far behind that part it stands
+abbrev pub further : Rest → CoreWord → Option (rests.Rest × ℕ)
+further More (word.Seq w j) = Some (w, j)
+further _ _ = None

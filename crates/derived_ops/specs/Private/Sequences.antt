@@ -1,13 +1,10 @@
 -- Sequences with their further parts in a list.
-use Rattle.std.specs.Prelude.{ℕ, List, [], ◌∷◌, ◌++◌, codes}
+use Rattle.std.specs.Prelude.{List, [], ◌∷◌}
 use Rattle.effect_term.specs.declared.term.Term.{Term}
-use Rattle.derived_ops.specs.declared.core_term.Core.{Core}
-use Rattle.derived_ops.specs.Cores.{tree_of}
-use Rattle.derived_ops.specs.CoreText.{core_text}
 use Rattle.derived_ops.specs.Reading.{source_of}
 use Rattle.derived_ops.specs.Source as word
 use Rattle.derived_ops.specs.Source.{Source}
-use Rattle.derived_ops.specs.Tree.{Tree, Seq, Last, More}
+use Rattle.derived_ops.specs.Tree.{Tree, Rest, Act, Never, Seq, Last, More}
 
 -- a `seq` of two parts and these, of a program and of a code
 abbrev pub sources_in_order : Source → Source → List Term → Source
@@ -18,7 +15,15 @@ abbrev pub trees_in_order : Tree → Tree → List Tree → Tree
 trees_in_order a b [] = Seq Last a b
 trees_in_order a b (c ∷ rest) = Seq More a (trees_in_order b c rest)
 
--- the texts of these terms, each behind a space
-abbrev pub texts_behind : List Core → List ℕ
-texts_behind [] = []
-texts_behind (c ∷ rest) = codes " " ++ (core_text (tree_of c) ++ texts_behind rest)
+-- what stands behind the first part of a `seq`: a part and these
+abbrev pub rest_before : List Tree → Rest
+rest_before [] = Last
+rest_before (c ∷ rest) = More
+
+abbrev pub trees_behind : Tree → List Tree → Tree
+trees_behind a [] = a
+trees_behind a (b ∷ rest) = Seq (rest_before rest) a (trees_behind b rest)
+
+abbrev pub trees_of : List Tree → Tree
+trees_of [] = Act Never
+trees_of (a ∷ rest) = trees_behind a rest

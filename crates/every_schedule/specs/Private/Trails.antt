@@ -37,3 +37,8 @@ AreUnfolded n most first found answers =
 -- one of them ends as that answer does
 abbrev pub IsKeptIn : List Found → Found → Type 0
 IsKeptIn answers a = (b : Found) × IsIn b answers × (b.end ≡ a.end)
+
+-- no two of these answers end at one number
+abbrev pub EndApart : List Found → Type 0
+EndApart answers = (i j : ℕ) (a b : Found) → slice_get answers i ≡ Some a → slice_get answers j ≡ Some b →
+    a.end ≡ b.end → i ≡ j

@@ -5,7 +5,7 @@ use Rattle.derived_ops.specs.Tree.{Act, Action, Add, Await, Canceled, Cede, Comp
 use Rattle.derived_ops.specs.Tree.{Modify, Never, Number, Pure, Raise, Request, Say, Set, Tree, Operand}
 use Rattle.effect_term.specs.declared.reply.Outcome.{Outcome}
 use Rattle.effect_term.specs.declared.reply.Reply.{Reply}
-use Rattle.fiber_frames.specs.Rows.{Born, Ceded, Ended, Kind, Plain, Row, Waited, action_row, after_end}
+use Rattle.fiber_frames.specs.Rows.{Born, Ceded, Ended, RowKind, Plain, Row, Waited, action_row, after_end}
 use Rattle.fiber_frames.specs.Rows.{after_read, fits, is_ended, number_of, outcome_in, read_in, sum_or_raise}
 use Rattle.fiber_frames.specs.Rows.{unit, wait}
 use Rattle.fiber_frames.specs.declared.ask.Ask.{Ask}
@@ -24,15 +24,15 @@ pub data Says : List Mark → Type 0 where
   said : (z : ℤ) → Says (mark.Say z ∷ [])
 
 -- a property of what a kind of move starts
-abbrev pub If_born : Kind → (Tree → Type 0) → Type 0
+abbrev pub If_born : RowKind → (Tree → Type 0) → Type 0
 If_born (Born e) p = p e
 If_born _ p = Unit {0}
 
-abbrev pub NoBirth : Kind → Type 0
+abbrev pub NoBirth : RowKind → Type 0
 NoBirth (Born e) = ⊥
 NoBirth _ = Unit {0}
 
-pub none_born : (k : Kind) (p : Tree → Type 0) → NoBirth k → If_born k p
+pub none_born : (k : RowKind) (p : Tree → Type 0) → NoBirth k → If_born k p
 none_born (Born e) p h = absurd h
 none_born Plain p h = tt
 none_born Waited p h = tt
@@ -61,7 +61,7 @@ module _ (i next : ℕ) (r : Reply) where
   read_simple (Some z) d = a_value _
 
   abbrev pub ActionRow : (Row Tree → Type 0) → Type 0
-  ActionRow P = (a : Ask) (t : Tree) (ms : List Mark) (k : Kind) → Simple t → Says ms → NoBirth k →
+  ActionRow P = (a : Ask) (t : Tree) (ms : List Mark) (k : RowKind) → Simple t → Says ms → NoBirth k →
       P (record { call = a; becomes = t; marks = ms; next = next; kind = k })
 
   pub action_case : (P : Row Tree → Type 0) → ActionRow P → (c : Action) → P (action_row i next r c)

@@ -21,7 +21,7 @@ use Rattle.fiber_frames.specs.Fiber.{Cuts, Fiber, Looks, Move_case, Reduces, Res
 use Rattle.fiber_frames.specs.Path.{At_final, At_term, Broken, Final, In_guarded, In_handle, In_let, In_masked}
 use Rattle.fiber_frames.specs.Path.{In_polled, In_seq, Over, Running, Runs, active_at, focus, is_effective}
 use Rattle.fiber_frames.specs.Path.{same_mask, undone, without_first}
-use Rattle.fiber_frames.specs.Rows.{Born, Ceded, Ended, Kind, Plain, Row, Waited, action_row, branch}
+use Rattle.fiber_frames.specs.Rows.{Born, Ceded, Ended, RowKind, Plain, Row, Waited, action_row, branch}
 use Rattle.fiber_frames.specs.Rows.{is_positive, is_zero, looped, number_in, number_of, one_less, outcome_in}
 use Rattle.fiber_frames.specs.Rows.{row_at, unit}
 use Rattle.fiber_frames.specs.declared.mark.Mark.TheVariants as mark
@@ -341,7 +341,7 @@ child_room f n B l m = go (kind_of f (reply.Number n)) (born_room f (reply.Numbe
     idle : RoomOf B (begins n unit)
     idle = small_room n B unit (tt, omega arith)
 
-    go : (k : Kind) → If_born k (Small B) → RoomOf B (begins n (term_born k))
+    go : (k : RowKind) → If_born k (Small B) → RoomOf B (begins n (term_born k))
     go (Born e) b = small_room n B e b
     go Plain b = idle
     go Waited b = idle

@@ -18,7 +18,7 @@ use Rattle.fiber_frames.proofs.Marks.Typed.{AllOf, Fine, If_ends, In, Leads, Lea
 use Rattle.fiber_frames.proofs.Marks.Weaken.{Grows, if_ends_more, in_more, leads_more, typed_more, weaker_in}
 use Rattle.fiber_frames.proofs.Walk.{End, Gives, Throws, Works, end_of, under, walk}
 use Rattle.fiber_frames.specs.Path.{In_guarded, In_handle, In_let, In_masked, In_polled, In_seq, is_effective, same_mask, undone}
-use Rattle.fiber_frames.specs.Rows.{Kind, Plain, Row, action_row, branch, calls, enters, is_positive, is_zero}
+use Rattle.fiber_frames.specs.Rows.{RowKind, Plain, Row, action_row, branch, calls, enters, is_positive, is_zero}
 use Rattle.fiber_frames.specs.Rows.{looped, mask_number, note_mark, number_in, number_of, one_less, outcome_in}
 use Rattle.fiber_frames.specs.Rows.{unit}
 use Rattle.fiber_frames.specs.declared.ask.Ask.{Ask}
@@ -115,7 +115,7 @@ module _ (i : ℕ) (Q : ℕ → Masks) (closed : (n t : ℕ) → Q n (Named t) �
   more_now a g = record { more = g; back = λ t h. absurd (closed a.next t h) }
 
   module _ (up : List Mask) (k : Option Stack) (s : Stack) (n x : Option Stack) (around : Around (Q next) (Older i next) up k s n x) (own : In (Own i) s) where
-    keep_marked : (c : Ask) (kd : Kind) (t : Tree) (ms : List Mark) → NoBirth kd → after_marks i ms s ≡ Some s → Typed i (Q next) up k s n x t →
+    keep_marked : (c : Ask) (kd : RowKind) (t : Tree) (ms : List Mark) → NoBirth kd → after_marks i ms s ≡ Some s → Typed i (Q next) up k s n x t →
         Keeps i Q next up k s n x (record { call = c; becomes = t; marks = ms; next = next; kind = kd })
     keep_marked c kd t ms b e h =
         record { now = s; marks = e; grown = λ q g. g; later = omega arith; born = none_born kd _ b; known = around.open_now; own = own; typed = h }

@@ -17,7 +17,7 @@ use Rattle.fiber_frames.proofs.Marks.Spending.{Runtime, handle_runtime, mask_run
 use Rattle.fiber_frames.proofs.Marks.Typed.{AllOf}
 use Rattle.fiber_frames.proofs.Walk.{End, Gives, Throws, Works, end_of, masks_below, under, walk}
 use Rattle.fiber_frames.specs.Path.{In_guarded, In_handle, In_let, In_masked, In_polled, In_seq, is_effective, same_mask, undone}
-use Rattle.fiber_frames.specs.Rows.{Kind, Plain, Row, action_row, branch, calls, enters, is_positive, is_zero}
+use Rattle.fiber_frames.specs.Rows.{RowKind, Plain, Row, action_row, branch, calls, enters, is_positive, is_zero}
 use Rattle.fiber_frames.specs.Rows.{looped, mask_number, note_mark, notes, number_in, number_of, one_less}
 use Rattle.fiber_frames.specs.Rows.{outcome_in, switches, unit}
 use Rattle.fiber_frames.specs.declared.ask.Ask.{Ask}
@@ -97,7 +97,7 @@ on_entered i m n b true up e h g = inl (ap (Pair i) (sym (eqb-true n m e)))
 on_entered i m n b false up e h g = inr (h g)
 
 module _ (i next : ℕ) (r : Reply) where
-  marked_quiet : (c : Ask) (kd : Kind) (before up : List Mask) (t : Tree) (ms : List Mark) → Static t → before ≡ up →
+  marked_quiet : (c : Ask) (kd : RowKind) (before up : List Mask) (t : Tree) (ms : List Mark) → Static t → before ≡ up →
       ((m : ℕ) (b : Bool) → is_on m b ms ≡ b) → Agrees i before up (record { call = c; becomes = t; marks = ms; next = next; kind = kd })
   marked_quiet c kd before up t ms h e q =
       record { live = static_live t h; agrees = λ m b w g. subst (Active (Pair i m)) (e ∙ sym (static_active i t up h)) (w (sym (q m b) ∙ g)) }

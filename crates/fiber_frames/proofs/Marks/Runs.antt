@@ -25,7 +25,7 @@ use Rattle.fiber_frames.specs.Fiber.{kind_of, looked, lost, move, move_case, out
 use Rattle.fiber_frames.specs.Fiber.{term_born}
 use Rattle.fiber_frames.specs.Marks.{AreLawful, EndsLawfully, Has, IsCutOnce, NoCut, UncutRegions, bracket_steps, times_acquired}
 use Rattle.fiber_frames.specs.Path.{At_final, At_term, Broken, Final, Over, Root, Running, Runs, focus}
-use Rattle.fiber_frames.specs.Rows.{Born, Ceded, Ended, Kind, Plain, Row, Waited, number_of, row_at, unit}
+use Rattle.fiber_frames.specs.Rows.{Born, Ceded, Ended, RowKind, Plain, Row, Waited, number_of, row_at, unit}
 use Rattle.fiber_frames.specs.declared.mark.Mark.{Mark}
 use Rattle.fiber_frames.specs.declared.mark.Mark.TheVariants as mark
 use Rattle.effect_term.specs.declared.reply.Outcome.TheVariants as outcome
@@ -289,7 +289,7 @@ final_more : (i z n : ℕ) → Grows (Known_final i z n) (Known i n)
 final_more i z n = record { more = λ q h. h.0; back = λ t h. absurd h }
 
 -- what is started is what a part of the row starts
-born_both : (k : Kind) (F G H : Tree → Type 0) → ((e : Tree) → F e → G e → H e) → If_born k F → If_born k G → If_born k H
+born_both : (k : RowKind) (F G H : Tree → Type 0) → ((e : Tree) → F e → G e → H e) → If_born k F → If_born k G → If_born k H
 born_both (Born e) F G H f x y = f e x y
 born_both Plain F G H f x y = tt
 born_both Waited F G H f x y = tt
@@ -374,7 +374,7 @@ child_holds f n h l = go (kind_of f (reply.Number n)) (born_move f (reply.Number
     idle : Holds (begins n unit)
     idle = holds_from f n unit h l ((λ c. (refl, refl)), tt, (λ g m. omega arith))
 
-    go : (k : Kind) → If_born k (Born_ok f f.running) → Holds (begins n (term_born k))
+    go : (k : RowKind) → If_born k (Born_ok f f.running) → Holds (begins n (term_born k))
     go (Born e) b = holds_from f n e h l b
     go Plain b = idle
     go Waited b = idle

@@ -18,8 +18,8 @@ use Rattle.fiber_frames.proofs.Marks.Spending.{other_weight, spends_handle, spen
 use Rattle.fiber_frames.proofs.Marks.Typed.{AllOf, Masks, Stack, Typed}
 use Rattle.fiber_frames.proofs.Walk.{End, Gives, Throws, Works, end_of, under, walk, within}
 use Rattle.fiber_frames.specs.Marks.{NoCut}
-use Rattle.fiber_frames.specs.Path.{In_guarded, In_handle, In_let, In_masked, In_polled, In_seq, Step, around, is_effective, same_mask, undone}
-use Rattle.fiber_frames.specs.Rows.{Born, Ceded, Ended, Kind, Plain, Row, Waited, action_row, branch, calls}
+use Rattle.fiber_frames.specs.Path.{In_guarded, In_handle, In_let, In_masked, In_polled, In_seq, PathStep, around, is_effective, same_mask, undone}
+use Rattle.fiber_frames.specs.Rows.{Born, Ceded, Ended, RowKind, Plain, Row, Waited, action_row, branch, calls}
 use Rattle.fiber_frames.specs.Rows.{enters, is_positive, is_zero, looped, mask_number, number_in, number_of}
 use Rattle.fiber_frames.specs.Rows.{one_less, outcome_in, switches, unit}
 use Rattle.fiber_frames.specs.declared.ask.Ask.{Ask}
@@ -73,7 +73,7 @@ typed_owned (Guarded e fin) i P up k s n x o h = typed_owned e i P up h.0 s n x 
 typed_owned _ i P up k s n x o h = tt
 
 module _ (i next : ℕ) (r : Reply) where
-  quiet_saves : (c : Ask) (kd : Kind) (t u : Tree) (ms : List Mark) → NoBirth kd → ((w : Mask → ℕ) → taken i w ms ≡ 0) → NoCut ms →
+  quiet_saves : (c : Ask) (kd : RowKind) (t u : Tree) (ms : List Mark) → NoBirth kd → ((w : Mask → ℕ) → taken i w ms ≡ 0) → NoCut ms →
       ((w : Mask → ℕ) → spends w t ≤ 1 → spends w u ≤ spends w t) → Saves i next t (record { call = c; becomes = u; marks = ms; next = next; kind = kd })
   quiet_saves c kd t u ms b q z h =
       record {
@@ -92,14 +92,14 @@ module _ (i next : ℕ) (r : Reply) where
   switch_saves true c m t u q z h = quiet_saves c Plain t u (m ∷ []) tt q z h
   switch_saves false c m t u q z h = plain_saves ask.Silent t u h
 
-  smaller_more : (e t : Tree) (o : Kind) → ((w : Mask → ℕ) → spends w e ≤ spends w t) → If_born o (Smaller e) → If_born o (Smaller t)
+  smaller_more : (e t : Tree) (o : RowKind) → ((w : Mask → ℕ) → spends w e ≤ spends w t) → If_born o (Smaller e) → If_born o (Smaller t)
   smaller_more e t (Born b) l h = (h.0, λ f m. omega (arith, h.1 f m, l (only (Pair f m))))
   smaller_more e t Plain l h = tt
   smaller_more e t Waited l h = tt
   smaller_more e t Ceded l h = tt
   smaller_more e t (Ended o) l h = tt
 
-  frame_saves : (e t : Tree) (s : Step) (x : (Mask → ℕ) → ℕ) (a : Row Tree) →
+  frame_saves : (e t : Tree) (s : PathStep) (x : (Mask → ℕ) → ℕ) (a : Row Tree) →
       ((w : Mask → ℕ) (u : Tree) → spends w (around s u) ≡ spends w u + x w) → ((w : Mask → ℕ) → spends w t ≡ spends w e + x w) → Saves i next e a →
       Saves i next t (within i next s a)
   frame_saves e t s x a y z h =

@@ -7,8 +7,8 @@ use Rattle.fiber_frames.specs.declared.config.Moved.{Moved}
 use Rattle.fiber_frames.specs.declared.config.Moved.TheVariants as moved
 use Rattle.fiber_frames.specs.Fiber.{Fiber, child, move}
 use Rattle.fiber_frames.specs.Answers.{Answers}
-use Rattle.fiber_poll.specs.declared.step.Step.{Step}
-use Rattle.fiber_poll.specs.declared.step.Step.TheVariants as step
+use Rattle.fiber_poll.specs.declared.move_end.MoveEnd.{MoveEnd}
+use Rattle.fiber_poll.specs.declared.move_end.MoveEnd.TheVariants as move_end
 use Rattle.fiber_poll.specs.declared.topic.Topic.TheVariants as topic
 use Rattle.fiber_poll.specs.declared.turn.Turn.{Turn}
 use Rattle.fiber_poll.specs.declared.turn.Turn.TheVariants as turn
@@ -46,12 +46,12 @@ ended_at (ask.Finish o) = Some (Ends o)
 ended_at _ = None
 
 -- the event of a move that asked so
-abbrev pub event_at : Ask → Step → Option Event
-event_at a step.Plain = None
-event_at a step.Woke = woken_at a
-event_at a step.Waited = Some (Waits_for (awaited a))
-event_at a step.Ceded = Some Yields
-event_at a step.Ended = ended_at a
+abbrev pub event_at : Ask → MoveEnd → Option Event
+event_at a move_end.Plain = None
+event_at a move_end.Woke = woken_at a
+event_at a move_end.Waited = Some (Waits_for (awaited a))
+event_at a move_end.Ceded = Some Yields
+event_at a move_end.Ended = ended_at a
 
 -- a move that asks so can wake somebody
 abbrev pub CanWake : Ask → Type 0
@@ -64,9 +64,9 @@ CanEnd (ask.Finish o) = Unit {0}
 CanEnd _ = ⊥
 
 -- a move that asks so can be this
-abbrev pub Tells : Ask → Step → Type 0
-Tells a step.Woke = CanWake a
-Tells a step.Ended = CanEnd a
+abbrev pub Tells : Ask → MoveEnd → Type 0
+Tells a move_end.Woke = CanWake a
+Tells a move_end.Ended = CanEnd a
 Tells a _ = Unit {0}
 
 -- a move that asks so can be this to the fiber's runner, and starts nobody
@@ -101,7 +101,7 @@ IsLast _ = Unit {0}
 
 -- one move, under some reply, which was this: how far the fiber has come by it, and that it goes on unless there is
 -- something to tell
-pub record Made (old : TaskView) (a : Ask) (s : Step) (new : TaskView) : Type 0 where
+pub record Made (old : TaskView) (a : Ask) (s : MoveEnd) (new : TaskView) : Type 0 where
   pub reply : Reply
   pub went : Went old (reply ∷ []) new
   pub event : event_at a s ≡ event_of old.state reply

@@ -7,7 +7,7 @@ use Rattle.world_search.specs.declared.graphs.Noted.{Noted}
 use Rattle.world_search.specs.declared.expanding.Came.{Came}
 use Rattle.world_search.specs.declared.expanding.Came.TheVariants as came
 use Rattle.world_search.specs.Lists.{IsMore}
-use Rattle.world_search.specs.Private.Shapes.{Shape}
+use Rattle.world_search.specs.Private.Shapes.{AreNotedOnce, Shape}
 
 -- the node is of an entry at a world of these, by a fiber below `most`, and no deeper than `longest`
 pub record CanEnter (most longest : ℕ) (nodes : List Node) (n : Node) : Type 0 where
@@ -118,6 +118,7 @@ module _ {W E R : Type 0} (step : W → ℕ → Result W E) (report : W → R) (
         IsReached s.nodes n (Ok w)
     pub edges : (k : ℕ) (e : Edge) → slice_get s.edges k ≡ Some e → IsEdge s.nodes e
     pub noted : (k : ℕ) (n : Noted) → slice_get s.noted k ≡ Some n → IsNoted s.nodes n
+    pub once : AreNotedOnce s.noted
     pub unsettled : length s.unsettled ≡ length s.nodes
     pub faulting : length s.faulting ≡ length s.nodes
     pub quiet : (i : ℕ) → slice_get s.unsettled i ≡ Some false → IsQuiet s i

@@ -1,5 +1,5 @@
 -- The answers that are listed, by what is known of the worlds.
-use Rattle.std.specs.Prelude.{◌≡◌, ◌⊎◌, ℕ, ◌++◌, true, false, List, [], ◌∷◌, Some}
+use Rattle.std.specs.Prelude.{◌≡◌, ◌≢◌, ◌⊎◌, ℕ, ◌<◌, ◌≤◌, ◌++◌, true, false, List, [], ◌∷◌, length, Some}
 use Rattle.std.specs.List.{slice_get}
 use Rattle.world_search.specs.declared.answers.Answer.{Answer}
 use Rattle.world_search.specs.declared.graphs.Node.{Node}
@@ -41,6 +41,16 @@ pub record Adds (nodes : List Node) (last : Node) (end : Landing) (old new : Lis
   pub is : new ≡ old ++ (answer ∷ [])
   pub ends : answer.end ≡ end
   pub path : IsPath nodes last answer.schedule.items
+
+-- none of the answers is a fault
+abbrev pub HaveNoFault : List Answer → Type 0
+HaveNoFault answers = (k : ℕ) (a : Answer) (j : ℕ) → slice_get answers k ≡ Some a → a.end ≢ to.Fault j
+
+-- only faults were added, and no fault is told twice
+pub record AddsFaults (old new : List Answer) : Type 0 where
+  pub each : (k : ℕ) (a : Answer) → length old ≤ k → slice_get new k ≡ Some a → (j : ℕ) × (a.end ≡ to.Fault j)
+  pub once : (i j m n : ℕ) (a b : Answer) → i < j → slice_get new i ≡ Some a → slice_get new j ≡ Some b →
+      a.end ≡ to.Fault m → b.end ≡ to.Fault n → m ≢ n
 
 abbrev pub AreNotedChained : Shape → Type 0
 AreNotedChained s = (k : ℕ) (n : Noted) → slice_get s.noted k ≡ Some n → IsChained s.nodes n.node

@@ -1,5 +1,5 @@
 -- The lists of a search's graph, and what each step adds to them.
-use Rattle.std.specs.Prelude.{◌≡◌, ◌⊎◌, ℕ, Bool, true, false, List, [], ◌∷◌, ◌++◌, length, Some, slice_set}
+use Rattle.std.specs.Prelude.{◌≡◌, ◌≢◌, ◌⊎◌, ℕ, ◌<◌, Bool, true, false, List, [], ◌∷◌, ◌++◌, length, Some, slice_set}
 use Rattle.std.specs.List.{slice_get}
 use Rattle.world_search.specs.declared.graphs.Node.{Node}
 use Rattle.world_search.specs.declared.graphs.Edge.{Edge}
@@ -86,6 +86,12 @@ Keeps s t n to = (t ≡ s) ⊎ ((to ≡ length s.nodes) × (t ≡ with_node s n)
 abbrev pub IsNotedIn : List Noted → ℕ → Type 0
 IsNotedIn noted fault = (k : ℕ) × (n : Noted) × (slice_get noted k ≡ Some n) × (n.fault ≡ fault)
 
--- the fault was among those noted, or is the last one now
+-- no fault is noted twice
+abbrev pub AreNotedOnce : List Noted → Type 0
+AreNotedOnce noted = (k l : ℕ) (m n : Noted) → k < l → slice_get noted k ≡ Some m → slice_get noted l ≡ Some n →
+    m.fault ≢ n.fault
+
+-- the fault was among those noted, or wasn't and is the last one now
 abbrev pub Notes : Shape → Shape → ℕ → Node → Type 0
-Notes s t fault n = (IsNotedIn s.noted fault × (t ≡ s)) ⊎ (t ≡ with_noted s (record { fault = fault; node = n }))
+Notes s t fault n = (IsNotedIn s.noted fault × (t ≡ s)) ⊎
+    ((IsNotedIn s.noted fault → ⊥) × (t ≡ with_noted s (record { fault = fault; node = n })))

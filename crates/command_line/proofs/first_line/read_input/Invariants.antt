@@ -5,7 +5,7 @@ use Rattle.command_line.proofs.first_line.read_input.Given as goal
 abbrev pub invariant-loop : goal.invariant-loop
 invariant-loop g l = record {
   sized : vec_len l.piece ≡ 65536;
-  healthy : g.T.TextIn.has_failed l.input ≡ false;
-  counted : g.T.TextIn.reads l.input ≡ g.T.TextIn.reads l.initial.input + l.counter;
-  taken : Consumes (g.T.TextIn.remaining l.initial.input) (g.T.TextIn.remaining l.input) l.bytes.items;
+  healthy : (g.T.TextIn.seen l.input).failed ≡ false;
+  counted : (g.T.TextIn.seen l.input).reads ≡ (g.T.TextIn.seen l.initial.input).reads + l.counter;
+  taken : Consumes (g.T.TextIn.seen l.initial.input).remaining (g.T.TextIn.seen l.input).remaining l.bytes.items;
 }

@@ -1,53 +1,91 @@
-use Rattle.std.proofs.Common.{◌≡◌, ◌∙◌, ap, map, rules, arith}
+use Rattle.std.proofs.Common.{◌≡◌, ◌≤◌, ◌<◌, ◌+◌, ◌++◌, ◌∙◌, ap, sym, length, Some, None, codes, rules, arith}
 use Rattle.std.proofs.lemmas.Result.{on_ok_weaker}
-use Rattle.derived_ops.specs.declared.core_term.Core.TheViews.{the_lemmas}
-use Rattle.derived_ops.specs.Cores.{maker_in_core, tree_of}
-use Rattle.derived_ops.specs.Private.Sequences.{trees_in_order}
-use Rattle.derived_ops.specs.Tree.{Make, Uncancelable}
-use Rattle.derived_ops.proofs.Rows.{sequence_of-row}
-use Rattle.derived_ops.proofs.Texts.{made-pushed, sequence-pushed, uncancelable-pushed}
-use Rattle.derived_ops.proofs.Weights.{weight, weights-at, weight-trees_in_order}
+use Rattle.derived_ops.specs.Cores.{maker_in_core}
+use Rattle.derived_ops.specs.CoreText.{core_text, text_in}
+use Rattle.derived_ops.specs.Private.Heads.{further}
+use Rattle.derived_ops.specs.Tree.{Make, Seq, Uncancelable}
+use Rattle.derived_ops.specs.Words.{rest_of, second, third, tree_at, word_at, word_tree}
+use Rattle.derived_ops.proofs.Texts.{made-pushed, sequence-more, uncancelable-pushed}
+use Rattle.derived_ops.proofs.Words.{last_at, more_at, tree_inside, tree_past_end}
 use Rattle.derived_ops.proofs.core_text.+printing.Goals as goal
 
-pub push_core-returns-in-Uncancelable : goal.push_core-returns-in-Uncancelable
-push_core-returns-in-Uncancelable t c =
-    let part_is : c.in-Uncancelable.e.value ≡ c.deref-in-Uncancelable.result.now = cc in
-    on_ok_weaker c.push_one-in-Uncancelable.result (λ h.
-    uncancelable-pushed c.args.text.now.items c.push_one-in-Uncancelable.new.text.items (tree_of c.args.core.now)
-    (tree_of c.deref-in-Uncancelable.result.now) c.in-Uncancelable.p
-    h (ap tree_of c.in-Uncancelable.is ∙ ap (λ k. Uncancelable c.in-Uncancelable.p (tree_of k)) part_is)) c.push_one-in-Uncancelable.ensures
+pub push_term-returns-then-spot-words : goal.push_term-returns-then-spot-words
+push_term-returns-then-spot-words t c =
+    let past : length c.args.words.now ≤ c.args.spot.index = search rules in
+    rw (tree_past_end c.args.words.now c.args.spot.index c.args.spot.depth past) (search rules)
 
-pub push_core-returns-in_ok-push_maker-in-Make : goal.push_core-returns-in_ok-push_maker-in-Make
-push_core-returns-in_ok-push_maker-in-Make t c =
-    let k = c.deref-in-Make.result.now in
-    let is : tree_of c.args.core.now ≡ Make (maker_in_core c.in-Make.maker) c.in-Make.slot (tree_of k) = rw c.deref-in-Make.ensures (ap tree_of c.in-Make.is) in
-    on_ok_weaker c.push_one-in-Make.result (λ h.
-    made-pushed c.args.text.now.items c.push_maker.new.text.items c.push_one-in-Make.new.text.items
-    (tree_of c.args.core.now) (tree_of k) (maker_in_core c.in-Make.maker) c.in-Make.slot
-    c.in_ok-push_maker-in-Make.ensures h is) c.push_one-in-Make.ensures
+pub push_term-returns : goal.push_term-returns
+push_term-returns t c =
+    let old = c.args.text.now.items in
+    let inside : c.args.spot.index < length c.args.words.now = search rules in
+    on_ok_weaker c.push_word_at.result
+    (λ h.
+    h ∙ ap (λ u. old ++ core_text u)
+    (tree_inside c.args.words.now c.args.spot.index c.args.spot.depth c.index-words-spot.result inside c.index-words-spot.is))
+    c.push_word_at.ensures
 
-pub push_core-push_sequence-requires : goal.push_core-push_sequence-requires
-push_core-push_sequence-requires t c =
-    let a = tree_of c.deref-in-Seq.result.now in
-    let b = tree_of c.deref-in-Seq-2.result.now in
-    let more = map tree_of c.deref-in-Seq-3.result.now in
-    let parts : tree_of c.args.core.now ≡ trees_in_order a b more = search (rules, the_lemmas, sequence_of-row) in
-    (omega (arith, ap weight parts, weight-trees_in_order a b more), tt)
+pub push_word_at-returns-in-Uncancelable : goal.push_word_at-returns-in-Uncancelable
+push_word_at-returns-in-Uncancelable t c =
+    let ws = c.args.words.now in
+    let i = c.args.spot.index in
+    let n = c.args.spot.depth in
+    let w = c.args.word in
+    let at = c.bound-in-Uncancelable.result in
+    let all = word_tree w n (tree_at ws (i + 1)) (tree_at ws (i + 1 + second w)) (tree_at ws (i + 1 + third w)) in
+    let is : all ≡ Uncancelable n (tree_at ws at.index at.depth) = search rules in
+    on_ok_weaker c.push_one-in-Uncancelable.result
+    (λ h. uncancelable-pushed c.args.text.now.items c.push_one-in-Uncancelable.new.text.items all (tree_at ws at.index at.depth) n h is)
+    c.push_one-in-Uncancelable.ensures
 
-pub push_core-returns-in-Seq : goal.push_core-returns-in-Seq
-push_core-returns-in-Seq t c =
-    let a = tree_of c.deref-in-Seq.result.now in
-    let b = tree_of c.deref-in-Seq-2.result.now in
-    let more = map tree_of c.deref-in-Seq-3.result.now in
-    let parts : tree_of c.args.core.now ≡ trees_in_order a b more = search (rules, the_lemmas, sequence_of-row) in
-    rw parts c.push_sequence.ensures
+pub push_word_at-returns-in_ok-push_maker-in-Make : goal.push_word_at-returns-in_ok-push_maker-in-Make
+push_word_at-returns-in_ok-push_maker-in-Make t c =
+    let ws = c.args.words.now in
+    let i = c.args.spot.index in
+    let n = c.args.spot.depth in
+    let w = c.args.word in
+    let at = c.bound-in-Make.result in
+    let k = tree_at ws at.index at.depth in
+    let all = word_tree w n (tree_at ws (i + 1)) (tree_at ws (i + 1 + second w)) (tree_at ws (i + 1 + third w)) in
+    let is : all ≡ Make (maker_in_core c.in-Make.maker) n k = search rules in
+    on_ok_weaker c.push_one-in-Make.result
+    (λ h.
+    made-pushed c.args.text.now.items c.push_maker.new.text.items c.push_one-in-Make.new.text.items all k
+    (maker_in_core c.in-Make.maker) n c.in_ok-push_maker-in-Make.ensures h is)
+    c.push_one-in-Make.ensures
 
-pub push_sequence-push_part-requires-in-loop-part : goal.push_sequence-push_part-requires-in-loop-part
-push_sequence-push_part-requires-in-loop-part t c =
-    (omega (arith, weights-at c.args.more.now c.loop-part.part-index c.part-item.result c.loop-part-test.true c.part-item.is), tt)
+pub push_sequence-loop-rest-preserved : goal.push_sequence-loop-rest-preserved
+push_sequence-loop-rest-preserved t c =
+    let ws = c.args.words.now in
+    let i = c.loop-rest.spot.index in
+    let n = c.loop-rest.spot.depth in
+    let l = rest_of c.loop-rest.left in
+    let r = c.in-Some.rest in
+    let j = c.in-Some.next in
+    let goes : further l (word_at ws i) ≡ Some (r, j) = search rules in
+    let more = more_at ws i n l r j goes in
+    let all =
+    c.args.text.now.items ++ core_text (Seq (rest_of c.args.left) (tree_at ws c.args.first.index c.args.first.depth)
+    (tree_at ws c.args.second.index c.args.second.depth)) in
+    let next = c.next-spot.result in record {
+      order = omega (arith, c.loop-rest.invariant.order, c.next-spot.ensures.index);
+      depth = omega (arith, c.loop-rest.invariant.depth, c.next-spot.ensures.index, c.next-spot.ensures.depth);
+      level = c.next-spot.ensures.depth ∙ c.loop-rest.invariant.level;
+      written =
+          rw (c.next-spot.ensures.index, c.next-spot.ensures.depth)
+          (sequence-more all c.loop-rest.text.items c.push_part-in-Some.new.text.items (tree_at ws i n) (tree_at ws (i + 1) n) (tree_at ws (i + 1 + j) n)
+          (rest_of r)
+          (ap (λ w. c.loop-rest.text.items ++ (codes " " ++ (text_in w (tree_at ws i n) ++ codes ")"))) (sym more.0) ∙ c.loop-rest.invariant.written)
+          more.1 (search rules));
+    }
 
 pub push_sequence-returns : goal.push_sequence-returns
 push_sequence-returns t c =
-    sequence-pushed c.args.text.now.items c.loop-part.text.items c.push.new.self.items (tree_of c.args.first.now)
-    (tree_of c.args.second.now) c.args.more.now c.loop-part.part-index
-    c.loop-part-test.false c.loop-part.invariant c.in_ok-push.ensures.items
+    let ws = c.args.words.now in
+    let i = c.loop-rest.spot.index in
+    let n = c.loop-rest.spot.depth in
+    let l = rest_of c.loop-rest.left in
+    let ends : further l (word_at ws i) ≡ None = search rules in
+    on_ok_weaker c.push_one.result
+    (λ h.
+    h ∙ ap (λ x. c.loop-rest.text.items ++ (codes " " ++ (x ++ codes ")"))) (sym (last_at ws i n l ends)) ∙ c.loop-rest.invariant.written)
+    c.push_one.ensures

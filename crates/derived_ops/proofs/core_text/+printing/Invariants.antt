@@ -1,27 +1,36 @@
-use Rattle.std.proofs.Common.{◌≡◌, ◌+◌, ◌*◌, ◌++◌, map, drop, codes}
-use Rattle.derived_ops.specs.Cores.{tree_of}
-use Rattle.derived_ops.specs.CoreText.{core_text}
-use Rattle.derived_ops.specs.Private.Sequences.{texts_behind}
-use Rattle.derived_ops.proofs.Weights.{weight, weights}
+use Rattle.std.proofs.Common.{◌≡◌, ◌≤◌, ◌+◌, ◌*◌, ◌-◌, ◌++◌, length, codes}
+use Rattle.derived_ops.specs.CoreText.{core_text, text_in}
+use Rattle.derived_ops.specs.Tree.{Seq}
+use Rattle.derived_ops.specs.Words.{rest_of, tree_at}
 use Rattle.derived_ops.proofs.core_text.+printing.Given as goal
 
-abbrev pub decreases-push_core : goal.decreases-push_core
-decreases-push_core l = 4 * weight (tree_of l.core.now)
+abbrev pub decreases-push_word_at : goal.decreases-push_word_at
+decreases-push_word_at l = 8 * (length l.words.now - l.spot.index)
+
+abbrev pub decreases-push_term : goal.decreases-push_term
+decreases-push_term l = 8 * (length l.words.now - l.spot.index) + 1
 
 abbrev pub decreases-push_part : goal.decreases-push_part
-decreases-push_part l = 4 * weight (tree_of l.part.now) + 1
+decreases-push_part l = 8 * (length l.words.now - l.part.index) + 2
 
 abbrev pub decreases-push_one : goal.decreases-push_one
-decreases-push_one l = 4 * weight (tree_of l.part.now) + 2
+decreases-push_one l = 8 * (length l.words.now - l.part.index) + 3
 
 abbrev pub decreases-push_two : goal.decreases-push_two
-decreases-push_two l = 4 * (weight (tree_of l.first.now) + weight (tree_of l.last.now)) + 3
+decreases-push_two l = 8 * (length l.words.now - l.first.index) + 4
 
 abbrev pub decreases-push_sequence : goal.decreases-push_sequence
-decreases-push_sequence l = 4 * (weight (tree_of l.first.now) + weight (tree_of l.second.now) + weights (map tree_of l.more.now)) + 3
+decreases-push_sequence l = 8 * (length l.words.now - l.first.index) + 4
 
-abbrev pub invariant-push_sequence-loop-part : goal.invariant-push_sequence-loop-part
-invariant-push_sequence-loop-part l =
-    l.text.items ++ texts_behind (drop l.part-index l.more) ≡ l.fn.text.items ++
-    (codes "(seq " ++ (core_text (tree_of l.first) ++
-    (codes " " ++ (core_text (tree_of l.second) ++ texts_behind l.more))))
+abbrev pub decreases-push_sequence-loop-rest : goal.decreases-push_sequence-loop-rest
+decreases-push_sequence-loop-rest l = length l.words - l.spot.index
+
+abbrev pub invariant-push_sequence-loop-rest : goal.invariant-push_sequence-loop-rest
+invariant-push_sequence-loop-rest l = record {
+  order : l.fn.first.index ≤ l.spot.index;
+  depth : l.spot.depth ≤ l.spot.index;
+  level : l.spot.depth ≡ l.fn.second.depth;
+  written : l.text.items ++ (codes " " ++ (text_in (rest_of l.left) (tree_at l.words l.spot.index l.spot.depth) ++ codes ")")) ≡
+      l.fn.text.items ++ core_text (Seq (rest_of l.fn.left) (tree_at l.words l.fn.first.index l.fn.first.depth)
+      (tree_at l.words l.fn.second.index l.fn.second.depth));
+}

@@ -6,11 +6,11 @@ use Rattle.derived_ops.specs.Reading.{source_of}
 use Rattle.outcome_trace.specs.Core.{core}
 use Rattle.world_search.specs.Answers as search
 use Rattle.every_schedule.specs.declared.exploration.Answer.{Answer}
-use Rattle.every_schedule.specs.Explored.{IsAnswered, IsCovered, IsReached}
+use Rattle.every_schedule.specs.Explored.{IsAnswered, IsCovered, IsReached, ListOnce}
 use Rattle.every_schedule.specs.Places.{Kept, first_place, report_at, stepped}
 use Rattle.every_schedule.proofs.Placed.{core_run}
 use Rattle.every_schedule.proofs.Laws.{alike, ended, faultless}
-use Rattle.every_schedule.proofs.Told.{all_within, answered, covered, numbered, reached, short}
+use Rattle.every_schedule.proofs.Told.{all_within, answered, covered, numbered, reached, short, once}
 use Rattle.every_schedule.proofs.explored.explore_full.Goals as goal
 
 pub told-requires : goal.told-requires
@@ -82,3 +82,9 @@ pub returns-clause-can_end : goal.returns-clause-can_end
 returns-clause-can_end c = λ complete ends f all schedule.
     let on = returns-clause-onward c complete ends schedule in
     (on.0, ended c.args.limits c.new-2.result f (core (code_of (source_of c.args.program.now)) c.args.limits (schedule ++ on.0)) all on.1)
+
+pub returns-clause-once : goal.returns-clause-once
+returns-clause-once c =
+    subst (λ (l : List Answer). ListOnce l) (sym c.new-2.ensures)
+    (once c.search.new.worlds c.in_ok-found.found.answers.items c.in_ok-answers.answers.items c.in_ok-answers.ensures.told c.told.ensures.single
+    c.in_ok-found.ensures.once)

@@ -7,13 +7,13 @@ use Rattle.outcome_trace.specs.Core.{core}
 use Rattle.world_search.specs.declared.answers.Answer.{Answer as Found}
 use Rattle.world_search.specs.Answers as search
 use Rattle.every_schedule.specs.declared.exploration.Answer.{Answer}
-use Rattle.every_schedule.specs.Explored.{IsAnswered, IsCovered, IsReached}
+use Rattle.every_schedule.specs.Explored.{IsAnswered, IsCovered, IsReached, ListOnce}
 use Rattle.every_schedule.specs.Places.{Kept, first_place, report_at, stepped}
-use Rattle.every_schedule.specs.Private.Trails.{AreUnfolded}
+use Rattle.every_schedule.specs.Private.Trails.{AreUnfolded, EndApart}
 use Rattle.every_schedule.proofs.Placed.{core_run}
 use Rattle.every_schedule.proofs.Laws.{alike, ended, faultless}
-use Rattle.every_schedule.proofs.Told.{all_within, answered, covered, numbered, reached, short}
-use Rattle.every_schedule.proofs.Trails.{all_covered, all_onward, brief, few, right}
+use Rattle.every_schedule.proofs.Told.{all_within, answered, covered, numbered, once, reached, short}
+use Rattle.every_schedule.proofs.Trails.{all_covered, all_onward, brief, few, found_apart, right, unfolded_once}
 use Rattle.every_schedule.proofs.explored.explore_watched.Goals as goal
 
 pub told-requires : goal.told-requires
@@ -127,3 +127,21 @@ pub returns-clause-can_end : goal.returns-clause-can_end
 returns-clause-can_end g c = λ complete ends f all schedule.
     let on = returns-clause-onward g c complete ends schedule in
     (on.0, ended c.args.limits c.new-2.result f (core (code_of (source_of c.args.program.now)) c.args.limits (schedule ++ on.0)) all on.1)
+
+pub returns-clause-once : goal.returns-clause-once
+returns-clause-once g c =
+    let code = code_of (source_of c.args.program.now) in
+    let k = c.args.limits in
+    let start = first_place code k in
+    let kept = c.search_watched.new.worlds.worlds in
+    let raw = c.in_ok-found.found.answers.items in
+    let found = c.in_ok-unfolded.unfolded.answers.items in
+    let first : slice_get c.in_ok-worlds.worlds.worlds.places 0 ≡ Some start = ap (λ (s : Kept). slice_get s.places 0) c.in_ok-worlds.ensures in
+    let each : AreUnfolded 100 c.args.bounds.entries start raw found =
+    subst (λ (l : List Found). AreUnfolded 100 c.args.bounds.entries start l found) c.as_slice.ensures.value c.in_ok-unfolded.ensures.each in
+    let apart : EndApart found = c.in_ok-unfolded.ensures.apart
+    (subst (λ (l : List Found). EndApart l) (sym c.as_slice.ensures.value)
+    (found_apart 100 kept start raw (c.in_ok-found.ensures.each start first) c.in_ok-found.ensures.once)) in
+    subst (λ (l : List Answer). ListOnce l) (sym c.new-2.ensures)
+    (once kept found c.in_ok-answers.answers.items c.in_ok-answers.ensures.told c.told.ensures.single
+    (unfolded_once kept start 100 c.args.bounds.entries raw found each c.in_ok-found.ensures.once apart))

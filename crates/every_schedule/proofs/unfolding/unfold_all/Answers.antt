@@ -1,4 +1,4 @@
-use Rattle.std.proofs.Common.{◌≡◌, ℕ, List, sym, ◌∙◌, subst, refl, arith}
+use Rattle.std.proofs.Common.{◌≡◌, ◌+◌, ℕ, List, sym, ◌∙◌, subst, refl, arith}
 use Rattle.std.specs.Prelude.{Some}
 use Rattle.std.specs.List.{slice_get}
 use Rattle.std.proofs.lemmas.Grind.{common_steps}
@@ -7,8 +7,8 @@ use Rattle.derived_ops.specs.Expansion.{code_of}
 use Rattle.derived_ops.specs.Reading.{source_of}
 use Rattle.world_search.specs.declared.answers.Answer.{Answer as Found}
 use Rattle.every_schedule.specs.Places.{first_place}
-use Rattle.every_schedule.specs.Private.Trails.{AreUnfolded, IsKeptIn, IsUnfolded}
-use Rattle.every_schedule.proofs.Trails.{kept_next, kept_sorted, unfolded_next, unfolded_sorted}
+use Rattle.every_schedule.specs.Private.Trails.{AreUnfolded, EndApart, IsKeptIn, IsUnfolded}
+use Rattle.every_schedule.proofs.Trails.{EndsBefore, apart_next, apart_sorted, before_more, before_next, kept_next, kept_sorted, unfolded_next, unfolded_sorted}
 use Rattle.every_schedule.proofs.unfolding.unfold_all.Goals as goal
 use Rattle.every_schedule.proofs.unfolding.unfold_all.Goals.{then-not-branch, else-not-branch}
 
@@ -35,6 +35,16 @@ loop-i-preserved c =
             (unfolded_next n c.args.most first found old one known.each
             (record { number = c.loop-i.i; answer = it; at = at; end = refl; entries = entries; short = told.short w.if-not-branch.false }))
       ];
+      before = elim c.if-not-branch.branch [
+        | then-not-branch w ↦ subst (EndsBefore found (c.loop-i.i + 1)) (sym (told.same w.if-not-branch.true)) (before_more found old c.loop-i.i known.before)
+        | else-not-branch w ↦ subst (EndsBefore found (c.loop-i.i + 1)) (sym (told.added w.if-not-branch.false))
+            (before_next found old c.loop-i.i it one at refl known.before)
+      ];
+      apart = λ all. elim c.if-not-branch.branch [
+        | then-not-branch w ↦ subst EndApart (sym (told.same w.if-not-branch.true)) (known.apart all)
+        | else-not-branch w ↦ subst EndApart (sym (told.added w.if-not-branch.false))
+            (apart_next found old c.loop-i.i it one at refl all known.before (known.apart all))
+      ];
       whole = λ whole. elim c.if-not-branch.branch [
         | then-not-branch w ↦ absurd (cc (w.whole-is, whole))
         | else-not-branch w ↦ λ j a low e.
@@ -52,3 +62,7 @@ pub returns-clause-each : goal.returns-clause-each
 returns-clause-each c =
     unfolded_sorted c.args.at_once c.args.most (first_place (code_of (source_of c.args.program.now)) c.args.limits) c.args.found.now
     c.loop-i.answers.items c.sort.new.answers.items c.sort.ensures c.loop-i.invariant.each
+
+pub returns-clause-apart : goal.returns-clause-apart
+returns-clause-apart c = λ all.
+    apart_sorted c.loop-i.answers.items c.sort.new.answers.items c.sort.ensures (c.loop-i.invariant.apart all)

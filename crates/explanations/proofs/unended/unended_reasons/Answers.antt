@@ -10,8 +10,8 @@ use Rattle.explanations.specs.Whys.{unended}
 use Rattle.explanations.proofs.Settled.{faulty}
 use Rattle.explanations.proofs.unended.unended_reasons.Goals as goal
 
-pub entries-requires : goal.entries-requires
-entries-requires c =
+pub enter_all-requires : goal.enter_all-requires
+enter_all-requires c =
     let opened : opening c.args.limits ≡ c.in_ok-registry.registry.state = ap (λ (r : PlainView). r.state) (sym c.in_ok-registry.ensures.opening) in
     subst (λ (cells : Cells). AllFit (world_of c.in_ok-fibers.fibers.items cells)) opened (c.in_ok-fibers.ensures.fits c.args.limits c.requires)
 
@@ -19,7 +19,7 @@ pub returns-in-Ok : goal.returns-in-Ok
 returns-in-Ok c =
     let start = core-opened c.args.limits (code_of (source_of c.args.program.now)) c.in_ok-registry.registry c.in_ok-fibers.fibers.items
     c.args.schedule.now c.in_ok-fibers.ensures.first c.in_ok-registry.ensures.opening in
-    let s = c.entries.new.registry.state in
+    let s = c.enter_all.new.registry.state in
     let w = world_of c.as_slice.result.now s in
     let leads = sym start ∙ c.in-Ok.ensures.goes ∙ ap (λ fibers. Ok (world_of fibers s)) (sym c.as_slice.ensures.value) in
     IfOk-weaker c.why_lines.result _ _ (λ told h. unended w h.0 told.items leads h.1 h.2) c.why_lines.ensures

@@ -3,7 +3,7 @@ use Rattle.fiber_frames.specs.Fiber.{ask_of}
 use Rattle.cell_registry.specs.Plain.{MayCall}
 use Rattle.outcome_trace.specs.declared.wish.Wish.TheVariants.{Shared}
 use Rattle.outcome_trace.specs.Core.{wish_of}
-use Rattle.outcome_trace.proofs.Asking.{asking}
+use Rattle.outcome_trace.proofs.AskTells.{asking}
 use Rattle.outcome_trace.proofs.Moves.{may_call}
 use Rattle.fiber_events.proofs.telling.foresee.Goals as goal
 

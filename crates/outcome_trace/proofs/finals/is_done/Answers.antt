@@ -35,8 +35,8 @@ returns-in-Read-clause-done c e =
     inr (at_rest s g.number g c.requires (c.is_unasked.ensures c.if-not-is_unasked.false)
     (waits_read s g.number g c.in-Read.number (sym c.in-Read.is ∙ c.word_ask.ensures) (sym c.is_empty.ensures.empty ∙ e)))
 
-pub returns-in_default-clause-done : goal.returns-in_default-clause-done
-returns-in_default-clause-done c e =
+pub returns-in-Look-clause-done : goal.returns-in-Look-clause-done
+returns-in-Look-clause-done c e =
     let s = c.args.registry.now.state in
     let g = c.args.config.now in
     inr (at_rest s g.number g c.requires (c.is_unasked.ensures c.if-not-is_unasked.false) (c.is_never.ensures e _))

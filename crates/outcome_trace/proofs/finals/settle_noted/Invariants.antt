@@ -9,6 +9,7 @@ abbrev pub invariant-loop-number : goal.invariant-loop-number
 invariant-loop-number g l = record {
   limits : l.registry.limits ≡ l.initial.registry.limits;
   fits : AllFit (world_of l.fibers.items l.registry.state);
+  still : l.finished ≡ 0 → (l.fibers.items ≡ l.initial.fibers.items) × (l.registry ≡ l.initial.registry);
   goes : GoesOn l.initial.registry.limits (world_of l.initial.fibers.items l.initial.registry.state) (world_of l.fibers.items l.registry.state);
 }
 

@@ -7,7 +7,7 @@ use Rattle.cell_registry.specs.Cells.{refusal}
 use Rattle.cell_registry.specs.Plain.{IsMade, MayCall}
 use Rattle.outcome_trace.specs.Core.{fault_of, wish_of}
 use Rattle.outcome_trace.specs.Private.Moving.{Made, Refuses, Rests, Unshared}
-use Rattle.outcome_trace.proofs.Asking.{asking}
+use Rattle.outcome_trace.proofs.AskTells.{asking}
 use Rattle.outcome_trace.proofs.Moves.{few_masks, goes_on, lacks_memory, may_call, replied_answers}
 use Rattle.outcome_trace.proofs.scheduled.make_move.Goals as goal
 

@@ -1,6 +1,6 @@
 use Rattle.std.proofs.Common.{◌++◌, ◌∙◌, ap, sym, subst, arith}
 use Rattle.std.proofs.lemmas.Result.{on_ok_weaker}
-use Rattle.term_parse.specs.Pieces.{Suffice}
+use Rattle.term_parse.specs.PrintedParts.{Suffice}
 use Rattle.term_parse.proofs.Parts.{appended, followed, close_text, more_text, bind_text, piece_text, form_text}
 use Rattle.term_parse.specs.Spelling.{spelling}
 use Rattle.term_parse.proofs.MoreTerms.{weight_at, next_text, next_numbers}

@@ -1,7 +1,7 @@
 use Rattle.std.proofs.Common.{◌≡◌, ◌+◌, ◌*◌, ◌≤◌, [], ◌∷◌, ◌++◌, length, drop, vec_len}
 use Rattle.term_parse.specs.Atoms.{ended}
 use Rattle.term_parse.specs.Numbers.{NumbersFit}
-use Rattle.term_parse.specs.Pieces.{terms_spelled, terms_atoms}
+use Rattle.term_parse.specs.PrintedParts.{terms_spelled, terms_atoms}
 use Rattle.term_parse.specs.Spelling.{more_spelling}
 use Rattle.term_parse.proofs.Weights.{weight, terms_weight, piece_weight, pieces_weight}
 use Rattle.term_parse.proofs.printer.+writing.Given as goal

@@ -1,5 +1,5 @@
 use Rattle.std.proofs.Common.{◌≡◌, subst, rules}
-use Rattle.term_parse.specs.declared.form.Piece.TheVariants as pieces
+use Rattle.term_parse.specs.declared.form.ReadPart.TheVariants as pieces
 use Rattle.term_parse.specs.Forms.{Adds}
 use Rattle.term_parse.specs.OpenForms.{innermost}
 use Rattle.term_parse.proofs.OpenStacks.{open_closes}

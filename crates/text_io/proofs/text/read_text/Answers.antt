@@ -33,7 +33,7 @@ loop-preserved g c =
         within = omega (arith, w.in-Ok.ensures.bound, c.loop.invariant.sized);
         healthy = w.in-Ok.ensures.failed;
         unended = w.in-Ok.ensures.ended ∙
-            found_end-some (g.T.TextIn.has_ended c.loop.input) w.in-Ok.count (drop c.loop.length buffer) w.in-Ok.count-test.1 ∙ c.loop.invariant.unended;
+            found_end-some (g.T.TextIn.seen c.loop.input).ended w.in-Ok.count (drop c.loop.length buffer) w.in-Ok.count-test.1 ∙ c.loop.invariant.unended;
         counted = omega (arith, w.in-Ok.ensures.counted, c.loop.invariant.counted);
         taken = rw (take_at buffer _ c.loop.text.len whole)
             (consumes_more _ _ _ c.loop.length w.in-Ok.count _ c.loop.text.items buffer (w.in-Ok.ensures.kept ∙
@@ -43,7 +43,7 @@ loop-preserved g c =
         sized = c.loop.invariant.sized;
         within = omega arith;
         healthy = w.in-Err-Interrupted.ensures.failed ∙ ap (λ e. read_failed (Err e)) w.in-Err-Interrupted.field-0-is;
-        unended = w.in-Err-Interrupted.ensures.ended ∙ or-false (g.T.TextIn.has_ended c.loop.input) ∙ c.loop.invariant.unended;
+        unended = w.in-Err-Interrupted.ensures.ended ∙ or-false (g.T.TextIn.seen c.loop.input).ended ∙ c.loop.invariant.unended;
         counted = omega (arith, w.in-Err-Interrupted.ensures.counted, c.loop.invariant.counted);
         taken = rw (take_at buffer _ c.loop.text.len whole, w.length-is)
             (consumes_same _ _ _ c.loop.length c.loop.text.items buffer (w.in-Err-Interrupted.ensures.kept ∙

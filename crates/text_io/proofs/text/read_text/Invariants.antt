@@ -6,8 +6,8 @@ abbrev pub invariant-loop : goal.invariant-loop
 invariant-loop g l = record {
   sized : vec_len l.text ≡ 65537;
   within : l.length < 65537;
-  healthy : g.T.TextIn.has_failed l.input ≡ false;
-  unended : g.T.TextIn.has_ended l.input ≡ g.T.TextIn.has_ended l.initial.input;
-  counted : g.T.TextIn.reads l.input ≡ g.T.TextIn.reads l.initial.input + l.counter;
-  taken : Consumes (g.T.TextIn.remaining l.initial.input) (g.T.TextIn.remaining l.input) (take l.length l.text.items);
+  healthy : (g.T.TextIn.seen l.input).failed ≡ false;
+  unended : (g.T.TextIn.seen l.input).ended ≡ (g.T.TextIn.seen l.initial.input).ended;
+  counted : (g.T.TextIn.seen l.input).reads ≡ (g.T.TextIn.seen l.initial.input).reads + l.counter;
+  taken : Consumes (g.T.TextIn.seen l.initial.input).remaining (g.T.TextIn.seen l.input).remaining (take l.length l.text.items);
 }

@@ -1,4 +1,4 @@
-use Rattle.std.proofs.Common.{length, sym, ◌∙◌, arith, inl}
+use Rattle.std.proofs.Common.{length, sym, ◌∙◌, arith}
 use Rattle.world_search.specs.Private.Shapes.{shape}
 use Rattle.world_search.proofs.Lists.{more_long}
 use Rattle.world_search.proofs.Fitting.{grows_grows}

@@ -10,7 +10,7 @@ use Rattle.world_search.specs.Answers.{IsAnswered}
 use Rattle.world_search.specs.Private.Listed.{Adds}
 use Rattle.world_search.specs.Private.Paths.{IsChained}
 use Rattle.world_search.specs.Private.Shapes.{shape}
-use Rattle.world_search.proofs.Answering.{listed_within, adds_more, adds_named, adds_world, named_answered}
+use Rattle.world_search.proofs.Answering.{listed_within, adds_faultless, adds_more, adds_named, adds_once, adds_world, named_answered}
 use Rattle.world_search.proofs.listing.list_world.Goals as goal
 
 pub is_told-requires-clause-within : goal.is_told-requires-clause-within
@@ -24,7 +24,7 @@ pub returns-then-is_told-clause-told : goal.returns-then-is_told-clause-told
 returns-then-is_told-clause-told g c = λ w flag at.
     subst (λ (l : List Answer). IsAnswered g.W.Worlds.step g.W.Worlds.report (g.W.Worlds.worlds c.args.worlds.now)
     (g.W.Worlds.faults c.args.worlds.now) l (Ok w))
-    c.as_slice.ensures.value (c.is_told.ensures c.if-is_told.true w at)
+    c.as_slice.ensures.value (c.is_told.ensures.yes c.if-is_told.true w at)
 
 pub tell-requires-clause-last : goal.tell-requires-clause-last
 tell-requires-clause-last g c =
@@ -48,3 +48,13 @@ returns-clause-told g c = λ w flag at.
     named_answered g.W.Worlds.step g.W.Worlds.report (g.W.Worlds.worlds c.args.worlds.now) (g.W.Worlds.faults c.args.worlds.now)
     c.tell.new.answers.items c.args.index w
     (adds_named c.as_slice-2.result.now c.index-2.result.now (to.World c.args.index) c.args.answers.now.items c.tell.new.answers.items c.in_ok-tell.ensures) at
+
+pub returns-clause-once : goal.returns-clause-once
+returns-clause-once g c = λ once.
+    adds_once g.W.Worlds.report (g.W.Worlds.worlds c.args.worlds.now) c.as_slice-2.result.now c.index-2.result.now (to.World c.args.index)
+    c.args.answers.now.items c.tell.new.answers.items c.in_ok-tell.ensures once
+    (λ k a at. c.is_told.ensures.no c.if-is_told.false k a (subst (λ (l : List Answer). slice_get l k ≡ Some a) (sym c.as_slice.ensures.value) at))
+
+pub returns-clause-faultless : goal.returns-clause-faultless
+returns-clause-faultless g c = λ none.
+    adds_faultless c.as_slice-2.result.now c.index-2.result.now c.args.index c.args.answers.now.items c.tell.new.answers.items c.in_ok-tell.ensures none

@@ -13,6 +13,8 @@ loop-index-preserved g c =
     let told = c.in_ok-list_world.ensures in
     record {
       listed = told.listed;
+      once = λ h. told.once (known.once h);
+      faultless = λ h. told.faultless (known.faultless h);
       told = λ i w low flag at. dite (ℕ_discrete i c.loop-index.index)
           (λ is. told.told w (subst (λ n. slice_get c.args.graph.now.unsettled.items n ≡ Some false) is flag)
           (subst (λ n. slice_get (g.W.Worlds.worlds c.args.worlds.now) n ≡ Some w) is at))

@@ -1,14 +1,17 @@
 use Rattle.std.proofs.Common.{◌≡◌, ℕ, ◌<◌, false}
 use Rattle.std.specs.Prelude.{Some, Ok}
 use Rattle.std.specs.List.{slice_get}
-use Rattle.world_search.specs.Answers.{IsAnswered}
-use Rattle.world_search.specs.Private.Listed.{AreListed}
+use Rattle.world_search.specs.Answers.{IsAnswered, TellOnce}
+use Rattle.world_search.specs.Private.Listed.{AreListed, HaveNoFault}
 use Rattle.world_search.specs.Private.Shapes.{shape}
 use Rattle.world_search.proofs.listing.list_worlds.Given as goal
 
 abbrev pub invariant-loop-index : goal.invariant-loop-index
 invariant-loop-index g l = record {
   listed : AreListed (shape l.graph) l.answers.items;
+  once : TellOnce g.W.Worlds.report (g.W.Worlds.worlds l.worlds) l.initial.answers.items →
+      TellOnce g.W.Worlds.report (g.W.Worlds.worlds l.worlds) l.answers.items;
+  faultless : HaveNoFault l.initial.answers.items → HaveNoFault l.answers.items;
   told : (i : ℕ) (w : _) → i < l.index → slice_get l.graph.unsettled.items i ≡ Some false → slice_get (g.W.Worlds.worlds l.worlds) i ≡ Some w →
       IsAnswered g.W.Worlds.step g.W.Worlds.report (g.W.Worlds.worlds l.worlds) (g.W.Worlds.faults l.worlds) l.answers.items (Ok w);
 }

@@ -3,8 +3,8 @@ use Rattle.std.specs.Prelude.{Ok}
 use Rattle.world_search.specs.declared.graphs.Edge.{Edge}
 use Rattle.world_search.specs.Private.Flags.{AreWithin, AreBack, AreFlagged}
 use Rattle.world_search.specs.Private.Shapes.{shape}
-use Rattle.world_search.proofs.Answering.{answered_more}
-use Rattle.world_search.proofs.Lists.{more_get}
+use Rattle.world_search.proofs.Answering.{answered_more, faults_once}
+use Rattle.world_search.proofs.Lists.{got_none, more_get}
 use Rattle.world_search.proofs.Paths.{are_chained, are_noted_chained}
 use Rattle.world_search.proofs.Results.{within, all_covered, all_onward, all_right, all_numbered, all_short}
 use Rattle.world_search.proofs.searching.search_watched.Goals as goal
@@ -102,3 +102,14 @@ returns-clause-short g c =
     all_short g.W.Worlds.step g.W.Worlds.report g.W.Worlds.most_born c.capped-2.result ws es (shape c.explore.new.graph) told.fits
     c.spread.new.flags.items c.spread.ensures.long c.spread.ensures.keeps back marks c.list_faults.new.answers.items c.in_ok-list_faults.ensures.listed
     c.args.bounds.entries c.capped-2.ensures.below
+
+pub list_faults-requires-clause-faultless : goal.list_faults-requires-clause-faultless
+list_faults-requires-clause-faultless g c =
+    c.in_ok-list_worlds.ensures.faultless (λ k a j at. absurd (got_none c.new-answers.result.items k a c.new-answers.ensures.items at))
+
+pub returns-clause-once : goal.returns-clause-once
+returns-clause-once g c =
+    faults_once g.W.Worlds.report (g.W.Worlds.worlds c.explore.new.worlds) c.list_worlds.new.answers.items c.list_faults.new.answers.items
+    (c.in_ok-list_worlds.ensures.once (λ i j a b less at. absurd (got_none c.new-answers.result.items i a c.new-answers.ensures.items at)))
+    (c.in_ok-list_worlds.ensures.faultless (λ k a j at. absurd (got_none c.new-answers.result.items k a c.new-answers.ensures.items at)))
+    c.in_ok-list_faults.ensures.more c.in_ok-list_faults.ensures.adds

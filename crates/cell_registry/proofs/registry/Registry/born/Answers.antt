@@ -1,6 +1,7 @@
 use Rattle.std.proofs.Common.{◌≡◌, ap, arith, refl, subst}
 use Rattle.cell_registry.specs.declared.limits.Band.TheVariants.{Fibers}
 use Rattle.cell_registry.specs.Passes.{Counts, PassView, RegistryView, pass_of}
+use Rattle.cell_registry.specs.Private.Kept.{stage_of}
 use Rattle.cell_registry.proofs.Claiming.{sees_next}
 use Rattle.cell_registry.proofs.Giving.{next_of-most}
 use Rattle.cell_registry.proofs.Tokens.{of_registry, pass_of-step, seat_has, seated_still}
@@ -36,7 +37,8 @@ returns-clause-same c =
     let saw = c.load-found.ensures.2.1 Fibers c.claim_place.ensures in
     let old = c.pass.inside in
     let new = c.load-found.new.seat in
-    let P : PassView → Type 0 = λ h. pass_of new.table_id new.me.0 old.number old.stage old.depth old.count old.saw ≡ record h { seen = new.me.0.seen } in
+    let P : PassView → Type 0 =
+    λ h. pass_of new.table_id new.me.0 old.number (stage_of old.phase old.value) old.depth old.count old.saw ≡ record h { seen = new.me.0.seen } in
     subst P c.pass.view_is (pass_of-step _ _ old.seat.me.0 new.me.0 _ _ _ _ _ c.load-found.ensures.0 saw.1.limits saw.1.fibers)
 
 pub returns-clause-counted : goal.returns-clause-counted
@@ -44,5 +46,6 @@ returns-clause-counted c =
     let saw = c.load-found.ensures.2.1 Fibers c.claim_place.ensures in
     let old = c.pass.inside in
     let new = c.load-found.new.seat in
-    let P : PassView → Type 0 = λ h. Counts h c.load-found.result (pass_of new.table_id new.me.0 old.number old.stage old.depth old.count old.saw) in
+    let P : PassView → Type 0 =
+    λ h. Counts h c.load-found.result (pass_of new.table_id new.me.0 old.number (stage_of old.phase old.value) old.depth old.count old.saw) in
     subst P c.pass.view_is record { look = saw.0; next = saw.2 }

@@ -5,6 +5,7 @@ use Rattle.cell_registry.specs.declared.limits.Limits.{Limits}
 use Rattle.cell_registry.specs.declared.call.Call.TheVariants as call
 use Rattle.cell_registry.specs.Steps.{Called}
 use Rattle.cell_registry.specs.Passes.{RegistryView, PassView, OnlySees, Calls, pass_of}
+use Rattle.cell_registry.specs.Private.Kept.{stage_of}
 use Rattle.cell_registry.proofs.CellTurns.{cancels}
 use Rattle.cell_registry.proofs.Tokens.{of_registry, seat_has, called_by, call-prefix, pass_of-step, seated_still}
 use Rattle.cell_registry.proofs.registry.Registry.cancel.Goals as goal
@@ -33,7 +34,7 @@ returns-clause-same c =
     let t = c.fetch_or-found.ensures.2.1 c.args.fiber c.cell_place.ensures in
     let old = c.pass.inside in
     let new = c.fetch_or-found.new.seat in
-    let P : PassView → Type 0 = λ h. OnlySees h (pass_of new.table_id new.me.0 old.number old.stage old.depth old.count old.saw) in
+    let P : PassView → Type 0 = λ h. OnlySees h (pass_of new.table_id new.me.0 old.number (stage_of old.phase old.value) old.depth old.count old.saw) in
     subst P c.pass.view_is (pass_of-step _ _ old.seat.me.0 new.me.0 _ _ _ _ _ c.fetch_or-found.ensures.0 t.3.1.limits t.3.1.fibers)
 
 pub returns-clause-call : goal.returns-clause-call
@@ -44,7 +45,7 @@ returns-clause-call c =
     let new = c.fetch_or-found.new.seat in
     let P : PassView → Type 0 =
     λ h. Calls h (call.Cancel c.args.fiber) (reply.Cancel c.cancel_answer.result)
-    (pass_of new.table_id new.me.0 old.number old.stage old.depth old.count old.saw) in
+    (pass_of new.table_id new.me.0 old.number (stage_of old.phase old.value) old.depth old.count old.saw) in
     subst P c.pass.view_is
     (called_by old.seat.me.0 new.me.0 _ _ _ c.pass.invariant.1.number_is
     (subst (λ (r : CancelReply). Called old.seat.me.0 (call.Cancel c.args.fiber) (reply.Cancel r) new.me.0) (sym answer) t.3.0))

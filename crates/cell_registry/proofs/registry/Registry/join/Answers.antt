@@ -9,6 +9,7 @@ use Rattle.cell_registry.specs.Cells.{join_reply}
 use Rattle.cell_registry.specs.Words.{value_place}
 use Rattle.cell_registry.specs.Steps.{Called}
 use Rattle.cell_registry.specs.Passes.{RegistryView, PassView, IsSeated, OnlySees, Calls, pass_of}
+use Rattle.cell_registry.specs.Private.Kept.{stage_of}
 use Rattle.cell_registry.proofs.Replies.{waits_reply, outcome_of}
 use Rattle.cell_registry.proofs.CellTurns.{joins}
 use Rattle.cell_registry.proofs.OwnTurns.{finds_as}
@@ -37,7 +38,7 @@ returns-then-not-has_ended-clause-same c =
     let t = c.fetch_or-found.ensures.2.1 c.args.fiber c.cell_place.ensures in
     let old = c.pass.inside in
     let new = c.fetch_or-found.new.seat in
-    let P : PassView → Type 0 = λ h. OnlySees h (pass_of new.table_id new.me.0 old.number old.stage old.depth old.count old.saw) in
+    let P : PassView → Type 0 = λ h. OnlySees h (pass_of new.table_id new.me.0 old.number (stage_of old.phase old.value) old.depth old.count old.saw) in
     subst P c.pass.view_is (pass_of-step _ _ old.seat.me.0 new.me.0 _ _ _ _ _ c.fetch_or-found.ensures.0 t.3.1.limits t.3.1.fibers)
 
 pub returns-then-not-has_ended-clause-lawful : goal.returns-then-not-has_ended-clause-lawful
@@ -50,7 +51,8 @@ returns-then-not-has_ended-clause-call c =
     let old = c.pass.inside in
     let new = c.fetch_or-found.new.seat in
     let P : PassView → Type 0 =
-    λ h. Calls h (call.Join c.args.fiber) (reply.Join joined.Waits) (pass_of new.table_id new.me.0 old.number old.stage old.depth old.count old.saw) in
+    λ h. Calls h (call.Join c.args.fiber) (reply.Join joined.Waits)
+    (pass_of new.table_id new.me.0 old.number (stage_of old.phase old.value) old.depth old.count old.saw) in
     subst P c.pass.view_is
     (called_by old.seat.me.0 new.me.0 _ _ _ c.pass.invariant.1.number_is
     (subst (λ (r : JoinReply). Called old.seat.me.0 (call.Join c.args.fiber) (reply.Join r) new.me.0) (sym answer) t.3.0))
@@ -79,7 +81,7 @@ invariant_of-pass-2 c =
     let l = c.load-value.ensures in
     let old = c.pass.inside in
     let new = c.load-value.new.seat in
-    let P : Knowledge → Type 0 = λ v. IsSeated v (pass_of new.table_id v old.number old.stage old.depth old.count old.saw) in
+    let P : Knowledge → Type 0 = λ v. IsSeated v (pass_of new.table_id v old.number (stage_of old.phase old.value) old.depth old.count old.saw) in
     (l.2.0, subst P (sym l.2.1.0) (seated_still _ _ _ _ _ _ _ _ _ t.3.1 (call-prefix _ _ _ _ _ _ _ t.3.0) t.3.0.legal c.pass.invariant.1))
 
 pub returns-clause-same : goal.returns-clause-same
@@ -88,7 +90,7 @@ returns-clause-same c =
     let l = c.load-value.ensures in
     let old = c.pass.inside in
     let new = c.load-value.new.seat in
-    let P : PassView → Type 0 = λ h. OnlySees h (pass_of new.table_id new.me.0 old.number old.stage old.depth old.count old.saw) in
+    let P : PassView → Type 0 = λ h. OnlySees h (pass_of new.table_id new.me.0 old.number (stage_of old.phase old.value) old.depth old.count old.saw) in
     subst P c.pass.view_is
     (pass_of-step _ _ old.seat.me.0 new.me.0 _ _ _ _ _ (l.0 ∙ c.fetch_or-found.ensures.0) (ap (λ (v : Knowledge). v.limits) l.2.1.0 ∙
     t.3.1.limits) (ap (λ (v : Knowledge). v.fibers) l.2.1.0 ∙ t.3.1.fibers))
@@ -113,5 +115,5 @@ returns-clause-call c =
     (sym l.2.1.0) made in
     let P : PassView → Type 0 =
     λ h. Calls h (call.Join c.args.fiber) (reply.Join (joined.Ended c.outcome_answer.result))
-    (pass_of new.table_id new.me.0 old.number old.stage old.depth old.count old.saw) in
+    (pass_of new.table_id new.me.0 old.number (stage_of old.phase old.value) old.depth old.count old.saw) in
     subst P c.pass.view_is (called_by old.seat.me.0 new.me.0 _ _ _ c.pass.invariant.1.number_is now)

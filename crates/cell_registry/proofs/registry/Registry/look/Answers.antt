@@ -5,6 +5,7 @@ use Rattle.cell_registry.specs.Cells.{IsOpen}
 use Rattle.cell_registry.specs.Steps.{Called}
 use Rattle.cell_registry.specs.Cancellation.{WasCancelled}
 use Rattle.cell_registry.specs.Passes.{RegistryView, PassView, Calls, pass_of}
+use Rattle.cell_registry.specs.Private.Kept.{stage_of}
 use Rattle.cell_registry.proofs.CellTurns.{sees}
 use Rattle.cell_registry.proofs.Tokens.{of_registry, own_place, seat_has, seat_cell, called_by, call-prefix, pass_of-step, seated_looked}
 use Rattle.cell_registry.proofs.Requests.{request-cancelled}
@@ -40,7 +41,7 @@ returns-clause-same c =
     let old = c.pass.inside in
     let new = c.load-found.new.seat in
     let P : PassView → Type 0 =
-    λ h. pass_of new.table_id new.me.0 old.number old.stage old.depth old.count c.look_answer-requested.result ≡ record h {
+    λ h. pass_of new.table_id new.me.0 old.number (stage_of old.phase old.value) old.depth old.count c.look_answer-requested.result ≡ record h {
       saw =
           c.look_answer-requested.result;
       seen = new.me.0.seen;
@@ -55,7 +56,7 @@ returns-clause-call c =
     let new = c.load-found.new.seat in
     let P : PassView → Type 0 =
     λ h. Calls h call.Look (reply.Seen c.look_answer-requested.result)
-    (pass_of new.table_id new.me.0 old.number old.stage old.depth old.count c.look_answer-requested.result) in
+    (pass_of new.table_id new.me.0 old.number (stage_of old.phase old.value) old.depth old.count c.look_answer-requested.result) in
     subst P c.pass.view_is
     (called_by old.seat.me.0 new.me.0 _ _ _ c.pass.invariant.1.number_is
     (subst (λ (b : Bool). Called old.seat.me.0 call.Look (reply.Seen b) new.me.0) (sym answer) t.3.0))

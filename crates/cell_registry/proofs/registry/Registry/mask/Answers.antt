@@ -2,6 +2,7 @@ use Rattle.std.proofs.Common.{◌+◌, ◌<◌, sym, ◌∙◌, ap, arith, subst
 use Rattle.cell_registry.specs.declared.call.Call.TheVariants as call
 use Rattle.cell_registry.specs.Cells.{IsOpen}
 use Rattle.cell_registry.specs.Passes.{RegistryView, PassView, Changes, pass_of}
+use Rattle.cell_registry.specs.Private.Kept.{stage_of}
 use Rattle.cell_registry.proofs.OwnTurns.{masks_as}
 use Rattle.cell_registry.proofs.Tokens.{of_registry, own_place, seat_has, seat_cell, called_by, call-prefix}
 use Rattle.cell_registry.proofs.Tokens.{pass_of-step, seated_changed, count_below, seen_count_below}
@@ -48,10 +49,12 @@ returns-clause-masked c =
     let of = of_registry _ _ _ _ c.self.view_is c.pass.view_is c.requires.own in
     let told = c.fetch_add.ensures.2.1 in
     let P : PassView → Type 0 =
-    λ h. Changes h call.Mask h.stage (h.depth + 1) (pass_of new.table_id new.me.0 old.number old.stage (old.depth + 1) (old.count + 1) old.saw) in
+    λ h. Changes h call.Mask h.stage (h.depth + 1)
+    (pass_of new.table_id new.me.0 old.number (stage_of old.phase old.value) (old.depth + 1) (old.count + 1) old.saw) in
     subst P c.pass.view_is record {
       room = count_below _ _ _ p.1 of c.in_ok-refuse_if_spent.ensures.room;
-      same = pass_of-step _ _ old.seat.me.0 new.me.0 _ old.stage (old.depth + 1) (old.count + 1) _ c.fetch_add.ensures.0 told.1.limits told.1.fibers;
+      same = pass_of-step _ _ old.seat.me.0 new.me.0 _ (stage_of old.phase old.value) (old.depth + 1) (old.count + 1) _ c.fetch_add.ensures.0
+          told.1.limits told.1.fibers;
       call = called_by old.seat.me.0 new.me.0 _ _ _ p.1.number_is told.0;
     }
 

@@ -24,8 +24,8 @@ first : (k : Limits) (t : TableId) (me : Me ℕ Knowledge) → AreLimits k → m
 first k t me limits is = subst (λ (v : Knowledge). IsSeated v (pass_of t v 0 Running 0 0 false)) (sym (ap (λ (m : Me ℕ Knowledge). m.0) is))
     (first_seated k t limits)
 
-pub invariant_of-pass : goal.invariant_of-pass
-invariant_of-pass c =
+pub invariant_of-pass-2 : goal.invariant_of-pass-2
+invariant_of-pass-2 c =
     let me = c.in_ok-table.ensures.4 in
     (ap (λ (m : Me ℕ Knowledge). m.1) me, first _ _ _ c.requires.limits me)
 

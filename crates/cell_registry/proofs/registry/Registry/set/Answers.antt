@@ -2,6 +2,7 @@ use Rattle.std.proofs.Common.{◌<◌, sym, ap, subst, refl}
 use Rattle.effect_term.proofs.ValueLaws.{from_bits}
 use Rattle.cell_registry.specs.declared.limits.Limits.{Limits}
 use Rattle.cell_registry.specs.Passes.{RegistryView, PassView, OnlySees, pass_of}
+use Rattle.cell_registry.specs.Private.Kept.{stage_of}
 use Rattle.cell_registry.proofs.ValueTurns.{sets}
 use Rattle.cell_registry.proofs.Tokens.{of_registry, seat_has, ref_here, ref_word, call-prefix, pass_of-step, seated_still}
 use Rattle.cell_registry.proofs.registry.Registry.set.Goals as goal
@@ -41,7 +42,7 @@ returns-clause-same c =
     ) in
     let old = c.pass.inside in
     let new = c.store.new.seat in
-    let P : PassView → Type 0 = λ h. OnlySees h (pass_of new.table_id new.me.0 old.number old.stage old.depth old.count old.saw) in
+    let P : PassView → Type 0 = λ h. OnlySees h (pass_of new.table_id new.me.0 old.number (stage_of old.phase old.value) old.depth old.count old.saw) in
     subst P c.pass.view_is (pass_of-step _ _ old.seat.me.0 new.me.0 _ _ _ _ _ c.store.ensures.0 t.1.limits t.1.fibers)
 
 pub returns-clause-lawful : goal.returns-clause-lawful

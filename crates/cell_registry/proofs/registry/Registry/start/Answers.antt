@@ -6,6 +6,7 @@ use Rattle.cell_registry.specs.declared.cell.Stage.TheVariants.{Running}
 use Rattle.cell_registry.specs.Cells.{IsOpen}
 use Rattle.cell_registry.specs.Rule.{Has}
 use Rattle.cell_registry.specs.Passes.{RegistryView, PassView, IsSeated, pass_of}
+use Rattle.cell_registry.specs.Private.Kept.{stage_of}
 use Rattle.cell_registry.proofs.Seats.{splits}
 use Rattle.cell_registry.proofs.Tokens.{of_registry, seat_has, seat_cell, call-prefix, seated_still, parent-same, child_seated}
 use Rattle.cell_registry.proofs.registry.Registry.start.Goals as goal
@@ -50,14 +51,15 @@ invariant_of-pass-2 c =
     let e = c.split_seat-seat.ensures in
     let t = c.in-Some.ensures.claim in
     let old = c.pass.inside in
-    let P : Knowledge → Type 0 = λ v. IsSeated v (pass_of c.split_seat-seat.new.seat.table_id v old.number old.stage old.depth old.count old.saw) in (
+    let P : Knowledge → Type 0 =
+    λ v. IsSeated v (pass_of c.split_seat-seat.new.seat.table_id v old.number (stage_of old.phase old.value) old.depth old.count old.saw) in (
       ap (λ (m : Me ℕ Knowledge). m.1) e.2 ∙ c.claim.ensures.seat.1,
       subst P (sym (ap (λ (m : Me ℕ Knowledge). m.0) e.2))
           (seated_still _ _ _ _ _ _ _ _ _ (parent-same _ _ _ t) (call-prefix _ _ _ _ _ _ _ t.call) t.call.legal c.pass.invariant.1),
     )
 
-pub invariant_of-result : goal.invariant_of-result
-invariant_of-result c =
+pub invariant_of-result-2 : goal.invariant_of-result-2
+invariant_of-result-2 c =
     let me = c.split_seat-seat.ensures.4 in
     let P : Knowledge → Type 0 = λ v. IsSeated v (pass_of c.split_seat-seat.result.table_id v c.in-Some.number Running 0 0 false) in (
       ap (λ (m : Me ℕ Knowledge). m.1) me,
@@ -71,4 +73,4 @@ pub returns-clause-lawful : goal.returns-clause-lawful
 returns-clause-lawful c = (invariant_of-pass-2 c).1.pass
 
 pub returns-clause-child : goal.returns-clause-child
-returns-clause-child c = (invariant_of-result c).1.pass
+returns-clause-child c = (invariant_of-result-2 c).1.pass

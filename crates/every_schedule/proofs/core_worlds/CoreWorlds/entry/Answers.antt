@@ -58,7 +58,7 @@ invariant_of-self-in-Err c =
 pub returns-in-Ok-clause-faults : goal.returns-in-Ok-clause-faults
 returns-in-Ok-clause-faults c =
     let faults = ap (λ (x : Kept). x.faults) c.self.view_is in
-    always c.keep-kept.result _ (subst (λ l. IsMore l c.self.inside.faults.items) faults (more_same c.self.inside.faults.items))
+    always c.keep-kept.result _ (subst (λ l. IsMore l c.self.inside.faults) faults (more_same c.self.inside.faults))
 
 pub returns-in-Ok-clause-worlds : goal.returns-in-Ok-clause-worlds
 returns-in-Ok-clause-worlds c =
@@ -105,7 +105,7 @@ returns-in-Ok-clause-lands c =
     let next = c.in-Ok.next.world in
     IfOk-weaker c.keep-kept.result _ _
     (λ it kept. λ w at. lands k fs fs' rs rs' mf mr rows c.self.invariant.0 c.args.world m row now is_now c.args.at_once c.args.fiber n next
-    c.in-Ok.ensures.goes c.in-Ok.ensures.current c.in-Ok.ensures.fits rows' c.keep-kept.ensures.adds s.faults.items it kept w
+    c.in-Ok.ensures.goes c.in-Ok.ensures.current c.in-Ok.ensures.fits rows' c.keep-kept.ensures.adds s.faults it kept w
     (ap (λ l. slice_get l c.args.world) places ∙ at)) c.keep-kept.ensures.kept
 
 pub returns-in-Ok-clause-room : goal.returns-in-Ok-clause-room

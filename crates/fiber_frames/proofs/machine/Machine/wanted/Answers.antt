@@ -3,7 +3,7 @@ use Rattle.effect_term.specs.declared.reply.Reply.TheVariants.{Done}
 use Rattle.fiber_frames.specs.Fiber.{Fiber, move_case, row_of, ask_in}
 use Rattle.fiber_frames.specs.Moves.{case_of}
 use Rattle.fiber_frames.specs.Machines.{fiber_in, state_of}
-use Rattle.fiber_frames.proofs.Asking.{ask_row, case_is}
+use Rattle.fiber_frames.proofs.CallsAndKinds.{ask_row, case_is}
 use Rattle.fiber_frames.proofs.machine.Machine.wanted.Goals as goal
 
 pub returns-in-Looks : goal.returns-in-Looks

@@ -3,9 +3,9 @@ use Rattle.fiber_frames.specs.declared.ask.Ask.TheVariants as ask
 use Rattle.fiber_poll.specs.Private.Told.{IsAsked, Made}
 use Rattle.fiber_poll.specs.Tasks.{TaskView}
 use Rattle.fiber_poll.proofs.Turnings.{Loops, loop_asked, loop_bears, loop_begins, loop_goes, loop_tells}
-use Rattle.fiber_poll.proofs.task.FiberTask.go.Goals.{in-Silent+in_ok-step-in-Silent+in-Plain}
-use Rattle.fiber_poll.proofs.task.FiberTask.go.Goals.{in-Look+in_ok-step-in-Look+in-Plain-2}
-use Rattle.fiber_poll.proofs.task.FiberTask.go.Goals.{in_default+in_ok-step-in_default+in-Plain-3}
+use Rattle.fiber_poll.proofs.task.FiberTask.go.Goals.{in-Silent+in_ok-end-in-Silent+in-Plain}
+use Rattle.fiber_poll.proofs.task.FiberTask.go.Goals.{in-Look+in_ok-end-in-Look+in-Plain-2}
+use Rattle.fiber_poll.proofs.task.FiberTask.go.Goals.{in_default+in_ok-end-in_default+in-Plain-3}
 use Rattle.fiber_poll.proofs.task.FiberTask.go.Goals as goal
 
 pub loop-made-init : goal.loop-made-init
@@ -50,16 +50,16 @@ step-requires-in_default-clause-asked g c =
 pub returns-in_default-2 : goal.returns-in_default-2
 returns-in_default-2 g c = record {
   turned = loop_tells c.args.self.now c.loop-made.self c.step.new.self c.loop-made.made c.args.budget
-      c.loop-made.invariant c.loop-made-test.true ask.Silent c.in_ok-step-in-Silent.step c.told.result
-      c.in_ok-step-in-Silent.ensures.made c.told.ensures.event c.told.ensures.last;
+      c.loop-made.invariant c.loop-made-test.true ask.Silent c.in_ok-end-in-Silent.end c.told.result
+      c.in_ok-end-in-Silent.ensures.made c.told.ensures.event c.told.ensures.last;
   stopped = tt;
 }
 
 pub returns-in_default-3 : goal.returns-in_default-3
 returns-in_default-3 g c = record {
   turned = loop_tells c.args.self.now c.loop-made.self c.step-in-Look.new.self c.loop-made.made c.args.budget
-      c.loop-made.invariant c.loop-made-test.true ask.Look c.in_ok-step-in-Look.step
-      c.told-in_default-3.result c.in_ok-step-in-Look.ensures.made c.told-in_default-3.ensures.event
+      c.loop-made.invariant c.loop-made-test.true ask.Look c.in_ok-end-in-Look.end
+      c.told-in_default-3.result c.in_ok-end-in-Look.ensures.made c.told-in_default-3.ensures.event
       c.told-in_default-3.ensures.last;
   stopped = tt;
 }
@@ -67,8 +67,8 @@ returns-in_default-3 g c = record {
 pub returns-in_default-4 : goal.returns-in_default-4
 returns-in_default-4 g c = record {
   turned = loop_tells c.args.self.now c.loop-made.self c.step-in_default.new.self c.loop-made.made
-      c.args.budget c.loop-made.invariant c.loop-made-test.true c.ask.result c.in_ok-step-in_default.step
-      c.told-in_default-4.result c.in_ok-step-in_default.ensures.made c.told-in_default-4.ensures.event
+      c.args.budget c.loop-made.invariant c.loop-made-test.true c.ask.result c.in_ok-end-in_default.end
+      c.told-in_default-4.result c.in_ok-end-in_default.ensures.made c.told-in_default-4.ensures.event
       c.told-in_default-4.ensures.last;
   stopped = tt;
 }
@@ -78,19 +78,19 @@ loop-made-preserved g c =
     let mid = c.loop-made.self in
     let Next : TaskView → Type 0 = λ t. Loops c.args.self.now (c.loop-made.made + 1) t in
     elim c.match-ask.branch [
-      | in-Silent+in_ok-step-in-Silent+in-Plain w ↦
+      | in-Silent+in_ok-end-in-Silent+in-Plain w ↦
           subst Next (sym w.self-is) (loop_goes c.args.self.now mid w.step.new.self c.loop-made.made ask.Silent
           c.loop-made.invariant
           (subst (λ s. Made mid ask.Silent s w.step.new.self) w.in-Plain.is
-          w.in_ok-step-in-Silent.ensures.made))
-      | in-Look+in_ok-step-in-Look+in-Plain-2 w ↦
+          w.in_ok-end-in-Silent.ensures.made))
+      | in-Look+in_ok-end-in-Look+in-Plain-2 w ↦
           subst Next (sym w.self-is) (loop_goes c.args.self.now mid w.step-in-Look.new.self c.loop-made.made
           ask.Look c.loop-made.invariant
           (subst (λ s. Made mid ask.Look s w.step-in-Look.new.self) w.in-Plain-2.is
-          w.in_ok-step-in-Look.ensures.made))
-      | in_default+in_ok-step-in_default+in-Plain-3 w ↦
+          w.in_ok-end-in-Look.ensures.made))
+      | in_default+in_ok-end-in_default+in-Plain-3 w ↦
           subst Next (sym w.self-is) (loop_goes c.args.self.now mid w.step-in_default.new.self c.loop-made.made
           c.ask.result c.loop-made.invariant
           (subst (λ s. Made mid c.ask.result s w.step-in_default.new.self) w.in-Plain-3.is
-          w.in_ok-step-in_default.ensures.made))
+          w.in_ok-end-in_default.ensures.made))
     ]

@@ -25,8 +25,8 @@ pub resume-resumed-requires-clause-in_range : goal.resume-resumed-requires-claus
 resume-resumed-requires-clause-in_range g c =
     λ takes. here_in_range _ _ c.self.view_is c.self.invariant c.args.ask.now c.requires.ask c.requires.asked c.requires.going c.requires.other
 
-pub step_of-requires-clause-follows : goal.step_of-requires-clause-follows
-step_of-requires-clause-follows g c =
+pub move_end_of-requires-clause-follows : goal.move_end_of-requires-clause-follows
+move_end_of-requires-clause-follows g c =
     here_follows _ _ c.self.view_is c.self.invariant c.args.ask.now c.requires.ask c.requires.asked c.requires.going c.requires.other
     c.answer.new.pass c.in-Ok.ensures.lawful c.in-Ok.reply c.in-Ok.ensures.made c.in-Ok-resumed.moved (rw c.in-Ok-resumed.is at c.resume-resumed.ensures.kind)
 
@@ -39,10 +39,10 @@ invariant_of-self-in-Ok-resumed g c =
 pub returns-in-Ok-resumed-clause-made : goal.returns-in-Ok-resumed-clause-made
 returns-in-Ok-resumed-clause-made g c =
     here_made _ _ c.self.view_is c.self.invariant c.args.ask.now c.requires.ask c.requires.asked c.requires.going c.requires.other c.answer.new.pass
-    c.in-Ok.ensures.lawful c.in-Ok.reply c.in-Ok.ensures.made c.resume-resumed.new.self c.in-Ok-resumed.moved c.step_of.result
+    c.in-Ok.ensures.lawful c.in-Ok.reply c.in-Ok.ensures.made c.resume-resumed.new.self c.in-Ok-resumed.moved c.move_end_of.result
     c.number-number.result c.requires.left
     (rw c.in-Ok-resumed.is at c.resume-resumed.ensures.state) (rw c.in-Ok-resumed.is at c.resume-resumed.ensures.kind) c.number-number.ensures
-    (c.step_of.ensures.event c.number-number.result c.in-Ok.reply c.wakes-woke.ensures.event) c.step_of.ensures.tells
+    (c.move_end_of.ensures.event c.number-number.result c.in-Ok.reply c.wakes-woke.ensures.event) c.move_end_of.ensures.tells
 
 pub returns-clause-failed : goal.returns-clause-failed
 returns-clause-failed g c =

@@ -7,7 +7,7 @@ use Rattle.std.proofs.lemmas.Result.{IfOk-weaker}
 use Rattle.world_search.specs.Landings.{EntersAt}
 use Rattle.search_tests.specs.Moves.{moved}
 use Rattle.search_tests.specs.declared.places.TheConstants.{MOVES}
-use Rattle.search_tests.proofs.Moving.{moved_place, moved_fault}
+use Rattle.search_tests.proofs.EntryLeads.{moved_place, moved_fault}
 use Rattle.search_tests.proofs.places.PlacesWorlds.enter.Goals as goal
 
 pub returns-then-code-lt100-clause-lands : goal.returns-then-code-lt100-clause-lands
