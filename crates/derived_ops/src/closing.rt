@@ -1,6 +1,7 @@
 //! What the words that release stand for, `guarantee` and the brackets, apart from their parts.
 //!
-//! The words of a term are put from the last one to the first.
+//! The words of a term are put from the last one to the first. No function of them is inlined, so that what they hold
+//! takes no room on the stack below the parts.
 
 ghost use Rattle.std.specs.Prelude.{◌≡◌, ◌+◌, ◌<◌, ◌^◌, ◌∷◌, List, OnOk};
 ghost use Rattle.derived_ops.specs.Private.Closings.{last_of_closing, opened_by};
@@ -27,6 +28,7 @@ pub(crate) enum Closing {
 
 impl Writer {
     /// Undoes the masks around a body for what stands.
+    #[inline(never)]
     pub(crate) fn opened(&mut self, closing: Closing) -> Result<(), AllocError>
         requires { last_of_closing closing < 2 ^ 32 }
         ensures { OnOk result ((e : Tree) (ws : List CoreWord) → self.old ≡ before e ws →
@@ -41,6 +43,7 @@ impl Writer {
     }
 
     /// Notes that the bracket of this mask is released, and goes on with the word.
+    #[inline(never)]
     pub(crate) fn noted(&mut self, poll: u32, next: CoreWord) -> Result<(), AllocError>
         ensures { OnOk result (self.new ≡ word.Seq rest.Last 1 ∷ word.Note mark.Released poll ∷ next ∷ self.old) }
     {
@@ -53,6 +56,7 @@ impl Writer {
 
     /// Notes that the release of the bracket of this mask begins, and goes on with the release, which has so many words
     /// and behind which the rest stands.
+    #[inline(never)]
     pub(crate) fn begun(&mut self, poll: u32, left: Rest, release: u32) -> Result<(), AllocError>
         ensures { OnOk result (self.new ≡ word.Seq rest.More 1 ∷ word.Note mark.Releasing poll ∷
             word.Seq left release ∷ self.old) }
@@ -65,6 +69,7 @@ impl Writer {
     }
 
     /// Notes that the bracket of this mask has acquired its resource, and goes on with what stands.
+    #[inline(never)]
     pub(crate) fn acquired(&mut self, poll: u32) -> Result<(), AllocError>
         ensures { OnOk result (self.new ≡ word.Seq rest.Last 1 ∷ word.Note mark.Acquired poll ∷ self.old) }
     {
@@ -75,6 +80,7 @@ impl Writer {
     }
 
     /// Masks what stands, whose first term has so many words and is bound in the second.
+    #[inline(never)]
     pub(crate) fn masked_let(&mut self, first: u32) -> Result<(), AllocError>
         ensures { OnOk result (self.new ≡ word.Uncancelable ∷ word.Let first ∷ self.old) }
     {

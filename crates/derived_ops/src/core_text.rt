@@ -15,6 +15,7 @@ ghost use Rattle.derived_ops.specs.Tree as tree;
 use crate::code::Code;
 use crate::core_term::{Action, BracketMark, Maker, Operand, Turns};
 use crate::core_word::{CoreWord, Rest};
+use effect_term::facts_of;
 use itoa::Buffer;
 use std::alloc::{AllocError, Global};
 
@@ -263,7 +264,8 @@ fn push_word_at(
         (tree_at words.now (spot.index + 1)) (tree_at words.now (spot.index + 1 + second word))
         (tree_at words.now (spot.index + 1 + third word)))) }
 {
-    let _ = words.len();
+    // So many words have a next place.
+    facts_of(words.len());
     let part = spot.part();
     match word {
         CoreWord::Pure(v) => push_word(text, b"(pure ", Tail::Valued(v)),

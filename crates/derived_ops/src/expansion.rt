@@ -2,50 +2,29 @@
 
 ghost use Rattle.std.specs.Prelude.{◌≡◌, ◌+◌, ◌<◌, ◌^◌, [], ◌∷◌, map, IfOk, OnOk};
 ghost use Rattle.effect_term.specs.ExpansionSize.{expansion_size_of, total_expansion_size};
-ghost use Rattle.derived_ops.specs.Cores.{value_in_core};
 ghost use Rattle.derived_ops.specs.Expansion.{attempted, both, bracket_case, expansion, race, released_then_raised};
-ghost use Rattle.derived_ops.specs.Expansion.{runs_side, slot_at, value_in};
+ghost use Rattle.derived_ops.specs.Expansion.{runs_side};
 ghost use Rattle.derived_ops.specs.Private.Closings.{closed_on_cancel, closed_on_error, closed_on_value, concluded_by};
 ghost use Rattle.derived_ops.specs.Private.Closings.{guarded_by, handled_by, last_of_closing};
 ghost use Rattle.derived_ops.specs.Private.Sequences.{rest_before, trees_behind, trees_in_order};
-ghost use Rattle.derived_ops.specs.Private.Shapes.{depth_at, end_tree, part_tree, slots_at, tree_of_shape, tree_of_two};
-ghost use Rattle.derived_ops.specs.Private.Shapes.{EndFits, EndsFit, Fits, PartsFit};
+ghost use Rattle.derived_ops.specs.Private.Shapes.{end_tree, part_tree, tree_of_two};
+ghost use Rattle.derived_ops.specs.Private.Shapes.{EndFits, EndsFit, Fits};
 ghost use Rattle.derived_ops.specs.Private.Writing.{before, both_raced, distance, race_before, size, stored_rest};
-ghost use Rattle.derived_ops.specs.Reading.{source_of, value_of};
+ghost use Rattle.derived_ops.specs.Reading.{source_of};
 ghost use Rattle.derived_ops.specs.Tree as tree;
 ghost use Rattle.derived_ops.specs.Tree.{Named, Tree};
 ghost use Rattle.effect_term.specs.declared.term.Term.{Term};
 ghost use Rattle.derived_ops.specs.declared.core_word.CoreWord.TheVariants as word;
 
 use crate::closing::Closing;
-use crate::core_term::{Action, BracketMark, Maker, Operand, Turns};
+use crate::core_term::{Action, BracketMark, Maker, Operand};
 use crate::core_word::{CoreWord, Rest};
 use crate::shape::{
-    Atom, End, Ends, One, Part, Place, Shape, Two, word_of_atom, word_of_one, word_of_two,
+    End, Ends, Part, Shape, Two, bind, shape, word_of_bare, word_of_one, word_of_two,
 };
 use crate::writer::Writer;
-use effect_term::{Name, Term, Value};
+use effect_term::{Term, Value};
 use std::alloc::{AllocError, Global};
-
-// A part of a word at this place.
-macro_rules! part {
-    ($place:ident, $term:expr) => {
-        Part { place: Place::$place, term: $term }
-    };
-    ($place:ident($above:literal), $term:expr) => {
-        Part { place: Place::$place($above), term: $term }
-    };
-}
-
-// What stands after an outcome: a part at this place.
-macro_rules! end {
-    ($place:ident, $term:expr) => {
-        End::Part(Part { place: Place::$place, term: $term })
-    };
-    ($place:ident($above:literal), $term:expr) => {
-        End::Part(Part { place: Place::$place($above), term: $term })
-    };
-}
 
 /// The words of an expansion so far, and the binders of the program that are around the next part: the new slot of
 /// each, outermost first.
@@ -85,156 +64,6 @@ impl Expansion {
         words.into_words()
     }
 
-    // The new slot of a name; 0 for a slot that isn't bound, which no program has.
-    #[tactic(auto, using(crate::proofs::Slots::slot_at_within, crate::proofs::Slots::slot_at_past))]
-    fn slot(&self, name: Name) -> u32
-        ensures { result ≡ slot_at self.now.slots.items name.slot }
-    {
-        if (name.slot as usize) < self.slots.len() {
-            self.slots[name.slot as usize]
-        } else {
-            0
-        }
-    }
-
-    fn value(&self, operand: effect_term::Operand) -> Operand
-        ensures { value_in_core result ≡ value_in self.now.slots.items (value_of operand) }
-    {
-        match operand {
-            effect_term::Operand::Number(number) => Operand::Number(number),
-            effect_term::Operand::Named(name) => Operand::Slot(self.slot(name)),
-        }
-    }
-
-    // The word of a term below so many binders, and its parts.
-    fn shape<'a>(&self, term: &'a Term, depth: u32) -> Shape<'a>
-        requires { depth + expansion_size_of term.now < 2 ^ 32 }
-        ensures tree { expansion self.now.slots.items depth (source_of term.now)
-            ≡ tree_of_shape self.now.slots.items depth result }
-        ensures parts { PartsFit (expansion_size_of term.now) depth result }
-    {
-        match term {
-            Term::Pure(v) => Shape::Atom(Atom::Pure(self.value(*v))),
-            Term::Raise(v) => Shape::Atom(Atom::Raise(self.value(*v))),
-            Term::Let(e, k) => Shape::Two(Two::Let, part!(Here, e), part!(Bound, k)),
-            Term::Seq(a, b, more) => Shape::Seq(a, b, more),
-            Term::Handle(e, h) => Shape::Two(Two::Handle, part!(Here, e), part!(Bound, h)),
-            Term::If0(v, s, e) => {
-                Shape::Two(Two::If0(self.value(*v)), part!(Here, s), part!(Here, e))
-            }
-            Term::Add(v, w) => {
-                Shape::Atom(Atom::Act(Action::Add(self.value(*v), self.value(*w))))
-            }
-            Term::Say(v) => Shape::Atom(Atom::Act(Action::Say(self.value(*v)))),
-            Term::Cede => Shape::Atom(Atom::Act(Action::Cede)),
-            Term::Never => Shape::Atom(Atom::Act(Action::Never)),
-            Term::Canceled => Shape::Atom(Atom::Act(Action::Canceled)),
-            Term::Uncancelable(e) => Shape::One(One::Masked, part!(Bound, e)),
-            Term::Poll(p, e) => Shape::One(One::Polled(self.slot(*p)), part!(Here, e)),
-            Term::OnCancel(e, fin) => Shape::Two(Two::OnCancel, part!(Here, e), part!(Here, fin)),
-            Term::Start(e, k) => Shape::Two(Two::Start, part!(Here, e), part!(Bound, k)),
-            Term::Join(f, s, e, c) => Shape::Join(
-                self.slot(*f),
-                part!(Bound, s),
-                part!(Bound, e),
-                part!(Here, c),
-            ),
-            Term::Cancel(f) => Shape::Atom(Atom::Cancel(self.slot(*f))),
-            Term::Ref(v, k) => {
-                Shape::One(One::Made(Maker::Ref(self.value(*v))), part!(Bound, k))
-            }
-            Term::Get(r) => Shape::Atom(Atom::Act(Action::Get(self.slot(*r)))),
-            Term::Set(r, v) => {
-                Shape::Atom(Atom::Act(Action::Set(self.slot(*r), self.value(*v))))
-            }
-            Term::Modify(r, v) => {
-                Shape::Atom(Atom::Act(Action::Modify(self.slot(*r), self.value(*v))))
-            }
-            Term::Deferred(k) => Shape::One(One::Made(Maker::Deferred), part!(Bound, k)),
-            Term::Complete(d, v) => {
-                Shape::Atom(Atom::Act(Action::Complete(self.slot(*d), self.value(*v))))
-            }
-            Term::Await(d) => Shape::Atom(Atom::Act(Action::Await(self.slot(*d)))),
-            Term::Repeat(v, e) => {
-                Shape::One(One::Repeated(Turns::Times(self.value(*v))), part!(Here, e))
-            }
-            Term::Forever(e) => Shape::One(One::Repeated(Turns::Always), part!(Here, e)),
-            Term::Guarantee(e, fin) => {
-                let ends = Ends {
-                    on_cancel: end!(Above(1), fin),
-                    on_error: end!(Above(2), fin),
-                    on_value: end!(Above(2), fin),
-                };
-                Shape::Guarantee(part!(Above(1), e), ends)
-            }
-            Term::Bracket(acq, body, rel) => {
-                let ends = Ends {
-                    on_cancel: end!(Used, rel),
-                    on_error: end!(Released, rel),
-                    on_value: end!(Released, rel),
-                };
-                Shape::Bracket(part!(Above(1), acq), part!(Used, body), ends)
-            }
-            Term::BracketCase(acq, body, rs, re, rc) => {
-                let ends = Ends {
-                    on_cancel: end!(Used, rc),
-                    on_error: end!(Chosen, re),
-                    on_value: end!(Chosen, rs),
-                };
-                Shape::Bracket(part!(Above(1), acq), part!(Used, body), ends)
-            }
-            Term::BracketFull(acq, body, rs, re, rc) => {
-                let ends = Ends {
-                    on_cancel: end!(Used, rc),
-                    on_error: end!(Chosen, re),
-                    on_value: end!(Chosen, rs),
-                };
-                Shape::Bracket(part!(Bound, acq), part!(Used, body), ends)
-            }
-            Term::Race(a, b) => Shape::Race(part!(Above(3), a), part!(Above(4), b)),
-            Term::Both(a, b, k) => Shape::Both(
-                part!(Above(4), a),
-                part!(Above(5), b),
-                part!(Values, k),
-            ),
-        }
-    }
-
-    // Binds what a part at this place knows of its word's binders. Gives how many are around it.
-    fn bind(&mut self, place: Place, depth: u32) -> Result<u32, AllocError>
-        requires { depth_at place depth < 2 ^ 32 }
-        ensures depth { IfOk result (λ below. below ≡ depth_at place depth) }
-        ensures slots { OnOk result (self.new.slots.items ≡ slots_at place self.old.slots.items depth) }
-        ensures words { self.new.words ≡ self.old.words }
-    {
-        match place {
-            Place::Here => Ok(depth),
-            Place::Above(binders) => Ok(depth + u32::from(binders)),
-            Place::Bound => {
-                self.slots.push(depth)?;
-                Ok(depth + 1)
-            }
-            Place::Used => {
-                self.slots.push(depth + 1)?;
-                Ok(depth + 3)
-            }
-            Place::Released => {
-                self.slots.push(depth + 1)?;
-                Ok(depth + 4)
-            }
-            Place::Chosen => {
-                self.slots.push(depth + 1)?;
-                self.slots.push(depth + 3)?;
-                Ok(depth + 4)
-            }
-            Place::Values => {
-                self.slots.push(depth + 1)?;
-                self.slots.push(depth + 2)?;
-                Ok(depth + 3)
-            }
-        }
-    }
-
     /// Writes the expansion of a term below so many binders, or answers `AllocError` where memory is refused.
     #[cycle(expansion)]
     pub(crate) fn part(&mut self, term: &Term, depth: u32) -> Result<(), AllocError>
@@ -243,8 +72,8 @@ impl Expansion {
             before (expansion self.old.slots.items depth (source_of term.now)) self.old.words) }
         ensures slots { OnOk result (self.new.slots.items ≡ self.old.slots.items) }
     {
-        match self.shape(term, depth) {
-            Shape::Atom(atom) => self.words.put(word_of_atom(atom)),
+        match shape(&self.slots, term, depth) {
+            Shape::Bare(bare) => self.words.put(word_of_bare(bare)),
             Shape::One(word, a) => {
                 self.placed(a, depth)?;
                 self.words.put(word_of_one(word))
@@ -271,7 +100,7 @@ impl Expansion {
         ensures slots { OnOk result (self.new.slots.items ≡ self.old.slots.items) }
     {
         let around = self.slots.len();
-        let below = self.bind(part.place, depth)?;
+        let below = bind(&mut self.slots, part.place, depth)?;
         self.part(part.term, below)?;
         self.slots.truncate(around);
         Ok(())

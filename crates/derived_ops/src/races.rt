@@ -1,6 +1,7 @@
 //! What the words that run two fibers stand for, `race` and `both`, apart from the parts of the program in them.
 //!
-//! The words of a term are put from the last one to the first.
+//! The words of a term are put from the last one to the first. What is written between parts is not inlined, so that
+//! what it holds takes no room on the stack below them.
 
 ghost use Rattle.std.specs.Prelude.{◌≡◌, ◌+◌, ◌<◌, ◌^◌, ◌∷◌, pos, OnOk};
 ghost use Rattle.derived_ops.specs.Expansion.{awaits, both_outcome, both_side, both_values, cancels_both, ended};
@@ -73,6 +74,7 @@ impl Writer {
     }
 
     /// Binds the winner of the race below the poll in what stands.
+    #[inline(never)]
     pub(crate) fn decided(&mut self, poll: u32) -> Result<(), AllocError>
         requires { poll + 6 < 2 ^ 32 }
         ensures { OnOk result (self.new ≡ word.Let (distance (size (race_winner poll))) ∷
@@ -124,6 +126,7 @@ impl Writer {
     }
 
     /// What a race gives, by its winner.
+    #[inline(never)]
     pub(crate) fn race_outcome(&mut self, poll: u32) -> Result<(), AllocError>
         requires { poll + 6 < 2 ^ 32 }
         ensures { OnOk result (self.new ≡ before (race_outcome poll) self.old) }
@@ -182,6 +185,7 @@ impl Writer {
     }
 
     /// What `both` gives, by its winner.
+    #[inline(never)]
     pub(crate) fn both_outcome(&mut self, poll: u32, kept: u32) -> Result<(), AllocError>
         requires { poll + 6 < 2 ^ 32 }
         ensures { OnOk result (self.new ≡ before (both_outcome poll kept) self.old) }
@@ -196,6 +200,7 @@ impl Writer {
     }
 
     /// Binds the value of the ref in what stands.
+    #[inline(never)]
     pub(crate) fn get_bound(&mut self, slot: u32) -> Result<(), AllocError>
         ensures { OnOk result (self.new ≡ word.Let 1 ∷ word.Act (action.Get slot) ∷ self.old) }
     {
@@ -203,6 +208,7 @@ impl Writer {
     }
 
     /// Makes a ref that holds 0 for what stands, whose first term has so many words and is bound in the second.
+    #[inline(never)]
     pub(crate) fn made_let(&mut self, first: u32) -> Result<(), AllocError>
         ensures { OnOk result (self.new ≡ word.Make (maker.Ref (operand.Number (pos 0))) ∷ word.Let first ∷ self.old) }
     {

@@ -20,7 +20,7 @@ use crate::exploration::{Answer, Answers, Exploration, Schedule};
 use crate::reduced_worlds::{AT_ONCE, ReducedWorlds};
 use crate::unfolding::unfold_all;
 use cell_registry::{Limits, RunError};
-use effect_term::Program;
+use effect_term::{Program, facts_of};
 use outcome_trace::Report;
 use std::alloc::{AllocError, Global};
 use world_search::{Bounds, Landing, Unwatched, Watcher, search, search_watched};
@@ -184,7 +184,7 @@ fn told(
     ensures single { AreSingle worlds.now.faults }
 {
     // No fault was kept twice.
-    let _ = worlds.many_faults();
+    facts_of(worlds.many_faults());
     let mut answers = Vec::new(alloc);
     for it in found {
         answers.push(answer(worlds, it)?)?;

@@ -1,8 +1,8 @@
 -- A term as a word and its parts: where a part stands in the expansion, and what is made of the expanded parts.
 use Rattle.std.specs.Prelude.{ℕ, ◌+◌, ◌<◌, ◌^◌, pos, List, [], ◌∷◌, ◌++◌, map}
 use Rattle.effect_term.specs.ExpansionSize.{expansion_size_of, total_expansion_size}
-use Rattle.derived_ops.specs.declared.shape.Atom.{Atom}
-use Rattle.derived_ops.specs.declared.shape.Atom.TheVariants as atom
+use Rattle.derived_ops.specs.declared.shape.Bare.{Bare}
+use Rattle.derived_ops.specs.declared.shape.Bare.TheVariants as bare
 use Rattle.derived_ops.specs.declared.shape.End.{End}
 use Rattle.derived_ops.specs.declared.shape.End.TheVariants as end
 use Rattle.derived_ops.specs.declared.shape.Ends.{Ends}
@@ -50,11 +50,11 @@ end_tree m d (end.Part p) = part_tree m d p
 end_tree m d (end.Done c z) = Act (Complete (Open_slot c) (Number (pos z)))
 
 -- what a word that binds the slot s is with its parts expanded
-abbrev pub tree_of_atom : Atom → Tree
-tree_of_atom (atom.Pure v) = Pure (value_in_core v)
-tree_of_atom (atom.Raise v) = Raise (value_in_core v)
-tree_of_atom (atom.Act a) = Act (action_in_core a)
-tree_of_atom (atom.Cancel f) = Cancel (Open_slot f)
+abbrev pub tree_of_bare : Bare → Tree
+tree_of_bare (bare.Pure v) = Pure (value_in_core v)
+tree_of_bare (bare.Raise v) = Raise (value_in_core v)
+tree_of_bare (bare.Act a) = Act (action_in_core a)
+tree_of_bare (bare.Cancel f) = Cancel (Open_slot f)
 
 abbrev pub tree_of_one : ℕ → One → Tree → Tree
 tree_of_one s one.Masked e = Uncancelable s e
@@ -71,7 +71,7 @@ tree_of_two s two.Start e k = Start s e k
 
 -- what a term below d binders is by its word and parts
 abbrev pub tree_of_shape : List ℕ → ℕ → Shape → Tree
-tree_of_shape m d (shape.Atom w) = tree_of_atom w
+tree_of_shape m d (shape.Bare w) = tree_of_bare w
 tree_of_shape m d (shape.One w a) = tree_of_one d w (part_tree m d a)
 tree_of_shape m d (shape.Two w a b) = tree_of_two d w (part_tree m d a) (part_tree m d b)
 tree_of_shape m d (shape.Seq a b more) =
@@ -113,7 +113,7 @@ EndsFit d ends = EndFits d ends.on_cancel × (EndFits d ends.on_error × EndFits
 -- the parts of a term of n words below d binders have fewer words together, and no slot of it is past what can be
 -- counted
 abbrev pub PartsFit : ℕ → ℕ → Shape → Type 0
-PartsFit n d (shape.Atom w) = Unit {0}
+PartsFit n d (shape.Bare w) = Unit {0}
 PartsFit n d (shape.One w a) = (size_at a < n) × Fits d a
 PartsFit n d (shape.Two w a b) = (size_at a + size_at b < n) × (Fits d a × Fits d b)
 PartsFit n d (shape.Seq a b more) =
