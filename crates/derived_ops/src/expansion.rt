@@ -20,7 +20,7 @@ use crate::closing::Closing;
 use crate::core_term::{Action, BracketMark, Maker, Operand};
 use crate::core_word::{CoreWord, Rest};
 use crate::shape::{
-    End, Ends, Part, Shape, Two, bind, shape, word_of_bare, word_of_one, word_of_two,
+    End, Ends, Part, Shape, Two, bind, shape_of, word_of_bare, word_of_one, word_of_two,
 };
 use crate::writer::Writer;
 use effect_term::{Term, Value};
@@ -72,7 +72,7 @@ impl Expansion {
             before (expansion self.old.slots.items depth (source_of term.now)) self.old.words) }
         ensures slots { OnOk result (self.new.slots.items ≡ self.old.slots.items) }
     {
-        match shape(&self.slots, term, depth) {
+        match shape_of(&self.slots, term, depth) {
             Shape::Bare(bare) => self.words.put(word_of_bare(bare)),
             Shape::One(word, a) => {
                 self.placed(a, depth)?;

@@ -189,7 +189,7 @@ fn value(slots: &[u32], operand: effect_term::Operand) -> Operand
 }
 
 /// The word of a term below so many binders, and its parts. These are the slots of the binders around it.
-pub(crate) fn shape<'a>(slots: &[u32], term: &'a Term, depth: u32) -> Shape<'a>
+pub(crate) fn shape_of<'a>(slots: &[u32], term: &'a Term, depth: u32) -> Shape<'a>
     requires { depth + expansion_size_of term.now < 2 ^ 32 }
     ensures tree { expansion slots.now depth (source_of term.now)
         ≡ tree_of_shape slots.now depth result }

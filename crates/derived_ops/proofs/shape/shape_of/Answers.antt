@@ -1,7 +1,7 @@
 use Rattle.std.proofs.Common.{rules}
 use Rattle.effect_term.specs.declared.term.Term.TheViews.{the_lemmas}
 use Rattle.derived_ops.proofs.Rows.{expansion_in_order, expansion_sizes_of-row, seq_of-row}
-use Rattle.derived_ops.proofs.shape.shape.Goals as goal
+use Rattle.derived_ops.proofs.shape.shape_of.Goals as goal
 
 pub returns-in-Seq-clause-tree : goal.returns-in-Seq-clause-tree
 returns-in-Seq-clause-tree c = search (rules, the_lemmas, seq_of-row, expansion_in_order)
