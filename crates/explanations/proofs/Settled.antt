@@ -11,17 +11,9 @@ use Rattle.cell_registry.specs.declared.limits.RunError.{RunError}
 use Rattle.cell_registry.specs.declared.limits.RunError.TheVariants as run
 use Rattle.derived_ops.specs.Tree.{Tree}
 use Rattle.outcome_trace.specs.Core.{World, core}
-use Rattle.outcome_trace.specs.Finals.{HasEnded, IsAtRest}
-use Rattle.explanations.specs.declared.why.Why.{Why}
-use Rattle.explanations.specs.declared.why.Why.TheVariants as why
-use Rattle.explanations.specs.Whys.{AreWhyLines, IsUnendedText, IsWhy, fault, is_settled, why_line}
-
-pub settled_why : (s : Cells) (n : ℕ) (g : Fiber) (y : Why) → IsWhy s n g y → is_settled y ≡ true → HasEnded g ⊎ IsAtRest s n g
-settled_why s n g why.Ended h e = inl h
-settled_why s n g (why.WaitsForEnd f) h e = inr h.0
-settled_why s n g (why.WaitsForDeferred d) h e = inr h.0
-settled_why s n g why.WaitsWithoutEnd h e = inr h
-settled_why s n g why.CouldGoOn h e = absurd (cc)
+use Rattle.outcome_trace.specs.Whys.{IsWhy}
+use Rattle.outcome_trace.specs.declared.why.Why.{Why}
+use Rattle.explanations.specs.Whys.{AreWhyLines, IsUnendedText, fault, why_line}
 
 -- with the lines of the fibers from this one on behind them, they are those of all
 abbrev pub AreFront : Bool → Cells → List Fiber → ℕ → List ℕ → Type 0

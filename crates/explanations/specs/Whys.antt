@@ -1,35 +1,17 @@
 -- Why fibers haven't ended in a world.
-use Rattle.std.specs.Prelude.{◌≡◌, ◌+◌, ℕ, Bool, true, false, List, [], ◌∷◌, ◌++◌, codes, Ok, Err, None, if◌then◌else◌}
+use Rattle.std.specs.Prelude.{◌≡◌, ◌+◌, ℕ, Bool, true, false, List, [], ◌∷◌, ◌++◌, codes, Ok, Err, if◌then◌else◌}
 use Rattle.std.specs.Fmt.{decimal}
-use Rattle.cell_registry.specs.declared.call.Call.TheVariants as call
 use Rattle.cell_registry.specs.declared.limits.Limits.{Limits}
 use Rattle.cell_registry.specs.declared.limits.RunError.{RunError}
 use Rattle.cell_registry.specs.Cells.{Cells}
 use Rattle.derived_ops.specs.Tree.{Tree}
-use Rattle.fiber_frames.specs.Fiber.{Fiber, outcome_of}
-use Rattle.outcome_trace.specs.declared.wish.Wish.TheVariants.{Shared}
+use Rattle.fiber_frames.specs.Fiber.{Fiber}
 use Rattle.outcome_trace.specs.Core.{World, core}
-use Rattle.outcome_trace.specs.Finals.{HasEnded, IsAtRest, IsFinal, word_wish}
-use Rattle.explanations.specs.declared.why.Why.{Why}
-use Rattle.explanations.specs.declared.why.Why.TheVariants.{Ended, WaitsForEnd, WaitsForDeferred, WaitsWithoutEnd}
-use Rattle.explanations.specs.declared.why.Why.TheVariants.{CouldGoOn}
-
--- It is so of fiber n, which is in state g beside these cells. Who is said to wait rests at that wait: nothing there
--- serves it, and no request for its cancellation reaches it.
-abbrev pub IsWhy : Cells → ℕ → Fiber → Why → Type 0
-IsWhy s n g Ended = HasEnded g
-IsWhy s n g (WaitsForEnd f) = IsAtRest s n g × (word_wish g ≡ Shared (call.Join f))
-IsWhy s n g (WaitsForDeferred d) = IsAtRest s n g × (word_wish g ≡ Shared (call.Read d))
-IsWhy s n g WaitsWithoutEnd = IsAtRest s n g
-IsWhy s n g CouldGoOn = outcome_of g ≡ None
-
--- whether a fiber has ended, or waits for what isn't there
-abbrev pub is_settled : Why → Bool
-is_settled Ended = true
-is_settled (WaitsForEnd f) = true
-is_settled (WaitsForDeferred d) = true
-is_settled WaitsWithoutEnd = true
-is_settled CouldGoOn = false
+use Rattle.outcome_trace.specs.Finals.{IsFinal}
+use Rattle.outcome_trace.specs.Whys.{IsWhy}
+use Rattle.outcome_trace.specs.declared.why.Why.{Why}
+use Rattle.outcome_trace.specs.declared.why.Why.TheVariants.{Ended, WaitsForEnd, WaitsForDeferred, WaitsWithoutEnd}
+use Rattle.outcome_trace.specs.declared.why.Why.TheVariants.{CouldGoOn}
 
 -- what is said of a deferred that is waited for: that nobody completes it, where the world is final
 abbrev pub uncompleted : Bool → List ℕ

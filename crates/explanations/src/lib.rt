@@ -19,10 +19,8 @@ mod shown;
 mod text_reasons;
 mod unended;
 mod wanting;
-mod why;
 
 pub use explained::{Reasons, obey_explained, tell_reasons};
 pub use place::{Position, position_at};
 pub use schedules::explain_schedule;
 pub use text_reasons::{ReplayReasons, TextReasons};
-pub use why::{Why, why_of};

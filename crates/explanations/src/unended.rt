@@ -6,14 +6,13 @@ ghost use Rattle.derived_ops.specs.Expansion.{code_of};
 ghost use Rattle.derived_ops.specs.Reading.{source_of};
 ghost use Rattle.outcome_trace.specs.Finals.{IsFinal};
 ghost use Rattle.outcome_trace.specs.Fitting.{AllFit, world_of};
-ghost use Rattle.explanations.specs.Whys.{AreWhyLines, IsUnendedText, is_settled, uncompleted, why_line};
+ghost use Rattle.explanations.specs.Whys.{AreWhyLines, IsUnendedText, uncompleted, why_line};
 
-use crate::why::{Why, why_of};
 use cell_registry::{Limits, PlainRegistry, RunError};
 use effect_term::Program;
 use fiber_frames::Config;
 use itoa::Buffer;
-use outcome_trace::{enter_all, first_fibers};
+use outcome_trace::{Why, enter_all, first_fibers, is_done, why_of};
 use std::alloc::{AllocError, Global};
 
 /// A line for each fiber of a program that hasn't ended under a schedule, which says why. Nothing where the schedule
@@ -76,21 +75,11 @@ fn is_final(fibers: &[Config], registry: &PlainRegistry) -> bool
     ensures { result ≡ true → IsFinal (world_of fibers.now registry.now.state) }
 {
     for config in fibers {
-        if !is_settled(why_of(config, registry)) {
+        if !is_done(config, registry) {
             return false;
         }
     }
     true
-}
-
-// Whether a fiber has ended, or waits for what isn't there.
-fn is_settled(why: Why) -> bool
-    ensures { result ≡ is_settled why }
-{
-    match why {
-        Why::CouldGoOn => false,
-        _ => true,
-    }
 }
 
 // What is told of a fiber.

@@ -10,3 +10,4 @@ pub mod Private
 pub mod Stands
 pub mod Finals
 pub mod Covers
+pub mod Whys

@@ -1,19 +1,18 @@
 //! How the fibers of a run go on until none can.
-ghost use Rattle.std.specs.Prelude.{IfErr, IfNone, IfOk, IfSome, OnOk, ◌≡◌, ◌≢◌, ◌⊎◌, ◌<◌, ◌++◌, ◌∷◌, ℕ};
+ghost use Rattle.std.specs.Prelude.{IfErr, IfNone, IfOk, IfSome, OnOk, ◌≡◌, ◌⊎◌, ◌<◌, ◌++◌, ◌∷◌, ℕ};
 ghost use Rattle.std.specs.Prelude.{Err as Fails, None as Nobody, Ok as GoesWell, Some as Somebody};
 ghost use Rattle.std.specs.Prelude.{[], true, false, get_or};
-ghost use Rattle.fiber_frames.specs.Fiber.{active_of, outcome_of};
-ghost use Rattle.cell_registry.specs.Cells.{cell_of};
+ghost use Rattle.fiber_frames.specs.Fiber.{outcome_of};
 ghost use Rattle.outcome_trace.specs.Core.{entered};
 ghost use Rattle.outcome_trace.specs.Finals.{GoesOn, HasEnded, IsAtRest, IsFinal, IsStopped, StopsAt};
 ghost use Rattle.outcome_trace.specs.Fitting.{AllFit, Fits, cell_registered, world_of};
 ghost use Rattle.outcome_trace.specs.Private.Settling.{IsUnended, moves_left};
 
-use crate::reports::outcome;
 use crate::scheduled::enter;
+use crate::why::{Why, why_of};
 use cell_registry::{PlainRegistry, RunError};
 use effect_term::facts_of;
-use fiber_frames::{Ask, Config};
+use fiber_frames::Config;
 use std::alloc::AllocError;
 
 /// What fibers came to that went on until none could.
@@ -192,47 +191,8 @@ pub fn is_done(config: &Config, registry: &PlainRegistry) -> bool
     ensures done { result ≡ true → HasEnded config.now ⊎ IsAtRest registry.now.state config.now.number config.now }
     ensures unended { result ≡ false → outcome_of config.now ≡ Nobody }
 {
-    // The registry is within its limits.
-    facts_of(registry.limits());
-    if outcome(config).is_some() {
-        return true;
+    match why_of(config, registry) {
+        Why::Ended | Why::WaitsForEnd(_) | Why::WaitsForDeferred(_) | Why::WaitsWithoutEnd => true,
+        Why::CouldGoOn => false,
     }
-    if !is_unasked(config, registry) {
-        return false;
-    }
-    match config.word_ask() {
-        Ask::Join(fiber) => !registry.has_ended(fiber),
-        Ask::Read(number) => registry.is_empty(number),
-        Ask::Look
-        | Ask::Cut
-        | Ask::Mask
-        | Ask::Unmask
-        | Ask::Finish(_)
-        | Ask::Cancel(_)
-        | Ask::Start
-        | Ask::NewRef
-        | Ask::Get(_)
-        | Ask::Set(_, _)
-        | Ask::Modify(_, _)
-        | Ask::NewDeferred
-        | Ask::Complete(_, _)
-        | Ask::Silent
-        | Ask::Over(_)
-        | Ask::Broken => config.is_never(),
-    }
-}
-
-/// Whether no request for its cancellation reaches the fiber where it is: a mask is active, or none was made. It makes
-/// no call.
-pub fn is_unasked(config: &Config, registry: &PlainRegistry) -> bool
-    requires { Fits (cell_registered registry.now.state config.now.number) config.now }
-    ensures { result ≡ true → (active_of config.now ≢ []) ⊎
-        ((cell_of registry.now.state config.now.number).request ≡ false) }
-{
-    // The registry is within its limits.
-    facts_of(registry.limits());
-    if config.is_masked() {
-        return true;
-    }
-    !registry.is_requested(config.number())
 }

@@ -32,11 +32,12 @@ mod report_text;
 mod reports;
 mod same_ends;
 mod scheduled;
+mod why;
 mod wish;
 
 pub use answers::{CheckOrder, ShowOrder, read_program, refusal};
 pub use cell_registry::Limits;
-pub use finals::{EntryLog, NoEntries, Settled, is_done, is_unasked, settle, settle_noted};
+pub use finals::{EntryLog, NoEntries, Settled, is_done, settle, settle_noted};
 pub use lines::{Refused, line};
 pub use orders::{Order, obey};
 pub use replay_texts::{ReplayOrder, replay_text, report_answer, report_status};
@@ -50,4 +51,5 @@ pub use text_io::{
     TextFault, TextIn, TextOrder, TextOut, ToWrite, WriteFailed, answer_text, obey_text,
     read_schedule, read_text, schedule_text, tell_fault, write_text,
 };
+pub use why::{Why, why_of};
 pub use wish::Wish;

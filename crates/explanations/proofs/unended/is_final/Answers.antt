@@ -5,11 +5,10 @@ use Rattle.std.proofs.lemmas.Option.{gets}
 use Rattle.outcome_trace.specs.Finals.{HasEnded, IsAtRest}
 use Rattle.outcome_trace.specs.Fitting.{Fits, cell_registered}
 use Rattle.outcome_trace.proofs.Settling.{below_length, one_settled}
-use Rattle.explanations.proofs.Settled.{settled_why}
 use Rattle.explanations.proofs.unended.is_final.Goals as goal
 
-pub why_of-requires : goal.why_of-requires
-why_of-requires c =
+pub is_done-requires : goal.is_done-requires
+is_done-requires c =
     let at : slice_get c.args.fibers.now c.loop-config.config-index ≡ Some c.config-item.result = grind (arith, common_steps, gets) in
     let fits = c.requires.each c.loop-config.config-index c.config-item.result at in
     subst (λ (n : ℕ). Fits (cell_registered c.args.registry.now.state n) c.config-item.result) (sym fits.number) fits
@@ -22,7 +21,7 @@ loop-config-preserved c =
     let number = (c.requires.each c.loop-config.config-index g at).number in
     one_settled (λ f x. HasEnded x ⊎ IsAtRest s f x) c.args.fibers.now c.loop-config.config-index g c.loop-config.invariant at
     (subst (λ n. HasEnded g ⊎ IsAtRest s n g) number
-    (settled_why s g.number g c.why_of.result c.why_of.ensures (sym c.is_settled.ensures ∙ c.if-not-is_settled.false)))
+    (c.is_done.ensures.done c.if-not-is_done.false))
 
 pub returns : goal.returns
 returns c = λ e f g at.

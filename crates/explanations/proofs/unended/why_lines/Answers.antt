@@ -3,7 +3,8 @@ use Rattle.std.specs.List.{slice_get}
 use Rattle.std.proofs.lemmas.Grind.{common_steps}
 use Rattle.std.proofs.lemmas.Option.{gets}
 use Rattle.outcome_trace.specs.Fitting.{Fits, cell_registered}
-use Rattle.explanations.specs.Whys.{IsWhy, why_line}
+use Rattle.explanations.specs.Whys.{why_line}
+use Rattle.outcome_trace.specs.Whys.{IsWhy}
 use Rattle.explanations.proofs.Settled.{all_told, told_more}
 use Rattle.explanations.proofs.unended.why_lines.Goals as goal
 

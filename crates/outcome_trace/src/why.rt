@@ -1,12 +1,15 @@
 //! Why a fiber hasn't ended.
 
+ghost use Rattle.std.specs.Prelude.{◌≡◌, ◌≢◌, ◌⊎◌, [], false, true};
+ghost use Rattle.cell_registry.specs.Cells.{cell_of};
+ghost use Rattle.fiber_frames.specs.Fiber.{active_of};
 ghost use Rattle.outcome_trace.specs.Fitting.{Fits, cell_registered};
-ghost use Rattle.explanations.specs.Whys.{IsWhy};
+ghost use Rattle.outcome_trace.specs.Whys.{IsWhy};
 
+use crate::reports::outcome;
 use cell_registry::PlainRegistry;
 use effect_term::facts_of;
 use fiber_frames::{Ask, Config};
-use outcome_trace::{is_unasked, outcome};
 
 /// Why a fiber hasn't ended, or that it has.
 #[derive(Clone, Copy)]
@@ -75,4 +78,19 @@ pub fn why_of(config: &Config, registry: &PlainRegistry) -> Why
             }
         }
     }
+}
+
+// Whether no request for its cancellation reaches the fiber where it is: a mask is active, or none was made. It makes
+// no call.
+fn is_unasked(config: &Config, registry: &PlainRegistry) -> bool
+    requires { Fits (cell_registered registry.now.state config.now.number) config.now }
+    ensures { result ≡ true → (active_of config.now ≢ []) ⊎
+        ((cell_of registry.now.state config.now.number).request ≡ false) }
+{
+    // The registry is within its limits.
+    facts_of(registry.limits());
+    if config.is_masked() {
+        return true;
+    }
+    !registry.is_requested(config.number())
 }

@@ -4,7 +4,7 @@ use Rattle.fiber_frames.specs.Naming.{AskNamed}
 use Rattle.outcome_trace.specs.Core.{wish_of}
 use Rattle.outcome_trace.specs.Fitting.{given_by}
 use Rattle.outcome_trace.proofs.Settling.{at_rest, some_is, waits_join, waits_read, word_named}
-use Rattle.explanations.proofs.why.why_of.Goals as goal
+use Rattle.outcome_trace.proofs.why.why_of.Goals as goal
 
 pub has_ended-requires : goal.has_ended-requires
 has_ended-requires c =
