@@ -1,9 +1,9 @@
-use Rattle.std.proofs.Common.{◌≡◌, ◌<◌, ◌∙◌, ◌+◌, ◌-◌, ◌∷◌, List, ℕ, suc, length, drop, map, ap, rules, arith}
+use Rattle.std.proofs.Common.{◌≡◌, ◌<◌, ◌∙◌, ◌+◌, ◌-◌, ◌∷◌, List, ℕ, suc, length, drop, map, ap, subst, sym, rules, arith}
 use Rattle.std.proofs.lemmas.Result.{on_ok_weaker}
 use Rattle.effect_term.specs.declared.term.Term.{Term}
 use Rattle.derived_ops.specs.declared.core_word.CoreWord.TheVariants as word
 use Rattle.derived_ops.specs.declared.core_term.Maker.TheVariants as maker
-use Rattle.derived_ops.specs.Expansion.{expansion, runs_side}
+use Rattle.derived_ops.specs.Expansion.{expansion, race, runs_side}
 use Rattle.derived_ops.specs.Private.Sequences.{rest_before, trees_of}
 use Rattle.derived_ops.specs.Private.Shapes.{part_tree}
 use Rattle.derived_ops.specs.Private.Writing.{before, distance, race_before, size, stored_rest}
@@ -86,3 +86,11 @@ both_raced-returns-clause-words t c =
     (c.in_ok-pair_race.ensures.words ∙
     ap (λ ws. race_before (d + 1) (part_tree slots d c.args.first) (part_tree slots d c.args.second) ws) c.in_ok-both_outcome.ensures))
     c.put.ensures
+
+pub part-returns-in-Race-clause-words : goal.part-returns-in-Race-clause-words
+part-returns-in-Race-clause-words t c =
+    let d = c.args.depth in
+    let s = source_of c.args.term.now in
+    let raced = λ (m : List ℕ). race d (part_tree m d c.in-Race.a) (part_tree m d c.in-Race.b) in
+    let tree = subst (λ m. expansion m d s ≡ raced m) c.deref.ensures.value c.in-Race.ensures.tree in
+    on_ok_weaker c.race.result (λ h. h ∙ ap (λ e. before e c.args.self.now.words) (sym tree)) c.race.ensures.words
