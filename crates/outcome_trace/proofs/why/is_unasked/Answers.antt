@@ -1,7 +1,7 @@
 use Rattle.std.proofs.Common.{inl, inr, ◌∙◌, sym, ap, arith}
 use Rattle.cell_registry.specs.Cells.{cell_of}
 use Rattle.outcome_trace.proofs.Settling.{not_true}
-use Rattle.outcome_trace.proofs.finals.is_unasked.Goals as goal
+use Rattle.outcome_trace.proofs.why.is_unasked.Goals as goal
 
 pub is_requested-requires : goal.is_requested-requires
 is_requested-requires c =
