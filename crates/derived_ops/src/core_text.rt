@@ -6,7 +6,7 @@ ghost use Rattle.std.specs.Fmt.{decimal};
 ghost use Rattle.derived_ops.specs.Cores.{action_in_core, bracket_mark_of, maker_in_core, turns_in_core};
 ghost use Rattle.derived_ops.specs.Cores.{value_in_core};
 ghost use Rattle.derived_ops.specs.CoreText.{action_text, core_text, form, mark_text, poll_text, text_in, value_text};
-ghost use Rattle.derived_ops.specs.Private.Heads.{further, head_text, maker_text, turns_text};
+ghost use Rattle.derived_ops.specs.Private.Heads.{further, maker_text, turns_text};
 ghost use Rattle.derived_ops.specs.Words.{rest_of, second, third, tree_at, word_at, word_tree};
 ghost use Rattle.derived_ops.specs.declared.core_word.CoreWord.TheVariants as word;
 ghost use Rattle.derived_ops.specs.declared.core_word.Rest.TheVariants as rest;
@@ -18,14 +18,6 @@ use crate::core_word::{CoreWord, Rest};
 use effect_term::facts_of;
 use itoa::Buffer;
 use std::alloc::{AllocError, Global};
-
-/// What a form has behind its first text, before its parts: a slot, a value, or neither.
-#[derive(Clone, Copy)]
-enum Tail {
-    Plain,
-    Named(usize),
-    Valued(Operand),
-}
 
 // Writes the number of a slot, most of which have one digit.
 #[inline(always)]
@@ -40,10 +32,21 @@ fn push_slot(text: &mut Vec<u8>, slot: usize) -> Result<(), AllocError>
     text.extend_from_slice(buffer.format(slot).as_bytes())
 }
 
-#[inline(always)]
-fn push_value(text: &mut Vec<u8>, value: Operand) -> Result<(), AllocError>
-    ensures { OnOk result (text.new.items ≡ text.old.items ++ value_text (value_in_core value)) }
+// Writes a text and the number of a slot.
+#[inline(never)]
+fn push_named(text: &mut Vec<u8>, front: &[u8], slot: usize) -> Result<(), AllocError>
+    ensures { OnOk result (text.new.items ≡ text.old.items ++ (front.now ++ decimal slot)) }
 {
+    text.extend_from_slice(front)?;
+    push_slot(text, slot)
+}
+
+// Writes a text and a value.
+#[inline(never)]
+fn push_valued(text: &mut Vec<u8>, front: &[u8], value: &Operand) -> Result<(), AllocError>
+    ensures { OnOk result (text.new.items ≡ text.old.items ++ (front.now ++ value_text (value_in_core value.now))) }
+{
+    text.extend_from_slice(front)?;
     match value {
         Operand::Number(number) => {
             let mut buffer = Buffer::new();
@@ -51,148 +54,101 @@ fn push_value(text: &mut Vec<u8>, value: Operand) -> Result<(), AllocError>
         }
         Operand::Slot(slot) => {
             text.push(b'v')?;
-            push_slot(text, slot as usize)
+            push_slot(text, *slot as usize)
         }
     }
 }
 
+// Writes the end of a form.
 #[inline(always)]
-fn push_head(text: &mut Vec<u8>, front: &[u8], tail: Tail) -> Result<(), AllocError>
-    ensures { OnOk result (text.new.items ≡ text.old.items ++ head_text front.now tail) }
+fn close(text: &mut Vec<u8>) -> Result<(), AllocError>
+    ensures { OnOk result (text.new.items ≡ text.old.items ++ codes ")") }
 {
-    text.extend_from_slice(front)?;
-    match tail {
-        Tail::Plain => Ok(()),
-        Tail::Named(slot) => push_slot(text, slot),
-        Tail::Valued(value) => push_value(text, value),
-    }
-}
-
-// Writes a form that has no parts behind its head.
-#[inline(always)]
-fn push_word(text: &mut Vec<u8>, front: &[u8], tail: Tail) -> Result<(), AllocError>
-    ensures { OnOk result (text.new.items ≡ text.old.items ++ (head_text front.now tail ++ codes ")")) }
-{
-    push_head(text, front, tail)?;
     text.push(b')')?;
     Ok(())
 }
 
-// Writes a form that has a value behind its head, and no parts.
-fn push_valued(
-    text: &mut Vec<u8>,
-    front: &[u8],
-    tail: Tail,
-    value: Operand,
-) -> Result<(), AllocError>
-    ensures { OnOk result (text.new.items ≡ text.old.items ++
-        (head_text front.now tail ++ (codes " " ++ (value_text (value_in_core value) ++ codes ")")))) }
+// Writes a form that has a slot behind its text, and no parts.
+fn push_named_word(text: &mut Vec<u8>, front: &[u8], slot: u32) -> Result<(), AllocError>
+    ensures { OnOk result (text.new.items ≡ text.old.items ++ (front.now ++ (decimal slot ++ codes ")"))) }
 {
-    push_head(text, front, tail)?;
-    push_word(text, b" ", Tail::Valued(value))
+    push_named(text, front, slot as usize)?;
+    close(text)
 }
 
-fn push_action(text: &mut Vec<u8>, action: Action) -> Result<(), AllocError>
-    ensures { OnOk result (text.new.items ≡ text.old.items ++ action_text (action_in_core action)) }
+// Writes a form that has a value behind its text, and no parts.
+fn push_valued_word(text: &mut Vec<u8>, front: &[u8], value: &Operand) -> Result<(), AllocError>
+    ensures { OnOk result (text.new.items ≡ text.old.items ++
+        (front.now ++ (value_text (value_in_core value.now) ++ codes ")"))) }
+{
+    push_valued(text, front, value)?;
+    close(text)
+}
+
+// Writes a form that has a slot and a value behind its text, and no parts.
+fn push_both(text: &mut Vec<u8>, front: &[u8], slot: u32, value: &Operand) -> Result<(), AllocError>
+    ensures { OnOk result (text.new.items ≡ text.old.items ++
+        (front.now ++ (decimal slot ++ (codes " " ++ (value_text (value_in_core value.now) ++ codes ")"))))) }
+{
+    push_named(text, front, slot as usize)?;
+    push_valued_word(text, b" ", value)
+}
+
+#[inline(never)]
+fn push_action(text: &mut Vec<u8>, action: &Action) -> Result<(), AllocError>
+    ensures { OnOk result (text.new.items ≡ text.old.items ++ action_text (action_in_core action.now)) }
 {
     match action {
-        Action::Add(v, w) => push_valued(text, b"(add ", Tail::Valued(v), w),
-        Action::Say(v) => push_word(text, b"(say ", Tail::Valued(v)),
+        Action::Add(v, w) => {
+            push_valued(text, b"(add ", v)?;
+            push_valued_word(text, b" ", w)
+        }
+        Action::Say(v) => push_valued_word(text, b"(say ", v),
         Action::Cede => text.extend_from_slice(b"(cede)"),
         Action::Never => text.extend_from_slice(b"(never)"),
         Action::Canceled => text.extend_from_slice(b"(canceled)"),
-        Action::Get(slot) => push_word(text, b"(get r", Tail::Named(slot as usize)),
-        Action::Set(slot, v) => push_valued(text, b"(set r", Tail::Named(slot as usize), v),
-        Action::Modify(slot, v) => push_valued(text, b"(modify r", Tail::Named(slot as usize), v),
-        Action::Complete(slot, v) => push_valued(
-            text,
-            b"(complete d",
-            Tail::Named(slot as usize),
-            v,
-        ),
-        Action::Await(slot) => push_word(text, b"(await d", Tail::Named(slot as usize)),
+        Action::Get(slot) => push_named_word(text, b"(get r", *slot),
+        Action::Set(slot, v) => push_both(text, b"(set r", *slot, v),
+        Action::Modify(slot, v) => push_both(text, b"(modify r", *slot, v),
+        Action::Complete(slot, v) => push_both(text, b"(complete d", *slot, v),
+        Action::Await(slot) => push_named_word(text, b"(await d", *slot),
     }
 }
 
+#[inline(never)]
 fn push_mark(text: &mut Vec<u8>, mark: BracketMark, poll: u32) -> Result<(), AllocError>
     ensures { OnOk result (text.new.items ≡ text.old.items ++ form (mark_text (bracket_mark_of mark) ∷
         poll_text (tree.Named poll) ∷ [])) }
 {
     match mark {
-        BracketMark::Acquired => push_word(text, b"(acquired p", Tail::Named(poll as usize)),
-        BracketMark::Releasing => push_word(text, b"(releasing p", Tail::Named(poll as usize)),
-        BracketMark::Released => push_word(text, b"(released p", Tail::Named(poll as usize)),
+        BracketMark::Acquired => push_named_word(text, b"(acquired p", poll),
+        BracketMark::Releasing => push_named_word(text, b"(releasing p", poll),
+        BracketMark::Released => push_named_word(text, b"(released p", poll),
     }
 }
 
 // Writes what stands before the part of a term that makes a cell.
-fn push_maker(text: &mut Vec<u8>, maker: Maker, slot: usize) -> Result<(), AllocError>
-    ensures { OnOk result (text.new.items ≡ text.old.items ++ maker_text (maker_in_core maker) slot) }
+#[inline(never)]
+fn push_maker(text: &mut Vec<u8>, maker: &Maker, slot: usize) -> Result<(), AllocError>
+    ensures { OnOk result (text.new.items ≡ text.old.items ++ maker_text (maker_in_core maker.now) slot) }
 {
     match maker {
         Maker::Ref(value) => {
-            push_head(text, b"(ref r", Tail::Named(slot))?;
-            push_head(text, b" ", Tail::Valued(value))
+            push_named(text, b"(ref r", slot)?;
+            push_valued(text, b" ", value)
         }
-        Maker::Deferred => push_head(text, b"(deferred d", Tail::Named(slot)),
+        Maker::Deferred => push_named(text, b"(deferred d", slot),
     }
 }
 
 // Writes what stands before the part of a loop.
-fn push_turns(text: &mut Vec<u8>, turns: Turns) -> Result<(), AllocError>
-    ensures { OnOk result (text.new.items ≡ text.old.items ++ turns_text (turns_in_core turns)) }
+#[inline(never)]
+fn push_turns(text: &mut Vec<u8>, turns: &Turns) -> Result<(), AllocError>
+    ensures { OnOk result (text.new.items ≡ text.old.items ++ turns_text (turns_in_core turns.now)) }
 {
     match turns {
-        Turns::Times(value) => push_head(text, b"(repeat ", Tail::Valued(value)),
-        Turns::Always => push_head(text, b"(forever", Tail::Plain),
-    }
-}
-
-// Where a term stands among the words of a code, and how many binders are around it.
-#[derive(Clone, Copy)]
-struct Spot {
-    index: usize,
-    depth: usize,
-}
-
-impl Spot {
-    // The first part of the word here.
-    #[inline(always)]
-    fn part(self) -> Spot
-        requires { self.index < 2 ^ 63 }
-        ensures index { result.index ≡ self.index + 1 }
-        ensures depth { result.depth ≡ self.depth }
-    {
-        Spot {
-            index: self.index + 1,
-            depth: self.depth,
-        }
-    }
-
-    // A further part of the word here, which stands so far behind the first one.
-    #[inline(always)]
-    fn next(self, distance: u32) -> Spot
-        requires { self.index < 2 ^ 63 }
-        ensures index { result.index ≡ self.index + 1 + distance }
-        ensures depth { result.depth ≡ self.depth }
-    {
-        Spot {
-            index: self.index + 1 + distance as usize,
-            depth: self.depth,
-        }
-    }
-
-    // The same part below one more binder.
-    #[inline(always)]
-    fn bound(self) -> Spot
-        requires { self.depth < 2 ^ 63 }
-        ensures index { result.index ≡ self.index }
-        ensures depth { result.depth ≡ self.depth + 1 }
-    {
-        Spot {
-            index: self.index,
-            depth: self.depth + 1,
-        }
+        Turns::Times(value) => push_valued(text, b"(repeat ", value),
+        Turns::Always => text.extend_from_slice(b"(forever"),
     }
 }
 
@@ -237,197 +193,165 @@ fn further_at(words: &[CoreWord], left: Rest, index: usize) -> Option<(Rest, u32
     further(left, &words[index])
 }
 
-// Writes the term at a place among the words of a code. Past the end nothing goes on.
+// Writes the term at a place among the words of a code, below so many binders. Past the end nothing goes on.
+//
+// A term of a text may have hundreds of terms below one another in its code. So what is written apart from these is not
+// inlined here, and none of it takes room on the stack below them.
 #[cycle(printing)]
-fn push_term(text: &mut Vec<u8>, words: &[CoreWord], spot: Spot) -> Result<(), AllocError>
-    requires { spot.depth ≤ spot.index }
-    ensures { OnOk result (text.new.items ≡ text.old.items ++ core_text (tree_at words.now spot.index spot.depth)) }
+fn push_term(
+    text: &mut Vec<u8>,
+    words: &[CoreWord],
+    index: usize,
+    depth: usize,
+) -> Result<(), AllocError>
+    requires { depth ≤ index }
+    ensures { OnOk result (text.new.items ≡ text.old.items ++ core_text (tree_at words.now index depth)) }
 {
-    if spot.index >= words.len() {
+    if index >= words.len() {
         return text.extend_from_slice(b"(never)");
     }
-    push_word_at(text, words, spot, words[spot.index])
+    push_word_at(text, words, index, depth, &words[index])
 }
 
-// Writes the term of a word, whose parts stand behind this place.
+// Writes the term of a word at a place, whose parts stand behind it.
 #[cycle(printing)]
 #[tactic(auto, using(crate::proofs::Texts::looped_written))]
 fn push_word_at(
     text: &mut Vec<u8>,
     words: &[CoreWord],
-    spot: Spot,
-    word: CoreWord,
+    index: usize,
+    depth: usize,
+    word: &CoreWord,
 ) -> Result<(), AllocError>
-    requires inside { spot.index < length words.now }
-    requires depth { spot.depth ≤ spot.index }
-    ensures { OnOk result (text.new.items ≡ text.old.items ++ core_text (word_tree word spot.depth
-        (tree_at words.now (spot.index + 1)) (tree_at words.now (spot.index + 1 + second word))
-        (tree_at words.now (spot.index + 1 + third word)))) }
+    requires inside { index < length words.now }
+    requires depth { depth ≤ index }
+    ensures { OnOk result (text.new.items ≡ text.old.items ++ core_text (word_tree word.now depth
+        (tree_at words.now (index + 1)) (tree_at words.now (index + 1 + second word.now))
+        (tree_at words.now (index + 1 + third word.now)))) }
 {
     // So many words have a next place.
     facts_of(words.len());
-    let part = spot.part();
+    let part = index + 1;
     match word {
-        CoreWord::Pure(v) => push_word(text, b"(pure ", Tail::Valued(v)),
-        CoreWord::Raise(v) => push_word(text, b"(raise ", Tail::Valued(v)),
+        CoreWord::Pure(v) => push_valued_word(text, b"(pure ", v),
+        CoreWord::Raise(v) => push_valued_word(text, b"(raise ", v),
         CoreWord::Act(action) => push_action(text, action),
-        CoreWord::Note(mark, p) => push_mark(text, mark, p),
-        CoreWord::Cancel(f) => push_word(text, b"(cancel f", Tail::Named(f as usize)),
+        CoreWord::Note(mark, p) => push_mark(text, *mark, *p),
+        CoreWord::Cancel(f) => push_named_word(text, b"(cancel f", *f),
         CoreWord::Let(next) => {
-            let next = spot.next(next).bound();
-            push_two(text, b"(let v", Tail::Named(spot.depth), words, part, next)
+            push_named(text, b"(let v", depth)?;
+            push_part(text, words, part, depth)?;
+            push_last(text, words, part + *next as usize, depth + 1)
         }
-        CoreWord::Seq(left, next) => push_sequence(text, words, part, left, spot.next(next)),
+        CoreWord::Seq(left, next) => {
+            push_sequence(text, words, part, *left, part + *next as usize, depth)
+        }
         CoreWord::Handle(next) => {
-            push_part(text, b"(handle", Tail::Plain, words, part)?;
-            let next = spot.next(next).bound();
-            push_one(text, b" v", Tail::Named(spot.depth), words, next)
+            text.extend_from_slice(b"(handle")?;
+            push_part(text, words, part, depth)?;
+            push_named(text, b" v", depth)?;
+            push_last(text, words, part + *next as usize, depth + 1)
         }
         CoreWord::If0(v, next) => {
-            push_two(
-                text,
-                b"(if0 ",
-                Tail::Valued(v),
-                words,
-                part,
-                spot.next(next),
-            )
+            push_valued(text, b"(if0 ", v)?;
+            push_part(text, words, part, depth)?;
+            push_last(text, words, part + *next as usize, depth)
         }
         CoreWord::Join(f, next, last) => {
-            push_head(text, b"(join f", Tail::Named(f as usize))?;
-            push_part(text, b" v", Tail::Named(spot.depth), words, part.bound())?;
-            push_part(
-                text,
-                b" v",
-                Tail::Named(spot.depth),
-                words,
-                spot.next(next).bound(),
-            )?;
-            push_one(text, b"", Tail::Plain, words, spot.next(last))
+            push_named(text, b"(join f", *f as usize)?;
+            push_named(text, b" v", depth)?;
+            push_part(text, words, part, depth + 1)?;
+            push_named(text, b" v", depth)?;
+            push_part(text, words, part + *next as usize, depth + 1)?;
+            push_last(text, words, part + *last as usize, depth)
         }
         CoreWord::Make(maker) => {
-            push_maker(text, maker, spot.depth)?;
-            push_one(text, b"", Tail::Plain, words, part.bound())
+            push_maker(text, maker, depth)?;
+            push_last(text, words, part, depth + 1)
         }
         CoreWord::Start(next) => {
-            let next = spot.next(next).bound();
-            push_two(
-                text,
-                b"(start f",
-                Tail::Named(spot.depth),
-                words,
-                part,
-                next,
-            )
+            push_named(text, b"(start f", depth)?;
+            push_part(text, words, part, depth)?;
+            push_last(text, words, part + *next as usize, depth + 1)
         }
         CoreWord::Loop(turns) => {
             push_turns(text, turns)?;
-            push_one(text, b"", Tail::Plain, words, part)
+            push_last(text, words, part, depth)
         }
         CoreWord::Uncancelable => {
-            push_one(
-                text,
-                b"(uncancelable p",
-                Tail::Named(spot.depth),
-                words,
-                part.bound(),
-            )
+            push_named(text, b"(uncancelable p", depth)?;
+            push_last(text, words, part, depth + 1)
         }
-        CoreWord::Poll(p) => push_one(text, b"(poll p", Tail::Named(p as usize), words, part),
+        CoreWord::Poll(p) => {
+            push_named(text, b"(poll p", *p as usize)?;
+            push_last(text, words, part, depth)
+        }
         CoreWord::OnCancel(next) => {
-            push_two(
-                text,
-                b"(oncancel",
-                Tail::Plain,
-                words,
-                part,
-                spot.next(next),
-            )
+            text.extend_from_slice(b"(oncancel")?;
+            push_part(text, words, part, depth)?;
+            push_last(text, words, part + *next as usize, depth)
         }
     }
 }
 
 // Writes a sequence, of whose first part and of what is left behind it the places are given.
 #[cycle(printing)]
+#[inline(never)]
 fn push_sequence(
     text: &mut Vec<u8>,
     words: &[CoreWord],
-    first: Spot,
+    first: usize,
     left: Rest,
-    second: Spot,
+    second: usize,
+    depth: usize,
 ) -> Result<(), AllocError>
-    requires order { first.index ≤ second.index }
-    requires first { first.depth ≤ first.index }
-    requires second { second.depth ≤ second.index }
+    requires order { first ≤ second }
+    requires depth { depth ≤ first }
     ensures { OnOk result (text.new.items ≡ text.old.items ++ core_text (tree.Seq (rest_of left)
-        (tree_at words.now first.index first.depth) (tree_at words.now second.index second.depth))) }
+        (tree_at words.now first depth) (tree_at words.now second depth))) }
 {
-    push_part(text, b"(seq", Tail::Plain, words, first)?;
+    text.extend_from_slice(b"(seq")?;
+    push_part(text, words, first, depth)?;
     let mut left = left;
-    let mut spot = second;
-    while let Some((rest, next)) = further_at(words, left, spot.index) {
-        push_part(text, b"", Tail::Plain, words, spot.part())?;
+    let mut index = second;
+    while let Some((rest, next)) = further_at(words, left, index) {
+        push_part(text, words, index + 1, depth)?;
         left = rest;
-        spot = spot.next(next);
+        index = index + 1 + next as usize;
     }
-    push_one(text, b"", Tail::Plain, words, spot)
+    push_last(text, words, index, depth)
 }
 
-// Writes a head, and a part behind it.
+// Writes a part of a form behind what stands.
 #[cycle(printing)]
 fn push_part(
     text: &mut Vec<u8>,
-    front: &[u8],
-    tail: Tail,
     words: &[CoreWord],
-    part: Spot,
+    index: usize,
+    depth: usize,
 ) -> Result<(), AllocError>
-    requires { part.depth ≤ part.index }
+    requires { depth ≤ index }
     ensures { OnOk result (text.new.items ≡ text.old.items ++
-        (head_text front.now tail ++ (codes " " ++ core_text (tree_at words.now part.index part.depth)))) }
+        (codes " " ++ core_text (tree_at words.now index depth))) }
 {
-    push_head(text, front, tail)?;
     text.push(b' ')?;
-    push_term(text, words, part)
+    push_term(text, words, index, depth)
 }
 
-// Writes a head and the last part of a form.
+// Writes the last part of a form, and its end.
 #[cycle(printing)]
-fn push_one(
+fn push_last(
     text: &mut Vec<u8>,
-    front: &[u8],
-    tail: Tail,
     words: &[CoreWord],
-    part: Spot,
+    index: usize,
+    depth: usize,
 ) -> Result<(), AllocError>
-    requires { part.depth ≤ part.index }
-    ensures { OnOk result (text.new.items ≡ text.old.items ++ (head_text front.now tail ++
-        (codes " " ++ (core_text (tree_at words.now part.index part.depth) ++ codes ")")))) }
-{
-    push_part(text, front, tail, words, part)?;
-    text.push(b')')?;
-    Ok(())
-}
-
-// Writes a head and the last two parts of a form.
-#[cycle(printing)]
-fn push_two(
-    text: &mut Vec<u8>,
-    front: &[u8],
-    tail: Tail,
-    words: &[CoreWord],
-    first: Spot,
-    last: Spot,
-) -> Result<(), AllocError>
-    requires order { first.index ≤ last.index }
-    requires first { first.depth ≤ first.index }
-    requires last { last.depth ≤ last.index }
+    requires { depth ≤ index }
     ensures { OnOk result (text.new.items ≡ text.old.items ++
-        (head_text front.now tail ++ (codes " " ++ (core_text (tree_at words.now first.index first.depth) ++
-        (codes " " ++ (core_text (tree_at words.now last.index last.depth) ++ codes ")")))))) }
+        (codes " " ++ (core_text (tree_at words.now index depth) ++ codes ")"))) }
 {
-    push_part(text, front, tail, words, first)?;
-    push_one(text, b"", Tail::Plain, words, last)
+    push_part(text, words, index, depth)?;
+    close(text)
 }
 
 /// The text of a code, or `AllocError` where memory is refused.
@@ -439,7 +363,6 @@ pub fn print_core(alloc: Global, code: &Code) -> Result<Vec<u8>, AllocError>
     ensures { IfOk result (λ text. text.items ≡ core_text code.now) }
 {
     let mut text = Vec::new(alloc);
-    let first = Spot { index: 0, depth: 0 };
-    push_term(&mut text, code.words(), first)?;
+    push_term(&mut text, code.words(), 0, 0)?;
     Ok(text)
 }

@@ -1,20 +1,11 @@
 -- What is printed of a form before its parts, and how a sequence goes on.
 use Rattle.std.specs.Prelude.{ℕ, List, ◌++◌, Option, Some, None, codes}
 use Rattle.std.specs.Fmt.{decimal}
-use Rattle.derived_ops.specs.declared.core_text.Tail.{Tail}
-use Rattle.derived_ops.specs.declared.core_text.Tail.TheVariants.{Plain, Named, Valued}
 use Rattle.derived_ops.specs.CoreText.{value_text}
-use Rattle.derived_ops.specs.Cores.{value_in_core}
 use Rattle.derived_ops.specs.declared.core_word.CoreWord.{CoreWord}
 use Rattle.derived_ops.specs.declared.core_word.CoreWord.TheVariants as word
 use Rattle.derived_ops.specs.declared.core_word.Rest as rests
 use Rattle.derived_ops.specs.Tree.{Maker, New_ref, New_deferred, Turns, Times, Always, Rest, More}
-
--- the text, and behind it a slot or a value
-abbrev pub head_text : List ℕ → Tail → List ℕ
-head_text s Plain = s
-head_text s (Named slot) = s ++ decimal slot
-head_text s (Valued v) = s ++ value_text (value_in_core v)
 
 -- what stands before the part that has the cell, and before that of a loop
 abbrev pub maker_text : Maker → ℕ → List ℕ
