@@ -7,8 +7,8 @@ ghost use Rattle.derived_ops.specs.Expansion.{expansion, slot_at, value_in};
 ghost use Rattle.derived_ops.specs.Reading.{source_of, value_of};
 ghost use Rattle.derived_ops.specs.Tree.{Tree};
 ghost use Rattle.derived_ops.specs.declared.core_word.CoreWord.{CoreWord};
-ghost use Rattle.derived_ops.specs.Private.Shapes.{depth_at, slots_at, tree_of_bare, tree_of_one, tree_of_shape, tree_of_two};
-ghost use Rattle.derived_ops.specs.Private.Shapes.{PartsFit};
+ghost use Rattle.derived_ops.specs.Private.Shapes.{depth_at, slots_at, tree_of_bare, tree_of_one, tree_of_shape};
+ghost use Rattle.derived_ops.specs.Private.Shapes.{PartsFit, tree_of_two};
 ghost use Rattle.derived_ops.specs.Private.Writing.{before, distance, size};
 
 use crate::core_term::{Action, Maker, Operand, Turns};

@@ -426,7 +426,8 @@ fn leaves_its_copy(alloc: Global, config: &mut Config) -> Result<bool, AllocErro
 
 // A program of which no move leads to where its fiber was: with a child, cells, masks, handlers and loops.
 const EACH_MOVE: &[u8] =
-    b"(ref r 2 (let x (get r) (uncancelable p (start f (say x) (seq (poll p (oncancel (say 1) (say 2))) (handle (raise 3) e (say e)) (repeat 2 (cede)) (join f y (say y) e (pure 0) (pure 0)))))))";
+    b"(ref r 2 (let x (get r) (uncancelable p (start f (say x) (seq (poll p (oncancel (say 1) (say 2))) \
+      (handle (raise 3) e (say e)) (repeat 2 (cede)) (join f y (say y) e (pure 0) (pure 0)))))))";
 
 // Holds whichever allocation is refused.
 #[test]

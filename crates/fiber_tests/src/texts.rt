@@ -316,8 +316,8 @@ fn some_report(alloc: Global) -> Result<Report, AllocError> {
 
 // Its text.
 const REPORT: &str =
-    "fiber 0 canceled: enter 0, acquired 0, enter 1, in 1, say -4611686018427387904, out 1, leave 18446744073709551615, \
-    cut, releasing 0, dropped 8, released 0\n\
+    "fiber 0 canceled: enter 0, acquired 0, enter 1, in 1, say -4611686018427387904, out 1, leave \
+    18446744073709551615, cut, releasing 0, dropped 8, released 0\n\
     fiber 1 succeeded 7\n\
     fiber 2 errored -1\n\
     fiber 3 unended\n";

@@ -46,8 +46,8 @@ struct Race<'a> {
 const UPDATES: &[Race<'static>] = &[
     Race {
         rule: "two fibers update a ref",
-        text: "(ref r 0 (start f (modify r 1) (start g (modify r 2) (join f x (join g y (add x y) e (raise e) (pure -1)) e \
-        (raise e) (pure -1)))))",
+        text: "(ref r 0 (start f (modify r 1) (start g (modify r 2) (join f x (join g y (add x y) e (raise e) \
+        (pure -1)) e (raise e) (pure -1)))))",
         wanted: &[
             "fiber 0 succeeded 1\nfiber 1 succeeded 0\nfiber 2 succeeded 1\n",
             "fiber 0 succeeded 2\nfiber 1 succeeded 2\nfiber 2 succeeded 0\n",
@@ -55,8 +55,9 @@ const UPDATES: &[Race<'static>] = &[
     },
     Race {
         rule: "a get and a set apart lose an update",
-        text: "(ref r 0 (start f (let x (get r) (let y (add x 1) (set r y))) (start g (let x (get r) (let y (add x 10) (set \
-        r y))) (seq (join f x (pure x) e (raise e) (pure -1)) (join g x (pure x) e (raise e) (pure -1)) (get r)))))",
+        text: "(ref r 0 (start f (let x (get r) (let y (add x 1) (set r y))) (start g (let x (get r) \
+        (let y (add x 10) (set r y))) (seq (join f x (pure x) e (raise e) (pure -1)) \
+        (join g x (pure x) e (raise e) (pure -1)) (get r)))))",
         wanted: &[
             "fiber 0 succeeded 11\nfiber 1 succeeded 0\nfiber 2 succeeded 0\n",
             "fiber 0 succeeded 10\nfiber 1 succeeded 0\nfiber 2 succeeded 0\n",
@@ -97,8 +98,8 @@ const REQUESTS: &[Race<'static>] = &[
     },
     Race {
         rule: "a request is observed where each mask is undone",
-        text: "(start f (uncancelable p (uncancelable q (seq (say 1) (poll q (say 2)) (poll q (poll p (say 3))) (say 4)))) \
-        (cancel f))",
+        text: "(start f (uncancelable p (uncancelable q (seq (say 1) (poll q (say 2)) (poll q \
+        (poll p (say 3))) (say 4)))) (cancel f))",
         wanted: &[
             "fiber 0 succeeded 0: enter 0, leave 0\nfiber 1 canceled: cut\n",
             "fiber 0 succeeded 0: enter 0, leave 0\n\
@@ -181,9 +182,12 @@ const WAITS: &[Race<'static>] = &[
             "fiber 0 succeeded 0: enter 0, leave 0\n\
         fiber 1 canceled: say 1, cut\n\
         fiber 2 canceled: enter 0, leave 0, cut\n",
-            "fiber 0 succeeded 0: enter 0, leave 0\nfiber 1 canceled: say 1, cut\nfiber 2 succeeded 0: enter 0, leave 0\n",
-            "fiber 0 succeeded 0: enter 0, leave 0\nfiber 1 succeeded 0: say 1\nfiber 2 canceled: enter 0, leave 0, cut\n",
-            "fiber 0 succeeded 0: enter 0, leave 0\nfiber 1 succeeded 0: say 1\nfiber 2 succeeded 0: enter 0, leave 0\n",
+            "fiber 0 succeeded 0: enter 0, leave 0\nfiber 1 canceled: say 1, cut\n\
+             fiber 2 succeeded 0: enter 0, leave 0\n",
+            "fiber 0 succeeded 0: enter 0, leave 0\nfiber 1 succeeded 0: say 1\n\
+             fiber 2 canceled: enter 0, leave 0, cut\n",
+            "fiber 0 succeeded 0: enter 0, leave 0\nfiber 1 succeeded 0: say 1\n\
+             fiber 2 succeeded 0: enter 0, leave 0\n",
         ],
     },
 ];
