@@ -12,3 +12,4 @@ pub mod Commuting
 pub mod Growing
 pub mod Leaps
 pub mod Trails
+pub mod PastBound

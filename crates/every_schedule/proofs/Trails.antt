@@ -23,7 +23,7 @@ use Rattle.world_search.proofs.Lists.{get_end, get_last, more_by, more_in}
 use Rattle.world_search.proofs.Free.{covers, goes_onward, leads_up}
 use Rattle.every_schedule.specs.Places.{Kept, Place, report_at, stepped}
 use Rattle.every_schedule.specs.Reduced.{IsOwn, leapt}
-use Rattle.every_schedule.specs.Private.Trails.{AreUnfolded, EndApart, IsKeptIn, IsTrail, IsUnfolded, IsUnfoldedOf}
+use Rattle.every_schedule.specs.Private.Trails.{AreUnfolded, EndApart, EndsAlone, IsKeptIn, IsTrail, IsUnfolded, IsUnfoldedOf}
 use Rattle.every_schedule.proofs.Commuting.{own_are_free}
 use Rattle.every_schedule.proofs.Growing.{reports_grow, size}
 use Rattle.every_schedule.proofs.Leaps.{leaps}
@@ -174,6 +174,24 @@ apart_next found old n it one at same all before h i j a b ei ej is = elim (get_
     | inr y ↦ x.0 ∙ sym y.0
   ]
 ]
+
+-- none that ends as one of the first n ends as the one behind them
+pub alone_here : (found old : List Found) (n : ℕ) (it one : Found) → slice_get found n ≡ Some it → one.end ≡ it.end → EndApart found →
+    EndsBefore found n old → EndsAlone one old
+alone_here found old n it one at same all before = all_from (λ b. b.end ≢ one.end) old (λ k b e is.
+    let u = before k b e in
+    let low = u.2 in
+    let there = all u.0 n u.1 it u.3 at (sym u.4 ∙ is ∙ same) in
+    absurd (omega arith))
+
+-- nor does the one behind them end as one of the first
+pub alone_next : (found old : List Found) (m n : ℕ) (was it a one : Found) → m < n → slice_get found m ≡ Some was → a.end ≡ was.end →
+    slice_get found n ≡ Some it → one.end ≡ it.end → EndApart found → EndsAlone a old → EndsAlone a (old ++ one ∷ [])
+alone_next found old m n was it a one low before so at same all alone = All-push (λ b. b.end ≢ a.end) old one alone
+    (λ is. let there = all m n was it before at (sym so ∙ sym is ∙ same) in absurd (omega arith))
+
+pub alone_sorted : (xs ys : List Found) (a : Found) → IsPermutation xs ys → EndsAlone a xs → EndsAlone a ys
+alone_sorted xs ys a moved h = All-permutation (λ b. b.end ≢ a.end) xs ys moved h
 
 -- where an element stood before two were swapped
 pub record WasAt {A : Type 0} (xs : List A) (m n k : ℕ) (a : A) : Type 0 where

@@ -1,5 +1,5 @@
 -- What an exploration tells of a program under every schedule.
-use Rattle.std.specs.Prelude.{◌≡◌, ◌≢◌, ℕ, ◌<◌, List, Some, Result, Ok, Err, IfOk}
+use Rattle.std.specs.Prelude.{◌≡◌, ◌≢◌, ℕ, ◌<◌, List, length, Some, Result, Ok, Err, IfOk}
 use Rattle.std.specs.List.{All, slice_get}
 use Rattle.derived_ops.specs.Tree.{Tree}
 use Rattle.fiber_frames.specs.Marks.{AreLawful}
@@ -30,6 +30,13 @@ IsAnswered k answers (Err e) = IsListed answers (Err e)
 pub record IsReached (code : Tree) (k : Limits) (a : Answer) : Type 0 where
   pub reached : reported (core code k a.schedule) ≡ a.end
   pub settled : IfOk (core code k a.schedule) (IsSettled k)
+
+-- a schedule of more than so many entries leads to a settled world, or to a fault, which isn't listed
+pub record IsPastBound (code : Tree) (k : Limits) (most : ℕ) (answers : List Answer) : Type 0 where
+  pub schedule : List ℕ
+  pub long : most < length schedule
+  pub settled : IfOk (core code k schedule) (IsSettled k)
+  pub unlisted : IsListed answers (reported (core code k schedule)) → ⊥
 
 -- the marks of each fiber in the answer's report are lawful
 abbrev pub HasLawfulMarks : Answer → Type 0

@@ -1,5 +1,5 @@
 //! What can come of a program under every schedule.
-ghost use Rattle.std.specs.Prelude.{◌≡◌, ◌++◌, ◌<◌, ◌≤◌, ℕ, List, length, IfOk, IfErr, true};
+ghost use Rattle.std.specs.Prelude.{◌≡◌, ◌⊎◌, ◌++◌, ◌<◌, ◌≤◌, ℕ, List, length, max, IfOk, IfErr, true, false};
 ghost use Rattle.std.specs.Prelude.{Ok as GoesWell, Err as Fails, Result as TheResult};
 ghost use Rattle.cell_registry.specs.declared.limits.RunError.{RunError as TheRunError};
 ghost use Rattle.std.specs.List.{All};
@@ -11,7 +11,8 @@ ghost use Rattle.outcome_trace.specs.declared.report.Report.{Report as TheReport
 ghost use Rattle.outcome_trace.specs.Core.{World, core, reported};
 ghost use Rattle.outcome_trace.specs.Finals.{IsSettled};
 ghost use Rattle.every_schedule.specs.Explored.{EndAlike, HasLawfulMarks, HasNoFault, HasOutcome};
-ghost use Rattle.every_schedule.specs.Explored.{IsAnswered, IsCovered, IsReached, ListOnce};
+ghost use Rattle.world_search.specs.Answers.{IsAtBound};
+ghost use Rattle.every_schedule.specs.Explored.{IsAnswered, IsCovered, IsPastBound, IsReached, ListOnce};
 ghost use Rattle.every_schedule.specs.Private.Keeping.{AreSingle};
 ghost use Rattle.every_schedule.specs.Private.Telling.{AreTold, IsEnd, IsTold, IsWithin};
 
@@ -29,7 +30,8 @@ use world_search::{Bounds, Landing, Unwatched, Watcher, search, search_watched};
 /// each with a schedule under which it comes, as `replay` takes it.
 ///
 /// Where the exploration is complete, no other report that stays and no other fault comes of any schedule. Where it
-/// isn't, since there are more worlds or longer schedules than the bounds allow, each answer is right all the same.
+/// isn't, as many worlds were kept as may be, or more than a schedule may have entries, or an end that isn't listed comes
+/// of a schedule that is longer than the bound; each answer is right all the same.
 /// So of a complete exploration: where no fault is listed, no schedule faults; where all answers end alike, the report
 /// doesn't hang on the schedule; and where a fiber has ended in each answer, it can still end wherever a schedule has
 /// led. A report is listed once, and so is a fault. The limits are in their ranges ([`Limits`]); a world takes memory
@@ -65,6 +67,9 @@ pub fn explore(
         All (λ a. HasOutcome f a.end) it.answers → (schedule : List ℕ) → (more : List ℕ) ×
         HasOutcome f (reported (core (code_of (source_of program.now)) limits (schedule ++ more)))) }
     ensures once { IfOk result (λ it. ListOnce it.answers) }
+    ensures stopped { IfOk result (λ it. it.complete ≡ false → IsAtBound bounds it.worlds ⊎
+        IsPastBound (code_of (source_of program.now)) limits bounds.entries it.answers) }
+    ensures room { IfOk result (λ it. it.worlds ≤ max bounds.worlds 1) }
     ensures numbers { IfOk result (λ it. All (λ a. All (λ f. f < 1000) a.schedule) it.answers) }
     ensures short { IfOk result (λ it. All (λ a. length a.schedule ≤ bounds.entries) it.answers) }
     ensures lawful { IfOk result (λ it. All HasLawfulMarks it.answers) }
@@ -99,6 +104,9 @@ pub fn explore_watched<V: Watcher>(
         All (λ a. HasOutcome f a.end) it.answers → (schedule : List ℕ) → (more : List ℕ) ×
         HasOutcome f (reported (core (code_of (source_of program.now)) limits (schedule ++ more)))) }
     ensures once { IfOk result (λ it. ListOnce it.answers) }
+    ensures stopped { IfOk result (λ it. it.complete ≡ false → IsAtBound bounds it.worlds ⊎
+        IsPastBound (code_of (source_of program.now)) limits bounds.entries it.answers) }
+    ensures room { IfOk result (λ it. it.worlds ≤ max bounds.worlds 1) }
     ensures numbers { IfOk result (λ it. All (λ a. All (λ f. f < 1000) a.schedule) it.answers) }
     ensures short { IfOk result (λ it. All (λ a. length a.schedule ≤ bounds.entries) it.answers) }
     ensures lawful { IfOk result (λ it. All HasLawfulMarks it.answers) }
@@ -127,6 +135,7 @@ pub fn explore_watched<V: Watcher>(
 fn are_both(one: bool, other: bool) -> bool
     ensures one { result ≡ true → one ≡ true }
     ensures other { result ≡ true → other ≡ true }
+    ensures neither { result ≡ false → (one ≡ false) ⊎ (other ≡ false) }
 {
     one && other
 }
@@ -156,6 +165,8 @@ pub fn explore_full(
         All (λ a. HasOutcome f a.end) it.answers → (schedule : List ℕ) → (more : List ℕ) ×
         HasOutcome f (reported (core (code_of (source_of program.now)) limits (schedule ++ more)))) }
     ensures once { IfOk result (λ it. ListOnce it.answers) }
+    ensures stopped { IfOk result (λ it. it.complete ≡ false → IsAtBound bounds it.worlds) }
+    ensures room { IfOk result (λ it. it.worlds ≤ max bounds.worlds 1) }
     ensures numbers { IfOk result (λ it. All (λ a. All (λ f. f < 1000) a.schedule) it.answers) }
     ensures short { IfOk result (λ it. All (λ a. length a.schedule ≤ bounds.entries) it.answers) }
     ensures lawful { IfOk result (λ it. All HasLawfulMarks it.answers) }

@@ -1,5 +1,5 @@
 //! The answers of a reduced search, with schedules of which each entry is one move.
-ghost use Rattle.std.specs.Prelude.{◌≡◌, ◌≤◌, ◌++◌, ℕ, [], ◌∷◌, length, true, false, IfErr, IfOk, Some};
+ghost use Rattle.std.specs.Prelude.{◌≡◌, ◌≤◌, ◌<◌, ◌++◌, ℕ, [], ◌∷◌, length, true, false, IfErr, IfOk, Some};
 ghost use Rattle.std.specs.List.{slice_get};
 ghost use Rattle.std.specs.List.Sorted.{IsPermutation};
 ghost use Rattle.derived_ops.specs.Expansion.{code_of};
@@ -7,7 +7,7 @@ ghost use Rattle.derived_ops.specs.Reading.{source_of};
 ghost use Rattle.cell_registry.specs.Cells.{AreLimits};
 ghost use Rattle.world_search.specs.declared.answers.Answer.{Answer as Found};
 ghost use Rattle.every_schedule.specs.Places.{first_place};
-ghost use Rattle.every_schedule.specs.Private.Trails.{AreUnfolded, EndApart, IsKeptIn, IsUnfolded};
+ghost use Rattle.every_schedule.specs.Private.Trails.{AreUnfolded, EndApart, EndsAlone, IsKeptIn, IsLeftOut, IsUnfolded};
 
 use crate::core_world::CoreWorld;
 use crate::current::{States, begun};
@@ -43,6 +43,9 @@ pub(crate) fn unfold_all(
         AreUnfolded at_once most (first_place (code_of (source_of program.now)) limits) found.now it.answers.items) }
     ensures whole { IfOk result (λ it. it.whole ≡ true → (i : ℕ) (a : Found) → slice_get found.now i ≡ Some a →
         IsKeptIn it.answers.items a) }
+    ensures left { IfOk result (λ it. it.whole ≡ false → (a : Found) ×
+        IsLeftOut at_once most (first_place (code_of (source_of program.now)) limits) found.now a ×
+        (EndApart found.now → EndsAlone a it.answers.items)) }
     ensures apart { IfOk result (λ it. EndApart found.now → EndApart it.answers.items) }
     ensures memory { IfErr result (λ e. e ≡ RunError.NoMemory) }
 {
@@ -86,6 +89,7 @@ fn add(
     ensures short { IfOk result (λ it. it ≡ true → length schedule.items ≤ most) }
     ensures added { IfOk result (λ it. it ≡ true → answers.new.items ≡
         answers.old.items ++ record { schedule = schedule; end = end } ∷ []) }
+    ensures long { IfOk result (λ it. it ≡ false → most < length schedule.items) }
     ensures same { IfOk result (λ it. it ≡ false → answers.new.items ≡ answers.old.items) }
 {
     if schedule.len() > most {

@@ -1,5 +1,5 @@
 -- The entries that lead to a world, one by one.
-use Rattle.std.specs.Prelude.{◌≡◌, ◌++◌, ◌<◌, ◌≤◌, ℕ, List, length, Some, Result, Ok}
+use Rattle.std.specs.Prelude.{◌≡◌, ◌≢◌, ◌++◌, ◌<◌, ◌≤◌, ℕ, List, length, Some, Result, Ok}
 use Rattle.std.specs.List.{All, slice_get}
 use Rattle.cell_registry.specs.declared.limits.RunError.{RunError}
 use Rattle.world_search.specs.declared.answers.Answer.{Answer as Found}
@@ -37,6 +37,19 @@ AreUnfolded n most first found answers =
 -- one of them ends as that answer does
 abbrev pub IsKeptIn : List Found → Found → Type 0
 IsKeptIn answers a = (b : Found) × IsIn b answers × (b.end ≡ a.end)
+
+-- an answer that was found, with such entries, which are more than so many
+pub record IsLeftOut (n most : ℕ) (first : Place) (found : List Found) (a : Found) : Type 0 where
+  pub number : ℕ
+  pub answer : Found
+  pub at : slice_get found number ≡ Some answer
+  pub end : a.end ≡ answer.end
+  pub entries : IsUnfolded n first answer.schedule.items a.schedule.items
+  pub long : most < length a.schedule.items
+
+-- none of these answers ends as it does
+abbrev pub EndsAlone : Found → List Found → Type 0
+EndsAlone a answers = All (λ b. b.end ≢ a.end) answers
 
 -- no two of these answers end at one number
 abbrev pub EndApart : List Found → Type 0

@@ -1,4 +1,4 @@
-use Rattle.std.proofs.Common.{◌≡◌, ◌<◌, ◌≤◌, ◌++◌, List, length, sym, ap, subst}
+use Rattle.std.proofs.Common.{◌≡◌, inl, inr, ◌<◌, ◌≤◌, ◌++◌, List, length, sym, ap, subst}
 use Rattle.std.specs.Prelude.{Some}
 use Rattle.std.specs.List.{All, slice_get}
 use Rattle.derived_ops.specs.Expansion.{code_of}
@@ -7,11 +7,12 @@ use Rattle.outcome_trace.specs.Core.{core}
 use Rattle.world_search.specs.declared.answers.Answer.{Answer as Found}
 use Rattle.world_search.specs.Answers as search
 use Rattle.every_schedule.specs.declared.exploration.Answer.{Answer}
-use Rattle.every_schedule.specs.Explored.{IsAnswered, IsCovered, IsReached, ListOnce}
+use Rattle.every_schedule.specs.Explored.{IsAnswered, IsCovered, IsPastBound, IsReached, ListOnce}
 use Rattle.every_schedule.specs.Places.{Kept, first_place, report_at, stepped}
-use Rattle.every_schedule.specs.Private.Trails.{AreUnfolded, EndApart}
+use Rattle.every_schedule.specs.Private.Trails.{AreUnfolded, EndApart, IsLeftOut}
 use Rattle.every_schedule.proofs.Placed.{core_run}
 use Rattle.every_schedule.proofs.Laws.{alike, ended, faultless}
+use Rattle.every_schedule.proofs.PastBound.{past_bound}
 use Rattle.every_schedule.proofs.Told.{all_within, answered, covered, numbered, once, reached, short}
 use Rattle.every_schedule.proofs.Trails.{all_covered, all_onward, brief, few, found_apart, right, unfolded_once}
 use Rattle.every_schedule.proofs.explored.explore_watched.Goals as goal
@@ -145,3 +146,31 @@ returns-clause-once g c =
     subst (λ (l : List Answer). ListOnce l) (sym c.new-2.ensures)
     (once kept found c.in_ok-answers.answers.items c.in_ok-answers.ensures.told c.told.ensures.single
     (unfolded_once kept start 100 c.args.bounds.entries raw found each c.in_ok-found.ensures.once apart))
+
+pub returns-clause-stopped : goal.returns-clause-stopped
+returns-clause-stopped g c = λ isnt.
+    let code = code_of (source_of c.args.program.now) in
+    let k = c.args.limits in
+    let start = first_place code k in
+    let most = c.args.bounds.entries in
+    let kept = c.search_watched.new.worlds.worlds in
+    let raw = c.in_ok-found.found.answers.items in
+    let found = c.in_ok-unfolded.unfolded.answers.items in
+    let first : slice_get c.in_ok-worlds.worlds.worlds.places 0 ≡ Some start = ap (λ (s : Kept). slice_get s.places 0) c.in_ok-worlds.ensures in
+    let alone : length c.in_ok-worlds.worlds.worlds.places ≡ 1 = ap (λ (s : Kept). length s.places) c.in_ok-worlds.ensures in
+    elim (c.are_both.ensures.neither isnt) [
+      | inl stop ↦ inl (c.in_ok-found.ensures.stopped stop alone)
+      | inr cut ↦
+          let same = c.as_slice.ensures.value in
+          let each : AreUnfolded 100 most start raw found =
+          subst (λ (l : List Found). AreUnfolded 100 most start l found) same c.in_ok-unfolded.ensures.each in
+          let its = c.in_ok-found.ensures.each start first in
+          let once_raw = c.in_ok-found.ensures.once in
+          let all : EndApart raw = found_apart 100 kept start raw its once_raw in
+          let apart : EndApart found = c.in_ok-unfolded.ensures.apart (subst (λ (l : List Found). EndApart l) (sym same) all) in
+          let out = c.in_ok-unfolded.ensures.left cut in
+          let left : IsLeftOut 100 most start raw out.0 = subst (λ (l : List Found). IsLeftOut 100 most start l out.0) same out.1 in
+          inr (subst (λ (l : List Answer). IsPastBound code k most l) (sym c.new-2.ensures)
+          (past_bound code k kept 100 most raw found c.in_ok-answers.answers.items out.0 c.in_ok-answers.ensures.told c.told.ensures.single each its
+          once_raw apart left (out.2 (subst (λ (l : List Found). EndApart l) (sym same) all))))
+    ]

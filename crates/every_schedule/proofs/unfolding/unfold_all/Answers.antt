@@ -7,8 +7,8 @@ use Rattle.derived_ops.specs.Expansion.{code_of}
 use Rattle.derived_ops.specs.Reading.{source_of}
 use Rattle.world_search.specs.declared.answers.Answer.{Answer as Found}
 use Rattle.every_schedule.specs.Places.{first_place}
-use Rattle.every_schedule.specs.Private.Trails.{AreUnfolded, EndApart, IsKeptIn, IsUnfolded}
-use Rattle.every_schedule.proofs.Trails.{EndsBefore, apart_next, apart_sorted, before_more, before_next, kept_next, kept_sorted, unfolded_next, unfolded_sorted}
+use Rattle.every_schedule.specs.Private.Trails.{AreUnfolded, EndApart, EndsAlone, IsKeptIn, IsUnfolded}
+use Rattle.every_schedule.proofs.Trails.{EndsBefore, alone_here, alone_next, alone_sorted, apart_next, apart_sorted, before_more, before_next, kept_next, kept_sorted, unfolded_next, unfolded_sorted}
 use Rattle.every_schedule.proofs.unfolding.unfold_all.Goals as goal
 use Rattle.every_schedule.proofs.unfolding.unfold_all.Goals.{then-not-branch, else-not-branch}
 
@@ -45,6 +45,23 @@ loop-i-preserved c =
         | else-not-branch w ↦ subst EndApart (sym (told.added w.if-not-branch.false))
             (apart_next found old c.loop-i.i it one at refl all known.before (known.apart all))
       ];
+      left = λ isnt. elim c.if-not-branch.branch [
+        | then-not-branch w ↦ (
+          one,
+          record { number = c.loop-i.i; answer = it; at = at; end = refl; entries = entries; long = told.long w.if-not-branch.true },
+          omega arith,
+          λ all. subst (EndsAlone one) (sym (told.same w.if-not-branch.true)) (alone_here found old c.loop-i.i it one at refl all known.before),
+        )
+        | else-not-branch w ↦
+            let k = known.left (sym w.whole-is ∙ isnt) in
+            let low = k.2 in (
+              k.0,
+              k.1,
+              omega arith,
+              λ all. subst (EndsAlone k.0) (sym (told.added w.if-not-branch.false))
+                  (alone_next found old k.1.number c.loop-i.i k.1.answer it k.0 one low k.1.at k.1.end at refl all (k.3 all)),
+            )
+      ];
       whole = λ whole. elim c.if-not-branch.branch [
         | then-not-branch w ↦ absurd (cc (w.whole-is, whole))
         | else-not-branch w ↦ λ j a low e.
@@ -66,3 +83,8 @@ returns-clause-each c =
 pub returns-clause-apart : goal.returns-clause-apart
 returns-clause-apart c = λ all.
     apart_sorted c.loop-i.answers.items c.sort.new.answers.items c.sort.ensures (c.loop-i.invariant.apart all)
+
+pub returns-clause-left : goal.returns-clause-left
+returns-clause-left c = λ isnt.
+    let k = c.loop-i.invariant.left isnt in
+    (k.0, k.1, λ all. alone_sorted c.loop-i.answers.items c.sort.new.answers.items k.0 c.sort.ensures (k.3 all))

@@ -1,19 +1,21 @@
-use Rattle.std.proofs.Common.{◌≡◌, ℕ, ◌<◌, true}
+use Rattle.std.proofs.Common.{◌≡◌, ℕ, ◌<◌, true, false}
 use Rattle.std.specs.Prelude.{Some}
 use Rattle.std.specs.List.{slice_get}
 use Rattle.derived_ops.specs.Expansion.{code_of}
 use Rattle.derived_ops.specs.Reading.{source_of}
 use Rattle.world_search.specs.declared.answers.Answer.{Answer as Found}
 use Rattle.every_schedule.specs.Places.{first_place}
-use Rattle.every_schedule.specs.Private.Trails.{AreUnfolded, EndApart, IsKeptIn}
+use Rattle.every_schedule.specs.Private.Trails.{AreUnfolded, EndApart, EndsAlone, IsKeptIn, IsLeftOut}
 use Rattle.every_schedule.proofs.Trails.{EndsBefore}
 use Rattle.every_schedule.proofs.unfolding.unfold_all.Given as goal
 
--- the answers so far are unfolded, and none was left out while the flag stands
+-- the answers so far are unfolded, none was left out while the flag stands, and one was where it doesn't
 abbrev pub invariant-loop-i : goal.invariant-loop-i
 invariant-loop-i l = record {
   each : AreUnfolded l.at_once l.most (first_place (code_of (source_of l.program)) l.limits) l.found l.answers.items;
   before : EndsBefore l.found l.i l.answers.items;
   apart : EndApart l.found → EndApart l.answers.items;
+  left : l.whole ≡ false → (a : Found) × (out : IsLeftOut l.at_once l.most (first_place (code_of (source_of l.program)) l.limits) l.found a) ×
+      (out.number < l.i) × (EndApart l.found → EndsAlone a l.answers.items);
   whole : l.whole ≡ true → (i : ℕ) (a : Found) → i < l.i → slice_get l.found i ≡ Some a → IsKeptIn l.answers.items a;
 }
