@@ -245,10 +245,18 @@ fn notes(rt: &impl Wait, bay: &Bay<'_>, come: &[(Topic, u16)]) -> Result<(), All
     Ok(())
 }
 
+// Whether these wait for a topic, and nobody does once they were told.
+fn is_told(rt: &impl Wait, bay: &Bay<'_>, topic: Topic, fibers: &[u16]) -> bool {
+    if !bay.has(topic) || bay.is_awaited(topic) == fibers.is_empty() {
+        return false;
+    }
+    bay.drain_topic(rt, topic).as_slice() == fibers && !bay.is_awaited(topic)
+}
+
 // Whether these wait, topic by topic.
 fn are_told(rt: &impl Wait, bay: &Bay<'_>, told: &[(Topic, &[u16])]) -> bool {
     for (topic, fibers) in told {
-        if !bay.has(*topic) || bay.drain_topic(rt, *topic).as_slice() != *fibers {
+        if !is_told(rt, bay, *topic, fibers) {
             return false;
         }
     }
