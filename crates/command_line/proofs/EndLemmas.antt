@@ -38,7 +38,7 @@ use Rattle.command_line.specs.declared.running.RunForm.{RunForm}
 use Rattle.command_line.specs.declared.running.RunForm.TheVariants as ran
 use Rattle.command_line.specs.Checks.{checks_as}
 use Rattle.command_line.specs.Orders.{ObeysOrder}
-use Rattle.command_line.specs.Recording.{IsRecordedAnswer, IsTimedAnswer, alone, timed, reports as reports_recorded, faults as faults_recorded}
+use Rattle.command_line.specs.Recording.{IsRecordedWith, IsTimedAnswer, alone, timed, reports as reports_recorded, faults as faults_recorded}
 use Rattle.command_line.specs.Replays.{answers_as}
 use Rattle.command_line.specs.RunReasons.{ExplainsRun}
 use Rattle.command_line.specs.Runs.{comes_as, ran_as, refused_as}
@@ -203,9 +203,10 @@ workers_end : {t : Term} {options : Options} {answer : List ℕ} {status : Statu
 workers_end (reports_worked r some lawful) = report_ends r.fibers
 workers_end (faults_worked e within) = λ u. cc
 
-recorded_ends : {t : Term} {options : Options} {answer : List ℕ} {status : Status} → IsRecordedAnswer t options answer status → status ≢ ends.Usage
-recorded_ends (reports_recorded r line some lawful told) = report_ends r.fibers
-recorded_ends (faults_recorded e line within told) = λ u. cc
+recorded_ends : {t : Term} {options : Options} {tells : Bool} {answer : List ℕ} {status : Status} → IsRecordedWith t options tells answer status →
+    status ≢ ends.Usage
+recorded_ends (reports_recorded r tells line some lawful told) = report_ends r.fibers
+recorded_ends (faults_recorded e tells line within told) = λ u. cc
 
 timed_ends : {t : Term} {options : Options} {answer : List ℕ} {status : Status} → IsTimedAnswer t options answer status → status ≢ ends.Usage
 timed_ends (alone answer status h) = recorded_ends h
@@ -217,7 +218,7 @@ values_end (value_of_fault e within) = λ u. cc
 
 comes_ends : (form : RunForm) (options : Options) (t : Term) (answer : List ℕ) (status : Status) → comes_as form options t answer status → status ≢ ends.Usage
 comes_ends ran.Report options t answer status h = workers_end h
-comes_ends ran.Record options t answer status h = recorded_ends h
+comes_ends ran.Record options t answer status h = recorded_ends h.1
 comes_ends ran.Timeline options t answer status h = timed_ends h
 comes_ends ran.Json options t answer status h = values_end h
 

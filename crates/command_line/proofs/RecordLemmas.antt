@@ -1,5 +1,5 @@
 -- Answers to texts whose programs workers run while their schedule is noted.
-use Rattle.std.proofs.Common.{◌≡◌, ◌++◌, ◌∷◌, ℕ, All, List, Option, Some, None, Result, Ok, Err, IfOk, refl, subst, sym}
+use Rattle.std.proofs.Common.{◌≡◌, ◌++◌, ◌∷◌, ℕ, All, Bool, true, false, ◌&&◌, List, Option, Some, None, Result, Ok, Err, IfOk, refl, subst, sym}
 use Rattle.std.specs.Prelude.{IfErr, IfSome, String, string_bytes}
 use Rattle.std.specs.declared.alloc.Global.{Global}
 use Rattle.cell_registry.specs.declared.limits.RunError.{RunError}
@@ -19,43 +19,46 @@ use Rattle.steal_pool.specs.declared.recorded.NoSchedule.{NoSchedule}
 use Rattle.steal_pool.specs.Gathering.{IsLawful}
 use Rattle.steal_pool.specs.Records.{IsRecord, came_to}
 use Rattle.steal_pool.specs.Runs.{IsFaultWithin, limits_of}
-use Rattle.command_line.specs.Recording.{AreEntriesOf, IsBehindFault, IsRecordedAnswer, IsScheduleLine, IsTimedAnswer}
-use Rattle.command_line.specs.Recording.{ended_status, ended_text, line_behind, record_text, told_line, faults}
+use Rattle.command_line.specs.Recording.{AreEntriesOf, IsBehindFault, IsRecordedAnswer, IsRecordedWith, IsScheduleLine, IsTimedAnswer}
+use Rattle.command_line.specs.Recording.{ended_status, ended_text, has_line, is_found, line_behind, record_text, told_line, faults}
 use Rattle.command_line.specs.Recording.{no_schedule, reports, schedules, timed}
 use Rattle.command_line.specs.Workers.{IsWorkersAnswer, faults as faults_worked, reports as reports_worked}
 
 -- the line that is told is that of a schedule which leads to the end, or of none
 pub line_told : (t : Term) (options : Options) (end : Result Report RunError) (s : Result (String Global) NoSchedule) →
-    IfOk s (λ text. IsRecord (code_of (source_of t)) (limits_of options) (string_bytes text) end) → IsScheduleLine t options end (told_line s)
+    IfOk s (λ text. IsRecord (code_of (source_of t)) (limits_of options) (string_bytes text) end) →
+    IsScheduleLine t options end (is_found s) (told_line s)
 line_told t options end (Ok text) h = schedules (string_bytes text) h
 line_told t options end (Err why) h = no_schedule why
 
 -- the same behind the line of a fault
 pub line_behind_told : (t : Term) (options : Options) (e : RunError) (s : Result (String Global) NoSchedule) →
-    IfOk s (λ text. IsRecord (code_of (source_of t)) (limits_of options) (string_bytes text) (Err e)) → IsBehindFault t options e (line_behind e s)
+    IfOk s (λ text. IsRecord (code_of (source_of t)) (limits_of options) (string_bytes text) (Err e)) →
+    IsBehindFault t options e (has_line (Err e) && is_found s) (line_behind e s)
 line_behind_told t options (fault.Full band n) s h = line_told t options (Err (fault.Full band n)) s h
 line_behind_told t options (fault.Spent f) s h = line_told t options (Err (fault.Spent f)) s h
-line_behind_told t options fault.NoMemory s h = refl
-line_behind_told t options (fault.Lost f) s h = refl
-line_behind_told t options fault.NoWorker s h = refl
+line_behind_told t options fault.NoMemory s h = (refl, refl)
+line_behind_told t options (fault.Lost f) s h = (refl, refl)
+line_behind_told t options fault.NoWorker s h = (refl, refl)
 
 -- what a recorded run comes to, with the line of its schedule
 pub recorded_answer : (t : Term) (options : Options) (end : Result RunEnd RunError) (s : Result (String Global) NoSchedule) (a : Answer) →
     IfOk end (λ it. IsOfSomeSchedule (code_of (source_of t)) (limits_of options) it.report) → IfOk end (λ it. All IsLawful it.report.fibers) →
     IfErr end (IsFaultWithin (limits_of options)) →
     IfOk s (λ text. IsRecord (code_of (source_of t)) (limits_of options) (string_bytes text) (came_to end)) → a.text.items ≡ record_text end s →
-    a.status ≡ ended_status end → IsRecordedAnswer t options a.text.items a.status
+    a.status ≡ ended_status end → IsRecordedWith t options (has_line end && is_found s) a.text.items a.status
 recorded_answer t options (Ok it) s a some lawful within recorded line status =
-    rw (line, status) (reports it.report (told_line s) some lawful (line_told t options (Ok it.report) s recorded))
+    rw (line, status) (reports it.report (is_found s) (told_line s) some lawful (line_told t options (Ok it.report) s recorded))
 recorded_answer t options (Err f) s a some lawful within recorded line status =
-    rw (line, status) (faults f (line_behind f s) within (line_behind_told t options f s recorded))
+    rw (line, status) (faults f (has_line (Err f) && is_found s) (line_behind f s) within (line_behind_told t options f s recorded))
 
 pub recorded_answers : {E : Type 0} (t : Term) (options : Options) (end : Result RunEnd RunError) (s : Result (String Global) NoSchedule)
     (a : Result Answer E) → IfOk end (λ it. IsOfSomeSchedule (code_of (source_of t)) (limits_of options) it.report) →
     IfOk end (λ it. All IsLawful it.report.fibers) → IfErr end (IsFaultWithin (limits_of options)) →
     IfOk s (λ text. IsRecord (code_of (source_of t)) (limits_of options) (string_bytes text) (came_to end)) →
     IfOk a (λ a. a.text.items ≡ record_text end s) → IfOk a (λ a. a.status ≡ ended_status end) → IfOk a (λ a. IsRecordedAnswer t options a.text.items a.status)
-recorded_answers t options end s (Ok a) some lawful within recorded line status = recorded_answer t options end s a some lawful within recorded line status
+recorded_answers t options end s (Ok a) some lawful within recorded line status =
+    (has_line end && is_found s, recorded_answer t options end s a some lawful within recorded line status)
 recorded_answers t options end s (Err x) some lawful within recorded line status = tt
 
 -- what was read of a schedule that was found
@@ -65,9 +68,22 @@ entries_found s text bytes entries is same one =
     subst (λ (r : Result (String Global) NoSchedule). AreEntriesOf r entries) (sym is)
     (λ others spells. one others (subst (λ (bs : List ℕ). SpellsEntries bs others) (sym same) spells))
 
+-- a schedule is told exactly where a line is told of the end, and a schedule is handed out
+pub tells_none : (end : Result RunEnd RunError) (s : Result (String Global) NoSchedule) → has_line end ≡ false → has_line end && is_found s ≡ false
+tells_none end s h = rw h refl
+
+pub finds_none : (end : Result RunEnd RunError) (s : Result (String Global) NoSchedule) → has_line end ≡ true → is_found s ≡ false →
+    has_line end && is_found s ≡ false
+finds_none end s h none = rw (h, none) refl
+
+pub tells_one : {V : Type 0} (items : V → List ℕ) (end : Result RunEnd RunError) (s : Result (String Global) NoSchedule) (v : V) →
+    has_line end ≡ true → AreEntriesOf s (items v) → has_line end && is_found s ≡ true
+tells_one items end (Ok text) v h one = rw h refl
+tells_one items end (Err why) v h one = absurd one
+
 -- ---- with a timeline
 pub timed_answers : {E : Type 0} (t : Term) (options : Options) (front : Answer) (rows : List ℕ) (a : Result Answer E) →
-    IsRecordedAnswer t options front.text.items front.status → IfOk a (λ a. a.text.items ≡ front.text.items ++ 10 ∷ rows) →
+    IsRecordedWith t options true front.text.items front.status → IfOk a (λ a. a.text.items ≡ front.text.items ++ 10 ∷ rows) →
     IfOk a (λ a. a.status ≡ front.status) → IfOk a (λ a. IsTimedAnswer t options a.text.items a.status)
 timed_answers t options front rows (Ok a) h line status = rw (line, status) (timed front.text.items rows front.status h)
 timed_answers t options front rows (Err x) h line status = tt

@@ -1,5 +1,6 @@
 -- What is answered to a text whose program workers run while their schedule is noted.
-use Rattle.std.specs.Prelude.{◌≡◌, ℕ, All, List, [], ◌∷◌, ◌++◌, Result, Ok, Err, String, codes, string_bytes}
+use Rattle.std.specs.Prelude.{◌≡◌, ℕ, All, Bool, true, false, ◌&&◌, List, [], ◌∷◌, ◌++◌, Result, Ok, Err, String, codes}
+use Rattle.std.specs.Prelude.{string_bytes}
 use Rattle.std.specs.declared.alloc.Global.{Global}
 use Rattle.cell_registry.specs.declared.limits.RunError.{RunError}
 use Rattle.cell_registry.specs.declared.limits.RunError.TheVariants as fault
@@ -46,35 +47,55 @@ line_behind (fault.Lost f) schedule = []
 line_behind fault.NoWorker schedule = []
 
 -- The line tells a schedule under which the core, within the limits of the run, comes to exactly this end, or that
--- there is none to tell.
-pub data IsScheduleLine (t : Term) (options : Options) (end : Result Report RunError) : List ℕ → Type 0 where
+-- there is none to tell: which of both is so.
+pub data IsScheduleLine (t : Term) (options : Options) (end : Result Report RunError) : Bool → List ℕ → Type 0 where
   schedules : (text : List ℕ) → IsRecord (code_of (source_of t)) (limits_of options) text end →
-      IsScheduleLine t options end (schedule_line text)
-  no_schedule : (why : NoSchedule) → IsScheduleLine t options end (no_schedule_line why)
+      IsScheduleLine t options end true (schedule_line text)
+  no_schedule : (why : NoSchedule) → IsScheduleLine t options end false (no_schedule_line why)
 
 -- what stands behind the line of a fault: of the core's faults but want of memory that of a schedule, of others nothing
-abbrev pub IsBehindFault : Term → Options → RunError → List ℕ → Type 0
-IsBehindFault t options (fault.Full band n) line = IsScheduleLine t options (Err (fault.Full band n)) line
-IsBehindFault t options (fault.Spent f) line = IsScheduleLine t options (Err (fault.Spent f)) line
-IsBehindFault t options fault.NoMemory line = line ≡ []
-IsBehindFault t options (fault.Lost f) line = line ≡ []
-IsBehindFault t options fault.NoWorker line = line ≡ []
+abbrev pub IsBehindFault : Term → Options → RunError → Bool → List ℕ → Type 0
+IsBehindFault t options (fault.Full band n) tells line = IsScheduleLine t options (Err (fault.Full band n)) tells line
+IsBehindFault t options (fault.Spent f) tells line = IsScheduleLine t options (Err (fault.Spent f)) tells line
+IsBehindFault t options fault.NoMemory tells line = (tells ≡ false) × (line ≡ [])
+IsBehindFault t options (fault.Lost f) tells line = (tells ≡ false) × (line ≡ [])
+IsBehindFault t options fault.NoWorker tells line = (tells ≡ false) × (line ≡ [])
 
 -- What comes of a program on workers that note their schedule, with its status: what comes of it without that, and the
--- line of the schedule behind it.
-pub data IsRecordedAnswer (t : Term) (options : Options) : List ℕ → Status → Type 0 where
-  reports : (r : Report) (line : List ℕ) → IsOfSomeSchedule (code_of (source_of t)) (limits_of options) r →
-      All IsLawful r.fibers → IsScheduleLine t options (Ok r) line →
-      IsRecordedAnswer t options (text_of_fibers r.fibers ++ line) (report_status r.fibers)
-  faults : (e : RunError) (line : List ℕ) → IsFaultWithin (limits_of options) e → IsBehindFault t options e line →
-      IsRecordedAnswer t options (run_line e ++ line) Fault
+-- line of the schedule behind it. Whether that line tells a schedule stands beside it.
+pub data IsRecordedWith (t : Term) (options : Options) : Bool → List ℕ → Status → Type 0 where
+  reports : (r : Report) (tells : Bool) (line : List ℕ) →
+      IsOfSomeSchedule (code_of (source_of t)) (limits_of options) r → All IsLawful r.fibers →
+      IsScheduleLine t options (Ok r) tells line →
+      IsRecordedWith t options tells (text_of_fibers r.fibers ++ line) (report_status r.fibers)
+  faults : (e : RunError) (tells : Bool) (line : List ℕ) → IsFaultWithin (limits_of options) e →
+      IsBehindFault t options e tells line → IsRecordedWith t options tells (run_line e ++ line) Fault
 
--- What comes of it with a timeline: the same, behind which a blank line and a timeline may stand.
+-- it is what comes of it, whether or not a schedule is told
+abbrev pub IsRecordedAnswer : Term → Options → List ℕ → Status → Type 0
+IsRecordedAnswer t options answer status = (tells : Bool) × IsRecordedWith t options tells answer status
+
+-- What comes of it with a timeline: the same, behind which a blank line and a timeline stand exactly where a schedule is
+-- told.
 pub data IsTimedAnswer (t : Term) (options : Options) : List ℕ → Status → Type 0 where
-  alone : (answer : List ℕ) (status : Status) → IsRecordedAnswer t options answer status →
+  alone : (answer : List ℕ) (status : Status) → IsRecordedWith t options false answer status →
       IsTimedAnswer t options answer status
-  timed : (answer timeline : List ℕ) (status : Status) → IsRecordedAnswer t options answer status →
+  timed : (answer timeline : List ℕ) (status : Status) → IsRecordedWith t options true answer status →
       IsTimedAnswer t options (answer ++ 10 ∷ timeline) status
+
+-- a line of a schedule is told of this end
+abbrev pub has_line : Result RunEnd RunError → Bool
+has_line (Ok it) = true
+has_line (Err (fault.Full band n)) = true
+has_line (Err (fault.Spent f)) = true
+has_line (Err fault.NoMemory) = false
+has_line (Err (fault.Lost f)) = false
+has_line (Err fault.NoWorker) = false
+
+-- a schedule is handed out
+abbrev pub is_found : Result (String Global) NoSchedule → Bool
+is_found (Ok text) = true
+is_found (Err why) = false
 
 -- the text of what a recorded run hands out, and its status
 abbrev pub record_text : Result RunEnd RunError → Result (String Global) NoSchedule → List ℕ

@@ -1,11 +1,10 @@
 //! What comes of a program whose schedule workers note: what comes of it without that, the line of the schedule behind
 //! it, and behind that a timeline where one is asked for.
 
-ghost use Rattle.std.specs.Prelude.{◌≡◌, ◌++◌, ◌∷◌, ◌<◌, IfOk, IfSome, OnOk};
+ghost use Rattle.std.specs.Prelude.{◌≡◌, ◌++◌, ◌∷◌, ◌<◌, false, IfNone, IfOk, IfSome, OnOk};
 ghost use Rattle.cell_registry.specs.Cells.{AreLimits};
 ghost use Rattle.command_line.specs.Recording.{AreEntriesOf, IsRecordedAnswer, IsTimedAnswer, ended_status};
-ghost use Rattle.command_line.specs.Recording.{line_behind};
-ghost use Rattle.command_line.specs.Recording.{record_text, told_line};
+ghost use Rattle.command_line.specs.Recording.{has_line, is_found, line_behind, record_text, told_line};
 ghost use Rattle.outcome_trace.specs.Lines.{run_line};
 ghost use Rattle.outcome_trace.specs.ReplayAnswers.{report_status};
 ghost use Rattle.outcome_trace.specs.ReportText.{text_of_fibers};
@@ -109,7 +108,8 @@ pub fn entries_of(
     alloc: Global,
     schedule: &Result<String, NoSchedule>,
 ) -> Result<Option<Vec<u16>>, AllocError>
-    ensures { IfOk result (λ found. IfSome found (λ entries. AreEntriesOf schedule.now entries.items)) }
+    ensures some { IfOk result (λ found. IfSome found (λ entries. AreEntriesOf schedule.now entries.items)) }
+    ensures none { IfOk result (λ found. IfNone found (is_found schedule.now ≡ false)) }
 {
     match schedule {
         // What is handed out is the text of a schedule, so that it is read but for want of memory.
@@ -118,6 +118,16 @@ pub fn entries_of(
             Err(_) => Err(AllocError),
         },
         Err(_) => Ok(None),
+    }
+}
+
+// Whether a line of a schedule is told of this end.
+fn has_line(end: &Result<RunEnd, RunError>) -> bool
+    ensures { result ≡ has_line end.now }
+{
+    match end {
+        Ok(_) | Err(RunError::Full(_, _)) | Err(RunError::Spent(_)) => true,
+        Err(RunError::NoMemory) | Err(RunError::Lost(_)) | Err(RunError::NoWorker) => false,
     }
 }
 
@@ -148,7 +158,7 @@ fn with_timeline(answer: Answer, rows: &str) -> Result<Answer, AllocError>
     Ok(Answer { text, status })
 }
 
-/// The same as [`record_answer`] of the program that the text spells, and where a schedule was found, a blank line and
+/// The same as [`record_answer`] of the program that the text spells, and where a schedule is told, a blank line and
 /// the timeline of the replay under it. `AllocError` where memory ran out outside of the run.
 pub fn timed_answer<R: Threads + Wait + Sync>(
     rt: &R,
@@ -163,6 +173,9 @@ pub fn timed_answer<R: Threads + Wait + Sync>(
 {
     let Recorded { end, schedule } = run_recorded(rt, alloc, program, options, &OpenGate);
     let answer = end_told(alloc, &end, &schedule)?;
+    if !has_line(&end) {
+        return Ok(answer);
+    }
     match entries_of(alloc, &schedule)? {
         Some(entries) => {
             let rows = text_timeline(alloc, text, entries.as_slice(), limits_of(options))?;
