@@ -203,10 +203,10 @@ workers_end : {t : Term} {options : Options} {answer : List ℕ} {status : Statu
 workers_end (reports_worked r some lawful) = report_ends r.fibers
 workers_end (faults_worked e within) = λ u. cc
 
-recorded_ends : {t : Term} {options : Options} {tells : Bool} {answer : List ℕ} {status : Status} → IsRecordedWith t options tells answer status →
+recorded_ends : {t : Term} {options : Options} {b : Bool} {answer : List ℕ} {status : Status} → IsRecordedWith t options b answer status →
     status ≢ ends.Usage
-recorded_ends (reports_recorded r tells line some lawful told) = report_ends r.fibers
-recorded_ends (faults_recorded e tells line within told) = λ u. cc
+recorded_ends (reports_recorded r b line some lawful told) = report_ends r.fibers
+recorded_ends (faults_recorded e b line within told) = λ u. cc
 
 timed_ends : {t : Term} {options : Options} {answer : List ℕ} {status : Status} → IsTimedAnswer t options answer status → status ≢ ends.Usage
 timed_ends (alone answer status h) = recorded_ends h

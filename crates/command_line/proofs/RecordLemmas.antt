@@ -1,6 +1,6 @@
 -- Answers to texts whose programs workers run while their schedule is noted.
 use Rattle.std.proofs.Common.{◌≡◌, ◌++◌, ◌∷◌, ℕ, All, Bool, true, false, ◌&&◌, List, Option, Some, None, Result, Ok, Err, IfOk, refl, subst, sym}
-use Rattle.std.specs.Prelude.{IfErr, IfSome, String, string_bytes}
+use Rattle.std.specs.Prelude.{IfErr, IfNone, IfSome, String, string_bytes}
 use Rattle.std.specs.declared.alloc.Global.{Global}
 use Rattle.cell_registry.specs.declared.limits.RunError.{RunError}
 use Rattle.cell_registry.specs.declared.limits.RunError.TheVariants as fault
@@ -76,10 +76,21 @@ pub finds_none : (end : Result RunEnd RunError) (s : Result (String Global) NoSc
     has_line end && is_found s ≡ false
 finds_none end s h none = rw (h, none) refl
 
-pub tells_one : {V : Type 0} (items : V → List ℕ) (end : Result RunEnd RunError) (s : Result (String Global) NoSchedule) (v : V) →
+tells_one : {V : Type 0} (items : V → List ℕ) (end : Result RunEnd RunError) (s : Result (String Global) NoSchedule) (v : V) →
     has_line end ≡ true → AreEntriesOf s (items v) → has_line end && is_found s ≡ true
 tells_one items end (Ok text) v h one = rw h refl
 tells_one items end (Err why) v h one = absurd one
+
+pub tells_found : {V : Type 0} (items : V → List ℕ) (end : Result RunEnd RunError) (s : Result (String Global) NoSchedule) (found : Option V) (v : V) →
+    has_line end ≡ true → IfSome found (λ v. AreEntriesOf s (items v)) → found ≡ Some v → has_line end && is_found s ≡ true
+tells_found {V} items end s found v h some is =
+    tells_one items end s v h (subst (λ (o : Option V). IfSome o (λ v. AreEntriesOf s (items v))) is some)
+
+-- no entries are found only where no schedule is handed out
+pub none_found : {V : Type 0} (s : Result (String Global) NoSchedule) (found : Option V) → IfNone found (is_found s ≡ false) → found ≡ None →
+    is_found s ≡ false
+none_found s None none is = none
+none_found s (Some v) none is = absurd (cc)
 
 -- ---- with a timeline
 pub timed_answers : {E : Type 0} (t : Term) (options : Options) (front : Answer) (rows : List ℕ) (a : Result Answer E) →

@@ -14,4 +14,4 @@ pub returns-clause-replayed : goal.returns-clause-replayed
 returns-clause-replayed g c =
     let ran = c.run_recorded-end.ensures in
     replayed_answers (λ (v : Vec ℕ Global). v.items) c.args.program c.args.options c.run_recorded-end.result.end c.run_recorded-end.result.schedule
-    c.in_ok-entries.entries c.in_ok-answer.answer ran.recorded c.in_ok-answer.ensures.text c.in_ok-answer.ensures.status c.in_ok-entries.ensures
+    c.in_ok-entries.entries c.in_ok-answer.answer ran.recorded c.in_ok-answer.ensures.text c.in_ok-answer.ensures.status c.in_ok-entries.ensures.some
