@@ -2,7 +2,9 @@
 use Rattle.std.proofs.Common.{◌≡◌, ◌≢◌, ◌+◌, ◌<◌, ◌≤◌, ◌^◌, ℕ, true, List, [], ◌∷◌, ◌++◌, length, get_or}
 use Rattle.std.proofs.Common.{Result, Ok, Err, IfOk, Option, Some, None, MatchOption, arith, refl, sym, ap, ◌∙◌}
 use Rattle.std.proofs.Common.{inl, inr, append_assoc, replicate, ◌/◌, ◌%◌, ◌-◌, length-append, Bor, suc}
-use Rattle.std.proofs.Common.{append-nil}
+use Rattle.std.proofs.Common.{append-nil, drop, take, ◌*◌}
+use Rattle.std.proofs.Math.Seq.{drop-cons, take-add, take-suc}
+use Rattle.std.proofs.lemmas.List.{get_or-drop, length-drop, take-append-drop}
 use Rattle.std.specs.Fmt.{decimal}
 use Rattle.std.specs.List.{AllByRecursion}
 use Rattle.std.specs.Str.Parse.{AllDigits, digits_value, ParsesUnsigned}
@@ -15,7 +17,7 @@ use Rattle.text_io.specs.Digits.{is_plain}
 use Rattle.text_io.specs.Schedule.{Item, once, repeated, IsItem, fiber_of, times_of, spelling, text_of}
 use Rattle.text_io.specs.Schedule.{entries_of, front_of, BeginsWith, IsFirstBad, HasNo, IsItemOf, SpellsEntries}
 use Rattle.text_io.specs.Schedule.{GivesEntries, RefusesAt}
-use Rattle.text_io.specs.Reading.{HasRead}
+use Rattle.text_io.specs.Reading.{GoesOn, HasRead}
 use Rattle.text_io.specs.declared.schedule.ScheduleError.{ScheduleError}
 use Rattle.text_io.specs.declared.schedule.ScheduleError.TheVariants.{NoMemory, BadSchedule}
 use Rattle.std.specs.declared.vec.Vec.{Vec}
@@ -221,13 +223,49 @@ read_more text rest first behind entries more fiber times h cut i e few =
       some = h.some;
     }
 
--- an item of one digit
-pub read_short : (text rest behind entries more : List ℕ) (fiber : ℕ) → HasRead text rest entries → fiber < 10 → rest ≡ (48 + fiber) ∷ 32 ∷ behind →
-    more ≡ entries ++ replicate 1 fiber → length entries < 1000000 → HasRead text behind more
-read_short text rest behind entries more fiber h low cut e few =
-    let short : IsItemOf ((48 + fiber) ∷ []) fiber 1 =
-    record { item = once fiber; good = omega arith; text_is = sym (decimal_digit fiber low); fiber_is = refl; times_is = refl } in
-    read_more text rest ((48 + fiber) ∷ []) behind entries more fiber 1 h cut short e (omega arith)
+-- ---- items that a space stands behind
+-- one digit more behind a number that isn't 0
+pub digit_more : (bs : List ℕ) (i v d : ℕ) → i < length bs → get_or bs i 0 ≡ 48 + d → d < 10 → 0 < v → v < 1000000 → take i bs ≡ decimal v →
+    take (i + 1) bs ≡ decimal (v * 10 + d)
+digit_more bs i v d low here small some few is =
+    let n = v * 10 + d in
+    let front : n / 10 ≡ v = omega arith in
+    let last : n % 10 ≡ d = omega arith in
+    let next : i + 1 ≡ suc i = omega arith in
+    ap (λ k. take k bs) next ∙ take-suc bs i 0 low ∙ rw (is, here) (sym (decimal_step n (omega arith) (omega arith) ∙ rw (front, last) refl))
+
+-- the item that a number and what goes on behind it make, and what stands behind the item's space
+pub first_of : (bs : List ℕ) (d fiber times space : ℕ) → take d bs ≡ decimal fiber → fiber < 1000 → d < length bs → GoesOn (drop d bs) times space →
+    (first : List ℕ) × IsItemOf first fiber times × (bs ≡ first ++ 32 ∷ drop (d + space + 1) bs)
+first_of bs d fiber times space front few inside g =
+    let n = d + space in
+    let within = g.within in
+    let long = length-drop d bs in
+    let low : n < length bs = omega arith in
+    let here : get_or bs n 0 ≡ 32 = sym (get_or-drop d bs space 0) ∙ g.there in
+    let next : suc n ≡ n + 1 = omega arith in
+    let rest : drop n bs ≡ 32 ∷ drop (n + 1) bs = drop-cons bs n 0 low ∙ rw (here, next) refl in
+    let parts : take n bs ≡ decimal fiber ++ take space (drop d bs) = take-add d space bs ∙ ap (λ t. t ++ take space (drop d bs)) front in
+    let whole : bs ≡ take n bs ++ 32 ∷ drop (n + 1) bs = sym (take-append-drop n bs) ∙ ap (λ t. take n bs ++ t) rest in (
+      take n bs,
+      elim g.is [
+        | inl one ↦ record {
+          item = once fiber;
+          good = few;
+          text_is = parts ∙ ap (λ t. decimal fiber ++ t) one.1 ∙ append-nil (decimal fiber);
+          fiber_is = refl;
+          times_is = one.0;
+        }
+        | inr many ↦ record {
+          item = repeated fiber times;
+          good = (few, many.0, many.1);
+          text_is = parts ∙ ap (λ t. decimal fiber ++ t) many.2;
+          fiber_is = refl;
+          times_is = refl;
+        }
+      ],
+      whole,
+    )
 
 pub read_all : (text rest entries more : List ℕ) (fiber times : ℕ) → HasRead text rest entries → IsItemOf rest fiber times → more ≡ entries ++
     replicate times fiber → length entries + times ≤ 1000000 → SpellsEntries text more

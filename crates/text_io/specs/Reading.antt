@@ -1,5 +1,6 @@
 -- How far a schedule has been read, and how far it has been written.
-use Rattle.std.specs.Prelude.{◌≡◌, ◌<◌, ◌≤◌, ℕ, List, ◌++◌, length}
+use Rattle.std.specs.Prelude.{◌≡◌, ◌+◌, ◌<◌, ◌≤◌, ◌⊎◌, ℕ, List, [], ◌∷◌, ◌++◌, get_or, length, take}
+use Rattle.std.specs.Fmt.{decimal}
 use Rattle.std.specs.List.{All, AllByRecursion}
 use Rattle.text_io.specs.Schedule.{Item, IsItem, front_of, entries_of}
 
@@ -20,3 +21,11 @@ pub record HasWritten (text rest entries : List ℕ) : Type 0 where
   pub entries_are : entries ≡ entries_of items ++ rest
   pub fibers : All (λ fiber. fiber < 1000) rest
   pub some : 0 < length rest
+
+-- Behind the number of an item's fiber these bytes go on, with a space at this one: the item ends there, or the fiber
+-- stands so many times.
+pub record GoesOn (bytes : List ℕ) (times space : ℕ) : Type 0 where
+  pub within : space < length bytes
+  pub there : get_or bytes space 0 ≡ 32
+  pub is : ((times ≡ 1) × (take space bytes ≡ [])) ⊎
+      ((0 < times) × (times ≤ 100000) × (take space bytes ≡ 42 ∷ decimal times))

@@ -1,11 +1,12 @@
 //! A schedule's text: items `f` or `f*k`, separated by one space each.
 
 ghost use Rattle.std.specs.Prelude.{◌≡◌, ◌≢◌, ◌+◌, ◌-◌, ◌<◌, ◌≤◌, ℕ, List, ◌++◌, ◌∷◌, [], IfOk, OnOk, IfSome, IfNone};
-ghost use Rattle.std.specs.Prelude.{IsErrOf, length, replicate, MatchOption, vec_len};
+ghost use Rattle.std.specs.Prelude.{IsErrOf, length, replicate, take, MatchOption, vec_len};
 ghost use Rattle.std.specs.Fmt.{decimal};
 ghost use Rattle.text_io.specs.Schedule.{Item, IsItem, IsItemOf, spelling, SpellsEntries, IsFirstBad};
 ghost use Rattle.text_io.specs.Schedule.{GivesEntries, RefusesAt, HasNo};
 ghost use Rattle.text_io.specs.Digits.{is_plain};
+ghost use Rattle.text_io.specs.Reading.{GoesOn};
 ghost use Rattle.text_io.specs.declared.schedule.ScheduleError.TheVariants.{NoMemory};
 
 use std::alloc::{AllocError, Global};
@@ -47,29 +48,6 @@ fn is_plain(digits: &[u8]) -> bool
 
 // A number in digits, with no zero in front, and at most `most`.
 fn number(digits: &str, most: u32) -> Option<u32>
-    ensures found { IfSome result (λ n. (n ≤ most) × (digits.now ≡ decimal n)) }
-    ensures none { IfNone result ((n : ℕ) → n ≤ most → digits.now ≡ decimal n → ⊥) }
-{
-    match digits.as_bytes() {
-        [only] => digit(*only, most),
-        _ => long_number(digits, most),
-    }
-}
-
-// The number of one digit, where it is at most `most`.
-fn digit(byte: u8, most: u32) -> Option<u32>
-    ensures found { IfSome result (λ n. (n ≤ most) × (byte ∷ [] ≡ decimal n)) }
-    ensures none { IfNone result ((n : ℕ) → n ≤ most → byte ∷ [] ≡ decimal n → ⊥) }
-{
-    if byte < b'0' || b'9' < byte {
-        return None;
-    }
-    let number = u32::from(byte - b'0');
-    if number <= most { Some(number) } else { None }
-}
-
-// A number in digits, of however many, with no zero in front, and at most `most`.
-fn long_number(digits: &str, most: u32) -> Option<u32>
     ensures found { IfSome result (λ n. (n ≤ most) × (digits.now ≡ decimal n)) }
     ensures none { IfNone result ((n : ℕ) → n ≤ most → digits.now ≡ decimal n → ⊥) }
 {
@@ -120,14 +98,64 @@ fn first_item(text: &str) -> (&str, Option<&str>)
     }
 }
 
-// The fiber of an item of one digit that a space stands behind, as most are, and what stands behind the space.
-fn short_item(text: &str) -> Option<(u16, &str)>
-    ensures { IfSome result (λ found. (found.0 < 10) × (text.now ≡ (48 + found.0) ∷ 32 ∷ found.1.now)) }
+// The number with which the bytes begin, at most `most` and without a zero in front, and how many digits it has; none
+// where nothing stands behind it.
+#[inline(always)]
+fn lead(bytes: &[u8], most: u32) -> Option<(u32, usize)>
+    requires { (9 ≤ most) × (most < 1000000) }
+    ensures { IfSome result (λ found. (found.0 ≤ most) × (found.1 < length bytes.now) ×
+        (take found.1 bytes.now ≡ decimal found.0)) }
 {
-    match text.as_bytes() {
-        [digit @ b'0'..=b'9', b' ', ..] => Some((u16::from(*digit - b'0'), &text[2..])),
+    let first = *bytes.first()?;
+    if first < b'0' || b'9' < first {
+        return None;
+    }
+    let mut value = u32::from(first - b'0');
+    for at in 1..bytes.len() {
+        let byte = bytes[at];
+        if byte < b'0' || b'9' < byte {
+            return Some((value, at));
+        }
+        if value == 0 {
+            return None;
+        }
+        value = value * 10 + u32::from(byte - b'0');
+        if value > most {
+            return None;
+        }
+    }
+    None
+}
+
+// How often the fiber of an item stands that goes on so behind the fiber's number, and at which byte the space stands
+// that is behind the item.
+#[inline(always)]
+fn times_behind(bytes: &[u8]) -> Option<(u32, usize)>
+    ensures { IfSome result (λ found. GoesOn bytes.now found.0 found.1) }
+{
+    match bytes {
+        [b' ', ..] => Some((1, 0)),
+        [b'*', behind @ ..] => {
+            let (times, many) = lead(behind, MOST_TIMES)?;
+            if times == 0 || behind[many] != b' ' {
+                return None;
+            }
+            Some((times, many + 1))
+        }
         _ => None,
     }
+}
+
+// The fiber of the first item, how often it stands, and what stands behind its space, as it is of most items: none says
+// nothing.
+fn quick_item(text: &str) -> Option<(u16, u32, &str)>
+    ensures { IfSome result (λ found. (first : List ℕ) × IsItemOf first found.0 found.1 ×
+        (text.now ≡ first ++ 32 ∷ found.2.now)) }
+{
+    let bytes = text.as_bytes();
+    let (fiber, digits) = lead(bytes, MOST_FIBER)?;
+    let (times, space) = times_behind(&bytes[digits..])?;
+    Some((fiber as u16, times, &text[digits + space + 1..]))
 }
 
 fn push_times(entries: &mut Vec<u16>, fiber: u16, times: u32) -> Result<(), AllocError>
@@ -157,10 +185,10 @@ fn read_items(alloc: Global, text: &str) -> Result<Vec<u16>, ScheduleError>
     let mut entries = Vec::with_capacity(alloc, first_room(text))?;
     let mut rest = text;
     'items: loop {
-        if let Some((fiber, behind)) = short_item(rest)
-            && entries.len() < MOST_ENTRIES
+        if let Some((fiber, times, behind)) = quick_item(rest)
+            && times as usize <= MOST_ENTRIES - entries.len()
         {
-            push_times(&mut entries, fiber, 1)?;
+            push_times(&mut entries, fiber, times)?;
             rest = behind;
             continue;
         }

@@ -1,6 +1,6 @@
 use Rattle.std.proofs.Common.{◌≡◌, ◌≤◌, ◌<◌, ◌+◌, ◌-◌, rules, arith, length, subst}
 use Rattle.text_io.specs.Schedule.{IsFirstBad}
-use Rattle.text_io.proofs.ScheduleLemmas.{read_bad, read_more, read_short, read_all, too_many}
+use Rattle.text_io.proofs.ScheduleLemmas.{read_bad, read_more, read_all, too_many}
 use Rattle.text_io.proofs.schedule.read_items.Goals as goal
 
 pub returns-in_default-clause-place : goal.returns-in_default-clause-place
@@ -10,8 +10,8 @@ returns-in_default-clause-place c = λ place e.
     let same : length c.args.text.now - length c.items.rest.now ≡ place = cc in
     subst (IsFirstBad c.args.text.now) same here
 
-pub returns-then-times-len-clause-place : goal.returns-then-times-len-clause-place
-returns-then-times-len-clause-place c = λ place e.
+pub returns-then-times-len-2-clause-place : goal.returns-then-times-len-2-clause-place
+returns-then-times-len-2-clause-place c = λ place e.
     let many : 1000000 < length c.items.entries.items + c.in-Some-item.times = omega (arith, c.items.entries.ok.0, c.items.invariant.read.few) in
     let here = read_bad c.args.text.now c.items.rest.now c.first_item.result.0.now c.items.entries.items c.first_item.result.1 c.items.invariant.read
     c.first_item.ensures.alone c.first_item.ensures.parts
@@ -20,11 +20,13 @@ returns-then-times-len-clause-place c = λ place e.
     subst (IsFirstBad c.args.text.now) same here
 
 pub items-preserved-in-items : goal.items-preserved-in-items
-items-preserved-in-items c = record {
-  read = read_short c.args.text.now c.items.rest.now c.in-Some.behind.now c.items.entries.items c.push_times.new.entries.items c.in-Some.fiber
-      c.items.invariant.read c.in-Some.ensures.0 c.in-Some.ensures.1 c.in_ok-push_times.ensures (omega (arith, c.if-len-lt-MOST_ENTRIES.true));
-  text = search rules;
-}
+items-preserved-in-items c =
+    let few : length c.items.entries.items + c.in-Some.times ≤ 1000000 = omega (arith, c.items.entries.ok.0, c.items.invariant.read.few) in
+    record {
+      read = read_more c.args.text.now c.items.rest.now c.in-Some.ensures.0 c.in-Some.behind.now c.items.entries.items c.push_times.new.entries.items
+          c.in-Some.fiber c.in-Some.times c.items.invariant.read c.in-Some.ensures.2 c.in-Some.ensures.1 c.in_ok-push_times.ensures few;
+      text = search rules;
+    }
 
 pub items-preserved : goal.items-preserved
 items-preserved c =

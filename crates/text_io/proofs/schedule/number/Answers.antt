@@ -3,7 +3,7 @@ use Rattle.std.proofs.lemmas.Fmt.{parse-decimal}
 use Rattle.std.specs.declared.num.ParseIntError.{ParseIntError}
 use Rattle.text_io.specs.Digits.{is_plain}
 use Rattle.text_io.proofs.ScheduleLemmas.{parsed, decimal_plain}
-use Rattle.text_io.proofs.schedule.long_number.Goals as goal
+use Rattle.text_io.proofs.schedule.number.Goals as goal
 
 pub returns-then-not-is_plain-clause-none : goal.returns-then-not-is_plain-clause-none
 returns-then-not-is_plain-clause-none c = λ n l e.
