@@ -75,8 +75,8 @@ pub data IsRecordedWith (t : Term) (options : Options) : Bool → List ℕ → S
 abbrev pub IsRecordedAnswer : Term → Options → List ℕ → Status → Type 0
 IsRecordedAnswer t options answer status = (tells : Bool) × IsRecordedWith t options tells answer status
 
--- What comes of it with a timeline: the same, behind which a blank line and a timeline stand exactly where a schedule is
--- told.
+-- What comes of it with a timeline: the same, behind which a blank line and a timeline stand exactly where a schedule
+-- is told.
 pub data IsTimedAnswer (t : Term) (options : Options) : List ℕ → Status → Type 0 where
   alone : (answer : List ℕ) (status : Status) → IsRecordedWith t options false answer status →
       IsTimedAnswer t options answer status

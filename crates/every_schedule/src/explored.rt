@@ -30,8 +30,8 @@ use world_search::{Bounds, Landing, Unwatched, Watcher, search, search_watched};
 /// each with a schedule under which it comes, as `replay` takes it.
 ///
 /// Where the exploration is complete, no other report that stays and no other fault comes of any schedule. Where it
-/// isn't, as many worlds were kept as may be, or more than a schedule may have entries, or an end that isn't listed comes
-/// of a schedule that is longer than the bound; each answer is right all the same.
+/// isn't, as many worlds were kept as may be, or more than a schedule may have entries, or an end that isn't listed
+/// comes of a schedule that is longer than the bound; each answer is right all the same.
 /// So of a complete exploration: where no fault is listed, no schedule faults; where all answers end alike, the report
 /// doesn't hang on the schedule; and where a fiber has ended in each answer, it can still end wherever a schedule has
 /// led. A report is listed once, and so is a fault. The limits are in their ranges ([`Limits`]); a world takes memory

@@ -7,7 +7,8 @@ ghost use Rattle.derived_ops.specs.Reading.{source_of};
 ghost use Rattle.cell_registry.specs.Cells.{AreLimits};
 ghost use Rattle.world_search.specs.declared.answers.Answer.{Answer as Found};
 ghost use Rattle.every_schedule.specs.Places.{first_place};
-ghost use Rattle.every_schedule.specs.Private.Trails.{AreUnfolded, EndApart, EndsAlone, IsKeptIn, IsLeftOut, IsUnfolded};
+ghost use Rattle.every_schedule.specs.Private.Trails.{AreUnfolded, EndApart, EndsAlone, IsKeptIn};
+ghost use Rattle.every_schedule.specs.Private.Trails.{IsLeftOut, IsUnfolded};
 
 use crate::core_world::CoreWorld;
 use crate::current::{States, begun};

@@ -283,7 +283,9 @@ fn json_is_told_whole_or_memory_ran_out(rt: HostRuntime) {
     if let Ok(answer) = replayed(rt.alloc(), "(seq (say 1) (pure 2))") {
         assert_eq!(rt;
             answer.text.as_slice(),
-            b"{\"answer\":\"report\",\"fibers\":[{\"fiber\":0,\"marks\":[{\"say\":1}],\"outcome\":{\"succeeded\":2}}]}\n".as_slice()
+            b"{\"answer\":\"report\",\"fibers\":[{\"fiber\":0,\"marks\":[{\"say\":1}],\
+              \"outcome\":{\"succeeded\":2}}]}\n"
+                .as_slice()
         );
     }
 }

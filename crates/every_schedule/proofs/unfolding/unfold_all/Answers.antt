@@ -8,7 +8,8 @@ use Rattle.derived_ops.specs.Reading.{source_of}
 use Rattle.world_search.specs.declared.answers.Answer.{Answer as Found}
 use Rattle.every_schedule.specs.Places.{first_place}
 use Rattle.every_schedule.specs.Private.Trails.{AreUnfolded, EndApart, EndsAlone, IsKeptIn, IsUnfolded}
-use Rattle.every_schedule.proofs.Trails.{EndsBefore, alone_here, alone_next, alone_sorted, apart_next, apart_sorted, before_more, before_next, kept_next, kept_sorted, unfolded_next, unfolded_sorted}
+use Rattle.every_schedule.proofs.Trails.{EndsBefore, alone_here, alone_next, alone_sorted, apart_next, apart_sorted}
+use Rattle.every_schedule.proofs.Trails.{before_more, before_next, kept_next, kept_sorted, unfolded_next, unfolded_sorted}
 use Rattle.every_schedule.proofs.unfolding.unfold_all.Goals as goal
 use Rattle.every_schedule.proofs.unfolding.unfold_all.Goals.{then-not-branch, else-not-branch}
 
