@@ -1,10 +1,9 @@
 -- What is told of a text that is refused.
-use Rattle.std.proofs.Common.{◌≡◌, ◌≢◌, ◌⊎◌, inl, inr, ℕ, List, ◌++◌, Some, None, Result, Ok, Err, IfOk, OnOk, Vec, Global, take, sym, subst}
+use Rattle.std.proofs.Common.{◌≡◌, ◌≢◌, inl, inr, ℕ, List, ◌++◌, Some, None, Result, Ok, Err, IfOk, OnOk, Vec, Global, take, sym, subst}
 use Rattle.effect_term.specs.declared.refusal.TermError.{TermError}
 use Rattle.effect_term.specs.declared.refusal.TermError.TheVariants as term
 use Rattle.term_parse.specs.declared.error.ParseError.{ParseError}
 use Rattle.term_parse.specs.declared.error.ParseError.TheVariants as parse
-use Rattle.term_parse.specs.Reading.{reading}
 use Rattle.outcome_trace.specs.declared.lines.Refused.{Refused}
 use Rattle.outcome_trace.specs.declared.lines.Refused.TheVariants.{Parse, Term}
 use Rattle.outcome_trace.specs.Answers.{IsRefused}

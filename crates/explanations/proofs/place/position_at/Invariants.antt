@@ -1,4 +1,4 @@
-use Rattle.std.proofs.Common.{◌≡◌, ◌+◌, ◌≤◌, ◌<◌, drop, take}
+use Rattle.std.proofs.Common.{◌≡◌, ◌+◌, ◌≤◌, drop, take}
 use Rattle.explanations.specs.Place.{position_behind, position_of}
 use Rattle.explanations.proofs.place.position_at.Given as goal
 

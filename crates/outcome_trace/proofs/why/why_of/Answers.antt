@@ -1,9 +1,8 @@
-use Rattle.std.proofs.Common.{◌≡◌, ◌∙◌, sym, ap, arith, subst}
-use Rattle.fiber_frames.specs.declared.ask.Ask.{Ask}
+use Rattle.std.proofs.Common.{◌∙◌, sym, ap, arith, subst}
 use Rattle.fiber_frames.specs.Naming.{AskNamed}
 use Rattle.outcome_trace.specs.Core.{wish_of}
 use Rattle.outcome_trace.specs.Fitting.{given_by}
-use Rattle.outcome_trace.proofs.Settling.{at_rest, some_is, waits_join, waits_read, word_named}
+use Rattle.outcome_trace.proofs.Settling.{at_rest, waits_join, waits_read, word_named}
 use Rattle.outcome_trace.proofs.why.why_of.Goals as goal
 
 pub has_ended-requires : goal.has_ended-requires
