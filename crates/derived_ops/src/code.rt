@@ -16,13 +16,14 @@ use crate::expansion::Expansion;
 use effect_term::Program;
 use std::alloc::{AllocError, Global};
 use std::marker::Model;
+use std::sync::Arc;
 
 /// The code of a program: a term of core words that is the expansion of a program, word by word.
 ///
 /// In contracts a code is that term.
 #[derive(Drop)]
 pub struct Code {
-    words: Vec<CoreWord>,
+    words: Arc<Vec<CoreWord>>,
 }
 
 impl Model for Code {
@@ -36,9 +37,9 @@ impl Model for Code {
 
     ghost coded = { tree_code };
 
-    ghost view = { λ c. tree_of c.words.items };
+    ghost view = { λ c. tree_of c.words.value.items };
 
-    ghost invariant = { λ c. IsCode (tree_of c.words.items) × (length c.words.items < 2000000) };
+    ghost invariant = { λ c. IsCode (tree_of c.words.value.items) × (length c.words.value.items < 2000000) };
 }
 
 impl Code {
@@ -56,6 +57,16 @@ impl Code {
     {
         self.words.as_slice()
     }
+
+    /// The same words for somebody who keeps them beside this code, so that they are held once. Takes no memory;
+    /// `AllocError` comes where they are held too often.
+    pub fn shared_words(&self) -> Result<Arc<Vec<CoreWord>>, AllocError>
+        ensures term { IfOk result (λ words. tree_of words.value.items ≡ self.now) }
+        ensures code { IfOk result (λ _. IsCode self.now) }
+        ensures few { IfOk result (λ words. length words.value.items < 2000000) }
+    {
+        Arc::try_clone(&self.words)
+    }
 }
 
 /// The code of a program, or `AllocError` where memory is refused.
@@ -72,5 +83,7 @@ pub fn expand(alloc: Global, program: &Program) -> Result<Code, AllocError>
     let mut expansion = Expansion::new(alloc);
     expansion.part(program.term(), 0)?;
     let words = expansion.into_words();
-    Ok(Code { words })
+    Ok(Code {
+        words: Arc::new(alloc, words)?,
+    })
 }
