@@ -29,5 +29,4 @@ pub mod Rowing
 pub mod Leads
 pub mod Names
 pub mod NamedMoves
-pub mod Copying
 pub mod AtRest

@@ -13,30 +13,11 @@ use std::alloc::{AllocError, Global};
 use std::sync::Arc;
 
 impl Machine {
-    /// The same fiber once more, or `AllocError` where memory is refused. Of one that has ended, what it
-    /// ended with and its marks are copied.
+    /// The same fiber once more, or `AllocError` where memory is refused.
     pub(crate) fn copy(&self, alloc: Global) -> Result<Machine, AllocError>
         requires { Sound (state_of self.now) }
         ensures fiber { IfOk result (λ it. fiber_in it ≡ fiber_in self.now) }
         ensures sound { IfOk result (λ it. Sound (state_of it)) }
-    {
-        if self.is_over() {
-            self.end_copy(alloc)
-        } else {
-            self.whole_copy(alloc)
-        }
-    }
-
-    // The fiber has ended.
-    fn is_over(&self) -> bool
-        ensures { result ≡ true → IsOver self.now.stage }
-    {
-        matches!(self.stage, RunStage::Over(_))
-    }
-
-    // A copy of all that it holds.
-    fn whole_copy(&self, alloc: Global) -> Result<Machine, AllocError>
-        ensures { IfOk result (λ it. state_of it ≡ state_of self.now) }
     {
         Ok(Machine {
             own: self.own,
@@ -53,25 +34,11 @@ impl Machine {
         })
     }
 
-    // A copy of what is left of one that has ended.
-    fn end_copy(&self, alloc: Global) -> Result<Machine, AllocError>
-        requires { IsOver self.now.stage }
-        ensures fiber { IfOk result (λ it. fiber_in it ≡ fiber_in self.now) }
-        ensures sound { IfOk result (λ it. Sound (state_of it)) }
+    // The fiber has ended.
+    fn is_over(&self) -> bool
+        ensures { result ≡ true → IsOver self.now.stage }
     {
-        Ok(Machine {
-            own: self.own,
-            look: self.look,
-            words: Arc::try_clone(&self.words)?,
-            place: self.place,
-            stage: self.stage,
-            next: self.next,
-            frames: Vec::new(alloc),
-            masks: Vec::new(alloc),
-            env: Vec::new(alloc),
-            finalizers: Vec::new(alloc),
-            marks: Vec::from_slice(alloc, self.marks.as_slice())?,
-        })
+        matches!(self.stage, RunStage::Over(_))
     }
 
     /// Whether two fibers are one, as far as can be told by what they hold.

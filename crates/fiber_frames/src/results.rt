@@ -22,13 +22,18 @@ use effect_term::Outcome;
 use std::alloc::AllocError;
 
 impl Machine {
-    /// The fiber has ended so.
-    #[inline(always)]
+    /// The fiber has ended so. The memory of its stacks is given back at once, so that fibers which begin later have
+    /// it; its marks stay.
+    #[inline(never)]
     pub(crate) fn end(&mut self, outcome: Outcome)
         ensures { state_of self.new ≡ over (state_of self.old) outcome }
     {
+        let alloc = *self.env.allocator();
         self.stage = RunStage::Over(outcome);
-        self.masks.clear();
+        self.frames = Vec::new(alloc);
+        self.masks = Vec::new(alloc);
+        self.env = Vec::new(alloc);
+        self.finalizers = Vec::new(alloc);
     }
 
     // The result leaves the mask of this number, whose frame is taken off.
