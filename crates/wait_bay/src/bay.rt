@@ -1,9 +1,10 @@
 //! The bay: its slots and lists, and what is done with the lists.
-ghost use Rattle.std.specs.Prelude.{◌≡◌, ◌<◌, ◌↔◌, [], IfOk, IsNone, IsOk, IsTrue, false, vec_len};
+ghost use Rattle.std.specs.Prelude.{◌≡◌, ◌<◌, ◌↔◌, [], IfOk, IsNone, IsOk, IsTrue, false};
 ghost use Rattle.wait_bay.specs.Names.{named_of};
 ghost use Rattle.wait_bay.specs.Bays.{IsSeatOf, IsWithin};
 
-use crate::laws::{Slot, Waiters};
+use crate::laws::Slot;
+use crate::lists::{Lists, WaiterList};
 use crate::rule::{BayRule, Knowledge, Names, Same};
 use crate::seat::BaySeat;
 use atomic_table::Table;
@@ -12,7 +13,7 @@ use derived_ops::Code;
 use fiber_poll::{FiberTask, Topic};
 use std::alloc::{AllocError, Global};
 use std::marker::Model;
-use std::sync::atomic::{AtomicBool, Ordering};
+use std::sync::atomic::Ordering;
 use std::sync::{Mutex, Wait};
 
 /// The tasks of fibers that no worker has, and the lists of those that wait, which workers on any
@@ -26,8 +27,8 @@ pub struct Bay<'a> {
     pub(crate) alloc: Global,
     pub(crate) count: u16,
     pub(crate) slots: Vec<Mutex<Slot>>,
-    fibers: Vec<WaiterList>,
-    deferreds: Vec<WaiterList>,
+    fibers: Lists,
+    deferreds: Lists,
     pub(crate) table: Table<Option<FiberTask<'a>>, Knowledge, Names<'a>, BayRule, Global>,
 }
 
@@ -46,10 +47,10 @@ impl<'a> Model for Bay<'a> {
       table = b.table.shared.table_id;
       named = b.table.shared.key;
       fibers = b.count;
-      deferreds = vec_len b.deferreds;
+      deferreds = b.deferreds.count;
     } };
 
-    ghost invariant = { λ b. (vec_len b.fibers ≡ b.count) × (vec_len b.slots ≡ b.count) ×
+    ghost invariant = { λ b. (b.fibers.count ≡ b.count) × (vec_len b.slots ≡ b.count) ×
         (b.table.shared.table_id.words ≡ b.count) × (b.table.shared.table_id.slots ≡ b.count) };
 }
 
@@ -80,8 +81,8 @@ impl<'a> Bay<'a> {
             alloc,
             count: fibers,
             slots,
-            fibers: lists(alloc, fibers)?,
-            deferreds: lists(alloc, deferreds)?,
+            fibers: Lists::new(alloc, fibers)?,
+            deferreds: Lists::new(alloc, deferreds)?,
             table,
         };
         Ok((bay, BaySeat { seat }))
@@ -102,7 +103,7 @@ impl<'a> Bay<'a> {
     {
         match topic {
             Topic::Fiber(f) => f < self.count,
-            Topic::Deferred(d) => usize::from(d) < self.deferreds.len(),
+            Topic::Deferred(d) => d < self.deferreds.count,
             Topic::Never => true,
         }
     }
@@ -125,8 +126,10 @@ impl<'a> Bay<'a> {
         requires within { IsWithin self.now topic }
         ensures never { topic ≡ Topic.Never → IsOk result }
     {
-        let Some(list) = self.list(topic) else {
-            return Ok(());
+        let list = match topic {
+            Topic::Fiber(g) => self.fibers.made(g)?,
+            Topic::Deferred(d) => self.deferreds.made(d)?,
+            Topic::Never => return Ok(()),
         };
         let mut waiters = list.waiters.lock(rt);
         waiters.register(f)?;
@@ -161,38 +164,16 @@ impl<'a> Bay<'a> {
         waiters.drain()
     }
 
-    // The list of a topic, which `Never` has none of.
+    // The list of a topic, if somebody may be noted there. `Never` has none.
     #[inline(always)]
     fn list(&self, topic: Topic) -> Option<&WaiterList>
         requires within { IsWithin self.now topic }
         ensures never { topic ≡ Topic.Never → IsNone result }
     {
         match topic {
-            Topic::Fiber(g) => Some(&self.fibers[g as usize]),
-            Topic::Deferred(d) => Some(&self.deferreds[d as usize]),
+            Topic::Fiber(g) => self.fibers.get(g),
+            Topic::Deferred(d) => self.deferreds.get(d),
             Topic::Never => None,
         }
     }
-}
-
-// Those that wait for a topic, as workers share them.
-#[derive(Drop)]
-struct WaiterList {
-    // Whether somebody was noted since the list was drained last. It changes under the lock.
-    noted: AtomicBool,
-    waiters: Mutex<Waiters>,
-}
-
-// So many lists of nobody.
-fn lists(alloc: Global, count: u16) -> Result<Vec<WaiterList>, AllocError>
-    ensures { IfOk result (λ v. vec_len v ≡ count) }
-{
-    let mut all = Vec::with_capacity(alloc, usize::from(count))?;
-    for _ in 0..count {
-        all.push(WaiterList {
-            noted: AtomicBool::new(false),
-            waiters: Mutex::new(Waiters::new(alloc)),
-        })?;
-    }
-    Ok(all)
 }
