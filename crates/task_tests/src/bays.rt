@@ -235,6 +235,39 @@ const WAITS: &[Waiting<'static>] = &[
     },
 ];
 
+// Those that wait for one topic are no others, however far apart the numbers of the topics are.
+const FAR_WAITS: &[Waiting<'static>] = &[
+    Waiting {
+        come: &[(Topic::Fiber(64), 3)],
+        told: &[
+            (Topic::Fiber(0), &[]),
+            (Topic::Fiber(63), &[]),
+            (Topic::Fiber(65), &[]),
+            (Topic::Fiber(128), &[]),
+            (Topic::Fiber(129), &[]),
+            (Topic::Deferred(64), &[]),
+            (Topic::Fiber(64), &[3]),
+        ],
+    },
+    Waiting {
+        come: &[
+            (Topic::Fiber(63), 5),
+            (Topic::Fiber(129), 6),
+            (Topic::Deferred(65), 7),
+            (Topic::Fiber(127), 8),
+            (Topic::Deferred(1), 9),
+        ],
+        told: &[
+            (Topic::Deferred(65), &[7]),
+            (Topic::Fiber(127), &[8]),
+            (Topic::Fiber(63), &[5]),
+            (Topic::Fiber(129), &[6]),
+            (Topic::Fiber(65), &[]),
+            (Topic::Deferred(1), &[9]),
+        ],
+    },
+];
+
 // Notes who waits. A bay without a list for the topic notes nobody.
 fn notes(rt: &impl Wait, bay: &Bay<'_>, come: &[(Topic, u16)]) -> Result<(), AllocError> {
     for (topic, fiber) in come {
@@ -263,12 +296,11 @@ fn are_told(rt: &impl Wait, bay: &Bay<'_>, told: &[(Topic, &[u16])]) -> bool {
     true
 }
 
-// Whether a bay for three fibers and one deferred tells those that wait.
-fn tells_all(alloc: Global, rt: &impl Wait, cases: &[Waiting<'_>]) -> Result<bool, AllocError> {
-    let (bay, _) = Bay::new(alloc, 3, 1, None)?;
+// Whether a bay tells those that wait.
+fn tells_all(rt: &impl Wait, bay: &Bay<'_>, cases: &[Waiting<'_>]) -> Result<bool, AllocError> {
     for case in cases {
-        notes(rt, &bay, case.come)?;
-        if !are_told(rt, &bay, case.told) {
+        notes(rt, bay, case.come)?;
+        if !are_told(rt, bay, case.told) {
             return Ok(false);
         }
     }
@@ -277,7 +309,10 @@ fn tells_all(alloc: Global, rt: &impl Wait, cases: &[Waiting<'_>]) -> Result<boo
 
 #[test]
 fn those_that_wait_are_told_once_in_their_order(rt: HostRuntime) -> Result<(), Fail> {
-    assert!(&rt; tells_all(rt.alloc(), &rt, WAITS)?);
+    let (bay, _) = Bay::new(rt.alloc(), 3, 1, None)?;
+    assert!(&rt; tells_all(&rt, &bay, WAITS)?);
+    let (bay, _) = Bay::new(rt.alloc(), 130, 66, None)?;
+    assert!(&rt; tells_all(&rt, &bay, FAR_WAITS)?);
     Ok(())
 }
 
