@@ -258,6 +258,10 @@ const FAR_WAITS: &[Waiting<'static>] = &[
             (Topic::Deferred(1), 9),
         ],
         told: &[
+            (Topic::Fiber(31), &[]),
+            (Topic::Fiber(62), &[]),
+            (Topic::Fiber(95), &[]),
+            (Topic::Deferred(33), &[]),
             (Topic::Deferred(65), &[7]),
             (Topic::Fiber(127), &[8]),
             (Topic::Fiber(63), &[5]),
