@@ -15,3 +15,4 @@ pub mod Tokens
 pub mod OwnTurns
 pub mod ValueTurns
 pub mod Showing
+pub mod Forgetting

@@ -1,6 +1,6 @@
 -- A registry as one thread would keep it: plain records, and what each call does to them.
 use Rattle.std.specs.Prelude.{◌≡◌, ℕ, ◌+◌, ◌-◌, ◌^◌, ◌<◌, ◌≤◌, Bool, true, false, ◌==◌, List, length, Option, Some}
-use Rattle.std.specs.Prelude.{None, cond, is_none, replicate, slice_index_or, slice_set, ℤ, pos, ◌+ℤ◌}
+use Rattle.std.specs.Prelude.{None, cond, is_none, map, replicate, slice_index_or, slice_set, ℤ, pos, ◌+ℤ◌}
 use Rattle.effect_term.specs.declared.reply.Outcome.{Outcome}
 use Rattle.effect_term.specs.declared.reply.Outcome.TheVariants.{Succeeded, Errored, Canceled}
 use Rattle.effect_term.specs.declared.reply.CancelReply.{CancelReply}
@@ -45,6 +45,10 @@ requested c = record c { request = true }
 
 abbrev pub awaited : Cell → Cell
 awaited c = record c { waited = true }
+
+-- nobody has joined it, as far as it is noted
+abbrev pub unawaited : Cell → Cell
+unawaited c = record c { waited = false }
 
 -- what its owner changes: each such change adds 1 to the count
 abbrev pub masked : Cell → Cell
@@ -139,6 +143,10 @@ with_ref s r v = record s { refs = slice_set s.refs r v }
 
 abbrev pub with_deferred : Cells → ℕ → Option ℤ → Cells
 with_deferred s d v = record s { deferreds = slice_set s.deferreds d v }
+
+-- the same registry, where it isn't noted which fibers were joined
+abbrev pub without_waits : Cells → Cells
+without_waits s = record s { cells = map unawaited s.cells }
 
 -- a deferred is filled at most once
 abbrev pub filled : Option ℤ → ℤ → Option ℤ

@@ -1,8 +1,8 @@
 //! A fiber's cell as the registry for one thread keeps it.
-ghost use Rattle.std.specs.Prelude.{◌≡◌, ◌+◌, ◌<◌, ◌^◌, IfErr, IfOk, Some, None};
+ghost use Rattle.std.specs.Prelude.{◌≡◌, ◌+◌, ◌<◌, ◌^◌, map, IfErr, IfOk, Some, None};
 ghost use Rattle.cell_registry.specs.Words.{has_ended};
 ghost use Rattle.cell_registry.specs.Cells.{awaited, cancel_reply, cut, finished, fresh, join_reply, masked};
-ghost use Rattle.cell_registry.specs.Cells.{requested, spent, unmasked};
+ghost use Rattle.cell_registry.specs.Cells.{requested, spent, unawaited, unmasked};
 ghost use Rattle.cell_registry.specs.declared.cell.Stage.TheVariants.{Ended, Finalizing, Running};
 ghost use Rattle.cell_registry.specs.Private.Kept.{has_value};
 
@@ -159,6 +159,14 @@ impl KeptCell {
         }
     }
 
+    /// Forgets whether somebody has joined the fiber.
+    #[inline(always)]
+    pub(crate) fn forget_wait(&mut self)
+        ensures { self.new ≡ unawaited self.old }
+    {
+        self.waited = false;
+    }
+
     /// Refuses where the count of changes is used up.
     #[inline(always)]
     pub(crate) fn refuse_if_spent(&self, limit: u64) -> Result<(), CellError>
@@ -213,6 +221,22 @@ impl KeptCell {
     {
         self.end(outcome);
         self.count += 1;
+    }
+}
+
+/// Forgets of each of these whether somebody has joined its fiber.
+pub(crate) fn forget_waits(cells: &mut Vec<KeptCell>)
+    ensures { cells.new.items ≡ map unawaited cells.old.items }
+{
+    forget_each(cells.as_mut_slice());
+}
+
+// The same of a slice of them.
+fn forget_each(cells: &mut [KeptCell])
+    ensures { cells.new ≡ map unawaited cells.old }
+{
+    for cell in cells.iter_mut() {
+        cell.forget_wait();
     }
 }
 

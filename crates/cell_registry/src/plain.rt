@@ -1,12 +1,12 @@
 //! The registry for one thread.
 ghost use Rattle.std.specs.Prelude.{◌≡◌, ◌≢◌, ◌+◌, ◌<◌, is_none, length, IfErr, IfOk, false, true};
-ghost use Rattle.cell_registry.specs.Cells.{AreLimits, Cells, cell_of, deferred_of};
+ghost use Rattle.cell_registry.specs.Cells.{AreLimits, Cells, cell_of, deferred_of, without_waits};
 ghost use Rattle.cell_registry.specs.Words.{has_ended};
 ghost use Rattle.cell_registry.specs.Private.Shown.{Shows};
 ghost use Rattle.cell_registry.specs.Plain.{new_plain, IsPlain, MayCall, IsMade, IsRefused};
 
 use crate::call::Call;
-use crate::kept_cell::KeptCell;
+use crate::kept_cell::{KeptCell, forget_waits};
 use crate::limits::{Band, CellError, Limits};
 use crate::sameness::{mixed_items, same_items};
 use crate::shown::{cells, deferreds, refs};
@@ -369,6 +369,14 @@ impl PlainRegistry {
             refs: Vec::from_slice(alloc, self.refs.as_slice())?,
             deferreds: Vec::from_slice(alloc, self.deferreds.as_slice())?,
         })
+    }
+
+    /// Forgets which fibers somebody has joined. No reply and no refusal depends on it.
+    pub fn forget_waits(&mut self)
+        ensures forgets { self.new ≡ record self.old { state = without_waits self.old.state } }
+        ensures lawful { IsPlain self.new }
+    {
+        forget_waits(&mut self.cells);
     }
 
     /// Whether two registries are one: the same limits, numbers given, cells and values.

@@ -1,5 +1,5 @@
 -- No answer to a text ends as wrong usage does.
-use Rattle.std.proofs.Common.{◌≢◌, ◌==◌, ◌∙◌, if◌then◌else◌, Bool, true, false, ℕ, List, [], ◌∷◌, Option, Some, None, Result, Ok, Err, sym}
+use Rattle.std.proofs.Common.{◌≡◌, ◌≢◌, ◌==◌, ◌∙◌, if◌then◌else◌, Bool, true, false, ℕ, List, [], ◌∷◌, Option, Some, None, Result, Ok, Err, sym}
 use Rattle.std.specs.Prelude.{count_by}
 use Rattle.std.specs.Result.{is_err}
 use Rattle.cell_registry.specs.declared.limits.Limits.{Limits}
@@ -12,30 +12,29 @@ use Rattle.text_io.specs.declared.status.Status.TheVariants as ends
 use Rattle.text_io.specs.Devices.{Devices, Reader, Writer}
 use Rattle.text_io.specs.Exchange.{IsAnswered}
 use Rattle.text_io.specs.Telling.{Answered, status_of}
-use Rattle.outcome_trace.specs.declared.report.FiberReport.{FiberReport}
-use Rattle.outcome_trace.specs.Answers.{IsCheckAnswer, IsRefusalAnswer, IsShowAnswer, counted, no_program, no_term, refused, shown, unshown}
-use Rattle.outcome_trace.specs.ReplayAnswers.{IsReplayAnswer, IsRunAnswer, outcome_status, report_status, faults, replays, reports, unreplayed}
+use Rattle.scheduled_core.specs.declared.report.FiberReport.{FiberReport}
+use Rattle.outcome_trace.specs.Answers.{IsCheckAnswer, IsProgramAnswer, IsRefusalAnswer, IsShowAnswer, no_program, no_term, refuses, runs}
+use Rattle.outcome_trace.specs.ReplayAnswers.{IsReplayAnswer, IsRunAnswer, outcome_status, report_status, faults, reports}
+use Rattle.world_search.specs.declared.answers.Bounds.{Bounds}
 use Rattle.exploration_text.specs.declared.wants.Want.{Want}
 use Rattle.exploration_text.specs.ExplorationText.{has_failure}
 use Rattle.exploration_text.specs.ExploreAnswers.{IsExploreAnswer, explores, unexplored}
-use Rattle.explanations.specs.Explained.{Explained}
-use Rattle.json_answers.specs.Answers.{IsJsonCheck, IsJsonRefusal, IsJsonReplay, IsJsonRun, counted as counted_json}
+use Rattle.reasons.specs.Explained.{Explained}
+use Rattle.json_answers.specs.Answers.{IsJsonCheck, IsJsonRefusal, IsJsonReplay, IsJsonRun, reports as reports_json}
 use Rattle.json_answers.specs.Answers.{faults as faults_json, no_program as no_program_json, no_term as no_term_json}
-use Rattle.json_answers.specs.Answers.{refused as refused_json, replays as replays_json, reports as reports_json}
-use Rattle.json_answers.specs.Answers.{unreplayed as unreplayed_json}
-use Rattle.timeline_svg.specs.PictureAnswers.{IsPictureAnswer, IsPicturedAnswer, draws, faults as faults_drawn, pictures, unpictured}
+use Rattle.timelines.specs.PictureAnswers.{IsPictureAnswer, IsPicturedAnswer, faults as faults_drawn, pictures}
 use Rattle.json_answers.specs.FoundAnswers.{IsJsonExplore, IsJsonSample, explores as explores_json}
 use Rattle.json_answers.specs.FoundAnswers.{samples as samples_json, unexplored as unexplored_json}
 use Rattle.json_answers.specs.FoundAnswers.{unsampled as unsampled_json}
-use Rattle.timeline_text.specs.ExploreTimelines.{IsExploreTimeline, explores as explores_told, unexplored as unexplored_told}
-use Rattle.timeline_text.specs.TimelineAnswers.{IsTimelineAnswer, tells, unreplayed as untold}
-use Rattle.sample_text.specs.SampleAnswers.{IsSampleAnswer, samples, unsampled}
-use Rattle.sample_text.specs.declared.sample_texts.SampleOrder.{SampleOrder}
+use Rattle.timelines.specs.ExploreTimelines.{IsExploreTimeline}
+use Rattle.timelines.specs.TimelineAnswers.{IsTimelineAnswer}
+use Rattle.exploration_text.specs.SampleAnswers.{IsSampleAnswer, samples, unsampled}
+use Rattle.exploration_text.specs.declared.sample_texts.SampleOrder.{SampleOrder}
 use Rattle.steal_pool.specs.declared.options.Options.{Options}
-use Rattle.command_line.specs.declared.replay.AnswerForm.{AnswerForm}
-use Rattle.command_line.specs.declared.replay.AnswerForm.TheVariants.{Report, Timeline, Picture, Json}
-use Rattle.command_line.specs.declared.running.RunForm.{RunForm}
-use Rattle.command_line.specs.declared.running.RunForm.TheVariants as ran
+use Rattle.command_words.specs.declared.replay.AnswerForm.{AnswerForm}
+use Rattle.command_words.specs.declared.replay.AnswerForm.TheVariants.{Report, Timeline, Picture, Json}
+use Rattle.command_words.specs.declared.running.RunForm.{RunForm}
+use Rattle.command_words.specs.declared.running.RunForm.TheVariants as ran
 use Rattle.command_line.specs.Checks.{checks_as}
 use Rattle.command_line.specs.Orders.{ObeysOrder}
 use Rattle.command_line.specs.Recording.{IsRecordedWith, IsTimedAnswer, alone, timed, reports as reports_recorded, faults as faults_recorded}
@@ -43,7 +42,7 @@ use Rattle.command_line.specs.Replays.{answers_as}
 use Rattle.command_line.specs.RunReasons.{ExplainsRun}
 use Rattle.command_line.specs.Runs.{comes_as, ran_as, refused_as}
 use Rattle.command_line.specs.Samplings.{samples_as}
-use Rattle.command_line.specs.Workers.{IsJsonWorkersAnswer, IsWorkersAnswer, refuses, runs as runs_program}
+use Rattle.command_line.specs.Workers.{IsJsonWorkersAnswer, IsWorkersAnswer}
 use Rattle.command_line.specs.Workers.{value_of_fault, values, reports as reports_worked, faults as faults_worked}
 
 outcome_ends : (o : Option Outcome) → outcome_status o ≢ ends.Usage
@@ -60,6 +59,17 @@ pub refusal_ends : {text answer : List ℕ} {status : Status} → IsRefusalAnswe
 refusal_ends (no_term text e reads) = λ u. cc
 refusal_ends (no_program text t e reads past) = λ u. cc
 
+success_ends : {status : Status} → status ≡ ends.Succeeded → status ≢ ends.Usage
+success_ends is = λ u. let bad : ends.Succeeded ≡ ends.Usage = sym is ∙ u in cc
+
+-- where neither a refusal nor what comes of a program has the status of wrong usage, no answer to a text has it
+program_ends : {Refuses : List ℕ → List ℕ → Status → Type 0} {Comes : Term → List ℕ → Status → Type 0} {text answer : List ℕ} {status : Status} →
+    ((text answer : List ℕ) (status : Status) → Refuses text answer status → status ≢ ends.Usage) →
+    ((t : Term) (answer : List ℕ) (status : Status) → Comes t answer status → status ≢ ends.Usage) →
+    IsProgramAnswer Refuses Comes text answer status → status ≢ ends.Usage
+program_ends refused came (refuses text answer status h) = refused text answer status h
+program_ends refused came (runs text answer status t reads program h) = came t answer status h
+
 pub run_ends : {t : Term} {schedule : List ℕ} {limits : Limits} {answer : List ℕ} {status : Status} → IsRunAnswer t schedule limits answer status →
     status ≢ ends.Usage
 run_ends (reports r core) = report_ends r.fibers
@@ -67,32 +77,28 @@ run_ends (faults e core) = λ u. cc
 
 pub replay_ends : {schedule : List ℕ} {limits : Limits} {text answer : List ℕ} {status : Status} →
     IsReplayAnswer schedule limits text answer status → status ≢ ends.Usage
-replay_ends (unreplayed text answer status h) = refusal_ends h
-replay_ends (replays text answer status t reads program runs) = run_ends runs
+replay_ends = program_ends (λ text answer status h. refusal_ends h) (λ t answer status h. run_ends h)
 
 check_ends : {text answer : List ℕ} {status : Status} → IsCheckAnswer text answer status → status ≢ ends.Usage
-check_ends (refused text answer status h) = refusal_ends h
-check_ends (counted text t reads program) = λ u. cc
+check_ends = program_ends (λ text answer status h. refusal_ends h) (λ t answer status h. success_ends h.1)
 
 pub show_ends : {text answer : List ℕ} {status : Status} → IsShowAnswer text answer status → status ≢ ends.Usage
-show_ends (unshown text answer status h) = refusal_ends h
-show_ends (shown text t reads program) = λ u. cc
+show_ends = program_ends (λ text answer status h. refusal_ends h) (λ t answer status h. success_ends h.1)
 
 chosen_ends : (failed complete : Bool) → (if failed then ends.Errored else (if complete then ends.Succeeded else ends.Unended)) ≢ ends.Usage
 chosen_ends true complete = λ u. cc
 chosen_ends false true = λ u. cc
 chosen_ends false false = λ u. cc
 
-pub explore_ends : {limits : Limits} {wants : List Want} {text answer : List ℕ} {status : Status} → IsExploreAnswer limits wants text answer status →
+pub explore_ends : {limits : Limits} {bounds : Bounds} {wants : List Want} {text answer : List ℕ} {status : Status} → IsExploreAnswer limits bounds wants text answer status →
     status ≢ ends.Usage
 explore_ends (unexplored text answer status h) = refusal_ends h
-explore_ends {limits} {wants} (explores text answer status t reads program h) =
+explore_ends {limits} {bounds} {wants} (explores text answer status t reads program h) =
     λ u. chosen_ends (has_failure wants h.exploration.answers) h.exploration.complete (sym h.status_is ∙ u)
 
 timeline_ends : {schedule : List ℕ} {limits : Limits} {text answer : List ℕ} {status : Status} →
     IsTimelineAnswer schedule limits text answer status → status ≢ ends.Usage
-timeline_ends (untold text answer status h) = refusal_ends h
-timeline_ends (tells text answer status t reads program told) = run_ends told.runs
+timeline_ends = program_ends (λ text answer status h. refusal_ends h) (λ t answer status h. run_ends h.runs)
 
 pictured_ends : {t : Term} {schedule : List ℕ} {limits : Limits} {answer : List ℕ} {status : Status} →
     IsPicturedAnswer t schedule limits answer status → status ≢ ends.Usage
@@ -101,16 +107,14 @@ pictured_ends (faults_drawn e core) = λ u. cc
 
 picture_ends : {schedule : List ℕ} {limits : Limits} {text answer : List ℕ} {status : Status} → IsPictureAnswer schedule limits text answer status →
     status ≢ ends.Usage
-picture_ends (unpictured text answer status h) = refusal_ends h
-picture_ends (draws text answer status t reads program drawn) = pictured_ends drawn
+picture_ends = program_ends (λ text answer status h. refusal_ends h) (λ t answer status h. pictured_ends h)
 
 json_refusal_ends : {text answer : List ℕ} {status : Status} → IsJsonRefusal text answer status → status ≢ ends.Usage
 json_refusal_ends (no_term_json text e reads) = λ u. cc
 json_refusal_ends (no_program_json text t e reads past) = λ u. cc
 
 json_check_ends : {text answer : List ℕ} {status : Status} → IsJsonCheck text answer status → status ≢ ends.Usage
-json_check_ends (refused_json text answer status h) = json_refusal_ends h
-json_check_ends (counted_json text t reads program) = λ u. cc
+json_check_ends = program_ends (λ text answer status h. json_refusal_ends h) (λ t answer status h. success_ends h.1)
 
 json_run_ends : {t : Term} {schedule : List ℕ} {limits : Limits} {answer : List ℕ} {status : Status} → IsJsonRun t schedule limits answer status →
     status ≢ ends.Usage
@@ -119,8 +123,7 @@ json_run_ends (faults_json e core) = λ u. cc
 
 json_ends : {schedule : List ℕ} {limits : Limits} {text answer : List ℕ} {status : Status} → IsJsonReplay schedule limits text answer status →
     status ≢ ends.Usage
-json_ends (unreplayed_json text answer status h) = json_refusal_ends h
-json_ends (replays_json text answer status t reads program runs) = json_run_ends runs
+json_ends = program_ends (λ text answer status h. json_refusal_ends h) (λ t answer status h. json_run_ends h)
 
 pub form_ends : (form : AnswerForm) (schedule : List ℕ) (limits : Limits) (text answer : List ℕ) (status : Status) →
     answers_as form schedule limits text answer status → status ≢ ends.Usage
@@ -180,16 +183,15 @@ sample_as_ends true order text answer status h = json_sample_ends text answer st
 sample_as_ends false order text answer status h = sample_ends text answer status h
 
 -- ---- of explorations
-pub explore_timeline_ends : {limits : Limits} {wants : List Want} {text answer : List ℕ} {status : Status} →
-    IsExploreTimeline limits wants text answer status → status ≢ ends.Usage
-explore_timeline_ends (unexplored_told text answer status h) = refusal_ends h
-explore_timeline_ends {limits} {wants} (explores_told text answer status t reads program h) =
-    λ u. chosen_ends (has_failure wants h.exploration.answers) h.exploration.complete (sym h.status_is ∙ u)
+pub explore_timeline_ends : {limits : Limits} {bounds : Bounds} {wants : List Want} {text answer : List ℕ} {status : Status} →
+    IsExploreTimeline limits bounds wants text answer status → status ≢ ends.Usage
+explore_timeline_ends {limits} {bounds} {wants} = program_ends (λ text answer status h. refusal_ends h)
+    (λ t answer status h u. chosen_ends (has_failure wants h.exploration.answers) h.exploration.complete (sym h.status_is ∙ u))
 
-pub json_explore_ends : {limits : Limits} {wants : List Want} {text answer : List ℕ} {status : Status} →
-    IsJsonExplore limits wants text answer status → status ≢ ends.Usage
+pub json_explore_ends : {limits : Limits} {bounds : Bounds} {wants : List Want} {text answer : List ℕ} {status : Status} →
+    IsJsonExplore limits bounds wants text answer status → status ≢ ends.Usage
 json_explore_ends (unexplored_json text answer status h) = json_refusal_ends h
-json_explore_ends {limits} {wants} (explores_json text answer status t reads program h) =
+json_explore_ends {limits} {bounds} {wants} (explores_json text answer status t reads program h) =
     λ u. chosen_ends (has_failure wants h.exploration.answers) h.exploration.complete (sym h.status_is ∙ u)
 
 -- ---- of runs on workers
@@ -223,8 +225,8 @@ comes_ends ran.Timeline options t answer status h = timed_ends h
 comes_ends ran.Json options t answer status h = values_end h
 
 pub ran_ends : (form : RunForm) (options : Options) (text answer : List ℕ) (status : Status) → ran_as form options text answer status → status ≢ ends.Usage
-ran_ends form options text answer status (refuses _ _ _ h) = refused_ends form text answer status h
-ran_ends form options text answer status (runs_program _ _ _ t reads program h) = comes_ends form options t answer status h
+ran_ends form options text answer status =
+    program_ends (refused_ends form) (comes_ends form options)
 
 pub explained_run_ends : {options : Options} {before after : Devices} {status : Status} → ExplainsRun options before after status → status ≢ ends.Usage
 explained_run_ends {options} h = λ u. answered_ends _ _ _ _ _ h.result (ran_ends ran.Report options) h.answered (sym h.status_is ∙ u)

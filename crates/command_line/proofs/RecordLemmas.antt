@@ -2,27 +2,40 @@
 use Rattle.std.proofs.Common.{◌≡◌, ◌++◌, ◌∷◌, ℕ, All, Bool, true, false, ◌&&◌, List, Option, Some, None, Result, Ok, Err, IfOk, refl, subst, sym}
 use Rattle.std.specs.Prelude.{IfErr, IfNone, IfSome, String, string_bytes}
 use Rattle.std.specs.declared.alloc.Global.{Global}
+use Rattle.std.specs.declared.vec.Vec.{Vec}
+use Rattle.cell_registry.specs.declared.limits.Limits.{Limits}
 use Rattle.cell_registry.specs.declared.limits.RunError.{RunError}
 use Rattle.cell_registry.specs.declared.limits.RunError.TheVariants as fault
 use Rattle.derived_ops.specs.Expansion.{code_of}
 use Rattle.derived_ops.specs.Reading.{source_of}
+use Rattle.derived_ops.specs.Tree.{Tree}
 use Rattle.effect_term.specs.declared.term.Term.{Term}
-use Rattle.outcome_trace.specs.declared.report.Report.{Report}
-use Rattle.text_io.specs.declared.text_order.Answer.{Answer}
+use Rattle.scheduled_core.specs.declared.report.Report.{Report}
+use Rattle.outcome_trace.specs.declared.text_order.Answer.{Answer}
 use Rattle.text_io.specs.Schedule.{SpellsEntries}
-use Rattle.outcome_trace.specs.Core.{core, reported}
+use Rattle.scheduled_core.specs.Core.{core, reported}
 use Rattle.outcome_trace.specs.ReplayAnswers.{IsRunAnswer, faults as faults_replayed, reports as reports_replayed}
-use Rattle.outcome_trace.specs.Stands.{IsOfSomeSchedule}
-use Rattle.steal_pool.specs.declared.finishing.RunEnd.{RunEnd}
+use Rattle.scheduled_core.specs.Stands.{IsOfSomeSchedule}
+use Rattle.run_ends.specs.declared.finishing.RunEnd.{RunEnd}
 use Rattle.steal_pool.specs.declared.options.Options.{Options}
-use Rattle.steal_pool.specs.declared.recorded.NoSchedule.{NoSchedule}
-use Rattle.steal_pool.specs.Gathering.{IsLawful}
-use Rattle.steal_pool.specs.Records.{IsRecord, came_to}
-use Rattle.steal_pool.specs.Runs.{IsFaultWithin, limits_of}
-use Rattle.command_line.specs.Recording.{AreEntriesOf, IsBehindFault, IsRecordedAnswer, IsRecordedWith, IsScheduleLine, IsTimedAnswer}
+use Rattle.run_recording.specs.declared.schedules.NoSchedule.{NoSchedule}
+use Rattle.run_ends.specs.Gathering.{IsLawful}
+use Rattle.run_ends.specs.Ends.{came_to}
+use Rattle.ready_queues.specs.Faults.{IsFaultWithin}
+use Rattle.steal_pool.specs.Runs.{limits_of}
+use Rattle.command_line.specs.Recording.{AreEntriesOf, IsBehindFault, IsRecord, IsRecordedAnswer, IsRecordedWith, IsScheduleLine, IsTimedAnswer}
 use Rattle.command_line.specs.Recording.{ended_status, ended_text, has_line, is_found, line_behind, record_text, told_line, faults}
-use Rattle.command_line.specs.Recording.{no_schedule, reports, schedules, timed}
+use Rattle.command_line.specs.Recording.{SpellsFound, no_schedule, reports, schedules, timed}
 use Rattle.command_line.specs.Workers.{IsWorkersAnswer, faults as faults_worked, reports as reports_worked}
+
+-- the text of a schedule that leads to the end
+pub spelled_record : (code : Tree) (k : Limits) (found : Result (Vec ℕ Global) NoSchedule) (s : Result (String Global) NoSchedule)
+    (end : Result Report RunError) → IfOk found (λ entries. reported (core code k entries.items) ≡ end) →
+    IfOk s (λ text. SpellsFound found (string_bytes text)) → IfOk s (λ text. IsRecord code k (string_bytes text) end)
+spelled_record code k (Ok entries) (Ok text) end comes spelled = record { entries = entries.items; spelled = spelled; comes = comes }
+spelled_record code k (Err why) (Ok text) end comes spelled = absurd spelled
+spelled_record code k (Ok entries) (Err why) end comes spelled = tt
+spelled_record code k (Err none) (Err why) end comes spelled = tt
 
 -- the line that is told is that of a schedule which leads to the end, or of none
 pub line_told : (t : Term) (options : Options) (end : Result Report RunError) (s : Result (String Global) NoSchedule) →

@@ -12,10 +12,11 @@ use Rattle.text_io.specs.Devices.{Devices, Writer}
 use Rattle.text_io.specs.FaultLines.{fault_line}
 use Rattle.text_io.specs.Telling.{Told}
 use Rattle.text_io.specs.Text.{GoesOut, OnlyWriteFaults, is_write_fault}
-use Rattle.command_line.specs.declared.requests.Request.{Request}
-use Rattle.command_line.specs.Requests.{GivesRequest, HasScheduleInInput, ObeysRequest, Runs, TakesSchedule, no_request, no_words, refused, request}
-use Rattle.command_line.specs.Telling.{AsksHelp, LacksMemory, ShowsText, TellsKind, TellsWrong, no_memory, shown, wrong}
-use Rattle.command_line.specs.Words.{program}
+use Rattle.command_words.specs.declared.requests.Request.{Request}
+use Rattle.command_words.specs.Requests.{GivesRequest, HasScheduleInInput, TakesSchedule}
+use Rattle.command_line.specs.Obeying.{ObeysRequest, Runs, no_request, no_words, refused, request}
+use Rattle.command_words.specs.Telling.{AsksHelp, LacksMemory, ShowsText, TellsKind, TellsWrong, no_memory, shown, wrong}
+use Rattle.command_words.specs.Words.{program}
 
 -- the command is one of those of which `clap` says how a parse fails
 pub free_built : (a : App) → a ≡ program → is_simple_and_free a ≡ true

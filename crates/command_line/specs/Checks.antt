@@ -1,12 +1,12 @@
 -- What it comes to, to tell whether a text is a program, and to print its expansion.
 use Rattle.std.specs.Prelude.{Bool, true, false, ℕ, List}
-use Rattle.explanations.specs.Refusals.{IsTextReasons}
+use Rattle.reasons.specs.Refusals.{IsTextReasons}
 use Rattle.json_answers.specs.Answers.{IsJsonCheck}
 use Rattle.outcome_trace.specs.Answers.{IsCheckAnswer, IsShowAnswer}
 use Rattle.text_io.specs.declared.status.Status.{Status}
 use Rattle.text_io.specs.Devices.{Devices}
-use Rattle.command_line.specs.declared.checking.Checking.{Checking}
-use Rattle.command_line.specs.declared.checking.Showing.{Showing}
+use Rattle.command_words.specs.declared.checking.Checking.{Checking}
+use Rattle.command_words.specs.declared.checking.Showing.{Showing}
 use Rattle.command_line.specs.Orders.{ObeysOrder}
 
 -- what `check` answers: as JSON, or in words

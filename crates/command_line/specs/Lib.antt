@@ -1,14 +1,11 @@
 pub mod Checks
 pub mod Explorings
 pub mod FirstLine
-pub mod Flags
+pub mod Obeying
 pub mod Orders
 pub mod Recording
 pub mod Replays
-pub mod Requests
 pub mod RunReasons
 pub mod Runs
 pub mod Samplings
-pub mod Telling
-pub mod Words
 pub mod Workers

@@ -1,6 +1,6 @@
 -- What an order to answer a text comes to, with reasons or without.
 use Rattle.std.specs.Prelude.{Bool, true, false, ℕ, List}
-use Rattle.explanations.specs.Explained.{Explained}
+use Rattle.reasons.specs.Explained.{Explained}
 use Rattle.text_io.specs.declared.status.Status.{Status}
 use Rattle.text_io.specs.Devices.{Devices}
 use Rattle.text_io.specs.Telling.{Answered}

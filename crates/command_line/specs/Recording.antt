@@ -2,26 +2,41 @@
 use Rattle.std.specs.Prelude.{◌≡◌, ℕ, All, Bool, true, false, ◌&&◌, List, [], ◌∷◌, ◌++◌, Result, Ok, Err, String, codes}
 use Rattle.std.specs.Prelude.{string_bytes}
 use Rattle.std.specs.declared.alloc.Global.{Global}
+use Rattle.std.specs.declared.vec.Vec.{Vec}
+use Rattle.cell_registry.specs.declared.limits.Limits.{Limits}
 use Rattle.cell_registry.specs.declared.limits.RunError.{RunError}
 use Rattle.cell_registry.specs.declared.limits.RunError.TheVariants as fault
 use Rattle.derived_ops.specs.Expansion.{code_of}
 use Rattle.derived_ops.specs.Reading.{source_of}
+use Rattle.derived_ops.specs.Tree.{Tree}
 use Rattle.effect_term.specs.declared.term.Term.{Term}
-use Rattle.outcome_trace.specs.declared.report.Report.{Report}
+use Rattle.scheduled_core.specs.declared.report.Report.{Report}
 use Rattle.text_io.specs.declared.status.Status.{Status}
 use Rattle.text_io.specs.declared.status.Status.TheVariants.{Fault}
 use Rattle.text_io.specs.Schedule.{SpellsEntries}
 use Rattle.outcome_trace.specs.Lines.{run_line}
 use Rattle.outcome_trace.specs.ReplayAnswers.{report_status}
 use Rattle.outcome_trace.specs.ReportText.{text_of_fibers}
-use Rattle.outcome_trace.specs.Stands.{IsOfSomeSchedule}
-use Rattle.steal_pool.specs.declared.finishing.RunEnd.{RunEnd}
+use Rattle.scheduled_core.specs.Core.{core, reported}
+use Rattle.scheduled_core.specs.Stands.{IsOfSomeSchedule}
+use Rattle.run_ends.specs.declared.finishing.RunEnd.{RunEnd}
 use Rattle.steal_pool.specs.declared.options.Options.{Options}
-use Rattle.steal_pool.specs.declared.recorded.NoSchedule.{NoSchedule}
-use Rattle.steal_pool.specs.declared.recorded.NoSchedule.TheVariants.{TooLong, NotFound, NoMemory}
-use Rattle.steal_pool.specs.Gathering.{IsLawful}
-use Rattle.steal_pool.specs.Records.{IsRecord}
-use Rattle.steal_pool.specs.Runs.{IsFaultWithin, limits_of}
+use Rattle.run_recording.specs.declared.schedules.NoSchedule.{NoSchedule}
+use Rattle.run_recording.specs.declared.schedules.NoSchedule.TheVariants.{TooLong, NotFound, NoMemory}
+use Rattle.run_ends.specs.Gathering.{IsLawful}
+use Rattle.ready_queues.specs.Faults.{IsFaultWithin}
+use Rattle.steal_pool.specs.Runs.{limits_of}
+
+-- the text spells a schedule under which the core comes to exactly this report or fault
+pub record IsRecord (code : Tree) (k : Limits) (text : List ℕ) (end : Result Report RunError) : Type 0 where
+  pub entries : List ℕ
+  pub spelled : SpellsEntries text entries
+  pub comes : reported (core code k entries) ≡ end
+
+-- a schedule was found, and the text spells its entries
+abbrev pub SpellsFound : Result (Vec ℕ Global) NoSchedule → List ℕ → Type 0
+SpellsFound (Ok entries) text = SpellsEntries text entries.items
+SpellsFound (Err why) text = ⊥
 
 -- the line that tells the text of a schedule
 abbrev pub schedule_line : List ℕ → List ℕ

@@ -13,17 +13,17 @@ use Rattle.outcome_trace.specs.ReplayAnswers.{IsReplayAnswer}
 use Rattle.text_io.specs.declared.schedule.ScheduleError.{ScheduleError}
 use Rattle.text_io.specs.declared.schedule.ScheduleError.TheVariants.{BadSchedule}
 use Rattle.text_io.specs.Schedule.{IsFirstBad, SpellsEntries}
-use Rattle.explanations.specs.Reasons.{IsReplayReasons}
-use Rattle.explanations.specs.Schedules.{ExplainsSchedule}
+use Rattle.reasons.specs.Reasons.{IsReplayReasons}
+use Rattle.reasons.specs.Schedules.{ExplainsSchedule}
 use Rattle.json_answers.specs.Answers.{IsJsonReplay}
-use Rattle.timeline_svg.specs.PictureAnswers.{IsPictureAnswer}
-use Rattle.timeline_text.specs.TimelineAnswers.{IsTimelineAnswer}
-use Rattle.command_line.specs.declared.replay.AnswerForm.{AnswerForm}
-use Rattle.command_line.specs.declared.replay.AnswerForm.TheVariants.{Report, Timeline, Picture, Json}
-use Rattle.command_line.specs.declared.replay.Replay.{Replay}
+use Rattle.timelines.specs.PictureAnswers.{IsPictureAnswer}
+use Rattle.timelines.specs.TimelineAnswers.{IsTimelineAnswer}
+use Rattle.command_words.specs.declared.replay.AnswerForm.{AnswerForm}
+use Rattle.command_words.specs.declared.replay.AnswerForm.TheVariants.{Report, Timeline, Picture, Json}
+use Rattle.command_words.specs.declared.replay.Replay.{Replay}
 use Rattle.command_line.specs.FirstLine.{IsFirstLine, IsInput}
 use Rattle.command_line.specs.Orders.{ObeysOrder}
-use Rattle.command_line.specs.Telling.{LacksMemory, TellsWrong}
+use Rattle.command_words.specs.Telling.{LacksMemory, TellsWrong}
 
 -- what is answered to a text under these entries, in this form
 abbrev pub answers_as : AnswerForm → List ℕ → Limits → List ℕ → List ℕ → Status → Type 0

@@ -2,8 +2,8 @@
 use Rattle.std.specs.Prelude.{◌≡◌, ℕ, List, [], ◌∷◌, ◌++◌, Result, Ok, Err, codes}
 use Rattle.std.specs.Io.KnownBytes.{Appends}
 use Rattle.cell_registry.specs.declared.limits.Limits.{Limits}
-use Rattle.explanations.specs.Explained.{TellsReasons}
-use Rattle.explanations.specs.Reasons.{IsReplayReasons}
+use Rattle.reasons.specs.Explained.{TellsReasons}
+use Rattle.reasons.specs.Reasons.{IsReplayReasons}
 use Rattle.outcome_trace.specs.ReplayAnswers.{IsReplayAnswer}
 use Rattle.steal_pool.specs.declared.options.Options.{Options}
 use Rattle.steal_pool.specs.Runs.{limits_of}

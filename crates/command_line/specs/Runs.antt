@@ -2,17 +2,17 @@
 use Rattle.std.specs.Prelude.{Bool, true, false, ℕ, List}
 use Rattle.effect_term.specs.declared.term.Term.{Term}
 use Rattle.json_answers.specs.Answers.{IsJsonRefusal}
-use Rattle.outcome_trace.specs.Answers.{IsRefusalAnswer}
+use Rattle.outcome_trace.specs.Answers.{IsProgramAnswer, IsRefusalAnswer}
 use Rattle.steal_pool.specs.declared.options.Options.{Options}
 use Rattle.text_io.specs.declared.status.Status.{Status}
 use Rattle.text_io.specs.Devices.{Devices}
 use Rattle.text_io.specs.Telling.{Answered}
-use Rattle.command_line.specs.declared.running.RunForm.{RunForm}
-use Rattle.command_line.specs.declared.running.RunForm.TheVariants.{Report, Record, Timeline, Json}
-use Rattle.command_line.specs.declared.running.Running.{Running}
+use Rattle.command_words.specs.declared.running.RunForm.{RunForm}
+use Rattle.command_words.specs.declared.running.RunForm.TheVariants.{Report, Record, Timeline, Json}
+use Rattle.command_words.specs.declared.running.Running.{Running}
 use Rattle.command_line.specs.Recording.{IsRecordedAnswer, IsTimedAnswer}
 use Rattle.command_line.specs.RunReasons.{ExplainsRun}
-use Rattle.command_line.specs.Workers.{IsJsonWorkersAnswer, IsProgramAnswer, IsWorkersAnswer}
+use Rattle.command_line.specs.Workers.{IsJsonWorkersAnswer, IsWorkersAnswer}
 
 -- how a text is refused in this form
 abbrev pub refused_as : RunForm → List ℕ → List ℕ → Status → Type 0

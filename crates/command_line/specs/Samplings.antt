@@ -1,12 +1,12 @@
 -- What it comes to, to sample the schedules of the program of a text.
 use Rattle.std.specs.Prelude.{Bool, true, false, ℕ, List}
 use Rattle.json_answers.specs.FoundAnswers.{IsJsonSample}
-use Rattle.sample_text.specs.declared.sample_texts.SampleOrder.{SampleOrder}
-use Rattle.sample_text.specs.SampleAnswers.{IsSampleAnswer}
+use Rattle.exploration_text.specs.declared.sample_texts.SampleOrder.{SampleOrder}
+use Rattle.exploration_text.specs.SampleAnswers.{IsSampleAnswer}
 use Rattle.text_io.specs.declared.status.Status.{Status}
 use Rattle.text_io.specs.Devices.{Devices}
 use Rattle.text_io.specs.Telling.{Answered}
-use Rattle.command_line.specs.declared.sampling.Sampling.{Sampling}
+use Rattle.command_words.specs.declared.sampling.Sampling.{Sampling}
 
 -- what `sample` answers: as JSON, or in words
 abbrev pub samples_as : Bool → SampleOrder → List ℕ → List ℕ → Status → Type 0

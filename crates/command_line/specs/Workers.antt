@@ -1,24 +1,22 @@
 -- What is answered to a text whose program workers run.
-use Rattle.std.specs.Prelude.{◌≡◌, ℕ, All, List, Ok}
+use Rattle.std.specs.Prelude.{ℕ, All, List}
 use Rattle.cell_registry.specs.declared.limits.RunError.{RunError}
 use Rattle.derived_ops.specs.Expansion.{code_of}
 use Rattle.derived_ops.specs.Reading.{source_of}
 use Rattle.effect_term.specs.declared.term.Term.{Term}
-use Rattle.effect_term.specs.Programs.{IsProgram}
-use Rattle.term_parse.specs.Atoms.{atoms_of}
-use Rattle.term_parse.specs.Reading.{reading}
-use Rattle.outcome_trace.specs.declared.report.Report.{Report}
+use Rattle.scheduled_core.specs.declared.report.Report.{Report}
 use Rattle.text_io.specs.declared.status.Status.{Status}
 use Rattle.text_io.specs.declared.status.Status.TheVariants.{Fault}
 use Rattle.json_answers.specs.ReportData.{fault_data, line_of_data, report_data}
-use Rattle.outcome_trace.specs.Answers.{IsRefusalAnswer}
+use Rattle.outcome_trace.specs.Answers.{IsProgramAnswer, IsRefusalAnswer}
 use Rattle.outcome_trace.specs.Lines.{run_line}
 use Rattle.outcome_trace.specs.ReplayAnswers.{report_status}
 use Rattle.outcome_trace.specs.ReportText.{text_of_fibers}
-use Rattle.outcome_trace.specs.Stands.{IsOfSomeSchedule}
+use Rattle.scheduled_core.specs.Stands.{IsOfSomeSchedule}
 use Rattle.steal_pool.specs.declared.options.Options.{Options}
-use Rattle.steal_pool.specs.Gathering.{IsLawful}
-use Rattle.steal_pool.specs.Runs.{IsFaultWithin, limits_of}
+use Rattle.run_ends.specs.Gathering.{IsLawful}
+use Rattle.ready_queues.specs.Faults.{IsFaultWithin}
+use Rattle.steal_pool.specs.Runs.{limits_of}
 
 -- What comes of a program on workers, with its status: a report that the core gives under some schedule, whose
 -- marks are lawful, with the status of fiber 0's end, or a fault, which tells the limit that it tells of.
@@ -33,14 +31,6 @@ pub data IsJsonWorkersAnswer (t : Term) (options : Options) : List ℕ → Statu
       IsJsonWorkersAnswer t options (line_of_data (report_data r.fibers)) (report_status r.fibers)
   value_of_fault : (e : RunError) → IsFaultWithin (limits_of options) e →
       IsJsonWorkersAnswer t options (line_of_data (fault_data e)) Fault
-
--- what is answered to a text, with its status: a refusal, or what comes of the program that the text spells
-pub data IsProgramAnswer (Refuses : List ℕ → List ℕ → Status → Type 0) (Comes : Term → List ℕ → Status → Type 0) :
-    List ℕ → List ℕ → Status → Type 0 where
-  refuses : (text answer : List ℕ) (status : Status) → Refuses text answer status →
-      IsProgramAnswer Refuses Comes text answer status
-  runs : (text answer : List ℕ) (status : Status) (t : Term) → reading text ≡ Ok (atoms_of t) → IsProgram t →
-      Comes t answer status → IsProgramAnswer Refuses Comes text answer status
 
 -- what `run` answers to a text
 abbrev pub IsRunTextAnswer : Options → List ℕ → List ℕ → Status → Type 0

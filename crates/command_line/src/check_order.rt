@@ -4,11 +4,11 @@ ghost use Rattle.std.specs.Prelude.{◌≡◌, ◌≢◌, ◌<◌, ◌^◌, fals
 ghost use Rattle.command_line.specs.Checks.{ObeysCheck, ObeysShow};
 ghost use Rattle.text_io.specs.Devices.{devices};
 
-use crate::checking::{Checking, Showing};
 use crate::order::obey_order;
-use explanations::TextReasons;
+use command_words::{Checking, Showing};
 use json_answers::CheckJson;
 use outcome_trace::{CheckOrder, ShowOrder, Status, TextIn, TextOut};
+use reasons::TextReasons;
 use std::alloc::Global;
 
 /// Tells whether a text is a program, and gives the status: that of the answer, and `Status::Fault` where a device

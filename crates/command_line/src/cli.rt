@@ -2,20 +2,19 @@
 
 ghost use Rattle.std.specs.Prelude.{◌≡◌, ◌<◌, ◌^◌, false, map};
 ghost use Rattle.clap.specs.Words.{kind_of};
-ghost use Rattle.command_line.specs.Requests.{HasScheduleInInput, ObeysRequest, Runs, TakesSchedule};
-ghost use Rattle.command_line.specs.Telling.{TellsKind};
+ghost use Rattle.command_line.specs.Obeying.{ObeysRequest, Runs};
+ghost use Rattle.command_words.specs.Requests.{HasScheduleInInput, TakesSchedule};
+ghost use Rattle.command_words.specs.Telling.{TellsKind};
 ghost use Rattle.text_io.specs.Devices.{devices};
 
 use crate::check_order::{obey_check, obey_show};
 use crate::explore_order::obey_explore;
 use crate::replay_order::obey_replay;
-use crate::requests::{Request, request_of};
 use crate::run_order::obey_run;
 use crate::sample_order::obey_sample;
-use crate::words::all_words;
-use crate::wrong_words::refuse_words;
 use clap::Error;
 use clap::error::ErrorKind;
+use command_words::{Request, all_words, refuse_words, request_of};
 use outcome_trace::{Status, TextFault, TextIn, TextOut, tell_fault, write_text};
 use std::alloc::Global;
 use std::convert::AsStr;

@@ -4,15 +4,15 @@ ghost use Rattle.std.specs.Prelude.{◌≡◌, ◌≢◌, ◌<◌, ◌^◌, fals
 ghost use Rattle.command_line.specs.Explorings.{ObeysExplore};
 ghost use Rattle.text_io.specs.Devices.{devices};
 
-use crate::exploring::{ExploreForm, Exploring};
 use crate::order::obey_order;
-use explanations::TextReasons;
+use command_words::{ExploreForm, Exploring};
 use exploration_text::obey_explore_watched;
 use json_answers::ExploreJson;
 use outcome_trace::{Status, TextIn, TextOut};
+use reasons::TextReasons;
 use std::alloc::Global;
 use std::time::Clock;
-use timeline_text::ExploreTimelineOrder;
+use timelines::ExploreTimelineOrder;
 
 /// Tells all that can come of a text's program, and gives the status: that of the answer, and `Status::Fault` where a
 /// device failed or memory ran out. All but the answer is told on the last device. The clock tells how fast the search

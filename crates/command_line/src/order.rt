@@ -4,8 +4,8 @@ ghost use Rattle.std.specs.Prelude.{◌≡◌, ◌<◌, ◌^◌, false};
 ghost use Rattle.command_line.specs.Orders.{ObeysOrder};
 ghost use Rattle.text_io.specs.Devices.{devices};
 
-use explanations::{Reasons, obey_explained};
 use outcome_trace::{Status, TextIn, TextOrder, TextOut, obey_text};
+use reasons::{Reasons, obey_explained};
 use std::alloc::Global;
 
 /// Obeys an order as [`obey_text`] does, or as [`obey_explained`] does where reasons are asked for.

@@ -11,16 +11,17 @@ ghost use Rattle.outcome_trace.specs.ReportText.{text_of_fibers};
 ghost use Rattle.steal_pool.specs.Runs.{limits_of};
 
 use crate::run_answers::fault_answer;
-use crate::running::limits_of;
+use crate::spelling::{Spelled, run_spelled};
 use cell_registry::RunError;
+use command_words::limits_of;
 use effect_term::Program;
 use fiber_events::replay_events;
 use outcome_trace::{Answer, Limits, Report, Status, read_program, read_schedule, report_answer};
 use std::alloc::{AllocError, Global};
 use std::sync::Wait;
 use std::thread::Threads;
-use steal_pool::{NoSchedule, OpenGate, Options, Recorded, RunEnd, run_recorded};
-use timeline_text::timeline;
+use steal_pool::{NoSchedule, Options, RunEnd};
+use timelines::timeline;
 
 // Adds the line that tells the schedule, or why there is none.
 fn add_line(text: &mut Vec<u8>, schedule: &Result<String, NoSchedule>) -> Result<(), AllocError>
@@ -99,7 +100,7 @@ pub fn record_answer<R: Threads + Wait + Sync>(
     requires budget { 1 < options.budget }
     ensures { IfOk result (λ a. IsRecordedAnswer program options a.text.items a.status) }
 {
-    let Recorded { end, schedule } = run_recorded(rt, alloc, program, options, &OpenGate);
+    let Spelled { end, schedule } = run_spelled(rt, alloc, program, options);
     end_told(alloc, &end, &schedule)
 }
 
@@ -171,7 +172,7 @@ pub fn timed_answer<R: Threads + Wait + Sync>(
     requires budget { 1 < options.budget }
     ensures { IfOk result (λ a. IsTimedAnswer program options a.text.items a.status) }
 {
-    let Recorded { end, schedule } = run_recorded(rt, alloc, program, options, &OpenGate);
+    let Spelled { end, schedule } = run_spelled(rt, alloc, program, options);
     let answer = end_told(alloc, &end, &schedule)?;
     if !has_line(&end) {
         return Ok(answer);

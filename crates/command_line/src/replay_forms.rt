@@ -4,17 +4,16 @@ ghost use Rattle.std.specs.Prelude.{◌≡◌, ◌<◌, ◌^◌, false};
 ghost use Rattle.cell_registry.specs.Cells.{AreLimits};
 ghost use Rattle.command_line.specs.Orders.{ObeysOrder};
 ghost use Rattle.command_line.specs.Replays.{answers_as};
-ghost use Rattle.explanations.specs.Reasons.{IsReplayReasons};
+ghost use Rattle.reasons.specs.Reasons.{IsReplayReasons};
 ghost use Rattle.text_io.specs.Devices.{devices};
 
 use crate::order::obey_order;
-use crate::replay::AnswerForm;
-use explanations::ReplayReasons;
+use command_words::AnswerForm;
 use json_answers::ReplayJson;
 use outcome_trace::{Limits, ReplayOrder, Status, TextIn, TextOut};
+use reasons::ReplayReasons;
 use std::alloc::Global;
-use timeline_svg::PictureOrder;
-use timeline_text::TimelineOrder;
+use timelines::{PictureOrder, TimelineOrder};
 
 /// Obeys it under these entries, in this form, with reasons or without.
 pub fn obey_entries<I: TextIn, O: TextOut, E: TextOut>(

@@ -6,13 +6,12 @@ ghost use Rattle.command_line.specs.Replays.{ObeysInput, ObeysReplay, ObeysSched
 ghost use Rattle.text_io.specs.Devices.{devices};
 
 use crate::first_line::{first_line, read_input};
-use crate::replay::{AnswerForm, Replay};
 use crate::replay_forms::obey_entries;
-use crate::wrong_words::refuse_words;
-use explanations::explain_schedule;
+use command_words::{AnswerForm, Replay, refuse_words};
 use outcome_trace::{
     FromRead, Limits, ScheduleError, Status, TextIn, TextOut, read_schedule, tell_fault,
 };
+use reasons::explain_schedule;
 use std::alloc::Global;
 use text_io::refuse_schedule;
 

@@ -15,7 +15,7 @@ ghost use Rattle.text_io.specs.Telling.{Answered};
 use crate::record_answers::{record_answer, timed_answer};
 use crate::run_answers::{json_answer, run_answer, text_refusal};
 use crate::run_reasons::explain_run;
-use crate::running::{RunForm, Running};
+use command_words::{RunForm, Running};
 use effect_term::Program;
 use json_answers::refusal_answer;
 use outcome_trace::{

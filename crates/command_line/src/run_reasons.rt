@@ -1,44 +1,48 @@
 //! The reasons of a text whose program workers run.
 
-ghost use Rattle.std.specs.Prelude.{◌≡◌, ◌<◌, ◌^◌, false, Err as Fails, IfErr, IfOk, IfSome};
+ghost use Rattle.std.specs.Prelude.{◌≡◌, ◌⊎◌, ◌<◌, ◌^◌, false, Err as Fails, IfErr, IfOk, IfSome};
 ghost use Rattle.cell_registry.specs.Cells.{AreLimits};
 ghost use Rattle.command_line.specs.Recording.{ended_status, ended_text};
-ghost use Rattle.command_line.specs.RunReasons.{AreRunReasons, ExplainsRun, IsRunKept};
+ghost use Rattle.command_line.specs.RunReasons.{AreRunReasons, ExplainsRun, IsRunKept, no_reasons_line};
 ghost use Rattle.command_line.specs.Workers.{IsRunTextAnswer, IsWorkersAnswer};
-ghost use Rattle.explanations.specs.Explained.{TellsReasons};
+ghost use Rattle.reasons.specs.Explained.{TellsReasons};
 ghost use Rattle.outcome_trace.specs.Answers.{IsRefusalAnswer, IsRefused};
 ghost use Rattle.outcome_trace.specs.ReplayAnswers.{IsReplayAnswer, IsRunAnswer};
 ghost use Rattle.steal_pool.specs.Runs.{limits_of};
 ghost use Rattle.text_io.specs.Devices.{devices};
 ghost use Rattle.text_io.specs.Exchange.{IsAnswered};
+ghost use Rattle.text_io.specs.Telling.{Told};
 
 use crate::record_answers::entries_of;
 use crate::run_answers::{fault_answer, text_refusal};
-use crate::running::limits_of;
+use crate::spelling::{Spelled, run_spelled};
 use cell_registry::RunError;
+use command_words::limits_of;
 use effect_term::Program;
-use explanations::{ReplayReasons, tell_reasons};
 use outcome_trace::{
     Answer, Limits, Refused, ReplayOrder, Status, TextFault, TextIn, TextOrder, TextOut,
     read_program, read_text, report_answer, tell_fault, write_text,
 };
+use reasons::{ReplayReasons, tell_reasons};
 use std::alloc::{AllocError, Global};
 use std::sync::Wait;
 use std::thread::Threads;
-use steal_pool::{OpenGate, Options, Recorded, RunEnd, run_recorded};
+use steal_pool::{Options, RunEnd};
 
-// What is told where no schedule of the run was found.
+// The line for a run with an unended fiber for which no schedule was found.
 const NO_REASONS: &[u8] = b"reasons can't be told: no schedule of this run was found\n";
 
 // How many entries are tried behind the schedule of a run, so that each fiber comes to where it waits: a schedule that
 // a run hands out leaves out what shows nothing.
 const MORE_ENTRIES: usize = 100_000;
 
-// The answer to a text, and the entries of a schedule under which a replay answers it so, if some were found.
+// The answer to a text, the entries of a schedule under which a replay answers it so, if some were found, and whether
+// it is a report in which a fiber hasn't ended: only of such a fiber there is a reason to tell.
 #[derive(Drop)]
 struct Ran {
     answer: Answer,
     entries: Option<Vec<u16>>,
+    unended: bool,
 }
 
 // A text that was answered.
@@ -59,6 +63,19 @@ fn ended_answer(alloc: Global, end: &Result<RunEnd, RunError>) -> Result<Answer,
     }
 }
 
+// Whether the run ended with a report in which a fiber hasn't ended.
+fn is_unended(end: &Result<RunEnd, RunError>) -> bool {
+    match end {
+        Ok(ended) => ended
+            .report
+            .fibers
+            .as_slice()
+            .iter()
+            .any(|it| it.outcome.is_none()),
+        Err(_) => false,
+    }
+}
+
 // What comes of a program on workers that note their schedule.
 fn program_ran<R: Threads + Wait + Sync>(
     rt: &R,
@@ -72,10 +89,14 @@ fn program_ran<R: Threads + Wait + Sync>(
     ensures replayed { IfOk result (λ ran. IfSome ran.entries (λ entries.
         IsRunAnswer program entries.items (limits_of options) ran.answer.text.items ran.answer.status)) }
 {
-    let Recorded { end, schedule } = run_recorded(rt, alloc, program, options, &OpenGate);
+    let Spelled { end, schedule } = run_spelled(rt, alloc, program, options);
     let answer = ended_answer(alloc, &end)?;
     let entries = entries_of(alloc, &schedule)?;
-    Ok(Ran { answer, entries })
+    Ok(Ran {
+        answer,
+        entries,
+        unended: is_unended(&end),
+    })
 }
 
 // The answer to a text that is refused so. A replay under any schedule gives the same.
@@ -85,7 +106,11 @@ fn refused_ran(alloc: Global, text: &[u8], refused: Refused) -> Result<Ran, Allo
 {
     let answer = text_refusal(alloc, text, refused)?;
     let entries = Some(Vec::new(alloc));
-    Ok(Ran { answer, entries })
+    Ok(Ran {
+        answer,
+        entries,
+        unended: false,
+    })
 }
 
 // The answer to a text: its refusal, or what comes of its program.
@@ -196,6 +221,17 @@ fn rested(
     }
 }
 
+// Says that reasons can't be told, where a fiber hasn't ended: else there are none.
+fn tell_none<E: TextOut>(unended: bool, err: &mut E)
+    requires err { (E.seen err.old).failed ≡ false }
+    ensures told { Told no_reasons_line (E.seen err.old) (E.seen err.new) ⊎ (E.seen err.new ≡ E.seen err.old) }
+    ensures ended { unended ≡ false → E.seen err.new ≡ E.seen err.old }
+{
+    if unended {
+        let _ = write_text(NO_REASONS, err);
+    }
+}
+
 // Tells the reasons of what was kept: those of a replay that answers the text so, where there is one.
 fn tell_kept<E: TextOut>(
     alloc: Global,
@@ -203,6 +239,7 @@ fn tell_kept<E: TextOut>(
     text: &[u8],
     answer: &Answer,
     entries: Option<Vec<u16>>,
+    unended: bool,
     err: &mut E,
 )
     requires err { (E.seen err.old).failed ≡ false }
@@ -218,15 +255,13 @@ fn tell_kept<E: TextOut>(
             let schedule = longer.as_slice();
             tell_reasons(alloc, &ReplayReasons { schedule, limits }, text, err)
         }
-        None => {
-            let _ = write_text(NO_REASONS, err);
-        }
+        None => tell_none(unended, err),
     }
 }
 
 /// Reads a text, has workers run its program, and writes what `run` writes of it without reasons. Then it tells on the
 /// last device why the text is refused, or why each fiber hasn't ended under a schedule that comes to the same; or that
-/// this can't be told, where no such schedule was found.
+/// this can't be told, where a fiber hasn't ended and no such schedule was found.
 ///
 /// The status is that of `run`. Where there is a fault, it is told as ever, and nothing else is. Where memory runs out
 /// for the reasons, they are left out, and where the last device fails, nothing more is said.
@@ -249,9 +284,21 @@ pub fn explain_run<R: Threads + Wait + Sync, I: TextIn, O: TextOut, E: TextOut>(
 {
     match keep_run(rt, alloc, options, input, out) {
         Ok(Kept { text, ran }) => {
-            let Ran { answer, entries } = ran;
+            let Ran {
+                answer,
+                entries,
+                unended,
+            } = ran;
             let limits = limits_of(options);
-            tell_kept(alloc, limits, text.as_slice(), &answer, entries, err);
+            tell_kept(
+                alloc,
+                limits,
+                text.as_slice(),
+                &answer,
+                entries,
+                unended,
+                err,
+            );
             answer.status
         }
         Err(fault) => tell_fault(fault, err),

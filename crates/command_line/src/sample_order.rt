@@ -4,7 +4,7 @@ ghost use Rattle.std.specs.Prelude.{◌≡◌, ◌≢◌, ◌<◌, ◌^◌, fals
 ghost use Rattle.command_line.specs.Samplings.{ObeysSample};
 ghost use Rattle.text_io.specs.Devices.{devices};
 
-use crate::sampling::Sampling;
+use command_words::Sampling;
 use json_answers::SampleJson;
 use outcome_trace::{Status, TextIn, TextOut, obey_text};
 use std::alloc::Global;

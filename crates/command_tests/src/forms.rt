@@ -150,7 +150,7 @@ const FOUND: &[(&str, &[&str], &str, u8, &str, &str)] = &[
         &["fiber_cli", "sample", "--json", "--times=3", "--seed=9"],
         "(raise 7)",
         0,
-        "{\"answer\":\"sample\",\"answers\":[{\"came\":3,\"report\":{\"answer\":\"report\",\"fibers\":\
+        "{\"answer\":\"sample\",\"answers\":[{\"came\":3,\"cut\":false,\"report\":{\"answer\":\"report\",\"fibers\":\
             [{\"fiber\":0,\"marks\":[],\"outcome\":{\"errored\":7}}]},\"schedule\":\"0*2\"}],\
             \"seed\":9,\"times\":3}\n",
         "",

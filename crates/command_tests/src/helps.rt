@@ -224,7 +224,9 @@ const HELP: &[(&[&str], &str)] = &[
         \n  echo '(race (say 1) (say 2))' | fiber_cli sample --times 100 --seed 7\
         \n  echo '(race (say 1) (say 2))' | fiber_cli sample --times 100 --seed 7 --json\
         \n\n'fiber_cli --help' explains the reports. Each stands below the first schedule that came to it, under\
-        \nwhich replay gives it. The same seed draws the same schedules.\
+        \nwhich replay gives it. 'cut short' says that each schedule that came to it has as many entries as\
+        \nthere may be (--entries), and that a fiber could still go on: the report may not be a final one. The\
+        \nsame seed draws the same schedules.\
         \n\nExit status:\
         \n   0  the sample was printed, and no schedule came to a fault\
         \n   1  some schedule came to a fault\

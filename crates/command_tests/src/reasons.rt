@@ -113,6 +113,22 @@ const RUN: &[(&str, &[&str], &str, u8, &str, &str)] = &[
         "",
     ),
     (
+        "of a run whose fibers have ended nothing is told, though its schedule has more than 1000000 entries",
+        &["fiber_cli", "run", "--explain", "--moves", "1000000"],
+        "(start f (uncancelable p (repeat 220000 (cede))) (seq (uncancelable p (repeat 220000 (cede))) (pure 3)))",
+        0,
+        "fiber 0 succeeded 3: enter 0, leave 0\nfiber 1 succeeded 0: enter 0, leave 0\n",
+        "",
+    ),
+    (
+        "that reasons can't be told, where the schedule has more than 1000000 entries",
+        &["fiber_cli", "run", "--explain", "--moves", "1000000"],
+        "(start f (uncancelable p (repeat 220000 (cede))) (seq (uncancelable p (repeat 220000 (cede))) (never)))",
+        3,
+        "fiber 0 unended: enter 0, leave 0\nfiber 1 succeeded 0: enter 0, leave 0\n",
+        "reasons can't be told: no schedule of this run was found\n",
+    ),
+    (
         "why nothing is run",
         &["fiber_cli", "run", "--explain"],
         "(pur 1)",

@@ -34,6 +34,27 @@ const RECORDED: &[Recorded<'static>] = &[
         out: "fault 18 Full fibers 1\nschedule 0*2\n",
     },
     Recorded {
+        rule: "a wait is left out with its look, and what comes before it in the turn of the last mark stays",
+        option: "--budget=64",
+        program: "(seq (say 1) (never))",
+        status: 3,
+        out: "fiber 0 unended: say 1\nschedule 0*4\n",
+    },
+    Recorded {
+        rule: "the turn of the last mark stays whole",
+        option: "--moves=9",
+        program: "(seq (say 1) (pure 0) (pure 0) (pure 0) (pure 1))",
+        status: 3,
+        out: "fiber 0 unended: say 1\nschedule 0*9\n",
+    },
+    Recorded {
+        rule: "turns behind that of the last mark are left out",
+        option: "--budget=2",
+        program: "(seq (say 1) (pure 0) (never))",
+        status: 3,
+        out: "fiber 0 unended: say 1\nschedule 0*2\n",
+    },
+    Recorded {
         rule: "a text that is refused has no schedule",
         option: "--budget=64",
         program: "(pure x)",

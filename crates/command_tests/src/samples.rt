@@ -25,7 +25,8 @@ const SAMPLES: &[(&str, &[&str], &str, u8, &str)] = &[
         &["fiber_cli", "sample", "--times", "1", "--entries", "1"],
         "(pure 7)",
         0,
-        "sampled 1 schedule: 1 report, 0 faults\n\ncame 1 time, first under \"0\"\nfiber 0 unended\n",
+        "sampled 1 schedule: 1 report, 0 faults\n\n\
+            came 1 time, cut short, first under \"0\"\nfiber 0 unended\n",
     ),
     (
         "a fault",

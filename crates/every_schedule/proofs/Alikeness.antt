@@ -4,9 +4,9 @@ use Rattle.std.specs.List.{slice_get}
 use Rattle.std.proofs.lemmas.List.{length-map}
 use Rattle.std.proofs.lemmas.Option.{same_Some}
 use Rattle.fiber_frames.specs.Fiber.{Fiber}
-use Rattle.outcome_trace.specs.Core.{fiber_report}
-use Rattle.outcome_trace.specs.declared.report.FiberReport.{FiberReport}
-use Rattle.outcome_trace.specs.declared.report.Report.{Report}
+use Rattle.scheduled_core.specs.Core.{fiber_report}
+use Rattle.scheduled_core.specs.declared.report.FiberReport.{FiberReport}
+use Rattle.scheduled_core.specs.declared.report.Report.{Report}
 use Rattle.every_schedule.specs.Private.Numbered.{AreAt}
 use Rattle.every_schedule.specs.Private.Reporting.{AreAlike, AreOther}
 use Rattle.every_schedule.proofs.Numbered.{map_get}

@@ -7,14 +7,16 @@ use Rattle.cell_registry.specs.declared.limits.CellError.{CellError}
 use Rattle.cell_registry.specs.declared.call.Call.{Call}
 use Rattle.cell_registry.specs.Cells.{refusal, reply_of}
 use Rattle.fiber_frames.specs.Fiber.{Fiber, ask_of, move, silent_move}
-use Rattle.outcome_trace.specs.declared.wish.Wish.{Wish}
-use Rattle.outcome_trace.specs.declared.wish.Wish.TheVariants.{Shared, Alone, Nothing}
-use Rattle.outcome_trace.specs.Core.{World, answered, born, turned, wish_of, wished}
-use Rattle.outcome_trace.proofs.Lists.{slice_get-set_other}
+use Rattle.scheduled_core.specs.declared.wish.Wish.{Wish}
+use Rattle.scheduled_core.specs.declared.wish.Wish.TheVariants.{Shared, Alone, Nothing}
+use Rattle.scheduled_core.specs.Core.{World, answered, born, turned, wish_of, wished}
+use Rattle.scheduled_core.proofs.Lists.{slice_get-set_other}
 use Rattle.world_search.proofs.Lists.{more_at, more_by}
 use Rattle.std.proofs.lemmas.Option.{slice_get_within}
 use Rattle.every_schedule.specs.Places.{Place, placed, stepped}
 use Rattle.every_schedule.specs.Private.Numbered.{AreAt, AreKnown}
+use Rattle.every_schedule.proofs.Bare.{enters}
+use Rattle.every_schedule.proofs.Bare.Enters.{Goes, Stays}
 
 -- all but fiber f are as they were
 pub record AreApart (f : ℕ) (gs hs : List Fiber) : Type 0 where
@@ -54,7 +56,12 @@ module _ (k : Limits) (w : World) (f : ℕ) where
   apart_turned (Some g) q e = apart_wished g (wish_of (ask_of g)) q e
 
 pub apart : (p : Place) (f : ℕ) (q : Place) → stepped p f ≡ Ok q → AreApart f p.world.fibers q.world.fibers
-apart p f q e = apart_turned p.limits p.world f (slice_get p.world.fibers f) q e
+apart p f q e = elim (enters p f q e) [
+  | Stays is ↦ subst (λ (x : Place). AreApart f p.world.fibers x.world.fibers) is (all_same f p.world.fibers)
+  | Goes x goes is ↦
+      subst (λ (y : Place). AreApart f p.world.fibers y.world.fibers) is
+      (apart_turned p.limits p.world f (slice_get p.world.fibers f) x goes)
+]
 
 -- so the numbers of all but one are known
 pub apart_known : (fs : List Fiber) (ns : List ℕ) (p : Place) (f : ℕ) (q : Place) → stepped p f ≡ Ok q → AreAt fs ns p.world.fibers →

@@ -9,14 +9,14 @@ use Rattle.cell_registry.specs.declared.limits.RunError.{RunError}
 use Rattle.cell_registry.specs.declared.call.Call.{Call}
 use Rattle.cell_registry.specs.declared.call.Call.TheVariants.{Look, Mask, Unmask, Cut}
 use Rattle.cell_registry.specs.Cells.{Cells, after, refusal, reply_of}
-use Rattle.outcome_trace.specs.declared.wish.Wish.{Wish}
-use Rattle.outcome_trace.specs.declared.wish.Wish.TheVariants.{Shared, Alone, Nothing}
-use Rattle.outcome_trace.specs.Core.{World, answered, born, called, turned, wish_of, wished}
-use Rattle.outcome_trace.specs.Finals.{reply_to}
-use Rattle.outcome_trace.proofs.Lists.{slice_get-set_other}
-use Rattle.outcome_trace.proofs.Standing.Lists.{get_early}
+use Rattle.scheduled_core.specs.declared.wish.Wish.{Wish}
+use Rattle.scheduled_core.specs.declared.wish.Wish.TheVariants.{Shared, Alone, Nothing}
+use Rattle.scheduled_core.specs.Core.{World, answered, born, called, turned, wish_of, wished}
+use Rattle.scheduled_core.specs.Finals.{reply_to}
+use Rattle.scheduled_core.proofs.Lists.{slice_get-set_other}
+use Rattle.scheduled_core.proofs.Standing.Lists.{get_early}
 use Rattle.world_search.specs.Free.{AreFree, Commutes}
-use Rattle.every_schedule.specs.Places.{Place, placed, stepped}
+use Rattle.every_schedule.specs.Places.{Place, placed, entering as stepped}
 use Rattle.every_schedule.specs.Reduced.{IsOwn, has_own, is_own}
 use Rattle.every_schedule.proofs.OwnCalls.{IsAdmitted, left_by, other_refusal, other_reply, own_reply, own_stays, room_stays, swaps}
 
@@ -153,9 +153,9 @@ module _ (k : Limits) (w : World) (f : ℕ) (q : Place) where
       let same : place k f a (moved k f a w x) ≡ y = cc in
       subst (λ v. Commutes stepped IsOwn f v g (stepped record { limits = k; world = w } g)) same (own_commutes k f a x refl w g apart at own room)
 
--- own moves are free
-pub own_are_free : AreFree stepped IsOwn
-own_are_free = record {
+-- own moves are free, as the core makes entries
+pub own_enter : AreFree stepped IsOwn
+own_enter = record {
   goes = λ p f h. (h.next, h.goes);
   commutes = λ p f y h is g apart. own_commutes_at p.limits p.world f h.next (slice_get p.world.fibers f) refl h.own h.goes y is g apart;
 }

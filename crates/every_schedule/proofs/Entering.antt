@@ -3,15 +3,14 @@ use Rattle.std.proofs.Common.{◌≡◌, ◌≢◌, ℕ, zero, suc, ◌≤◌, L
 use Rattle.std.specs.Prelude.{IfOk, max}
 use Rattle.std.specs.List.{slice_get}
 use Rattle.std.proofs.lemmas.List.{length-map}
-use Rattle.std.proofs.lemmas.Option.{same_Some}
+use Rattle.std.proofs.lemmas.Option.{same_Some, slice_get_past}
 use Rattle.cell_registry.specs.declared.limits.Limits.{Limits}
 use Rattle.cell_registry.specs.declared.limits.RunError.{RunError}
 use Rattle.cell_registry.specs.Plain.{IsPlain, PlainView}
 use Rattle.fiber_frames.specs.Fiber.{Fiber}
-use Rattle.outcome_trace.specs.Core.{World, entered}
-use Rattle.outcome_trace.specs.Fitting.{AllFit}
-use Rattle.outcome_trace.specs.declared.report.Report.{Report}
-use Rattle.outcome_trace.proofs.Moves.{unborn_entered}
+use Rattle.scheduled_core.specs.Core.{World, entered}
+use Rattle.scheduled_core.specs.Fitting.{AllFit}
+use Rattle.scheduled_core.specs.declared.report.Report.{Report}
 use Rattle.world_search.specs.declared.landings.Landing.TheVariants as to
 use Rattle.world_search.specs.declared.landings.Entered.{Entered}
 use Rattle.world_search.specs.declared.landings.Entered.TheVariants as came
@@ -23,6 +22,7 @@ use Rattle.every_schedule.specs.Reduced.{after_own, behind, leapt, leapt_by, or_
 use Rattle.every_schedule.specs.Private.Keeping.{IsKept}
 use Rattle.every_schedule.specs.Private.Numbered.{AreAt, AreWorlds, IsWorld, IsWorldOf, MayAdd, Numbers, picked, place_of}
 use Rattle.every_schedule.specs.Private.Reporting.{AreAlike, AreOther}
+use Rattle.every_schedule.proofs.Bare.{step_limits, unborn_stays}
 use Rattle.every_schedule.proofs.Alikeness.{alike_reports, other_reports, same_lists}
 use Rattle.every_schedule.proofs.Numbered.{is_place, map_get, one_world, picked_is, places_added, places_more, rows_added, world_is, worlds_more}
 
@@ -31,13 +31,16 @@ limits_kept : (k : Limits) (x : Result World RunError) (q : Place) → placed k 
 limits_kept k (Ok w) q e = let same : record { limits = k; world = w } ≡ q = cc in sym (ap (λ (p : Place). p.limits) same)
 limits_kept k (Err d) q e = absurd (cc)
 
+stepped_limits : (p : Place) (f : ℕ) (q : Place) → stepped p f ≡ Ok q → q.limits ≡ p.limits
+stepped_limits p f q e = step_limits p f q e (λ x goes. limits_kept p.limits (entered p.limits (Ok p.world) f) x goes)
+
 -- and so are own moves
 once_limits : (p : Place) (o : Option ℕ) → (after_own p o).limits ≡ p.limits
 once_limits p None = refl
 once_limits p (Some f) = by (stepped p f) refl
   where
     by : (y : Result Place RunError) → stepped p f ≡ y → (or_stays p y).limits ≡ p.limits
-    by (Ok q) e = limits_kept p.limits (entered p.limits (Ok p.world) f) q e
+    by (Ok q) e = stepped_limits p f q e
     by (Err d) e = refl
 
 pushed_limits : (n : ℕ) (p : Place) → (pushed n p).limits ≡ p.limits
@@ -48,7 +51,7 @@ pushed_limits (suc n) p = pushed_limits n (pushed_once p) ∙ once_limits p (own
 behind_limits : (n : ℕ) (p : Place) (f : ℕ) (y : Result Place RunError) (q : Place) → stepped p f ≡ y → behind n y ≡ Ok q → q.limits ≡ p.limits
 behind_limits n p f (Ok x) q is e =
     let same : pushed n x ≡ q = cc in
-    ap (λ (r : Place). r.limits) (sym same) ∙ pushed_limits n x ∙ limits_kept p.limits (entered p.limits (Ok p.world) f) x is
+    ap (λ (r : Place). r.limits) (sym same) ∙ pushed_limits n x ∙ stepped_limits p f x is
 behind_limits n p f (Err d) q is e = absurd (cc)
 
 leapt_limits : (n : ℕ) (p : Place) (f : ℕ) (q : Place) (o : Option Fiber) → leapt_by n p f o ≡ Ok q → q.limits ≡ p.limits
@@ -131,7 +134,7 @@ module _ (k : Limits) (fs : List Fiber) (rs : List PlainView) where
 
 -- entries of unborn fibers
 pub rests : (p : Place) (f : ℕ) → length p.world.fibers ≤ f → stepped p f ≡ Ok p
-rests p f past = ap (placed p.limits) (unborn_entered p.limits p.world f past)
+rests p f past = unborn_stays p f (slice_get_past p.world.fibers f past)
 
 pub born_of : (k : Limits) (fs : List Fiber) (rs : List PlainView) (n : Numbers) (h : IsWorld k fs rs n) →
     length (place_of k fs rs n).world.fibers ≡ length n.fibers

@@ -17,14 +17,14 @@ use Rattle.cell_registry.specs.declared.limits.Limits.{Limits}
 use Rattle.cell_registry.specs.declared.limits.CellError.{CellError}
 use Rattle.cell_registry.specs.declared.call.Call.{Call}
 use Rattle.cell_registry.specs.Cells.{refusal, reply_of}
-use Rattle.outcome_trace.specs.declared.wish.Wish.{Wish}
-use Rattle.outcome_trace.specs.declared.wish.Wish.TheVariants.{Shared, Alone, Nothing}
-use Rattle.outcome_trace.specs.declared.report.FiberReport.{FiberReport}
-use Rattle.outcome_trace.specs.declared.report.Report.{Report}
-use Rattle.outcome_trace.specs.Core.{World, answered, born, fiber_report, turned, wish_of, wished}
-use Rattle.outcome_trace.proofs.SameReports.{reports_alike}
+use Rattle.scheduled_core.specs.declared.wish.Wish.{Wish}
+use Rattle.scheduled_core.specs.declared.wish.Wish.TheVariants.{Shared, Alone, Nothing}
+use Rattle.scheduled_core.specs.declared.report.FiberReport.{FiberReport}
+use Rattle.scheduled_core.specs.declared.report.Report.{Report}
+use Rattle.scheduled_core.specs.Core.{World, answered, born, fiber_report, turned, wish_of, wished}
+use Rattle.scheduled_core.proofs.SameReports.{reports_alike}
 use Rattle.world_search.specs.Free.{AreGrowing}
-use Rattle.every_schedule.specs.Places.{Place, placed, report_at, stepped}
+use Rattle.every_schedule.specs.Places.{Place, placed, report_at, entering as stepped}
 
 -- ---- one fiber
 abbrev ended : Option Outcome → ℕ
@@ -138,8 +138,8 @@ module _ (k : Limits) (w : World) (f : ℕ) where
 abbrev as_report : List FiberReport → Report
 as_report l = record { fibers = l }
 
-pub reports_grow : AreGrowing stepped report_at size
-reports_grow p f q e = elim (by_fiber p.limits p.world f (slice_get p.world.fibers f) q refl e) [
+pub reports_enter : AreGrowing stepped report_at size
+reports_enter p f q e = elim (by_fiber p.limits p.world f (slice_get p.world.fibers f) q refl e) [
   | inl stays ↦ inl (ap as_report stays)
   | inr more ↦ inr more
 ]

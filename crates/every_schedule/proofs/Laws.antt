@@ -3,9 +3,9 @@ use Rattle.std.proofs.Common.{◌≡◌, ℕ, List, Result, Ok, Err, sym, ◌∙
 use Rattle.std.specs.List.{All}
 use Rattle.cell_registry.specs.declared.limits.Limits.{Limits}
 use Rattle.cell_registry.specs.declared.limits.RunError.{RunError}
-use Rattle.outcome_trace.specs.declared.report.Report.{Report}
-use Rattle.outcome_trace.specs.Core.{World, reported}
-use Rattle.outcome_trace.specs.Finals.{IsSettled}
+use Rattle.scheduled_core.specs.declared.report.Report.{Report}
+use Rattle.scheduled_core.specs.Core.{World, reported}
+use Rattle.scheduled_core.specs.Finals.{IsSettled}
 use Rattle.every_schedule.specs.declared.exploration.Answer.{Answer}
 use Rattle.every_schedule.specs.Explored.{EndAlike, HasNoFault, HasOutcome, IsAnswered, IsCovered, IsListed}
 use Rattle.every_schedule.proofs.Told.{all_at}

@@ -6,13 +6,15 @@ use Rattle.std.proofs.lemmas.Option.{slice_get_past, same_Some}
 use Rattle.cell_registry.specs.declared.limits.RunError.{RunError}
 use Rattle.cell_registry.specs.declared.limits.RunError.TheVariants as run
 use Rattle.cell_registry.specs.Cells.{Cells}
-use Rattle.fiber_frames.specs.Fiber.{Fiber}
+use Rattle.fiber_frames.specs.Fiber.{Fiber, ask_of}
 use Rattle.world_search.specs.Free.{IsReduced, Leads, Leaps}
 use Rattle.world_search.specs.Free.Leads.{Here, On}
-use Rattle.outcome_trace.specs.Core.{turned}
-use Rattle.every_schedule.specs.Places.{Place, placed, stepped}
-use Rattle.every_schedule.specs.Reduced.{IsOwn, after_own, behind, has_own, last_own, leapt, leapt_by, or_stays, own_in, pushed, pushed_once, this_or}
-use Rattle.every_schedule.proofs.Commuting.{own_are_free}
+use Rattle.scheduled_core.specs.declared.wish.Wish.TheVariants.{Nothing}
+use Rattle.scheduled_core.specs.Core.{wish_of}
+use Rattle.every_schedule.specs.Explored.{HasMove}
+use Rattle.every_schedule.specs.Places.{Place, moves_at, stepped, wants}
+use Rattle.every_schedule.specs.Reduced.{IsOwn, after_own, behind, has_own, is_own, last_own, leapt, leapt_by, or_stays, own_in, pushed, pushed_once, this_or}
+use Rattle.every_schedule.proofs.Bare.{idle_stays, own_are_free, own_from, unborn_stays}
 
 -- ---- several own moves
 pub pushed_none : (p : Place) → pushed 0 p ≡ p
@@ -59,7 +61,7 @@ module _ (p : Place) where
 module _ (p : Place) where
   led_once : (q : Place) (f : ℕ) (y : Result Place RunError) → has_own p.world.cells f (slice_get p.world.fibers f) ≡ true → stepped p f ≡ y →
       Leads stepped IsOwn (or_stays p y) q → Leads stepped IsOwn p q
-  led_once q f (Ok x) own e on = On p f x q (record { own = own; next = x; goes = e }) e on
+  led_once q f (Ok x) own e on = On p f x q (own_from p f x own e) e on
   led_once q f (Err d) own e on = on
 
   led_from : (q : Place) (o : Option ℕ) → own_in p ≡ o → Leads stepped IsOwn (after_own p o) q → Leads stepped IsOwn p q
@@ -70,10 +72,6 @@ pushed_leads : (n : ℕ) (p : Place) → Leads stepped IsOwn p (pushed n p)
 unfolding pushed
 pushed_leads zero p = Here p p refl
 pushed_leads (suc n) p = led_from p (pushed n (pushed_once p)) (own_in p) refl (pushed_leads n (pushed_once p))
-
--- an unborn fiber makes no move
-unborn_stays : (p : Place) (f : ℕ) → slice_get p.world.fibers f ≡ None → stepped p f ≡ Ok p
-unborn_stays p f e = ap (λ o. placed p.limits (turned p.limits p.world f o)) e
 
 behind_leaps : (n : ℕ) (y : Result Place RunError) → Leaps stepped IsOwn y (behind n y)
 behind_leaps n (Ok q) = (pushed n q, pushed_leads n q, refl)
@@ -113,3 +111,19 @@ refused_with d P apart (inr told) = told
 
 pub refused : (d : RunError) (y : Result Place RunError) → d ≢ run.NoMemory → (d ≡ run.NoMemory) ⊎ (y ≡ Err d) → y ≡ Err d
 refused d y apart h = refused_with d (y ≡ Err d) apart h
+
+-- ---- who has a next move
+own_moves_by : (s : Cells) (gs : List Fiber) (f : ℕ) (o : Option Fiber) → slice_get gs f ≡ o → has_own s f o ≡ true →
+    (g : Fiber) × (slice_get gs f ≡ Some g) × (wish_of (ask_of g) ≢ Nothing)
+own_moves_by s gs f None e h = absurd (cc)
+own_moves_by s gs f (Some g) e h = (g, e, λ none. let no : is_own s f Nothing ≡ true = subst (λ x. is_own s f x ≡ true) none h in cc)
+
+-- a fiber that has an own move has a next move
+pub own_moves : (p : Place) (f : ℕ) → own_in p ≡ Some f → HasMove p.world f
+own_moves p f e =
+    own_moves_by p.world.cells p.world.fibers f (slice_get p.world.fibers f) refl
+    (last_own_is p.world.cells p.world.fibers (length p.world.fibers) f e)
+
+-- the entry of a fiber that has none changes nothing
+pub none_stays : (p : Place) (f : ℕ) (g : Fiber) → slice_get p.world.fibers f ≡ Some g → wish_of (ask_of g) ≡ Nothing → stepped p f ≡ Ok p
+none_stays p f g at none = idle_stays p f (ap moves_at at ∙ ap wants none)

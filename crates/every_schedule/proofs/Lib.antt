@@ -10,6 +10,9 @@ pub mod Entering
 pub mod OwnCalls
 pub mod Commuting
 pub mod Growing
+pub mod Bare
 pub mod Leaps
 pub mod Trails
 pub mod PastBound
+pub mod GrowingLeaps
+pub mod Deadlocks

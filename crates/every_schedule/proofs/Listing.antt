@@ -4,7 +4,7 @@ use Rattle.std.proofs.Common.{arith, append_assoc, append-nil, length-append}
 use Rattle.std.specs.Prelude.{Some}
 use Rattle.std.specs.List.{All, slice_get}
 use Rattle.std.proofs.lemmas.Option.{same_Some, slice_get_within}
-use Rattle.outcome_trace.proofs.Lists.{parted}
+use Rattle.scheduled_core.proofs.Lists.{parted}
 use Rattle.world_search.specs.declared.answers.Answer.{Answer as Found}
 use Rattle.every_schedule.specs.declared.exploration.Answer.{Answer}
 use Rattle.every_schedule.specs.Places.{Kept}

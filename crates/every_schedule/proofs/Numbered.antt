@@ -8,7 +8,7 @@ use Rattle.cell_registry.specs.declared.limits.Limits.{Limits}
 use Rattle.cell_registry.specs.Cells.{Cells}
 use Rattle.cell_registry.specs.Plain.{PlainView}
 use Rattle.fiber_frames.specs.Fiber.{Fiber}
-use Rattle.outcome_trace.specs.Fitting.{AllFit, world_of}
+use Rattle.scheduled_core.specs.Fitting.{AllFit, world_of}
 use Rattle.world_search.specs.Lists.{IsMore}
 use Rattle.world_search.proofs.Lists.{all_from, get_end, get_low, more_by, more_get, more_same}
 use Rattle.every_schedule.specs.Places.{Place}

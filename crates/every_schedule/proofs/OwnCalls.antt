@@ -18,10 +18,10 @@ use Rattle.cell_registry.specs.Cells.{spent}
 use Rattle.cell_registry.specs.Words.{has_ended}
 use Rattle.cell_registry.proofs.Calls.{owned-after}
 use Rattle.cell_registry.proofs.Lists.{get_or-set_kept}
-use Rattle.outcome_trace.specs.declared.wish.Wish.{Wish}
-use Rattle.outcome_trace.specs.declared.wish.Wish.TheVariants.{Shared, Alone, Nothing}
-use Rattle.outcome_trace.specs.Finals.{reply_to}
-use Rattle.outcome_trace.proofs.PlainFits.{request_stays}
+use Rattle.scheduled_core.specs.declared.wish.Wish.{Wish}
+use Rattle.scheduled_core.specs.declared.wish.Wish.TheVariants.{Shared, Alone, Nothing}
+use Rattle.scheduled_core.specs.Finals.{reply_to}
+use Rattle.scheduled_core.proofs.PlainFits.{request_stays}
 use Rattle.every_schedule.specs.Reduced.{is_own}
 
 -- the call that is wanted isn't refused

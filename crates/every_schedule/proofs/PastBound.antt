@@ -6,7 +6,7 @@ use Rattle.std.proofs.lemmas.Option.{same_Some}
 use Rattle.derived_ops.specs.Tree.{Tree}
 use Rattle.cell_registry.specs.declared.limits.Limits.{Limits}
 use Rattle.cell_registry.specs.declared.limits.RunError.{RunError}
-use Rattle.outcome_trace.specs.declared.report.Report.{Report}
+use Rattle.scheduled_core.specs.declared.report.Report.{Report}
 use Rattle.world_search.specs.declared.answers.Answer.{Answer as Found}
 use Rattle.world_search.specs.declared.landings.Landing.{Landing}
 use Rattle.world_search.specs.declared.landings.Landing.TheVariants as to
@@ -18,7 +18,7 @@ use Rattle.every_schedule.specs.Reduced.{leapt}
 use Rattle.every_schedule.specs.Private.Keeping.{AreSingle}
 use Rattle.every_schedule.specs.Private.Telling.{AreTold, IsEnd, IsTold}
 use Rattle.every_schedule.specs.Private.Trails.{AreUnfolded, EndApart, EndsAlone, IsLeftOut, IsUnfoldedOf}
-use Rattle.every_schedule.proofs.Told.{all_at, once, reached}
+use Rattle.every_schedule.proofs.Told.{all_at, first_moves, once, reached}
 use Rattle.every_schedule.proofs.Trails.{right, unfolded_once}
 
 -- what comes of where a schedule leads
@@ -88,6 +88,7 @@ past_bound code k kept n most raw found answers a told single each its once_raw 
     all_at (IsReached code k) (one ∷ answers) 0 one refl (reached kept (a ∷ found) (one ∷ answers) told_all code k rights) in
     let list : ListOnce (one ∷ answers) = once kept (a ∷ found) (one ∷ answers) told_all single once_all in record {
       schedule = a.schedule.items;
+      moves = first_moves code k a.schedule.items out.entries.moves;
       long = out.long;
       settled = led.settled;
       unlisted = λ l. list 0 (suc l.0) one l.1 (omega arith) refl l.2 (sym led.reached ∙ sym l.3);

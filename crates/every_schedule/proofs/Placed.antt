@@ -4,32 +4,44 @@ use Rattle.std.specs.List.{fold}
 use Rattle.derived_ops.specs.Tree.{Tree}
 use Rattle.cell_registry.specs.declared.limits.Limits.{Limits}
 use Rattle.cell_registry.specs.declared.limits.RunError.{RunError}
-use Rattle.outcome_trace.specs.Core.{World, core, entered, first_world, reported}
-use Rattle.outcome_trace.specs.Finals.{IsSettled}
+use Rattle.cell_registry.specs.Cells.{Cells}
+use Rattle.cell_registry.proofs.Forgetting.{opening_unawaited}
+use Rattle.scheduled_core.specs.Core.{World, core, entered, first_world, reported}
+use Rattle.scheduled_core.specs.Finals.{IsSettled}
 use Rattle.world_search.specs.Systems as search
-use Rattle.every_schedule.specs.Places.{first_place, placed, report_at, stepped}
+use Rattle.every_schedule.specs.Places.{Place, bare, bared, first_place, placed, report_at, stepped, unnoted}
+use Rattle.every_schedule.proofs.Bare.{bare_step}
 
--- a schedule leads to the place of the world to which it leads
-pub placed_run : (k : Limits) (x : Result World RunError) (s : List ℕ) → search.run stepped (placed k x) s ≡ placed k (fold (entered k) x s)
+-- a schedule leads to the place of the world to which it leads, without its notes of joins
+pub placed_run : (k : Limits) (x : Result World RunError) (s : List ℕ) →
+    search.run stepped (bared (placed k x)) s ≡ bared (placed k (fold (entered k) x s))
 placed_run k x [] = refl
-placed_run k (Ok w) (f ∷ s) = placed_run k (entered k (Ok w) f) s
+placed_run k (Ok w) (f ∷ s) =
+    ap (λ (y : Result Place RunError). search.run stepped y s) (bare_step (record { limits = k; world = w }) f)
+    ∙ placed_run k (entered k (Ok w) f) s
 placed_run k (Err e) (f ∷ s) = placed_run k (Err e) s
 
-pub core_run : (code : Tree) (k : Limits) (s : List ℕ) → search.run stepped (Ok (first_place code k)) s ≡ placed k (core code k s)
+pub first_bare : (code : Tree) (k : Limits) → bare (first_place code k) ≡ first_place code k
+first_bare code k =
+    ap (λ (s : Cells). let p : Place = record { limits = k; world = record { fibers = (first_world code k).fibers; cells = s } } in p) (opening_unawaited k)
+
+pub core_run : (code : Tree) (k : Limits) (s : List ℕ) → search.run stepped (Ok (first_place code k)) s ≡ bared (placed k (core code k s))
 unfolding core
-core_run code k s = placed_run k (Ok (first_world code k)) s
+core_run code k s =
+    ap (λ (p : Place). search.run stepped (Ok p) s) (sym (first_bare code k))
+    ∙ placed_run k (Ok (first_world code k)) s
 
 -- with the same report
-reported_placed : (k : Limits) (x : Result World RunError) → search.reported stepped report_at (placed k x) ≡ reported x
+reported_placed : (k : Limits) (x : Result World RunError) → search.reported stepped report_at (bared (placed k x)) ≡ reported x
 reported_placed k (Ok w) = refl
 reported_placed k (Err e) = refl
 
 run_reported : (k : Limits) (w : World) (s : List ℕ) →
-    search.reported stepped report_at (search.run stepped (Ok record { limits = k; world = w }) s) ≡ reported (fold (entered k) (Ok w) s)
+    search.reported stepped report_at (search.run stepped (Ok record { limits = k; world = unnoted w }) s) ≡ reported (fold (entered k) (Ok w) s)
 run_reported k w s = ap (search.reported stepped report_at) (placed_run k (Ok w) s) ∙ reported_placed k (fold (entered k) (Ok w) s)
 
-pub settles : (k : Limits) (w : World) → search.IsSettled stepped report_at record { limits = k; world = w } → IsSettled k w
+pub settles : (k : Limits) (w : World) → search.IsSettled stepped report_at record { limits = k; world = unnoted w } → IsSettled k w
 settles k w h = λ s. sym (run_reported k w s) ∙ h s
 
-pub settles_place : (k : Limits) (w : World) → IsSettled k w → search.IsSettled stepped report_at record { limits = k; world = w }
+pub settles_place : (k : Limits) (w : World) → IsSettled k w → search.IsSettled stepped report_at record { limits = k; world = unnoted w }
 settles_place k w h = λ s. run_reported k w s ∙ h s

@@ -1,5 +1,5 @@
 -- What a search promises of its answers, said of the answers that are told.
-use Rattle.std.proofs.Common.{◌≡◌, ◌≢◌, inl, inr, ℕ, ◌<◌, ◌≤◌, List, length, Result, Ok, Err, sym, ap, ◌∙◌, subst, arith, get_or}
+use Rattle.std.proofs.Common.{◌≡◌, ◌≢◌, inl, inr, ℕ, ◌+◌, ◌<◌, ◌≤◌, List, [], ◌∷◌, length, refl, Result, Ok, Err, sym, ap, ◌∙◌, subst, arith, get_or}
 use Rattle.std.specs.Prelude.{Some, IfOk}
 use Rattle.std.specs.List.{All, slice_get}
 use Rattle.std.proofs.lemmas.Option.{get_or_from_slice_get, same_Some, slice_get-get_or, slice_get_cases, slice_get_within}
@@ -7,20 +7,22 @@ use Rattle.std.proofs.lemmas.List.Elements.{All-get_or}
 use Rattle.derived_ops.specs.Tree.{Tree}
 use Rattle.cell_registry.specs.declared.limits.Limits.{Limits}
 use Rattle.cell_registry.specs.declared.limits.RunError.{RunError}
-use Rattle.outcome_trace.specs.declared.report.Report.{Report}
-use Rattle.outcome_trace.specs.Core.{World, core, reported}
-use Rattle.outcome_trace.specs.Finals.{IsSettled}
+use Rattle.scheduled_core.specs.declared.report.Report.{Report}
+use Rattle.scheduled_core.specs.Core.{World, core, first_world, reported}
+use Rattle.scheduled_core.specs.Finals.{IsSettled}
 use Rattle.world_search.specs.declared.answers.Answer.{Answer as Found}
 use Rattle.world_search.specs.declared.landings.Landing.{Landing}
 use Rattle.world_search.specs.declared.landings.Landing.TheVariants as to
 use Rattle.world_search.specs.Answers as search
 use Rattle.world_search.specs.Systems as systems
 use Rattle.every_schedule.specs.declared.exploration.Answer.{Answer}
-use Rattle.every_schedule.specs.Explored.{IsAnswered, IsCovered, IsListed, IsReached, ListOnce}
-use Rattle.every_schedule.specs.Places.{Kept, Place, first_place, placed, report_at, stepped}
+use Rattle.every_schedule.specs.Explored.{AreInOrder, AreMoves, IsAnswered, IsCovered, IsListed, IsReached, ListOnce, MayPrecede}
+use Rattle.every_schedule.specs.Places.{Kept, Place, bared, first_place, placed, report_at, stepped, unnoted}
 use Rattle.every_schedule.specs.Private.Keeping.{AreSingle}
 use Rattle.every_schedule.specs.Private.Telling.{AreTold, IsEnd, IsTold, IsWithin}
-use Rattle.every_schedule.proofs.Placed.{core_run, settles, settles_place}
+use Rattle.every_schedule.specs.Private.Trails.{AreMade, AreSorted, rank_of}
+use Rattle.every_schedule.proofs.Bare.{bare_step}
+use Rattle.every_schedule.proofs.Placed.{core_run, first_bare, settles, settles_place}
 
 pub all_at : {A : Type 0} (P : A → Type 0) (xs : List A) (i : ℕ) (x : A) → slice_get xs i ≡ Some x → All P xs → P x
 all_at P xs i x e h = subst P (get_or_from_slice_get xs i x x e) (All-get_or P xs i x (slice_get_within xs i x e) h)
@@ -61,10 +63,33 @@ ends_apart kept single (to.Fault i) (to.Fault j) x y apart e f = λ same.
     let is : f.0 ≡ e.0 = sym (same_err e.0 f.0 (sym e.2 ∙ same ∙ f.2)) in
     apart (single i j e.0 e.1 (subst (λ (d : RunError). slice_get kept.faults j ≡ Some d) is f.1))
 
+-- entries of fibers that have a next move at a place are such entries at its world
+made_moves : (k : Limits) (w : World) (s : List ℕ) → AreMade record { limits = k; world = unnoted w } s → AreMoves k w s
+made_moves k w [] h = tt
+made_moves k w (f ∷ s) h = (
+  h.0,
+  λ v e. made_moves k v s (h.1 record { limits = k; world = unnoted v }
+      (bare_step record { limits = k; world = w } f ∙ ap (λ (x : Result World RunError). bared (placed k x)) e)),
+)
+
+pub first_moves : (code : Tree) (k : Limits) (s : List ℕ) → AreMade (first_place code k) s → AreMoves k (first_world code k) s
+first_moves code k s h = made_moves k (first_world code k) s (subst (λ (p : Place). AreMade p s) (sym (first_bare code k)) h)
+
+-- who may stand before whom in a search may do so where they are told
+may_precede : (kept : Kept) (l m : Landing) (x y : Result Report RunError) (i j : ℕ) → rank_of l ≤ rank_of m → (rank_of l ≡ rank_of m → i ≤ j) →
+    IsEnd kept l x → IsEnd kept m y → MayPrecede x i j y
+may_precede kept (to.World a) (to.World b) x y i j rank short e f =
+    subst (λ z. MayPrecede z i j y) (sym e.2) (subst (λ z. MayPrecede (Ok (report_at e.0)) i j z) (sym f.2) (short refl))
+may_precede kept (to.World a) (to.Fault b) x y i j rank short e f =
+    subst (λ z. MayPrecede z i j y) (sym e.2) (subst (λ z. MayPrecede (Ok (report_at e.0)) i j z) (sym f.2) tt)
+may_precede kept (to.Fault a) (to.World b) x y i j rank short e f = absurd (omega arith)
+may_precede kept (to.Fault a) (to.Fault b) x y i j rank short e f =
+    subst (λ z. MayPrecede z i j y) (sym e.2) (subst (λ z. MayPrecede (Err e.0) i j z) (sym f.2) (short refl))
+
 module _ (kept : Kept) (found : List Found) (answers : List Answer) (told : AreTold kept found answers) where
   -- an end of the search is the end that is told
   ends_as : (k : Limits) (l : Landing) (x : Result World RunError) (end : Result Report RunError) →
-      search.Tells stepped report_at kept.places kept.faults l (placed k x) → IsEnd kept l end → end ≡ reported x
+      search.Tells stepped report_at kept.places kept.faults l (bared (placed k x)) → IsEnd kept l end → end ≡ reported x
   ends_as k (to.World j) (Ok w) end h e =
       let same : e.0 ≡ h.0 = same_Some e.0 h.0 (sym e.1 ∙ h.1) in
       e.2 ∙ ap Ok (ap report_at same ∙ h.2)
@@ -73,7 +98,7 @@ module _ (kept : Kept) (found : List Found) (answers : List Answer) (told : AreT
   ends_as k (to.Fault j) (Err d) end h e = e.2 ∙ ap Err (same_Some e.0 d (sym e.1 ∙ h))
 
   -- what is found is told
-  listed : (k : Limits) (x : Result World RunError) → search.IsAnswered stepped report_at kept.places kept.faults found (placed k x) →
+  listed : (k : Limits) (x : Result World RunError) → search.IsAnswered stepped report_at kept.places kept.faults found (bared (placed k x)) →
       IsListed answers (reported x)
   listed k x h =
       let i = h.1.0 in
@@ -81,23 +106,23 @@ module _ (kept : Kept) (found : List Found) (answers : List Answer) (told : AreT
       let a = at_within answers i low in
       (i, a.0, a.1, ends_as k h.0.end x a.0.end h.2 (told.each i h.0 a.0 h.1.1 a.1).ends)
 
-  pub covered : (k : Limits) (x : Result World RunError) → search.IsCovered stepped report_at kept.places kept.faults found (placed k x) → IsCovered k answers x
+  pub covered : (k : Limits) (x : Result World RunError) → search.IsCovered stepped report_at kept.places kept.faults found (bared (placed k x)) → IsCovered k answers x
   covered k (Ok w) h = λ settled. listed k (Ok w) (h (settles_place k w settled))
   covered k (Err e) h = listed k (Err e) h
 
-  pub answered : (k : Limits) (x : Result World RunError) → search.IsEnd stepped report_at kept.places kept.faults found (placed k x) → IsAnswered k answers x
+  pub answered : (k : Limits) (x : Result World RunError) → search.IsEnd stepped report_at kept.places kept.faults found (bared (placed k x)) → IsAnswered k answers x
   answered k (Ok w) h = (settles k w h.0, listed k (Ok w) h.1)
   answered k (Err e) h = listed k (Err e) h
 
   -- where a schedule leads that is found, and its end as it is told
   abbrev leads_to : (k : Limits) (x : Result World RunError) → Landing → Type 0
-  leads_to k x (to.World j) = (p : Place) × (slice_get kept.places j ≡ Some p) × (placed k x ≡ Ok p) × systems.IsSettled stepped report_at p
-  leads_to k x (to.Fault j) = (e : RunError) × (slice_get kept.faults j ≡ Some e) × (placed k x ≡ Err e)
+  leads_to k x (to.World j) = (p : Place) × (slice_get kept.places j ≡ Some p) × (bared (placed k x) ≡ Ok p) × systems.IsSettled stepped report_at p
+  leads_to k x (to.Fault j) = (e : RunError) × (slice_get kept.faults j ≡ Some e) × (bared (placed k x) ≡ Err e)
 
   led : (k : Limits) (x : Result World RunError) (l : Landing) (end : Result Report RunError) → leads_to k x l → IsEnd kept l end →
       (reported x ≡ end) × IfOk x (IsSettled k)
   led k (Ok w) (to.World j) end h e =
-      let here : record { limits = k; world = w } ≡ h.0 = (let q = h.2 in cc) in
+      let here : record { limits = k; world = unnoted w } ≡ h.0 = (let q = h.2 in cc) in
       let same : h.0 ≡ e.0 = same_Some h.0 e.0 (sym h.1 ∙ e.1) in
       (ap Ok (ap report_at (here ∙ same)) ∙ sym e.2, settles k w (subst (systems.IsSettled stepped report_at) (sym here) h.3))
   led k (Ok w) (to.Fault j) end h e = absurd (let q = h.2 in cc)
@@ -142,3 +167,19 @@ module _ (kept : Kept) (found : List Found) (answers : List Answer) (told : AreT
       let f = found_at i a ati in
       let g = found_at j b atj in
       ends_apart kept single f.0.end g.0.end a.end b.end (h i j f.0 g.0 less f.1 g.1) f.2.ends g.2.ends
+
+  pub moving : (code : Tree) (k : Limits) → All (λ f. AreMade (first_place code k) f.schedule.items) found →
+      All (λ a. AreMoves k (first_world code k) a.schedule) answers
+  moving code k h = all_from (λ a. AreMoves k (first_world code k) a.schedule) answers (λ i a e.
+      let it = found_at i a e in
+      subst (AreMoves k (first_world code k)) (sym it.2.schedule) (first_moves code k it.0.schedule.items
+      (all_at (λ f. AreMade (first_place code k) f.schedule.items) found i it.0 it.1 h)))
+
+  pub in_order : AreSorted found → AreInOrder answers
+  in_order h i a b ea eb =
+      let f = found_at i a ea in
+      let g = found_at (i + 1) b eb in
+      let stand = h i f.0 g.0 f.1 g.1 in
+      subst (λ s. MayPrecede a.end (length s) (length b.schedule) b.end) (sym f.2.schedule)
+      (subst (λ s. MayPrecede a.end (length f.0.schedule.items) (length s) b.end) (sym g.2.schedule)
+      (may_precede kept f.0.end g.0.end a.end b.end (length f.0.schedule.items) (length g.0.schedule.items) stand.rank stand.short f.2.ends g.2.ends))

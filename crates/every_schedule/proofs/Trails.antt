@@ -1,8 +1,8 @@
 -- Trails that go on, and the answers of the reduced search with the entries of their schedules one by one.
-use Rattle.std.proofs.Common.{◌≡◌, ◌≢◌, ◌⊎◌, inl, inr, ℕ, ◌+◌, ◌<◌, List, [], ◌∷◌, ◌++◌, length, Some, Result, Ok, Err, refl, sym}
+use Rattle.std.proofs.Common.{◌≡◌, ◌≢◌, ◌⊎◌, inl, inr, ℕ, ◌+◌, ◌<◌, ◌≤◌, List, [], ◌∷◌, ◌++◌, length, Some, Result, Ok, Err, refl, sym}
 use Rattle.std.proofs.Common.{ap, ◌∙◌, subst, arith, append-nil, append_assoc, get_or}
 use Rattle.std.specs.List.{All, slice_get, swap}
-use Rattle.std.specs.List.Sorted.{IsPermutation}
+use Rattle.std.specs.List.Sorted.{IsNonDecreasingBy, IsPermutation}
 use Rattle.std.proofs.lemmas.List.Elements.{All-push}
 use Rattle.std.proofs.lemmas.Bool.{cases_order}
 use Rattle.std.proofs.lemmas.List.Edits.{length-swap, swapped_from_swap}
@@ -11,7 +11,7 @@ use Rattle.std.proofs.lemmas.Option.{get_or_from_slice_get, same_Some, slice_get
 use mathlib.Core.Logic.{dite}
 use native.Mathlib.Decide.{ℕ_discrete}
 use Rattle.cell_registry.specs.declared.limits.RunError.{RunError}
-use Rattle.outcome_trace.proofs.Lists.{parted}
+use Rattle.scheduled_core.proofs.Lists.{parted}
 use Rattle.world_search.specs.declared.answers.Answer.{Answer as Found}
 use Rattle.world_search.specs.declared.landings.Landing.{Landing}
 use Rattle.world_search.specs.declared.landings.Landing.TheVariants as to
@@ -23,9 +23,11 @@ use Rattle.world_search.proofs.Lists.{get_end, get_last, more_by, more_in}
 use Rattle.world_search.proofs.Free.{covers, goes_onward, leads_up}
 use Rattle.every_schedule.specs.Places.{Kept, Place, report_at, stepped}
 use Rattle.every_schedule.specs.Reduced.{IsOwn, leapt}
-use Rattle.every_schedule.specs.Private.Trails.{AreUnfolded, EndApart, EndsAlone, IsKeptIn, IsTrail, IsUnfolded, IsUnfoldedOf}
-use Rattle.every_schedule.proofs.Commuting.{own_are_free}
-use Rattle.every_schedule.proofs.Growing.{reports_grow, size}
+use Rattle.every_schedule.specs.Explored.{HasMove}
+use Rattle.every_schedule.specs.Private.Trails.{AreMade, AreSorted, AreUnfolded, EndApart, EndsAlone, IsKeptIn}
+use Rattle.every_schedule.specs.Private.Trails.{IsTrail, IsUnfolded, IsUnfoldedOf, rank_of}
+use Rattle.every_schedule.proofs.Bare.{own_are_free, reports_grow}
+use Rattle.every_schedule.proofs.Growing.{size}
 use Rattle.every_schedule.proofs.Leaps.{leaps}
 use Rattle.every_schedule.proofs.Told.{all_at, all_from}
 
@@ -44,10 +46,22 @@ few_append xs ys a b = all_from (λ f. f < 1000) (xs ++ ys) (λ i x e. elim (par
 
 -- ---- trails
 pub trail_none : (old : List ℕ) (p : Place) → IsTrail old old p (Ok p)
-trail_none old p = record { added = []; is = sym (append-nil old); leads = refl; few = none_few }
+trail_none old p = record { added = []; is = sym (append-nil old); leads = refl; few = none_few; moves = tt }
 
-pub trail_one : (old : List ℕ) (p : Place) (f : ℕ) (y : Result Place RunError) → f < 1000 → stepped p f ≡ y → IsTrail old (old ++ f ∷ []) p y
-trail_one old p f y low e = record { added = f ∷ []; is = refl; leads = e; few = All-push (λ g. g < 1000) [] f none_few low }
+pub trail_one : (old : List ℕ) (p : Place) (f : ℕ) (y : Result Place RunError) → f < 1000 → HasMove p.world f → stepped p f ≡ y →
+    IsTrail old (old ++ f ∷ []) p y
+trail_one old p f y low has e = record {
+  added = f ∷ [];
+  is = refl;
+  leads = e;
+  few = All-push (λ g. g < 1000) [] f none_few low;
+  moves = (has, λ q led. tt);
+}
+
+made_append : (p q : Place) (a b : List ℕ) → AreMade p a → run stepped (Ok p) a ≡ Ok q → AreMade q b → AreMade p (a ++ b)
+made_append p q [] b h leads rest = let same : p ≡ q = cc in subst (λ x. AreMade x b) (sym same) rest
+made_append p q (f ∷ a) b h leads rest =
+    (h.0, λ r e. made_append r q a b (h.1 r e) (ap (λ x. run stepped x a) (sym e) ∙ leads) rest)
 
 pub trail_more : (old mid new : List ℕ) (p q : Place) (y : Result Place RunError) → IsTrail old mid p (Ok q) → IsTrail mid new q y → IsTrail old new p y
 trail_more old mid new p q y a b = record {
@@ -55,12 +69,13 @@ trail_more old mid new p q y a b = record {
   is = b.is ∙ ap (λ l. l ++ b.added) a.is ∙ append_assoc old a.added b.added;
   leads = run-append stepped (Ok p) a.added b.added ∙ ap (λ x. run stepped x b.added) a.leads ∙ b.leads;
   few = few_append a.added b.added a.few b.few;
+  moves = made_append p q a.added b.added a.moves a.leads b.moves;
 }
 
 -- the whole trail
 pub trail_whole : (n : ℕ) (first : Place) (schedule new : List ℕ) (y : Result Place RunError) → IsTrail [] new first y →
     run (leapt n) (Ok first) schedule ≡ y → IsUnfolded n first schedule new
-trail_whole n first schedule new y t e = subst (IsUnfolded n first schedule) (sym t.is) (record { leads = t.leads ∙ sym e; few = t.few })
+trail_whole n first schedule new y t e = subst (IsUnfolded n first schedule) (sym t.is) (record { leads = t.leads ∙ sym e; few = t.few; moves = t.moves })
 
 -- ---- answers
 pub unfolded_next : (n most : ℕ) (first : Place) (found old : List Found) (a : Found) → AreUnfolded n most first found old →
@@ -105,6 +120,9 @@ module _ (kept : Kept) (first : Place) (n most : ℕ) (found answers : List Foun
 
   pub few : All (search.IsNumbered 1000) answers
   few = all_from (search.IsNumbered 1000) answers (λ i a e. (each i a e).entries.few)
+
+  pub made : All (λ a. AreMade first a.schedule.items) answers
+  made = all_from (λ a. AreMade first a.schedule.items) answers (λ i a e. (each i a e).entries.moves)
 
   pub brief : All (search.IsShort most) answers
   brief = all_from (search.IsShort most) answers (λ i a e. (each i a e).short)
@@ -301,3 +319,21 @@ unfolded_once kept first n most found answers each once apart i j a b less ei ej
         | inr high ↦ ends (apart_back kept v.answer.end u.answer.end (once v.number u.number v.answer u.answer high v.at u.at))
       ]
     ]
+
+-- ---- the order of answers
+pub stands : (answers : List Found) → IsNonDecreasingBy (λ (a : Found). rank_of a.end) answers →
+    ((i : ℕ) (d : Found) → i + 1 < length answers → rank_of (get_or answers i d).end ≡ rank_of (get_or answers (i + 1) d).end →
+    length (get_or answers i d).schedule.items ≤ length (get_or answers (i + 1) d).schedule.items) → AreSorted answers
+stands answers ranks short i a b ea eb =
+    let low = slice_get_within answers (i + 1) b eb in
+    let one : get_or answers i a ≡ a = get_or_from_slice_get answers i a a ea in
+    let other : get_or answers (i + 1) a ≡ b = get_or_from_slice_get answers (i + 1) b a eb in
+    let up = ranks i (i + 1) a (omega arith) low in
+    let rank_one = ap (λ (x : Found). rank_of x.end) one in
+    let rank_other = ap (λ (x : Found). rank_of x.end) other in
+    let long_one = ap (λ (x : Found). length x.schedule.items) one in
+    let long_other = ap (λ (x : Found). length x.schedule.items) other in
+    record {
+      rank = omega arith;
+      short = λ tie. let less = short i a low (rank_one ∙ tie ∙ sym rank_other) in omega arith;
+    }

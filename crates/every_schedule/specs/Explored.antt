@@ -1,16 +1,18 @@
 -- What an exploration tells of a program under every schedule.
-use Rattle.std.specs.Prelude.{◌≡◌, ◌≢◌, ℕ, ◌<◌, List, length, Some, Result, Ok, Err, IfOk}
-use Rattle.std.specs.List.{All, slice_get}
+use Rattle.std.specs.Prelude.{◌≡◌, ◌≢◌, ℕ, ◌+◌, ◌<◌, ◌≤◌, List, [], ◌∷◌, length, Some, Result, Ok, Err, IfOk}
+use Rattle.std.specs.List.{All, fold, slice_get}
 use Rattle.derived_ops.specs.Tree.{Tree}
+use Rattle.fiber_frames.specs.Fiber.{Fiber, ask_of}
 use Rattle.fiber_frames.specs.Marks.{AreLawful}
 use Rattle.cell_registry.specs.declared.limits.Limits.{Limits}
 use Rattle.cell_registry.specs.declared.limits.RunError.{RunError}
 use Rattle.effect_term.specs.declared.reply.Outcome.{Outcome}
-use Rattle.outcome_trace.specs.declared.report.FiberReport.{FiberReport}
-use Rattle.outcome_trace.specs.declared.report.Report.{Report}
-use Rattle.outcome_trace.specs.Core.{World, core, reported}
-use Rattle.outcome_trace.specs.Covers.{IsAccounted, IsAmong}
-use Rattle.outcome_trace.specs.Finals.{IsSettled}
+use Rattle.scheduled_core.specs.declared.report.FiberReport.{FiberReport}
+use Rattle.scheduled_core.specs.declared.report.Report.{Report}
+use Rattle.scheduled_core.specs.declared.wish.Wish.TheVariants.{Nothing}
+use Rattle.scheduled_core.specs.Core.{World, core, entered, first_world, reported, wish_of}
+use Rattle.scheduled_core.specs.Covers.{IsAccounted, IsAmong}
+use Rattle.scheduled_core.specs.Finals.{HasEnded, IsSettled}
 use Rattle.every_schedule.specs.declared.exploration.Answer.{Answer}
 
 -- one of the answers ends so
@@ -31,9 +33,20 @@ pub record IsReached (code : Tree) (k : Limits) (a : Answer) : Type 0 where
   pub reached : reported (core code k a.schedule) ≡ a.end
   pub settled : IfOk (core code k a.schedule) (IsSettled k)
 
--- a schedule of more than so many entries leads to a settled world, or to a fault, which isn't listed
+-- the fiber of this number is born and has a next move: it hasn't ended
+abbrev pub HasMove : World → ℕ → Type 0
+HasMove w f = (g : Fiber) × (slice_get w.fibers f ≡ Some g) × (wish_of (ask_of g) ≢ Nothing)
+
+-- each entry of the schedule, from this world on, is of a fiber that has a next move where the entry is made
+abbrev pub AreMoves : Limits → World → List ℕ → Type 0
+AreMoves k w [] = Unit {0}
+AreMoves k w (f ∷ s) = HasMove w f × ((v : World) → entered k (Ok w) f ≡ Ok v → AreMoves k v s)
+
+-- a schedule of more than so many entries, each of a fiber that has a next move, leads to a settled world, or to a
+-- fault, which isn't listed
 pub record IsPastBound (code : Tree) (k : Limits) (most : ℕ) (answers : List Answer) : Type 0 where
   pub schedule : List ℕ
+  pub moves : AreMoves k (first_world code k) schedule
   pub long : most < length schedule
   pub settled : IfOk (core code k schedule) (IsSettled k)
   pub unlisted : IsListed answers (reported (core code k schedule)) → ⊥
@@ -59,3 +72,28 @@ EndAlike answers end = (i : ℕ) (a : Answer) → slice_get answers i ≡ Some a
 abbrev pub HasOutcome : ℕ → Result Report RunError → Type 0
 HasOutcome f (Ok r) = (g : FiberReport) × (o : Outcome) × (slice_get r.fibers f ≡ Some g) × (g.outcome ≡ Some o)
 HasOutcome f (Err e) = ⊥
+
+-- it is a report, and in it each fiber has an outcome
+abbrev pub AllHaveEnded : Result Report RunError → Type 0
+AllHaveEnded (Ok r) = (f : ℕ) (g : FiberReport) → slice_get r.fibers f ≡ Some g → (o : Outcome) × (g.outcome ≡ Some o)
+AllHaveEnded (Err e) = ⊥
+
+-- the fiber of this number is born, and whatever entries follow it never ends: it waits, or goes round, for ever
+pub record NeverEnds (k : Limits) (w : World) (f : ℕ) : Type 0 where
+  pub fiber : Fiber
+  pub here : slice_get w.fibers f ≡ Some fiber
+  pub never : (entries : List ℕ) (v : World) (g : Fiber) → fold (entered k) (Ok w) entries ≡ Ok v →
+      slice_get v.fibers f ≡ Some g → HasEnded g → ⊥
+
+-- an answer with the one end and a schedule of m entries may stand before one with the other end and n entries: a
+-- report before any fault, and of two reports, or of two faults, the one with fewer entries, or with as many
+abbrev pub MayPrecede : Result Report RunError → (m n : ℕ) → Result Report RunError → Type 0
+MayPrecede (Ok r) m n (Ok s) = m ≤ n
+MayPrecede (Ok r) m n (Err e) = Unit {0}
+MayPrecede (Err d) m n (Ok s) = ⊥
+MayPrecede (Err d) m n (Err e) = m ≤ n
+
+-- reports stand before faults, and among either those of short schedules first: each answer may precede the next one
+abbrev pub AreInOrder : List Answer → Type 0
+AreInOrder answers = (i : ℕ) (a b : Answer) → slice_get answers i ≡ Some a → slice_get answers (i + 1) ≡ Some b →
+    MayPrecede a.end (length a.schedule) (length b.schedule) b.end

@@ -11,10 +11,10 @@ use Rattle.cell_registry.specs.declared.limits.RunError.{RunError}
 use Rattle.cell_registry.specs.Cells.{Cells, cell_of}
 use Rattle.cell_registry.specs.Words.{has_ended}
 use Rattle.fiber_frames.specs.Fiber.{Fiber, ask_of}
-use Rattle.outcome_trace.specs.declared.wish.Wish.{Wish}
-use Rattle.outcome_trace.specs.declared.wish.Wish.TheVariants.{Shared, Alone, Nothing}
-use Rattle.outcome_trace.specs.Core.{wish_of}
-use Rattle.every_schedule.specs.Places.{Place, stepped}
+use Rattle.scheduled_core.specs.declared.wish.Wish.{Wish}
+use Rattle.scheduled_core.specs.declared.wish.Wish.TheVariants.{Shared, Alone, Nothing}
+use Rattle.scheduled_core.specs.Core.{wish_of}
+use Rattle.every_schedule.specs.Places.{Place, entering, stepped}
 
 -- The call touches the caller's own cell alone, and there only what nobody else reads or changes: a look where the
 -- request is known to come, the masks, and the cut of a fiber that hasn't ended
@@ -93,4 +93,4 @@ leapt n p f = leapt_by n p f (slice_get p.world.fibers f)
 pub record IsOwn (p : Place) (f : ℕ) : Type 0 where
   pub own : has_own p.world.cells f (slice_get p.world.fibers f) ≡ true
   pub next : Place
-  pub goes : stepped p f ≡ Ok next
+  pub goes : entering p f ≡ Ok next

@@ -3,13 +3,14 @@ ghost use Rattle.std.specs.Prelude.{◌≡◌, ◌⊎◌, IfOk, IfErr, Ok as Goe
 ghost use Rattle.derived_ops.specs.Expansion.{code_of};
 ghost use Rattle.derived_ops.specs.Reading.{source_of};
 ghost use Rattle.cell_registry.specs.Cells.{AreLimits};
-ghost use Rattle.outcome_trace.specs.Fitting.{AllFit, world_of};
-ghost use Rattle.every_schedule.specs.Places.{first_place, stepped};
+ghost use Rattle.scheduled_core.specs.Fitting.{AllFit, world_of};
+ghost use Rattle.every_schedule.specs.Places.{first_place, moves_at, stepped};
+ghost use Rattle.std.specs.List.{slice_get};
 
 use cell_registry::{Limits, PlainRegistry, RunError};
 use effect_term::Program;
 use fiber_frames::Config;
-use outcome_trace::{enter, first_fibers};
+use scheduled_core::{Wish, enter, first_fibers};
 use std::alloc::{AllocError, Global};
 use std::marker::Model;
 
@@ -26,7 +27,7 @@ impl Model for CoreWorld {
     ghost use Rattle.fiber_frames.specs.contracts.ask.Look as the_look;
     ghost use Rattle.fiber_frames.specs.contracts.mark.Mark as the_mark;
     ghost use Rattle.every_schedule.specs.Places.{Place};
-    ghost use Rattle.outcome_trace.specs.Fitting.{AllFit, world_of};
+    ghost use Rattle.scheduled_core.specs.Fitting.{AllFit, world_of};
 
     ghost Value = { Place };
 
@@ -38,6 +39,19 @@ impl Model for CoreWorld {
     } };
 
     ghost invariant = { λ w. AllFit (world_of w.fibers.items w.registry.state) };
+}
+
+// Whether the fiber of this number is born and has a next move.
+fn moves(fibers: &[Config], fiber: u16) -> bool
+    ensures { result ≡ moves_at (slice_get fibers.now fiber) }
+{
+    match fibers.get(usize::from(fiber)) {
+        None => false,
+        Some(it) => match Wish::of(it.ask()) {
+            Wish::Shared(_) | Wish::Alone => true,
+            Wish::Nothing => false,
+        },
+    }
 }
 
 impl CoreWorld {
@@ -61,7 +75,8 @@ impl CoreWorld {
         Ok(CoreWorld { fibers, registry })
     }
 
-    /// The entry of a fiber. After an error the world is of no use.
+    /// The entry of a fiber, and then it isn't noted any more who was joined. After an error the world is of no use.
+    #[tactic(auto, using(crate::proofs::Bare::fits_bare, crate::proofs::Bare::moves_step, crate::proofs::Bare::idle_stays, crate::proofs::Bare::stops))]
     pub(crate) fn enter(self, fiber: u16) -> Result<CoreWorld, RunError>
         ensures goes { IfOk result (λ w. stepped self fiber ≡ GoesWell w) }
         ensures stops { IfErr result (λ e. (e ≡ RunError.NoMemory) ⊎ (stepped self fiber ≡ Fails e)) }
@@ -70,7 +85,11 @@ impl CoreWorld {
             mut fibers,
             mut registry,
         } = self;
+        if !moves(fibers.as_slice(), fiber) {
+            return Ok(CoreWorld { fibers, registry });
+        }
         enter(&mut fibers, &mut registry, fiber)?;
+        registry.forget_waits();
         Ok(CoreWorld { fibers, registry })
     }
 

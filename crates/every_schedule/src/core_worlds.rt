@@ -23,7 +23,7 @@ use crate::reports::same_reports;
 use crate::row::Row;
 use cell_registry::{Limits, RunError};
 use effect_term::{Program, facts_of};
-use outcome_trace::{Report, report_of_fibers};
+use scheduled_core::{Report, report_of_fibers};
 use std::alloc::{AllocError, Global};
 use std::marker::Model;
 use world_search::{Entered, Landing, Worlds};

@@ -2,7 +2,7 @@
 ghost use Rattle.std.specs.Prelude.{◌≡◌, ◌⊎◌, ◌<◌, ◌≤◌, ◌+◌, length, IfErr, IfOk, IfSome, OnOk, Some, max};
 ghost use Rattle.std.specs.Prelude.{Ok as GoesWell, Err as Fails};
 ghost use Rattle.std.specs.List.{All, slice_get};
-ghost use Rattle.outcome_trace.specs.Fitting.{AllFit};
+ghost use Rattle.scheduled_core.specs.Fitting.{AllFit};
 ghost use Rattle.cell_registry.specs.declared.limits.Limits.{Limits as TheLimits};
 ghost use Rattle.every_schedule.specs.Places.{stepped};
 ghost use Rattle.every_schedule.specs.Private.Numbered.{AreAt, AreFirst, AreKnown, IsAt, IsWorld, IsWorldOf, SameBut};

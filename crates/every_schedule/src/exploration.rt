@@ -2,7 +2,7 @@
 ghost use Rattle.std.specs.Prelude.{◌≡◌};
 
 use cell_registry::RunError;
-use outcome_trace::Report;
+use scheduled_core::Report;
 use std::marker::Model;
 
 /// The entries of a schedule, in their order: each the number of the fiber that makes its next move.
@@ -67,7 +67,7 @@ impl Answers {
         Answers { answers }
     }
 
-    /// The answers, in the order in which they were found.
+    /// The answers, in their order.
     pub fn as_slice(&self) -> &[Answer]
         ensures { result.now ≡ self.now }
     {
@@ -82,8 +82,7 @@ pub struct Exploration {
     pub answers: Answers,
     /// How many worlds were found.
     pub worlds: usize,
-    /// Every schedule was explored, so there is no other answer.
+    /// Every schedule was explored: there is no other answer, and wherever a schedule has led, some entries more lead
+    /// to one.
     pub complete: bool,
-    /// Wherever a schedule has led, some further entries lead to an answer.
-    pub ends: bool,
 }

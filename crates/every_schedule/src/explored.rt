@@ -7,10 +7,11 @@ ghost use Rattle.derived_ops.specs.Expansion.{code_of};
 ghost use Rattle.derived_ops.specs.Reading.{source_of};
 ghost use Rattle.fiber_frames.specs.Marks.{AreLawful};
 ghost use Rattle.cell_registry.specs.Cells.{AreLimits};
-ghost use Rattle.outcome_trace.specs.declared.report.Report.{Report as TheReport};
-ghost use Rattle.outcome_trace.specs.Core.{World, core, reported};
-ghost use Rattle.outcome_trace.specs.Finals.{IsSettled};
-ghost use Rattle.every_schedule.specs.Explored.{EndAlike, HasLawfulMarks, HasNoFault, HasOutcome};
+ghost use Rattle.scheduled_core.specs.declared.report.Report.{Report as TheReport};
+ghost use Rattle.scheduled_core.specs.Core.{World, core, first_world, reported};
+ghost use Rattle.scheduled_core.specs.Finals.{IsSettled};
+ghost use Rattle.every_schedule.specs.Explored.{AllHaveEnded, AreInOrder, AreMoves, EndAlike, HasLawfulMarks};
+ghost use Rattle.every_schedule.specs.Explored.{HasNoFault, HasOutcome, NeverEnds};
 ghost use Rattle.world_search.specs.Answers.{IsAtBound};
 ghost use Rattle.every_schedule.specs.Explored.{IsAnswered, IsCovered, IsPastBound, IsReached, ListOnce};
 ghost use Rattle.every_schedule.specs.Private.Keeping.{AreSingle};
@@ -22,28 +23,35 @@ use crate::reduced_worlds::{AT_ONCE, ReducedWorlds};
 use crate::unfolding::unfold_all;
 use cell_registry::{Limits, RunError};
 use effect_term::{Program, facts_of};
-use outcome_trace::Report;
+use scheduled_core::Report;
 use std::alloc::{AllocError, Global};
-use world_search::{Bounds, Landing, Unwatched, Watcher, search, search_watched};
+use world_search::{Bounds, Landing, Unwatched, Watcher, search};
 
 /// All that can come of a program, whatever the schedule: the reports that no further entry changes, and the faults,
 /// each with a schedule under which it comes, as `replay` takes it.
 ///
-/// Where the exploration is complete, no other report that stays and no other fault comes of any schedule. Where it
-/// isn't, as many worlds were kept as may be, or more than a schedule may have entries, or an end that isn't listed
-/// comes of a schedule that is longer than the bound; each answer is right all the same.
+/// Where the exploration is complete, no other report that stays and no other fault comes of any schedule, and wherever
+/// a schedule has led, some entries more lead to an answer. Where it isn't, as many worlds were kept as there may be,
+/// or more than a schedule may have entries, or an end that isn't listed comes of a schedule with more entries than the
+/// bound, each of a fiber that has a next move; each answer is right all the same.
+///
 /// So of a complete exploration: where no fault is listed, no schedule faults; where all answers end alike, the report
-/// doesn't hang on the schedule; and where a fiber has ended in each answer, it can still end wherever a schedule has
-/// led. A report is listed once, and so is a fault. The limits are in their ranges ([`Limits`]); a world takes memory
-/// for each of its numbers. [`RunError::NoMemory`] is the only error.
+/// doesn't depend on the schedule; where a fiber has ended in each answer, it can still end wherever a schedule has
+/// led; and where each answer has ended all its fibers, no schedule leads to a world in which a fiber waits for ever
+/// (`deadlock`).
+///
+/// A report is listed once, and so is a fault; reports come before faults, and among either those with shorter
+/// schedules first. The limits are in their ranges ([`Limits`]); a world takes memory for each of its numbers.
+/// [`RunError::NoMemory`] is the only error.
 ///
 /// It is a search with partial-order reduction: behind each entry, up to a hundred moves are made at once of which no
 /// other fiber sees anything, and which nothing that another fiber does can change. These are moves without a shared
 /// call, masks that are entered and left, looks where the request is set, and cuts.
 ///
-/// In the schedules of the answers each move is an entry; they needn't be the shortest, which [`explore_full`] tells.
-/// While it explores, the bound counts the entries alone, without the moves behind them. An answer whose schedule has
-/// more entries than the bound is left out then, and the exploration isn't complete.
+/// In the schedules of the answers each move is an entry, and each entry is of a fiber that has a next move there. They
+/// needn't be the shortest, which [`explore_full`] finds. While it explores, the bound counts the entries alone,
+/// without the moves behind them. An answer whose schedule has more entries than the bound is left out then, and the
+/// exploration isn't complete.
 pub fn explore(
     alloc: Global,
     program: &Program,
@@ -54,7 +62,7 @@ pub fn explore(
     ensures all { IfOk result (λ it. it.complete ≡ true → (schedule : List ℕ) →
         IsCovered limits it.answers (core (code_of (source_of program.now)) limits schedule)) }
     ensures each { IfOk result (λ it. All (IsReached (code_of (source_of program.now)) limits) it.answers) }
-    ensures onward { IfOk result (λ it. it.complete ≡ true → it.ends ≡ true → (schedule : List ℕ) →
+    ensures onward { IfOk result (λ it. it.complete ≡ true → (schedule : List ℕ) →
         (more : List ℕ) × IsAnswered limits it.answers
         (core (code_of (source_of program.now)) limits (schedule ++ more))) }
     ensures faultless { IfOk result (λ it. it.complete ≡ true → HasNoFault it.answers →
@@ -63,15 +71,21 @@ pub fn explore(
         EndAlike it.answers end → (schedule : List ℕ) (w : World) →
         core (code_of (source_of program.now)) limits schedule ≡ GoesWell w → IsSettled limits w →
         reported (GoesWell w) ≡ end) }
-    ensures can_end { IfOk result (λ it. it.complete ≡ true → it.ends ≡ true → (f : ℕ) →
+    ensures can_end { IfOk result (λ it. it.complete ≡ true → (f : ℕ) →
         All (λ a. HasOutcome f a.end) it.answers → (schedule : List ℕ) → (more : List ℕ) ×
         HasOutcome f (reported (core (code_of (source_of program.now)) limits (schedule ++ more)))) }
+    ensures deadlock { IfOk result (λ it. it.complete ≡ true → All (λ a. AllHaveEnded a.end) it.answers →
+        (schedule : List ℕ) (w : World) → core (code_of (source_of program.now)) limits schedule ≡ GoesWell w →
+        (f : ℕ) → NeverEnds limits w f → ⊥) }
     ensures once { IfOk result (λ it. ListOnce it.answers) }
     ensures stopped { IfOk result (λ it. it.complete ≡ false → IsAtBound bounds it.worlds ⊎
         IsPastBound (code_of (source_of program.now)) limits bounds.entries it.answers) }
     ensures room { IfOk result (λ it. it.worlds ≤ max bounds.worlds 1) }
     ensures numbers { IfOk result (λ it. All (λ a. All (λ f. f < 1000) a.schedule) it.answers) }
     ensures short { IfOk result (λ it. All (λ a. length a.schedule ≤ bounds.entries) it.answers) }
+    ensures moves { IfOk result (λ it.
+        All (λ a. AreMoves limits (first_world (code_of (source_of program.now)) limits) a.schedule) it.answers) }
+    ensures order { IfOk result (λ it. AreInOrder it.answers) }
     ensures lawful { IfOk result (λ it. All HasLawfulMarks it.answers) }
     ensures memory { IfErr result (λ e. e ≡ RunError.NoMemory) }
 {
@@ -91,7 +105,7 @@ pub fn explore_watched<V: Watcher>(
     ensures all { IfOk result (λ it. it.complete ≡ true → (schedule : List ℕ) →
         IsCovered limits it.answers (core (code_of (source_of program.now)) limits schedule)) }
     ensures each { IfOk result (λ it. All (IsReached (code_of (source_of program.now)) limits) it.answers) }
-    ensures onward { IfOk result (λ it. it.complete ≡ true → it.ends ≡ true → (schedule : List ℕ) →
+    ensures onward { IfOk result (λ it. it.complete ≡ true → (schedule : List ℕ) →
         (more : List ℕ) × IsAnswered limits it.answers
         (core (code_of (source_of program.now)) limits (schedule ++ more))) }
     ensures faultless { IfOk result (λ it. it.complete ≡ true → HasNoFault it.answers →
@@ -100,20 +114,26 @@ pub fn explore_watched<V: Watcher>(
         EndAlike it.answers end → (schedule : List ℕ) (w : World) →
         core (code_of (source_of program.now)) limits schedule ≡ GoesWell w → IsSettled limits w →
         reported (GoesWell w) ≡ end) }
-    ensures can_end { IfOk result (λ it. it.complete ≡ true → it.ends ≡ true → (f : ℕ) →
+    ensures can_end { IfOk result (λ it. it.complete ≡ true → (f : ℕ) →
         All (λ a. HasOutcome f a.end) it.answers → (schedule : List ℕ) → (more : List ℕ) ×
         HasOutcome f (reported (core (code_of (source_of program.now)) limits (schedule ++ more)))) }
+    ensures deadlock { IfOk result (λ it. it.complete ≡ true → All (λ a. AllHaveEnded a.end) it.answers →
+        (schedule : List ℕ) (w : World) → core (code_of (source_of program.now)) limits schedule ≡ GoesWell w →
+        (f : ℕ) → NeverEnds limits w f → ⊥) }
     ensures once { IfOk result (λ it. ListOnce it.answers) }
     ensures stopped { IfOk result (λ it. it.complete ≡ false → IsAtBound bounds it.worlds ⊎
         IsPastBound (code_of (source_of program.now)) limits bounds.entries it.answers) }
     ensures room { IfOk result (λ it. it.worlds ≤ max bounds.worlds 1) }
     ensures numbers { IfOk result (λ it. All (λ a. All (λ f. f < 1000) a.schedule) it.answers) }
     ensures short { IfOk result (λ it. All (λ a. length a.schedule ≤ bounds.entries) it.answers) }
+    ensures moves { IfOk result (λ it.
+        All (λ a. AreMoves limits (first_world (code_of (source_of program.now)) limits) a.schedule) it.answers) }
+    ensures order { IfOk result (λ it. AreInOrder it.answers) }
     ensures lawful { IfOk result (λ it. All HasLawfulMarks it.answers) }
     ensures memory { IfErr result (λ e. e ≡ RunError.NoMemory) }
 {
     let mut worlds = ReducedWorlds::new(alloc, program, limits)?;
-    let found = search_watched(alloc, &mut worlds, bounds, watcher)?;
+    let found = search(alloc, &mut worlds, bounds, watcher)?;
     let unfolded = unfold_all(
         alloc,
         program,
@@ -127,7 +147,6 @@ pub fn explore_watched<V: Watcher>(
         answers: Answers::new(answers),
         worlds: found.worlds,
         complete: are_both(found.complete, unfolded.whole),
-        ends: found.ends,
     })
 }
 
@@ -152,7 +171,7 @@ pub fn explore_full(
     ensures all { IfOk result (λ it. it.complete ≡ true → (schedule : List ℕ) →
         IsCovered limits it.answers (core (code_of (source_of program.now)) limits schedule)) }
     ensures each { IfOk result (λ it. All (IsReached (code_of (source_of program.now)) limits) it.answers) }
-    ensures onward { IfOk result (λ it. it.complete ≡ true → it.ends ≡ true → (schedule : List ℕ) →
+    ensures onward { IfOk result (λ it. it.complete ≡ true → (schedule : List ℕ) →
         (more : List ℕ) × IsAnswered limits it.answers
         (core (code_of (source_of program.now)) limits (schedule ++ more))) }
     ensures faultless { IfOk result (λ it. it.complete ≡ true → HasNoFault it.answers →
@@ -161,9 +180,12 @@ pub fn explore_full(
         EndAlike it.answers end → (schedule : List ℕ) (w : World) →
         core (code_of (source_of program.now)) limits schedule ≡ GoesWell w → IsSettled limits w →
         reported (GoesWell w) ≡ end) }
-    ensures can_end { IfOk result (λ it. it.complete ≡ true → it.ends ≡ true → (f : ℕ) →
+    ensures can_end { IfOk result (λ it. it.complete ≡ true → (f : ℕ) →
         All (λ a. HasOutcome f a.end) it.answers → (schedule : List ℕ) → (more : List ℕ) ×
         HasOutcome f (reported (core (code_of (source_of program.now)) limits (schedule ++ more)))) }
+    ensures deadlock { IfOk result (λ it. it.complete ≡ true → All (λ a. AllHaveEnded a.end) it.answers →
+        (schedule : List ℕ) (w : World) → core (code_of (source_of program.now)) limits schedule ≡ GoesWell w →
+        (f : ℕ) → NeverEnds limits w f → ⊥) }
     ensures once { IfOk result (λ it. ListOnce it.answers) }
     ensures stopped { IfOk result (λ it. it.complete ≡ false → IsAtBound bounds it.worlds) }
     ensures room { IfOk result (λ it. it.worlds ≤ max bounds.worlds 1) }
@@ -173,13 +195,12 @@ pub fn explore_full(
     ensures memory { IfErr result (λ e. e ≡ RunError.NoMemory) }
 {
     let mut worlds = CoreWorlds::new(alloc, program, limits)?;
-    let found = search(alloc, &mut worlds, bounds)?;
+    let found = search(alloc, &mut worlds, bounds, &mut Unwatched)?;
     let answers = told(alloc, &worlds, found.answers)?;
     Ok(Exploration {
         answers: Answers::new(answers),
         worlds: found.worlds,
         complete: found.complete,
-        ends: found.ends,
     })
 }
 

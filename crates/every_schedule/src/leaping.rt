@@ -1,12 +1,14 @@
 //! Entries with own moves behind them.
-ghost use Rattle.std.specs.Prelude.{◌≡◌, ◌≢◌, ◌⊎◌, ◌++◌, ◌<◌, ◌≤◌, [], ◌∷◌, length, false};
+ghost use Rattle.std.specs.Prelude.{◌≡◌, ◌≢◌, ◌⊎◌, ◌++◌, ◌<◌, ◌≤◌, [], ◌∷◌, length, false, true};
 ghost use Rattle.std.specs.Prelude.{IfErr, IfOk, IfSome, OnOk, Some};
-ghost use Rattle.std.specs.Prelude.{Ok as GoesWell, Err as Fails};
+ghost use Rattle.std.specs.Prelude.{Ok as GoesWell, Err as Fails, Result as TheResult};
 ghost use Rattle.cell_registry.specs.Cells.{cell_of};
 ghost use Rattle.fiber_frames.specs.Fiber.{ask_of};
-ghost use Rattle.outcome_trace.specs.Core.{wish_of};
-ghost use Rattle.outcome_trace.specs.Fitting.{AllFit};
+ghost use Rattle.scheduled_core.specs.Core.{wish_of};
+ghost use Rattle.scheduled_core.specs.Fitting.{AllFit};
 ghost use Rattle.world_search.specs.Lists.{IsMore};
+ghost use Rattle.every_schedule.specs.Explored.{HasMove};
+ghost use Rattle.every_schedule.specs.Places.{Place, stepped};
 ghost use Rattle.every_schedule.specs.Reduced.{is_own, is_own_call as is_so, leapt, own_in, pushed, pushed_once};
 ghost use Rattle.every_schedule.specs.Private.Standing.{IsCurrent};
 ghost use Rattle.every_schedule.specs.Private.Trails.{IsTrail};
@@ -17,11 +19,11 @@ use crate::pool::Pooled;
 use cell_registry::{Call, PlainRegistry, RunError};
 use effect_term::facts_of;
 use fiber_frames::Config;
-use outcome_trace::Wish;
+use scheduled_core::Wish;
 use std::alloc::{AllocError, Global};
 
-/// The world to which the entry of a fiber leads, with at most so many own moves behind it. The entries that were made
-/// are added to the trail: one that ends in a fault too, and none of a fiber that isn't born.
+/// The world to which the entry of a fiber leads, with at most `at_once` own moves behind it. The entries that were
+/// made are added to the trail: one that ends in a fault too, and none of a fiber that isn't born or has ended.
 pub(crate) fn leap(
     alloc: Global,
     current: Current,
@@ -44,10 +46,35 @@ pub(crate) fn leap(
     if usize::from(fiber) >= born(&current.world) {
         return Ok(current);
     }
-    add(&mut *trail, fiber)?;
+    note(&mut *trail, &current.world, fiber)?;
     let next = entered(alloc, current, &mut *states, fiber)?;
     let last = push(alloc, next, states, at_once, trail)?;
     Ok(last)
+}
+
+// The entry of a fiber, if it has a next move: else it changes nothing.
+fn note(trail: &mut Vec<u16>, world: &CoreWorld, fiber: u16) -> Result<(), AllocError>
+    requires born { fiber < length world.now.world.fibers }
+    requires few { fiber < 1000 }
+    ensures { OnOk result ((y : TheResult Place RunError) → stepped world.now fiber ≡ y →
+        IsTrail trail.old.items trail.new.items world.now y) }
+{
+    if has_move(world, fiber) {
+        add(trail, fiber)?;
+    }
+    Ok(())
+}
+
+// Whether a fiber has a next move.
+fn has_move(world: &CoreWorld, fiber: u16) -> bool
+    requires { fiber < length world.now.world.fibers }
+    ensures yes { result ≡ true → HasMove world.now.world fiber }
+    ensures no { result ≡ false → stepped world.now fiber ≡ GoesWell world.now }
+{
+    match Wish::of(world.fibers()[usize::from(fiber)].ask()) {
+        Wish::Shared(_) | Wish::Alone => true,
+        Wish::Nothing => false,
+    }
 }
 
 // One more entry.

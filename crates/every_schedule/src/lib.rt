@@ -1,6 +1,6 @@
 //! Every schedule of a program: all that can come of it, each with a schedule, and no other.
 //!
-//! It stands on the core under a schedule (`outcome_trace`) and on a search of all worlds that any schedule leads to
+//! It stands on the core under a schedule (`scheduled_core`) and on a search of all worlds that any schedule leads to
 //! (`world_search`), to which it hands the worlds of the core. It promises that where the search closed, every report
 //! that stays what it is and every fault, under any schedule, is among its answers, and that the schedule of each
 //! answer leads to it.

@@ -9,7 +9,7 @@ use crate::core_world::CoreWorld;
 use crate::core_worlds::CoreWorlds;
 use cell_registry::{Limits, RunError};
 use effect_term::Program;
-use outcome_trace::Report;
+use scheduled_core::Report;
 use std::alloc::{AllocError, Global};
 use world_search::{Entered, Worlds};
 

@@ -5,7 +5,7 @@ ghost use Rattle.every_schedule.specs.Private.Reporting.{Alike, AreAlike, Differ
 
 use crate::pool::Pool;
 use fiber_frames::Config;
-use outcome_trace::same_report;
+use scheduled_core::same_report;
 use std::slice;
 
 /// Whether the fibers of these numbers have come to the same as those of the others.

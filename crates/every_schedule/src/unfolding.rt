@@ -1,5 +1,5 @@
 //! The answers of a reduced search, with schedules of which each entry is one move.
-ghost use Rattle.std.specs.Prelude.{◌≡◌, ◌≤◌, ◌<◌, ◌++◌, ℕ, [], ◌∷◌, length, true, false, IfErr, IfOk, Some};
+ghost use Rattle.std.specs.Prelude.{◌≡◌, ◌≤◌, ◌<◌, ◌++◌, ℕ, [], ◌∷◌, length, true, false, IfErr, IfOk, OnOk, Some};
 ghost use Rattle.std.specs.List.{slice_get};
 ghost use Rattle.std.specs.List.Sorted.{IsPermutation};
 ghost use Rattle.derived_ops.specs.Expansion.{code_of};
@@ -7,8 +7,8 @@ ghost use Rattle.derived_ops.specs.Reading.{source_of};
 ghost use Rattle.cell_registry.specs.Cells.{AreLimits};
 ghost use Rattle.world_search.specs.declared.answers.Answer.{Answer as Found};
 ghost use Rattle.every_schedule.specs.Places.{first_place};
-ghost use Rattle.every_schedule.specs.Private.Trails.{AreUnfolded, EndApart, EndsAlone, IsKeptIn};
-ghost use Rattle.every_schedule.specs.Private.Trails.{IsLeftOut, IsUnfolded};
+ghost use Rattle.every_schedule.specs.Private.Trails.{AreSorted, AreUnfolded, EndApart, EndsAlone, IsKeptIn};
+ghost use Rattle.every_schedule.specs.Private.Trails.{IsLeftOut, IsUnfolded, rank_of};
 
 use crate::core_world::CoreWorld;
 use crate::current::{States, begun};
@@ -18,9 +18,6 @@ use cell_registry::{Limits, RunError};
 use effect_term::Program;
 use std::alloc::{AllocError, Global};
 use world_search::{Answer, Landing};
-
-// More than any schedule is long.
-const FAULTS: usize = 1 << 62;
 
 /// Answers with such schedules.
 #[derive(Drop)]
@@ -48,6 +45,7 @@ pub(crate) fn unfold_all(
         IsLeftOut at_once most (first_place (code_of (source_of program.now)) limits) found.now a ×
         (EndApart found.now → EndsAlone a it.answers.items)) }
     ensures apart { IfOk result (λ it. EndApart found.now → EndApart it.answers.items) }
+    ensures order { IfOk result (λ it. AreSorted it.answers.items) }
     ensures memory { IfErr result (λ e. e ≡ RunError.NoMemory) }
 {
     let mut answers = Vec::new(alloc);
@@ -59,24 +57,27 @@ pub(crate) fn unfold_all(
             whole = false;
         }
     }
-    sort(alloc, &mut answers)?;
+    sort(&mut answers)?;
     Ok(Unfolded { answers, whole })
 }
 
 // Reports before faults, and those of short schedules first. Where two are of one length, their order stays.
-fn sort(alloc: Global, answers: &mut Vec<Answer>) -> Result<(), AllocError>
-    ensures { IsPermutation answers.old.items answers.new.items }
+fn sort(answers: &mut Vec<Answer>) -> Result<(), AllocError>
+    ensures same { IsPermutation answers.old.items answers.new.items }
+    ensures order { OnOk result (AreSorted answers.new.items) }
 {
-    answers
-        .as_mut_slice()
-        .sort_by_key(alloc, |it: &Answer| rank(it))
+    answers.sort_by_key(|it: &Answer| it.schedule.len())?;
+    answers.sort_by_key(|it: &Answer| rank(it.end))?;
+    Ok(())
 }
 
-// Where an answer stands among others.
-fn rank(it: &Answer) -> usize {
-    match it.end {
-        Landing::World(_) => it.schedule.len(),
-        Landing::Fault(_) => it.schedule.len() | FAULTS,
+// Where an end stands among others: 0 for a report, 1 for a fault.
+fn rank(end: Landing) -> u8
+    ensures { result ≡ rank_of end }
+{
+    match end {
+        Landing::World(_) => 0,
+        Landing::Fault(_) => 1,
     }
 }
 

@@ -1,3 +1,5 @@
 pub mod Spelled
 pub mod Parts
 pub mod Explored
+pub mod SampleParts
+pub mod Sampled

@@ -5,7 +5,7 @@ use Rattle.std.specs.List.{All, filter, list_any}
 use Rattle.std.specs.Result.{is_ok, is_err}
 use Rattle.std.specs.Fmt.{decimal}
 use Rattle.cell_registry.specs.declared.limits.RunError.{RunError}
-use Rattle.outcome_trace.specs.declared.report.Report.{Report}
+use Rattle.scheduled_core.specs.declared.report.Report.{Report}
 use Rattle.outcome_trace.specs.Lines.{run_line}
 use Rattle.outcome_trace.specs.ReportText.{text_of_fibers}
 use Rattle.text_io.specs.declared.status.Status.{Status}

@@ -1,3 +1,5 @@
 pub mod Wants
 pub mod ExplorationText
 pub mod ExploreAnswers
+pub mod SampleText
+pub mod SampleAnswers

@@ -6,8 +6,8 @@ use Rattle.effect_term.specs.declared.reply.Outcome.{Outcome}
 use Rattle.effect_term.specs.declared.reply.Outcome.TheVariants.{Succeeded, Errored, Canceled}
 use Rattle.effect_term.specs.Outcomes.{OutcomeFits}
 use Rattle.cell_registry.specs.declared.limits.RunError.{RunError}
-use Rattle.outcome_trace.specs.declared.report.FiberReport.{FiberReport}
-use Rattle.outcome_trace.specs.declared.report.Report.{Report}
+use Rattle.scheduled_core.specs.declared.report.FiberReport.{FiberReport}
+use Rattle.scheduled_core.specs.declared.report.Report.{Report}
 use Rattle.outcome_trace.specs.ReportText.{outcome_text}
 use Rattle.every_schedule.specs.declared.exploration.Answer.{Answer}
 use Rattle.exploration_text.specs.declared.wants.Want.{Want}

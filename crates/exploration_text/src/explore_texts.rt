@@ -1,8 +1,7 @@
 //! What comes of a text under every schedule: the text of its exploration, or why there is none.
 
-ghost use Rattle.std.specs.Prelude.{◌≡◌, ◌<◌, ◌≤◌, ◌^◌, false, IfOk};
+ghost use Rattle.std.specs.Prelude.{◌≤◌, IfOk};
 ghost use Rattle.cell_registry.specs.Cells.{AreLimits};
-ghost use Rattle.text_io.specs.Exchange.{IsAnswered};
 ghost use Rattle.exploration_text.specs.ExploreAnswers.{IsExploreAnswer, IsExploredAnswer};
 
 use crate::texts::{exploration_status, text_of_exploration};
@@ -10,9 +9,7 @@ use crate::wants::Want;
 use cell_registry::Limits;
 use effect_term::Program;
 use every_schedule::{Bounds, explore};
-use outcome_trace::{
-    Answer, Status, TextFault, TextIn, TextOrder, TextOut, answer_text, read_program, refusal,
-};
+use outcome_trace::{Answer, TextOrder, read_program, refusal};
 use std::alloc::{AllocError, Global};
 
 /// Tells all that can come of the program that the text spells, under every schedule
@@ -32,7 +29,7 @@ pub struct ExploreOrder {
 }
 
 impl TextOrder for ExploreOrder {
-    ghost answers = { λ order. IsExploreAnswer order.limits order.wants.items };
+    ghost answers = { λ order. IsExploreAnswer order.limits order.bounds order.wants.items };
 
     fn answer(&self, alloc: Global, text: &[u8]) -> Result<Answer, AllocError> {
         match read_program(alloc, text) {
@@ -48,7 +45,7 @@ fn explored_answer(
     program: &Program,
     order: &ExploreOrder,
 ) -> Result<Answer, AllocError>
-    ensures { IfOk result (λ a. IsExploredAnswer program.now order.now.limits order.now.wants.items a.text.items
+    ensures { IfOk result (λ a. IsExploredAnswer program.now order.now.limits order.now.bounds order.now.wants.items a.text.items
         a.status) }
 {
     let Ok(exploration) = explore(alloc, program, order.limits, order.bounds) else {
@@ -59,20 +56,4 @@ fn explored_answer(
         text: text_of_exploration(alloc, &exploration, wants)?,
         status: exploration_status(&exploration, wants),
     })
-}
-
-/// Reads a text, and writes what its program comes to under every schedule ([`ExploreOrder`]), as [`answer_text`] does.
-pub fn explore_text<I: TextIn, O: TextOut>(
-    alloc: Global,
-    input: &mut I,
-    order: &ExploreOrder,
-    out: &mut O,
-) -> Result<Status, TextFault>
-    requires input { (I.seen input.old).failed ≡ false }
-    requires countable { (I.seen input.old).reads < 2 ^ 63 }
-    requires out { (O.seen out.old).failed ≡ false }
-    ensures { IsAnswered (IsExploreAnswer order.now.limits order.now.wants.items) (I.seen input.old) (I.seen input.new)
-        (O.seen out.old) (O.seen out.new) result }
-{
-    answer_text(alloc, order, input, out)
 }

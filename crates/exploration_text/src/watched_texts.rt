@@ -38,8 +38,8 @@ pub fn obey_explore_watched<C: Clock, I: TextIn, O: TextOut, E: TextOut>(
     requires out { (O.seen out.old).failed ≡ false }
     requires err { (E.seen err.old).failed ≡ false }
     ensures { (outcome : TheResult TheStatus TheFault) × IsAnswered (IsExploreAnswer order.now.limits
-        order.now.wants.items) (I.seen input.old) (I.seen input.new) (O.seen out.old) (O.seen out.new) outcome × (result
-        ≡ status_of outcome) }
+        order.now.bounds order.now.wants.items) (I.seen input.old) (I.seen input.new) (O.seen out.old)
+        (O.seen out.new) outcome × (result ≡ status_of outcome) }
 {
     let mut progress = Progress {
         alloc,
@@ -65,8 +65,8 @@ fn watched_text<I: TextIn, O: TextOut, V: Watcher>(
     requires input { (I.seen input.old).failed ≡ false }
     requires countable { (I.seen input.old).reads < 2 ^ 63 }
     requires out { (O.seen out.old).failed ≡ false }
-    ensures { IsAnswered (IsExploreAnswer order.now.limits order.now.wants.items) (I.seen input.old) (I.seen input.new)
-        (O.seen out.old) (O.seen out.new) result }
+    ensures { IsAnswered (IsExploreAnswer order.now.limits order.now.bounds order.now.wants.items)
+        (I.seen input.old) (I.seen input.new) (O.seen out.old) (O.seen out.new) result }
 {
     let text = read_text(alloc, input)?;
     let answer = read_answer(alloc, text.as_slice(), order, watcher)?;
@@ -81,7 +81,8 @@ fn read_answer<V: Watcher>(
     order: &ExploreOrder,
     watcher: &mut V,
 ) -> Result<Answer, AllocError>
-    ensures { IfOk result (λ a. IsExploreAnswer order.now.limits order.now.wants.items text.now a.text.items a.status) }
+    ensures { IfOk result (λ a. IsExploreAnswer order.now.limits order.now.bounds order.now.wants.items text.now
+        a.text.items a.status) }
 {
     match read_program(alloc, text) {
         Ok(program) => watched_answer(alloc, &program, order, watcher),
@@ -96,8 +97,8 @@ fn watched_answer<V: Watcher>(
     order: &ExploreOrder,
     watcher: &mut V,
 ) -> Result<Answer, AllocError>
-    ensures { IfOk result (λ a. IsExploredAnswer program.now order.now.limits order.now.wants.items a.text.items
-        a.status) }
+    ensures { IfOk result (λ a. IsExploredAnswer program.now order.now.limits order.now.bounds order.now.wants.items
+        a.text.items a.status) }
 {
     let Ok(exploration) = explore_watched(alloc, program, order.limits, order.bounds, watcher)
     else {

@@ -10,8 +10,8 @@ use Rattle.cell_registry.specs.declared.limits.Limits.{Limits}
 use Rattle.cell_registry.specs.declared.limits.RunError.{RunError}
 use Rattle.cell_registry.specs.declared.limits.RunError.TheVariants as run
 use Rattle.cell_registry.specs.Cells.{Cells}
-use Rattle.outcome_trace.specs.Core.{World, core, entered, first_world, reported}
-use Rattle.outcome_trace.specs.Fitting.{world_of}
+use Rattle.scheduled_core.specs.Core.{World, core, entered, first_world, reported}
+use Rattle.scheduled_core.specs.Fitting.{world_of}
 use Rattle.fiber_events.specs.declared.event.Event.{Event}
 use Rattle.fiber_events.specs.declared.telling.Course.{Course}
 use Rattle.fiber_events.specs.Events.{IsEntry, refused, AreEvents, one_more, AreMade, some, led}

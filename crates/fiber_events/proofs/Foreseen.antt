@@ -11,11 +11,11 @@ use Rattle.cell_registry.specs.declared.limits.RunError.{RunError}
 use Rattle.cell_registry.specs.declared.call.Call.{Call}
 use Rattle.cell_registry.specs.Cells.{refusal, reply_of}
 use Rattle.cell_registry.specs.Plain.{PlainView}
-use Rattle.outcome_trace.specs.declared.wish.Wish.{Wish}
-use Rattle.outcome_trace.specs.declared.wish.Wish.TheVariants.{Alone, Nothing, Shared}
-use Rattle.outcome_trace.specs.Core.{World, answered, born, called as the_call, entered, turned, wish_of, wished}
-use Rattle.outcome_trace.specs.Fitting.{world_of}
-use Rattle.outcome_trace.specs.Private.Moving.{Refuses}
+use Rattle.scheduled_core.specs.declared.wish.Wish.{Wish}
+use Rattle.scheduled_core.specs.declared.wish.Wish.TheVariants.{Alone, Nothing, Shared}
+use Rattle.scheduled_core.specs.Core.{World, answered, born, called as the_call, entered, turned, wish_of, wished}
+use Rattle.scheduled_core.specs.Fitting.{world_of}
+use Rattle.scheduled_core.specs.Private.Moving.{Refuses}
 use Rattle.fiber_events.specs.declared.event.Deed.{Deed}
 use Rattle.fiber_events.specs.declared.event.Deed.TheVariants as deed
 use Rattle.fiber_events.specs.declared.event.Event.{Event}

@@ -8,9 +8,9 @@ ghost use Rattle.derived_ops.specs.Reading.{source_of};
 ghost use Rattle.fiber_frames.specs.Fiber.{Fiber};
 ghost use Rattle.cell_registry.specs.Cells.{AreLimits};
 ghost use Rattle.cell_registry.specs.Plain.{new_plain};
-ghost use Rattle.outcome_trace.specs.Core.{entered};
-ghost use Rattle.outcome_trace.specs.Fitting.{AllFit, Fits, cell_registered, world_of};
-ghost use Rattle.outcome_trace.specs.Private.Moving.{Refuses};
+ghost use Rattle.scheduled_core.specs.Core.{entered};
+ghost use Rattle.scheduled_core.specs.Fitting.{AllFit, Fits, cell_registered, world_of};
+ghost use Rattle.scheduled_core.specs.Private.Moving.{Refuses};
 ghost use Rattle.fiber_events.specs.Events.{IsEntry, IsTold};
 ghost use Rattle.fiber_events.specs.Private.Telling.{IsCourse, IsForeseen, IsOwn, end_of};
 
@@ -18,7 +18,7 @@ use crate::event::{Deed, Event, Events};
 use cell_registry::{Limits, PlainRegistry, RunError};
 use effect_term::{Program, facts_of};
 use fiber_frames::{Config, Mark};
-use outcome_trace::{Report, Wish, answer, enter, fault, first_fibers, report_of_fibers};
+use scheduled_core::{Report, Wish, answer, enter, fault, first_fibers, report_of_fibers};
 use std::alloc::{AllocError, Global};
 
 /// What is told of a replay.
@@ -35,7 +35,7 @@ pub struct Told {
 /// Replays a program under a schedule, and tells the events of its entries beside the report.
 ///
 /// The events are those of the core, one for each entry that moved a fiber, in their order. The report or the fault is
-/// that of `replay` of `outcome_trace`. Where a call is refused, the events end before that entry. The limits are in
+/// that of `replay` of `scheduled_core`. Where a call is refused, the events end before that entry. The limits are in
 /// their ranges ([`Limits`]). `AllocError` where memory runs out.
 pub fn replay_events(
     alloc: Global,

@@ -30,3 +30,5 @@ pub mod Leads
 pub mod Names
 pub mod NamedMoves
 pub mod AtRest
+pub mod SlotSets
+pub mod SameFibers

@@ -10,6 +10,7 @@ pub mod Leaf
 pub mod Frames
 pub mod Machine
 pub mod Machines
+pub mod SlotNames
 pub mod Cases
 pub mod Told
 pub mod Leading

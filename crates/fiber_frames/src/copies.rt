@@ -1,14 +1,17 @@
 //! A fiber once more, and whether two are one.
 
-ghost use Rattle.std.specs.Prelude.{◌≡◌, true, IfOk};
-ghost use Rattle.fiber_frames.specs.Frames.{Sound};
+ghost use Rattle.std.specs.Prelude.{◌≡◌, List, true, IfOk};
+ghost use Rattle.fiber_frames.specs.declared.env.EnvEntry.{EnvEntry};
+ghost use Rattle.fiber_frames.specs.Frames.{Sound, finalizer_of, leaf_of, step_of};
 ghost use Rattle.fiber_frames.specs.Leaf.{handle_held, leaf_in, value_held};
-ghost use Rattle.fiber_frames.specs.Machines.{IsOver, SameParts, fiber_in, state_of};
+ghost use Rattle.fiber_frames.specs.Machines.{IsOver, NamesParts, SameCourse, SameParts, fiber_in, state_of};
+ghost use Rattle.fiber_frames.specs.SlotNames.{Names};
 
-use crate::frame::{Place, RunStage};
+use crate::frame::{Frame, Pending, Place, RunStage};
 use crate::kind::WordKind;
 use crate::machine::Machine;
 use crate::sameness::{Digest, Same, mixed, mixed_items, same_items};
+use crate::slots::{mixed_at, same_at};
 use std::alloc::{AllocError, Global};
 use std::sync::Arc;
 
@@ -41,16 +44,27 @@ impl Machine {
         matches!(self.stage, RunStage::Over(_))
     }
 
-    /// Whether two fibers are one, as far as can be told by what they hold.
+    /// Whether two fibers are one, as far as can be told by what they hold. What is bound at a slot that they can't
+    /// name any more may differ.
+    #[tactic(auto, using(crate::proofs::SameFibers::same_over, crate::proofs::SameFibers::same_parts))]
     pub(crate) fn same(&self, other: &Machine) -> bool
         ensures { result ≡ true → fiber_in self.now ≡ fiber_in other.now }
+    {
+        if !self.has_same_course(other) {
+            return false;
+        }
+        self.is_over() || self.has_same_parts(other)
+    }
+
+    // Whether the fibers have come equally far, with the same marks.
+    fn has_same_course(&self, other: &Machine) -> bool
+        ensures { result ≡ true → SameCourse self.now other.now }
     {
         self.own == other.own
             && self.next == other.next
             && self.look.same(&other.look)
             && self.stage.same(&other.stage)
             && same_items(self.marks.as_slice(), other.marks.as_slice())
-            && (self.is_over() || self.has_same_parts(other))
     }
 
     // Whether what the fibers are at is the same. The words are compared last, since they are most.
@@ -60,7 +74,7 @@ impl Machine {
         self.place.is_same_leaf(&other.place)
             && same_items(self.frames.as_slice(), other.frames.as_slice())
             && same_items(self.finalizers.as_slice(), other.finalizers.as_slice())
-            && same_items(self.env.as_slice(), other.env.as_slice())
+            && same_at(self.slots(), self.env.as_slice(), other.env.as_slice())
             && same_items(self.words.as_slice(), other.words.as_slice())
     }
 
@@ -74,7 +88,58 @@ impl Machine {
         }
         let digest = self.place.mixed_into(digest);
         let digest = mixed_items(digest, self.frames.as_slice());
-        mixed_items(digest, self.env.as_slice())
+        mixed_at(digest, self.slots(), self.env.as_slice())
+    }
+
+    // The slots that the fiber still names.
+    fn slots(&self) -> u64
+        ensures { NamesParts result self.now }
+    {
+        let mut slots = self.leaf_slots();
+        for frame in self.frames.as_slice() {
+            slots |= self.frame_slots(*frame);
+        }
+        for it in self.finalizers.as_slice() {
+            slots |= self.pending_slots(*it);
+        }
+        slots
+    }
+
+    // The slots that a finalizer names.
+    fn pending_slots(&self, it: Pending) -> u64
+        ensures { Names result (λ (es : List EnvEntry). finalizer_of self.now.words.value es it) }
+    {
+        self.words.slots(it.index, it.level)
+    }
+
+    // The slots that the leaf names.
+    fn leaf_slots(&self) -> u64
+        ensures { Names result (λ (es : List EnvEntry). leaf_of self.now.words.value es (leaf_in self.now.place)) }
+    {
+        match self.place.kind {
+            WordKind::Value
+            | WordKind::Error
+            | WordKind::Request
+            | WordKind::Ending
+            | WordKind::Store => 0,
+            WordKind::Turns => self.words.slots(self.place.part as usize, self.place.level),
+            _ => self.words.slots(self.place.index, self.place.level),
+        }
+    }
+
+    // The slots that a frame names.
+    fn frame_slots(&self, frame: Frame) -> u64
+        ensures { Names result (λ (es : List EnvEntry). step_of self.now.words.value es self.now.own frame) }
+    {
+        match frame {
+            Frame::Let(index, level) => self.words.slots(index, level),
+            Frame::Seq(_, index, level) => self.words.slots(index, level),
+            Frame::Forever(index, level) => self.words.slots(index, level),
+            Frame::Handle(index, level) => self.words.slots(index, level),
+            Frame::Guarded(index, level) => self.words.slots(index, level),
+            Frame::Again(index, _, level) => self.words.slots(index as usize, level),
+            Frame::Masked(_) | Frame::Polled(_) | Frame::Idle(_) => 0,
+        }
     }
 }
 

@@ -41,6 +41,7 @@ mod results;
 mod row;
 mod rows;
 mod sameness;
+mod slots;
 mod stack;
 mod table;
 

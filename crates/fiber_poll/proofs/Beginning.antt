@@ -6,9 +6,9 @@ use Rattle.fiber_frames.specs.Fiber.{Fiber, begins}
 use Rattle.fiber_frames.specs.Naming.{NamedBeginning}
 use Rattle.cell_registry.specs.Histories.{left}
 use Rattle.cell_registry.specs.Passes.{PassView, RegistryView, first_pass}
-use Rattle.outcome_trace.specs.Fitting.{Fits, pass_registered}
-use Rattle.outcome_trace.specs.Stands.{Opens}
-use Rattle.outcome_trace.proofs.Replied.{begins_fits}
+use Rattle.scheduled_core.specs.Fitting.{Fits, pass_registered}
+use Rattle.scheduled_core.specs.Stands.{Opens}
+use Rattle.scheduled_core.proofs.Replied.{begins_fits}
 use Rattle.fiber_poll.specs.Tasks.{IsTaskOf, TaskView}
 
 first_fits_at : (r : RegistryView) (code : Tree) → ((b : Given) → NamedBeginning b (begins 0 code)) → Fits (pass_registered (first_pass r)) (begins 0 code)

@@ -17,16 +17,16 @@ use Rattle.cell_registry.specs.Histories.{calls_by}
 use Rattle.cell_registry.specs.Steps.{entry}
 use Rattle.cell_registry.specs.Passes.{PassView, IsOf, IsPass, OnlySees, Starts, Calls, newborn}
 use Rattle.cell_registry.proofs.Legal.{calls_by-push}
-use Rattle.outcome_trace.specs.Core.{wish_of}
+use Rattle.scheduled_core.specs.Core.{wish_of}
 use Rattle.fiber_frames.specs.Leading.{IsBirth, IsGoing, way_of}
-use Rattle.outcome_trace.specs.Fitting.{Fits, pass_registered}
+use Rattle.scheduled_core.specs.Fitting.{Fits, pass_registered}
 use Rattle.fiber_poll.specs.Turns.{Starts_child, told_by}
 use Rattle.fiber_poll.specs.Tasks.{IsTask, TaskView}
 use Rattle.fiber_poll.specs.Stepping.{Failed, IsChild}
 use Rattle.fiber_poll.specs.Private.Told.{Bears, IsAsked}
-use Rattle.outcome_trace.proofs.Standing.Lists.{end_left}
+use Rattle.scheduled_core.proofs.Standing.Lists.{end_left}
 use Rattle.fiber_poll.proofs.MovesAndCalls.{went_call}
-use Rattle.outcome_trace.proofs.Replied.{start_answers, started_fits}
+use Rattle.scheduled_core.proofs.Replied.{start_answers, started_fits}
 use Rattle.fiber_poll.proofs.Steps.{asked_all, fits_going}
 
 -- ---- what is told of a birth

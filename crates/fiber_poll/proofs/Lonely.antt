@@ -16,12 +16,12 @@ use Rattle.cell_registry.specs.declared.call.Entry.{Entry}
 use Rattle.cell_registry.specs.Cells.{Cells, after, refusal, reply_of}
 use Rattle.cell_registry.specs.Histories.{IsLegal, IsLegalFrom, calls_by, left, left_from}
 use Rattle.cell_registry.proofs.Legal.{calls_by-push, left-push}
-use Rattle.outcome_trace.specs.declared.wish.Wish.{Wish}
-use Rattle.outcome_trace.specs.declared.wish.Wish.TheVariants.{Shared, Alone, Nothing}
-use Rattle.outcome_trace.specs.Core.{World, answered, born, called, entered, fault_of, wish_of, wished}
-use Rattle.outcome_trace.proofs.Standing.Histories.{legal-pop}
-use Rattle.outcome_trace.proofs.Standing.Lists.{by_ends}
-use Rattle.outcome_trace.proofs.Standing.Schedules.{Course, grows, run_from}
+use Rattle.scheduled_core.specs.declared.wish.Wish.{Wish}
+use Rattle.scheduled_core.specs.declared.wish.Wish.TheVariants.{Shared, Alone, Nothing}
+use Rattle.scheduled_core.specs.Core.{World, answered, born, called, entered, fault_of, wish_of, wished}
+use Rattle.scheduled_core.proofs.Standing.Histories.{legal-pop}
+use Rattle.scheduled_core.proofs.Standing.Lists.{by_ends}
+use Rattle.scheduled_core.proofs.Standing.Schedules.{Course, grows, run_from}
 use Rattle.fiber_poll.specs.Turns.{AreAnswers, calls_of, moves}
 use Rattle.fiber_poll.specs.Turns as turns
 use Rattle.fiber_poll.proofs.Childless.{IsOther, RunsChildless, asks_other, move_childless}

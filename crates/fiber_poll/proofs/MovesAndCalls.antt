@@ -12,11 +12,11 @@ use Rattle.cell_registry.specs.Histories.{calls_by}
 use Rattle.cell_registry.specs.Rule.{Has}
 use Rattle.cell_registry.specs.Passes.{PassView, Calls}
 use Rattle.cell_registry.specs.Steps.{entry}
-use Rattle.outcome_trace.specs.declared.wish.Wish.TheVariants.{Shared, Alone, Nothing}
-use Rattle.outcome_trace.specs.Core.{wish_of}
+use Rattle.scheduled_core.specs.declared.wish.Wish.TheVariants.{Shared, Alone, Nothing}
+use Rattle.scheduled_core.specs.Core.{wish_of}
 use Rattle.fiber_poll.specs.Turns.{AreAnswers, AreQuiet, call_of, calls_of, event_of, moves, wished}
 use Rattle.fiber_poll.specs.Tasks.{TaskView, Went}
-use Rattle.outcome_trace.proofs.Replied.{goes_on}
+use Rattle.scheduled_core.proofs.Replied.{goes_on}
 
 -- ---- replies
 -- a move without a call is answered `Done`

@@ -21,10 +21,10 @@ use Rattle.cell_registry.specs.Bands.{claim_of, limit_of, next_of}
 use Rattle.cell_registry.specs.Cells.{Cells, cell_of, opening, refusal}
 use Rattle.cell_registry.specs.Histories.{IsLegal, IsLegalFrom, calls_by, left, left_from}
 use Rattle.cell_registry.specs.Passes.{PassView, RegistryView, SeesAllGiven, first_pass}
-use Rattle.outcome_trace.specs.declared.wish.Wish.TheVariants.{Shared, Nothing}
-use Rattle.outcome_trace.specs.Core.{core, fault_of, first_world, wish_of}
-use Rattle.outcome_trace.proofs.Standing.Schedules.{Course, run_from}
-use Rattle.outcome_trace.specs.Permits.{IsChange}
+use Rattle.scheduled_core.specs.declared.wish.Wish.TheVariants.{Shared, Nothing}
+use Rattle.scheduled_core.specs.Core.{core, fault_of, first_world, wish_of}
+use Rattle.scheduled_core.proofs.Standing.Schedules.{Course, run_from}
+use Rattle.scheduled_core.specs.Permits.{IsChange}
 use Rattle.fiber_poll.specs.Turns.{calls_of}
 use Rattle.fiber_poll.specs.Tasks.{IsBroken, IsTask, TaskView, Went}
 use Rattle.fiber_poll.specs.Stepping.{Failed}

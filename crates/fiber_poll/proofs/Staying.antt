@@ -11,11 +11,11 @@ use Rattle.cell_registry.specs.declared.limits.RunError.TheVariants as run
 use Rattle.cell_registry.specs.Histories.{calls_by}
 use Rattle.cell_registry.specs.Passes.{PassView, RegistryView}
 use Rattle.cell_registry.specs.Steps.{entry}
-use Rattle.outcome_trace.specs.declared.wish.Wish.{Wish}
-use Rattle.outcome_trace.specs.declared.wish.Wish.TheVariants.{Shared, Alone, Nothing}
-use Rattle.outcome_trace.specs.Stands.{Stands, wish}
-use Rattle.outcome_trace.proofs.Standing.Led.{Bore, Later, Led, Reaches}
-use Rattle.outcome_trace.proofs.Standing.AfterATurn.{later-reaches, stands-bore, stands-longer, stands-went, went-looked}
+use Rattle.scheduled_core.specs.declared.wish.Wish.{Wish}
+use Rattle.scheduled_core.specs.declared.wish.Wish.TheVariants.{Shared, Alone, Nothing}
+use Rattle.scheduled_core.specs.Stands.{Stands, wish}
+use Rattle.scheduled_core.proofs.Standing.Led.{Bore, Later, Led, Reaches}
+use Rattle.scheduled_core.proofs.Standing.AfterATurn.{later-reaches, stands-bore, stands-longer, stands-went, went-looked}
 use Rattle.fiber_poll.specs.declared.turn.Turn.{Turn}
 use Rattle.fiber_poll.specs.declared.turn.Turn.TheVariants as turn
 use Rattle.fiber_poll.specs.Turns.{AreAnswers, calls_of, moves, wished}

@@ -21,18 +21,18 @@ use Rattle.cell_registry.specs.Bands.{limit_of}
 use Rattle.cell_registry.specs.Histories.{left}
 use Rattle.cell_registry.specs.Passes.{PassView, RegistryView, IsPass, OnlySees}
 use Rattle.cell_registry.proofs.Legal.{next_of-prefix}
-use Rattle.outcome_trace.specs.declared.wish.Wish.{Wish}
-use Rattle.outcome_trace.specs.declared.wish.Wish.TheVariants.{Shared, Alone, Nothing}
-use Rattle.outcome_trace.specs.Core.{fault_of, wish_of}
-use Rattle.outcome_trace.specs.Permits.{IsInRange, MayMake, RefusedBy}
-use Rattle.outcome_trace.proofs.Answered.{alone_answers}
-use Rattle.outcome_trace.specs.Private.Asking.{Asking}
-use Rattle.outcome_trace.proofs.Fitted.{If_shared, fits_alone, may_by_ask}
-use Rattle.outcome_trace.proofs.Replied.{call_answers, made_fits}
+use Rattle.scheduled_core.specs.declared.wish.Wish.{Wish}
+use Rattle.scheduled_core.specs.declared.wish.Wish.TheVariants.{Shared, Alone, Nothing}
+use Rattle.scheduled_core.specs.Core.{fault_of, wish_of}
+use Rattle.scheduled_core.specs.Permits.{IsInRange, MayMake, RefusedBy}
+use Rattle.scheduled_core.proofs.Answered.{alone_answers}
+use Rattle.scheduled_core.specs.Private.Asking.{Asking}
+use Rattle.scheduled_core.proofs.Fitted.{If_shared, fits_alone, may_by_ask}
+use Rattle.scheduled_core.proofs.Replied.{call_answers, made_fits}
 use Rattle.fiber_frames.specs.Leading.{Asked, GoesOn, IsGoing, KindFits, Way, way_after, way_of}
 use Rattle.derived_ops.specs.Naming.{Given, IsMore}
 use Rattle.fiber_frames.proofs.NamedMoves.{run_more}
-use Rattle.outcome_trace.specs.Fitting.{Fits, Registered, given_by, pass_registered}
+use Rattle.scheduled_core.specs.Fitting.{Fits, Registered, given_by, pass_registered}
 use Rattle.fiber_poll.specs.Private.Making.{MayAnswer, Refuses, Replies}
 use Rattle.fiber_poll.specs.Turns.{Ends, event_of, told_by}
 use Rattle.fiber_poll.specs.Tasks.{IsTask, TaskView, Went}

@@ -8,7 +8,7 @@ use Rattle.effect_term.specs.declared.reply.Reply.{Reply}
 use Rattle.fiber_frames.specs.Fiber.{Fiber, outcome_of}
 use Rattle.cell_registry.specs.declared.limits.Limits.{Limits}
 use Rattle.cell_registry.specs.declared.limits.RunError.{RunError}
-use Rattle.outcome_trace.specs.Core.{World}
+use Rattle.scheduled_core.specs.Core.{World}
 use Rattle.fiber_poll.specs.declared.turn.Turn.{Turn}
 use Rattle.fiber_poll.specs.declared.turn.Turn.TheVariants as turn
 use Rattle.fiber_poll.specs.Tasks.{IsBroken, IsTask, TaskView, Went}

@@ -13,9 +13,9 @@ use Rattle.cell_registry.specs.Bands.{claim_of, limit_of}
 use Rattle.cell_registry.specs.Histories.{calls_by}
 use Rattle.cell_registry.specs.Steps.{entry}
 use Rattle.cell_registry.specs.Passes.{Calls, OnlySees, SeesAllGiven, newborn}
-use Rattle.outcome_trace.specs.declared.wish.Wish.TheVariants.{Shared}
-use Rattle.outcome_trace.specs.Core.{wish_of}
-use Rattle.outcome_trace.specs.Permits.{IsChange}
+use Rattle.scheduled_core.specs.declared.wish.Wish.TheVariants.{Shared}
+use Rattle.scheduled_core.specs.Core.{wish_of}
+use Rattle.scheduled_core.specs.Permits.{IsChange}
 use Rattle.fiber_poll.specs.Tasks.{TaskView}
 
 -- The task c is that of the fiber that was started by the next move of the task old, which was answered r, and

@@ -8,8 +8,8 @@ use Rattle.cell_registry.specs.Histories.{calls_by}
 use Rattle.cell_registry.specs.Rule.{Has}
 use Rattle.cell_registry.specs.Passes.{PassView, RegistryView, IsOf, IsPass}
 use Rattle.fiber_frames.specs.Leading.{Is_lost, way_of}
-use Rattle.outcome_trace.specs.Fitting.{Fits, pass_registered}
-use Rattle.outcome_trace.specs.Stands.{Stands}
+use Rattle.scheduled_core.specs.Fitting.{Fits, pass_registered}
+use Rattle.scheduled_core.specs.Stands.{Stands}
 use Rattle.fiber_poll.specs.Turns.{AreAnswers, calls_of, moves}
 
 -- a task: its registry, its pass, its fiber's state, and the moves that it may still make

@@ -11,9 +11,9 @@ use Rattle.fiber_frames.specs.Fiber.{Fiber, ask_of, move, kind_of}
 use Rattle.fiber_frames.specs.Answers.{Answers}
 use Rattle.cell_registry.specs.declared.call.Entry.{Entry}
 use Rattle.cell_registry.specs.Steps.{entry}
-use Rattle.outcome_trace.specs.declared.wish.Wish.{Wish}
-use Rattle.outcome_trace.specs.declared.wish.Wish.TheVariants.{Shared, Alone, Nothing}
-use Rattle.outcome_trace.specs.Core.{wish_of}
+use Rattle.scheduled_core.specs.declared.wish.Wish.{Wish}
+use Rattle.scheduled_core.specs.declared.wish.Wish.TheVariants.{Shared, Alone, Nothing}
+use Rattle.scheduled_core.specs.Core.{wish_of}
 use Rattle.fiber_poll.specs.declared.topic.Topic.{Topic}
 use Rattle.fiber_poll.specs.declared.topic.Topic.TheVariants as topic
 

@@ -2,8 +2,8 @@
 ghost use Rattle.std.specs.Prelude.{◌≡◌, IfOk, IfErr};
 ghost use Rattle.cell_registry.specs.Passes.{IsOf, IsPass};
 ghost use Rattle.effect_term.specs.Outcomes.{OutcomeFits};
-ghost use Rattle.outcome_trace.specs.Core.{wish_of};
-ghost use Rattle.outcome_trace.specs.Permits.{Makes, MayMake, RefusedBy};
+ghost use Rattle.scheduled_core.specs.Core.{wish_of};
+ghost use Rattle.scheduled_core.specs.Permits.{Makes, MayMake, RefusedBy};
 ghost use Rattle.fiber_poll.specs.Private.Making.{MayAnswer, Refuses, Replies};
 ghost use Rattle.fiber_poll.specs.Private.Told.{IsStep};
 

@@ -3,7 +3,7 @@
 //! A [`FiberTask`] is one fiber of a registry that many threads may share. A turn makes its moves, one
 //! after another, each under the registry's reply, until whoever runs the fiber is to be told
 //! something: that it ended, waits, yields, started another, or may have woken one. The crate stands
-//! on `fiber_frames` (a fiber's moves), `cell_registry` (the shared calls), `outcome_trace` (which
+//! on `fiber_frames` (a fiber's moves), `cell_registry` (the shared calls), `scheduled_core` (which
 //! call an ask wants, and the core) and `futures`. It promises that the calls which a fiber's pass
 //! makes in a turn are those of its moves, in order and with their replies, that a turn tells the
 //! first event of them, that a child begins as the model's child, and that the marks of every task are

@@ -5,7 +5,7 @@ ghost use Rattle.derived_ops.specs.Expansion.{code_of};
 ghost use Rattle.derived_ops.specs.Reading.{source_of};
 ghost use Rattle.effect_term.specs.Starts.{starts_fiber};
 ghost use Rattle.fiber_frames.specs.Fiber.{begins};
-ghost use Rattle.outcome_trace.specs.Core.{core};
+ghost use Rattle.scheduled_core.specs.Core.{core};
 ghost use Rattle.fiber_poll.specs.Futures.{Comes, default_limits, first_result};
 
 use crate::future::FiberFuture;

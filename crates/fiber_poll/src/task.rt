@@ -5,7 +5,7 @@ ghost use Rattle.derived_ops.specs.Tree.{Tree};
 ghost use Rattle.fiber_frames.specs.Fiber.{active_of, ask_of, outcome_of};
 ghost use Rattle.fiber_frames.specs.Leading.{IsGoing, way_of};
 ghost use Rattle.fiber_frames.specs.Marks.{AreLawful};
-ghost use Rattle.outcome_trace.specs.Fitting.{Fits, pass_registered};
+ghost use Rattle.scheduled_core.specs.Fitting.{Fits, pass_registered};
 ghost use Rattle.fiber_poll.specs.Turning.{StaysOf, Stopped, Turned};
 ghost use Rattle.fiber_poll.specs.Stepping.{Failed};
 ghost use Rattle.fiber_poll.specs.Private.Told.{Bears, IsAsked, Made};
@@ -17,7 +17,7 @@ use crate::turn::Turn;
 use cell_registry::{Outcome, Pass, Registry, RunError};
 use effect_term::{Reply, facts_of};
 use fiber_frames::{Ask, Config, Mark, Moved};
-use outcome_trace::{fault, outcome};
+use scheduled_core::{fault, outcome};
 use std::marker::Model;
 
 /// A fiber that anybody can move: its pass at a registry, its own state, and the moves that it may

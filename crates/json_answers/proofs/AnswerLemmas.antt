@@ -6,22 +6,18 @@ use Rattle.cell_registry.specs.declared.limits.RunError.TheVariants as run
 use Rattle.effect_term.specs.declared.term.Term.{Term}
 use Rattle.effect_term.specs.declared.refusal.TermError.{TermError}
 use Rattle.effect_term.specs.declared.refusal.TermError.TheVariants as term
-use Rattle.effect_term.specs.Programs.{IsProgram}
 use Rattle.term_parse.specs.declared.error.ParseError.{ParseError}
 use Rattle.term_parse.specs.declared.error.ParseError.TheVariants as parse
-use Rattle.term_parse.specs.Atoms.{atoms_of}
-use Rattle.term_parse.specs.Reading.{reading}
-use Rattle.text_io.specs.declared.text_order.Answer.{Answer}
+use Rattle.outcome_trace.specs.declared.text_order.Answer.{Answer}
 use Rattle.text_io.specs.declared.status.Status.TheVariants as ends
 use Rattle.outcome_trace.specs.declared.lines.Refused.{Refused}
 use Rattle.outcome_trace.specs.declared.lines.Refused.TheVariants as refusals
-use Rattle.outcome_trace.specs.declared.report.Report.{Report}
+use Rattle.scheduled_core.specs.declared.report.Report.{Report}
 use Rattle.outcome_trace.specs.Answers.{IsRefused}
 use Rattle.outcome_trace.specs.ReplayAnswers.{replayed, report_status}
-use Rattle.json_answers.specs.Answers.{IsJsonCheck, IsJsonRefusal, IsJsonReplay, IsJsonRun, counted, faults, no_program}
-use Rattle.json_answers.specs.Answers.{no_term, refused, replays, reports, unreplayed}
+use Rattle.json_answers.specs.Answers.{IsJsonRefusal, IsJsonRun, faults, no_program, no_term, reports}
 use Rattle.json_answers.specs.ReportData.{fault_data, line_of_data, report_data}
-use Rattle.json_answers.specs.Refusals.{parse_data, program_data, term_data}
+use Rattle.json_answers.specs.Refusals.{parse_data, term_data}
 
 pub parse_refused : {E : Type 0} (text : List ℕ) (e : ParseError) (r : Refused) → r ≡ refusals.Parse e → IsRefused text r → (a : Result Answer E) →
     IfOk a (λ a. a.text.items ≡ line_of_data (parse_data e)) → IfOk a (λ a. a.status ≡ ends.Refused) → OnOk a (e ≢ parse.NoMemory) →
@@ -41,28 +37,6 @@ term_refused text e r same why (Ok a) line status other =
       | inr past ↦ rw (line, status) (no_program text at.0 e at.1 past)
     ]
 term_refused text e r same why (Err x) line status other = tt
-
-pub refusal_checks : {E : Type 0} (text : List ℕ) (a : Result Answer E) → IfOk a (λ a. IsJsonRefusal text a.text.items a.status) →
-    IfOk a (λ a. IsJsonCheck text a.text.items a.status)
-refusal_checks text (Ok a) h = refused text a.text.items a.status h
-refusal_checks text (Err e) h = tt
-
-pub counts_check : {E : Type 0} (text : List ℕ) (t : Term) (a : Result Answer E) → reading text ≡ Ok (atoms_of t) → IsProgram t →
-    IfOk a (λ a. a.text.items ≡ line_of_data (program_data t)) → IfOk a (λ a. a.status ≡ ends.Succeeded) →
-    IfOk a (λ a. IsJsonCheck text a.text.items a.status)
-counts_check text t (Ok a) e p line status = rw (line, status) (counted text t e p)
-counts_check text t (Err x) e p line status = tt
-
-pub refusal_replays : {E : Type 0} (text schedule : List ℕ) (limits : Limits) (a : Result Answer E) →
-    IfOk a (λ a. IsJsonRefusal text a.text.items a.status) → IfOk a (λ a. IsJsonReplay schedule limits text a.text.items a.status)
-refusal_replays text schedule limits (Ok a) h = unreplayed text a.text.items a.status h
-refusal_replays text schedule limits (Err e) h = tt
-
-pub run_replays : {E : Type 0} (text schedule : List ℕ) (limits : Limits) (t : Term) (a : Result Answer E) → reading text ≡ Ok (atoms_of t) →
-    IsProgram t → IfOk a (λ a. IsJsonRun t schedule limits a.text.items a.status) →
-    IfOk a (λ a. IsJsonReplay schedule limits text a.text.items a.status)
-run_replays text schedule limits t (Ok a) e p h = replays text a.text.items a.status t e p h
-run_replays text schedule limits t (Err x) e p h = tt
 
 pub report_answers : {E : Type 0} (t : Term) (schedule : List ℕ) (limits : Limits) (r : Report) (a : Result Answer E) →
     replayed t limits schedule ≡ Ok r → IfOk a (λ a. a.text.items ≡ line_of_data (report_data r.fibers)) →

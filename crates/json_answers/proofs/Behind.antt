@@ -2,7 +2,7 @@
 use Rattle.std.proofs.Common.{◌≡◌, ℕ, ◌+◌, ◌<◌, ◌≤◌, List, [], ◌∷◌, ◌++◌, length, drop, get_or, map, refl, sym, ap, ◌∙◌}
 use Rattle.std.proofs.lemmas.List.{drop_all}
 use Rattle.fiber_frames.specs.declared.mark.Mark.{Mark}
-use Rattle.outcome_trace.specs.declared.report.FiberReport.{FiberReport}
+use Rattle.scheduled_core.specs.declared.report.FiberReport.{FiberReport}
 use Rattle.exploration_text.proofs.Parts.{from_here}
 use Rattle.serde_json.specs.Data.{Data, Items, no_items, item}
 use Rattle.serde_json.specs.View.{items_of, items_view, view}

@@ -8,14 +8,15 @@ use Rattle.effect_term.specs.Programs.{IsProgram}
 use Rattle.term_parse.specs.Atoms.{atoms_of}
 use Rattle.term_parse.specs.Reading.{reading}
 use Rattle.text_io.specs.declared.status.Status.{Status}
-use Rattle.text_io.specs.declared.text_order.Answer.{Answer}
+use Rattle.outcome_trace.specs.declared.text_order.Answer.{Answer}
 use Rattle.every_schedule.specs.declared.exploration.Exploration.{Exploration}
+use Rattle.world_search.specs.declared.answers.Bounds.{Bounds}
 use Rattle.exploration_text.specs.declared.wants.Want.{Want}
 use Rattle.exploration_text.specs.ExplorationText.{exploration_status}
 use Rattle.exploration_text.specs.ExploreAnswers.{IsExplorationOf}
 use Rattle.sampled_schedules.specs.declared.comings.Sample.{Sample}
-use Rattle.sample_text.specs.SampleAnswers.{IsSampleAt}
-use Rattle.sample_text.specs.SampleText.{sample_status}
+use Rattle.exploration_text.specs.SampleAnswers.{IsSampleAt}
+use Rattle.exploration_text.specs.SampleText.{sample_status}
 use Rattle.serde_json.specs.Data.{Data}
 use Rattle.json_answers.specs.Answers.{IsJsonRefusal}
 use Rattle.json_answers.specs.ExplorationData.{IsExplorationData}
@@ -23,11 +24,11 @@ use Rattle.json_answers.specs.FoundAnswers.{IsJsonExplore, IsJsonExplored, IsJso
 use Rattle.json_answers.specs.ReportData.{line_of_data}
 use Rattle.json_answers.specs.SampleData.{IsSampleData}
 
-pub exploration_answers : {E : Type 0} (t : Term) (limits : Limits) (wants seen : List Want) (e : Exploration) (d : Data) (status : Status)
-    (a : Result Answer E) → seen ≡ wants → IsExplorationOf (code_of (source_of t)) limits e → IsExplorationData seen e d →
+pub exploration_answers : {E : Type 0} (t : Term) (limits : Limits) (bounds : Bounds) (wants seen : List Want) (e : Exploration) (d : Data) (status : Status)
+    (a : Result Answer E) → seen ≡ wants → IsExplorationOf (code_of (source_of t)) limits bounds e → IsExplorationData seen e d →
     status ≡ exploration_status seen e → IfOk a (λ a. a.text.items ≡ line_of_data d) → IfOk a (λ a. a.status ≡ status) →
-    IfOk a (λ a. IsJsonExplored t limits wants a.text.items a.status)
-exploration_answers t limits wants seen e d status (Ok a) same explored is ends line so = record {
+    IfOk a (λ a. IsJsonExplored t limits bounds wants a.text.items a.status)
+exploration_answers t limits bounds wants seen e d status (Ok a) same explored is ends line so = record {
   exploration = e;
   explored = explored;
   value = d;
@@ -35,18 +36,18 @@ exploration_answers t limits wants seen e d status (Ok a) same explored is ends 
   text_is = line;
   status_is = subst (λ ws. a.status ≡ exploration_status ws e) same (so ∙ ends);
 }
-exploration_answers t limits wants seen e d status (Err x) same explored is ends line so = tt
+exploration_answers t limits bounds wants seen e d status (Err x) same explored is ends line so = tt
 
-pub program_explored : {E : Type 0} (text : List ℕ) (limits : Limits) (wants : List Want) (t : Term) (a : Result Answer E) →
-    reading text ≡ Ok (atoms_of t) → IsProgram t → IfOk a (λ a. IsJsonExplored t limits wants a.text.items a.status) →
-    IfOk a (λ a. IsJsonExplore limits wants text a.text.items a.status)
-program_explored text limits wants t (Ok a) e p h = explores text a.text.items a.status t e p h
-program_explored text limits wants t (Err x) e p h = tt
+pub program_explored : {E : Type 0} (text : List ℕ) (limits : Limits) (bounds : Bounds) (wants : List Want) (t : Term) (a : Result Answer E) →
+    reading text ≡ Ok (atoms_of t) → IsProgram t → IfOk a (λ a. IsJsonExplored t limits bounds wants a.text.items a.status) →
+    IfOk a (λ a. IsJsonExplore limits bounds wants text a.text.items a.status)
+program_explored text limits bounds wants t (Ok a) e p h = explores text a.text.items a.status t e p h
+program_explored text limits bounds wants t (Err x) e p h = tt
 
-pub refusal_explored : {E : Type 0} (text : List ℕ) (limits : Limits) (wants : List Want) (a : Result Answer E) →
-    IfOk a (λ a. IsJsonRefusal text a.text.items a.status) → IfOk a (λ a. IsJsonExplore limits wants text a.text.items a.status)
-refusal_explored text limits wants (Ok a) h = unexplored text a.text.items a.status h
-refusal_explored text limits wants (Err x) h = tt
+pub refusal_explored : {E : Type 0} (text : List ℕ) (limits : Limits) (bounds : Bounds) (wants : List Want) (a : Result Answer E) →
+    IfOk a (λ a. IsJsonRefusal text a.text.items a.status) → IfOk a (λ a. IsJsonExplore limits bounds wants text a.text.items a.status)
+refusal_explored text limits bounds wants (Ok a) h = unexplored text a.text.items a.status h
+refusal_explored text limits bounds wants (Err x) h = tt
 
 pub sample_answers : {E : Type 0} (t : Term) (limits : Limits) (seed times entries : ℕ) (s : Sample) (d : Data) (status : Status)
     (a : Result Answer E) → IsSampleAt (code_of (source_of t)) limits times entries s → IsSampleData seed s d →

@@ -2,7 +2,7 @@
 use Rattle.std.proofs.Common.{◌≡◌, ℕ, Bool, true, false, not, List, [], ◌∷◌, ◌++◌, ◌||◌, Result, Ok, Err, refl, sym, ap, ◌∙◌}
 use Rattle.std.specs.List.{filter}
 use Rattle.cell_registry.specs.declared.limits.RunError.{RunError}
-use Rattle.outcome_trace.specs.declared.report.Report.{Report}
+use Rattle.scheduled_core.specs.declared.report.Report.{Report}
 use Rattle.every_schedule.specs.declared.exploration.Answer.{Answer}
 use Rattle.every_schedule.specs.declared.exploration.Exploration.{Exploration}
 use Rattle.exploration_text.specs.declared.wants.Want.{Want}
@@ -30,9 +30,9 @@ found_plain : (schedule : List ℕ) (wanted : Bool) (end : Result Report RunErro
 found_plain schedule wanted (Ok r) = or_plain (has_float (report_data r.fibers)) false (report_plain r.fibers) refl
 found_plain schedule wanted (Err e) = or_plain (has_float (fault_data e)) false (fault_plain e) refl
 
-came_plain : (times : ℕ) (schedule : List ℕ) (end : Result Report RunError) → has_float (came_data times schedule end) ≡ false
-came_plain times schedule (Ok r) = or_plain (has_float (report_data r.fibers)) false (report_plain r.fibers) refl
-came_plain times schedule (Err e) = or_plain (has_float (fault_data e)) false (fault_plain e) refl
+came_plain : (times : ℕ) (cut : Bool) (schedule : List ℕ) (end : Result Report RunError) → has_float (came_data times cut schedule end) ≡ false
+came_plain times cut schedule (Ok r) = or_plain (has_float (report_data r.fibers)) false (report_plain r.fibers) refl
+came_plain times cut schedule (Err e) = or_plain (has_float (fault_data e)) false (fault_plain e) refl
 
 answers_plain : (u : Bool) (answers : List Answer) (ds : List Data) → AreAnswersData u answers ds → items_have_float (items_of ds) ≡ false
 answers_plain u [] ds h = ap (λ xs. items_have_float (items_of xs)) h
@@ -45,7 +45,7 @@ comings_plain : (comings : List Coming) (ds : List Data) → AreComingsData comi
 comings_plain [] ds h = ap (λ xs. items_have_float (items_of xs)) h
 comings_plain (c ∷ comings) ds h =
     ap (λ xs. items_have_float (items_of xs)) h.2
-    ∙ or_plain (has_float h.0) (items_have_float (items_of h.1)) (ap has_float h.3.data_is ∙ came_plain c.times h.3.schedule c.answer.end)
+    ∙ or_plain (has_float h.0) (items_have_float (items_of h.1)) (ap has_float h.3.data_is ∙ came_plain c.times c.cut h.3.schedule c.answer.end)
     (comings_plain comings h.1 h.4)
 
 pub exploration_plain : (wants : List Want) (e : Exploration) (d : Data) → IsExplorationData wants e d → has_float d ≡ false

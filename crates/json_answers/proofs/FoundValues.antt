@@ -79,7 +79,7 @@ answer_found u a schedule (Ok v) spelled made = record { schedule = schedule; sp
 answer_found u a schedule (Err e) spelled made = tt
 
 pub coming_found : {E : Type 0} (c : Coming) (schedule : List ℕ) (r : Result Value E) → SpellsEntries schedule c.answer.schedule →
-    IfOk r (λ v. view v ≡ came_data c.times schedule c.answer.end) → IfOk r (λ v. IsComingData c (view v))
+    IfOk r (λ v. view v ≡ came_data c.times c.cut schedule c.answer.end) → IfOk r (λ v. IsComingData c (view v))
 coming_found c schedule (Ok v) spelled made = record { schedule = schedule; spelled = spelled; data_is = made }
 coming_found c schedule (Err e) spelled made = tt
 

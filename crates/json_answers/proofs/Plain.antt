@@ -11,7 +11,7 @@ use Rattle.term_parse.specs.declared.error.ParseError.TheVariants as parse
 use Rattle.fiber_frames.specs.declared.mark.Mark.{Mark}
 use Rattle.fiber_frames.specs.declared.mark.Mark.TheVariants.{Say, Enter, Leave, PollIn, PollOut, Cut, Acquired}
 use Rattle.fiber_frames.specs.declared.mark.Mark.TheVariants.{Releasing, Released, Dropped}
-use Rattle.outcome_trace.specs.declared.report.FiberReport.{FiberReport}
+use Rattle.scheduled_core.specs.declared.report.FiberReport.{FiberReport}
 use Rattle.serde_json.specs.Find.{is_float, of_integer}
 use Rattle.serde_json.specs.Written.{has_float, items_have_float}
 use Rattle.json_answers.specs.ReportData.{fault_data, fiber_data, fibers_items, mark_data, marks_items, outcome_data, report_data}

@@ -4,13 +4,14 @@ use Rattle.cell_registry.specs.declared.limits.Limits.{Limits}
 use Rattle.cell_registry.specs.declared.limits.RunError.{RunError}
 use Rattle.effect_term.specs.declared.term.Term.{Term}
 use Rattle.effect_term.specs.declared.refusal.TermError.{TermError}
-use Rattle.effect_term.specs.Programs.{IsProgram, limit_passed}
+use Rattle.effect_term.specs.Programs.{limit_passed}
 use Rattle.term_parse.specs.declared.error.ParseError.{ParseError}
 use Rattle.term_parse.specs.Atoms.{atoms_of}
 use Rattle.term_parse.specs.Reading.{reading}
 use Rattle.text_io.specs.declared.status.Status.{Status}
 use Rattle.text_io.specs.declared.status.Status.TheVariants as ends
-use Rattle.outcome_trace.specs.declared.report.Report.{Report}
+use Rattle.scheduled_core.specs.declared.report.Report.{Report}
+use Rattle.outcome_trace.specs.Answers.{IsProgramAnswer}
 use Rattle.outcome_trace.specs.ReplayAnswers.{replayed, report_status}
 use Rattle.json_answers.specs.ReportData.{fault_data, line_of_data, report_data}
 use Rattle.json_answers.specs.Refusals.{parse_data, program_data, term_data}
@@ -22,12 +23,13 @@ pub data IsJsonRefusal : List ℕ → List ℕ → Status → Type 0 where
   no_program : (text : List ℕ) (t : Term) (e : TermError) → reading text ≡ Ok (atoms_of t) → limit_passed t ≡ Some e →
       IsJsonRefusal text (line_of_data (term_data e)) ends.Refused
 
+-- the counts of a program
+abbrev pub IsJsonCounts : Term → List ℕ → Status → Type 0
+IsJsonCounts t answer status = (answer ≡ line_of_data (program_data t)) × (status ≡ ends.Succeeded)
+
 -- what `check` answers: a refusal, or the counts of the program that the text spells
-pub data IsJsonCheck : List ℕ → List ℕ → Status → Type 0 where
-  refused : (text answer : List ℕ) (status : Status) → IsJsonRefusal text answer status →
-      IsJsonCheck text answer status
-  counted : (text : List ℕ) (t : Term) → reading text ≡ Ok (atoms_of t) → IsProgram t →
-      IsJsonCheck text (line_of_data (program_data t)) ends.Succeeded
+abbrev pub IsJsonCheck : List ℕ → List ℕ → Status → Type 0
+IsJsonCheck = IsProgramAnswer IsJsonRefusal IsJsonCounts
 
 -- what comes of a program under a schedule and limits: the report or the fault of the core
 pub data IsJsonRun (t : Term) (schedule : List ℕ) (limits : Limits) : List ℕ → Status → Type 0 where
@@ -37,8 +39,5 @@ pub data IsJsonRun (t : Term) (schedule : List ℕ) (limits : Limits) : List ℕ
       IsJsonRun t schedule limits (line_of_data (fault_data e)) ends.Fault
 
 -- what `replay` answers: a refusal, or what comes of the program that the text spells
-pub data IsJsonReplay (schedule : List ℕ) (limits : Limits) : List ℕ → List ℕ → Status → Type 0 where
-  unreplayed : (text answer : List ℕ) (status : Status) → IsJsonRefusal text answer status →
-      IsJsonReplay schedule limits text answer status
-  replays : (text answer : List ℕ) (status : Status) (t : Term) → reading text ≡ Ok (atoms_of t) → IsProgram t →
-      IsJsonRun t schedule limits answer status → IsJsonReplay schedule limits text answer status
+abbrev pub IsJsonReplay : List ℕ → Limits → List ℕ → List ℕ → Status → Type 0
+IsJsonReplay schedule limits = IsProgramAnswer IsJsonRefusal (λ t. IsJsonRun t schedule limits)

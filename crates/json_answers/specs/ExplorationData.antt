@@ -3,7 +3,7 @@ use Rattle.std.specs.Prelude.{◌≡◌, ℕ, Bool, true, false, not, List, [], 
 use Rattle.std.specs.List.{filter}
 use Rattle.cell_registry.specs.declared.limits.RunError.{RunError}
 use Rattle.text_io.specs.Schedule.{SpellsEntries}
-use Rattle.outcome_trace.specs.declared.report.Report.{Report}
+use Rattle.scheduled_core.specs.declared.report.Report.{Report}
 use Rattle.every_schedule.specs.declared.exploration.Answer.{Answer}
 use Rattle.every_schedule.specs.declared.exploration.Exploration.{Exploration}
 use Rattle.exploration_text.specs.declared.wants.Want.{Want}

@@ -8,13 +8,14 @@ use Rattle.effect_term.specs.Programs.{IsProgram}
 use Rattle.term_parse.specs.Atoms.{atoms_of}
 use Rattle.term_parse.specs.Reading.{reading}
 use Rattle.text_io.specs.declared.status.Status.{Status}
+use Rattle.world_search.specs.declared.answers.Bounds.{Bounds}
 use Rattle.every_schedule.specs.declared.exploration.Exploration.{Exploration}
 use Rattle.exploration_text.specs.declared.wants.Want.{Want}
 use Rattle.exploration_text.specs.ExplorationText.{exploration_status}
 use Rattle.exploration_text.specs.ExploreAnswers.{IsExplorationOf}
 use Rattle.sampled_schedules.specs.declared.comings.Sample.{Sample}
-use Rattle.sample_text.specs.SampleAnswers.{IsSampleAt}
-use Rattle.sample_text.specs.SampleText.{sample_status}
+use Rattle.exploration_text.specs.SampleAnswers.{IsSampleAt}
+use Rattle.exploration_text.specs.SampleText.{sample_status}
 use Rattle.serde_json.specs.Data.{Data}
 use Rattle.json_answers.specs.Answers.{IsJsonRefusal}
 use Rattle.json_answers.specs.ExplorationData.{IsExplorationData}
@@ -22,21 +23,24 @@ use Rattle.json_answers.specs.ReportData.{line_of_data}
 use Rattle.json_answers.specs.SampleData.{IsSampleData}
 
 -- the value and the status of an exploration of the program
-pub record IsJsonExplored (t : Term) (limits : Limits) (wants : List Want) (answer : List ℕ) (status : Status) : Type 0
+pub record IsJsonExplored (t : Term) (limits : Limits) (bounds : Bounds) (wants : List Want) (answer : List ℕ)
+    (status : Status) : Type 0
   where
     pub exploration : Exploration
-    pub explored : IsExplorationOf (code_of (source_of t)) limits exploration
+    pub explored : IsExplorationOf (code_of (source_of t)) limits bounds exploration
     pub value : Data
     pub value_is : IsExplorationData wants exploration value
     pub text_is : answer ≡ line_of_data value
     pub status_is : status ≡ exploration_status wants exploration
 
 -- what `explore` answers under limits: a refusal, or the exploration of the program that the text spells
-pub data IsJsonExplore (limits : Limits) (wants : List Want) : List ℕ → List ℕ → Status → Type 0 where
-  unexplored : (text answer : List ℕ) (status : Status) → IsJsonRefusal text answer status →
-      IsJsonExplore limits wants text answer status
-  explores : (text answer : List ℕ) (status : Status) (t : Term) → reading text ≡ Ok (atoms_of t) → IsProgram t →
-      IsJsonExplored t limits wants answer status → IsJsonExplore limits wants text answer status
+pub data IsJsonExplore (limits : Limits) (bounds : Bounds) (wants : List Want) : List ℕ → List ℕ → Status → Type 0
+  where
+    unexplored : (text answer : List ℕ) (status : Status) → IsJsonRefusal text answer status →
+        IsJsonExplore limits bounds wants text answer status
+    explores : (text answer : List ℕ) (status : Status) (t : Term) → reading text ≡ Ok (atoms_of t) → IsProgram t →
+        IsJsonExplored t limits bounds wants answer status →
+        IsJsonExplore limits bounds wants text answer status
 
 -- the value and the status of a sample of the program's schedules
 pub record IsJsonSampled (t : Term) (limits : Limits) (seed times entries : ℕ) (answer : List ℕ) (status : Status)

@@ -1,26 +1,26 @@
 -- Samples as JSON. The members of an object stand in the order of their keys.
-use Rattle.std.specs.Prelude.{◌≡◌, ℕ, List, [], ◌∷◌, codes, Result, Ok, Err}
+use Rattle.std.specs.Prelude.{◌≡◌, ℕ, Bool, List, [], ◌∷◌, codes, Result, Ok, Err}
 use Rattle.cell_registry.specs.declared.limits.RunError.{RunError}
 use Rattle.text_io.specs.Schedule.{SpellsEntries}
-use Rattle.outcome_trace.specs.declared.report.Report.{Report}
+use Rattle.scheduled_core.specs.declared.report.Report.{Report}
 use Rattle.sampled_schedules.specs.declared.comings.Coming.{Coming}
 use Rattle.sampled_schedules.specs.declared.comings.Sample.{Sample}
-use Rattle.serde_json.specs.Data.{Data, string, array, object, Items, no_members, member}
+use Rattle.serde_json.specs.Data.{Data, boolean, string, array, object, Items, no_members, member}
 use Rattle.serde_json.specs.View.{items_of}
 use Rattle.json_answers.specs.ReportData.{count, fault_data, report_data}
 
--- how many schedules came to a report or a fault, and the text of the first that did
-abbrev pub came_data : ℕ → List ℕ → Result Report RunError → Data
-came_data times schedule (Ok r) = object (member (codes "came") (count times)
-    (member (codes "report") (report_data r.fibers) (member (codes "schedule") (string schedule) no_members)))
-came_data times schedule (Err e) = object (member (codes "came") (count times)
-    (member (codes "fault") (fault_data e) (member (codes "schedule") (string schedule) no_members)))
+-- how many schedules came to a report or a fault, whether each of them was cut short, and the text of the first
+abbrev pub came_data : ℕ → Bool → List ℕ → Result Report RunError → Data
+came_data times cut schedule (Ok r) = object (member (codes "came") (count times) (member (codes "cut") (boolean cut)
+    (member (codes "report") (report_data r.fibers) (member (codes "schedule") (string schedule) no_members))))
+came_data times cut schedule (Err e) = object (member (codes "came") (count times) (member (codes "cut") (boolean cut)
+    (member (codes "fault") (fault_data e) (member (codes "schedule") (string schedule) no_members))))
 
 -- what some of the schedules came to
 pub record IsComingData (c : Coming) (d : Data) : Type 0 where
   pub schedule : List ℕ
   pub spelled : SpellsEntries schedule c.answer.schedule
-  pub data_is : d ≡ came_data c.times schedule c.answer.end
+  pub data_is : d ≡ came_data c.times c.cut schedule c.answer.end
 
 -- what schedules came to, one behind the other
 abbrev pub AreComingsData : List Coming → List Data → Type 0

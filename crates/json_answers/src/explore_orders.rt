@@ -21,7 +21,7 @@ pub struct ExploreJson {
 }
 
 impl TextOrder for ExploreJson {
-    ghost answers = { λ it. IsJsonExplore it.order.limits it.order.wants.items };
+    ghost answers = { λ it. IsJsonExplore it.order.limits it.order.bounds it.order.wants.items };
 
     fn answer(&self, alloc: Global, text: &[u8]) -> Result<Answer, AllocError> {
         match read_program(alloc, text) {
@@ -37,8 +37,8 @@ fn explored_answer(
     program: &Program,
     order: &ExploreOrder,
 ) -> Result<Answer, AllocError>
-    ensures { IfOk result (λ a. IsJsonExplored program.now order.now.limits order.now.wants.items a.text.items
-        a.status) }
+    ensures { IfOk result (λ a. IsJsonExplored program.now order.now.limits order.now.bounds order.now.wants.items
+        a.text.items a.status) }
 {
     let Ok(exploration) = explore(alloc, program, order.limits, order.bounds) else {
         return Err(AllocError);

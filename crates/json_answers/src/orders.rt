@@ -3,16 +3,15 @@
 ghost use Rattle.std.specs.Prelude.{◌≡◌, ◌≢◌, IfOk, OnOk};
 ghost use Rattle.cell_registry.specs.Cells.{AreLimits};
 ghost use Rattle.outcome_trace.specs.ReplayAnswers.{report_status};
-ghost use Rattle.json_answers.specs.Answers.{IsJsonCheck, IsJsonReplay, IsJsonRun};
-ghost use Rattle.json_answers.specs.Refusals.{program_data};
+ghost use Rattle.json_answers.specs.Answers.{IsJsonCounts, IsJsonRun};
 ghost use Rattle.json_answers.specs.ReportData.{fault_data, line_of_data, report_data};
 
-use crate::refusals::{program_value, refusal_answer};
+use crate::refusals::{InJson, program_value};
 use crate::report_values::{fault_json, report_json};
 use crate::values::value_answer;
 use cell_registry::{Limits, RunError};
 use effect_term::Program;
-use outcome_trace::{Answer, Report, Status, TextOrder, read_program, replay, report_status};
+use outcome_trace::{Answer, ProgramOrder, Report, Status, replay, report_status};
 use std::alloc::{AllocError, Global};
 
 /// Tells in JSON whether the text spells a program, as `CheckOrder` does in words: its counts, or why it is refused,
@@ -20,14 +19,14 @@ use std::alloc::{AllocError, Global};
 #[derive(Clone, Copy)]
 pub struct CheckJson;
 
-impl TextOrder for CheckJson {
-    ghost answers = { λ _. IsJsonCheck };
+impl ProgramOrder for CheckJson {
+    type Refusals = InJson;
 
-    fn answer(&self, alloc: Global, text: &[u8]) -> Result<Answer, AllocError> {
-        match read_program(alloc, text) {
-            Ok(program) => counts_answer(alloc, &program),
-            Err(refused) => refusal_answer(alloc, text, refused),
-        }
+    ghost comes = { λ _. IsJsonCounts };
+
+    fn answer_program(&self, alloc: Global, program: &Program) -> Result<Answer, AllocError> {
+        let value = program_value(alloc, program.term())?;
+        value_answer(alloc, &value, Status::Succeeded)
     }
 }
 
@@ -43,39 +42,16 @@ pub struct ReplayJson<'a> {
     pub ghost ranges: { AreLimits limits },
 }
 
-impl TextOrder for ReplayJson<'_> {
-    ghost answers = { λ order. IsJsonReplay order.schedule.now order.limits };
+impl ProgramOrder for ReplayJson<'_> {
+    type Refusals = InJson;
 
-    fn answer(&self, alloc: Global, text: &[u8]) -> Result<Answer, AllocError> {
-        match read_program(alloc, text) {
-            Ok(program) => run_answer(alloc, &program, self.schedule, self.limits),
-            Err(refused) => refusal_answer(alloc, text, refused),
+    ghost comes = { λ order t. IsJsonRun t order.schedule.now order.limits };
+
+    fn answer_program(&self, alloc: Global, program: &Program) -> Result<Answer, AllocError> {
+        match replay(alloc, program, self.schedule, self.limits) {
+            Ok(report) => report_json_answer(alloc, &report),
+            Err(error) => fault_answer(alloc, error),
         }
-    }
-}
-
-// The counts of a program.
-fn counts_answer(alloc: Global, program: &Program) -> Result<Answer, AllocError>
-    ensures line { IfOk result (λ a. a.text.items ≡ line_of_data (program_data program.now)) }
-    ensures status { IfOk result (λ a. a.status ≡ Status.Succeeded) }
-{
-    let value = program_value(alloc, program.term())?;
-    value_answer(alloc, &value, Status::Succeeded)
-}
-
-// What comes of a program under a schedule.
-fn run_answer(
-    alloc: Global,
-    program: &Program,
-    schedule: &[u16],
-    limits: Limits,
-) -> Result<Answer, AllocError>
-    requires { AreLimits limits }
-    ensures { IfOk result (λ a. IsJsonRun program.now schedule.now limits a.text.items a.status) }
-{
-    match replay(alloc, program, schedule, limits) {
-        Ok(report) => report_json_answer(alloc, &report),
-        Err(error) => fault_answer(alloc, error),
     }
 }
 

@@ -9,10 +9,22 @@ ghost use Rattle.json_answers.specs.Refusals.{parse_data, program_data, refused_
 
 use crate::values::value_answer;
 use effect_term::{Term, TermError};
-use outcome_trace::{Answer, Refused, Status};
+use outcome_trace::{Answer, RefusalForm, Refused, Status};
 use serde_json::{Value, json};
 use std::alloc::{AllocError, Global};
 use term_parse::ParseError;
+
+/// By the value of its refusal.
+#[derive(Clone, Copy, Debug)]
+pub struct InJson;
+
+impl RefusalForm for InJson {
+    ghost refuses = { IsJsonRefusal };
+
+    fn refused_answer(alloc: Global, text: &[u8], refused: Refused) -> Result<Answer, AllocError> {
+        refusal_answer(alloc, text, refused)
+    }
+}
 
 /// The answer to a text that is refused so, as `refusal` is in words: the value of the refusal, with
 /// `Status::Refused`. `AllocError` where memory ran out, also where that is why.

@@ -7,8 +7,8 @@ use crate::refusals::refusal_answer;
 use crate::sample_values::sample_json;
 use crate::values::value_answer;
 use effect_term::Program;
+use exploration_text::{SampleOrder, sample_status};
 use outcome_trace::{Answer, TextOrder, read_program};
-use sample_text::{SampleOrder, sample_status};
 use sampled_schedules::sample;
 use std::alloc::{AllocError, Global};
 

@@ -55,26 +55,33 @@ fn coming_value(alloc: Global, coming: &Coming) -> Result<Value, AllocError>
     ensures { IfOk result (λ value. IsComingData coming.now (view value)) }
 {
     let schedule = schedule_text(alloc, coming.answer.schedule.as_slice())?;
-    came_value(alloc, coming.times, schedule.as_str(), &coming.answer.end)
+    came_value(
+        alloc,
+        coming.times,
+        coming.cut,
+        schedule.as_str(),
+        &coming.answer.end,
+    )
 }
 
-// How many schedules came to a report or a fault, and the first that did.
+// How many schedules came to a report or a fault, whether each of them was cut short, and the first.
 fn came_value(
     alloc: Global,
     times: u32,
+    cut: bool,
     schedule: &str,
     end: &Result<Report, RunError>,
 ) -> Result<Value, AllocError>
-    ensures { IfOk result (λ value. view value ≡ came_data times schedule.now end.now) }
+    ensures { IfOk result (λ value. view value ≡ came_data times cut schedule.now end.now) }
 {
     match end {
         Ok(report) => {
             let report = report_json(alloc, report)?;
-            json!(in alloc; {"came": times, "report": report, "schedule": schedule})
+            json!(in alloc; {"came": times, "cut": cut, "report": report, "schedule": schedule})
         }
         Err(error) => {
             let fault = fault_json(alloc, *error)?;
-            json!(in alloc; {"came": times, "fault": fault, "schedule": schedule})
+            json!(in alloc; {"came": times, "cut": cut, "fault": fault, "schedule": schedule})
         }
     }
 }

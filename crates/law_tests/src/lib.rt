@@ -13,6 +13,8 @@ mod cancellation;
 #[cfg(test)]
 mod cells;
 #[cfg(test)]
+mod differences;
+#[cfg(test)]
 mod fibers;
 #[cfg(test)]
 mod masks;

@@ -50,8 +50,8 @@ fn limits() -> Limits
     }
 }
 
-// The program in which the term stands, explored.
-fn explored(alloc: Global, within: &str, term: &str) -> Result<Exploration, Fail> {
+/// The program in which the term stands, explored.
+pub fn explored(alloc: Global, within: &str, term: &str) -> Result<Exploration, Fail> {
     let Some((before, behind)) = within.split_once("@") else {
         return Err(Fail::new("there is no place for the term"));
     };
@@ -89,8 +89,8 @@ fn are_alike(alloc: Global, one: &FiberReport, other: &FiberReport) -> Result<bo
     Ok(one.outcome == other.outcome && left.as_slice() == right.as_slice())
 }
 
-// What fiber 0 came to.
-fn first(answer: &Answer) -> Option<&FiberReport> {
+/// What fiber 0 came to.
+pub fn first(answer: &Answer) -> Option<&FiberReport> {
     match &answer.end {
         Ok(report) => report.fibers.as_slice().first(),
         Err(_) => None,

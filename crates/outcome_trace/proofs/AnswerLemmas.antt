@@ -11,13 +11,13 @@ use Rattle.term_parse.specs.declared.error.ParseError.{ParseError}
 use Rattle.term_parse.specs.declared.error.ParseError.TheVariants as parse
 use Rattle.term_parse.specs.Atoms.{atoms_of}
 use Rattle.term_parse.specs.Reading.{reading}
-use Rattle.text_io.specs.declared.text_order.Answer.{Answer}
+use Rattle.outcome_trace.specs.declared.text_order.Answer.{Answer}
+use Rattle.text_io.specs.declared.status.Status.{Status}
 use Rattle.text_io.specs.declared.status.Status.TheVariants as ends
 use Rattle.outcome_trace.specs.declared.lines.Refused.{Refused}
 use Rattle.outcome_trace.specs.declared.lines.Refused.TheVariants as refusals
 use Rattle.outcome_trace.specs.Lines.{has_line, line_of}
-use Rattle.outcome_trace.specs.Answers.{IsRefusalAnswer, no_term, no_program, IsCheckAnswer, refused, counted}
-use Rattle.outcome_trace.specs.Answers.{IsShowAnswer, unshown, shown, IsRefused, IsOfText, code_line, ok_line}
+use Rattle.outcome_trace.specs.Answers.{IsRefusalAnswer, no_term, no_program, IsProgramAnswer, refuses, runs, IsRefused, IsOfText}
 
 -- a limit has a line
 limit_told : (deep large : Bool) (m : ℕ) (e : TermError) →
@@ -68,22 +68,14 @@ pub refusal_answers : {E : Type 0} (text : List ℕ) (r : Refused) (a : Result A
 refusal_answers text r (Ok a) h line status told = rw (line, status) (refused_so text r h told)
 refusal_answers text r (Err e) h line status told = tt
 
-pub refusal_checks : {E : Type 0} (text : List ℕ) (a : Result Answer E) → IfOk a (λ a. IsRefusalAnswer text a.text.items a.status) →
-    IfOk a (λ a. IsCheckAnswer text a.text.items a.status)
-refusal_checks text (Ok a) h = refused text a.text.items a.status h
-refusal_checks text (Err e) h = tt
+-- ---- of texts that spell programs, or none
+pub refusal_runs : {E : Type 0} (Refuses : List ℕ → List ℕ → Status → Type 0) (Comes : Term → List ℕ → Status → Type 0) (text : List ℕ)
+    (a : Result Answer E) → IfOk a (λ a. Refuses text a.text.items a.status) → IfOk a (λ a. IsProgramAnswer Refuses Comes text a.text.items a.status)
+refusal_runs Refuses Comes text (Ok a) h = refuses text a.text.items a.status h
+refusal_runs Refuses Comes text (Err e) h = tt
 
-pub counts_check : {E : Type 0} (text : List ℕ) (t : Term) (a : Result Answer E) → reading text ≡ Ok (atoms_of t) → IsProgram t →
-    IfOk a (λ a. a.text.items ≡ ok_line t) → IfOk a (λ a. a.status ≡ ends.Succeeded) → IfOk a (λ a. IsCheckAnswer text a.text.items a.status)
-counts_check text t (Ok a) e p line status = rw (line, status) (counted text t e p)
-counts_check text t (Err x) e p line status = tt
-
-pub refusal_shows : {E : Type 0} (text : List ℕ) (a : Result Answer E) → IfOk a (λ a. IsRefusalAnswer text a.text.items a.status) →
-    IfOk a (λ a. IsShowAnswer text a.text.items a.status)
-refusal_shows text (Ok a) h = unshown text a.text.items a.status h
-refusal_shows text (Err e) h = tt
-
-pub code_shows : {E : Type 0} (text : List ℕ) (t : Term) (a : Result Answer E) → reading text ≡ Ok (atoms_of t) → IsProgram t →
-    IfOk a (λ a. a.text.items ≡ code_line t) → IfOk a (λ a. a.status ≡ ends.Succeeded) → IfOk a (λ a. IsShowAnswer text a.text.items a.status)
-code_shows text t (Ok a) e p line status = rw (line, status) (shown text t e p)
-code_shows text t (Err x) e p line status = tt
+pub program_runs : {E : Type 0} (Refuses : List ℕ → List ℕ → Status → Type 0) (Comes : Term → List ℕ → Status → Type 0) (text : List ℕ) (t : Term)
+    (a : Result Answer E) → reading text ≡ Ok (atoms_of t) → IsProgram t → IfOk a (λ a. Comes t a.text.items a.status) →
+    IfOk a (λ a. IsProgramAnswer Refuses Comes text a.text.items a.status)
+program_runs Refuses Comes text t (Ok a) e p h = runs text a.text.items a.status t e p h
+program_runs Refuses Comes text t (Err x) e p h = tt

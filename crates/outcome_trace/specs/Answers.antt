@@ -41,19 +41,29 @@ pub data IsRefusalAnswer : List ℕ → List ℕ → Status → Type 0 where
   no_program : (text : List ℕ) (t : Term) (e : TermError) → reading text ≡ Ok (atoms_of t) → limit_passed t ≡ Some e →
       IsRefusalAnswer text (term_line e) ends.Refused
 
+-- what is answered to a text, with its status: a refusal, or what comes of the program that the text spells
+pub data IsProgramAnswer (Refuses : List ℕ → List ℕ → Status → Type 0) (Comes : Term → List ℕ → Status → Type 0) :
+    List ℕ → List ℕ → Status → Type 0 where
+  refuses : (text answer : List ℕ) (status : Status) → Refuses text answer status →
+      IsProgramAnswer Refuses Comes text answer status
+  runs : (text answer : List ℕ) (status : Status) (t : Term) → reading text ≡ Ok (atoms_of t) → IsProgram t →
+      Comes t answer status → IsProgramAnswer Refuses Comes text answer status
+
+-- the counts of a program
+abbrev pub IsCounts : Term → List ℕ → Status → Type 0
+IsCounts t answer status = (answer ≡ ok_line t) × (status ≡ ends.Succeeded)
+
 -- what `check` answers, with its status: a refusal, or the counts of the program that the text spells
-pub data IsCheckAnswer : List ℕ → List ℕ → Status → Type 0 where
-  refused : (text answer : List ℕ) (status : Status) → IsRefusalAnswer text answer status →
-      IsCheckAnswer text answer status
-  counted : (text : List ℕ) (t : Term) → reading text ≡ Ok (atoms_of t) → IsProgram t → IsCheckAnswer text (ok_line t)
-      ends.Succeeded
+abbrev pub IsCheckAnswer : List ℕ → List ℕ → Status → Type 0
+IsCheckAnswer = IsProgramAnswer IsRefusalAnswer IsCounts
+
+-- the code of a program
+abbrev pub IsCode : Term → List ℕ → Status → Type 0
+IsCode t answer status = (answer ≡ code_line t) × (status ≡ ends.Succeeded)
 
 -- what `show` answers, with its status: a refusal, or the code of the program that the text spells
-pub data IsShowAnswer : List ℕ → List ℕ → Status → Type 0 where
-  unshown : (text answer : List ℕ) (status : Status) → IsRefusalAnswer text answer status →
-      IsShowAnswer text answer status
-  shown : (text : List ℕ) (t : Term) → reading text ≡ Ok (atoms_of t) → IsProgram t → IsShowAnswer text (code_line t)
-      ends.Succeeded
+abbrev pub IsShowAnswer : List ℕ → List ℕ → Status → Type 0
+IsShowAnswer = IsProgramAnswer IsRefusalAnswer IsCode
 
 -- why a text is refused, unless memory was wanting: its first fault, or a limit that its term goes past
 abbrev pub IsRefused : List ℕ → Refused → Type 0

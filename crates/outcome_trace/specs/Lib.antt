@@ -1,13 +1,4 @@
 pub mod Answers
-pub mod Orders
 pub mod Lines
 pub mod ReplayAnswers
 pub mod ReportText
-pub mod Core
-pub mod Fitting
-pub mod Permits
-pub mod Private
-pub mod Stands
-pub mod Finals
-pub mod Covers
-pub mod Whys

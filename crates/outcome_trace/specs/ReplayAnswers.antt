@@ -7,15 +7,12 @@ use Rattle.derived_ops.specs.Reading.{source_of}
 use Rattle.effect_term.specs.declared.reply.Outcome.{Outcome}
 use Rattle.effect_term.specs.declared.reply.Outcome.TheVariants.{Succeeded, Errored, Canceled}
 use Rattle.effect_term.specs.declared.term.Term.{Term}
-use Rattle.effect_term.specs.Programs.{IsProgram}
-use Rattle.term_parse.specs.Atoms.{atoms_of}
-use Rattle.term_parse.specs.Reading.{reading}
-use Rattle.outcome_trace.specs.declared.report.FiberReport.{FiberReport}
-use Rattle.outcome_trace.specs.declared.report.Report.{Report}
+use Rattle.scheduled_core.specs.declared.report.FiberReport.{FiberReport}
+use Rattle.scheduled_core.specs.declared.report.Report.{Report}
 use Rattle.text_io.specs.declared.status.Status.{Status}
 use Rattle.text_io.specs.declared.status.Status.TheVariants as ends
-use Rattle.outcome_trace.specs.Answers.{IsRefusalAnswer}
-use Rattle.outcome_trace.specs.Core.{core, reported}
+use Rattle.outcome_trace.specs.Answers.{IsProgramAnswer, IsRefusalAnswer}
+use Rattle.scheduled_core.specs.Core.{core, reported}
 use Rattle.outcome_trace.specs.Lines.{run_line}
 use Rattle.outcome_trace.specs.ReportText.{text_of_fibers}
 
@@ -42,8 +39,5 @@ pub data IsRunAnswer (t : Term) (schedule : List ℕ) (limits : Limits) : List �
 
 -- what `replay` answers under a schedule and limits, with its status: a refusal, or what comes of the program that the
 -- text spells
-pub data IsReplayAnswer (schedule : List ℕ) (limits : Limits) : List ℕ → List ℕ → Status → Type 0 where
-  unreplayed : (text answer : List ℕ) (status : Status) → IsRefusalAnswer text answer status →
-      IsReplayAnswer schedule limits text answer status
-  replays : (text answer : List ℕ) (status : Status) (t : Term) → reading text ≡ Ok (atoms_of t) → IsProgram t →
-      IsRunAnswer t schedule limits answer status → IsReplayAnswer schedule limits text answer status
+abbrev pub IsReplayAnswer : List ℕ → Limits → List ℕ → List ℕ → Status → Type 0
+IsReplayAnswer schedule limits = IsProgramAnswer IsRefusalAnswer (λ t. IsRunAnswer t schedule limits)

@@ -6,7 +6,7 @@ use Rattle.effect_term.specs.declared.reply.Outcome.TheVariants.{Succeeded, Erro
 use Rattle.fiber_frames.specs.declared.mark.Mark.{Mark}
 use Rattle.fiber_frames.specs.declared.mark.Mark.TheVariants.{Say, Enter, Leave, PollIn, PollOut, Cut, Acquired}
 use Rattle.fiber_frames.specs.declared.mark.Mark.TheVariants.{Releasing, Released, Dropped}
-use Rattle.outcome_trace.specs.declared.report.FiberReport.{FiberReport}
+use Rattle.scheduled_core.specs.declared.report.FiberReport.{FiberReport}
 
 -- a mark, with its value, its code or the number of its mask
 abbrev pub mark_text : Mark → List ℕ

@@ -4,15 +4,17 @@ ghost use Rattle.std.specs.Prelude.{◌≡◌, IfOk, IfErr, OnOk, IsTrue};
 ghost use Rattle.effect_term.specs.Programs.{IsProgram};
 ghost use Rattle.term_parse.specs.Atoms.{atoms_of};
 ghost use Rattle.term_parse.specs.Reading.{reading};
-ghost use Rattle.outcome_trace.specs.Answers.{IsCheckAnswer, IsOfText, IsRefused, IsShowAnswer, code_line, ok_line};
+ghost use Rattle.outcome_trace.specs.Answers.{IsCode, IsCounts, IsOfText, IsRefused};
 ghost use Rattle.outcome_trace.specs.Lines.{has_line, line_of};
 
 use crate::lines::{Refused, line};
+use crate::program_orders::{InWords, ProgramOrder};
+use crate::text_order::Answer;
 use derived_ops::{expand, print_core, program_of};
 use effect_term::{Program, TermError};
 use std::alloc::{AllocError, Global};
 use term_parse::{ParseError, parse};
-use text_io::{Answer, Status, TextOrder};
+use text_io::Status;
 
 /// The program that a text spells, or why there is none: the first fault of the text, or the first limit
 /// that its term goes past.
@@ -51,47 +53,26 @@ pub fn refusal(alloc: Global, refused: Refused) -> Result<Answer, AllocError>
     }
 }
 
-fn counts(alloc: Global, program: &Program) -> Result<Answer, AllocError>
-    ensures line { IfOk result (λ a. a.text.items ≡ ok_line program.now) }
-    ensures status { IfOk result (λ a. a.status ≡ Status.Succeeded) }
-{
-    let term = program.term();
-    let size = term.size();
-    let nest = term.nest();
-    let masks = term.masks();
-    let line = format!(in alloc; "ok size {size} nest {nest} masks {masks}\n")?;
-    Ok(Answer {
-        text: line.into_bytes(),
-        status: Status::Succeeded,
-    })
-}
-
-fn code(alloc: Global, program: &Program) -> Result<Answer, AllocError>
-    ensures line { IfOk result (λ a. a.text.items ≡ code_line program.now) }
-    ensures status { IfOk result (λ a. a.status ≡ Status.Succeeded) }
-{
-    let code = expand(alloc, program)?;
-    let mut text = print_core(alloc, &code)?;
-    text.push(b'\n')?;
-    Ok(Answer {
-        text,
-        status: Status::Succeeded,
-    })
-}
-
 /// Tells whether the text spells a program: the line of its counts, with `Status::Succeeded`, or of
 /// its refusal, with `Status::Refused`, which is its first fault or a limit that its term goes past.
 #[derive(Clone, Copy, Debug)]
 pub struct CheckOrder;
 
-impl TextOrder for CheckOrder {
-    ghost answers = { λ _. IsCheckAnswer };
+impl ProgramOrder for CheckOrder {
+    type Refusals = InWords;
 
-    fn answer(&self, alloc: Global, text: &[u8]) -> Result<Answer, AllocError> {
-        match read_program(alloc, text) {
-            Ok(program) => counts(alloc, &program),
-            Err(refused) => refusal(alloc, refused),
-        }
+    ghost comes = { λ _. IsCounts };
+
+    fn answer_program(&self, alloc: Global, program: &Program) -> Result<Answer, AllocError> {
+        let term = program.term();
+        let size = term.size();
+        let nest = term.nest();
+        let masks = term.masks();
+        let line = format!(in alloc; "ok size {size} nest {nest} masks {masks}\n")?;
+        Ok(Answer {
+            text: line.into_bytes(),
+            status: Status::Succeeded,
+        })
     }
 }
 
@@ -100,13 +81,18 @@ impl TextOrder for CheckOrder {
 #[derive(Clone, Copy, Debug)]
 pub struct ShowOrder;
 
-impl TextOrder for ShowOrder {
-    ghost answers = { λ _. IsShowAnswer };
+impl ProgramOrder for ShowOrder {
+    type Refusals = InWords;
 
-    fn answer(&self, alloc: Global, text: &[u8]) -> Result<Answer, AllocError> {
-        match read_program(alloc, text) {
-            Ok(program) => code(alloc, &program),
-            Err(refused) => refusal(alloc, refused),
-        }
+    ghost comes = { λ _. IsCode };
+
+    fn answer_program(&self, alloc: Global, program: &Program) -> Result<Answer, AllocError> {
+        let code = expand(alloc, program)?;
+        let mut text = print_core(alloc, &code)?;
+        text.push(b'\n')?;
+        Ok(Answer {
+            text,
+            status: Status::Succeeded,
+        })
     }
 }

@@ -1,11 +1,9 @@
-//! From a text that spells a program to its answer: the core under a schedule, and the texts of
-//! reports, refusals and faults of a run.
+//! From a text that spells a program to its answer: the texts of reports, refusals and faults of a run.
 //!
-//! It stands on texts and devices (`text_io`), the parser (`term_parse`), the programs
-//! (`effect_term`), their code (`derived_ops`), the moves of a fiber (`fiber_frames`) and the registry
-//! for one thread (`cell_registry`). It promises that a run under a schedule is the core's, and that
-//! what goes out is exactly the text of the report or of the line that answers the text. What
-//! `text_io` has for its callers is also here.
+//! It stands on texts and devices (`text_io`), the parser (`term_parse`), the programs (`effect_term`), their code
+//! (`derived_ops`) and the core under a schedule (`scheduled_core`). It promises that what goes out is exactly the text
+//! of the core's report or of the line that answers the text. What `scheduled_core` and `text_io` have for their
+//! callers is also here.
 //!
 //! A program is replayed so, within limits for 3 fibers, a ref, a deferred and 1000 changes of each fiber:
 //!
@@ -23,33 +21,26 @@
 
 mod answers;
 mod backwards;
-mod finals;
 mod lines;
-mod orders;
+mod program_orders;
 mod replay_texts;
-mod report;
 mod report_text;
-mod reports;
-mod same_ends;
-mod scheduled;
-mod why;
-mod wish;
+mod text_order;
 
 pub use answers::{CheckOrder, ShowOrder, read_program, refusal};
 pub use cell_registry::Limits;
-pub use finals::{EntryLog, NoEntries, Settled, is_done, settle, settle_noted};
 pub use lines::{Refused, line};
-pub use orders::{Order, obey};
+pub use program_orders::{InWords, ProgramOrder, RefusalForm};
 pub use replay_texts::{ReplayOrder, replay_text, report_answer, report_status};
-pub use report::{FiberReport, FiberReports, Marks, Report};
 pub use report_text::{print_report, text_of_report};
-pub use reports::{outcome, report_of_fibers, same_report};
-pub use same_ends::same_end;
-pub use scheduled::{answer, enter, enter_all, fault, first_fiber, first_fibers, replay};
-pub use text_io::{
-    Answer, FromRead, MOST_ENTRIES, ReadError, ScheduleError, Sink, Source, Status, TEXT_BOUND,
-    TextFault, TextIn, TextOrder, TextOut, ToWrite, WriteFailed, answer_text, obey_text,
-    read_schedule, read_text, schedule_text, tell_fault, write_text,
+pub use scheduled_core::{
+    EntryLog, FiberReport, FiberReports, Marks, NoEntries, Report, Settled, Why, Wish, answer,
+    enter, enter_all, fault, first_fiber, first_fibers, is_done, outcome, replay, report_of_fibers,
+    same_end, same_report, settle, settle_noted, why_of,
 };
-pub use why::{Why, why_of};
-pub use wish::Wish;
+pub use text_io::{
+    FromRead, MOST_ENTRIES, ReadError, ScheduleError, Sink, Source, Status, TEXT_BOUND, TextFault,
+    TextIn, TextOut, ToWrite, WriteFailed, read_schedule, read_text, schedule_text, tell_fault,
+    write_text,
+};
+pub use text_order::{Answer, TextOrder, answer_text, obey_text};

@@ -7,15 +7,15 @@ ghost use Rattle.outcome_trace.specs.Lines.{run_line};
 ghost use Rattle.outcome_trace.specs.ReplayAnswers.{IsReplayAnswer, IsRunAnswer, report_status};
 ghost use Rattle.outcome_trace.specs.ReportText.{text_of_fibers};
 
-use crate::answers::{read_program, refusal};
 use crate::lines::{Refused, line};
-use crate::report::Report;
+use crate::program_orders::{InWords, ProgramOrder};
 use crate::report_text::text_of_report;
-use crate::scheduled::replay;
+use crate::text_order::{Answer, answer_text};
 use cell_registry::{Limits, RunError};
 use effect_term::{Outcome, Program};
+use scheduled_core::{Report, replay};
 use std::alloc::{AllocError, Global};
-use text_io::{Answer, Status, TextFault, TextIn, TextOrder, TextOut, answer_text};
+use text_io::{Status, TextFault, TextIn, TextOut};
 
 /// The status of a program that writes this report: that of fiber 0's end, which is `Status::Unended` where it has
 /// none.
@@ -61,22 +61,6 @@ fn fault_answer(alloc: Global, error: RunError) -> Result<Answer, AllocError>
     }
 }
 
-// What comes of a program under a schedule.
-fn run_answer(
-    alloc: Global,
-    program: &Program,
-    schedule: &[u16],
-    limits: Limits,
-) -> Result<Answer, AllocError>
-    requires { AreLimits limits }
-    ensures { IfOk result (λ a. IsRunAnswer program.now schedule.now limits a.text.items a.status) }
-{
-    match replay(alloc, program, schedule, limits) {
-        Ok(report) => report_answer(alloc, &report),
-        Err(error) => fault_answer(alloc, error),
-    }
-}
-
 /// Tells what the program that the text spells comes to under a schedule: its report, with the status
 /// of fiber 0's end, or the line of the text's refusal, with `Status::Refused`, or of the run's fault,
 /// with `Status::Fault`.
@@ -90,13 +74,15 @@ pub struct ReplayOrder<'a> {
     pub ghost ranges: { AreLimits limits },
 }
 
-impl TextOrder for ReplayOrder<'_> {
-    ghost answers = { λ order. IsReplayAnswer order.schedule.now order.limits };
+impl ProgramOrder for ReplayOrder<'_> {
+    type Refusals = InWords;
 
-    fn answer(&self, alloc: Global, text: &[u8]) -> Result<Answer, AllocError> {
-        match read_program(alloc, text) {
-            Ok(program) => run_answer(alloc, &program, self.schedule, self.limits),
-            Err(refused) => refusal(alloc, refused),
+    ghost comes = { λ order t. IsRunAnswer t order.schedule.now order.limits };
+
+    fn answer_program(&self, alloc: Global, program: &Program) -> Result<Answer, AllocError> {
+        match replay(alloc, program, self.schedule, self.limits) {
+            Ok(report) => report_answer(alloc, &report),
+            Err(error) => fault_answer(alloc, error),
         }
     }
 }

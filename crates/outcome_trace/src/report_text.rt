@@ -10,9 +10,9 @@ ghost use Rattle.outcome_trace.specs.ReportText.{mark_text, later_marks_text, ma
 ghost use Rattle.outcome_trace.specs.ReportText.{text_of_fibers};
 
 use crate::backwards::{put, put_behind, put_number, put_short, put_signed};
-use crate::report::{FiberReport, Report};
 use effect_term::{Outcome, Value};
 use fiber_frames::Mark;
+use scheduled_core::{FiberReport, Report};
 use std::alloc::{AllocError, Global};
 use std::str;
 use text_io::{TextFault, TextOut, write_text};

@@ -1,8 +1,8 @@
 //! Texts that are answered with reasons, over devices that hold and that fail.
 
 use crate::limits::limits;
-use explanations::{ReplayReasons, TextReasons, obey_explained};
 use outcome_trace::{CheckOrder, FromRead, ReplayOrder, Status, ToWrite};
+use reasons::{ReplayReasons, TextReasons, obey_explained};
 use std::alloc::Global;
 use std::io;
 use std::io::{ErrorKind, Read, Write};

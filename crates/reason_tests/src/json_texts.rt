@@ -1,10 +1,9 @@
 //! Answers in JSON.
 
 use crate::limits::limits;
-use exploration_text::{Bounds, ExploreOrder, Want, read_want};
+use exploration_text::{Bounds, ExploreOrder, SampleOrder, Want, read_want};
 use json_answers::{CheckJson, ExploreJson, ReplayJson, SampleJson};
 use outcome_trace::{Answer, Status, TextOrder};
-use sample_text::SampleOrder;
 use std::alloc::{AllocError, Global};
 use std::str;
 use std::test::Fail;
@@ -157,7 +156,8 @@ const SAMPLED: &[(&str, u64, u32, &str, Status)] = &[
         "(pure 1)",
         9,
         5,
-        "{\"answer\":\"sample\",\"answers\":[{\"came\":5,\"report\":{\"answer\":\"report\",\"fibers\":[{\"fiber\":0,\
+        "{\"answer\":\"sample\",\"answers\":[{\"came\":5,\"cut\":false,\"report\":{\"answer\":\"report\",\
+            \"fibers\":[{\"fiber\":0,\
             \"marks\":[],\"outcome\":{\"succeeded\":1}}]},\"schedule\":\"0*2\"}],\"seed\":9,\"times\":5}\n",
         Status::Succeeded,
     ),
@@ -165,9 +165,18 @@ const SAMPLED: &[(&str, u64, u32, &str, Status)] = &[
         "(ref r 1 (ref s 2 (never)))",
         18446744073709551615,
         3,
-        "{\"answer\":\"sample\",\"answers\":[{\"came\":3,\"fault\":{\"answer\":\"fault\",\"band\":\"refs\",\"limit\":1,\
+        "{\"answer\":\"sample\",\"answers\":[{\"came\":3,\"cut\":false,\
+            \"fault\":{\"answer\":\"fault\",\"band\":\"refs\",\"limit\":1,\
             \"name\":\"Full\",\"number\":18},\"schedule\":\"0*8\"}],\"seed\":18446744073709551615,\"times\":3}\n",
         Status::Errored,
+    ),
+    (
+        "(forever (cede))",
+        1,
+        2,
+        "{\"answer\":\"sample\",\"answers\":[{\"came\":2,\"cut\":true,\"report\":{\"answer\":\"report\",\"fibers\":\
+            [{\"fiber\":0,\"marks\":[],\"outcome\":\"unended\"}]},\"schedule\":\"0*1000\"}],\"seed\":1,\"times\":2}\n",
+        Status::Succeeded,
     ),
     (
         "(pure 1)",

@@ -1,4 +1,4 @@
-//! Tests of the public calls of `explanations` and `json_answers`, with texts written by hand.
+//! Tests of the public calls of `reasons` and `json_answers`, with texts written by hand.
 //!
 //! The libraries promise what goes out beside reasons, where a fault is told, why a fiber hasn't ended, and of which
 //! value a text of JSON is. These tests show what no proof does: what reasons look like, and that all is told where

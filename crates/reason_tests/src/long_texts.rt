@@ -1,6 +1,6 @@
 //! The reasons of texts that go past a limit, or are shown in part.
 
-use explanations::{Reasons, TextReasons};
+use reasons::{Reasons, TextReasons};
 use std::alloc::{AllocError, Global};
 use std::str;
 use std::test::Fail;

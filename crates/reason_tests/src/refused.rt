@@ -1,6 +1,6 @@
 //! The reasons of texts that are refused.
 
-use explanations::{Reasons, TextReasons};
+use reasons::{Reasons, TextReasons};
 use std::alloc::{AllocError, Global};
 use std::str;
 use std::test::Fail;
@@ -27,6 +27,23 @@ const REFUSED: &[Refused<'static>] = &[
             \x20  ^\n\
             behind an opening bracket the word of a form was wanted\n\
             did you mean `pure`?\n",
+    },
+    Refused {
+        text: b"(PURE 1)",
+        told: "line 1, column 2: `PURE` begins no word, name, number or bracket\n\
+            \x20 (PURE 1)\n\
+            \x20  ^\n\
+            behind an opening bracket the word of a form was wanted\n\
+            words and names are letters a to z and digits, and begin with a letter\n\
+            did you mean `pure`?\n",
+    },
+    Refused {
+        text: b"(se-1",
+        told: "line 1, column 2: `se-1` is no word of the language\n\
+            \x20 (se-1\n\
+            \x20  ^\n\
+            behind an opening bracket the word of a form was wanted\n\
+            did you mean `seq`?\n",
     },
     Refused {
         text: b"()",
@@ -77,6 +94,15 @@ const REFUSED: &[Refused<'static>] = &[
         told: "line 2, column 8: `totl` has no binder around it\n\
             \x20   (say totl))\n\
             \x20        ^\n\
+            a number or the name of a value was wanted: `v` of `(say v)`\n\
+            around it are bound: `total` (a value)\n\
+            did you mean `total`?\n",
+    },
+    Refused {
+        text: b"(let total (pure 5) (say totl-1))",
+        told: "line 1, column 26: `totl-1` has no binder around it\n\
+            \x20 (let total (pure 5) (say totl-1))\n\
+            \x20                          ^\n\
             a number or the name of a value was wanted: `v` of `(say v)`\n\
             around it are bound: `total` (a value)\n\
             did you mean `total`?\n",

@@ -1,7 +1,7 @@
 //! What is told of schedules' texts that are bad.
 
-use explanations::explain_schedule;
 use outcome_trace::{Status, ToWrite, read_schedule};
+use reasons::explain_schedule;
 use std::alloc::Global;
 use std::str;
 use std::test::Fail;

@@ -1,8 +1,8 @@
 //! Why fibers haven't ended.
 
 use crate::limits::limits;
-use explanations::{Reasons, ReplayReasons};
 use outcome_trace::read_schedule;
+use reasons::{Reasons, ReplayReasons};
 use std::alloc::Global;
 use std::str;
 use std::test::Fail;

@@ -6,7 +6,7 @@ ghost use Rattle.steal_pool.specs.Runs.{limits_of};
 use cell_registry::{Limits, RunError};
 use derived_ops::program_of;
 use effect_term::Program;
-use outcome_trace::{Refused, Report, line, read_schedule, replay, text_of_report};
+use outcome_trace::{Refused, Report, line, replay, text_of_report};
 use std::alloc::{AllocError, Global};
 use std::process::Abort;
 use std::sync::Wait;
@@ -122,35 +122,16 @@ fn replayed(
     alloc: Global,
     text: &str,
     options: Options,
-    schedule: Result<String, NoSchedule>,
+    schedule: Result<Vec<u16>, NoSchedule>,
 ) -> Result<String, Fail>
     requires limits { AreLimits (limits_of options) }
 {
     match schedule {
-        Ok(schedule) => replay_under(alloc, text, schedule.as_str(), options),
+        Ok(entries) => {
+            let program = program(alloc, text)?;
+            replay_within(alloc, &program, entries.as_slice(), options.limits())
+        }
         Err(why) => Ok(format!(in alloc; "no schedule: {why:?}")?),
-    }
-}
-
-// What a replay of the program that this text spells answers, under a schedule's text and within the limits
-// of these options.
-fn replay_under(alloc: Global, text: &str, schedule: &str, options: Options) -> Result<String, Fail>
-    requires limits { AreLimits (limits_of options) }
-{
-    let program = program(alloc, text)?;
-    let entries = read_schedule(alloc, schedule)?;
-    replay_within(alloc, &program, entries.as_slice(), limits(options))
-}
-
-// The limits of a run with these options.
-fn limits(options: Options) -> Limits
-    ensures { result ≡ limits_of options }
-{
-    Limits {
-        fibers: options.fibers,
-        refs: options.refs,
-        deferreds: options.deferreds,
-        count: options.count,
     }
 }
 

@@ -310,7 +310,7 @@ fn expect_explored<R: Abort>(rt: &R, alloc: Global, race: &Race<'_>) -> Result<(
         return Err(Fail::from(AllocError));
     };
     let answers = found.answers.as_slice();
-    assert!(rt; found.complete && found.ends, "{}", race.rule);
+    assert!(rt; found.complete, "{}", race.rule);
     assert!(rt; answers.len() == race.wanted.len(), "{}", race.rule);
     let mut met = vec![in alloc; false; race.wanted.len()]?;
     for answer in answers {

@@ -16,7 +16,7 @@ const ALONE: Runs<'static> = Runs {
     options: USUAL,
     workers: &[1, 2, 3, 4],
     budgets: &[2, 3, 64],
-    times: 1000,
+    times: 250,
 };
 
 // How many rings are run one after another in one run.

@@ -1,3 +1,3 @@
 pub mod Tallies
 pub mod Walked
-pub mod Drawn
+pub mod Drawings

@@ -7,10 +7,10 @@ use Rattle.derived_ops.specs.Tree.{Tree}
 use Rattle.cell_registry.specs.declared.limits.Limits.{Limits}
 use Rattle.cell_registry.specs.declared.limits.RunError.{RunError}
 use Rattle.cell_registry.specs.declared.limits.RunError.TheVariants as run
-use Rattle.outcome_trace.specs.declared.report.FiberReport.{FiberReport}
-use Rattle.outcome_trace.specs.Core.{World, core, entered, first_world, reported}
-use Rattle.outcome_trace.specs.Finals.{IsFinal}
-use Rattle.outcome_trace.proofs.Finality.{final_stays, fold_parts}
+use Rattle.scheduled_core.specs.declared.report.FiberReport.{FiberReport}
+use Rattle.scheduled_core.specs.Core.{World, core, entered, first_world, reported}
+use Rattle.scheduled_core.specs.Finals.{IsFinal}
+use Rattle.scheduled_core.proofs.Finality.{final_stays, fold_parts}
 use Rattle.sampled_schedules.specs.Private.Walking.{IsWalk, came}
 
 -- one more entry
@@ -57,6 +57,17 @@ further r k l w v x a b c m n most same first next room = elim next [
   | inl lacks ↦ inl lacks
   | inr goes ↦ inr (on k w v (came r x) a b c m n most first (subst (λ (l : Limits). IsWalk l v b (came r x) c n) same goes) room)
 ]
+
+-- what ends with an error ends so whatever it gives else
+error_of : {A : Type 0} → Result A RunError → RunError
+error_of (Ok a) = run.NoMemory
+error_of (Err e) = e
+
+pub erred : {A B : Type 0} (e : RunError) (k : Limits) (w x : World) (a c : List ℕ) (n : ℕ) → IsWalkOr {A = A} (Err e) k w a x c n →
+    IsWalkOr {A = B} (Err e) k w a x c n
+unfolding error_of
+erred e k w x a c n (inl lacks) = inl (ap Err (ap error_of lacks))
+erred e k w x a c n (inr goes) = inr goes
 
 -- where it went well, memory didn't run out
 pub went : {A : Type 0} (d : A) (k : Limits) (w x : World) (a c : List ℕ) (n : ℕ) → IsWalkOr (Ok d) k w a x c n → IsWalk k w a (Ok x) c n

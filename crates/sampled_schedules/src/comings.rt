@@ -4,6 +4,15 @@ ghost use Rattle.std.specs.Prelude.{◌≡◌};
 use every_schedule::Answer;
 use std::marker::Model;
 
+/// A schedule that was drawn.
+#[derive(Drop)]
+pub struct Drawn {
+    /// The schedule, and the report or the fault that it came to.
+    pub answer: Answer,
+    /// Whether it was cut short: it has as many entries as it may have, and a fiber could still go on.
+    pub cut: bool,
+}
+
 /// What some of the schedules came to.
 #[derive(Drop)]
 pub struct Coming {
@@ -11,6 +20,8 @@ pub struct Coming {
     pub answer: Answer,
     /// How many schedules came to it.
     pub times: u32,
+    /// Whether each of these schedules was cut short. So the report may be another one after more entries.
+    pub cut: bool,
 }
 
 /// What the schedules of a sample came to.

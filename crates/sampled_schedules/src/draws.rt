@@ -1,5 +1,7 @@
 //! Numbers drawn at random by a seed.
-ghost use Rattle.std.specs.Prelude.{◌<◌, ◌≤◌};
+ghost use Rattle.std.specs.Prelude.{◌≡◌, ◌%◌, ◌<◌, ◌≤◌};
+ghost use Rattle.rand_core.specs.Stream.{next_u32};
+ghost use Rattle.sampled_schedules.specs.Private.Drawing.{numbers_behind, numbers_of};
 
 use rand_core::{Rng, SeedableRng};
 use rand_xoshiro::Xoshiro256PlusPlus;
@@ -12,7 +14,9 @@ pub(crate) struct Draws {
 
 impl Draws {
     /// Those of this seed.
-    pub(crate) fn new(seed: u64) -> Draws {
+    pub(crate) fn new(seed: u64) -> Draws
+        ensures { numbers_behind result.generator ≡ numbers_of seed }
+    {
         Draws {
             generator: Xoshiro256PlusPlus::seed_from_u64(seed),
         }
@@ -21,7 +25,9 @@ impl Draws {
     /// A number below the bound.
     pub(crate) fn below(&mut self, bound: u32) -> u32
         requires { 0 < bound }
-        ensures { result < bound }
+        ensures below { result < bound }
+        ensures next { result ≡ (next_u32 (numbers_behind self.old.generator)).0 % bound }
+        ensures behind { numbers_behind self.new.generator ≡ (next_u32 (numbers_behind self.old.generator)).1 }
     {
         self.generator.next_u32() % bound
     }

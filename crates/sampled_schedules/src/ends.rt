@@ -2,7 +2,7 @@
 ghost use Rattle.std.specs.Prelude.{◌≡◌, ◌≢◌, true, false};
 
 use cell_registry::RunError;
-use outcome_trace::{FiberReport, Report};
+use scheduled_core::{FiberReport, Report};
 
 /// Whether both are one report or one fault.
 pub(crate) fn same_end(one: &Result<Report, RunError>, other: &Result<Report, RunError>) -> bool

@@ -1,6 +1,6 @@
 //! What schedules come to that are drawn at random.
 ghost use Rattle.std.specs.Prelude.{◌≡◌, ◌≢◌, ◌+◌, ◌<◌, ◌≤◌, ◌^◌, ℕ, [], ◌∷◌, length, IfErr, IfNone, IfOk, IfSome};
-ghost use Rattle.std.specs.Prelude.{OnOk};
+ghost use Rattle.std.specs.Prelude.{OnOk, true, false};
 ghost use Rattle.std.specs.Prelude.{Some as There, Err as Fails};
 ghost use Rattle.std.specs.List.{All, slice_get, sum_by};
 ghost use Rattle.derived_ops.specs.Expansion.{code_of};
@@ -9,15 +9,15 @@ ghost use Rattle.derived_ops.specs.Tree.{Tree};
 ghost use Rattle.fiber_frames.specs.Fiber.{begins};
 ghost use Rattle.fiber_frames.specs.Marks.{AreLawful};
 ghost use Rattle.cell_registry.specs.Cells.{AreLimits, Cells, opening};
-ghost use Rattle.outcome_trace.specs.Core.{core, reported};
-ghost use Rattle.outcome_trace.specs.Fitting.{AllFit, world_of};
+ghost use Rattle.scheduled_core.specs.Core.{core, reported};
+ghost use Rattle.scheduled_core.specs.Fitting.{AllFit, world_of};
 ghost use Rattle.every_schedule.specs.Explored.{HasLawfulMarks, IsReached};
 ghost use Rattle.sampled_schedules.specs.declared.comings.Coming.{Coming as TheComing};
-ghost use Rattle.sampled_schedules.specs.Sampled.{IsDrawn, IsSampleOf};
-ghost use Rattle.sampled_schedules.specs.Private.Noting.{IsNoted, came_in_all};
-ghost use Rattle.sampled_schedules.specs.Private.Walking.{came};
+ghost use Rattle.sampled_schedules.specs.Sampled.{IsCutShort, IsDrawing, IsSampleOf, StaysSo};
+ghost use Rattle.sampled_schedules.specs.Private.Noting.{IsNoted, came_in_all, raised};
+ghost use Rattle.sampled_schedules.specs.Private.Walking.{came, was_cut};
 
-use crate::comings::{Coming, Comings, Sample};
+use crate::comings::{Coming, Comings, Drawn, Sample};
 use crate::draws::Draws;
 use crate::ends::same_end;
 use crate::walks::walk;
@@ -25,7 +25,7 @@ use cell_registry::{Limits, PlainRegistry, RunError};
 use effect_term::Program;
 use every_schedule::{Answer, Schedule};
 use fiber_frames::Config;
-use outcome_trace::{Report, first_fibers, report_of_fibers};
+use scheduled_core::{Report, first_fibers, report_of_fibers};
 use std::alloc::{AllocError, Global};
 
 /// What so many schedules of a program come to that are drawn at random by a seed: the different reports and faults,
@@ -34,8 +34,9 @@ use std::alloc::{AllocError, Global};
 /// Each entry is of a fiber that can go on, chosen among all of these; one fiber has some entries in a row, mostly few
 /// and at times many. A schedule ends where every fiber has ended or rests, or with the call that is refused, or where
 /// it has as many entries as there may be. So a report whose schedule is shorter is one that no further entry changes,
-/// and an exploration that is complete lists it. A report that was cut short may be another. The same seed gives the
-/// same sample everywhere. The limits are in their ranges ([`Limits`]). [`RunError::NoMemory`] is the only error.
+/// and an exploration that is complete lists it. Where each schedule that came to a report was cut short, the report
+/// is marked so, since it may be another one after more entries. The same seed gives the same sample everywhere. The
+/// limits are in their ranges ([`Limits`]). [`RunError::NoMemory`] is the only error.
 pub fn sample(
     alloc: Global,
     program: &Program,
@@ -49,6 +50,9 @@ pub fn sample(
         reported (core (code_of (source_of program.now)) limits c.answer.schedule) ≡ c.answer.end) it.comings) }
     ensures stays { IfOk result (λ it. All (λ c. length c.answer.schedule < entries →
         IsReached (code_of (source_of program.now)) limits c.answer) it.comings) }
+    ensures uncut { IfOk result (λ it. All (λ c. c.cut ≡ false →
+        StaysSo (code_of (source_of program.now)) limits c.answer.end) it.comings) }
+    ensures cut { IfOk result (λ it. All (λ c. c.cut ≡ true → IsCutShort entries c.answer) it.comings) }
     ensures tally { IfOk result (λ it. IsSampleOf (code_of (source_of program.now)) limits entries times it.comings) }
     ensures counted { IfOk result (λ it. sum_by (λ c. c.times) it.comings ≡ times) }
     ensures schedules { IfOk result (λ it. it.schedules ≡ times) }
@@ -83,11 +87,11 @@ fn draw(
     limits: Limits,
     draws: &mut Draws,
     most: usize,
-) -> Result<Answer, AllocError>
+) -> Result<Drawn, AllocError>
     requires limits { AreLimits limits }
     requires fits { AllFit (world_of first.now (opening limits)) }
-    ensures drawn { IfOk result (λ a. (code : Tree) → first.now ≡ begins 0 code ∷ [] → IsDrawn code limits most a) }
-    ensures lawful { IfOk result HasLawfulMarks }
+    ensures drawn { IfOk result (λ d. (code : Tree) → first.now ≡ begins 0 code ∷ [] → IsDrawing code limits most d) }
+    ensures lawful { IfOk result (λ d. HasLawfulMarks d.answer) }
 {
     let mut fibers = copies(alloc, first)?;
     let mut registry = PlainRegistry::new(
@@ -99,11 +103,23 @@ fn draw(
     )?;
     let mut schedule = Vec::new(alloc);
     let walked = walk(&mut fibers, &mut registry, &mut schedule, draws, most);
+    let cut = was_cut(&walked);
     let end = end(alloc, walked, fibers)?;
-    Ok(Answer {
+    let answer = Answer {
         schedule: Schedule::new(schedule),
         end,
-    })
+    };
+    Ok(Drawn { answer, cut })
+}
+
+// Whether the entries were cut short.
+fn was_cut(walked: &Result<bool, RunError>) -> bool
+    ensures { result ≡ was_cut walked.now }
+{
+    match walked {
+        Ok(cut) => *cut,
+        Err(_) => false,
+    }
 }
 
 // The same fibers once more.
@@ -120,7 +136,7 @@ fn copies(alloc: Global, fibers: &[Config]) -> Result<Vec<Config>, AllocError>
 // What the fibers have come to, or the fault that ended their schedule. Want of memory is no end.
 fn end(
     alloc: Global,
-    walked: Result<(), RunError>,
+    walked: Result<bool, RunError>,
     fibers: Vec<Config>,
 ) -> Result<Result<Report, RunError>, AllocError>
     ensures end { IfOk result (λ end. (cells : Cells) → end ≡ reported (came walked (world_of fibers.items cells))) }
@@ -128,22 +144,36 @@ fn end(
     ensures lawful { IfOk result (λ end. IfOk end (λ r. All (λ f. AreLawful f.marks f.outcome) r.fibers)) }
 {
     match walked {
-        Ok(()) => Ok(Ok(report_of_fibers(alloc, fibers)?)),
+        Ok(_) => Ok(Ok(report_of_fibers(alloc, fibers)?)),
         Err(RunError::NoMemory) => Err(AllocError),
         Err(fault) => Ok(Err(fault)),
     }
 }
 
 // One more schedule came to this.
-fn note(comings: &mut Vec<Coming>, answer: Answer) -> Result<(), AllocError>
+fn note(comings: &mut Vec<Coming>, drawn: Drawn) -> Result<(), AllocError>
     requires { came_in_all comings.old.items + 1 < 2 ^ 32 }
-    ensures { OnOk result (IsNoted comings.old.items answer comings.new.items) }
+    ensures { OnOk result (IsNoted comings.old.items drawn comings.new.items) }
 {
+    let Drawn { answer, cut } = drawn;
     match place(comings.as_slice(), &answer) {
-        Some(place) => comings[place].times += 1,
-        None => comings.push(Coming { answer, times: 1 })?,
+        Some(place) => raise(&mut comings[place], cut),
+        None => comings.push(Coming {
+            answer,
+            times: 1,
+            cut,
+        })?,
     }
     Ok(())
+}
+
+// One more schedule came to it, which was cut short or wasn't.
+fn raise(coming: &mut Coming, cut: bool)
+    requires { coming.old.times + 1 < 2 ^ 32 }
+    ensures { coming.new ≡ raised coming.old cut }
+{
+    coming.times += 1;
+    coming.cut = coming.cut && cut;
 }
 
 // Where an answer with the same end stands.

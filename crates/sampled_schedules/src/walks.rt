@@ -1,44 +1,57 @@
 //! One schedule, drawn entry by entry while the fibers make their moves.
-ghost use Rattle.std.specs.Prelude.{◌≡◌, ◌⊎◌, ◌+◌, ◌++◌, ◌<◌, ◌≤◌, [], ◌∷◌, length, IfNone, IfSome, OnOk, Err as Fails};
-ghost use Rattle.outcome_trace.specs.Finals.{IsFinal};
-ghost use Rattle.outcome_trace.specs.Fitting.{AllFit, world_of};
-ghost use Rattle.sampled_schedules.specs.Private.Walking.{IsWalk, came};
+ghost use Rattle.std.specs.Prelude.{◌≡◌, ◌⊎◌, ◌+◌, ◌++◌, ◌<◌, ◌≤◌, [], ◌∷◌, length, IfNone, IfOk, IfSome, OnOk};
+ghost use Rattle.std.specs.Prelude.{Err as Fails, true, false};
+ghost use Rattle.scheduled_core.specs.Finals.{IsFinal};
+ghost use Rattle.scheduled_core.specs.Fitting.{AllFit, world_of};
+ghost use Rattle.sampled_schedules.specs.Private.Walking.{HasUnendedFiber, IsWalk, came};
 
 use crate::draws::Draws;
 use cell_registry::{PlainRegistry, RunError};
 use effect_term::facts_of;
 use fiber_frames::Config;
-use outcome_trace::{enter, is_done};
+use scheduled_core::{enter, is_done};
 use std::alloc::AllocError;
 
-/// Entries to the end, where no fiber can go on, or as many as there may be.
+/// Entries to the end, where no fiber can go on, or as many as there may be. Whether they were cut short: there are as
+/// many as there may be, and a fiber could still go on.
 pub(crate) fn walk(
     fibers: &mut Vec<Config>,
     registry: &mut PlainRegistry,
     schedule: &mut Vec<u16>,
     draws: &mut Draws,
     most: usize,
-) -> Result<(), RunError>
+) -> Result<bool, RunError>
     requires fits { AllFit (world_of fibers.old.items registry.old.state) }
     requires start { schedule.old.items ≡ [] }
     ensures walked { (result ≡ Fails RunError.NoMemory) ⊎
         IsWalk registry.old.limits (world_of fibers.old.items registry.old.state) schedule.old.items
         (came result (world_of fibers.new.items registry.new.state)) schedule.new.items most }
-    ensures ended { OnOk result (length schedule.new.items < most →
-        IsFinal (world_of fibers.new.items registry.new.state)) }
+    ensures ended { IfOk result (λ cut. cut ≡ false → IsFinal (world_of fibers.new.items registry.new.state)) }
+    ensures cut { IfOk result (λ cut. cut ≡ true →
+        (length schedule.new.items ≡ most) × HasUnendedFiber fibers.new.items) }
 {
-    for _ in 0..most {
-        let made = schedule.len();
-        if made >= most {
-            return Ok(());
-        }
+    while schedule.len() < most {
         let Some(number) = pick(fibers.as_slice(), registry, draws) else {
-            return Ok(());
+            return Ok(false);
         };
-        let many = (draws.row() as usize).min(most - made);
+        let many = (draws.row() as usize).min(most - schedule.len());
         make_row(fibers, registry, schedule, number, many)?;
     }
-    Ok(())
+    Ok(could_go_on(fibers.as_slice(), registry))
+}
+
+// Whether a fiber could still go on.
+fn could_go_on(fibers: &[Config], registry: &PlainRegistry) -> bool
+    requires { AllFit (world_of fibers.now registry.now.state) }
+    ensures none { result ≡ false → IsFinal (world_of fibers.now registry.now.state) }
+    ensures some { result ≡ true → HasUnendedFiber fibers.now }
+{
+    for fiber in fibers {
+        if !is_done(fiber, registry) {
+            return true;
+        }
+    }
+    false
 }
 
 // One of the fibers that can go on, each as likely as another. `None` where none can.

@@ -1,12 +1,11 @@
 //! Workers that run the fibers of a program on work-stealing queues, and what those have come to.
 //!
-//! The crate stands on tasks (`fiber_poll`), on the bay where they lie (`wait_bay`), on the core and
-//! its reports (`outcome_trace`), and on the kit's `crossbeam_deque` for the queues, `crossbeam_utils`
-//! for parking and `once_cell` for the first fault. [`run`] starts the workers. Each takes numbers of
-//! fibers from its queue, takes their tasks from the bay, makes turns of them and puts them back, until
-//! no fiber can go on. What they left unfinished, which is nothing where each wake arrived, one thread
-//! finishes. [`gather`] takes the tasks of one registry and one code, whoever moved them and in whatever
-//! order, and reads a report off them.
+//! The crate stands on tasks (`fiber_poll`), on the bay where they lie (`wait_bay`), on the queues of ready
+//! numbers and the first fault (`ready_queues`), on how a run ends (`run_ends`), on the notes of a recorded
+//! run (`run_recording`), and on the kit's `crossbeam_utils` for parking. [`run`] starts the workers. Each
+//! takes numbers of fibers from its queue, takes their tasks from the bay, makes turns of them and puts them
+//! back, until no fiber can go on. What they left unfinished, which is nothing where each wake arrived, one
+//! thread finishes.
 //!
 //! It promises that every report is one that the core gives under some schedule, and that a run's is
 //! complete ([`run_told`]) unless a fiber has used its moves. That wakes arrive and that workers run at
@@ -25,29 +24,22 @@
 //! ```
 #![tactic(auto)]
 
-mod deque;
-mod fault;
-mod finishing;
 mod gate;
-mod gathering;
 mod idle;
-mod injector;
 pub mod laws;
 mod options;
 mod queues;
 mod recorded;
 mod running;
 mod serving;
-mod settled_entries;
-mod traffic;
 mod watch;
 mod worker;
 mod worker_seat;
 mod workers;
 
-pub use finishing::RunEnd;
 pub use gate::{Gate, OpenGate};
-pub use gathering::gather;
 pub use options::Options;
-pub use recorded::{NoSchedule, Recorded, run_recorded};
+pub use recorded::run_recorded;
+pub use run_ends::{Recorded, RunEnd, gather};
+pub use run_recording::NoSchedule;
 pub use running::{run, run_told};

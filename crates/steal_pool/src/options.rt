@@ -1,6 +1,8 @@
 //! How a run goes.
 ghost use Rattle.std.specs.Prelude.{◌≡◌};
 
+use cell_registry::Limits;
+
 /// How a run goes. [`Options::new`] has the values by default.
 #[derive(Clone, Copy, Debug)]
 pub struct Options {
@@ -23,6 +25,8 @@ pub struct Options {
 }
 
 impl Options {
+    ghost use Rattle.steal_pool.specs.Runs.{limits_of};
+
     /// The options by default.
     pub fn new() -> Options
         ensures { result ≡ record {
@@ -43,6 +47,18 @@ impl Options {
             count: 1_099_511_627_775,
             budget: 64,
             moves: 100_000,
+        }
+    }
+
+    /// The limits of a run with these options.
+    pub fn limits(self) -> Limits
+        ensures { result ≡ limits_of self }
+    {
+        Limits {
+            fibers: self.fibers,
+            refs: self.refs,
+            deferreds: self.deferreds,
+            count: self.count,
         }
     }
 }

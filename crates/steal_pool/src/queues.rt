@@ -1,7 +1,6 @@
 //! The queues as one worker sees them.
-use crate::deque::{ReadyDeque, Victim};
-use crate::injector::InjectorEnd;
 use crossbeam_deque::Steal;
+use ready_queues::{InjectorEnd, ReadyDeque, Victim};
 use std::sync::Wait;
 
 /// A worker's own queue, its ends of the others' queues, of which the next worker's stands first,

@@ -5,19 +5,17 @@ ghost use Rattle.cell_registry.specs.Cells.{AreLimits};
 ghost use Rattle.cell_registry.specs.Passes.{first_pass};
 ghost use Rattle.derived_ops.specs.Expansion.{code_of};
 ghost use Rattle.derived_ops.specs.Reading.{source_of};
-ghost use Rattle.outcome_trace.specs.Covers.{IsInEachCover};
-ghost use Rattle.outcome_trace.specs.Finals.{IsFinalReport, IsSettledReport};
-ghost use Rattle.outcome_trace.specs.Stands.{IsOfSomeSchedule};
-ghost use Rattle.steal_pool.specs.Gathering.{IsLawful};
+ghost use Rattle.ready_queues.specs.Faults.{IsFaultWithin};
+ghost use Rattle.run_ends.specs.Ends.{HasUnended, IsEnd, TellsUnended};
+ghost use Rattle.run_ends.specs.Gathering.{IsLawful};
+ghost use Rattle.run_ends.specs.Leaving.{Gathered};
+ghost use Rattle.scheduled_core.specs.Covers.{IsInEachCover};
+ghost use Rattle.scheduled_core.specs.Finals.{IsFinalReport, IsSettledReport};
+ghost use Rattle.scheduled_core.specs.Stands.{IsOfSomeSchedule};
+ghost use Rattle.steal_pool.specs.Runs.{limits_of};
 ghost use Rattle.wait_bay.specs.Bays.{IsSeatOf};
-ghost use Rattle.steal_pool.specs.Private.Gathered.{Gathered};
-ghost use Rattle.steal_pool.specs.Runs.{HasUnended, IsEnd, IsFaultWithin, TellsUnended, limits_of};
 
-use crate::fault::{FaultCell, FirstFault, Learned};
-use crate::finishing::{Leavings, RunEnd};
 use crate::gate::Gate;
-use crate::injector::{InjectorEnd, empty_injector};
-use crate::laws;
 use crate::options::Options;
 use crate::watch::{Unrecorded, Watch};
 use crate::worker::{Shared, Worker};
@@ -27,7 +25,9 @@ use derived_ops::{Code, expand};
 use effect_term::Program;
 use fiber_poll::first;
 use once_cell::race::OnceBox;
-use outcome_trace::{EntryLog, NoEntries, Report};
+use ready_queues::{FaultCell, FirstFault, InjectorEnd, Learned, empty_injector, within};
+use run_ends::{Leavings, RunEnd};
+use scheduled_core::{EntryLog, NoEntries, Report};
 use std::alloc::Global;
 use std::marker::Brand;
 use std::sync::Wait;
@@ -104,7 +104,7 @@ pub fn run_told<R: Threads + Wait + Sync, G: Gate>(
         &mut NoEntries,
     ) {
         Ok(end) => Ok(end),
-        Err(fault) => Err(laws::within(options, fault)),
+        Err(fault) => Err(within(options.limits(), fault)),
     }
 }
 
@@ -227,6 +227,15 @@ fn start_all<'q, 'b, 'a, C: FaultCell + Send + Sync, R: Threads + Wait + Sync, W
         if threads.is_empty() {
             return Err(RunError::NoWorker);
         }
-        Ok(shared.first_fault.join_all(rt, threads))
+        Ok(join_all(rt, &shared.first_fault, threads))
     })
+}
+
+// Waits for the workers to end, and answers the first fault that one of them met.
+fn join_all<C: FaultCell, R: Threads>(
+    rt: &R,
+    first_fault: &FirstFault<'_, C>,
+    threads: Vec<JoinHandle<Learned<C>>>,
+) -> Option<RunError> {
+    first_fault.known_to_one(threads.into_iter().map(|thread| thread.join(rt)))
 }

@@ -2,13 +2,13 @@
 ghost use Rattle.std.specs.Prelude.{◌≡◌, ◌<◌};
 ghost use Rattle.wait_bay.specs.Names.{IsNamed};
 
-use crate::fault::FaultCell;
 use crate::queues::Queues;
 use crate::watch::Watch;
 use crate::worker::Shared;
 use crate::worker_seat::WorkerSeat;
 use cell_registry::RunError;
 use fiber_poll::{FiberTask, Topic, Turn};
+use ready_queues::FaultCell;
 use std::sync::Wait;
 
 impl<'g, 'f, W: Watch, C: FaultCell> Shared<'g, 'f, W, C> {

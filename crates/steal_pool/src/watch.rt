@@ -1,9 +1,9 @@
 //! Who is told of the turns of a run, and of what its workers note.
 
 use crate::gate::Gate;
-use call_order::{Notes, TurnLog, WorkerLog};
 use fiber_poll::NoLog;
 use once_cell::race::OnceBox;
+use run_recording::{Notes, TurnLog, WorkerLog};
 use std::alloc::{AllocError, Global};
 use std::sync::atomic::{AtomicBool, AtomicU64, Ordering};
 

@@ -1,7 +1,6 @@
 //! One worker: where its numbers come from, and its life.
 ghost use Rattle.std.specs.Prelude.{◌<◌};
 
-use crate::fault::{FaultCell, FirstFault, Learned};
 use crate::idle::{Idle, Sleeper};
 use crate::laws;
 use crate::queues::Queues;
@@ -10,6 +9,7 @@ use crate::worker_seat::WorkerSeat;
 use cell_registry::RunError;
 use crossbeam_utils::Backoff;
 use crossbeam_utils::sync::Parker;
+use ready_queues::{FaultCell, FirstFault, Learned};
 use std::alloc::{AllocError, Global};
 use std::mem::drop;
 use std::sync::Wait;

@@ -4,9 +4,9 @@ ghost use Rattle.wait_bay.specs.Bays.{IsSeatOf};
 ghost use Rattle.wait_bay.specs.Names.{IsNamed};
 ghost use Rattle.steal_pool.specs.Runs.{ChildIsNamed};
 
-use call_order::TurnLog;
 use cell_registry::RunError;
 use fiber_poll::{FiberTask, Topic, Turn};
+use run_recording::TurnLog;
 use std::marker::Model;
 use std::sync::Wait;
 use wait_bay::{Bay, BaySeat};

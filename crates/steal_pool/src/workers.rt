@@ -2,12 +2,11 @@
 ghost use Rattle.std.specs.Prelude.{◌≡◌, ◌<◌};
 ghost use Rattle.wait_bay.specs.Bays.{IsSeatOf};
 
-use crate::deque::{ReadyDeque, Victim};
 use crate::idle::{Idle, Sleeper};
-use crate::injector::{InjectorEnd, ReadyInjector};
 use crate::queues::Queues;
 use crate::worker::Worker;
 use crate::worker_seat::WorkerSeat;
+use ready_queues::{InjectorEnd, ReadyDeque, ReadyInjector, Victim};
 use std::alloc::{AllocError, Global};
 use wait_bay::{Bay, BaySeat};
 

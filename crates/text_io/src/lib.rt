@@ -1,10 +1,10 @@
-//! Texts that come in from one device and go out to another: devices, whole texts, the texts of
-//! schedules, and how a text is answered and its faults are told.
+//! Texts that come in from one device and go out to another: devices, whole texts, the texts of schedules, and faults
+//! that are told.
 //!
-//! It stands on the standard library, and on the kit's `arrayvec`, `itoa` and `thiserror`. It promises
-//! that a text is read whole or its fault is told, that a schedule's text is accepted exactly where it
-//! is well formed, with the place of its first bad item where it isn't, and that what goes out is
-//! exactly the answer to the text, or as much of its front as the device took, or the line of the fault.
+//! It stands on the standard library, and on the kit's `arrayvec`, `itoa` and `thiserror`. It promises that a text is
+//! read whole or its fault is told, that a schedule's text is accepted exactly where it is well formed, with the place
+//! of its first bad item where it isn't, and that what goes out is exactly the text, or as much of its front as the
+//! device took, or the line of the fault.
 #![tactic(auto)]
 
 mod device;
@@ -15,7 +15,6 @@ mod schedule_items;
 mod status;
 mod telling;
 mod text;
-mod text_order;
 mod wrapped;
 
 pub use device::{ReadError, TextIn, TextOut, WriteFailed};
@@ -23,7 +22,6 @@ pub use fault::TextFault;
 pub use schedule::{MOST_ENTRIES, ScheduleError, read_schedule};
 pub use schedule_items::schedule_text;
 pub use status::Status;
-pub use telling::{obey_text, refuse_schedule, tell_fault};
+pub use telling::{refuse_schedule, status_of, tell_fault};
 pub use text::{TEXT_BOUND, read_text, write_text};
-pub use text_order::{Answer, TextOrder, answer_text};
 pub use wrapped::{FromRead, Sink, Source, ToWrite};

@@ -6,8 +6,7 @@ use exploration_text::{Bounds, ExploreOrder, Want, read_want};
 use outcome_trace::{Answer, Limits, TextOrder, read_schedule};
 use std::alloc::Global;
 use std::test::Fail;
-use timeline_svg::PictureOrder;
-use timeline_text::{ExploreTimelineOrder, TimelineOrder};
+use timelines::{ExploreTimelineOrder, PictureOrder, TimelineOrder};
 
 /// Limits that small programs keep, with so many fibers (1 to 16).
 pub fn limits(fibers: u16) -> Limits

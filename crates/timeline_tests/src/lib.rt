@@ -1,4 +1,4 @@
-//! Tests of the public calls of `fiber_events`, `timeline_text` and `timeline_svg`, with events and timelines that are
+//! Tests of the public calls of `fiber_events` and `timelines`, with events and timelines that are
 //! worked by hand from the table of moves.
 //!
 //! The libraries promise that the events are those of the core, and what a timeline and a picture stand behind or in
@@ -17,4 +17,4 @@ mod explorations;
 #[cfg(test)]
 mod pictures;
 #[cfg(test)]
-mod timelines;
+mod replays;

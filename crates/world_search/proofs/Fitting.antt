@@ -9,8 +9,8 @@ use Rattle.world_search.specs.declared.graphs.Node.{Node}
 use Rattle.world_search.specs.declared.graphs.Edge.{Edge}
 use Rattle.world_search.specs.declared.graphs.Noted.{Noted}
 use Rattle.world_search.specs.Lists.{IsMore}
-use Rattle.world_search.specs.Private.Shapes.{AreNotedOnce, IsNotedIn, Shape, with_node, with_edge, with_noted, with_quiet, with_faulting}
-use Rattle.world_search.specs.Private.Graphs.{CanEnter, IsEntry, IsReached, IsEdge, IsNoted, IsTold, IsMet, Stays, IsQuiet, CanFault, Fits, Grows, IsDone}
+use Rattle.world_search.specs.Private.Shapes.{AreNotedOnce, IsNotedIn, Shape, with_node, with_edge, with_noted, with_quiet}
+use Rattle.world_search.specs.Private.Graphs.{CanEnter, IsEntry, IsReached, IsEdge, IsNoted, IsTold, IsMet, Stays, IsQuiet, Fits, Grows, IsDone}
 use Rattle.world_search.proofs.Lists.{more_same, more_by, more_more, more_get, more_back, more_long, get_end, set_other}
 
 pub grows_same : {W E : Type 0} (ws : List W) (es : List E) (s : Shape) → Grows ws ws es es s s
@@ -109,9 +109,6 @@ module _ {W E R : Type 0} (step : W → ℕ → Result W E) (report : W → R) (
     pub grow_quiet : (i : ℕ) → i < length ws → IsQuiet step report most longest ws es s i → IsQuiet step report most longest vs ds t i
     grow_quiet i low h w at f = grow_stays i w (step w f) (h w (more_back ws vs i w g.worlds low at) f)
 
-    pub grow_fault : (i : ℕ) → i < length ws → CanFault step report most longest ws es s i → CanFault step report most longest vs ds t i
-    grow_fault i low h w at = let there = h w (more_back ws vs i w g.worlds low at) in (there.0, there.1, there.2, grow_told there.1 there.3)
-
     pub grow_done : (i : ℕ) → i < length ws → slice_get t.unsettled i ≡ slice_get s.unsettled i → IsDone step report most longest ws es s i →
         IsDone step report most longest vs ds t i
     grow_done i low flag h = record {
@@ -134,11 +131,8 @@ module _ {W E R : Type 0} (step : W → ℕ → Result W E) (report : W → R) (
             noted = λ k d at. grow_noted ws vs es ds s s g d (h.noted k d at);
             once = h.once;
             unsettled = h.unsettled;
-            faulting = h.faulting;
             quiet = λ i at. let low = slice_get_within s.unsettled i false at in let a = h.unsettled in let k = h.known in
                 grow_quiet ws vs es ds s s g i (omega arith) (h.quiet i at);
-            faults = λ i at. let low = slice_get_within s.faulting i true at in let a = h.faulting in let k = h.known in
-                grow_fault ws vs es ds s s g i (omega arith) (h.faults i at);
           }
 
       pub fits_node : (n : Node) (w : W) → slice_get ws (length s.nodes) ≡ Some w → IsEntry step report most longest ws es s.nodes n (Ok w) →
@@ -162,14 +156,9 @@ module _ {W E R : Type 0} (step : W → ℕ → Result W E) (report : W → R) (
             noted = λ k d at. grow_noted ws ws es es s t g d (h.noted k d at);
             once = h.once;
             unsettled = let a = length-append s.unsettled (true ∷ []) in let b = h.unsettled in omega arith;
-            faulting = let a = length-append s.faulting (false ∷ []) in let b = h.faulting in omega arith;
             quiet = λ i at. elim (get_end s.unsettled true false i at) [
               | inl old ↦ h.quiet i old
               | inr last ↦ let no : true ≡ false = last.1 in absurd (cc)
-            ];
-            faults = λ i at. elim (get_end s.faulting false true i at) [
-              | inl old ↦ h.faults i old
-              | inr last ↦ let no : false ≡ true = last.1 in absurd (cc)
             ];
           }
 
@@ -188,10 +177,8 @@ module _ {W E R : Type 0} (step : W → ℕ → Result W E) (report : W → R) (
             noted = h.noted;
             once = h.once;
             unsettled = h.unsettled;
-            faulting = h.faulting;
             quiet = λ i at. let low = slice_get_within s.unsettled i false at in let a = h.unsettled in let k = h.known in
                 grow_quiet ws ws es es s t g i (omega arith) (h.quiet i at);
-            faults = h.faults;
           }
 
       pub fits_noted : (n : Noted) → IsNoted step report most longest ws es s.nodes n → (IsNotedIn s.noted n.fault → ⊥) →
@@ -210,10 +197,7 @@ module _ {W E R : Type 0} (step : W → ℕ → Result W E) (report : W → R) (
             ];
             once = noted_once s.noted n h.once first;
             unsettled = h.unsettled;
-            faulting = h.faulting;
             quiet = h.quiet;
-            faults = λ i at. let low = slice_get_within s.faulting i true at in let a = h.faulting in let k = h.known in
-                grow_fault ws ws es es s t g i (omega arith) (h.faults i at);
           }
 
       pub fits_quiet : (i : ℕ) → IsQuiet step report most longest ws es s i → Fits step report most longest ws es (with_quiet s i)
@@ -225,25 +209,7 @@ module _ {W E R : Type 0} (step : W → ℕ → Result W E) (report : W → R) (
         noted = h.noted;
         once = h.once;
         unsettled = length-set s.unsettled i false ∙ h.unsettled;
-        faulting = h.faulting;
         quiet = λ j at. dite (ℕ_discrete j i)
             (λ is. subst (λ n. IsQuiet step report most longest ws es s n) (sym is) new)
             (λ isnt. h.quiet j (sym (set_other s.unsettled i j false isnt) ∙ at));
-        faults = h.faults;
-      }
-
-      pub fits_faulting : (i : ℕ) → CanFault step report most longest ws es s i → Fits step report most longest ws es (with_faulting s i)
-      fits_faulting i new = record {
-        some = h.some;
-        known = h.known;
-        nodes = h.nodes;
-        edges = h.edges;
-        noted = h.noted;
-        once = h.once;
-        unsettled = h.unsettled;
-        faulting = length-set s.faulting i true ∙ h.faulting;
-        quiet = h.quiet;
-        faults = λ j at. dite (ℕ_discrete j i)
-            (λ is. subst (λ n. CanFault step report most longest ws es s n) (sym is) new)
-            (λ isnt. h.faults j (sym (set_other s.faulting i j true isnt) ∙ at));
       }

@@ -53,7 +53,7 @@ module _ {W E R : Type 0} (step : W → ℕ → Result W E) (report : W → R) w
     grown_from s w x f (Err e) q rest r = let stuck : run step (Err e) s ≡ Err e = run_fault step e s in absurd (cc)
 
     -- the reports grow along schedules
-    grown : (s : List ℕ) (w x : W) → run step (Ok w) s ≡ Ok x → Grown w x
+    pub grown : (s : List ℕ) (w x : W) → run step (Ok w) s ≡ Ok x → Grown w x
     grown [] w x r = let same : w ≡ x = cc in inl (ap report (sym same))
     grown (f ∷ s) w x r = grown_from s w x f (step w f) refl (λ v. grown s v x) r
 

@@ -7,8 +7,8 @@ use Rattle.world_search.specs.declared.graphs.Edge.{Edge}
 use Rattle.world_search.specs.declared.landings.Landing.TheVariants as to
 use Rattle.world_search.specs.declared.expanding.Came.TheVariants as came
 use Rattle.world_search.specs.Landings.{LandsAt}
-use Rattle.world_search.specs.Private.Shapes.{Shape, with_edge, with_faulting, Keeps, Notes, IsNotedIn}
-use Rattle.world_search.specs.Private.Graphs.{CanEnter, IsEntry, IsTold, IsMet, Leaves, CanFault, Fits, Grows, ComesTo}
+use Rattle.world_search.specs.Private.Shapes.{Shape, with_edge, Keeps, Notes, IsNotedIn}
+use Rattle.world_search.specs.Private.Graphs.{CanEnter, IsEntry, IsTold, IsMet, Leaves, Fits, Grows, ComesTo}
 use Rattle.world_search.proofs.Lists.{get_last, get_low}
 use Rattle.world_search.proofs.Fitting.{grows_same, grows_node, fits_node, fits_edge, fits_noted}
 
@@ -94,13 +94,10 @@ module _ {W E R : Type 0} (step : W → ℕ → Result W E) (report : W → R) (
     told_at : (e : E) → slice_get es j ≡ Some e → IsTold step report most longest ws es t e
     told_at e at = let k = noted_in in (k.0, k.1, k.2, subst (λ i. slice_get es i ≡ Some e) (sym k.3) at)
 
-    pub noted_fault : CanFault step report most longest ws es t n.from
-    noted_fault w at = let l = lands w at in (n.fiber, l.0, l.2, told_at l.0 l.1)
-
     pub noted_leaves : (w : W) → slice_get ws n.from ≡ Some w →
-        ComesTo step report most longest ws es (with_faulting t n.from) n.from w came.Leaves (step w n.fiber)
+        ComesTo step report most longest ws es t n.from w came.Leaves (step w n.fiber)
     noted_leaves w at =
         let l = lands w at in (
-          subst (IsMet step report most longest ws es (with_faulting t n.from)) (sym l.2) (told_at l.0 l.1),
+          subst (IsMet step report most longest ws es t) (sym l.2) (told_at l.0 l.1),
           subst (Leaves step report most longest ws es w) (sym l.2) tt,
         )

@@ -1,5 +1,6 @@
 -- What the answers of a search say, from what is known of the worlds.
-use Rattle.std.proofs.Common.{◌≡◌, ℕ, ◌<◌, ◌≤◌, Bool, true, false, List, [], ◌∷◌, ◌++◌, length, Some, Result, Ok, Err, refl, sym, ap, ◌∙◌, subst, arith}
+use Rattle.std.proofs.Common.{◌≡◌, ◌≢◌, ℕ, zero, suc, ◌+◌, ◌<◌, ◌≤◌, Bool, true, false, List, [], ◌∷◌, ◌++◌, length, Some, Result}
+use Rattle.std.proofs.Common.{Ok, Err, refl, sym, ap, ◌∙◌, subst, arith}
 use Rattle.std.specs.List.{slice_get, All}
 use Rattle.std.proofs.lemmas.Option.{same_Some, slice_get_within}
 use mathlib.Core.Logic.{◌⊎◌, inl, inr}
@@ -14,15 +15,27 @@ use Rattle.world_search.specs.Private.Flags.{AreWithin, LeadsOn, AreFlagged, Kee
 use Rattle.world_search.specs.Private.Flags.LeadsOn.{Here, Along}
 use Rattle.world_search.specs.Private.Shapes.{Shape}
 use Rattle.world_search.specs.Private.Graphs.{IsReached, IsTold, IsMet, Stays, Leaves, Fits, IsDone}
-use Rattle.world_search.specs.Private.Listed.{AreListed, IsWorldListed, IsFaultListed, IsNamed, CanEnd}
+use Rattle.world_search.specs.Private.Listed.{AreListed, IsWorldListed, IsFaultListed, IsNamed}
 use Rattle.world_search.proofs.Closed.{IsOf, StaysIn, closed_run, run-append, settled, settled_next, settled_stays}
 use Rattle.world_search.proofs.Lists.{get_low, all_from}
 use Rattle.world_search.proofs.Paths.{path_long, path_runs, path_numbers, reached_short}
 use Rattle.world_search.proofs.Answering.{named_fault}
+use Rattle.world_search.proofs.Free.{grown}
+use Rattle.world_search.specs.Free.{AreGrowing}
+
+-- the sizes of all worlds together
+abbrev total : {W : Type 0} → (W → ℕ) → List W → ℕ
+total size [] = 0
+total size (w ∷ ws) = size w + total size ws
+
+part_total : {W : Type 0} (size : W → ℕ) (ws : List W) (i : ℕ) (w : W) → slice_get ws i ≡ Some w → size w ≤ total size ws
+part_total size [] i w at = absurd (cc)
+part_total size (v ∷ ws) zero w at = let same = ap size (same_Some v w at) in omega arith
+part_total size (v ∷ ws) (suc i) w at = let rest = part_total size ws i w at in omega arith
 
 -- with other flags
 abbrev pub flagged : Shape → List Bool → Shape
-flagged s flags = record { nodes = s.nodes; edges = s.edges; noted = s.noted; unsettled = flags; faulting = s.faulting }
+flagged s flags = record { nodes = s.nodes; edges = s.edges; noted = s.noted; unsettled = flags }
 
 module _ {W E R : Type 0} (step : W → ℕ → Result W E) (report : W → R) (most longest : ℕ) (ws : List W) (es : List E) (s : Shape)
     (h : Fits step report most longest ws es s) where
@@ -136,26 +149,85 @@ module _ {W E R : Type 0} (step : W → ℕ → Result W E) (report : W → R) (
             let rest = leads_run e.to j on edge.next edge.to in
             (edge.fiber ∷ rest.0, rest.1, rest.2, ap (λ x. run step x rest.0) leads ∙ rest.3)
 
-        end_at : (y : Result W E) → Met y → ((i : ℕ) → i < length s.nodes → CanEnd (flagged s flags) i) → (more : List ℕ) ×
-            IsEnd step report ws es answers (run step y more)
-        end_at (Err e) m ends = ([], told_fault e m)
-        end_at (Ok w) m ends =
-            let led = ends m.0 m.1 in
-            let on = leads_run m.0 led.0 led.1 w m.2 in
-            elim led.2 [
-              | inl bare ↦ (on.0, subst (IsEnd step report ws es answers) (sym on.3) (unflagged_settled led.0 on.1 bare on.2, told led.0 on.1 bare on.2))
-              | inr marked ↦
-                  let fault = h.faults led.0 marked on.1 on.2 in
-                  let last : run step (Ok w) (on.0 ++ (fault.0 ∷ [])) ≡ Err fault.1 = run-append step (Ok w) on.0 (fault.0 ∷ []) ∙
-                  ap (λ x. run step x (fault.0 ∷ [])) on.3 ∙ fault.2 in
-                  (on.0 ++ (fault.0 ∷ []), subst (IsEnd step report ws es answers) (sym last) (told_fault fault.1 fault.3))
-            ]
+        module _ (size : R → ℕ) (growing : AreGrowing step report size) where
+          -- a fault, or a world of a larger report
+          abbrev Rises : W → Result W E → Type 0
+          Rises w (Ok x) = size (report w) < size (report x)
+          Rises w (Err e) = Unit {0}
 
-        pub all_onward : ((i : ℕ) → i < length s.nodes → CanEnd (flagged s flags) i) → (first : W) → slice_get ws 0 ≡ Some first →
-            (schedule : List ℕ) → (more : List ℕ) × IsEnd step report ws es answers (run step (Ok first) (schedule ++ more))
-        all_onward ends first there schedule =
-            let on = end_at (run step (Ok first) schedule) (all_met first there schedule) ends in
-            (on.0, subst (IsEnd step report ws es answers) (sym (run-append step (Ok first) schedule on.0)) on.1)
+          rises_over : (w v x : W) → (report v ≡ report w) ⊎ (size (report w) < size (report v)) → (report x ≡ report v) ⊎ (size (report v) < size (report x)) →
+              report x ≢ report v → Rises w (Ok x)
+          rises_over w v x before (inl same) leaves = absurd (leaves same)
+          rises_over w v x (inl same) (inr larger) leaves = let as_large = ap size same in omega arith
+          rises_over w v x (inr less) (inr larger) leaves = omega arith
+
+          rises_at : (w v : W) (f : ℕ) (y : Result W E) → step v f ≡ y → (report v ≡ report w) ⊎ (size (report w) < size (report v)) →
+              Leaves step report most longest ws es v y → Rises w y
+          rises_at w v f (Ok x) leads before leaves = rises_over w v x before (growing v f x leads) leaves
+          rises_at w v f (Err e) leads before leaves = tt
+
+          -- where a world is flagged, some entries lead from it to a fault or to a larger report
+          rises : (i : ℕ) (w : W) → slice_get flags i ≡ Some true → slice_get ws i ≡ Some w → (more : List ℕ) × Rises w (run step (Ok w) more)
+          rises i w marked at =
+              let led = marks i marked in
+              let on = leads_run i led.0 led.1 w at in
+              let low = slice_get_within s.unsettled led.0 true led.2 in
+              let a = h.unsettled in
+              let leaves = (done led.0 (omega arith)).leaves led.2 on.1 on.2 in
+              let last : run step (Ok w) (on.0 ++ (leaves.0 ∷ [])) ≡ step on.1 leaves.0 = run-append step (Ok w) on.0 (leaves.0 ∷ []) ∙
+              ap (λ x. run step x (leaves.0 ∷ [])) on.3 in (
+                on.0 ++ (leaves.0 ∷ []),
+                subst (Rises w) (sym last) (rises_at w on.1 leaves.0 (step on.1 leaves.0) refl (grown step report size growing on.0 w on.1 on.3) leaves.1),
+              )
+
+          -- some entries more lead to an answer
+          abbrev Ends : Result W E → Type 0
+          Ends y = (more : List ℕ) × IsEnd step report ws es answers (run step y more)
+
+          -- a report can become larger n times at most
+          abbrev Room : ℕ → Result W E → Type 0
+          Room n (Ok w) = total (λ v. size (report v)) ws ≤ size (report w) + n
+          Room n (Err e) = Unit {0}
+
+          ends_on : (n : ℕ) (w : W) → Room n (Ok w) → (y : Result W E) → Rises w y → Met y →
+              ((m : ℕ) → n ≡ suc m → (x : W) → Met (Ok x) → Room m (Ok x) → Ends (Ok x)) → Ends y
+          ends_on zero w room (Ok x) rises m rest = let most_of = part_total (λ v. size (report v)) ws m.0 x m.2 in absurd (omega arith)
+          ends_on (suc n) w room (Ok x) rises m rest = rest n refl x m (omega arith)
+          ends_on n w room (Err e) rises m rest = ([], told_fault e m)
+
+          ends_by : (n : ℕ) (w : W) (i : ℕ) (b : Bool) → slice_get flags i ≡ Some b → i < length s.nodes → slice_get ws i ≡ Some w → Room n (Ok w) →
+              ((m : ℕ) → n ≡ suc m → (x : W) → Met (Ok x) → Room m (Ok x) → Ends (Ok x)) → Ends (Ok w)
+          ends_by n w i true is low at room rest =
+              let up = rises i w is at in
+              let there = closed_run step (λ v. (j : ℕ) × (j < length s.nodes) × (slice_get ws j ≡ Some v)) (IsTold step report most longest ws es s)
+              (λ w m f. met_is (step w f) ((done m.0 m.1).met w m.2 f)) (Ok w) (i, low, at) up.0 in
+              let on = ends_on n w room (run step (Ok w) up.0) up.1 there rest in
+              (up.0 ++ on.0, subst (IsEnd step report ws es answers) (sym (run-append step (Ok w) up.0 on.0)) on.1)
+          ends_by n w i false is low at room rest = ([], (unflagged_settled i w is at, told i w is at))
+
+          ends_at : (n : ℕ) (w : W) → Met (Ok w) → Room n (Ok w) → Ends (Ok w)
+          ends_at zero w m room =
+              let a = h.unsettled in
+              let low = m.1 in
+              let b = get_low flags m.0 (omega arith) in
+              ends_by zero w m.0 b.0 b.1 low m.2 room (λ k is. absurd (omega arith))
+          ends_at (suc n) w m room =
+              let a = h.unsettled in
+              let low = m.1 in
+              let b = get_low flags m.0 (omega arith) in
+              ends_by (suc n) w m.0 b.0 b.1 low m.2 room
+              (λ k is x there less. ends_at n x there (let same : k ≡ n = omega arith in subst (λ j. Room j (Ok x)) same less))
+
+          end_of : (y : Result W E) → Met y → Ends y
+          end_of (Ok w) m = ends_at (total (λ v. size (report v)) ws) w m (omega arith)
+          end_of (Err e) m = ([], told_fault e m)
+
+          -- where reports grow, some entries lead to an answer from wherever a schedule has led
+          pub all_onward : (first : W) → slice_get ws 0 ≡ Some first → (schedule : List ℕ) → (more : List ℕ) ×
+              IsEnd step report ws es answers (run step (Ok first) (schedule ++ more))
+          all_onward first there schedule =
+              let on = end_of (run step (Ok first) schedule) (all_met first there schedule) in
+              (on.0, subst (IsEnd step report ws es answers) (sym (run-append step (Ok first) schedule on.0)) on.1)
 
     module _ (answers : List Answer) (listed : AreListed (flagged s flags) answers) where
       -- the node of an answer, and where its entry leads

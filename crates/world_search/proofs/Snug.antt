@@ -7,7 +7,7 @@ use Rattle.world_search.specs.declared.graphs.Node.{Node}
 use Rattle.world_search.specs.declared.graphs.Edge.{Edge}
 use Rattle.world_search.specs.declared.expanding.Came.{Came}
 use Rattle.world_search.specs.declared.expanding.Came.TheVariants as came
-use Rattle.world_search.specs.Private.Shapes.{Shape, with_edge, with_quiet, with_faulting, Keeps, Notes}
+use Rattle.world_search.specs.Private.Shapes.{Shape, with_edge, with_quiet, Keeps, Notes}
 use Rattle.world_search.specs.Private.Graphs.{CanEnter, AreShallow, IsSnug, IsNearly, IsStopped, worse_of}
 use Rattle.world_search.proofs.Lists.{get_end}
 
@@ -76,10 +76,7 @@ edge_snug s e many h = record { even = h.even; shallow = h.shallow }
 pub quiet_snug : (s : Shape) (i many : ℕ) → IsSnug many s → IsSnug many (with_quiet s i)
 quiet_snug s i many h = record { even = h.even; shallow = h.shallow }
 
--- nor that a world has a fault, nor a fault that is noted
-pub faulting_snug : (s : Shape) (i many : ℕ) → IsSnug many s → IsSnug many (with_faulting s i)
-faulting_snug s i many h = record { even = h.even; shallow = h.shallow }
-
+-- nor does a fault that is noted
 pub noted_snug : (s t : Shape) (fault : ℕ) (n : Node) (many : ℕ) → Notes s t fault n → IsSnug many s → IsSnug many t
 noted_snug s t fault n many notes h = elim notes [
   | inl same ↦ subst (IsSnug many) (sym same.1) h

@@ -29,9 +29,6 @@ pub struct Found {
     /// Every schedule was searched: no other leads to a fault that isn't listed, or to a settled world of another
     /// report. It is so where all worlds are kept, and each of them is met by fewer entries than the most.
     pub complete: bool,
-    /// From each world that was met, some entries lead to an answer; if the search is complete, that is wherever a
-    /// schedule leads.
-    pub ends: bool,
     /// How many worlds the store has.
     pub worlds: usize,
 }

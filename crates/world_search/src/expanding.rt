@@ -9,7 +9,7 @@ ghost use Rattle.world_search.specs.Private.Shapes.{shape};
 ghost use Rattle.world_search.specs.Private.Graphs.{Fits, Grows, CanEnter, ComesTo, IsDone, SameFlags, worse_of};
 ghost use Rattle.world_search.specs.Private.Graphs.{IsNearly, IsSnug, IsStopped};
 
-use crate::graphs::{Edge, Graph, Node, add_edge, keep, note, set_faulting, set_quiet};
+use crate::graphs::{Edge, Graph, Node, add_edge, keep, note, set_quiet};
 use crate::landings::{Entered, Landing};
 use crate::store::Worlds;
 use crate::watching::Watcher;
@@ -175,8 +175,7 @@ fn enter<W: Worlds>(
         Entered::Full => Ok(Came::Lost),
         Entered::At(Landing::World(to)) => meet(&*worlds, graph, node, to, limits),
         Entered::At(Landing::Fault(fault)) => {
-            note(&mut *graph, fault, node)?;
-            set_faulting(graph, index);
+            note(graph, fault, node)?;
             Ok(Came::Leaves)
         }
     }

@@ -2,7 +2,7 @@
 
 ghost use Rattle.std.specs.Prelude.{◌≡◌, ◌⊎◌, ◌<◌, ◌^◌, ◌≤◌, length, true, false, IfOk, OnOk};
 ghost use Rattle.world_search.specs.Private.Shapes.{shape, begun, Keeps, Notes, IsNotedIn};
-ghost use Rattle.world_search.specs.Private.Shapes.{with_edge, with_quiet, with_faulting};
+ghost use Rattle.world_search.specs.Private.Shapes.{with_edge, with_quiet};
 
 use std::alloc::{AllocError, Global};
 
@@ -47,8 +47,6 @@ pub struct Graph {
     /// Of each world, whether it isn't known that its entries keep its report: not all of them were made, one of them
     /// ends in a fault, or one changes the report.
     pub unsettled: Vec<bool>,
-    /// Of each world, whether an entry of it ends in a fault.
-    pub faulting: Vec<bool>,
 }
 
 /// The first world alone.
@@ -63,14 +61,11 @@ pub fn begin(alloc: Global) -> Result<Graph, AllocError>
     })?;
     let mut unsettled = Vec::new(alloc);
     unsettled.push(true)?;
-    let mut faulting = Vec::new(alloc);
-    faulting.push(false)?;
     Ok(Graph {
         nodes,
         edges: Vec::new(alloc),
         noted: Vec::new(alloc),
         unsettled,
-        faulting,
     })
 }
 
@@ -88,7 +83,6 @@ pub fn keep(graph: &mut Graph, node: Node, to: usize, most: u32) -> Result<bool,
     if to == graph.nodes.len() {
         graph.nodes.push(node)?;
         graph.unsettled.push(true)?;
-        graph.faulting.push(false)?;
     }
     Ok(true)
 }
@@ -123,14 +117,6 @@ fn is_noted(noted: &[Noted], fault: usize) -> bool
         }
     }
     false
-}
-
-/// An entry of this world ends in a fault.
-pub fn set_faulting(graph: &mut Graph, index: usize)
-    requires { index < length graph.old.faulting.items }
-    ensures { shape graph.new ≡ with_faulting (shape graph.old) index }
-{
-    graph.faulting[index] = true;
 }
 
 /// The entries of this world keep its report.

@@ -23,6 +23,6 @@ mod watching;
 
 pub use answers::{Answer, Bounds, Found};
 pub use landings::{Entered, Landing};
-pub use searching::{search, search_watched};
+pub use searching::search;
 pub use store::Worlds;
 pub use watching::{Unwatched, Watcher};

@@ -1,13 +1,12 @@
 //! The answers of a search, read off what is known of the worlds.
 
-ghost use Rattle.std.specs.Prelude.{◌≡◌, ◌⊎◌, ℕ, ◌<◌, ◌≤◌, length, true, false, IfOk, OnOk, Some, Ok as GoesWell};
+ghost use Rattle.std.specs.Prelude.{◌≡◌, ℕ, ◌<◌, ◌≤◌, length, true, false, OnOk, Some, Ok as GoesWell};
 ghost use Rattle.std.specs.List.{slice_get};
 ghost use Rattle.world_search.specs.declared.answers.Answer.{Answer};
 ghost use Rattle.world_search.specs.declared.graphs.Noted.{Noted};
 ghost use Rattle.world_search.specs.Answers.{AreApart, IsAnswered, TellOnce, Tells};
 ghost use Rattle.world_search.specs.Lists.{IsMore};
-ghost use Rattle.world_search.specs.Private.Flags.{AreWithin};
-ghost use Rattle.world_search.specs.Private.Listed.{Adds, AddsFaults, AreListed, AreNotedChained, CanEnd, HaveNoFault};
+ghost use Rattle.world_search.specs.Private.Listed.{Adds, AddsFaults, AreListed, AreNotedChained, HaveNoFault};
 ghost use Rattle.world_search.specs.Private.Listed.{IsNamed};
 ghost use Rattle.world_search.specs.Private.Paths.{AreChained, IsChained};
 ghost use Rattle.world_search.specs.Private.Shapes.{AreNotedOnce, shape};
@@ -16,7 +15,6 @@ use crate::answers::Answer;
 use crate::graphs::{Graph, Node};
 use crate::landings::Landing;
 use crate::schedules::schedule_to;
-use crate::spread::spread;
 use crate::store::Worlds;
 use std::alloc::{AllocError, Global};
 
@@ -160,45 +158,4 @@ pub fn list_faults(
         )?;
     }
     Ok(())
-}
-
-/// Whether from each world some entries lead to one that isn't unsettled, or to a fault.
-pub fn all_end(alloc: Global, graph: &Graph) -> Result<bool, AllocError>
-    requires within { AreWithin graph.now.edges.items (length graph.now.nodes.items) }
-    requires unsettled { length graph.now.unsettled.items ≡ length graph.now.nodes.items }
-    requires faulting { length graph.now.faulting.items ≡ length graph.now.nodes.items }
-    ensures { IfOk result (λ it. it ≡ true → (i : ℕ) → i < length graph.now.nodes.items → CanEnd (shape graph.now) i) }
-{
-    let mut ending = Vec::new(alloc);
-    for index in 0..graph.nodes.len() {
-        ending.push(ends_at(graph, index))?;
-    }
-    spread(graph.edges.as_slice(), &mut ending);
-    Ok(are_set(ending.as_slice()))
-}
-
-// Whether a world isn't unsettled, or has an entry that ends in a fault.
-fn ends_at(graph: &Graph, index: usize) -> bool
-    requires unsettled { index < length graph.now.unsettled.items }
-    requires faulting { index < length graph.now.faulting.items }
-    ensures { result ≡ true →
-        (slice_get graph.now.unsettled.items index ≡ Some false) ⊎
-        (slice_get graph.now.faulting.items index ≡ Some true) }
-{
-    if !graph.unsettled[index] {
-        return true;
-    }
-    graph.faulting[index]
-}
-
-// Whether all flags are set.
-fn are_set(flags: &[bool]) -> bool
-    ensures { result ≡ true → (i : ℕ) → i < length flags.now → slice_get flags.now i ≡ Some true }
-{
-    for flag in flags {
-        if !*flag {
-            return false;
-        }
-    }
-    true
 }

@@ -4,49 +4,28 @@ ghost use Rattle.std.specs.Prelude.{◌≡◌, ℕ, ◌<◌, ◌≤◌, ◌++◌
 ghost use Rattle.std.specs.Prelude.{IfOk, OnOk, Some};
 ghost use Rattle.std.specs.List.{slice_get, All};
 ghost use Rattle.world_search.specs.Answers.{IsAtBound, IsCovered, IsRight, IsEnd, IsShort, IsNumbered, TellOnce};
+ghost use Rattle.world_search.specs.Free.{AreGrowing};
 ghost use Rattle.world_search.specs.Lists.{IsMore};
 ghost use Rattle.world_search.specs.Systems.{run};
 
 use crate::answers::{Bounds, Found};
 use crate::expanding::{Limits, explore};
 use crate::graphs::begin;
-use crate::listing::{all_end, list_faults, list_worlds};
+use crate::listing::{list_faults, list_worlds};
 use crate::spread::spread;
 use crate::store::Worlds;
-use crate::watching::{Unwatched, Watcher};
+use crate::watching::Watcher;
 use std::alloc::{AllocError, Global};
 
 /// Searches every schedule from the first world of a store, the one of number 0.
 ///
-/// Each entry is made once at each world that is met. Beside the store, a world takes 14 bytes
-/// here, and an entry that leads to another world 8. `AllocError` where memory is refused, here or by the store.
-pub fn search<W: Worlds>(alloc: Global, worlds: &mut W, bounds: Bounds) -> Result<Found, AllocError>
-    requires { 0 < length (W.worlds worlds.old) }
-    ensures grows { OnOk result (IsMore (W.worlds worlds.old) (W.worlds worlds.new)) }
-    ensures adds { OnOk result (IsMore (W.faults worlds.old) (W.faults worlds.new)) }
-    ensures all { IfOk result (λ it. it.complete ≡ true → (first : W.World) →
-        slice_get (W.worlds worlds.old) 0 ≡ Some first → (schedule : List ℕ) →
-        IsCovered W.step W.report (W.worlds worlds.new) (W.faults worlds.new) it.answers.items
-        (run W.step (GoesWell first) schedule)) }
-    ensures each { IfOk result (λ it. (first : W.World) → slice_get (W.worlds worlds.old) 0 ≡ Some first →
-        All (IsRight W.step W.report (W.worlds worlds.new) (W.faults worlds.new) first) it.answers.items) }
-    ensures onward { IfOk result (λ it. it.complete ≡ true → it.ends ≡ true → (first : W.World) →
-        slice_get (W.worlds worlds.old) 0 ≡ Some first → (schedule : List ℕ) →
-        (more : List ℕ) × IsEnd W.step W.report (W.worlds worlds.new) (W.faults worlds.new) it.answers.items
-        (run W.step (GoesWell first) (schedule ++ more))) }
-    ensures once { IfOk result (λ it. TellOnce W.report (W.worlds worlds.new) it.answers.items) }
-    ensures numbers { IfOk result (λ it. All (IsNumbered W.most_born) it.answers.items) }
-    ensures short { IfOk result (λ it. All (IsShort bounds.entries) it.answers.items) }
-    ensures room { OnOk result (length (W.worlds worlds.new) ≤ max bounds.worlds (length (W.worlds worlds.old))) }
-    ensures count { IfOk result (λ it. it.worlds ≡ length (W.worlds worlds.new)) }
-    ensures stopped { IfOk result (λ it. it.complete ≡ false → length (W.worlds worlds.old) ≡ 1 →
-        IsAtBound bounds it.worlds) }
-{
-    search_watched(alloc, worlds, bounds, &mut Unwatched)
-}
-
-/// The same ([`search`]), while the watcher is told how far it has come, at each ten-thousandth world.
-pub fn search_watched<W: Worlds, V: Watcher>(
+/// Each entry is made once at each world that is met. The watcher is called at each ten-thousandth world, with how far
+/// the search has come; where nobody watches it is [`Unwatched`](crate::Unwatched). Beside the store, a world takes 13
+/// bytes here, and an entry that leads to another world 8. `AllocError` where memory is refused, here or by the store.
+///
+/// Where no entry makes a report smaller, and each that changes it makes it larger, a complete search can always go on:
+/// from wherever a schedule has led, some entries more lead to an answer (`onward`).
+pub fn search<W: Worlds, V: Watcher>(
     alloc: Global,
     worlds: &mut W,
     bounds: Bounds,
@@ -61,8 +40,8 @@ pub fn search_watched<W: Worlds, V: Watcher>(
         (run W.step (GoesWell first) schedule)) }
     ensures each { IfOk result (λ it. (first : W.World) → slice_get (W.worlds worlds.old) 0 ≡ Some first →
         All (IsRight W.step W.report (W.worlds worlds.new) (W.faults worlds.new) first) it.answers.items) }
-    ensures onward { IfOk result (λ it. it.complete ≡ true → it.ends ≡ true → (first : W.World) →
-        slice_get (W.worlds worlds.old) 0 ≡ Some first → (schedule : List ℕ) →
+    ensures onward { IfOk result (λ it. it.complete ≡ true → (size : W.Report → ℕ) → AreGrowing W.step W.report size →
+        (first : W.World) → slice_get (W.worlds worlds.old) 0 ≡ Some first → (schedule : List ℕ) →
         (more : List ℕ) × IsEnd W.step W.report (W.worlds worlds.new) (W.faults worlds.new) it.answers.items
         (run W.step (GoesWell first) (schedule ++ more))) }
     ensures once { IfOk result (λ it. TellOnce W.report (W.worlds worlds.new) it.answers.items) }
@@ -83,11 +62,9 @@ pub fn search_watched<W: Worlds, V: Watcher>(
     let mut answers = Vec::new(alloc);
     list_worlds(alloc, &*worlds, &graph, &mut answers)?;
     list_faults(alloc, &graph, &mut answers)?;
-    let ends = all_end(alloc, &graph)?;
     Ok(Found {
         answers,
         complete,
-        ends,
         worlds: worlds.len(),
     })
 }

@@ -6,7 +6,7 @@ use Rattle.cell_registry.specs.declared.limits.Limits.{Limits}
 use Rattle.cell_registry.specs.Cells.{Cells, opening}
 use Rattle.cell_registry.specs.Plain.{PlainView}
 use Rattle.fiber_frames.specs.Fiber.{Fiber}
-use Rattle.outcome_trace.specs.Fitting.{AllFit, world_of}
+use Rattle.scheduled_core.specs.Fitting.{AllFit, world_of}
 use Rattle.every_schedule.specs.Places.{Place}
 
 -- the numbers of a world's states: that of its registry, and those of its fibers

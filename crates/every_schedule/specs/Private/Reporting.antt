@@ -2,7 +2,7 @@
 use Rattle.std.specs.Prelude.{◌≡◌, ◌≢◌, ◌⊎◌, ℕ, List, length, Some}
 use Rattle.std.specs.List.{slice_get}
 use Rattle.fiber_frames.specs.Fiber.{Fiber}
-use Rattle.outcome_trace.specs.Core.{fiber_report}
+use Rattle.scheduled_core.specs.Core.{fiber_report}
 
 module _ (fs : List Fiber) where
   -- the two states have come to the same

@@ -1,12 +1,20 @@
 -- The entries that lead to a world, one by one.
-use Rattle.std.specs.Prelude.{◌≡◌, ◌≢◌, ◌++◌, ◌<◌, ◌≤◌, ℕ, List, length, Some, Result, Ok}
+use Rattle.std.specs.Prelude.{◌≡◌, ◌≢◌, ◌++◌, ◌+◌, ◌<◌, ◌≤◌, ℕ, List, [], ◌∷◌, length, Some, Result, Ok}
 use Rattle.std.specs.List.{All, slice_get}
 use Rattle.cell_registry.specs.declared.limits.RunError.{RunError}
 use Rattle.world_search.specs.declared.answers.Answer.{Answer as Found}
 use Rattle.world_search.specs.Lists.{IsIn}
 use Rattle.world_search.specs.Systems.{run}
+use Rattle.world_search.specs.declared.landings.Landing.{Landing}
+use Rattle.world_search.specs.declared.landings.Landing.TheVariants as to
+use Rattle.every_schedule.specs.Explored.{HasMove}
 use Rattle.every_schedule.specs.Places.{Place, stepped}
 use Rattle.every_schedule.specs.Reduced.{leapt}
+
+-- each of these entries, from this place on, is of a fiber that has a next move where the entry is made
+abbrev pub AreMade : Place → List ℕ → Type 0
+AreMade p [] = Unit {0}
+AreMade p (f ∷ s) = HasMove p.world f × ((q : Place) → stepped p f ≡ Ok q → AreMade q s)
 
 -- the entries that were added lead there
 pub record IsTrail (old new : List ℕ) (p : Place) (y : Result Place RunError) : Type 0 where
@@ -14,11 +22,13 @@ pub record IsTrail (old new : List ℕ) (p : Place) (y : Result Place RunError) 
   pub is : new ≡ old ++ added
   pub leads : run stepped (Ok p) added ≡ y
   pub few : All (λ f. f < 1000) added
+  pub moves : AreMade p added
 
 -- these entries lead to where the entries of the reduced exploration lead, each with at most n own moves behind it
 pub record IsUnfolded (n : ℕ) (first : Place) (schedule entries : List ℕ) : Type 0 where
   pub leads : run stepped (Ok first) entries ≡ run (leapt n) (Ok first) schedule
   pub few : All (λ f. f < 1000) entries
+  pub moves : AreMade first entries
 
 -- an answer that was found, with such entries, which are at most so many
 pub record IsUnfoldedOf (n most : ℕ) (first : Place) (found : List Found) (a : Found) : Type 0 where
@@ -55,3 +65,17 @@ EndsAlone a answers = All (λ b. b.end ≢ a.end) answers
 abbrev pub EndApart : List Found → Type 0
 EndApart answers = (i j : ℕ) (a b : Found) → slice_get answers i ≡ Some a → slice_get answers j ≡ Some b →
     a.end ≡ b.end → i ≡ j
+
+-- reports come first
+abbrev pub rank_of : Landing → ℕ
+rank_of (to.World j) = 0
+rank_of (to.Fault j) = 1
+
+-- no answer stands before one of a lower rank, or before one of its own with a shorter schedule
+pub record MayStand (a b : Found) : Type 0 where
+  pub rank : rank_of a.end ≤ rank_of b.end
+  pub short : rank_of a.end ≡ rank_of b.end → length a.schedule.items ≤ length b.schedule.items
+
+abbrev pub AreSorted : List Found → Type 0
+AreSorted answers = (i : ℕ) (a b : Found) → slice_get answers i ≡ Some a → slice_get answers (i + 1) ≡ Some b →
+    MayStand a b

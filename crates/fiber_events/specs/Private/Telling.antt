@@ -6,9 +6,9 @@ use Rattle.fiber_frames.specs.Rows.{Waited}
 use Rattle.cell_registry.specs.declared.limits.Limits.{Limits}
 use Rattle.cell_registry.specs.declared.limits.RunError.{RunError}
 use Rattle.cell_registry.specs.Plain.{IsMade, PlainView}
-use Rattle.outcome_trace.specs.declared.wish.Wish.TheVariants.{Shared, Alone, Nothing}
-use Rattle.outcome_trace.specs.Core.{World, fiber_report, wish_of}
-use Rattle.outcome_trace.specs.declared.report.Report.{Report}
+use Rattle.scheduled_core.specs.declared.wish.Wish.TheVariants.{Shared, Alone, Nothing}
+use Rattle.scheduled_core.specs.Core.{World, fiber_report, wish_of}
+use Rattle.scheduled_core.specs.declared.report.Report.{Report}
 use Rattle.fiber_events.specs.declared.event.Deed.{Deed}
 use Rattle.fiber_events.specs.declared.event.Deed.TheVariants as deed
 use Rattle.fiber_events.specs.declared.telling.Course.{Course}

@@ -1,20 +1,24 @@
--- What becomes of the comings where one more answer is drawn.
-use Rattle.std.specs.Prelude.{◌≡◌, ◌≢◌, ◌+◌, ℕ, List, [], ◌∷◌, ◌++◌, Some, slice_set}
+-- What becomes of the comings where one more schedule is drawn.
+use Rattle.std.specs.Prelude.{◌≡◌, ◌≢◌, ◌+◌, ◌&&◌, ℕ, Bool, List, [], ◌∷◌, ◌++◌, Some, slice_set}
 use Rattle.std.specs.List.{slice_get, sum_by}
-use Rattle.every_schedule.specs.declared.exploration.Answer.{Answer}
 use Rattle.sampled_schedules.specs.declared.comings.Coming.{Coming}
+use Rattle.sampled_schedules.specs.declared.comings.Drawn.{Drawn}
 
 -- how many schedules came to any of these
 abbrev pub came_in_all : List Coming → ℕ
 came_in_all comings = sum_by (λ (c : Coming). c.times) comings
 
--- one more schedule came to it
-abbrev pub raised : Coming → Coming
-raised c = record { answer = c.answer; times = c.times + 1 }
+-- one more schedule came to it, which was cut short or wasn't
+abbrev pub raised : Coming → Bool → Coming
+raised c cut = record { answer = c.answer; times = c.times + 1; cut = c.cut && cut }
 
--- the end of the answer came again, or for the first time
-pub data IsNoted (old : List Coming) (a : Answer) (new : List Coming) : Type 0 where
-  Again : (i : ℕ) (c : Coming) → slice_get old i ≡ Some c → c.answer.end ≡ a.end → new ≡ slice_set old i (raised c) →
-      IsNoted old a new
-  First : ((i : ℕ) (c : Coming) → slice_get old i ≡ Some c → c.answer.end ≢ a.end) →
-      new ≡ old ++ record { answer = a; times = 1 } ∷ [] → IsNoted old a new
+-- one schedule came to it
+abbrev pub coming_of : Drawn → Coming
+coming_of d = record { answer = d.answer; times = 1; cut = d.cut }
+
+-- the end of the schedule came again, or for the first time
+pub data IsNoted (old : List Coming) (d : Drawn) (new : List Coming) : Type 0 where
+  Again : (i : ℕ) (c : Coming) → slice_get old i ≡ Some c → c.answer.end ≡ d.answer.end →
+      new ≡ slice_set old i (raised c d.cut) → IsNoted old d new
+  First : ((i : ℕ) (c : Coming) → slice_get old i ≡ Some c → c.answer.end ≢ d.answer.end) →
+      new ≡ old ++ coming_of d ∷ [] → IsNoted old d new

@@ -1,15 +1,25 @@
 -- What entries lead to, one behind the other.
-use Rattle.std.specs.Prelude.{◌≡◌, ◌+◌, ◌<◌, ◌≤◌, ℕ, List, length, Result, Ok, Err}
-use Rattle.std.specs.List.{All}
+use Rattle.std.specs.Prelude.{◌≡◌, ◌+◌, ◌<◌, ◌≤◌, ℕ, Bool, false, List, length, Some, None, Result, Ok, Err}
+use Rattle.std.specs.List.{All, slice_get}
 use Rattle.derived_ops.specs.Tree.{Tree}
+use Rattle.fiber_frames.specs.Fiber.{Fiber, outcome_of}
 use Rattle.cell_registry.specs.declared.limits.Limits.{Limits}
 use Rattle.cell_registry.specs.declared.limits.RunError.{RunError}
-use Rattle.outcome_trace.specs.Core.{World, core}
+use Rattle.scheduled_core.specs.Core.{World, core}
 
 -- this world, or the fault
 abbrev pub came : {A : Type 0} → Result A RunError → World → Result World RunError
 came (Ok done) w = Ok w
 came (Err e) w = Err e
+
+-- whether the entries were cut short
+abbrev pub was_cut : Result Bool RunError → Bool
+was_cut (Ok cut) = cut
+was_cut (Err e) = false
+
+-- one of these fibers hasn't ended
+abbrev pub HasUnendedFiber : List Fiber → Type 0
+HasUnendedFiber fibers = (f : ℕ) × (g : Fiber) × (slice_get fibers f ≡ Some g) × (outcome_of g ≡ None)
 
 -- Where the entries before led to this world, those after lead to this end, and they are so many more at most. Each is
 -- the number of a fiber, if those before were.

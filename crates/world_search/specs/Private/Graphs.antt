@@ -108,9 +108,6 @@ module _ {W E R : Type 0} (step : W → ℕ → Result W E) (report : W → R) (
   abbrev pub IsQuiet : Shape → ℕ → Type 0
   IsQuiet s i = (w : W) → slice_get ws i ≡ Some w → (f : ℕ) → Stays s i w (step w f)
 
-  abbrev pub CanFault : Shape → ℕ → Type 0
-  CanFault s i = (w : W) → slice_get ws i ≡ Some w → (f : ℕ) × (e : E) × (step w f ≡ Err e) × IsTold s e
-
   pub record Fits (s : Shape) : Type 0 where
     pub some : 0 < length s.nodes
     pub known : length s.nodes ≤ length ws
@@ -120,9 +117,7 @@ module _ {W E R : Type 0} (step : W → ℕ → Result W E) (report : W → R) (
     pub noted : (k : ℕ) (n : Noted) → slice_get s.noted k ≡ Some n → IsNoted s.nodes n
     pub once : AreNotedOnce s.noted
     pub unsettled : length s.unsettled ≡ length s.nodes
-    pub faulting : length s.faulting ≡ length s.nodes
     pub quiet : (i : ℕ) → slice_get s.unsettled i ≡ Some false → IsQuiet s i
-    pub faults : (i : ℕ) → slice_get s.faulting i ≡ Some true → CanFault s i
 
   -- all that comes of the entries at world number i was met, and if the world isn't quiet an entry leaves its report
   pub record IsDone (s : Shape) (i : ℕ) : Type 0 where

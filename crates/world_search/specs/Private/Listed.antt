@@ -1,5 +1,5 @@
 -- The answers that are listed, by what is known of the worlds.
-use Rattle.std.specs.Prelude.{◌≡◌, ◌≢◌, ◌⊎◌, ℕ, ◌<◌, ◌≤◌, ◌++◌, true, false, List, [], ◌∷◌, length, Some}
+use Rattle.std.specs.Prelude.{◌≡◌, ◌≢◌, ◌⊎◌, ℕ, ◌<◌, ◌≤◌, ◌++◌, false, List, [], ◌∷◌, length, Some}
 use Rattle.std.specs.List.{slice_get}
 use Rattle.world_search.specs.declared.answers.Answer.{Answer}
 use Rattle.world_search.specs.declared.graphs.Node.{Node}
@@ -7,7 +7,6 @@ use Rattle.world_search.specs.declared.graphs.Noted.{Noted}
 use Rattle.world_search.specs.declared.landings.Landing.{Landing}
 use Rattle.world_search.specs.declared.landings.Landing.TheVariants as to
 use Rattle.world_search.specs.Lists.{IsIn}
-use Rattle.world_search.specs.Private.Flags.{LeadsOn}
 use Rattle.world_search.specs.Private.Paths.{IsPath, IsChained}
 use Rattle.world_search.specs.Private.Shapes.{Shape}
 
@@ -54,8 +53,3 @@ pub record AddsFaults (old new : List Answer) : Type 0 where
 
 abbrev pub AreNotedChained : Shape → Type 0
 AreNotedChained s = (k : ℕ) (n : Noted) → slice_get s.noted k ≡ Some n → IsChained s.nodes n.node
-
--- from world number j, edges lead to a world that isn't unsettled or has an entry that ends in a fault
-abbrev pub CanEnd : Shape → ℕ → Type 0
-CanEnd s j = (i : ℕ) × LeadsOn s.edges j i ×
-    ((slice_get s.unsettled i ≡ Some false) ⊎ (slice_get s.faulting i ≡ Some true))

@@ -11,7 +11,6 @@ pub record Shape : Type 0 where
   pub edges : List Edge
   pub noted : List Noted
   pub unsettled : List Bool
-  pub faulting : List Bool
 
 abbrev pub shape : Graph → Shape
 shape g = record {
@@ -19,7 +18,6 @@ shape g = record {
   edges = g.edges.items;
   noted = g.noted.items;
   unsettled = g.unsettled.items;
-  faulting = g.faulting.items;
 }
 
 -- the first world alone
@@ -29,7 +27,6 @@ begun = record {
   edges = [];
   noted = [];
   unsettled = true ∷ [];
-  faulting = false ∷ [];
 }
 
 -- one world more, of which nothing is known yet
@@ -39,7 +36,6 @@ with_node s n = record {
   edges = s.edges;
   noted = s.noted;
   unsettled = s.unsettled ++ (true ∷ []);
-  faulting = s.faulting ++ (false ∷ []);
 }
 
 abbrev pub with_edge : Shape → Edge → Shape
@@ -48,7 +44,6 @@ with_edge s e = record {
   edges = s.edges ++ (e ∷ []);
   noted = s.noted;
   unsettled = s.unsettled;
-  faulting = s.faulting;
 }
 
 abbrev pub with_noted : Shape → Noted → Shape
@@ -57,7 +52,6 @@ with_noted s n = record {
   edges = s.edges;
   noted = s.noted ++ (n ∷ []);
   unsettled = s.unsettled;
-  faulting = s.faulting;
 }
 
 abbrev pub with_quiet : Shape → ℕ → Shape
@@ -66,16 +60,6 @@ with_quiet s i = record {
   edges = s.edges;
   noted = s.noted;
   unsettled = slice_set s.unsettled i false;
-  faulting = s.faulting;
-}
-
-abbrev pub with_faulting : Shape → ℕ → Shape
-with_faulting s i = record {
-  nodes = s.nodes;
-  edges = s.edges;
-  noted = s.noted;
-  unsettled = s.unsettled;
-  faulting = slice_set s.faulting i true;
 }
 
 -- nothing was added, or the world of this number was, as the next one

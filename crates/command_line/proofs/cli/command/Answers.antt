@@ -1,7 +1,7 @@
 use Rattle.std.proofs.Common.{◌≡◌, Option, Some, None, refl, rules, subst}
 use Rattle.clap.specs.Words.{subcommand_rows_of}
-use Rattle.command_line.specs.declared.requests.Request.{Request}
-use Rattle.command_line.specs.Requests.{GivesRequest}
+use Rattle.command_words.specs.declared.requests.Request.{Request}
+use Rattle.command_words.specs.Requests.{GivesRequest}
 use Rattle.command_line.proofs.RunLemmas.{free_built, runs_request, runs_no_request, runs_error, runs_no_words, takes_input}
 use Rattle.command_line.proofs.cli.command.Goals as goal
 

@@ -1,5 +1,5 @@
 use Rattle.std.proofs.Common.{◌≡◌, true, false}
-use Rattle.command_line.specs.Telling.{shown}
+use Rattle.command_words.specs.Telling.{shown}
 use Rattle.command_line.proofs.RunLemmas.{help_of, text_shown, text_kept_back}
 use Rattle.command_line.proofs.cli.usage.Goals as goal
 

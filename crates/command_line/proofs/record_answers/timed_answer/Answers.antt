@@ -5,10 +5,10 @@ use Rattle.command_line.proofs.record_answers.timed_answer.Goals as goal
 
 pub returns-in-Some : goal.returns-in-Some
 returns-in-Some g c =
-    let ran = c.run_recorded-end.ensures in
+    let ran = c.run_spelled-end.ensures in
     let told = c.in_ok-answer.ensures in
-    let end = c.run_recorded-end.result.end in
-    let s = c.run_recorded-end.result.schedule in
+    let end = c.run_spelled-end.result.end in
+    let s = c.run_spelled-end.result.schedule in
     let front = c.in_ok-answer.answer in
     let line : has_line end ≡ true = sym c.has_line.ensures ∙ c.if-not-has_line.false in
     let tells = tells_found _ end s c.in_ok-entries.field-0 c.in-Some.entries line c.in_ok-entries.ensures.some c.in-Some.is in
@@ -19,10 +19,10 @@ returns-in-Some g c =
 
 pub returns-then-not-has_line : goal.returns-then-not-has_line
 returns-then-not-has_line g c =
-    let ran = c.run_recorded-end.ensures in
+    let ran = c.run_spelled-end.ensures in
     let told = c.in_ok-answer.ensures in
-    let end = c.run_recorded-end.result.end in
-    let s = c.run_recorded-end.result.schedule in
+    let end = c.run_spelled-end.result.end in
+    let s = c.run_spelled-end.result.schedule in
     let front = c.in_ok-answer.answer in
     let tells = tells_none end s (sym c.has_line.ensures ∙ c.if-not-has_line.true) in
     alone front.text.items front.status
@@ -31,10 +31,10 @@ returns-then-not-has_line g c =
 
 pub returns : goal.returns
 returns g c =
-    let ran = c.run_recorded-end.ensures in
+    let ran = c.run_spelled-end.ensures in
     let told = c.in_ok-answer.ensures in
-    let end = c.run_recorded-end.result.end in
-    let s = c.run_recorded-end.result.schedule in
+    let end = c.run_spelled-end.result.end in
+    let s = c.run_spelled-end.result.schedule in
     let front = c.in_ok-answer.answer in
     let line : has_line end ≡ true = sym c.has_line.ensures ∙ c.if-not-has_line.false in
     let tells = finds_none end s line (none_found s c.in_ok-entries.field-0 c.in_ok-entries.ensures.none c.in-None.is) in

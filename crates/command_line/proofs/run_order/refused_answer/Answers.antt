@@ -1,5 +1,5 @@
 use Rattle.std.proofs.Common.{IfOk, subst, sym}
-use Rattle.command_line.specs.declared.running.RunForm.{RunForm}
+use Rattle.command_words.specs.declared.running.RunForm.{RunForm}
 use Rattle.command_line.specs.Runs.{refused_as}
 use Rattle.command_line.proofs.run_order.refused_answer.Goals as goal
 

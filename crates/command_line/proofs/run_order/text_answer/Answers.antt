@@ -1,5 +1,5 @@
 use Rattle.command_line.specs.Runs.{comes_as, refused_as}
-use Rattle.command_line.proofs.WorkerLemmas.{program_runs, refusal_runs}
+use Rattle.outcome_trace.proofs.AnswerLemmas.{program_runs, refusal_runs}
 use Rattle.command_line.proofs.run_order.text_answer.Goals as goal
 
 pub returns-in-Ok : goal.returns-in-Ok

@@ -10,6 +10,4 @@ returns-in-Some g c =
     reasons_told _ _ _ _ _ _ _ same c.tell_reasons.ensures
 
 pub returns-in-None : goal.returns-in-None
-returns-in-None g c =
-    let told = c.write_text.ensures in
-    none_told _ _ _ _ _ _ record { result = c.write_text.result; out = told.text; only = told.only; failed = told.failed }
+returns-in-None g c = none_told _ _ _ _ _ _ c.tell_none.ensures.told

@@ -3,7 +3,7 @@ use Rattle.std.specs.declared.alloc.Global.{Global}
 use Rattle.std.specs.declared.vec.Vec.{Vec}
 use Rattle.std.proofs.lemmas.Result.{IfOk-weaker}
 use Rattle.steal_pool.specs.Runs.{limits_of}
-use Rattle.command_line.specs.Workers.{refuses, runs}
+use Rattle.outcome_trace.specs.Answers.{refuses, runs}
 use Rattle.command_line.proofs.ReasonLemmas.{refusal_replayed, text_replayed}
 use Rattle.command_line.proofs.run_reasons.text_ran.Goals as goal
 

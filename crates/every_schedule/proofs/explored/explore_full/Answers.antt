@@ -3,12 +3,15 @@ use Rattle.std.specs.Prelude.{Some}
 use Rattle.std.specs.List.{All, slice_get}
 use Rattle.derived_ops.specs.Expansion.{code_of}
 use Rattle.derived_ops.specs.Reading.{source_of}
-use Rattle.outcome_trace.specs.Core.{core}
+use Rattle.scheduled_core.specs.Core.{core}
 use Rattle.world_search.specs.Answers as search
 use Rattle.every_schedule.specs.declared.exploration.Answer.{Answer}
 use Rattle.every_schedule.specs.Explored.{IsAnswered, IsCovered, IsReached, ListOnce}
 use Rattle.every_schedule.specs.Places.{Kept, first_place, report_at, stepped}
 use Rattle.every_schedule.proofs.Placed.{core_run}
+use Rattle.every_schedule.proofs.Deadlocks.{none_waits}
+use Rattle.every_schedule.proofs.Bare.{reports_grow}
+use Rattle.every_schedule.proofs.Growing.{size}
 use Rattle.every_schedule.proofs.Laws.{alike, ended, faultless}
 use Rattle.every_schedule.proofs.Told.{all_within, answered, covered, numbered, reached, short, once}
 use Rattle.every_schedule.proofs.explored.explore_full.Goals as goal
@@ -43,13 +46,13 @@ returns-clause-each c =
     (c.in_ok-found.ensures.each (first_place code k) first))
 
 pub returns-clause-onward : goal.returns-clause-onward
-returns-clause-onward c = λ complete ends schedule.
+returns-clause-onward c = λ complete schedule.
     let code = code_of (source_of c.args.program.now) in
     let k = c.args.limits in
     let kept = c.search.new.worlds in
     let found = c.in_ok-found.found.answers.items in
     let first : slice_get c.in_ok-worlds.worlds.places 0 ≡ Some (first_place code k) = ap (λ (s : Kept). slice_get s.places 0) c.in_ok-worlds.ensures in
-    let on = c.in_ok-found.ensures.onward complete ends (first_place code k) first schedule in (
+    let on = c.in_ok-found.ensures.onward complete size reports_grow (first_place code k) first schedule in (
       on.0,
       subst (λ (l : List Answer). IsAnswered k l (core code k (schedule ++ on.0))) (sym c.new-2.ensures)
           (answered kept found c.in_ok-answers.answers.items c.in_ok-answers.ensures.told k (core code k (schedule ++ on.0))
@@ -79,9 +82,14 @@ returns-clause-alike c = λ complete end same schedule w is settled.
     (returns-clause-all c complete schedule) same is settled
 
 pub returns-clause-can_end : goal.returns-clause-can_end
-returns-clause-can_end c = λ complete ends f all schedule.
-    let on = returns-clause-onward c complete ends schedule in
+returns-clause-can_end c = λ complete f all schedule.
+    let on = returns-clause-onward c complete schedule in
     (on.0, ended c.args.limits c.new-2.result f (core (code_of (source_of c.args.program.now)) c.args.limits (schedule ++ on.0)) all on.1)
+
+pub returns-clause-deadlock : goal.returns-clause-deadlock
+returns-clause-deadlock c = λ complete all schedule w leads f stays.
+    let on = returns-clause-onward c complete schedule in
+    none_waits c.args.limits c.new-2.result all (code_of (source_of c.args.program.now)) schedule on.0 w f leads on.1 stays
 
 pub returns-clause-once : goal.returns-clause-once
 returns-clause-once c =

@@ -3,18 +3,21 @@ use Rattle.std.specs.Prelude.{Some}
 use Rattle.std.specs.List.{All, slice_get}
 use Rattle.derived_ops.specs.Expansion.{code_of}
 use Rattle.derived_ops.specs.Reading.{source_of}
-use Rattle.outcome_trace.specs.Core.{core}
+use Rattle.scheduled_core.specs.Core.{core, first_world}
 use Rattle.world_search.specs.declared.answers.Answer.{Answer as Found}
 use Rattle.world_search.specs.Answers as search
 use Rattle.every_schedule.specs.declared.exploration.Answer.{Answer}
-use Rattle.every_schedule.specs.Explored.{IsAnswered, IsCovered, IsPastBound, IsReached, ListOnce}
+use Rattle.every_schedule.specs.Explored.{AreInOrder, AreMoves, IsAnswered, IsCovered, IsPastBound, IsReached, ListOnce}
 use Rattle.every_schedule.specs.Places.{Kept, first_place, report_at, stepped}
 use Rattle.every_schedule.specs.Private.Trails.{AreUnfolded, EndApart, IsLeftOut}
 use Rattle.every_schedule.proofs.Placed.{core_run}
+use Rattle.every_schedule.proofs.Deadlocks.{none_waits}
+use Rattle.every_schedule.proofs.Growing.{size}
+use Rattle.every_schedule.proofs.GrowingLeaps.{leaps_grow}
 use Rattle.every_schedule.proofs.Laws.{alike, ended, faultless}
 use Rattle.every_schedule.proofs.PastBound.{past_bound}
-use Rattle.every_schedule.proofs.Told.{all_within, answered, covered, numbered, once, reached, short}
-use Rattle.every_schedule.proofs.Trails.{all_covered, all_onward, brief, few, found_apart, right, unfolded_once}
+use Rattle.every_schedule.proofs.Told.{all_within, answered, covered, in_order, moving, numbered, once, reached, short}
+use Rattle.every_schedule.proofs.Trails.{all_covered, all_onward, brief, few, found_apart, made, right, unfolded_once}
 use Rattle.every_schedule.proofs.explored.explore_watched.Goals as goal
 
 pub told-requires : goal.told-requires
@@ -22,7 +25,7 @@ told-requires g c =
     let code = code_of (source_of c.args.program.now) in
     let k = c.args.limits in
     let start = first_place code k in
-    let kept = c.search_watched.new.worlds.worlds in
+    let kept = c.search.new.worlds.worlds in
     let raw = c.in_ok-found.found.answers.items in
     let found = c.in_ok-unfolded.unfolded.answers.items in
     let first : slice_get c.in_ok-worlds.worlds.worlds.places 0 ≡ Some start = ap (λ (s : Kept). slice_get s.places 0) c.in_ok-worlds.ensures in
@@ -35,7 +38,7 @@ returns-clause-all g c = λ complete schedule.
     let code = code_of (source_of c.args.program.now) in
     let k = c.args.limits in
     let start = first_place code k in
-    let kept = c.search_watched.new.worlds.worlds in
+    let kept = c.search.new.worlds.worlds in
     let raw = c.in_ok-found.found.answers.items in
     let found = c.in_ok-unfolded.unfolded.answers.items in
     let first : slice_get c.in_ok-worlds.worlds.worlds.places 0 ≡ Some start = ap (λ (s : Kept). slice_get s.places 0) c.in_ok-worlds.ensures in
@@ -54,7 +57,7 @@ returns-clause-each g c =
     let code = code_of (source_of c.args.program.now) in
     let k = c.args.limits in
     let start = first_place code k in
-    let kept = c.search_watched.new.worlds.worlds in
+    let kept = c.search.new.worlds.worlds in
     let raw = c.in_ok-found.found.answers.items in
     let found = c.in_ok-unfolded.unfolded.answers.items in
     let first : slice_get c.in_ok-worlds.worlds.worlds.places 0 ≡ Some start = ap (λ (s : Kept). slice_get s.places 0) c.in_ok-worlds.ensures in
@@ -65,11 +68,11 @@ returns-clause-each g c =
     (right kept start 100 c.args.bounds.entries raw found each (c.in_ok-found.ensures.each start first)))
 
 pub returns-clause-onward : goal.returns-clause-onward
-returns-clause-onward g c = λ complete ends schedule.
+returns-clause-onward g c = λ complete schedule.
     let code = code_of (source_of c.args.program.now) in
     let k = c.args.limits in
     let start = first_place code k in
-    let kept = c.search_watched.new.worlds.worlds in
+    let kept = c.search.new.worlds.worlds in
     let raw = c.in_ok-found.found.answers.items in
     let found = c.in_ok-unfolded.unfolded.answers.items in
     let first : slice_get c.in_ok-worlds.worlds.worlds.places 0 ≡ Some start = ap (λ (s : Kept). slice_get s.places 0) c.in_ok-worlds.ensures in
@@ -78,7 +81,7 @@ returns-clause-onward g c = λ complete ends schedule.
     let whole = λ (i : _) (a : Found) (at : slice_get raw i ≡ Some a). c.in_ok-unfolded.ensures.whole (c.are_both.ensures.other complete) i a
     (subst (λ (l : List Found). slice_get l i ≡ Some a) (sym c.as_slice.ensures.value) at) in
     let on = all_onward kept start 100 c.args.bounds.entries raw found each whole
-    (c.in_ok-found.ensures.onward (c.are_both.ensures.one complete) ends start first) schedule in (
+    (c.in_ok-found.ensures.onward (c.are_both.ensures.one complete) size (leaps_grow 100) start first) schedule in (
       on.0,
       subst (λ (l : List Answer). IsAnswered k l (core code k (schedule ++ on.0))) (sym c.new-2.ensures)
           (answered kept found c.in_ok-answers.answers.items c.in_ok-answers.ensures.told k (core code k (schedule ++ on.0))
@@ -90,7 +93,7 @@ returns-clause-numbers g c =
     let code = code_of (source_of c.args.program.now) in
     let k = c.args.limits in
     let start = first_place code k in
-    let kept = c.search_watched.new.worlds.worlds in
+    let kept = c.search.new.worlds.worlds in
     let raw = c.in_ok-found.found.answers.items in
     let found = c.in_ok-unfolded.unfolded.answers.items in
     let first : slice_get c.in_ok-worlds.worlds.worlds.places 0 ≡ Some start = ap (λ (s : Kept). slice_get s.places 0) c.in_ok-worlds.ensures in
@@ -104,7 +107,7 @@ returns-clause-short g c =
     let code = code_of (source_of c.args.program.now) in
     let k = c.args.limits in
     let start = first_place code k in
-    let kept = c.search_watched.new.worlds.worlds in
+    let kept = c.search.new.worlds.worlds in
     let raw = c.in_ok-found.found.answers.items in
     let found = c.in_ok-unfolded.unfolded.answers.items in
     let first : slice_get c.in_ok-worlds.worlds.worlds.places 0 ≡ Some start = ap (λ (s : Kept). slice_get s.places 0) c.in_ok-worlds.ensures in
@@ -125,16 +128,41 @@ returns-clause-alike g c = λ complete end same schedule w is settled.
     (returns-clause-all g c complete schedule) same is settled
 
 pub returns-clause-can_end : goal.returns-clause-can_end
-returns-clause-can_end g c = λ complete ends f all schedule.
-    let on = returns-clause-onward g c complete ends schedule in
+returns-clause-can_end g c = λ complete f all schedule.
+    let on = returns-clause-onward g c complete schedule in
     (on.0, ended c.args.limits c.new-2.result f (core (code_of (source_of c.args.program.now)) c.args.limits (schedule ++ on.0)) all on.1)
+
+pub returns-clause-deadlock : goal.returns-clause-deadlock
+returns-clause-deadlock g c = λ complete all schedule w leads f stays.
+    let on = returns-clause-onward g c complete schedule in
+    none_waits c.args.limits c.new-2.result all (code_of (source_of c.args.program.now)) schedule on.0 w f leads on.1 stays
+
+pub returns-clause-moves : goal.returns-clause-moves
+returns-clause-moves g c =
+    let code = code_of (source_of c.args.program.now) in
+    let k = c.args.limits in
+    let start = first_place code k in
+    let kept = c.search.new.worlds.worlds in
+    let raw = c.in_ok-found.found.answers.items in
+    let found = c.in_ok-unfolded.unfolded.answers.items in
+    let each : AreUnfolded 100 c.args.bounds.entries start raw found =
+    subst (λ (l : List Found). AreUnfolded 100 c.args.bounds.entries start l found) c.as_slice.ensures.value c.in_ok-unfolded.ensures.each in
+    subst (λ (l : List Answer). All (λ a. AreMoves k (first_world code k) a.schedule) l) (sym c.new-2.ensures)
+    (moving kept found c.in_ok-answers.answers.items c.in_ok-answers.ensures.told code k (made kept start 100 c.args.bounds.entries raw found each))
+
+pub returns-clause-order : goal.returns-clause-order
+returns-clause-order g c =
+    let kept = c.search.new.worlds.worlds in
+    let found = c.in_ok-unfolded.unfolded.answers.items in
+    subst (λ (l : List Answer). AreInOrder l) (sym c.new-2.ensures)
+    (in_order kept found c.in_ok-answers.answers.items c.in_ok-answers.ensures.told c.in_ok-unfolded.ensures.order)
 
 pub returns-clause-once : goal.returns-clause-once
 returns-clause-once g c =
     let code = code_of (source_of c.args.program.now) in
     let k = c.args.limits in
     let start = first_place code k in
-    let kept = c.search_watched.new.worlds.worlds in
+    let kept = c.search.new.worlds.worlds in
     let raw = c.in_ok-found.found.answers.items in
     let found = c.in_ok-unfolded.unfolded.answers.items in
     let first : slice_get c.in_ok-worlds.worlds.worlds.places 0 ≡ Some start = ap (λ (s : Kept). slice_get s.places 0) c.in_ok-worlds.ensures in
@@ -153,7 +181,7 @@ returns-clause-stopped g c = λ isnt.
     let k = c.args.limits in
     let start = first_place code k in
     let most = c.args.bounds.entries in
-    let kept = c.search_watched.new.worlds.worlds in
+    let kept = c.search.new.worlds.worlds in
     let raw = c.in_ok-found.found.answers.items in
     let found = c.in_ok-unfolded.unfolded.answers.items in
     let first : slice_get c.in_ok-worlds.worlds.worlds.places 0 ≡ Some start = ap (λ (s : Kept). slice_get s.places 0) c.in_ok-worlds.ensures in

@@ -6,7 +6,7 @@ use Rattle.std.proofs.lemmas.Option.{gets}
 use Rattle.cell_registry.specs.Cells.{Cells}
 use Rattle.cell_registry.specs.Plain.{PlainView}
 use Rattle.fiber_frames.specs.Fiber.{Fiber, ask_of}
-use Rattle.outcome_trace.specs.Core.{wish_of}
+use Rattle.scheduled_core.specs.Core.{wish_of}
 use Rattle.every_schedule.specs.Reduced.{has_own, is_own, last_own, own_in}
 use Rattle.every_schedule.proofs.Leaps.{last_own_passes}
 use Rattle.every_schedule.proofs.leaping.last_own.Goals as goal

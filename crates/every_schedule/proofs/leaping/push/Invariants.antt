@@ -1,5 +1,5 @@
 use Rattle.std.proofs.Common.{◌≡◌, ◌-◌, Ok}
-use Rattle.outcome_trace.specs.Fitting.{AllFit}
+use Rattle.scheduled_core.specs.Fitting.{AllFit}
 use Rattle.world_search.specs.Lists.{IsMore}
 use Rattle.every_schedule.specs.Reduced.{pushed}
 use Rattle.every_schedule.specs.Private.Standing.{IsCurrent}

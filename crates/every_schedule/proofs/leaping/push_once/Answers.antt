@@ -3,7 +3,7 @@ use Rattle.every_schedule.specs.Places.{Place, stepped}
 use Rattle.every_schedule.specs.Reduced.{own_in, pushed_once}
 use Rattle.every_schedule.specs.Private.Numbered.{IsWorldOf, Numbers}
 use Rattle.every_schedule.specs.Private.Trails.{IsTrail}
-use Rattle.every_schedule.proofs.Leaps.{once_made, once_refused, refused}
+use Rattle.every_schedule.proofs.Leaps.{once_made, once_refused, own_moves, refused}
 use Rattle.every_schedule.proofs.Numbered.{of_more, one_rebuilt}
 use Rattle.every_schedule.proofs.Trails.{trail_none, trail_one}
 use Rattle.every_schedule.proofs.leaping.push_once.Goals as goal
@@ -32,7 +32,8 @@ pub returns-in-Ok-clause-trail : goal.returns-in-Ok-clause-trail
 returns-in-Ok-clause-trail c =
     let old = c.args.trail.now.items in
     subst (λ (l : List ℕ). IsTrail old l c.args.current.world (Ok c.in-Ok.next.world)) (sym c.in_ok-add-in-Ok.ensures)
-    (trail_one old c.args.current.world c.in-Some.fiber (Ok c.in-Ok.next.world) c.in-Some.ensures.few c.in-Ok.ensures.goes)
+    (trail_one old c.args.current.world c.in-Some.fiber (Ok c.in-Ok.next.world) c.in-Some.ensures.few
+    (own_moves c.args.current.world c.in-Some.fiber (sym c.last_own.ensures.own ∙ c.in-Some.is)) c.in-Ok.ensures.goes)
 
 pub returns-clause-goes : goal.returns-clause-goes
 returns-clause-goes c =

@@ -74,18 +74,18 @@ loop-i-preserved c =
 pub returns-clause-whole : goal.returns-clause-whole
 returns-clause-whole c = λ whole i a at.
     let low = slice_get_within c.args.found.now i a at in
-    kept_sorted c.loop-i.answers.items c.sort.new.answers.items a c.sort.ensures (c.loop-i.invariant.whole whole i a (omega arith) at)
+    kept_sorted c.loop-i.answers.items c.sort.new.answers.items a c.sort.ensures.same (c.loop-i.invariant.whole whole i a (omega arith) at)
 
 pub returns-clause-each : goal.returns-clause-each
 returns-clause-each c =
     unfolded_sorted c.args.at_once c.args.most (first_place (code_of (source_of c.args.program.now)) c.args.limits) c.args.found.now
-    c.loop-i.answers.items c.sort.new.answers.items c.sort.ensures c.loop-i.invariant.each
+    c.loop-i.answers.items c.sort.new.answers.items c.sort.ensures.same c.loop-i.invariant.each
 
 pub returns-clause-apart : goal.returns-clause-apart
 returns-clause-apart c = λ all.
-    apart_sorted c.loop-i.answers.items c.sort.new.answers.items c.sort.ensures (c.loop-i.invariant.apart all)
+    apart_sorted c.loop-i.answers.items c.sort.new.answers.items c.sort.ensures.same (c.loop-i.invariant.apart all)
 
 pub returns-clause-left : goal.returns-clause-left
 returns-clause-left c = λ isnt.
     let k = c.loop-i.invariant.left isnt in
-    (k.0, k.1, λ all. alone_sorted c.loop-i.answers.items c.sort.new.answers.items k.0 c.sort.ensures (k.3 all))
+    (k.0, k.1, λ all. alone_sorted c.loop-i.answers.items c.sort.new.answers.items k.0 c.sort.ensures.same (k.3 all))

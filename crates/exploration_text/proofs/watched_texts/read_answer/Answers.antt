@@ -4,12 +4,12 @@ use Rattle.exploration_text.proofs.watched_texts.read_answer.Goals as goal
 
 pub returns-in-Ok : goal.returns-in-Ok
 returns-in-Ok g c =
-    program_explored c.args.text.now c.args.order.now.limits c.args.order.now.wants.items c.in-Ok.program c.watched_answer.result
+    program_explored c.args.text.now c.args.order.now.limits c.args.order.now.bounds c.args.order.now.wants.items c.in-Ok.program c.watched_answer.result
     c.in-Ok.ensures.program c.in-Ok.ensures.limits c.watched_answer.ensures
 
 pub returns-in-Err : goal.returns-in-Err
 returns-in-Err g c =
-    refusal_explored c.args.text.now c.args.order.now.limits c.args.order.now.wants.items c.refusal.result
+    refusal_explored c.args.text.now c.args.order.now.limits c.args.order.now.bounds c.args.order.now.wants.items c.refusal.result
     (refusal_answers c.args.text.now c.in-Err.refused c.refusal.result c.in-Err.ensures.refused c.refusal.ensures.line c.refusal.ensures.status
     c.refusal.ensures.told)
 

@@ -1,10 +1,10 @@
 use Rattle.std.proofs.Common.{◌≡◌, ℕ, sym, ap, ◌∙◌, subst}
 use Rattle.fiber_frames.specs.Fiber.{ask_of}
 use Rattle.cell_registry.specs.Plain.{MayCall}
-use Rattle.outcome_trace.specs.declared.wish.Wish.TheVariants.{Shared}
-use Rattle.outcome_trace.specs.Core.{wish_of}
-use Rattle.outcome_trace.proofs.AskTells.{asking}
-use Rattle.outcome_trace.proofs.Moves.{may_call}
+use Rattle.scheduled_core.specs.declared.wish.Wish.TheVariants.{Shared}
+use Rattle.scheduled_core.specs.Core.{wish_of}
+use Rattle.scheduled_core.proofs.AskTells.{asking}
+use Rattle.scheduled_core.proofs.Moves.{may_call}
 use Rattle.fiber_events.proofs.telling.foresee.Goals as goal
 
 pub answer-requires : goal.answer-requires

@@ -4,8 +4,8 @@ use Rattle.derived_ops.specs.Reading.{source_of}
 use Rattle.fiber_frames.specs.Fiber.{Fiber}
 use Rattle.cell_registry.specs.Cells.{Cells, opening}
 use Rattle.cell_registry.specs.Plain.{PlainView}
-use Rattle.outcome_trace.specs.Core.{first_world}
-use Rattle.outcome_trace.specs.Fitting.{AllFit, world_of}
+use Rattle.scheduled_core.specs.Core.{first_world}
+use Rattle.scheduled_core.specs.Fitting.{AllFit, world_of}
 use Rattle.fiber_events.specs.declared.event.Event.{Event}
 use Rattle.fiber_events.specs.Events.{AreEvents}
 use Rattle.fiber_events.specs.Private.Telling.{IsCourse}

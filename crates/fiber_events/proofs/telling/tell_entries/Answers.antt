@@ -5,8 +5,8 @@ use Rattle.std.proofs.lemmas.List.{take_all}
 use Rattle.cell_registry.specs.declared.limits.Limits.{Limits}
 use Rattle.cell_registry.specs.declared.limits.RunError.{RunError}
 use Rattle.cell_registry.specs.declared.limits.RunError.TheVariants as run
-use Rattle.outcome_trace.specs.Fitting.{world_of}
-use Rattle.outcome_trace.specs.Core.{World, entered}
+use Rattle.scheduled_core.specs.Fitting.{world_of}
+use Rattle.scheduled_core.specs.Core.{World, entered}
 use Rattle.fiber_events.specs.declared.event.Event.{Event}
 use Rattle.fiber_events.specs.Events.{AreEvents, IsEntry, all, led, no_entry}
 use Rattle.fiber_events.proofs.Courses.{events_more, led_more, stopped_course}

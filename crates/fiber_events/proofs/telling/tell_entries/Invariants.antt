@@ -1,5 +1,5 @@
 use Rattle.std.proofs.Common.{◌≡◌, Ok, take}
-use Rattle.outcome_trace.specs.Fitting.{AllFit, world_of}
+use Rattle.scheduled_core.specs.Fitting.{AllFit, world_of}
 use Rattle.fiber_events.specs.Events.{AreEvents, led}
 use Rattle.fiber_events.proofs.telling.tell_entries.Given as goal
 

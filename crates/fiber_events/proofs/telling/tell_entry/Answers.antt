@@ -7,8 +7,8 @@ use Rattle.std.proofs.lemmas.Result.{err_from_is_err_and}
 use Rattle.fiber_frames.specs.declared.mark.Mark.{Mark}
 use Rattle.fiber_frames.specs.Fiber.{Fiber}
 use Rattle.cell_registry.specs.Plain.{PlainView}
-use Rattle.outcome_trace.specs.Fitting.{Fits, cell_registered, world_of}
-use Rattle.outcome_trace.specs.Private.Moving.{Refuses}
+use Rattle.scheduled_core.specs.Fitting.{Fits, cell_registered, world_of}
+use Rattle.scheduled_core.specs.Private.Moving.{Refuses}
 use Rattle.fiber_events.specs.declared.event.Deed.{Deed}
 use Rattle.fiber_events.specs.Events.{idles, over, unborn}
 use Rattle.fiber_events.specs.Private.Telling.{IsForeseen}

@@ -1,7 +1,7 @@
 use Rattle.std.proofs.Common.{◌≡◌, ap, subst, sym}
 use Rattle.cell_registry.specs.Cells.{Cells, opening}
 use Rattle.cell_registry.specs.Plain.{PlainView}
-use Rattle.outcome_trace.specs.Fitting.{AllFit, world_of}
+use Rattle.scheduled_core.specs.Fitting.{AllFit, world_of}
 use Rattle.fiber_tests.proofs.schedules.fibers_after.Goals as goal
 
 pub loop-number-init : goal.loop-number-init

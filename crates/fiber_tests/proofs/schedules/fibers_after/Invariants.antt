@@ -1,4 +1,4 @@
-use Rattle.outcome_trace.specs.Fitting.{AllFit, world_of}
+use Rattle.scheduled_core.specs.Fitting.{AllFit, world_of}
 use Rattle.fiber_tests.proofs.schedules.fibers_after.Given as goal
 
 abbrev pub invariant-loop-number : goal.invariant-loop-number

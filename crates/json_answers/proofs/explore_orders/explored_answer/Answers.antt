@@ -8,6 +8,13 @@ value_answer-requires c = exploration_plain _ _ _ c.in_ok-value.ensures
 pub returns : goal.returns
 returns c =
     let order = c.args.order.now in
-    exploration_answers c.args.program.now order.limits order.wants.items _ c.in-Ok.exploration _ c.exploration_status.result c.value_answer.result
-    c.as_slice-wants.ensures.value (record { all = c.in-Ok.ensures.all; each = c.in-Ok.ensures.each }) c.in_ok-value.ensures c.exploration_status.ensures
+    exploration_answers c.args.program.now order.limits order.bounds order.wants.items _ c.in-Ok.exploration _ c.exploration_status.result c.value_answer.result
+    c.as_slice-wants.ensures.value (record {
+      all = c.in-Ok.ensures.all;
+      each = c.in-Ok.ensures.each;
+      once = c.in-Ok.ensures.once;
+      stopped = c.in-Ok.ensures.stopped;
+      room = c.in-Ok.ensures.room;
+      short = c.in-Ok.ensures.short;
+    }) c.in_ok-value.ensures c.exploration_status.ensures
     c.value_answer.ensures.line c.value_answer.ensures.status

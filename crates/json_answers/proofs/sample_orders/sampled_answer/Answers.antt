@@ -9,5 +9,10 @@ pub returns : goal.returns
 returns c =
     let order = c.args.order.now in
     sample_answers c.args.program.now order.limits order.seed order.times order.entries c.in-Ok.found _ c.sample_status.result c.value_answer.result
-    (record { each = c.in-Ok.ensures.each; tally = c.in-Ok.ensures.tally; schedules = c.in-Ok.ensures.schedules }) c.in_ok-value.ensures c.sample_status.ensures
+    (record {
+      each = c.in-Ok.ensures.each;
+      uncut = c.in-Ok.ensures.uncut;
+      tally = c.in-Ok.ensures.tally;
+      schedules = c.in-Ok.ensures.schedules;
+    }) c.in_ok-value.ensures c.sample_status.ensures
     c.value_answer.ensures.line c.value_answer.ensures.status

@@ -1,10 +1,11 @@
-use Rattle.std.proofs.Common.{◌≡◌, ℕ, List, [], sym, ap, ap₂, ◌∙◌, subst}
+use Rattle.std.proofs.Common.{◌≡◌, ℕ, Bool, List, [], sym, ap, ap₂, ◌∙◌, subst}
 use Rattle.cell_registry.specs.declared.limits.Limits.{Limits}
 use Rattle.cell_registry.specs.Plain.{PlainView}
-use Rattle.outcome_trace.specs.Core.{first_world}
-use Rattle.outcome_trace.specs.Fitting.{world_of}
-use Rattle.sampled_schedules.specs.Sampled.{IsDrawn}
-use Rattle.sampled_schedules.proofs.Drawn.{drawn_of}
+use Rattle.scheduled_core.specs.Core.{first_world}
+use Rattle.scheduled_core.specs.Fitting.{world_of}
+use Rattle.sampled_schedules.specs.Sampled.{IsDrawing}
+use Rattle.sampled_schedules.specs.Private.Walking.{was_cut}
+use Rattle.sampled_schedules.proofs.Drawings.{drawn_of}
 use Rattle.sampled_schedules.proofs.Walked.{IsWalkOr}
 use Rattle.sampled_schedules.proofs.sampled.draw.Goals as goal
 
@@ -20,7 +21,12 @@ returns-clause-drawn c = λ code first.
     subst (λ (s : List ℕ). IsWalkOr c.walk-walked.result k w s v c.walk-walked.new.schedule.items c.args.most) c.new-schedule.ensures.items
     (subst (λ (l : Limits). IsWalkOr c.walk-walked.result l w c.new-schedule.result.items v c.walk-walked.new.schedule.items c.args.most) limits
     c.walk-walked.ensures.walked) in
-    subst (λ (s : List ℕ). IsDrawn code k c.args.most record { schedule = s; end = c.in_ok-end.end }) (sym c.new-2.ensures)
+    subst (λ (b : Bool). IsDrawing code k c.args.most record { answer = record { schedule = c.new-2.result; end = c.in_ok-end.end }; cut = b })
+    (sym c.was_cut-cut.ensures)
+    (subst (λ (s : List ℕ). IsDrawing code k c.args.most record {
+      answer = record { schedule = s; end = c.in_ok-end.end };
+      cut = was_cut c.walk-walked.result;
+    }) (sym c.new-2.ensures)
     (drawn_of code k c.args.most w v c.walk-walked.result c.walk-walked.new.schedule.items c.in_ok-end.end begun walked c.in_ok-end.ensures.memory
-    c.walk-walked.ensures.ended
-    (c.in_ok-end.ensures.end c.walk-walked.new.registry.state))
+    c.walk-walked.ensures.ended c.walk-walked.ensures.cut
+    (c.in_ok-end.ensures.end c.walk-walked.new.registry.state)))

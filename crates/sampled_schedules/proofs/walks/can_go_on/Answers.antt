@@ -2,7 +2,7 @@ use Rattle.std.proofs.Common.{◌≡◌, ℕ, Some, sym, arith, subst}
 use Rattle.std.specs.List.{slice_get}
 use Rattle.std.proofs.lemmas.Grind.{common_steps}
 use Rattle.std.proofs.lemmas.Option.{gets}
-use Rattle.outcome_trace.specs.Fitting.{Fits, cell_registered}
+use Rattle.scheduled_core.specs.Fitting.{Fits, cell_registered}
 use Rattle.sampled_schedules.proofs.walks.can_go_on.Goals as goal
 
 pub is_done-requires : goal.is_done-requires

@@ -1,4 +1,4 @@
-use Rattle.outcome_trace.specs.Fitting.{world_of}
+use Rattle.scheduled_core.specs.Fitting.{world_of}
 use Rattle.sampled_schedules.proofs.Walked.{entry_walked}
 use Rattle.sampled_schedules.proofs.walks.make_entry.Goals as goal
 

@@ -1,5 +1,5 @@
 use Rattle.std.proofs.Common.{◌≡◌, ◌+◌, ◌≤◌, length, Ok}
-use Rattle.outcome_trace.specs.Fitting.{AllFit, world_of}
+use Rattle.scheduled_core.specs.Fitting.{AllFit, world_of}
 use Rattle.sampled_schedules.specs.Private.Walking.{IsWalk}
 use Rattle.sampled_schedules.proofs.walks.make_row.Given as goal
 

@@ -3,9 +3,9 @@ use Rattle.std.specs.Prelude.{is_some, not}
 use Rattle.std.specs.List.{slice_get}
 use Rattle.std.proofs.lemmas.Grind.{common_steps}
 use Rattle.std.proofs.lemmas.Option.{gets, same_Some}
-use Rattle.outcome_trace.specs.Finals.{HasEnded, IsAtRest}
-use Rattle.outcome_trace.specs.Fitting.{Fits, cell_registered}
-use Rattle.outcome_trace.proofs.Settling.{below_length, none_of, one_settled}
+use Rattle.scheduled_core.specs.Finals.{HasEnded, IsAtRest}
+use Rattle.scheduled_core.specs.Fitting.{Fits, cell_registered}
+use Rattle.scheduled_core.proofs.Settling.{below_length, none_of, one_settled}
 use Rattle.sampled_schedules.proofs.walks.pick.Goals as goal
 use Rattle.sampled_schedules.proofs.walks.pick.Goals.{then-not-is_done+then-is_none, then-not-is_done+else-is_none+else-below-eq0, else-not-is_done}
 

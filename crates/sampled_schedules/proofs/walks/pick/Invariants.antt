@@ -1,7 +1,7 @@
 use Rattle.std.proofs.Common.{◌≡◌, ◌⊎◌, ◌<◌, ◌≤◌, ℕ, None, Some}
 use Rattle.std.specs.List.{slice_get}
 use Rattle.fiber_frames.specs.Fiber.{Fiber}
-use Rattle.outcome_trace.specs.Finals.{HasEnded, IsAtRest}
+use Rattle.scheduled_core.specs.Finals.{HasEnded, IsAtRest}
 use Rattle.sampled_schedules.proofs.walks.pick.Given as goal
 
 -- where none was picked, each fiber so far has ended or rests

@@ -1,7 +1,7 @@
 use Rattle.std.proofs.Common.{Ok, Err, length, ◌∙◌, arith}
 use Rattle.std.proofs.lemmas.Result.{err_from_is_err_and}
-use Rattle.outcome_trace.specs.Fitting.{world_of}
-use Rattle.sampled_schedules.proofs.Walked.{further, went, within}
+use Rattle.scheduled_core.specs.Fitting.{world_of}
+use Rattle.sampled_schedules.proofs.Walked.{erred, further, went, within}
 use Rattle.sampled_schedules.proofs.walks.walk.Goals as goal
 
 pub returns-in_err-make_row-clause-walked : goal.returns-in_err-make_row-clause-walked
@@ -9,29 +9,29 @@ returns-in_err-make_row-clause-walked c =
     let p = err_from_is_err_and c.from_residual.result c.from_residual.ensures.1 in
     let k = c.args.registry.now.limits in
     let w = world_of c.args.fibers.now.items c.args.registry.now.state in
-    let v = world_of c.loop.fibers.items c.loop.registry.state in
+    let v = world_of c.loop-fibers.fibers.items c.loop-fibers.registry.state in
     let a = c.args.schedule.now.items in
-    let b = c.loop.schedule.items in
+    let b = c.loop-fibers.schedule.items in
+    let x = world_of c.make_row.new.fibers.items c.make_row.new.registry.state in
     rw (p.1, p.2)
-    (further (Err c.in_err-make_row.field-0.0) k c.loop.registry.limits w v (world_of c.make_row.new.fibers.items c.make_row.new.registry.state) a b
-    c.make_row.new.schedule.items
-    (length b) c.min-many.result c.args.most c.loop.invariant.limits (within k w (Ok v) a b c.args.most (length b) c.loop.invariant.walked (omega arith))
-    c.in_err-make_row.ensures.walked (omega arith))
+    (erred c.in_err-make_row.field-0.0 k w x a c.make_row.new.schedule.items c.args.most
+    (further (Err c.in_err-make_row.field-0.0) k c.loop-fibers.registry.limits w v x a b c.make_row.new.schedule.items
+    (length b) c.min-many.result c.args.most c.loop-fibers.invariant.limits
+    (within k w (Ok v) a b c.args.most (length b) c.loop-fibers.invariant.walked (omega arith)) c.in_err-make_row.ensures.walked (omega arith)))
 
-pub loop-preserved : goal.loop-preserved
-loop-preserved c =
+pub loop-fibers-preserved : goal.loop-fibers-preserved
+loop-fibers-preserved c =
     let k = c.args.registry.now.limits in
     let w = world_of c.args.fibers.now.items c.args.registry.now.state in
-    let v = world_of c.loop.fibers.items c.loop.registry.state in
+    let v = world_of c.loop-fibers.fibers.items c.loop-fibers.registry.state in
     let x = world_of c.make_row.new.fibers.items c.make_row.new.registry.state in
     let a = c.args.schedule.now.items in
-    let b = c.loop.schedule.items in
+    let b = c.loop-fibers.schedule.items in
     record {
-      limits = c.in_ok-make_row.ensures.limits ∙ c.loop.invariant.limits;
+      limits = c.in_ok-make_row.ensures.limits ∙ c.loop-fibers.invariant.limits;
       fits = c.in_ok-make_row.ensures.fits;
-      made = let grows = c.in_ok-make_row.ensures.grows in let made = c.loop.invariant.made in omega arith;
       walked = went c.in_ok-make_row.field-0 k w x a c.make_row.new.schedule.items c.args.most
-          (further (Ok c.in_ok-make_row.field-0) k c.loop.registry.limits w v x a b c.make_row.new.schedule.items
-          (length b) c.min-many.result c.args.most c.loop.invariant.limits (within k w (Ok v) a b c.args.most (length b) c.loop.invariant.walked (omega arith))
-          c.in_ok-make_row.ensures.walked (omega arith));
+          (further (Ok c.in_ok-make_row.field-0) k c.loop-fibers.registry.limits w v x a b c.make_row.new.schedule.items
+          (length b) c.min-many.result c.args.most c.loop-fibers.invariant.limits
+          (within k w (Ok v) a b c.args.most (length b) c.loop-fibers.invariant.walked (omega arith)) c.in_ok-make_row.ensures.walked (omega arith));
     }

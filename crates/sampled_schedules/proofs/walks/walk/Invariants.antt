@@ -1,14 +1,17 @@
-use Rattle.std.proofs.Common.{◌≡◌, ◌≤◌, length, Ok}
-use Rattle.outcome_trace.specs.Fitting.{AllFit, world_of}
+use Rattle.std.proofs.Common.{◌≡◌, ◌-◌, length, Ok}
+use Rattle.scheduled_core.specs.Fitting.{AllFit, world_of}
 use Rattle.sampled_schedules.specs.Private.Walking.{IsWalk}
 use Rattle.sampled_schedules.proofs.walks.walk.Given as goal
 
 -- the entries so far led to this world
-abbrev pub invariant-loop : goal.invariant-loop
-invariant-loop l = record {
+abbrev pub invariant-loop-fibers : goal.invariant-loop-fibers
+invariant-loop-fibers l = record {
   limits : l.registry.limits ≡ l.initial.registry.limits;
   fits : AllFit (world_of l.fibers.items l.registry.state);
-  made : l.counter ≤ length l.schedule.items;
   walked : IsWalk l.initial.registry.limits (world_of l.initial.fibers.items l.initial.registry.state) l.initial.schedule.items
       (Ok (world_of l.fibers.items l.registry.state)) l.schedule.items l.most;
 }
+
+-- how many entries there may still be
+abbrev pub decreases-loop-fibers : goal.decreases-loop-fibers
+decreases-loop-fibers l = l.most - length l.schedule.items

@@ -1,4 +1,4 @@
-use Rattle.steal_pool.proofs.Recording.{listed_end, settled_end}
+use Rattle.run_ends.proofs.Recording.{listed_end, settled_end}
 use Rattle.steal_pool.proofs.recorded.run_recorded.Goals as goal
 
 pub returns-in-Ok-clause-settled : goal.returns-in-Ok-clause-settled

@@ -1,4 +1,4 @@
-use Rattle.steal_pool.proofs.Ending.{final_or_unended}
+use Rattle.run_ends.proofs.Ending.{final_or_unended}
 use Rattle.steal_pool.proofs.running.run.Goals as goal
 
 pub returns-in-Ok-clause-complete : goal.returns-in-Ok-clause-complete

@@ -1,5 +1,5 @@
-use Rattle.outcome_trace.proofs.Continuing.{settled_of}
-use Rattle.outcome_trace.proofs.Covering.{settled_listed}
+use Rattle.scheduled_core.proofs.Continuing.{settled_of}
+use Rattle.scheduled_core.proofs.Covering.{settled_listed}
 use Rattle.steal_pool.proofs.running.run_told.Goals as goal
 
 pub returns-in-Ok-clause-settled : goal.returns-in-Ok-clause-settled

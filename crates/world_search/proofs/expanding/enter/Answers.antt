@@ -1,18 +1,17 @@
-use Rattle.std.proofs.Common.{◌≡◌, ◌+◌, refl, sym, subst, arith}
+use Rattle.std.proofs.Common.{◌≡◌, ◌+◌, refl, subst, arith}
 use Rattle.std.specs.Prelude.{Some}
 use Rattle.std.specs.List.{slice_get}
 use Rattle.std.proofs.lemmas.Grind.{common_steps}
 use Rattle.std.proofs.lemmas.Option.{gets}
-use Rattle.world_search.specs.declared.expanding.Came.TheVariants as came
 use Rattle.world_search.specs.declared.graphs.Node.{Node}
 use Rattle.world_search.specs.declared.landings.Entered.{Entered}
 use Rattle.world_search.specs.declared.landings.Landing.{Landing}
 use Rattle.world_search.specs.Landings.{LandsAt, EntersAt}
-use Rattle.world_search.specs.Private.Shapes.{Shape, shape}
-use Rattle.world_search.specs.Private.Graphs.{CanEnter, Fits, ComesTo}
+use Rattle.world_search.specs.Private.Shapes.{shape}
+use Rattle.world_search.specs.Private.Graphs.{CanEnter}
 use Rattle.world_search.proofs.Lists.{more_back, more_get, ok_then}
-use Rattle.world_search.proofs.Fitting.{fits_store, fits_faulting}
-use Rattle.world_search.proofs.Meeting.{noted_fits, noted_fault, noted_leaves}
+use Rattle.world_search.proofs.Fitting.{fits_store}
+use Rattle.world_search.proofs.Meeting.{noted_fits, noted_leaves}
 use Rattle.world_search.proofs.expanding.enter.Goals as goal
 
 pub meet-requires-clause-fits : goal.meet-requires-clause-fits
@@ -63,13 +62,8 @@ returns-in_ok-note-in-At-Fault-clause-fits g c =
     let before = more_back (g.W.Worlds.worlds c.args.worlds.now) ws c.args.index w told.worlds (omega arith) here in
     let lands = subst (λ (it : Entered). EntersAt ws es it (g.W.Worlds.step w c.args.fiber)) c.in-At-Fault.is (told.lands w before) in
     subst (λ (l : Landing). LandsAt ws es l (g.W.Worlds.step w c.args.fiber)) c.in-At-Fault.field-0-is lands) in
-    subst (Fits g.W.Worlds.step g.W.Worlds.report g.W.Worlds.most_born c.args.limits.entries ws es) (sym c.set_faulting.ensures)
-    (fits_faulting g.W.Worlds.step g.W.Worlds.report g.W.Worlds.most_born c.args.limits.entries ws es (shape c.note.new.graph)
-    (noted_fits g.W.Worlds.step g.W.Worlds.report g.W.Worlds.most_born c.args.limits.entries ws es (shape c.args.graph.now) (shape c.note.new.graph)
-    node c.in-At-Fault.fault fits c.requires.low how lands c.in_ok-note-in-At-Fault.ensures)
-    c.args.index
-    (noted_fault g.W.Worlds.step g.W.Worlds.report g.W.Worlds.most_born c.args.limits.entries ws es (shape c.args.graph.now) (shape c.note.new.graph)
-    node c.in-At-Fault.fault fits c.requires.low how lands c.in_ok-note-in-At-Fault.ensures))
+    noted_fits g.W.Worlds.step g.W.Worlds.report g.W.Worlds.most_born c.args.limits.entries ws es (shape c.args.graph.now) (shape c.note.new.graph)
+    node c.in-At-Fault.fault fits c.requires.low how lands c.in_ok-note-in-At-Fault.ensures
 
 pub returns-in_ok-note-in-At-Fault-clause-came : goal.returns-in_ok-note-in-At-Fault-clause-came
 returns-in_ok-note-in-At-Fault-clause-came g c = λ w there.
@@ -89,11 +83,9 @@ returns-in_ok-note-in-At-Fault-clause-came g c = λ w there.
     let before = more_back (g.W.Worlds.worlds c.args.worlds.now) ws c.args.index w told.worlds (omega arith) here in
     let lands = subst (λ (it : Entered). EntersAt ws es it (g.W.Worlds.step w c.args.fiber)) c.in-At-Fault.is (told.lands w before) in
     subst (λ (l : Landing). LandsAt ws es l (g.W.Worlds.step w c.args.fiber)) c.in-At-Fault.field-0-is lands) in
-    subst (λ (s : Shape). ComesTo g.W.Worlds.step g.W.Worlds.report g.W.Worlds.most_born c.args.limits.entries ws es s c.args.index w came.Leaves
-    (g.W.Worlds.step w c.args.fiber)) (sym c.set_faulting.ensures)
-    (noted_leaves g.W.Worlds.step g.W.Worlds.report g.W.Worlds.most_born c.args.limits.entries ws es (shape c.args.graph.now)
+    noted_leaves g.W.Worlds.step g.W.Worlds.report g.W.Worlds.most_born c.args.limits.entries ws es (shape c.args.graph.now)
     (shape c.note.new.graph) node c.in-At-Fault.fault fits c.requires.low how lands c.in_ok-note-in-At-Fault.ensures
-    w (more_get (g.W.Worlds.worlds c.args.worlds.now) ws c.args.index w told.worlds there))
+    w (more_get (g.W.Worlds.worlds c.args.worlds.now) ws c.args.index w told.worlds there)
 
 pub returns-in-At-World-clause-came : goal.returns-in-At-World-clause-came
 returns-in-At-World-clause-came g c =

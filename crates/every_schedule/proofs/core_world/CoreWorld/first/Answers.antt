@@ -1,7 +1,7 @@
 use Rattle.std.proofs.Common.{◌≡◌, sym, ap, subst}
 use Rattle.cell_registry.specs.Cells.{Cells, opening}
 use Rattle.cell_registry.specs.Plain.{PlainView}
-use Rattle.outcome_trace.specs.Fitting.{AllFit, world_of}
+use Rattle.scheduled_core.specs.Fitting.{AllFit, world_of}
 use Rattle.every_schedule.proofs.core_world.CoreWorld.first.Goals as goal
 
 pub invariant_of-result : goal.invariant_of-result

@@ -1,5 +1,5 @@
 use Rattle.std.proofs.Common.{rules, ◌≡◌, List, [], ◌∷◌, ◌++◌, map, sym, ap, ◌∙◌, subst}
-use Rattle.outcome_trace.specs.Fitting.{AllFit}
+use Rattle.scheduled_core.specs.Fitting.{AllFit}
 use Rattle.every_schedule.specs.Places.{Place}
 use Rattle.every_schedule.specs.Private.Numbered.{AreWorlds, Numbers, place_of}
 use Rattle.every_schedule.proofs.Numbered.{world_is}

@@ -7,7 +7,7 @@ use Rattle.fiber_frames.specs.Fiber.{Fiber}
 use Rattle.every_schedule.specs.Places.{Kept, report_at}
 use Rattle.every_schedule.specs.Private.Numbered.{AreAt, place_of}
 use Rattle.std.proofs.lemmas.Result.{IfOk-weaker}
-use Rattle.outcome_trace.specs.Core.{fiber_report}
+use Rattle.scheduled_core.specs.Core.{fiber_report}
 use Rattle.every_schedule.proofs.Alikeness.{told}
 use Rattle.every_schedule.proofs.Numbered.{fibers_there, picked_is}
 use Rattle.every_schedule.proofs.Entering.{place_at}

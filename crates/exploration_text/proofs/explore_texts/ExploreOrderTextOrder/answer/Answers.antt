@@ -4,12 +4,12 @@ use Rattle.exploration_text.proofs.explore_texts.ExploreOrderTextOrder.answer.Go
 
 pub returns-in-Ok : goal.returns-in-Ok
 returns-in-Ok c =
-    program_explored c.args.text.now c.args.self.now.limits c.args.self.now.wants.items c.in-Ok.program c.explored_answer.result
+    program_explored c.args.text.now c.args.self.now.limits c.args.self.now.bounds c.args.self.now.wants.items c.in-Ok.program c.explored_answer.result
     c.in-Ok.ensures.program c.in-Ok.ensures.limits c.explored_answer.ensures
 
 pub returns-in-Err : goal.returns-in-Err
 returns-in-Err c =
-    refusal_explored c.args.text.now c.args.self.now.limits c.args.self.now.wants.items c.refusal.result
+    refusal_explored c.args.text.now c.args.self.now.limits c.args.self.now.bounds c.args.self.now.wants.items c.refusal.result
     (refusal_answers c.args.text.now c.in-Err.refused c.refusal.result c.in-Err.ensures.refused c.refusal.ensures.line c.refusal.ensures.status
     c.refusal.ensures.told)
 

@@ -1,0 +1,60 @@
+-- What comes of words: the request that they give is obeyed, or the reason why there is none is told.
+use Rattle.std.specs.Prelude.{◌≡◌, ◌≢◌, ◌⊎◌, true, List, [], Some, None}
+use Rattle.clap.specs.Words.{IsAmong, Text, fault_of, subcommand_of, takes}
+use Rattle.clap.specs.declared.error.kind.ErrorKind.{ErrorKind}
+use Rattle.text_io.specs.declared.status.Status.{Status}
+use Rattle.text_io.specs.Devices.{Devices}
+use Rattle.command_words.specs.declared.requests.Request.{Request}
+use Rattle.command_words.specs.declared.requests.Request.TheVariants.{Check, Show, Replay, Explore, Run, Sample}
+use Rattle.command_line.specs.Checks.{ObeysCheck, ObeysShow}
+use Rattle.command_line.specs.Explorings.{ObeysExplore}
+use Rattle.command_line.specs.Replays.{ObeysReplay}
+use Rattle.command_line.specs.Runs.{ObeysRun}
+use Rattle.command_line.specs.Samplings.{ObeysSample}
+use Rattle.command_words.specs.Telling.{LacksMemory, TellsKind, TellsWrong}
+use Rattle.command_words.specs.Words.{program}
+use Rattle.command_words.specs.Requests.{GivesRequest}
+
+-- what a request comes to
+abbrev pub ObeysRequest : Request → Devices → Devices → Status → Type 0
+ObeysRequest (Check checking) before after status = ObeysCheck checking before after status
+ObeysRequest (Show showing) before after status = ObeysShow showing before after status
+ObeysRequest (Replay replay) before after status = ObeysReplay replay before after status
+ObeysRequest (Explore exploring) before after status = ObeysExplore exploring before after status
+ObeysRequest (Run running) before after status = ObeysRun running before after status
+ObeysRequest (Sample sampling) before after status = ObeysSample sampling before after status
+
+-- Nothing is wrong with the words, and the request that they give is obeyed.
+pub record RunsRequest (words : List Text) (before after : Devices) (status : Status) : Type 0 where
+  pub request : Request
+  pub right : fault_of program words ≡ []
+  pub gives : GivesRequest (subcommand_of program words) (Some request)
+  pub obeys : ObeysRequest request before after status
+
+-- The words give no request, which is told, or there is no memory to tell it.
+pub record HasNoRequest (words : List Text) (before after : Devices) (status : Status) : Type 0 where
+  pub gives : GivesRequest (subcommand_of program words) None
+  pub unread : after.input ≡ before.input
+  pub unanswered : after.out ≡ before.out
+  pub told : TellsWrong before.err after.err status ⊎ LacksMemory before.err after.err status
+
+-- The words aren't taken, for the first thing that is wrong with them or that they ask for.
+pub record IsRefused (words : List Text) (before after : Devices) (status : Status) : Type 0 where
+  pub kind : ErrorKind
+  pub among : IsAmong kind (fault_of program words)
+  pub untaken : takes program words ≢ true
+  pub unread : after.input ≡ before.input
+  pub told : TellsKind kind before.out after.out before.err after.err status
+
+-- There is no memory for the words.
+pub record IsOutOfMemory (before after : Devices) (status : Status) : Type 0 where
+  pub unread : after.input ≡ before.input
+  pub unanswered : after.out ≡ before.out
+  pub lacks : LacksMemory before.err after.err status
+
+-- What comes of words. A request alone reads the text.
+pub data Runs (words : List Text) (before after : Devices) (status : Status) : Type 0 where
+  request : RunsRequest words before after status → Runs words before after status
+  no_request : HasNoRequest words before after status → Runs words before after status
+  refused : IsRefused words before after status → Runs words before after status
+  no_words : IsOutOfMemory before after status → Runs words before after status

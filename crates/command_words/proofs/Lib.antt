@@ -1,0 +1,4 @@
+pub mod FormLemmas
+pub mod RangeLemmas
+pub mod WantLemmas
+pub mod WordLemmas

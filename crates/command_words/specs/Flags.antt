@@ -1,0 +1,68 @@
+-- The flags that stand in the words, and the forms that they say.
+use Rattle.std.specs.Prelude.{◌≡◌, Bool, true, false, List, Some, codes}
+use Rattle.clap.specs.Words.{Row, Text, first_of}
+use Rattle.command_words.specs.declared.exploring.ExploreForm.{ExploreForm}
+use Rattle.command_words.specs.declared.exploring.ExploreForm.TheVariants as explores
+use Rattle.command_words.specs.declared.replay.AnswerForm.{AnswerForm}
+use Rattle.command_words.specs.declared.replay.AnswerForm.TheVariants.{Report, Timeline, Picture, Json}
+use Rattle.command_words.specs.declared.running.RunForm.{RunForm}
+use Rattle.command_words.specs.declared.running.RunForm.TheVariants as runs
+
+-- the flag stands in the words
+abbrev pub IsGiven : Text → List Row → Type 0
+IsGiven name options = first_of name options ≡ Some (codes "true")
+
+-- the flag doesn't stand in the words
+abbrev pub IsLeftOut : Text → List Row → Type 0
+IsLeftOut name options = IsGiven name options → ⊥
+
+-- whether the flag stands in the words
+abbrev pub SaysFlag : Text → List Row → Bool → Type 0
+SaysFlag name options true = IsGiven name options
+SaysFlag name options false = IsLeftOut name options
+
+-- the form that the options of `replay` say: that of the one flag of these three that is given, or a report
+abbrev pub SaysForm : List Row → AnswerForm → Type 0
+SaysForm options Report =
+    IsLeftOut (codes "timeline") options × IsLeftOut (codes "svg") options × IsLeftOut (codes "json") options
+SaysForm options Timeline =
+    IsGiven (codes "timeline") options × IsLeftOut (codes "svg") options × IsLeftOut (codes "json") options
+SaysForm options Picture =
+    IsLeftOut (codes "timeline") options × IsGiven (codes "svg") options × IsLeftOut (codes "json") options
+SaysForm options Json =
+    IsLeftOut (codes "timeline") options × IsLeftOut (codes "svg") options × IsGiven (codes "json") options
+
+-- the form that the options of `explore` say, and whether reasons are told, which is never so beside progress
+abbrev pub SaysExploreForm : List Row → ExploreForm → Bool → Type 0
+SaysExploreForm options explores.Report explain =
+    IsLeftOut (codes "progress") options × IsLeftOut (codes "timeline") options × IsLeftOut (codes "json") options ×
+    SaysFlag (codes "explain") options explain
+SaysExploreForm options explores.Timeline explain =
+    IsLeftOut (codes "progress") options × IsGiven (codes "timeline") options × IsLeftOut (codes "json") options ×
+    SaysFlag (codes "explain") options explain
+SaysExploreForm options explores.Json explain =
+    IsLeftOut (codes "progress") options × IsLeftOut (codes "timeline") options × IsGiven (codes "json") options ×
+    SaysFlag (codes "explain") options explain
+SaysExploreForm options explores.Progress false =
+    IsGiven (codes "progress") options × IsLeftOut (codes "timeline") options × IsLeftOut (codes "json") options ×
+    IsLeftOut (codes "explain") options
+SaysExploreForm options explores.Progress true = ⊥
+
+-- the form that the options of `run` say, and whether reasons are told, which is so beside a report alone; a
+-- timeline is one of the schedule that is recorded
+abbrev pub SaysRunForm : List Row → RunForm → Bool → Type 0
+SaysRunForm options runs.Report explain =
+    IsLeftOut (codes "record") options × IsLeftOut (codes "timeline") options × IsLeftOut (codes "json") options ×
+    SaysFlag (codes "explain") options explain
+SaysRunForm options runs.Record false =
+    IsGiven (codes "record") options × IsLeftOut (codes "timeline") options × IsLeftOut (codes "json") options ×
+    IsLeftOut (codes "explain") options
+SaysRunForm options runs.Record true = ⊥
+SaysRunForm options runs.Timeline false =
+    IsGiven (codes "record") options × IsGiven (codes "timeline") options × IsLeftOut (codes "json") options ×
+    IsLeftOut (codes "explain") options
+SaysRunForm options runs.Timeline true = ⊥
+SaysRunForm options runs.Json false =
+    IsLeftOut (codes "record") options × IsLeftOut (codes "timeline") options × IsGiven (codes "json") options ×
+    IsLeftOut (codes "explain") options
+SaysRunForm options runs.Json true = ⊥

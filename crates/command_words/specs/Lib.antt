@@ -1,0 +1,4 @@
+pub mod Flags
+pub mod Requests
+pub mod Telling
+pub mod Words

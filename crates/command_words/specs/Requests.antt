@@ -1,0 +1,131 @@
+-- The request that the words of a command line give.
+use Rattle.std.specs.Prelude.{◌≡◌, ◌≤◌, ℕ, List, [], map, Option, Some, None, codes}
+use Rattle.std.specs.Str.Parse.{IsNumeral, digits_value, without_leading_plus}
+use Rattle.std.specs.List.{All}
+use Rattle.std.specs.Option.{unwrap_or}
+use Rattle.clap.specs.Words.{Row, Text, all_of, first_of, subcommand_of}
+use Rattle.cell_registry.specs.declared.limits.Limits.{Limits}
+use Rattle.exploration_text.specs.declared.explore_texts.ExploreOrder.{ExploreOrder}
+use Rattle.exploration_text.specs.declared.wants.Want.{Want}
+use Rattle.exploration_text.specs.Wants.{IsInRange, want_text}
+use Rattle.exploration_text.specs.declared.sample_texts.SampleOrder.{SampleOrder}
+use Rattle.steal_pool.specs.declared.options.Options.{Options}
+use Rattle.steal_pool.specs.Runs.{limits_of}
+use Rattle.command_words.specs.declared.exploring.Exploring.{Exploring}
+use Rattle.command_words.specs.declared.ranges.NumberRange.{NumberRange}
+use Rattle.command_words.specs.declared.replay.Replay.{Replay as ReplayFields}
+use Rattle.command_words.specs.declared.requests.Request.{Request}
+use Rattle.command_words.specs.declared.requests.Request.TheVariants.{Check, Show, Replay, Explore, Run, Sample}
+use Rattle.command_words.specs.declared.running.Running.{Running}
+use Rattle.command_words.specs.declared.sampling.Sampling.{Sampling}
+use Rattle.command_words.specs.Flags.{SaysExploreForm, SaysFlag, SaysForm, SaysRunForm}
+use Rattle.command_words.specs.Words.{band_range, budget_range, count_range, entries_range, few_range, moves_range}
+use Rattle.command_words.specs.Words.{program, seed_range, times_range, workers_range, worlds_range}
+
+-- the text is a number of the range in decimal digits, with or without a plus in front
+abbrev pub IsNumberOf : NumberRange → Text → Type 0
+IsNumberOf range text =
+    IsNumeral 10 (without_leading_plus text) × (range.least ≤ digits_value 10 (without_leading_plus text)) ×
+    (digits_value 10 (without_leading_plus text) ≤ range.most)
+
+-- the number that an option says: that of its text, or the usual one where the option isn't given
+abbrev pub SaysNumber : NumberRange → Option Text → ℕ → Type 0
+SaysNumber range None n = n ≡ range.usual
+SaysNumber range (Some text) n = IsNumberOf range text × (n ≡ digits_value 10 (without_leading_plus text))
+
+-- the limits that the options of `replay`, of `explore`, of `run` or of `sample` say, with this range of fibers, refs
+-- and deferreds
+pub record SaysLimits (band : NumberRange) (options : List Row) (limits : Limits) : Type 0 where
+  pub fibers : SaysNumber band (first_of (codes "fibers") options) limits.fibers
+  pub refs : SaysNumber band (first_of (codes "refs") options) limits.refs
+  pub deferreds : SaysNumber band (first_of (codes "deferreds") options) limits.deferreds
+  pub count : SaysNumber count_range (first_of (codes "count") options) limits.count
+
+-- how the options of `run` say that the run goes
+pub record SaysRun (options : List Row) (run : Options) : Type 0 where
+  pub workers : SaysNumber workers_range (first_of (codes "workers") options) run.workers
+  pub limits : SaysLimits band_range options (limits_of run)
+  pub budget : SaysNumber budget_range (first_of (codes "budget") options) run.budget
+  pub moves : SaysNumber moves_range (first_of (codes "moves") options) run.moves
+
+-- how far the options of `explore` say that the search goes
+pub record SaysBounds (options : List Row) (worlds entries : ℕ) : Type 0 where
+  pub worlds_are : SaysNumber worlds_range (first_of (codes "worlds") options) worlds
+  pub entries_are : SaysNumber entries_range (first_of (codes "entries") options) entries
+
+-- the texts of an option that may be given more than once, none where it isn't given
+abbrev pub texts_said : Text → List Row → List Text
+texts_said name options = unwrap_or (all_of name options) []
+
+-- the texts spell the outcomes that are wanted, as a report does, in the same order
+pub record AreWants (texts : List Text) (wants : List Want) : Type 0 where
+  pub spelled : map want_text wants ≡ texts
+  pub ranges : All IsInRange wants
+
+-- what the options of `explore` say that the text is explored under
+pub record SaysExplore (options : List Row) (order : ExploreOrder) : Type 0 where
+  pub limits : SaysLimits few_range options order.limits
+  pub bounds : SaysBounds options order.bounds.worlds order.bounds.entries
+  pub wants : AreWants (texts_said (codes "want") options) order.wants.items
+
+-- what the options of `sample` say that schedules are drawn by, and how many, under which limits
+pub record SaysSample (options : List Row) (order : SampleOrder) : Type 0 where
+  pub seed : SaysNumber seed_range (first_of (codes "seed") options) order.seed
+  pub times : SaysNumber times_range (first_of (codes "times") options) order.times
+  pub entries : SaysNumber entries_range (first_of (codes "entries") options) order.entries
+  pub limits : SaysLimits few_range options order.limits
+
+-- the replay that the options of `replay` say
+pub record SaysReplay (options : List Row) (replay : ReplayFields) : Type 0 where
+  pub schedule : first_of (codes "schedule") options ≡ Some replay.schedule.now
+  pub form : SaysForm options replay.form
+  pub explain : SaysFlag (codes "explain") options replay.explain
+  pub limits : SaysLimits band_range options replay.limits
+
+-- the exploration that the options of `explore` say
+pub record SaysExploring (options : List Row) (exploring : Exploring) : Type 0 where
+  pub order : SaysExplore options exploring.order
+  pub form : SaysExploreForm options exploring.form exploring.explain
+
+-- the run that the options of `run` say
+pub record SaysRunning (options : List Row) (running : Running) : Type 0 where
+  pub run : SaysRun options running.options
+  pub form : SaysRunForm options running.form running.explain
+
+-- the sample that the options of `sample` say
+pub record SaysSampling (options : List Row) (sampling : Sampling) : Type 0 where
+  pub order : SaysSample options sampling.order
+  pub json : SaysFlag (codes "json") options sampling.json
+
+-- the request that a subcommand with its options says
+abbrev pub Says : Text × List Row → Request → Type 0
+Says said (Check checking) =
+    (said.0 ≡ codes "check") × SaysFlag (codes "json") said.1 checking.json ×
+    SaysFlag (codes "explain") said.1 checking.explain
+Says said (Show showing) = (said.0 ≡ codes "show") × SaysFlag (codes "explain") said.1 showing.explain
+Says said (Replay replay) = (said.0 ≡ codes "replay") × SaysReplay said.1 replay
+Says said (Explore exploring) = (said.0 ≡ codes "explore") × SaysExploring said.1 exploring
+Says said (Run running) = (said.0 ≡ codes "run") × SaysRunning said.1 running
+Says said (Sample sampling) = (said.0 ≡ codes "sample") × SaysSampling said.1 sampling
+
+-- the request of the words, where a subcommand with its options stands in them that says one
+abbrev pub GivesRequest : Option (Text × List Row) → Option Request → Type 0
+GivesRequest None (Some request) = ⊥
+GivesRequest None None = Unit {0}
+GivesRequest (Some said) (Some request) = Says said request
+GivesRequest (Some said) None = (request : Request) → Says said request → ⊥
+
+-- the schedule of the request comes in the input
+abbrev pub TakesSchedule : Request → Type 0
+TakesSchedule (Check checking) = ⊥
+TakesSchedule (Show showing) = ⊥
+TakesSchedule (Replay replay) = replay.schedule.now ≡ codes "-"
+TakesSchedule (Explore exploring) = ⊥
+TakesSchedule (Run running) = ⊥
+TakesSchedule (Sample sampling) = ⊥
+
+-- the words ask for a schedule that comes in the input
+pub record HasScheduleInInput (words : List Text) : Type 0 where
+  pub request : Request
+  pub gives : GivesRequest (subcommand_of program words) (Some request)
+  pub takes_schedule : TakesSchedule request

@@ -1,0 +1,164 @@
+-- What the words of a command line may be.
+use Rattle.std.specs.Prelude.{true, codes, Some}
+use Rattle.clap.specs.declared.builder.action.ArgAction.TheVariants.{Append, Set, SetTrue}
+use Rattle.clap.specs.declared.builder.value_parser.ValueParser.TheVariants.{Unsigned}
+use Rattle.clap.specs.Simple.{on_top}
+use Rattle.clap.specs.Words.{App, Rule, Text, new_app, new_rule, with_rule, with_subcommand}
+use Rattle.command_words.specs.declared.ranges.NumberRange.{NumberRange}
+
+-- ---- the numbers that the options take: the least, the greatest, and the one where the option isn't given
+-- of fibers, of refs or of deferreds
+abbrev pub band_range : NumberRange
+band_range = record { least = 1; most = 1000; usual = 1000 }
+
+-- the same of an exploration
+abbrev pub few_range : NumberRange
+few_range = record { least = 1; most = 1000; usual = 16 }
+
+-- of changes that a fiber makes of its own state
+abbrev pub count_range : NumberRange
+count_range = record { least = 1; most = 1099511627775; usual = 1099511627775 }
+
+abbrev pub workers_range : NumberRange
+workers_range = record { least = 1; most = 16; usual = 4 }
+
+-- of moves that a turn has at most
+abbrev pub budget_range : NumberRange
+budget_range = record { least = 2; most = 10000; usual = 64 }
+
+-- of moves that fiber 0 may make
+abbrev pub moves_range : NumberRange
+moves_range = record { least = 1; most = 1000000; usual = 100000 }
+
+-- of worlds that an exploration keeps
+abbrev pub worlds_range : NumberRange
+worlds_range = record { least = 1; most = 1000000; usual = 100000 }
+
+-- of entries that the schedules of an exploration have, and those of a sample
+abbrev pub entries_range : NumberRange
+entries_range = record { least = 1; most = 1000000; usual = 10000 }
+
+-- what the schedules of a sample are drawn by
+abbrev pub seed_range : NumberRange
+seed_range = record { least = 0; most = 9223372036854775807; usual = 0 }
+
+-- of schedules that a sample draws
+abbrev pub times_range : NumberRange
+times_range = record { least = 1; most = 1000000; usual = 1000 }
+
+-- ---- the options
+-- an option that takes a whole number of this range
+abbrev pub number_option : Text → NumberRange → Rule
+number_option id range = record (new_rule id) {
+  long = Some id;
+  value_names = 1;
+  action = Some Set;
+  parser = Some (Unsigned range.least range.most);
+}
+
+-- a flag, which takes no value
+abbrev pub flag : Text → Rule
+flag id = record (new_rule id) {
+  long = Some id;
+  action = Some SetTrue;
+}
+
+abbrev pub schedule_option : Rule
+schedule_option = record (new_rule (codes "schedule")) {
+  long = Some (codes "schedule");
+  value_names = 1;
+  action = Some Set;
+  required = true;
+}
+
+abbrev pub want_option : Rule
+want_option = record (new_rule (codes "want")) {
+  long = Some (codes "want");
+  value_names = 1;
+  action = Some Append;
+}
+
+-- with the options for the limits of a run
+abbrev pub with_limits : App → App
+with_limits app =
+    with_rule (with_rule (with_rule (with_rule app
+    (number_option (codes "fibers") band_range))
+    (number_option (codes "refs") band_range))
+    (number_option (codes "deferreds") band_range))
+    (number_option (codes "count") count_range)
+
+-- with the flags that ask for another form than a report
+abbrev pub with_forms : App → App
+with_forms app =
+    with_rule (with_rule (with_rule app (flag (codes "timeline"))) (flag (codes "svg"))) (flag (codes "json"))
+
+-- ---- the commands
+abbrev pub check_command : App
+check_command = with_rule (with_rule (new_app (codes "check")) (flag (codes "json"))) (flag (codes "explain"))
+
+abbrev pub show_command : App
+show_command = with_rule (new_app (codes "show")) (flag (codes "explain"))
+
+abbrev pub replay_command : App
+replay_command =
+    with_rule (with_forms (with_limits (with_rule (new_app (codes "replay")) schedule_option)))
+    (flag (codes "explain"))
+
+-- with the flags that ask for another form of an exploration than a list
+abbrev pub with_explore_forms : App → App
+with_explore_forms app =
+    with_rule (with_rule (with_rule app (flag (codes "progress"))) (flag (codes "timeline"))) (flag (codes "json"))
+
+-- `explore` without its flags
+abbrev pub explore_options : App
+explore_options =
+    with_rule (with_rule (with_rule (with_limits (new_app (codes "explore")))
+    (number_option (codes "worlds") worlds_range))
+    (number_option (codes "entries") entries_range))
+    want_option
+
+abbrev pub explore_command : App
+explore_command = with_rule (with_explore_forms explore_options) (flag (codes "explain"))
+
+-- with the flags that ask for another form of a run than a report
+abbrev pub with_run_forms : App → App
+with_run_forms app =
+    with_rule (with_rule (with_rule app (flag (codes "record"))) (flag (codes "timeline"))) (flag (codes "json"))
+
+-- `run` without its flags
+abbrev pub run_options : App
+run_options =
+    with_rule (with_rule (with_limits (with_rule (new_app (codes "run"))
+    (number_option (codes "workers") workers_range)))
+    (number_option (codes "budget") budget_range))
+    (number_option (codes "moves") moves_range)
+
+abbrev pub run_command : App
+run_command = with_rule (with_run_forms run_options) (flag (codes "explain"))
+
+-- `sample` without its flag
+abbrev pub sample_options : App
+sample_options =
+    with_limits (with_rule (with_rule (with_rule (new_app (codes "sample"))
+    (number_option (codes "seed") seed_range))
+    (number_option (codes "times") times_range))
+    (number_option (codes "entries") entries_range))
+
+abbrev pub sample_command : App
+sample_command = with_rule sample_options (flag (codes "json"))
+
+-- the command, which wants a subcommand, and tells its version
+abbrev pub bare_program : App
+bare_program = on_top (λ s. record s { subcommand_required = true; has_version = true }) (new_app (codes "fiber_cli"))
+
+-- with its six subcommands
+abbrev pub program : App
+program =
+    with_subcommand (with_subcommand (with_subcommand (with_subcommand
+    (with_subcommand (with_subcommand bare_program
+    check_command.top)
+    show_command.top)
+    replay_command.top)
+    explore_command.top)
+    run_command.top)
+    sample_command.top

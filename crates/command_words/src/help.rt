@@ -1,0 +1,239 @@
+//! What the help tells: of the program, of each subcommand and of each option. No line that comes of these texts is
+//! longer than 100 columns.
+
+/// What is told of a command: in one line, and behind its options.
+#[derive(Clone, Copy)]
+pub struct CommandHelp<'a> {
+    pub about: &'a str,
+    pub after: &'a str,
+}
+
+/// The program itself, with the legend of the marks.
+pub const PROGRAM: CommandHelp<'static> = CommandHelp {
+    about: "Runs effect programs on fibers",
+    after: "The program's text is read from standard input.
+
+Examples, of which the first finds all that can come of a race:
+  echo '(race (pure 1) (pure 2))' | fiber_cli explore
+  fiber_cli run < FILE
+
+A report has a line for each fiber: its number, its outcome, and its marks in their order. M is the
+number of one of the fiber's masks, V a value, C the code of an error:
+  enter M      the fiber enters the mask M: until it leaves it, it is cut in its poll alone
+  leave M      it leaves the mask M
+  in M         it enters a poll of the mask M
+  out M        it leaves that poll
+  acquired M   a bracket has acquired, under the mask M
+  releasing M  this bracket begins to release
+  released M   it has released
+  cut          the fiber is canceled here: from here on its finalizers run, and nothing else
+  say V        the word (say V)
+  dropped C    a finalizer raised C, which changes nothing
+
+Exit status:
+   0  fiber 0 succeeded, the text was checked or shown, or help was asked for
+   1  fiber 0 errored
+   2  fiber 0 was canceled
+   3  fiber 0 has not ended
+  64  the words or the schedule are wrong
+  65  the text is refused
+  70  a run or a device failed, or memory ran out
+
+Exit status of explore, where it is not 64, 65 or 70:
+   0  every schedule was explored, and nothing unwanted was found
+   1  something unwanted was found; without --want, a fault
+   3  a bound was reached, and nothing unwanted was found
+
+Exit status of sample, where it is not 64, 65 or 70:
+   0  no schedule came to a fault
+   1  some schedule came to a fault",
+};
+
+pub const CHECK: CommandHelp<'static> = CommandHelp {
+    about: "Tells whether the text is a program",
+    after: "The text is read from standard input.
+
+Example:
+  echo '(seq (say 1) (pure 2))' | fiber_cli check
+
+Exit status:
+   0  the text is a program
+  64  the words are wrong
+  65  the text is refused
+  70  a device failed, or memory ran out",
+};
+
+pub const SHOW: CommandHelp<'static> = CommandHelp {
+    about: "Prints the expansion of the program",
+    after: "The program's text is read from standard input.
+
+Example:
+  echo '(guarantee (say 1) (say 2))' | fiber_cli show
+
+Exit status:
+   0  the expansion was printed
+  64  the words are wrong
+  65  the text is refused
+  70  a device failed, or memory ran out",
+};
+
+pub const REPLAY: CommandHelp<'static> = CommandHelp {
+    about: "Runs the program under a schedule, and prints its report",
+    after: "The program's text is read from standard input. With --schedule - the schedule is its first line,
+and the text is what stands behind it.
+
+Example, of a fiber that is canceled where it polls:
+  echo '(uncancelable p (seq (canceled) (poll p (say 2))))' | fiber_cli replay --schedule \"0*99\"
+
+'fiber_cli --help' explains the report.
+
+Exit status:
+   0  fiber 0 succeeded
+   1  fiber 0 errored
+   2  fiber 0 was canceled
+   3  fiber 0 has not ended
+  64  the words or the schedule are wrong
+  65  the text is refused
+  70  the replay came to a fault, a device failed, or memory ran out",
+};
+
+pub const EXPLORE: CommandHelp<'static> = CommandHelp {
+    about: "Explores every schedule, and prints all that can come of the program",
+    after: "The program's text is read from standard input.
+
+Example, which finds a release that is lost:
+  echo '(ref r 0 (start f (let c (modify r 1) (guarantee (never) (modify r -1)))
+    (seq (cancel f) (get r))))' | fiber_cli explore --want \"succeeded 0\"
+
+Example of all that can come of a race, with how it came:
+  echo '(race (pure 1) (pure 2))' | fiber_cli explore --timeline
+
+Example of a long search, which tells how far it has come:
+  fiber_cli explore --worlds 1000000 --progress < FILE
+
+'fiber_cli --help' explains the reports. Each stands below a schedule, under which replay gives it.
+
+Exit status:
+   0  every schedule was explored, and nothing unwanted was found
+   1  something unwanted was found; without --want, a fault
+   3  a bound was reached, and nothing unwanted was found
+  64  the words are wrong
+  65  the text is refused
+  70  a device failed, or memory ran out",
+};
+
+pub const RUN: CommandHelp<'static> = CommandHelp {
+    about: "Runs the program on work-stealing threads, and prints its report",
+    after: "The program's text is read from standard input.
+
+Examples, of a race whose loser has a finalizer, of one that can be replayed, with its timeline, and
+of a fiber that waits for nothing:
+  echo '(race (pure 4) (oncancel (never) (say 9)))' | fiber_cli run --workers 4
+  echo '(race (pure 4) (oncancel (never) (say 9)))' | fiber_cli run --record --timeline
+  echo '(deferred d (await d))' | fiber_cli run --explain
+
+'fiber_cli --help' explains the report, which is one that some schedule gives.
+
+Exit status:
+   0  fiber 0 succeeded
+   1  fiber 0 errored
+   2  fiber 0 was canceled
+   3  fiber 0 has not ended
+  64  the words are wrong
+  65  the text is refused
+  70  the run or a device failed, or memory ran out",
+};
+
+pub const SAMPLE: CommandHelp<'static> = CommandHelp {
+    about: "Draws schedules at random, and prints what came of them and how often",
+    after: "The program's text is read from standard input.
+
+Example, which draws the same hundred schedules of a race each time:
+  echo '(race (say 1) (say 2))' | fiber_cli sample --times 100 --seed 7
+  echo '(race (say 1) (say 2))' | fiber_cli sample --times 100 --seed 7 --json
+
+'fiber_cli --help' explains the reports. Each stands below the first schedule that came to it, under
+which replay gives it. 'cut short' says that each schedule that came to it has as many entries as
+there may be (--entries), and that a fiber could still go on: the report may not be a final one. The
+same seed draws the same schedules.
+
+Exit status:
+   0  the sample was printed, and no schedule came to a fault
+   1  some schedule came to a fault
+  64  the words are wrong
+  65  the text is refused
+  70  a device failed, or memory ran out",
+};
+
+/// What is told of the options for the limits of a run.
+#[derive(Clone, Copy)]
+pub struct LimitsHelp<'a> {
+    pub fibers: &'a str,
+    pub refs: &'a str,
+    pub deferreds: &'a str,
+}
+
+/// Of `replay` and of `run`.
+pub const MANY: LimitsHelp<'static> = LimitsHelp {
+    fibers: "How many fibers there may be, 1 to 1000 [default: 1000]",
+    refs: "How many refs there may be, 1 to 1000 [default: 1000]",
+    deferreds: "How many deferreds there may be, 1 to 1000 [default: 1000]",
+};
+
+/// Of `explore` and of `sample`.
+pub const FEW: LimitsHelp<'static> = LimitsHelp {
+    fibers: "How many fibers there may be, 1 to 1000 [default: 16]",
+    refs: "How many refs there may be, 1 to 1000 [default: 16]",
+    deferreds: "How many deferreds there may be, 1 to 1000 [default: 16]",
+};
+
+pub const COUNT: &str = "How often a fiber may change its own state, 1 to 1099511627775
+[default: 1099511627775]";
+
+pub const SCHEDULE: &str = "Whose move is next: items F or F*K (K moves of fiber F) with one space
+between, as in \"0*2 1*9\". F is 0 to 999, K is 1 to 100000. Where it is
+-, it is the first line of the input";
+
+pub const WORLDS: &str = "How many worlds are kept, each a state of all fibers and cells,
+1 to 1000000 [default: 100000]";
+
+pub const ENTRIES: &str = "How many entries a schedule may have, 1 to 1000000 [default: 10000]";
+
+pub const WANT: &str = "An outcome of fiber 0 that is wanted, as a report spells it:
+\"succeeded V\", \"errored C\", canceled or unended. It may be given more
+than once. A report with another outcome, and a fault, is then not wanted";
+
+pub const WORKERS: &str = "How many workers there are, threads that move fibers and steal them from
+one another, 1 to 16 [default: 4]";
+
+pub const BUDGET: &str = "How many moves a worker makes of a fiber in one turn at most, after which
+another that is ready has its turn, 2 to 10000 [default: 64]";
+
+pub const MOVES: &str = "How many moves fiber 0 may make, and each other fiber with those of its
+parent before it, 1 to 1000000 [default: 100000]. A fiber that has made
+them is reported as unended";
+
+pub const SEED: &str = "What the schedules are drawn by, 0 to 9223372036854775807 [default: 0]";
+
+pub const TIMES: &str = "How many schedules are drawn, 1 to 1000000 [default: 1000]";
+
+pub const EXPLAIN: &str =
+    "Tell reasons on standard error: where a text or a schedule is refused, and
+why a fiber of a replay or a run hasn't ended";
+
+pub const RECORD: &str = "Tell a schedule behind the report, under which replay gives it, or why
+there is none";
+
+pub const TIMELINE: &str =
+    "Print a timeline behind the report: a row for each entry that did something";
+
+pub const RUN_TIMELINE: &str =
+    "With --record: print a timeline behind the schedule, of the replay under it";
+
+pub const EXPLORE_TIMELINE: &str = "Print a timeline behind each report and each fault";
+
+pub const PROGRESS: &str = "Tell on standard error how far the search has come, while it goes on";
+
+pub const SVG: &str = "Print a picture of the run in place of the report, as SVG";
+
+pub const JSON: &str = "Print the answer as JSON, on one line";

@@ -1,0 +1,28 @@
+//! The words of a command line: which words there are, the request that given words make, and what is said of words
+//! that make none.
+//!
+//! `clap` reads the words. A request is a value: the order to obey, its form and its limits. Nothing here reads a text
+//! or runs a program. The crate promises that the request is the one that the words say, each option with its own
+//! number or its usual one.
+#![tactic(auto)]
+
+mod checking;
+mod exploring;
+mod flags;
+mod help;
+mod ranges;
+mod replay;
+mod requests;
+mod running;
+mod sampling;
+mod words;
+mod wrong_words;
+
+pub use checking::{Checking, Showing};
+pub use exploring::{ExploreForm, Exploring};
+pub use replay::{AnswerForm, Replay};
+pub use requests::{Request, request_of};
+pub use running::{RunForm, Running, limits_of};
+pub use sampling::Sampling;
+pub use words::all_words;
+pub use wrong_words::refuse_words;

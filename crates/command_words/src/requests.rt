@@ -1,0 +1,333 @@
+//! The request that the words of a command line give.
+
+ghost use Rattle.std.specs.Prelude.{◌≡◌, ◌≢◌, ◌≤◌, ◌<◌, ℕ, codes, IfOk, IfSome, IfNone, List, Some, map};
+ghost use Rattle.cell_registry.specs.declared.limits.Limits.{Limits};
+ghost use Rattle.cell_registry.specs.Cells.{AreLimits};
+ghost use Rattle.clap.specs.Words.{first_of, found_of, rows_of, subcommand_rows_of};
+ghost use Rattle.exploration_text.specs.declared.explore_texts.ExploreOrder.{ExploreOrder};
+ghost use Rattle.exploration_text.specs.declared.wants.Want.{Want};
+ghost use Rattle.exploration_text.specs.Wants.{IsInRange, want_text};
+ghost use Rattle.command_words.specs.declared.exploring.Exploring.{Exploring};
+ghost use Rattle.command_words.specs.declared.replay.Replay.{Replay};
+ghost use Rattle.command_words.specs.declared.running.Running.{Running};
+ghost use Rattle.command_words.specs.declared.sampling.Sampling.{Sampling};
+ghost use Rattle.exploration_text.specs.declared.sample_texts.SampleOrder.{SampleOrder};
+ghost use Rattle.steal_pool.specs.declared.options.Options.{Options};
+ghost use Rattle.steal_pool.specs.Runs.{limits_of};
+ghost use Rattle.command_words.specs.Requests.{AreWants, GivesRequest, IsNumberOf, Says, SaysBounds, SaysExplore};
+ghost use Rattle.command_words.specs.Requests.{SaysExploring, SaysLimits, SaysNumber, SaysReplay, SaysRun};
+ghost use Rattle.command_words.specs.Requests.{SaysRunning, SaysSample, SaysSampling, texts_said};
+
+use crate::checking::{Checking, Showing};
+use crate::exploring::Exploring;
+use crate::flags::{explore_form, given, replay_form, run_form, text_of};
+use crate::ranges::{
+    BAND, BUDGET, COUNT, ENTRIES, FEW, MOVES, NumberRange, SEED, TIMES, WORKERS, WORLDS,
+};
+use crate::replay::Replay;
+use crate::running::Running;
+use crate::sampling::Sampling;
+use clap::ArgMatches;
+use exploration_text::{Bounds, ExploreOrder, SampleOrder, Want, read_want};
+use outcome_trace::Limits;
+use std::alloc::{AllocError, Global};
+use steal_pool::Options;
+
+/// What the words of a command line ask for.
+#[derive(Drop)]
+pub enum Request<'a> {
+    /// To tell whether the text is a program.
+    Check(Checking),
+    /// To print the expansion of the text's program.
+    Show(Showing),
+    /// To run the text's program under a schedule, and tell what each fiber came to.
+    Replay(Replay<'a>),
+    /// To explore every schedule of the text's program.
+    Explore(Exploring),
+    /// To run the text's program on workers, and tell what each fiber came to.
+    Run(Running),
+    /// To tell what schedules of the text's program come to that are drawn at random.
+    Sample(Sampling),
+}
+
+// The number of the range that a text spells.
+fn number(text: &str, range: NumberRange) -> Option<u64>
+    ensures spelled { IfSome result (SaysNumber range (Some text.now)) }
+    ensures none { IfNone result (IsNumberOf range text.now → ⊥) }
+{
+    match text.parse::<u64>() {
+        Ok(number) if range.least <= number && number <= range.most => Some(number),
+        _ => None,
+    }
+}
+
+// The number that an option says, which is the usual one where the option isn't given.
+fn number_of(matches: &ArgMatches<'_>, name: &str, range: NumberRange) -> Option<u64>
+    requires { (range.least ≤ range.usual) × (range.usual ≤ range.most) }
+    ensures said { IfSome result (SaysNumber range (first_of name.now (rows_of (found_of matches.now)))) }
+    ensures none { IfNone result ((n : ℕ) → SaysNumber range (first_of name.now (rows_of (found_of matches.now))) n →
+        ⊥) }
+    ensures least { IfSome result (λ n. range.least ≤ n) }
+    ensures most { IfSome result (λ n. n ≤ range.most) }
+{
+    match text_of(matches, name) {
+        Some(text) => number(text, range),
+        None => Some(range.usual),
+    }
+}
+
+// The limits that the options of `replay`, of `explore`, of `run` or of `sample` say, with this range of
+// fibers, of refs and of deferreds.
+fn limits_of(options: &ArgMatches<'_>, band: NumberRange) -> Option<Limits>
+    requires least { band.least ≡ 1 }
+    requires most { band.most ≡ 1000 }
+    requires usual { (1 ≤ band.usual) × (band.usual ≤ 1000) }
+    ensures said { IfSome result (SaysLimits band (rows_of (found_of options.now))) }
+    ensures none { IfNone result ((limits : Limits) → SaysLimits band (rows_of (found_of options.now)) limits → ⊥) }
+    ensures ranges { IfSome result AreLimits }
+{
+    let fibers = number_of(options, "fibers", band)?;
+    let refs = number_of(options, "refs", band)?;
+    let deferreds = number_of(options, "deferreds", band)?;
+    let count = number_of(options, "count", COUNT)?;
+    Some(Limits {
+        fibers: fibers as u16,
+        refs: refs as u16,
+        deferreds: deferreds as u16,
+        count,
+    })
+}
+
+// How the options of `run` say that the run goes.
+fn run_options(run: &ArgMatches<'_>) -> Option<Options>
+    ensures said { IfSome result (SaysRun (rows_of (found_of run.now))) }
+    ensures none { IfNone result ((options : Options) → SaysRun (rows_of (found_of run.now)) options → ⊥) }
+    ensures limits { IfSome result (λ o. AreLimits (limits_of o)) }
+    ensures budget { IfSome result (λ o. 1 < o.budget) }
+{
+    let workers = number_of(run, "workers", WORKERS)?;
+    let limits = limits_of(run, BAND)?;
+    let budget = number_of(run, "budget", BUDGET)?;
+    let moves = number_of(run, "moves", MOVES)?;
+    Some(Options {
+        workers: workers as u8,
+        fibers: limits.fibers,
+        refs: limits.refs,
+        deferreds: limits.deferreds,
+        count: limits.count,
+        budget: budget as u32,
+        moves: moves as u32,
+    })
+}
+
+// The run that the options of `run` say.
+fn running_of(run: &ArgMatches<'_>) -> Option<Running>
+    ensures said { IfSome result (SaysRunning (rows_of (found_of run.now))) }
+    ensures none { IfNone result ((said : Running) → SaysRunning (rows_of (found_of run.now)) said → ⊥) }
+{
+    let (form, explain) = run_form(run)?;
+    let options = run_options(run)?;
+    Some(Running {
+        options,
+        form,
+        explain,
+    })
+}
+
+// The replay that the options of `replay` say.
+fn replay_of<'a>(replay: &ArgMatches<'a>) -> Option<Replay<'a>>
+    ensures said { IfSome result (SaysReplay (rows_of (found_of replay.now))) }
+    ensures none { IfNone result ((said : Replay) → SaysReplay (rows_of (found_of replay.now)) said → ⊥) }
+{
+    let schedule = text_of(replay, "schedule")?;
+    let form = replay_form(replay)?;
+    let limits = limits_of(replay, BAND)?;
+    Some(Replay {
+        schedule,
+        form,
+        explain: given(replay, "explain"),
+        limits,
+    })
+}
+
+// What the options of `sample` say that schedules are drawn by, and how many, under which limits.
+fn sample_order(sample: &ArgMatches<'_>) -> Option<SampleOrder>
+    ensures said { IfSome result (SaysSample (rows_of (found_of sample.now))) }
+    ensures none { IfNone result ((order : SampleOrder) → SaysSample (rows_of (found_of sample.now)) order → ⊥) }
+{
+    let seed = number_of(sample, "seed", SEED)?;
+    let times = number_of(sample, "times", TIMES)?;
+    let entries = number_of(sample, "entries", ENTRIES)?;
+    let limits = limits_of(sample, FEW)?;
+    Some(SampleOrder {
+        limits,
+        seed,
+        times: times as u32,
+        entries: entries as u32,
+    })
+}
+
+// The sample that the options of `sample` say.
+fn sampling_of(sample: &ArgMatches<'_>) -> Option<Sampling>
+    ensures said { IfSome result (SaysSampling (rows_of (found_of sample.now))) }
+    ensures none { IfNone result ((said : Sampling) → SaysSampling (rows_of (found_of sample.now)) said → ⊥) }
+{
+    let order = sample_order(sample)?;
+    Some(Sampling {
+        order,
+        json: given(sample, "json"),
+    })
+}
+
+// How far the options of `explore` say that the search goes.
+fn bounds_of(explore: &ArgMatches<'_>) -> Option<Bounds>
+    ensures said { IfSome result (λ b. SaysBounds (rows_of (found_of explore.now)) b.worlds b.entries) }
+    ensures none { IfNone result ((worlds : ℕ) (entries : ℕ) →
+        SaysBounds (rows_of (found_of explore.now)) worlds entries → ⊥) }
+    ensures short { IfSome result (λ b. b.entries ≤ 1000000) }
+{
+    let worlds = number_of(explore, "worlds", WORLDS)?;
+    let entries = number_of(explore, "entries", ENTRIES)?;
+    Some(Bounds {
+        worlds: worlds as usize,
+        entries: entries as usize,
+    })
+}
+
+// The outcomes that texts spell, where each spells one.
+fn wants_of(alloc: Global, texts: &[&str]) -> Result<Option<Vec<Want>>, AllocError>
+    ensures said { IfOk result (λ found. IfSome found (λ wants. AreWants (map (λ s. s.now) texts.now) wants.items)) }
+    ensures none { IfOk result (λ found. IfNone found ((wants : List Want) →
+        AreWants (map (λ s. s.now) texts.now) wants → ⊥)) }
+{
+    let mut wants = Vec::new(alloc);
+    for text in texts {
+        match read_want(text) {
+            Some(Want::Ended(outcome)) => wants.push(Want::Ended(outcome))?,
+            Some(Want::Unended) => wants.push(Want::Unended)?,
+            None => return Ok(None),
+        }
+    }
+    Ok(Some(wants))
+}
+
+// The outcomes that the options of `explore` say are wanted, where each text spells one.
+fn wants_said(alloc: Global, explore: &ArgMatches<'_>) -> Result<Option<Vec<Want>>, AllocError>
+    ensures said { IfOk result (λ found. IfSome found (λ wants.
+        AreWants (texts_said (codes "want") (rows_of (found_of explore.now))) wants.items)) }
+    ensures none { IfOk result (λ found. IfNone found ((wants : List Want) →
+        AreWants (texts_said (codes "want") (rows_of (found_of explore.now))) wants → ⊥)) }
+{
+    match explore.get_strs("want") {
+        Some(texts) => wants_of(alloc, texts),
+        None => Ok(Some(Vec::new(alloc))),
+    }
+}
+
+// What the options of `explore` say that the text is explored under.
+fn explore_order(
+    alloc: Global,
+    explore: &ArgMatches<'_>,
+) -> Result<Option<ExploreOrder>, AllocError>
+    ensures said { IfOk result (λ found. IfSome found (SaysExplore (rows_of (found_of explore.now)))) }
+    ensures none { IfOk result (λ found. IfNone found ((order : ExploreOrder) →
+        SaysExplore (rows_of (found_of explore.now)) order → ⊥)) }
+{
+    let Some(limits) = limits_of(explore, FEW) else {
+        return Ok(None);
+    };
+    let Some(bounds) = bounds_of(explore) else {
+        return Ok(None);
+    };
+    let Some(wants) = wants_said(alloc, explore)? else {
+        return Ok(None);
+    };
+    Ok(Some(ExploreOrder {
+        limits,
+        bounds,
+        wants,
+    }))
+}
+
+// The exploration that the options of `explore` say.
+fn exploring_of(alloc: Global, explore: &ArgMatches<'_>) -> Result<Option<Exploring>, AllocError>
+    ensures said { IfOk result (λ found. IfSome found (SaysExploring (rows_of (found_of explore.now)))) }
+    ensures none { IfOk result (λ found. IfNone found ((said : Exploring) →
+        SaysExploring (rows_of (found_of explore.now)) said → ⊥)) }
+{
+    let Some((form, explain)) = explore_form(explore) else {
+        return Ok(None);
+    };
+    match explore_order(alloc, explore)? {
+        Some(order) => Ok(Some(Exploring {
+            order,
+            form,
+            explain,
+        })),
+        None => Ok(None),
+    }
+}
+
+// The request that `check` gives with its options.
+fn check_request<'a>(options: &ArgMatches<'a>) -> Request<'a>
+    ensures { Says (codes "check", rows_of (found_of options.now)) result }
+{
+    Request::Check(Checking {
+        json: given(options, "json"),
+        explain: given(options, "explain"),
+    })
+}
+
+// The request that `show` gives with its options.
+fn show_request<'a>(options: &ArgMatches<'a>) -> Request<'a>
+    ensures { Says (codes "show", rows_of (found_of options.now)) result }
+{
+    Request::Show(Showing {
+        explain: given(options, "explain"),
+    })
+}
+
+// The request that a subcommand other than `explore` gives with its options.
+fn plain_request<'a>(name: &str, options: &ArgMatches<'a>) -> Option<Request<'a>>
+    requires { name.now ≢ codes "explore" }
+    ensures { GivesRequest (Some (name.now, rows_of (found_of options.now))) result }
+{
+    match name {
+        "check" => Some(check_request(options)),
+        "show" => Some(show_request(options)),
+        "replay" => Some(Request::Replay(replay_of(options)?)),
+        "run" => Some(Request::Run(running_of(options)?)),
+        "sample" => Some(Request::Sample(sampling_of(options)?)),
+        _ => None,
+    }
+}
+
+// The request that `explore` gives with its options.
+fn explore_request<'a>(
+    alloc: Global,
+    options: &ArgMatches<'a>,
+) -> Result<Option<Request<'a>>, AllocError>
+    ensures { IfOk result (GivesRequest (Some (codes "explore", rows_of (found_of options.now)))) }
+{
+    match exploring_of(alloc, options)? {
+        Some(exploring) => Ok(Some(Request::Explore(exploring))),
+        None => Ok(None),
+    }
+}
+
+/// The request that the words give. `AllocError` where memory ran out.
+pub fn request_of<'a>(
+    alloc: Global,
+    matches: &ArgMatches<'a>,
+) -> Result<Option<Request<'a>>, AllocError>
+    ensures request { IfOk result (GivesRequest (subcommand_rows_of matches.now)) }
+{
+    let Some((name, options)) = matches.subcommand() else {
+        return Ok(None);
+    };
+    if name == "explore" {
+        explore_request(alloc, options)
+    } else {
+        Ok(plain_request(name, options))
+    }
+}

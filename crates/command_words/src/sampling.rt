@@ -1,0 +1,12 @@
+//! What a sample is told.
+
+use exploration_text::SampleOrder;
+
+/// To tell what schedules of the text's program come to that are drawn at random.
+#[derive(Clone, Copy)]
+pub struct Sampling {
+    /// What is sampled, by which seed, how often and how far.
+    pub order: SampleOrder,
+    /// Whether it is told as JSON.
+    pub json: bool,
+}

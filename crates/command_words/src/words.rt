@@ -1,0 +1,266 @@
+//! What the words of a command line may be.
+
+ghost use Rattle.std.specs.Prelude.{◌≡◌, ◌<◌, ◌^◌, codes, false, IfOk};
+ghost use Rattle.clap.specs.Words.{app_of, new_app, rule_of, with_rule};
+ghost use Rattle.clap.specs.declared.builder.command.Command.TheViews.{out-Command};
+ghost use Rattle.command_words.specs.Words.{check_command, explore_command, explore_options, flag, number_option};
+ghost use Rattle.command_words.specs.Words.{bare_program, program};
+ghost use Rattle.command_words.specs.Words.{replay_command, run_command, run_options, sample_command, sample_options};
+ghost use Rattle.command_words.specs.Words.{schedule_option, show_command, want_option, with_explore_forms, with_forms};
+ghost use Rattle.command_words.specs.Words.{with_limits, with_run_forms};
+
+use crate::help;
+use crate::help::{CommandHelp, LimitsHelp};
+use crate::ranges::{
+    BAND, BUDGET, COUNT, ENTRIES, MOVES, NumberRange, SEED, TIMES, WORKERS, WORLDS,
+};
+use clap::{Arg, ArgAction, Command, value_parser};
+use std::alloc::{AllocError, Global};
+
+// What `--version` tells behind the name.
+const VERSION: &str = "0.1.0";
+
+// A command without words of its own, with its help.
+fn new_command<'a>(alloc: Global, name: &'a str, help: CommandHelp<'a>) -> Command<'a>
+    ensures shape { app_of result ≡ new_app name.entry.now }
+    ensures local { (out-Command result).has_globals ≡ false }
+{
+    Command::new(alloc, name)
+        .about(help.about)
+        .after_help(help.after)
+}
+
+// An option that takes a whole number of this range.
+fn number_option<'a>(alloc: Global, name: &'a str, help: &'a str, range: NumberRange) -> Arg<'a>
+    requires least { range.least < 2 ^ 63 }
+    requires most { range.most < 2 ^ 63 }
+    ensures rule { rule_of result ≡ number_option name.entry.now range }
+    ensures local { result.global ≡ false }
+{
+    Arg::new(alloc, name)
+        .long(name)
+        .value_name("N")
+        .help(help)
+        .action(ArgAction::Set)
+        .value_parser(value_parser!(u64).range(range.least as i64..=range.most as i64))
+}
+
+// A flag, which takes no value.
+fn flag<'a>(alloc: Global, name: &'a str, help: &'a str) -> Arg<'a>
+    ensures rule { rule_of result ≡ flag name.entry.now }
+    ensures local { result.global ≡ false }
+{
+    Arg::new(alloc, name)
+        .long(name)
+        .help(help)
+        .action(ArgAction::SetTrue)
+}
+
+// Adds a flag.
+fn with_flag<'a>(
+    alloc: Global,
+    command: Command<'a>,
+    name: &'a str,
+    help: &'a str,
+) -> Result<Command<'a>, AllocError>
+    ensures shape { IfOk result (λ c. app_of c ≡ with_rule (app_of command.entry) (flag name.entry.now)) }
+    ensures local { IfOk result (λ c. (out-Command c).has_globals ≡ (out-Command command.entry).has_globals) }
+{
+    let flag = flag(alloc, name, help);
+    command.arg(flag)
+}
+
+// Adds the flag that asks for reasons.
+fn with_reasons<'a>(alloc: Global, command: Command<'a>) -> Result<Command<'a>, AllocError>
+    ensures shape { IfOk result (λ c. app_of c ≡ with_rule (app_of command.entry) (flag (codes "explain"))) }
+    ensures local { IfOk result (λ c. (out-Command c).has_globals ≡ (out-Command command.entry).has_globals) }
+{
+    with_flag(alloc, command, "explain", help::EXPLAIN)
+}
+
+// Adds the flags that ask for another form than a report.
+fn with_forms<'a>(alloc: Global, command: Command<'a>) -> Result<Command<'a>, AllocError>
+    ensures shape { IfOk result (λ c. app_of c ≡ with_forms (app_of command.entry)) }
+    ensures local { IfOk result (λ c. (out-Command c).has_globals ≡ (out-Command command.entry).has_globals) }
+{
+    let command = with_flag(alloc, command, "timeline", help::TIMELINE)?;
+    let command = with_flag(alloc, command, "svg", help::SVG)?;
+    with_flag(alloc, command, "json", help::JSON)
+}
+
+// Adds the flags that ask for another form of an exploration than a list.
+fn with_explore_forms<'a>(alloc: Global, command: Command<'a>) -> Result<Command<'a>, AllocError>
+    ensures shape { IfOk result (λ c. app_of c ≡ with_explore_forms (app_of command.entry)) }
+    ensures local { IfOk result (λ c. (out-Command c).has_globals ≡ (out-Command command.entry).has_globals) }
+{
+    let watched = with_flag(alloc, command, "progress", help::PROGRESS)?;
+    let timed = with_flag(alloc, watched, "timeline", help::EXPLORE_TIMELINE)?;
+    with_flag(alloc, timed, "json", help::JSON)
+}
+
+// Adds the flags that ask for another form of a run than a report.
+fn with_run_forms<'a>(alloc: Global, command: Command<'a>) -> Result<Command<'a>, AllocError>
+    ensures shape { IfOk result (λ c. app_of c ≡ with_run_forms (app_of command.entry)) }
+    ensures local { IfOk result (λ c. (out-Command c).has_globals ≡ (out-Command command.entry).has_globals) }
+{
+    let recorded = with_flag(alloc, command, "record", help::RECORD)?;
+    let timed = with_flag(alloc, recorded, "timeline", help::RUN_TIMELINE)?;
+    with_flag(alloc, timed, "json", help::JSON)
+}
+
+// The option that takes a schedule's text, which must be given.
+fn schedule_option<'a>(alloc: Global) -> Arg<'a>
+    ensures rule { rule_of result ≡ schedule_option }
+    ensures local { result.global ≡ false }
+{
+    Arg::new(alloc, "schedule")
+        .long("schedule")
+        .value_name("TEXT")
+        .help(help::SCHEDULE)
+        .required(true)
+        .action(ArgAction::Set)
+}
+
+// The option that takes an outcome of fiber 0 that is wanted, as often as there are such.
+fn want_option<'a>(alloc: Global) -> Arg<'a>
+    ensures rule { rule_of result ≡ want_option }
+    ensures local { result.global ≡ false }
+{
+    Arg::new(alloc, "want")
+        .long("want")
+        .value_name("OUTCOME")
+        .help(help::WANT)
+        .action(ArgAction::Append)
+}
+
+// Adds the options for the limits of a run.
+fn with_limits<'a>(
+    alloc: Global,
+    command: Command<'a>,
+    help: LimitsHelp<'a>,
+) -> Result<Command<'a>, AllocError>
+    ensures shape { IfOk result (λ c. app_of c ≡ with_limits (app_of command.entry)) }
+    ensures local { IfOk result (λ c. (out-Command c).has_globals ≡ (out-Command command.entry).has_globals) }
+{
+    let fibers = number_option(alloc, "fibers", help.fibers, BAND);
+    let command = command.arg(fibers)?;
+    let refs = number_option(alloc, "refs", help.refs, BAND);
+    let command = command.arg(refs)?;
+    let deferreds = number_option(alloc, "deferreds", help.deferreds, BAND);
+    let command = command.arg(deferreds)?;
+    command.arg(number_option(alloc, "count", help::COUNT, COUNT))
+}
+
+fn check_command<'a>(alloc: Global) -> Result<Command<'a>, AllocError>
+    ensures shape { IfOk result (λ c. app_of c ≡ check_command) }
+    ensures local { IfOk result (λ c. (out-Command c).has_globals ≡ false) }
+{
+    let command = new_command(alloc, "check", help::CHECK);
+    with_reasons(alloc, with_flag(alloc, command, "json", help::JSON)?)
+}
+
+fn show_command<'a>(alloc: Global) -> Result<Command<'a>, AllocError>
+    ensures shape { IfOk result (λ c. app_of c ≡ show_command) }
+    ensures local { IfOk result (λ c. (out-Command c).has_globals ≡ false) }
+{
+    with_reasons(alloc, new_command(alloc, "show", help::SHOW))
+}
+
+fn replay_command<'a>(alloc: Global) -> Result<Command<'a>, AllocError>
+    ensures shape { IfOk result (λ c. app_of c ≡ replay_command) }
+    ensures local { IfOk result (λ c. (out-Command c).has_globals ≡ false) }
+{
+    let command = new_command(alloc, "replay", help::REPLAY).arg(schedule_option(alloc))?;
+    let command = with_limits(alloc, command, help::MANY)?;
+    with_reasons(alloc, with_forms(alloc, command)?)
+}
+
+// `explore` without its flags.
+fn explore_options<'a>(alloc: Global) -> Result<Command<'a>, AllocError>
+    ensures shape { IfOk result (λ c. app_of c ≡ explore_options) }
+    ensures local { IfOk result (λ c. (out-Command c).has_globals ≡ false) }
+{
+    let command = with_limits(
+        alloc,
+        new_command(alloc, "explore", help::EXPLORE),
+        help::FEW,
+    )?;
+    let command = command.arg(number_option(alloc, "worlds", help::WORLDS, WORLDS))?;
+    let command = command.arg(number_option(alloc, "entries", help::ENTRIES, ENTRIES))?;
+    command.arg(want_option(alloc))
+}
+
+fn explore_command<'a>(alloc: Global) -> Result<Command<'a>, AllocError>
+    ensures shape { IfOk result (λ c. app_of c ≡ explore_command) }
+    ensures local { IfOk result (λ c. (out-Command c).has_globals ≡ false) }
+{
+    let command = explore_options(alloc)?;
+    with_reasons(alloc, with_explore_forms(alloc, command)?)
+}
+
+// `run` without its flags.
+fn run_options<'a>(alloc: Global) -> Result<Command<'a>, AllocError>
+    ensures shape { IfOk result (λ c. app_of c ≡ run_options) }
+    ensures local { IfOk result (λ c. (out-Command c).has_globals ≡ false) }
+{
+    let workers = number_option(alloc, "workers", help::WORKERS, WORKERS);
+    let command = new_command(alloc, "run", help::RUN).arg(workers)?;
+    let command = with_limits(alloc, command, help::MANY)?;
+    let command = command.arg(number_option(alloc, "budget", help::BUDGET, BUDGET))?;
+    command.arg(number_option(alloc, "moves", help::MOVES, MOVES))
+}
+
+fn run_command<'a>(alloc: Global) -> Result<Command<'a>, AllocError>
+    ensures shape { IfOk result (λ c. app_of c ≡ run_command) }
+    ensures local { IfOk result (λ c. (out-Command c).has_globals ≡ false) }
+{
+    let command = run_options(alloc)?;
+    with_reasons(alloc, with_run_forms(alloc, command)?)
+}
+
+// `sample` without its flag.
+fn sample_options<'a>(alloc: Global) -> Result<Command<'a>, AllocError>
+    ensures shape { IfOk result (λ c. app_of c ≡ sample_options) }
+    ensures local { IfOk result (λ c. (out-Command c).has_globals ≡ false) }
+{
+    let seed = number_option(alloc, "seed", help::SEED, SEED);
+    let command = new_command(alloc, "sample", help::SAMPLE).arg(seed)?;
+    let command = command.arg(number_option(alloc, "times", help::TIMES, TIMES))?;
+    let command = command.arg(number_option(alloc, "entries", help::ENTRIES, ENTRIES))?;
+    with_limits(alloc, command, help::FEW)
+}
+
+fn sample_command<'a>(alloc: Global) -> Result<Command<'a>, AllocError>
+    ensures shape { IfOk result (λ c. app_of c ≡ sample_command) }
+    ensures local { IfOk result (λ c. (out-Command c).has_globals ≡ false) }
+{
+    let command = sample_options(alloc)?;
+    with_flag(alloc, command, "json", help::JSON)
+}
+
+// The command without its subcommands.
+fn bare_program<'a>(alloc: Global) -> Command<'a>
+    ensures { app_of result ≡ bare_program }
+{
+    new_command(alloc, "fiber_cli", help::PROGRAM)
+        .version(VERSION)
+        .subcommand_required(true)
+}
+
+/// The command, with all that its words may be.
+pub fn all_words<'a>(alloc: Global) -> Result<Command<'a>, AllocError>
+    ensures { IfOk result (λ c. app_of c ≡ program) }
+{
+    let program = bare_program(alloc);
+    let check = check_command(alloc)?;
+    let program = program.subcommand(check)?;
+    let show = show_command(alloc)?;
+    let program = program.subcommand(show)?;
+    let replay = replay_command(alloc)?;
+    let program = program.subcommand(replay)?;
+    let explore = explore_command(alloc)?;
+    let program = program.subcommand(explore)?;
+    let run = run_command(alloc)?;
+    let program = program.subcommand(run)?;
+    program.subcommand(sample_command(alloc)?)
+}

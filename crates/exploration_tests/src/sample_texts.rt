@@ -1,0 +1,158 @@
+//! Whole texts of samples, where the rules leave no choice of schedules.
+
+use crate::sample_answers::order;
+use outcome_trace::{FromRead, Status, TextOrder, ToWrite, answer_text};
+use std::alloc::{AllocError, Global};
+
+// A sample, and what it answers.
+struct Sampled<'a> {
+    // What it shows.
+    rule: &'a str,
+    program: &'a str,
+    fibers: u16,
+    times: u32,
+    entries: u32,
+    status: Status,
+    text: &'a str,
+}
+
+// A fiber alone: each of its schedules is the same.
+const SAMPLED: &[Sampled<'static>] = &[
+    Sampled {
+        rule: "a look and an end, as often as it is drawn",
+        program: "(pure 1)",
+        fibers: 16,
+        times: 5,
+        entries: 100,
+        status: Status::Succeeded,
+        text: "sampled 5 schedules: 1 report, 0 faults\n\ncame 5 times, first under \"0*2\"\nfiber 0 succeeded 1\n",
+    },
+    Sampled {
+        rule: "one schedule that comes once, to an error",
+        program: "(raise 7)",
+        fibers: 16,
+        times: 1,
+        entries: 100,
+        status: Status::Succeeded,
+        text: "sampled 1 schedule: 1 report, 0 faults\n\ncame 1 time, first under \"0*2\"\nfiber 0 errored 7\n",
+    },
+    Sampled {
+        rule: "nothing moves that rests",
+        program: "(never)",
+        fibers: 16,
+        times: 3,
+        entries: 100,
+        status: Status::Succeeded,
+        text: "sampled 3 schedules: 1 report, 0 faults\n\ncame 3 times, first under \"\"\nfiber 0 unended\n",
+    },
+    Sampled {
+        rule: "exactly as many entries as there may be",
+        program: "(pure 1)",
+        fibers: 16,
+        times: 2,
+        entries: 2,
+        status: Status::Succeeded,
+        text: "sampled 2 schedules: 1 report, 0 faults\n\ncame 2 times, first under \"0*2\"\nfiber 0 succeeded 1\n",
+    },
+    Sampled {
+        rule: "one entry more than there may be",
+        program: "(pure 1)",
+        fibers: 16,
+        times: 2,
+        entries: 1,
+        status: Status::Succeeded,
+        text: "sampled 2 schedules: 1 report, 0 faults\n\n\
+            came 2 times, cut short, first under \"0\"\nfiber 0 unended\n",
+    },
+    Sampled {
+        rule: "no entry at all",
+        program: "(pure 1)",
+        fibers: 16,
+        times: 1,
+        entries: 0,
+        status: Status::Succeeded,
+        text: "sampled 1 schedule: 1 report, 0 faults\n\n\
+            came 1 time, cut short, first under \"\"\nfiber 0 unended\n",
+    },
+    Sampled {
+        rule: "no entry at all, where nothing moves: nothing is cut short",
+        program: "(never)",
+        fibers: 16,
+        times: 1,
+        entries: 0,
+        status: Status::Succeeded,
+        text: "sampled 1 schedule: 1 report, 0 faults\n\ncame 1 time, first under \"\"\nfiber 0 unended\n",
+    },
+    Sampled {
+        rule: "what goes round without end is cut short: a look, the loop, a look, a note, a look",
+        program: "(forever (say 1))",
+        fibers: 16,
+        times: 4,
+        entries: 5,
+        status: Status::Succeeded,
+        text: "sampled 4 schedules: 1 report, 0 faults\n\n\
+            came 4 times, cut short, first under \"0*5\"\nfiber 0 unended: say 1\n",
+    },
+    Sampled {
+        rule: "no schedule is drawn",
+        program: "(pure 1)",
+        fibers: 16,
+        times: 0,
+        entries: 100,
+        status: Status::Succeeded,
+        text: "sampled 0 schedules: 0 reports, 0 faults\n",
+    },
+    Sampled {
+        rule: "a start where there may be one fiber: the call that is refused is in the schedule",
+        program: "(start f (pure 1) (pure 2))",
+        fibers: 1,
+        times: 4,
+        entries: 100,
+        status: Status::Errored,
+        text: "sampled 4 schedules: 0 reports, 1 fault\n\ncame 4 times, first under \"0*2\"\nfault 18 Full fibers 1\n",
+    },
+    Sampled {
+        rule: "a text that is refused",
+        program: "(pure 01)",
+        fibers: 16,
+        times: 4,
+        entries: 100,
+        status: Status::Refused,
+        text: "refused 8 BadNumber at 6\n",
+    },
+];
+
+// Whether the text that goes out is the one that is wanted.
+fn is_written(alloc: Global, it: &Sampled<'_>) -> bool {
+    let mut out = Vec::new(alloc);
+    let answered = answer_text(
+        alloc,
+        &order(it.fibers, 1, it.times, it.entries),
+        &mut FromRead::new(it.program.as_bytes()),
+        &mut ToWrite::new(&mut out),
+    );
+    answered == Ok(it.status) && out.as_slice() == it.text.as_bytes()
+}
+
+#[test]
+fn programs_are_sampled(rt: HostRuntime) {
+    for it in SAMPLED {
+        assert!(rt; is_written(rt.alloc(), it), "{}", it.rule);
+    }
+}
+
+// Whether the answer is the one that is wanted, or there is none.
+fn is_answered_if_at_all(alloc: Global, it: &Sampled<'_>) -> bool {
+    match order(it.fibers, 1, it.times, it.entries).answer(alloc, it.program.as_bytes()) {
+        Ok(answer) => answer.text.as_slice() == it.text.as_bytes() && answer.status == it.status,
+        Err(AllocError) => true,
+    }
+}
+
+// Holds whichever request for memory is refused.
+#[test]
+fn a_text_is_sampled_or_memory_ran_out(rt: HostRuntime) {
+    for it in SAMPLED {
+        assert!(rt; is_answered_if_at_all(rt.alloc(), it), "{}", it.rule);
+    }
+}

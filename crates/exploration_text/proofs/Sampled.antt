@@ -1,0 +1,33 @@
+-- Answers to texts whose programs' schedules are sampled.
+use Rattle.std.proofs.Common.{◌≡◌, ◌≤◌, ◌<◌, ℕ, List, Result, Ok, Err, IfOk, length, arith}
+use Rattle.std.specs.List.{All}
+use Rattle.cell_registry.specs.declared.limits.Limits.{Limits}
+use Rattle.effect_term.specs.declared.term.Term.{Term}
+use Rattle.effect_term.specs.Programs.{IsProgram}
+use Rattle.term_parse.specs.Atoms.{atoms_of}
+use Rattle.term_parse.specs.Reading.{reading}
+use Rattle.outcome_trace.specs.declared.text_order.Answer.{Answer}
+use Rattle.outcome_trace.specs.Answers.{IsRefusalAnswer}
+use Rattle.exploration_text.specs.ExplorationText.{IsSpellable}
+use Rattle.sampled_schedules.specs.declared.comings.Coming.{Coming}
+use Rattle.exploration_text.specs.SampleAnswers.{IsSampleAnswer, IsSampledAnswer, samples, unsampled}
+
+-- the schedules of a sample can be spelled
+pub spellable : (comings : List Coming) (most : ℕ) → most ≤ 1000000 → All (λ c. All (λ f. f < 1000) c.answer.schedule) comings →
+    All (λ c. length c.answer.schedule ≤ most) comings → All (λ (c : Coming). IsSpellable c.answer) comings
+spellable comings most bound numbers short = λ k d low. record {
+  numbers = numbers k d low;
+  few = omega (arith, short k d low);
+}
+
+pub program_sampled : {E : Type 0} (text : List ℕ) (limits : Limits) (times entries : ℕ) (t : Term) (a : Result Answer E) →
+    reading text ≡ Ok (atoms_of t) → IsProgram t → IfOk a (λ a. IsSampledAnswer t limits times entries a.text.items a.status) →
+    IfOk a (λ a. IsSampleAnswer limits times entries text a.text.items a.status)
+program_sampled text limits times entries t (Ok a) e p h = samples text a.text.items a.status t e p h
+program_sampled text limits times entries t (Err x) e p h = tt
+
+pub refusal_sampled : {E : Type 0} (text : List ℕ) (limits : Limits) (times entries : ℕ) (a : Result Answer E) →
+    IfOk a (λ a. IsRefusalAnswer text a.text.items a.status) →
+    IfOk a (λ a. IsSampleAnswer limits times entries text a.text.items a.status)
+refusal_sampled text limits times entries (Ok a) h = unsampled text a.text.items a.status h
+refusal_sampled text limits times entries (Err x) h = tt

@@ -1,0 +1,41 @@
+-- What is answered to a text whose program's schedules are sampled.
+use Rattle.std.specs.Prelude.{◌≡◌, ℕ, false, List, Ok}
+use Rattle.std.specs.List.{All}
+use Rattle.cell_registry.specs.declared.limits.Limits.{Limits}
+use Rattle.derived_ops.specs.Expansion.{code_of}
+use Rattle.derived_ops.specs.Reading.{source_of}
+use Rattle.derived_ops.specs.Tree.{Tree}
+use Rattle.effect_term.specs.declared.term.Term.{Term}
+use Rattle.effect_term.specs.Programs.{IsProgram}
+use Rattle.term_parse.specs.Atoms.{atoms_of}
+use Rattle.term_parse.specs.Reading.{reading}
+use Rattle.text_io.specs.declared.status.Status.{Status}
+use Rattle.outcome_trace.specs.Answers.{IsRefusalAnswer}
+use Rattle.scheduled_core.specs.Core.{core, reported}
+use Rattle.sampled_schedules.specs.declared.comings.Sample.{Sample}
+use Rattle.sampled_schedules.specs.Sampled.{IsSampleOf, StaysSo}
+use Rattle.exploration_text.specs.SampleText.{IsSampleText, sample_status}
+
+-- Of code under these limits: each answer is what its schedule leads to, no entries more change one that isn't marked
+-- as cut short, and so many schedules were drawn, of which these are the answers.
+pub record IsSampleAt (code : Tree) (limits : Limits) (times entries : ℕ) (s : Sample) : Type 0 where
+  pub each : All (λ c. reported (core code limits c.answer.schedule) ≡ c.answer.end) s.comings
+  pub uncut : All (λ c. c.cut ≡ false → StaysSo code limits c.answer.end) s.comings
+  pub tally : IsSampleOf code limits entries times s.comings
+  pub schedules : s.schedules ≡ times
+
+-- the text and the status of a sample of the program's schedules
+pub record IsSampledAnswer (t : Term) (limits : Limits) (times entries : ℕ) (answer : List ℕ) (status : Status) : Type 0
+  where
+    pub sample : Sample
+    pub sampled : IsSampleAt (code_of (source_of t)) limits times entries sample
+    pub text_is : IsSampleText sample answer
+    pub status_is : status ≡ sample_status sample
+
+-- what `sample` answers under limits, with its status: a refusal, or a sample of the schedules of the program that the
+-- text spells
+pub data IsSampleAnswer (limits : Limits) (times entries : ℕ) : List ℕ → List ℕ → Status → Type 0 where
+  unsampled : (text answer : List ℕ) (status : Status) → IsRefusalAnswer text answer status →
+      IsSampleAnswer limits times entries text answer status
+  samples : (text answer : List ℕ) (status : Status) (t : Term) → reading text ≡ Ok (atoms_of t) → IsProgram t →
+      IsSampledAnswer t limits times entries answer status → IsSampleAnswer limits times entries text answer status

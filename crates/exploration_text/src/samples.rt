@@ -1,0 +1,140 @@
+//! The text of a sample, and how the program ends behind it.
+
+ghost use Rattle.std.specs.Prelude.{◌≡◌, ◌++◌, IfOk, OnOk, codes, count_by, string_bytes};
+ghost use Rattle.std.specs.List.{All};
+ghost use Rattle.std.specs.Result.{is_err, is_ok};
+ghost use Rattle.exploration_text.specs.ExplorationText.{IsSpellable, counted, end_text};
+ghost use Rattle.exploration_text.specs.SampleText.{AreComingsText, IsComingText, IsSampleText, between};
+ghost use Rattle.exploration_text.specs.SampleText.{first_line, heading, sample_status};
+
+use cell_registry::RunError;
+use itoa::Buffer;
+use outcome_trace::{Refused, Report, Status, line, schedule_text, text_of_report};
+use sampled_schedules::{Coming, Sample};
+use std::alloc::{AllocError, Global};
+
+/// The text of a sample: how many schedules were drawn, and how many different reports and faults came of them; then
+/// each of these in the order in which it came first, behind a blank line, how often it came, whether its schedules
+/// were cut short, and the first of them, as a replay under the schedule writes it.
+///
+/// The entries of each schedule are at most 999, and it has at most 1,000,000. `AllocError` where memory is refused.
+pub fn text_of_sample(alloc: Global, sample: &Sample) -> Result<Vec<u8>, AllocError>
+    requires { All (λ c. IsSpellable c.answer) sample.now.comings }
+    ensures { IfOk result (λ text. IsSampleText sample.now text.items) }
+{
+    let comings = comings_text(alloc, sample.comings.as_slice())?;
+    let mut text = first_line(alloc, sample)?.into_bytes();
+    text.extend_from_slice(comings.as_slice())?;
+    Ok(text)
+}
+
+/// How the program ends behind the text: `Status::Errored` where some schedule came to a fault, else
+/// `Status::Succeeded`.
+pub fn sample_status(sample: &Sample) -> Status
+    ensures { result ≡ sample_status sample.now }
+{
+    if faults(sample.comings.as_slice()) == 0 {
+        Status::Succeeded
+    } else {
+        Status::Errored
+    }
+}
+
+// The text of what schedules came to.
+fn comings_text(alloc: Global, comings: &[Coming]) -> Result<Vec<u8>, AllocError>
+    requires { All (λ c. IsSpellable c.answer) comings.now }
+    ensures { IfOk result (λ text. AreComingsText comings.now text.items) }
+{
+    let mut text = Vec::new(alloc);
+    for coming in comings {
+        let part = coming_text(alloc, coming)?;
+        text.extend_from_slice(part.as_slice())?;
+    }
+    Ok(text)
+}
+
+// The text of what some schedules came to, behind the first of them.
+fn coming_text(alloc: Global, coming: &Coming) -> Result<Vec<u8>, AllocError>
+    requires { IsSpellable coming.now.answer }
+    ensures { IfOk result (λ text. IsComingText coming.now text.items) }
+{
+    let schedule = schedule_text(alloc, coming.answer.schedule.as_slice())?;
+    let end = end_text(alloc, &coming.answer.end)?;
+    let mut text = heading(alloc, coming.times, coming.cut)?.into_bytes();
+    text.push(b'"')?;
+    text.extend_from_slice(schedule.as_bytes())?;
+    text.extend_from_slice(b"\"\n")?;
+    text.extend_from_slice(end.as_slice())?;
+    Ok(text)
+}
+
+// What stands before a schedule: how often its end came, and whether each of its schedules was cut short.
+fn heading(alloc: Global, times: u32, cut: bool) -> Result<String, AllocError>
+    ensures { IfOk result (λ text. string_bytes text ≡ heading times cut) }
+{
+    let mut text = String::from_str(alloc, "\ncame ")?;
+    push_counted(&mut text, times as usize, "time")?;
+    text.push_str(between(cut))?;
+    Ok(text)
+}
+
+// What stands between how often an end came and the first schedule that came to it.
+fn between(cut: bool) -> &'static str
+    ensures { result.now ≡ between cut }
+{
+    if cut {
+        ", cut short, first under "
+    } else {
+        ", first under "
+    }
+}
+
+// The text of a report, or the line of a fault.
+fn end_text(alloc: Global, end: &Result<Report, RunError>) -> Result<Vec<u8>, AllocError>
+    ensures { IfOk result (λ text. text.items ≡ end_text end.now) }
+{
+    match end {
+        Ok(report) => Ok(text_of_report(alloc, report)?.into_bytes()),
+        Err(error) => line(alloc, &Refused::Run(*error)),
+    }
+}
+
+// How many schedules were drawn, and how much came of them.
+fn first_line(alloc: Global, sample: &Sample) -> Result<String, AllocError>
+    ensures { IfOk result (λ line. string_bytes line ≡ first_line sample.now) }
+{
+    let comings = sample.comings.as_slice();
+    let mut line = String::from_str(alloc, "sampled ")?;
+    push_counted(&mut line, sample.schedules as usize, "schedule")?;
+    line.push_str(": ")?;
+    push_counted(&mut line, reports(comings), "report")?;
+    line.push_str(", ")?;
+    push_counted(&mut line, faults(comings), "fault")?;
+    line.push_str("\n")?;
+    Ok(line)
+}
+
+// How many are reports.
+fn reports(comings: &[Coming]) -> usize
+    ensures { result ≡ count_by (λ c. is_ok c.answer.end) comings.now }
+{
+    comings.iter().filter(|c| c.answer.end.is_ok()).count()
+}
+
+// How many are faults.
+fn faults(comings: &[Coming]) -> usize
+    ensures { result ≡ count_by (λ c. is_err c.answer.end) comings.now }
+{
+    comings.iter().filter(|c| c.answer.end.is_err()).count()
+}
+
+// A number of things.
+fn push_counted(text: &mut String, number: usize, noun: &str) -> Result<(), AllocError>
+    ensures { OnOk result (string_bytes text.new ≡ string_bytes text.old ++ counted number noun.now) }
+{
+    let mut digits = Buffer::new();
+    text.push_str(digits.format(number))?;
+    text.push_str(" ")?;
+    text.push_str(noun)?;
+    text.push_str(if number == 1 { "" } else { "s" })
+}

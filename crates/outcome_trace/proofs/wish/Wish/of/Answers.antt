@@ -1,5 +1,0 @@
-use Rattle.std.proofs.Common.{rules}
-use Rattle.outcome_trace.proofs.wish.Wish.of.Goals as goal
-
-pub returns-in-Unmask : goal.returns-in-Unmask
-returns-in-Unmask c = search rules

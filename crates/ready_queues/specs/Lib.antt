@@ -1,0 +1,4 @@
+pub mod Faults
+pub mod Ledger
+pub mod Moments
+pub mod Steals

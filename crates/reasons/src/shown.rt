@@ -1,0 +1,44 @@
+//! Bytes as they are shown: what isn't a printable character of ASCII is told by its number.
+
+ghost use Rattle.std.specs.Prelude.{◌≡◌, ◌++◌, ◌<◌, OnOk};
+ghost use Rattle.reasons.specs.Shown.{digit, shown, shown_byte};
+
+use std::alloc::AllocError;
+
+/// A byte as it is shown: itself where it is printable ASCII, a space for a tab or a carriage return, and else
+/// `\x` with its two hexadecimal digits.
+pub(crate) fn push_byte(told: &mut Vec<u8>, byte: u8) -> Result<(), AllocError>
+    ensures { OnOk result (told.new.items ≡ told.old.items ++ shown_byte byte) }
+{
+    if byte == b'\t' || byte == b'\r' {
+        told.push(b' ')?;
+        Ok(())
+    } else if byte < b' ' || b'~' < byte {
+        told.extend_from_slice(&[b'\\', b'x', digit(byte / 16), digit(byte % 16)])
+    } else {
+        told.push(byte)?;
+        Ok(())
+    }
+}
+
+/// Bytes as they are shown.
+pub(crate) fn push_shown(told: &mut Vec<u8>, bytes: &[u8]) -> Result<(), AllocError>
+    ensures { OnOk result (told.new.items ≡ told.old.items ++ shown bytes.now) }
+{
+    for byte in bytes {
+        push_byte(told, *byte)?;
+    }
+    Ok(())
+}
+
+// A hexadecimal digit.
+fn digit(number: u8) -> u8
+    requires { number < 16 }
+    ensures { result ≡ digit number }
+{
+    if number < 10 {
+        number + b'0'
+    } else {
+        number + 87
+    }
+}

@@ -1,0 +1,5 @@
+pub mod Ending
+pub mod Lining
+pub mod Meeting
+pub mod Taking
+pub mod Recording

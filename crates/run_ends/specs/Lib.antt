@@ -1,0 +1,4 @@
+pub mod Ends
+pub mod Gathering
+pub mod Leaving
+pub mod Private

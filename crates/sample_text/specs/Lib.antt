@@ -1,2 +1,0 @@
-pub mod SampleText
-pub mod SampleAnswers

@@ -1,0 +1,17 @@
+pub mod Answered
+pub mod AskTells
+pub mod Fitted
+pub mod Replied
+pub mod Lists
+pub mod PlainFits
+pub mod Worlds
+pub mod Moves
+pub mod Reported
+pub mod SameReports
+pub mod CoreSamples
+pub mod Standing
+pub mod Resting
+pub mod Finality
+pub mod Continuing
+pub mod Covering
+pub mod Settling

@@ -1,0 +1,17 @@
+use Rattle.std.proofs.Common.{◌≡◌}
+use Rattle.scheduled_core.specs.Finals.{GoesOn}
+use Rattle.scheduled_core.specs.Fitting.{AllFit, world_of}
+use Rattle.scheduled_core.specs.Private.Settling.{moves_left}
+use Rattle.scheduled_core.proofs.finals.settle_noted.Given as goal
+
+-- the entries so far led to this world
+abbrev pub invariant-loop-number : goal.invariant-loop-number
+invariant-loop-number g l = record {
+  limits : l.registry.limits ≡ l.initial.registry.limits;
+  fits : AllFit (world_of l.fibers.items l.registry.state);
+  still : l.finished ≡ 0 → (l.fibers.items ≡ l.initial.fibers.items) × (l.registry ≡ l.initial.registry);
+  goes : GoesOn l.initial.registry.limits (world_of l.initial.fibers.items l.initial.registry.state) (world_of l.fibers.items l.registry.state);
+}
+
+abbrev pub decreases-loop-number : goal.decreases-loop-number
+decreases-loop-number g l = moves_left l.registry.limits.fibers l.rests.items

@@ -1,0 +1,37 @@
+-- Where a fiber of a code can stand under a history, and which reports are of some schedule.
+use Rattle.std.specs.Prelude.{◌≡◌, ◌≢◌, ℕ, List, [], ◌∷◌, ◌++◌, Ok}
+use Rattle.effect_term.specs.declared.reply.Reply.TheVariants.{Done, Number}
+use Rattle.derived_ops.specs.Tree.{Tree}
+use Rattle.fiber_frames.specs.Fiber.{Fiber, ask_of, begins, child, move}
+use Rattle.cell_registry.specs.declared.call.Entry.{Entry}
+use Rattle.cell_registry.specs.declared.call.Call.TheVariants.{Start}
+use Rattle.cell_registry.specs.declared.limits.Limits.{Limits}
+use Rattle.scheduled_core.specs.declared.report.Report.{Report}
+use Rattle.scheduled_core.specs.declared.wish.Wish.{Wish}
+use Rattle.scheduled_core.specs.declared.wish.Wish.TheVariants.{Shared, Alone}
+use Rattle.scheduled_core.specs.Core.{core, reported, wish_of}
+
+-- what the next move of a fiber wants
+abbrev pub wish : Fiber → Wish
+wish g = wish_of (ask_of g)
+
+-- The fiber f of the code can stand in this state where the history is h. Fiber 0 stands at the root of the code
+-- before any call. A move without a shared call leads on under the same history. A call of the fiber is the next
+-- entry, and its move is made under the reply; an entry of another fiber changes nothing. And a fiber that an entry
+-- started stands at the beginning of the child that the move gives
+pub data Stands (code : Tree) : List Entry → ℕ → Fiber → Type 0 where
+  Opens : (h : List Entry) (f : ℕ) (g : Fiber) → h ≡ [] → f ≡ 0 → g ≡ begins 0 code → Stands code h f g
+  Alone_on : (h : List Entry) (f : ℕ) (g m : Fiber) → Stands code h f m → wish m ≡ Alone → g ≡ move m Done →
+      Stands code h f g
+  Calls : (h : List Entry) (f : ℕ) (g : Fiber) (before : List Entry) (e : Entry) (m : Fiber) →
+      Stands code before f m → h ≡ before ++ e ∷ [] → e.by ≡ f → wish m ≡ Shared e.call → g ≡ move m e.reply →
+      Stands code h f g
+  Rests : (h : List Entry) (f : ℕ) (g : Fiber) (before : List Entry) (e : Entry) → Stands code before f g →
+      h ≡ before ++ e ∷ [] → e.by ≢ f → Stands code h f g
+  Begins : (h : List Entry) (f : ℕ) (g : Fiber) (before : List Entry) (e : Entry) (m : Fiber) →
+      Stands code before e.by m → h ≡ before ++ e ∷ [] → e.call ≡ Start → e.reply ≡ Number f → wish m ≡ Shared Start →
+      g ≡ child m f → Stands code h f g
+
+-- the report is that of the core under some schedule
+abbrev pub IsOfSomeSchedule : Tree → Limits → Report → Type 0
+IsOfSomeSchedule code k report = (schedule : List ℕ) × (reported (core code k schedule) ≡ Ok report)

@@ -1,0 +1,198 @@
+//! How the fibers of a run go on until none can.
+ghost use Rattle.std.specs.Prelude.{IfErr, IfNone, IfOk, IfSome, OnOk, ◌≡◌, ◌⊎◌, ◌<◌, ◌++◌, ◌∷◌, ℕ};
+ghost use Rattle.std.specs.Prelude.{Err as Fails, None as Nobody, Ok as GoesWell, Some as Somebody};
+ghost use Rattle.std.specs.Prelude.{[], true, false, get_or};
+ghost use Rattle.fiber_frames.specs.Fiber.{outcome_of};
+ghost use Rattle.scheduled_core.specs.Core.{entered};
+ghost use Rattle.scheduled_core.specs.Finals.{GoesOn, HasEnded, IsAtRest, IsFinal, IsStopped, StopsAt};
+ghost use Rattle.scheduled_core.specs.Fitting.{AllFit, Fits, cell_registered, world_of};
+ghost use Rattle.scheduled_core.specs.Private.Settling.{IsUnended, moves_left};
+
+use crate::scheduled::enter;
+use crate::why::{Why, why_of};
+use cell_registry::{PlainRegistry, RunError};
+use effect_term::facts_of;
+use fiber_frames::Config;
+use std::alloc::AllocError;
+
+/// What fibers came to that went on until none could.
+#[derive(Clone, Copy, Debug)]
+pub struct Settled {
+    /// How many moves they made. Where it is 0, nothing has changed.
+    pub finished: u64,
+    /// A fiber that hasn't ended and may make no more moves. Where there is none, the world is final.
+    pub stopped: Option<u16>,
+}
+
+/// Goes on with the fibers of a run beside their registry, until each of them has ended, rests at a wait
+/// that nothing serves, or has made all moves that it may still make.
+///
+/// `rests` tells how many these are, for each fiber; one that is born begins with those that its parent
+/// has then. Of the fibers that could go on, the one with the most goes first. A call that the registry
+/// refuses is answered with [`RunError::Full`] or [`RunError::Spent`], and where memory is refused, the
+/// answer is [`RunError::NoMemory`]. After an error nothing is known of the fibers and the registry.
+pub fn settle(
+    fibers: &mut Vec<Config>,
+    registry: &mut PlainRegistry,
+    rests: &mut Vec<u32>,
+) -> Result<Settled, RunError>
+    requires fits { AllFit (world_of fibers.old.items registry.old.state) }
+    ensures goes { OnOk result (GoesOn registry.old.limits (world_of fibers.old.items registry.old.state)
+        (world_of fibers.new.items registry.new.state)) }
+    ensures complete { IfOk result (λ it. it.stopped ≡ Nobody →
+        IsFinal (world_of fibers.new.items registry.new.state)) }
+    ensures stopped { IfOk result (λ it. (f : ℕ) → it.stopped ≡ Somebody f →
+        IsStopped fibers.new.items rests.new.items f) }
+    ensures still { IfOk result (λ it. it.finished ≡ 0 →
+        (fibers.new.items ≡ fibers.old.items) × (registry.new ≡ registry.old)) }
+    ensures stops { IfErr result (λ e. (e ≡ RunError.NoMemory) ⊎
+        StopsAt registry.old.limits (world_of fibers.old.items registry.old.state) e) }
+{
+    settle_noted(fibers, registry, rests, &mut NoEntries)
+}
+
+/// Is told of the entries that [`settle_noted`] makes.
+pub trait EntryLog {
+    /// The entry of the fiber of this number is about to be made, and may be refused.
+    fn enters(&mut self, number: u16);
+}
+
+/// Notes nothing.
+#[derive(Clone, Copy)]
+pub struct NoEntries;
+
+impl EntryLog for NoEntries {
+    fn enters(&mut self, _number: u16) {}
+}
+
+/// Goes on with the fibers of a run as [`settle`] does, and tells this log of the entries, in their order.
+/// What the log does changes nothing of them.
+pub fn settle_noted<L: EntryLog>(
+    fibers: &mut Vec<Config>,
+    registry: &mut PlainRegistry,
+    rests: &mut Vec<u32>,
+    log: &mut L,
+) -> Result<Settled, RunError>
+    requires fits { AllFit (world_of fibers.old.items registry.old.state) }
+    ensures goes { OnOk result (GoesOn registry.old.limits (world_of fibers.old.items registry.old.state)
+        (world_of fibers.new.items registry.new.state)) }
+    ensures complete { IfOk result (λ it. it.stopped ≡ Nobody →
+        IsFinal (world_of fibers.new.items registry.new.state)) }
+    ensures stopped { IfOk result (λ it. (f : ℕ) → it.stopped ≡ Somebody f →
+        IsStopped fibers.new.items rests.new.items f) }
+    ensures still { IfOk result (λ it. it.finished ≡ 0 →
+        (fibers.new.items ≡ fibers.old.items) × (registry.new ≡ registry.old)) }
+    ensures stops { IfErr result (λ e. (e ≡ RunError.NoMemory) ⊎
+        StopsAt registry.old.limits (world_of fibers.old.items registry.old.state) e) }
+{
+    let mut finished = 0u64;
+    loop {
+        let Some(number) = next(fibers.as_slice(), registry, rests.as_slice()) else {
+            return Ok(Settled {
+                finished,
+                stopped: None,
+            });
+        };
+        if rest_of(rests.as_slice(), number) == 0 {
+            return Ok(Settled {
+                finished,
+                stopped: Some(number),
+            });
+        }
+        log.enters(number);
+        go_on(fibers, registry, rests, number)?;
+        finished = finished.saturating_add(1);
+    }
+}
+
+// The first one of the fibers that could go on and have the most moves left of these. `None` where the
+// world is final. It makes no call.
+fn next(fibers: &[Config], registry: &PlainRegistry, rests: &[u32]) -> Option<u16>
+    requires { AllFit (world_of fibers.now registry.now.state) }
+    ensures none { IfNone result (IsFinal (world_of fibers.now registry.now.state)) }
+    ensures some { IfSome result (IsUnended fibers.now) }
+{
+    let mut best = None;
+    for config in fibers {
+        if !is_done(config, registry) {
+            best = Some(better(best, config.number(), rests));
+        }
+    }
+    best
+}
+
+// The one that has more moves left, or else the first one.
+fn better(best: Option<u16>, number: u16, rests: &[u32]) -> u16
+    ensures { (result ≡ number) ⊎ (best ≡ Somebody result) }
+{
+    match best {
+        Some(other) => {
+            if rest_of(rests, other) < rest_of(rests, number) {
+                number
+            } else {
+                other
+            }
+        }
+        None => number,
+    }
+}
+
+// How many moves are left to a fiber.
+fn rest_of(rests: &[u32], number: u16) -> u32
+    ensures { result ≡ get_or rests.now number 0 }
+{
+    match rests.get(usize::from(number)) {
+        Some(rest) => *rest,
+        None => 0,
+    }
+}
+
+// The next move of a fiber that has some left.
+fn go_on(
+    fibers: &mut Vec<Config>,
+    registry: &mut PlainRegistry,
+    rests: &mut Vec<u32>,
+    number: u16,
+) -> Result<(), RunError>
+    requires fits { AllFit (world_of fibers.old.items registry.old.state) }
+    requires rest { 0 < get_or rests.old.items number 0 }
+    ensures limits { OnOk result (registry.new.limits ≡ registry.old.limits) }
+    ensures fits { OnOk result (AllFit (world_of fibers.new.items registry.new.state)) }
+    ensures goes { OnOk result (GoesOn registry.old.limits (world_of fibers.old.items registry.old.state)
+        (world_of fibers.new.items registry.new.state)) }
+    ensures stops { IfErr result (λ e. (e ≡ RunError.NoMemory) ⊎
+        (entered registry.old.limits (GoesWell (world_of fibers.old.items registry.old.state)) number ≡ Fails e)) }
+    ensures less { OnOk result (moves_left registry.old.limits.fibers rests.new.items <
+        moves_left registry.old.limits.fibers rests.old.items) }
+{
+    enter(fibers, registry, number)?;
+    let rest = rests[usize::from(number)] - 1;
+    rests[usize::from(number)] = rest;
+    // The registry is within its limits.
+    facts_of(registry.limits());
+    if rests.len() < fibers.len() {
+        add(rests, rest)?;
+    }
+    Ok(())
+}
+
+// So many moves are left to one fiber more.
+fn add(rests: &mut Vec<u32>, rest: u32) -> Result<(), AllocError>
+    ensures { OnOk result (rests.new.items ≡ rests.old.items ++ rest ∷ []) }
+{
+    rests.push(rest)?;
+    Ok(())
+}
+
+/// Whether the fiber has ended, or rests at a wait that nothing in this registry serves, and no request for its
+/// cancellation reaches it there: an entry of it changes nothing. It makes no call.
+pub fn is_done(config: &Config, registry: &PlainRegistry) -> bool
+    requires { Fits (cell_registered registry.now.state config.now.number) config.now }
+    ensures done { result ≡ true → HasEnded config.now ⊎ IsAtRest registry.now.state config.now.number config.now }
+    ensures unended { result ≡ false → outcome_of config.now ≡ Nobody }
+{
+    match why_of(config, registry) {
+        Why::Ended | Why::WaitsForEnd(_) | Why::WaitsForDeferred(_) | Why::WaitsWithoutEnd => true,
+        Why::CouldGoOn => false,
+    }
+}

@@ -1,0 +1,101 @@
+//! What a run has come to: of each fiber its outcome and its marks.
+
+ghost use Rattle.std.specs.Prelude.{◌≡◌};
+
+use effect_term::Outcome;
+use fiber_frames::Mark;
+use std::marker::Model;
+
+/// The marks of a fiber, in the order in which it made them.
+#[derive(Drop)]
+pub struct Marks {
+    marks: Vec<Mark>,
+}
+
+impl Model for Marks {
+    ghost use Rattle.std.specs.Prelude.{List};
+    ghost use Rattle.fiber_frames.specs.declared.mark.Mark.{Mark};
+
+    ghost Value = { List Mark };
+
+    ghost view = { λ m. m.marks.items };
+}
+
+impl Marks {
+    /// These marks.
+    pub fn new(marks: Vec<Mark>) -> Marks
+        ensures { result ≡ marks.items }
+    {
+        Marks { marks }
+    }
+
+    /// The marks, from the first one on.
+    pub fn as_slice(&self) -> &[Mark]
+        ensures { result.now ≡ self.now }
+    {
+        self.marks.as_slice()
+    }
+
+    /// The marks, given back.
+    pub fn into_vec(self) -> Vec<Mark>
+        ensures { result.items ≡ self }
+    {
+        let Marks { marks } = self;
+        marks
+    }
+}
+
+/// What one fiber has come to.
+#[derive(Drop)]
+pub struct FiberReport {
+    /// How it ended, if it did.
+    pub outcome: Option<Outcome>,
+    /// What it noted.
+    pub marks: Marks,
+}
+
+/// What each of some fibers has come to, in the order of their numbers.
+#[derive(Drop)]
+pub struct FiberReports {
+    reports: Vec<FiberReport>,
+}
+
+impl Model for FiberReports {
+    ghost use Rattle.std.specs.Prelude.{List};
+    ghost use Rattle.scheduled_core.specs.declared.report.FiberReport.{FiberReport};
+
+    ghost Value = { List FiberReport };
+
+    ghost view = { λ r. r.reports.items };
+}
+
+impl FiberReports {
+    /// These reports.
+    pub fn new(reports: Vec<FiberReport>) -> FiberReports
+        ensures { result ≡ reports.items }
+    {
+        FiberReports { reports }
+    }
+
+    /// The reports, from that of fiber 0 on.
+    pub fn as_slice(&self) -> &[FiberReport]
+        ensures { result.now ≡ self.now }
+    {
+        self.reports.as_slice()
+    }
+
+    /// The reports, given back.
+    pub fn into_vec(self) -> Vec<FiberReport>
+        ensures { result.items ≡ self }
+    {
+        let FiberReports { reports } = self;
+        reports
+    }
+}
+
+/// What a run has come to.
+#[derive(Drop)]
+pub struct Report {
+    /// One report for each fiber that was born.
+    pub fibers: FiberReports,
+}

@@ -1,5 +1,0 @@
-use Rattle.steal_pool.proofs.Ledgers.{takes}
-use Rattle.steal_pool.proofs.deque.ReadyDeque.take.Goals as goal
-
-pub pop_as-requires-clause-fifo : goal.pop_as-requires-clause-fifo
-pop_as-requires-clause-fifo c = λ fifo. takes _ _ 1

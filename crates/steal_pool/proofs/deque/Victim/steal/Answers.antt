@@ -1,5 +1,0 @@
-use Rattle.steal_pool.proofs.Ledgers.{takes}
-use Rattle.steal_pool.proofs.deque.Victim.steal.Goals as goal
-
-pub steal_as-requires-clause-takes : goal.steal_as-requires-clause-takes
-steal_as-requires-clause-takes c = takes _ _ 1

@@ -1,4 +1,0 @@
-use Rattle.steal_pool.proofs.finishing.Leavings.of.Goals as goal
-
-pub returns : goal.returns
-returns c = c.in_ok-met.ensures.gathered c.args.code.now c.requires

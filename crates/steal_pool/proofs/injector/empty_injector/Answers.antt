@@ -1,5 +1,0 @@
-use Rattle.steal_pool.proofs.Ledgers.{begins}
-use Rattle.steal_pool.proofs.injector.empty_injector.Goals as goal
-
-pub new_as-requires : goal.new_as-requires
-new_as-requires c = begins

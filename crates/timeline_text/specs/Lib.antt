@@ -1,2 +1,0 @@
-pub mod TimelineAnswers
-pub mod ExploreTimelines

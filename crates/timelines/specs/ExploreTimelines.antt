@@ -1,0 +1,55 @@
+-- What is answered to a text whose program is explored, with a timeline behind each answer.
+use Rattle.std.specs.Prelude.{◌≡◌, ℕ, Bool, true, false, List, [], ◌∷◌, ◌++◌, Ok}
+use Rattle.std.specs.List.{filter}
+use Rattle.cell_registry.specs.declared.limits.Limits.{Limits}
+use Rattle.derived_ops.specs.Expansion.{code_of}
+use Rattle.derived_ops.specs.Reading.{source_of}
+use Rattle.effect_term.specs.declared.term.Term.{Term}
+use Rattle.text_io.specs.declared.status.Status.{Status}
+use Rattle.outcome_trace.specs.Answers.{IsProgramAnswer, IsRefusalAnswer}
+use Rattle.every_schedule.specs.declared.exploration.Answer.{Answer}
+use Rattle.every_schedule.specs.declared.exploration.Exploration.{Exploration}
+use Rattle.world_search.specs.declared.answers.Bounds.{Bounds}
+use Rattle.exploration_text.specs.declared.wants.Want.{Want}
+use Rattle.exploration_text.specs.ExplorationText.{IsAnswerText, exploration_status, first_line, is_listed_so}
+use Rattle.exploration_text.specs.ExploreAnswers.{IsExplorationOf}
+
+-- the text of an answer in the text of its exploration, then a blank line and a timeline
+pub record IsToldText (unwanted : Bool) (a : Answer) (text : List ℕ) : Type 0 where
+  pub front : List ℕ
+  pub timeline : List ℕ
+  pub text_is : text ≡ front ++ 10 ∷ timeline
+  pub answer_is : IsAnswerText unwanted a front
+
+-- such texts of answers, one behind the other
+abbrev pub AreToldTexts : Bool → List Answer → List ℕ → Type 0
+AreToldTexts unwanted [] text = text ≡ []
+AreToldTexts unwanted (a ∷ answers) text = (front : List ℕ) × (behind : List ℕ) × (text ≡ front ++ behind) ×
+    IsToldText unwanted a front × AreToldTexts unwanted answers behind
+
+-- those of the answers that are listed as not wanted, or of the others
+abbrev pub IsToldPart : Bool → List Want → List Answer → List ℕ → Type 0
+IsToldPart unwanted wants answers text =
+    AreToldTexts unwanted (filter (λ a. is_listed_so unwanted wants a) answers) text
+
+-- the first line of the text of the exploration, then the answers that are not wanted, and then the others
+pub record IsToldExploration (wants : List Want) (e : Exploration) (text : List ℕ) : Type 0 where
+  pub unwanted : List ℕ
+  pub others : List ℕ
+  pub text_is : text ≡ first_line e ++ (unwanted ++ others)
+  pub unwanted_is : IsToldPart true wants e.answers unwanted
+  pub others_are : IsToldPart false wants e.answers others
+
+-- the text of an exploration of the program, with timelines, and the status of the exploration
+pub record IsToldExplored (t : Term) (limits : Limits) (bounds : Bounds) (wants : List Want) (answer : List ℕ)
+    (status : Status) : Type 0
+  where
+    pub exploration : Exploration
+    pub explored : IsExplorationOf (code_of (source_of t)) limits bounds exploration
+    pub text_is : IsToldExploration wants exploration answer
+    pub status_is : status ≡ exploration_status wants exploration
+
+-- what is answered to a text under limits, with its status: a refusal, or the exploration of the program that the text
+-- spells, with timelines
+abbrev pub IsExploreTimeline : Limits → Bounds → List Want → List ℕ → List ℕ → Status → Type 0
+IsExploreTimeline limits bounds wants = IsProgramAnswer IsRefusalAnswer (λ t. IsToldExplored t limits bounds wants)

@@ -1,0 +1,3 @@
+pub mod TimelineAnswers
+pub mod ExploreTimelines
+pub mod PictureAnswers

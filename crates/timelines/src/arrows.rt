@@ -1,0 +1,162 @@
+//! The arrows of a picture: who starts, cancels and wakes whom.
+
+use crate::scale::{BAR, Scale};
+use crate::shapes::{Place, push_line};
+use crate::sights::{is_seen, waits};
+use cell_registry::Call;
+use effect_term::{CancelReply, JoinReply, Reply};
+use fiber_events::{Deed, Event};
+use std::alloc::{AllocError, Global};
+
+// How many deferreds a run may have.
+const DEFERREDS: usize = 1000;
+
+// A moment of a fiber.
+#[derive(Clone, Copy, Debug)]
+struct Moment {
+    fiber: usize,
+    x: usize,
+}
+
+// What others may wait for, and who waits.
+#[derive(Drop)]
+struct Wakes {
+    // Of each fiber, its end.
+    ended: Vec<Option<Moment>>,
+    // Of each deferred, its completion.
+    completed: Vec<Option<Moment>>,
+    // Of each fiber, whether it waits.
+    waits: Vec<bool>,
+}
+
+/// The arrows, over all lanes.
+pub(crate) fn push_arrows(
+    alloc: Global,
+    text: &mut String,
+    scale: Scale,
+    events: &[Event],
+) -> Result<(), AllocError> {
+    let mut wakes = Wakes::new(alloc, scale.born)?;
+    for event in events {
+        let here = Moment {
+            fiber: usize::from(event.fiber),
+            x: scale.of(event),
+        };
+        push_down(text, scale, here, event)?;
+        if let Some(from) = wakes.take(here, event) {
+            push_arrow(text, "wakes", scale, from, here)?;
+        }
+    }
+    Ok(())
+}
+
+// The arrow of a start or a request.
+fn push_down(
+    text: &mut String,
+    scale: Scale,
+    here: Moment,
+    event: &Event,
+) -> Result<(), AllocError> {
+    match event.deed {
+        Deed::Called(Call::Start, Reply::Number(child)) => {
+            let there = Moment {
+                fiber: usize::from(child),
+                x: here.x,
+            };
+            push_arrow(text, "starts", scale, here, there)
+        }
+        Deed::Called(Call::Cancel(fiber), Reply::Cancel(CancelReply::Asked)) => {
+            let there = Moment {
+                fiber: usize::from(fiber),
+                x: here.x,
+            };
+            push_arrow(text, "cancels", scale, here, there)
+        }
+        _ => Ok(()),
+    }
+}
+
+// An arrow from one lane to another, if both are drawn.
+fn push_arrow(
+    text: &mut String,
+    class: &str,
+    scale: Scale,
+    from: Moment,
+    to: Moment,
+) -> Result<(), AllocError> {
+    let lanes = scale.lanes();
+    if from.fiber == to.fiber || from.fiber >= lanes || to.fiber >= lanes {
+        return Ok(());
+    }
+    let down = from.fiber < to.fiber;
+    let start = Place {
+        x: from.x,
+        y: edge(scale, from.fiber, down),
+    };
+    let end = Place {
+        x: to.x,
+        y: edge(scale, to.fiber, !down),
+    };
+    push_line(text, class, start, end)
+}
+
+// The lower or the upper edge of a fiber's bar.
+fn edge(scale: Scale, fiber: usize, lower: bool) -> usize {
+    let top = scale.top(fiber);
+    if lower { top.saturating_add(BAR) } else { top }
+}
+
+impl Wakes {
+    // Before the first entry.
+    fn new(alloc: Global, born: usize) -> Result<Wakes, AllocError> {
+        Ok(Wakes {
+            ended: vec![in alloc; None; born]?,
+            completed: vec![in alloc; None; DEFERREDS]?,
+            waits: vec![in alloc; false; born]?,
+        })
+    }
+
+    // An event is kept. Who woke its fiber, if it waited and goes on.
+    fn take(&mut self, here: Moment, event: &Event) -> Option<Moment> {
+        if !is_seen(event) {
+            return None;
+        }
+        let waited = match self.waits.get_mut(here.fiber) {
+            Some(waited) => std::mem::replace(waited, waits(event)),
+            None => false,
+        };
+        self.keep(here, event);
+        if waited { self.waker(event) } else { None }
+    }
+
+    // What others may wait for is kept.
+    fn keep(&mut self, here: Moment, event: &Event) {
+        match event.deed {
+            Deed::Called(Call::Finish(_), _) => put(self.ended.as_mut_slice(), here.fiber, here),
+            Deed::Called(Call::Complete(number, _), Reply::Completed(true)) => {
+                put(self.completed.as_mut_slice(), usize::from(number), here);
+            }
+            _ => {}
+        }
+    }
+
+    // Who did what a fiber has waited for.
+    fn waker(&self, event: &Event) -> Option<Moment> {
+        match event.deed {
+            Deed::Called(Call::Join(fiber), Reply::Join(JoinReply::Ended(_))) => {
+                *self.ended.get(usize::from(fiber))?
+            }
+            Deed::Called(Call::Read(number), Reply::Read(Some(_))) => {
+                *self.completed.get(usize::from(number))?
+            }
+            _ => None,
+        }
+    }
+}
+
+// Keeps a moment at a place.
+fn put(moments: &mut [Option<Moment>], place: usize, moment: Moment) {
+    if let Some(kept) = moments.get_mut(place) {
+        *kept = Some(moment);
+    }
+}

@@ -1,0 +1,117 @@
+//! What comes of a text under every schedule, with the timeline of each answer.
+
+ghost use Rattle.std.specs.Prelude.{IfOk};
+ghost use Rattle.std.specs.List.{All};
+ghost use Rattle.cell_registry.specs.Cells.{AreLimits};
+ghost use Rattle.exploration_text.specs.ExplorationText.{IsSpellable};
+ghost use Rattle.timelines.specs.ExploreTimelines.{IsToldExploration, IsToldExplored, IsToldPart, IsToldText};
+
+use crate::timeline_order::push_rows;
+use crate::timeline_rows::timeline;
+use cell_registry::Limits;
+use effect_term::Program;
+use every_schedule::{Answer, Exploration, explore};
+use exploration_text::{
+    ExploreOrder, Want, exploration_status, first_line, is_listed_so, text_of_answer,
+};
+use fiber_events::replay_events;
+use outcome_trace::{InWords, ProgramOrder};
+use std::alloc::{AllocError, Global};
+
+/// Tells all that can come of the program that the text spells, under every schedule, and how: what `ExploreOrder` of
+/// `exploration_text` answers, where behind each report and each line of a fault stand a blank line and the timeline
+/// ([`timeline`]) of the replay under its schedule. The first line, the headings, the order of the answers and the
+/// status are the same. A text that is refused is answered by the line of its refusal alone, with `Status::Refused`.
+#[derive(Drop)]
+pub struct ExploreTimelineOrder {
+    /// What is explored, how far, and what is wanted.
+    pub order: ExploreOrder,
+}
+
+impl ProgramOrder for ExploreTimelineOrder {
+    type Refusals = InWords;
+
+    ghost comes = { λ it t. IsToldExplored t it.order.limits it.order.bounds it.order.wants.items };
+
+    fn answer_program(
+        &self,
+        alloc: Global,
+        program: &Program,
+    ) -> Result<outcome_trace::Answer, AllocError> {
+        let ExploreOrder {
+            limits,
+            bounds,
+            wants,
+        } = &self.order;
+        let Ok(exploration) = explore(alloc, program, *limits, *bounds) else {
+            return Err(AllocError);
+        };
+        Ok(outcome_trace::Answer {
+            text: told_exploration(alloc, program, *limits, &exploration, wants.as_slice())?,
+            status: exploration_status(&exploration, wants.as_slice()),
+        })
+    }
+}
+
+// The text of an exploration, with timelines.
+fn told_exploration(
+    alloc: Global,
+    program: &Program,
+    limits: Limits,
+    exploration: &Exploration,
+    wants: &[Want],
+) -> Result<Vec<u8>, AllocError>
+    requires limits { AreLimits limits }
+    requires spelled { All IsSpellable exploration.now.answers }
+    ensures { IfOk result (λ text. IsToldExploration wants.now exploration.now text.items) }
+{
+    let answers = exploration.answers.as_slice();
+    let unwanted = told_part(alloc, program, limits, answers, wants, true)?;
+    let others = told_part(alloc, program, limits, answers, wants, false)?;
+    let mut text = first_line(alloc, exploration)?.into_bytes();
+    text.extend_from_slice(unwanted.as_slice())?;
+    text.extend_from_slice(others.as_slice())?;
+    Ok(text)
+}
+
+// The text of the answers that are listed as not wanted, or of the others, with timelines.
+fn told_part(
+    alloc: Global,
+    program: &Program,
+    limits: Limits,
+    answers: &[Answer],
+    wants: &[Want],
+    unwanted: bool,
+) -> Result<Vec<u8>, AllocError>
+    requires limits { AreLimits limits }
+    requires spelled { All IsSpellable answers.now }
+    ensures { IfOk result (λ text. IsToldPart unwanted wants.now answers.now text.items) }
+{
+    let mut text = Vec::new(alloc);
+    for answer in answers {
+        if is_listed_so(answer, wants, unwanted) {
+            let part = told_text(alloc, program, limits, answer, unwanted)?;
+            text.extend_from_slice(part.as_slice())?;
+        }
+    }
+    Ok(text)
+}
+
+// The text of an answer, with its timeline.
+fn told_text(
+    alloc: Global,
+    program: &Program,
+    limits: Limits,
+    answer: &Answer,
+    unwanted: bool,
+) -> Result<Vec<u8>, AllocError>
+    requires limits { AreLimits limits }
+    requires spelled { IsSpellable answer.now }
+    ensures { IfOk result (λ text. IsToldText unwanted answer.now text.items) }
+{
+    let told = replay_events(alloc, program, answer.schedule.as_slice(), limits)?;
+    let rows = timeline(alloc, &told)?;
+    let mut text = text_of_answer(alloc, answer, unwanted)?;
+    push_rows(&mut text, rows.as_bytes())?;
+    Ok(text)
+}

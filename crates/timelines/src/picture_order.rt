@@ -1,0 +1,44 @@
+//! What comes of a text under a schedule, as a picture.
+
+ghost use Rattle.cell_registry.specs.Cells.{AreLimits};
+ghost use Rattle.timelines.specs.PictureAnswers.{IsPicturedAnswer};
+
+use crate::drawing::picture;
+use cell_registry::Limits;
+use effect_term::Program;
+use fiber_events::replay_events;
+use outcome_trace::{Answer, InWords, ProgramOrder, Refused, Status, line, report_status};
+use std::alloc::{AllocError, Global};
+
+/// Tells what the program that the text spells does under a schedule, by a picture ([`picture`]) in place of the
+/// report, with the report's status. Where there is no report, it answers as `ReplayOrder` of `outcome_trace` does: the
+/// line of the text's refusal, with `Status::Refused`, or of the run's fault, with `Status::Fault`.
+#[derive(Clone, Copy, Debug)]
+pub struct PictureOrder<'a> {
+    /// Whose move is next, from the first entry on.
+    pub schedule: &'a [u16],
+    /// How many fibers, refs and deferreds there may be (each 1 to 1000), and how often a fiber may
+    /// change its own state (1 to 1,099,511,627,775).
+    pub limits: Limits,
+    pub ghost ranges: { AreLimits limits },
+}
+
+impl ProgramOrder for PictureOrder<'_> {
+    type Refusals = InWords;
+
+    ghost comes = { λ order t. IsPicturedAnswer t order.schedule.now order.limits };
+
+    fn answer_program(&self, alloc: Global, program: &Program) -> Result<Answer, AllocError> {
+        let told = replay_events(alloc, program, self.schedule, self.limits)?;
+        match &told.end {
+            Ok(report) => Ok(Answer {
+                text: picture(alloc, &told)?.into_bytes(),
+                status: report_status(report),
+            }),
+            Err(error) => Ok(Answer {
+                text: line(alloc, &Refused::Run(*error))?,
+                status: Status::Fault,
+            }),
+        }
+    }
+}

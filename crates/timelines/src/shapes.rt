@@ -1,0 +1,124 @@
+//! The shapes of a picture, each as one line of its text.
+
+use crate::words::push_event;
+use fiber_events::Event;
+use itoa::Buffer;
+use std::alloc::AllocError;
+
+// A number behind what stands before it.
+fn push_number(text: &mut String, before: &str, number: usize) -> Result<(), AllocError> {
+    let mut digits = Buffer::new();
+    text.push_str(before)?;
+    text.push_str(digits.format(number))
+}
+
+/// Where a shape stands.
+#[derive(Clone, Copy, Debug)]
+pub(crate) struct Place {
+    /// How far from the left.
+    pub(crate) x: usize,
+    /// How far from the top.
+    pub(crate) y: usize,
+}
+
+/// A bar of a class, with its left upper corner.
+pub(crate) fn push_bar(
+    text: &mut String,
+    class: &str,
+    at: Place,
+    width: usize,
+    height: usize,
+) -> Result<(), AllocError> {
+    text.push_str("<rect class=\"")?;
+    text.push_str(class)?;
+    push_number(text, "\" x=\"", at.x)?;
+    push_number(text, "\" y=\"", at.y)?;
+    push_number(text, "\" width=\"", width)?;
+    push_number(text, "\" height=\"", height)?;
+    text.push_str("\"/>\n")
+}
+
+/// A line of a class.
+pub(crate) fn push_line(
+    text: &mut String,
+    class: &str,
+    from: Place,
+    to: Place,
+) -> Result<(), AllocError> {
+    text.push_str("<path class=\"")?;
+    text.push_str(class)?;
+    push_number(text, "\" d=\"M", from.x)?;
+    push_number(text, " ", from.y)?;
+    push_number(text, "L", to.x)?;
+    push_number(text, " ", to.y)?;
+    text.push_str("\"/>\n")
+}
+
+/// Words of a class, which begin or are centred at a place. They are no markup.
+pub(crate) fn push_words(
+    text: &mut String,
+    class: &str,
+    at: Place,
+    words: &str,
+) -> Result<(), AllocError> {
+    text.push_str("<text class=\"")?;
+    text.push_str(class)?;
+    push_number(text, "\" x=\"", at.x)?;
+    push_number(text, "\" y=\"", at.y)?;
+    text.push_str("\">")?;
+    text.push_str(words)?;
+    text.push_str("</text>\n")
+}
+
+/// A word and a number, as words.
+pub(crate) fn push_counted(
+    text: &mut String,
+    class: &str,
+    at: Place,
+    word: &str,
+    number: usize,
+) -> Result<(), AllocError> {
+    text.push_str("<text class=\"")?;
+    text.push_str(class)?;
+    push_number(text, "\" x=\"", at.x)?;
+    push_number(text, "\" y=\"", at.y)?;
+    text.push_str("\">")?;
+    push_number(text, word, number)?;
+    text.push_str("</text>\n")
+}
+
+/// A sign of a class: a drawing that begins at a place.
+pub(crate) fn push_sign(
+    text: &mut String,
+    class: &str,
+    at: Place,
+    drawing: &str,
+) -> Result<(), AllocError> {
+    begin_sign(text, class, at, drawing)?;
+    text.push_str("/>\n")
+}
+
+/// A sign that stands for an event, whose words it shows to who points at it.
+pub(crate) fn push_event_sign(
+    text: &mut String,
+    class: &str,
+    at: Place,
+    drawing: &str,
+    event: &Event,
+) -> Result<(), AllocError> {
+    begin_sign(text, class, at, drawing)?;
+    push_number(text, "><title>", event.entry)?;
+    text.push_str(": ")?;
+    push_event(text, event)?;
+    text.push_str("</title></path>\n")
+}
+
+// A sign up to the end of its opening tag.
+fn begin_sign(text: &mut String, class: &str, at: Place, drawing: &str) -> Result<(), AllocError> {
+    text.push_str("<path class=\"")?;
+    text.push_str(class)?;
+    push_number(text, "\" d=\"M", at.x)?;
+    push_number(text, " ", at.y)?;
+    text.push_str(drawing)?;
+    text.push_str("\"")
+}
