@@ -10,13 +10,13 @@ mod answers;
 #[cfg(test)]
 mod devices;
 #[cfg(test)]
+mod explained;
+#[cfg(test)]
 mod forms;
 #[cfg(test)]
 mod helps;
 #[cfg(test)]
 mod inputs;
-#[cfg(test)]
-mod reasons;
 #[cfg(test)]
 mod records;
 #[cfg(test)]
