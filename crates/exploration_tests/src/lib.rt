@@ -14,6 +14,10 @@ mod listed;
 #[cfg(test)]
 mod places;
 #[cfg(test)]
+mod random;
+#[cfg(test)]
+mod random_texts;
+#[cfg(test)]
 mod reduced;
 #[cfg(test)]
 mod sample_answers;

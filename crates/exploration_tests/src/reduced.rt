@@ -125,6 +125,11 @@ fn are_among(ones: &[Answer], others: &[Answer]) -> bool {
     true
 }
 
+/// Whether both have the same answers.
+pub fn have_same_answers(ones: &[Answer], others: &[Answer]) -> bool {
+    are_among(ones, others) && are_among(others, ones)
+}
+
 // The full exploration of a program, and the reduced one.
 #[derive(Drop)]
 struct Both {
@@ -163,8 +168,7 @@ fn is_same(alloc: Global, it: &Compared<'_>) -> Result<bool, Fail> {
             && both.reduced.worlds <= both.full.worlds
             && ones.len() == it.answers
             && others.len() == it.answers
-            && are_among(ones, others)
-            && are_among(others, ones),
+            && have_same_answers(ones, others),
     )
 }
 

@@ -1,0 +1,94 @@
+//! Explorations of programs made at random, with moves that are made at once, beside those without.
+
+ghost use Rattle.cell_registry.specs.Cells.{AreLimits};
+
+use crate::random_texts::random_text;
+use crate::reduced::have_same_answers;
+use every_schedule::{Bounds, explore, explore_full};
+use outcome_trace::{Limits, read_program};
+use std::alloc::Global;
+use std::test::Fail;
+
+// Limits of the programs.
+fn limits() -> Limits
+    ensures { AreLimits result }
+{
+    Limits {
+        fibers: 8,
+        refs: 8,
+        deferreds: 8,
+        count: 1000,
+    }
+}
+
+// What came of a program.
+#[derive(Clone, Copy, PartialEq, Eq)]
+enum Came {
+    // Both explorations have the same answers, more than one, and the plain search more than a hundred worlds.
+    Same,
+    // The same, of fewer answers or worlds.
+    SameOfFew,
+    Different,
+    // The text is refused, or an exploration met a bound.
+    Skipped,
+}
+
+// Explores a program both ways.
+fn compared(alloc: Global, text: &str) -> Result<Came, Fail> {
+    let Ok(program) = read_program(alloc, text.as_bytes()) else {
+        return Ok(Came::Skipped);
+    };
+    let bounds = Bounds {
+        worlds: 2000,
+        entries: 2000,
+    };
+    let Ok(full) = explore_full(alloc, &program, limits(), bounds) else {
+        return Err(Fail::new("memory ran out"));
+    };
+    // A loop without end isn't explored again: the moves that are made at once behind each entry can take much memory.
+    if !full.complete {
+        return Ok(Came::Skipped);
+    }
+    let Ok(reduced) = explore(alloc, &program, limits(), bounds) else {
+        return Err(Fail::new("memory ran out"));
+    };
+    if !reduced.complete
+        || !have_same_answers(full.answers.as_slice(), reduced.answers.as_slice())
+    {
+        return Ok(Came::Different);
+    }
+    if full.worlds > 100 && full.answers.as_slice().len() > 1 {
+        Ok(Came::Same)
+    } else {
+        Ok(Came::SameOfFew)
+    }
+}
+
+// Compares 1,100 programs, of which half have more than one answer and more than a hundred worlds.
+fn compare_many(alloc: Global, first: u64) -> Result<(), Fail> {
+    let mut rich = 0u32;
+    let mut poor = 0u32;
+    for number in 0..20_000u64 {
+        if rich >= 550 && poor >= 550 {
+            return Ok(());
+        }
+        let text = random_text(alloc, first.wrapping_add(number), 4)?;
+        match compared(alloc, text.as_str())? {
+            Came::Same => rich += 1,
+            Came::SameOfFew => poor += 1,
+            Came::Different => return Err(Fail::new(text.as_str())),
+            Came::Skipped => {}
+        }
+    }
+    Err(Fail::new("too few programs have several answers"))
+}
+
+#[test]
+fn random_programs_have_the_answers_of_the_plain_search(rt: HostRuntime) -> Result<(), Fail> {
+    compare_many(rt.alloc(), 1)
+}
+
+#[test]
+fn other_random_programs_have_the_answers_of_the_plain_search(rt: HostRuntime) -> Result<(), Fail> {
+    compare_many(rt.alloc(), 1_000_000)
+}
