@@ -32,3 +32,8 @@ pub mod NamedMoves
 pub mod AtRest
 pub mod SlotSets
 pub mod SameFibers
+pub mod Unused
+pub mod UnusedMoves
+pub mod NamedUses
+pub mod WordHits
+pub mod PathHits

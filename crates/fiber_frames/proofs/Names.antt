@@ -25,18 +25,18 @@ use Rattle.derived_ops.specs.Naming.{ActionFits, A_deferred, A_fiber, A_ref, Clo
 use Rattle.fiber_frames.specs.Naming.{AskNamed, NamedLive, NumberGiven}
 
 -- ---- scopes
-get_other : (g d : List Place) (c e : Place) (s : ℕ) → s ≢ length g → get_or (g ++ c ∷ d) s No_handle ≡ get_or (g ++ e ∷ d) s No_handle
+pub get_other : (g d : List Place) (c e : Place) (s : ℕ) → s ≢ length g → get_or (g ++ c ∷ d) s No_handle ≡ get_or (g ++ e ∷ d) s No_handle
 get_other [] d c e zero h = absurd (h refl)
 get_other [] d c e (suc s) h = refl
 get_other (x ∷ g) d c e zero h = refl
 get_other (x ∷ g) d c e (suc s) h = get_other g d c e s (λ q. h (omega arith))
 
-get_here : (g d : List Place) (c : Place) → get_or (g ++ c ∷ d) (length g) No_handle ≡ c
+pub get_here : (g d : List Place) (c : Place) → get_or (g ++ c ∷ d) (length g) No_handle ≡ c
 get_here [] d c = refl
 get_here (x ∷ g) d c = get_here g d c
 
 -- no handle is open below binders of none
-none_open : (n s : ℕ) → get_or (replicate n No_handle) s No_handle ≡ No_handle
+pub none_open : (n s : ℕ) → get_or (replicate n No_handle) s No_handle ≡ No_handle
 none_open zero s = refl
 none_open (suc n) zero = refl
 none_open (suc n) (suc s) = none_open n s

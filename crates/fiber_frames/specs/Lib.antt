@@ -15,3 +15,5 @@ pub mod Cases
 pub mod Told
 pub mod Leading
 pub mod Naming
+pub mod Uses
+pub mod Hits

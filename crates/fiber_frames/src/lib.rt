@@ -44,8 +44,10 @@ mod sameness;
 mod slots;
 mod stack;
 mod table;
+mod uses;
 
 pub use ask::{Ask, Look};
 pub use config::{Config, Moved};
 pub use effect_term::Reply;
 pub use mark::Mark;
+pub use uses::Use;

@@ -68,8 +68,8 @@ fn of_word(word: &CoreWord) -> u64
     }
 }
 
-// How many parts a word has.
-fn parts_of(word: &CoreWord) -> u8
+/// How many parts a word has.
+pub(crate) fn parts_of(word: &CoreWord) -> u8
     ensures { result ≡ many_parts word.now }
 {
     match word {
@@ -82,8 +82,8 @@ fn parts_of(word: &CoreWord) -> u8
     }
 }
 
-// How far after its first part the second part of a word stands.
-fn second(word: &CoreWord) -> u32
+/// How far after its first part the second part of a word stands.
+pub(crate) fn second(word: &CoreWord) -> u32
     ensures { result ≡ second_of word.now }
 {
     match word {
@@ -98,8 +98,8 @@ fn second(word: &CoreWord) -> u32
     }
 }
 
-// The same of its third part.
-fn third(word: &CoreWord) -> u32
+/// The same of its third part.
+pub(crate) fn third(word: &CoreWord) -> u32
     ensures { result ≡ third_of word.now }
 {
     match word {

@@ -1,0 +1,115 @@
+-- What the term at a word uses is what the word itself and its parts use.
+use Rattle.std.proofs.Common.{◌≡◌, ◌<◌, ◌≤◌, ℕ, ◌+◌, List, length, refl, sym, ap, ◌∙◌, subst, arith}
+use Rattle.derived_ops.specs.Tree.{Tree}
+use Rattle.derived_ops.specs.declared.core_word.CoreWord.{CoreWord}
+use Rattle.derived_ops.specs.declared.core_word.CoreWord.TheVariants as word
+use Rattle.derived_ops.specs.Words.{second, third, tree_at, word_at, word_tree}
+use Rattle.derived_ops.proofs.Words.{tree_past_end, tree_word}
+use Rattle.fiber_frames.specs.declared.env.EnvEntry.{EnvEntry}
+use Rattle.fiber_frames.specs.declared.uses.Use.{Use}
+use Rattle.fiber_frames.specs.Env.{close, env_of}
+use Rattle.fiber_frames.specs.Hits.{last_of, own_hits, term_hits, tree_hits}
+use Rattle.fiber_frames.specs.SlotNames.{many_parts}
+
+-- the last part of a word
+abbrev last_part : CoreWord → (a b c : ℕ → Tree) → ℕ → Tree
+last_part (word.Join f j l) a b c = c
+last_part (word.Make m) a b c = a
+last_part (word.Loop t) a b c = a
+last_part word.Uncancelable a b c = a
+last_part (word.Poll q) a b c = a
+last_part _ a b c = b
+
+module _ (u : Use) (n : ℕ) (es : List EnvEntry) (level : ℕ) where
+  abbrev hits : Tree → ℕ
+  hits t = tree_hits u n (close (env_of es level) t)
+
+  module _ (m : ℕ) (a b c : ℕ → Tree) where
+    word_front : (w : CoreWord) → 0 < many_parts w → own_hits u n es level w ≡ 0 → (1 < many_parts w → (j : ℕ) → hits (a j) ≡ 0) →
+        (2 < many_parts w → (j : ℕ) → hits (b j) ≡ 0) → (j : ℕ) × (hits (word_tree w m a b c) ≡ hits (last_part w a b c j))
+    word_front (word.Pure v) some own first next = absurd (omega (arith, some))
+    word_front (word.Raise v) some own first next = absurd (omega (arith, some))
+    word_front (word.Act o) some own first next = absurd (omega (arith, some))
+    word_front (word.Note h q) some own first next = absurd (omega (arith, some))
+    word_front (word.Cancel f) some own first next = absurd (omega (arith, some))
+    word_front (word.Let j) some own first next = let z = first (omega arith) m in (m + 1, omega (arith, z))
+    word_front (word.Seq r j) some own first next = let z = first (omega arith) m in (m, omega (arith, z))
+    word_front (word.Handle j) some own first next = let z = first (omega arith) m in (m + 1, omega (arith, z))
+    word_front (word.If0 v j) some own first next = let z = first (omega arith) m in (m, omega (arith, z))
+    word_front (word.Join f j l) some own first next =
+        let y = first (omega arith) (m + 1) in
+        let z = next (omega arith) (m + 1) in
+        (m, omega (arith, own, y, z))
+    word_front (word.Make k) some own first next = (m + 1, refl)
+    word_front (word.Start j) some own first next = let z = first (omega arith) m in (m + 1, omega (arith, z))
+    word_front (word.Loop t) some own first next = (m, refl)
+    word_front word.Uncancelable some own first next = (m + 1, refl)
+    word_front (word.Poll q) some own first next = (m, refl)
+    word_front (word.OnCancel j) some own first next = let z = first (omega arith) m in (m, omega (arith, z))
+
+    word_own : (w : CoreWord) → 0 < own_hits u n es level w → 0 < hits (word_tree w m a b c)
+    word_own (word.Act o) own = own
+    word_own (word.Cancel f) own = own
+    word_own (word.Join f j l) own = omega (arith, own)
+    word_own _ own = absurd (omega (arith, own))
+
+    word_first : (w : CoreWord) → 1 < many_parts w → ((j : ℕ) → 0 < hits (a j)) → 0 < hits (word_tree w m a b c)
+    word_first (word.Let j) more h = let z = h m in omega (arith, z)
+    word_first (word.Seq r j) more h = let z = h m in omega (arith, z)
+    word_first (word.Handle j) more h = let z = h m in omega (arith, z)
+    word_first (word.If0 v j) more h = let z = h m in omega (arith, z)
+    word_first (word.Join f j l) more h = let z = h (m + 1) in omega (arith, z)
+    word_first (word.Start j) more h = let z = h m in omega (arith, z)
+    word_first (word.OnCancel j) more h = let z = h m in omega (arith, z)
+    word_first _ more h = absurd (omega (arith, more))
+
+    word_next : (w : CoreWord) → 2 < many_parts w → ((j : ℕ) → 0 < hits (b j)) → 0 < hits (word_tree w m a b c)
+    word_next (word.Join f j l) more h = let z = h (m + 1) in omega (arith, z)
+    word_next _ more h = absurd (omega (arith, more))
+
+    word_ends : (w : CoreWord) → many_parts w ≡ 0 → own_hits u n es level w ≡ 0 → hits (word_tree w m a b c) ≡ 0
+    word_ends (word.Pure v) none own = own
+    word_ends (word.Raise v) none own = own
+    word_ends (word.Act o) none own = own
+    word_ends (word.Note h q) none own = own
+    word_ends (word.Cancel f) none own = own
+    word_ends _ none own = absurd (omega (arith, none))
+
+  abbrev counted : List CoreWord → ℕ → ℕ → ℕ
+  counted ws i m = term_hits u n ws es level i m
+
+  pub term_past : (ws : List CoreWord) (i m : ℕ) → length ws ≤ i → counted ws i m ≡ 0
+  term_past ws i m past = ap hits (tree_past_end ws i m past)
+
+  module _ (ws : List CoreWord) (i : ℕ) (w : CoreWord) (at : word_at ws i ≡ w) where
+    here : (m : ℕ) → tree_at ws i m ≡ word_tree w m (tree_at ws (i + 1)) (tree_at ws (i + 1 + second w)) (tree_at ws (i + 1 + third w))
+    here m = subst (λ v. tree_at ws i m ≡ word_tree v m (tree_at ws (i + 1)) (tree_at ws (i + 1 + second v)) (tree_at ws (i + 1 + third v))) at (tree_word ws i m)
+
+    last_at : (v : CoreWord) (j : ℕ) → last_part v (tree_at ws (i + 1)) (tree_at ws (i + 1 + second v)) (tree_at ws (i + 1 + third v)) j ≡
+        tree_at ws (i + 1 + last_of v) j
+    last_at (word.Make m) j = ap (λ k. tree_at ws k j) (omega arith)
+    last_at (word.Loop t) j = ap (λ k. tree_at ws k j) (omega arith)
+    last_at word.Uncancelable j = ap (λ k. tree_at ws k j) (omega arith)
+    last_at (word.Poll q) j = ap (λ k. tree_at ws k j) (omega arith)
+    last_at _ j = refl
+
+    pub term_front : (m : ℕ) → 0 < many_parts w → own_hits u n es level w ≡ 0 → (1 < many_parts w → (j : ℕ) → counted ws (i + 1) j ≡ 0) →
+        (2 < many_parts w → (j : ℕ) → counted ws (i + 1 + second w) j ≡ 0) → (j : ℕ) × (counted ws i m ≡ counted ws (i + 1 + last_of w) j)
+    term_front m some own first next =
+        let on = word_front m (tree_at ws (i + 1)) (tree_at ws (i + 1 + second w)) (tree_at ws (i + 1 + third w)) w some own first next in
+        (on.0, ap hits (here m) ∙ on.1 ∙ ap hits (last_at w on.0))
+
+    pub term_own : (m : ℕ) → 0 < own_hits u n es level w → 0 < counted ws i m
+    term_own m own = subst (λ t. 0 < hits t) (sym (here m)) (word_own m (tree_at ws (i + 1)) (tree_at ws (i + 1 + second w)) (tree_at ws (i + 1 + third w)) w own)
+
+    pub term_first : (m : ℕ) → 1 < many_parts w → ((j : ℕ) → 0 < counted ws (i + 1) j) → 0 < counted ws i m
+    term_first m more h =
+        subst (λ t. 0 < hits t) (sym (here m)) (word_first m (tree_at ws (i + 1)) (tree_at ws (i + 1 + second w)) (tree_at ws (i + 1 + third w)) w more h)
+
+    pub term_next : (m : ℕ) → 2 < many_parts w → ((j : ℕ) → 0 < counted ws (i + 1 + second w) j) → 0 < counted ws i m
+    term_next m more h =
+        subst (λ t. 0 < hits t) (sym (here m)) (word_next m (tree_at ws (i + 1)) (tree_at ws (i + 1 + second w)) (tree_at ws (i + 1 + third w)) w more h)
+
+    pub term_ends : (m : ℕ) → many_parts w ≡ 0 → own_hits u n es level w ≡ 0 → counted ws i m ≡ 0
+    term_ends m none own =
+        ap hits (here m) ∙ word_ends m (tree_at ws (i + 1)) (tree_at ws (i + 1 + second w)) (tree_at ws (i + 1 + third w)) w none own
