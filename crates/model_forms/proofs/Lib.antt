@@ -1,0 +1,5 @@
+pub mod Lexing
+pub mod RowLaws
+pub mod Blocks
+pub mod Refusals
+pub mod Steps

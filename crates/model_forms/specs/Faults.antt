@@ -1,0 +1,50 @@
+-- The first fault of a text's brackets and strings. Before it stands what could still begin a row.
+use Rattle.std.specs.Prelude.{◌≡◌, ℕ, List, [], ◌∷◌, ◌++◌, length}
+use Rattle.model_forms.specs.Lexemes.{opens, closes, unclosed, Placed, lexemes_at}
+use Rattle.model_forms.specs.Rows.{Row, tokens_of}
+use Rattle.model_forms.specs.declared.fault.FormFault.{FormFault}
+use Rattle.model_forms.specs.declared.fault.FormFault.TheVariants as faults
+
+-- an opening bracket that isn't closed: the row before it inside the bracket around it, and its place
+pub record Opening : Type 0 where
+  pub before : Row
+  pub place : ℕ
+
+-- the tokens up to these open brackets, of which the innermost stands first
+abbrev pub tokens_up_to : List ℕ → List Opening → List Placed
+tokens_up_to text [] = []
+tokens_up_to text (o ∷ os) =
+    tokens_up_to text os ++ (tokens_of text o.before ++ (record { lexeme = opens; place = o.place } ∷ []))
+
+-- these brackets are open, the row stands inside the innermost, and these tokens follow
+abbrev pub AreOpen : List ℕ → List Opening → Row → List Placed → Type 0
+AreOpen text os row rest = lexemes_at 0 text ≡ (tokens_up_to text os ++ tokens_of text row) ++ rest
+
+-- where every bracket is closed, another closing one comes
+pub record IsUnopened (text : List ℕ) (place : ℕ) : Type 0 where
+  pub row : Row
+  pub rest : List Placed
+  pub balanced : AreOpen text [] row (record { lexeme = closes; place = place } ∷ rest)
+
+-- a quote with no other on its line comes
+pub record IsUnclosedText (text : List ℕ) (place : ℕ) : Type 0 where
+  pub open_ones : List Opening
+  pub row : Row
+  pub rest : List Placed
+  pub open_so : AreOpen text open_ones row (record { lexeme = unclosed; place = place } ∷ rest)
+
+-- the text is over where this number of brackets is open, the innermost of them at this place
+pub record IsUnclosed (text : List ℕ) (count place : ℕ) : Type 0 where
+  pub innermost : Opening
+  pub around : List Opening
+  pub row : Row
+  pub open_so : AreOpen text (innermost ∷ around) row []
+  pub counted : count ≡ length (innermost ∷ around)
+  pub placed : place ≡ innermost.place
+
+-- the first fault of a text
+abbrev pub IsFaultOf : List ℕ → FormFault → Type 0
+IsFaultOf text faults.NoMemory = Unit {0}
+IsFaultOf text (faults.Unclosed count place) = IsUnclosed text count place
+IsFaultOf text (faults.Unopened place) = IsUnopened text place
+IsFaultOf text (faults.UnclosedText place) = IsUnclosedText text place

@@ -1,0 +1,5 @@
+pub mod Lexemes
+pub mod Seen
+pub mod Rows
+pub mod Faults
+pub mod Reading

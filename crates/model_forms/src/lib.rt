@@ -1,0 +1,31 @@
+//! The forms of a model file: words, texts in quotes, and lists of forms in brackets, with comments between them.
+//!
+//! It stands on no other crate of the project. [`read_forms`] turns the bytes of a file into its forms, each with the
+//! place of its bytes, or returns the first fault: a closing bracket that no opening one belongs to, a quote with no
+//! other on its line, or opening brackets that are never closed. It promises that the forms spell exactly the tokens
+//! of the text, that a fault is the first one, and that no forms at all spell a text that is refused. Brackets may
+//! nest to any depth: nothing here calls itself.
+//!
+//! The forms of a file are one list, in which the forms of a list follow it ([`Form::inside`]). A [`Block`] is some of
+//! them, one behind another; [`inside_first`] and [`behind_first`] lead from its first form to those inside that one
+//! and to the next ones. So:
+//!
+//! ```
+//! let forms = read_forms(alloc, b"(want 42) ; the answer")?;
+//! // The list, with two forms inside, and the words `want` and `42`.
+//! assert_eq!(forms.len(), 3);
+//! assert_eq!(form_bytes(b"(want 42) ; the answer", forms[2]), b"42");
+//! assert_eq!(read_forms(alloc, b"(want 42))").err(), Some(FormFault::Unopened(9)));
+//! ```
+#![tactic(auto)]
+
+mod block;
+mod fault;
+mod form;
+mod reader;
+mod token;
+
+pub use block::{Block, behind_first, block_of, first_form, inside_first};
+pub use fault::FormFault;
+pub use form::{Form, FormKind, form_bytes};
+pub use reader::read_forms;
