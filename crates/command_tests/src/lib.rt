@@ -18,9 +18,9 @@ mod helps;
 #[cfg(test)]
 mod inputs;
 #[cfg(test)]
-mod records;
+mod laws;
 #[cfg(test)]
-mod replays;
+mod records;
 #[cfg(test)]
 mod runs;
 #[cfg(test)]

@@ -9,12 +9,8 @@
 #[cfg(test)]
 mod answers;
 #[cfg(test)]
-mod blocks;
-#[cfg(test)]
 mod events;
 #[cfg(test)]
 mod explorations;
 #[cfg(test)]
 mod pictures;
-#[cfg(test)]
-mod replays;
