@@ -1,5 +1,5 @@
 -- Worlds without the notes of joins: an entry leads on from them as from those with these notes.
-use Rattle.std.proofs.Common.{◌≡◌, inl, inr, ℕ, ◌<◌, Bool, true, false, List, ◌++◌, set, Some, None, Option, Result, Ok, Err, refl, sym, ap, ap₂, ◌∙◌, subst}
+use Rattle.std.proofs.Common.{◌≡◌, inl, inr, ℕ, ◌<◌, Bool, true, false, not, ◌||◌, List, ◌++◌, set, Some, None, Option, Result, Ok, Err, refl, sym, ap, ap₂, ◌∙◌, subst}
 use Rattle.std.specs.List.{slice_get}
 use Rattle.effect_term.specs.declared.reply.Reply.{Reply}
 use Rattle.fiber_frames.specs.Fiber.{Fiber, ask_of, move, silent_move}
@@ -10,6 +10,7 @@ use Rattle.cell_registry.specs.declared.limits.RunError.{RunError}
 use Rattle.cell_registry.specs.declared.call.Call.{Call}
 use Rattle.cell_registry.specs.declared.call.Call.TheVariants as call
 use Rattle.cell_registry.specs.Cells.{Cells, cell_of, owned, refusal, unawaited, without_waits}
+use Rattle.cell_registry.specs.Words.{has_ended}
 use Rattle.cell_registry.proofs.Forgetting.{same_after, same_refusal, same_reply, unawaited_cell, without_waits_twice}
 use Rattle.scheduled_core.specs.declared.wish.Wish.{Wish}
 use Rattle.scheduled_core.specs.declared.wish.Wish.TheVariants.{Shared, Alone, Nothing}
@@ -17,7 +18,7 @@ use Rattle.scheduled_core.specs.Core.{World, answered, born, turned, wish_of, wi
 use Rattle.scheduled_core.specs.Fitting.{AllFit, Fits, Registered, cell_registered, given_by}
 use Rattle.world_search.specs.Free.{AreFree, AreGrowing, Commutes}
 use Rattle.every_schedule.specs.Places.{Place, bare, bared, entering, moves_at, placed, report_at, stepped, stepped_if, unnoted, wants}
-use Rattle.every_schedule.specs.Reduced.{IsOwn, has_own, is_own, is_own_call}
+use Rattle.every_schedule.specs.Reduced.{IsOwn, has_own, is_left_alone, is_own, is_own_call}
 use Rattle.every_schedule.proofs.Commuting.{own_enter}
 use Rattle.every_schedule.proofs.Growing.{reports_enter, size}
 
@@ -120,31 +121,19 @@ fits_bare w h = record {
 }
 
 -- ---- own moves
-own_call_bare : (x : Cell) (c : Call) → is_own_call (unawaited x) c ≡ is_own_call x c
-own_call_bare x call.Start = refl
-own_call_bare x (call.Cancel f) = refl
-own_call_bare x (call.Join f) = refl
-own_call_bare x call.Look = refl
-own_call_bare x call.Mask = refl
-own_call_bare x call.Unmask = refl
-own_call_bare x call.Cut = refl
-own_call_bare x (call.Finish o) = refl
-own_call_bare x call.NewRef = refl
-own_call_bare x call.NewDeferred = refl
-own_call_bare x (call.Get r) = refl
-own_call_bare x (call.Set r v) = refl
-own_call_bare x (call.Modify r v) = refl
-own_call_bare x (call.Complete d v) = refl
-own_call_bare x (call.Read d) = refl
+own_call_bare : (w : World) (f : ℕ) (c : Call) → is_own_call (unnoted w) f c ≡ is_own_call w f c
+own_call_bare w f call.Look = ap (λ (x : Cell). x.request || is_left_alone w f) (unawaited_cell w.cells f)
+own_call_bare w f call.Cut = ap (λ (x : Cell). not (has_ended x.stage)) (unawaited_cell w.cells f)
+own_call_bare w f _ = refl
 
-is_own_bare : (s : Cells) (f : ℕ) (x : Wish) → is_own (without_waits s) f x ≡ is_own s f x
-is_own_bare s f (Shared c) = ap (λ (x : Cell). is_own_call x c) (unawaited_cell s f) ∙ own_call_bare (cell_of s f) c
-is_own_bare s f Alone = refl
-is_own_bare s f Nothing = refl
+is_own_bare : (w : World) (f : ℕ) (g : Fiber) (x : Wish) → is_own (unnoted w) f g x ≡ is_own w f g x
+is_own_bare w f g (Shared c) = own_call_bare w f c
+is_own_bare w f g Alone = refl
+is_own_bare w f g Nothing = refl
 
-has_own_bare : (s : Cells) (f : ℕ) (o : Option Fiber) → has_own (without_waits s) f o ≡ has_own s f o
-has_own_bare s f None = refl
-has_own_bare s f (Some g) = is_own_bare s f (wish_of (ask_of g))
+has_own_bare : (w : World) (f : ℕ) (o : Option Fiber) → has_own (unnoted w) f o ≡ has_own w f o
+has_own_bare w f None = refl
+has_own_bare w f (Some g) = is_own_bare w f g (wish_of (ask_of g))
 
 goes_bare : (y : Result Place RunError) (q : Place) → bared y ≡ Ok q → (x : Place) × (y ≡ Ok x)
 goes_bare (Ok x) q e = (x, refl)
@@ -153,22 +142,22 @@ goes_bare (Err d) q e = absurd (cc)
 own_bare : (p : Place) (f : ℕ) → IsOwn p f → IsOwn (bare p) f
 own_bare p f h =
     let on = goes_bare (entering (bare p) f) (bare h.next) (entering_bare p f ∙ ap bared h.goes) in
-    record { own = has_own_bare p.world.cells f (slice_get p.world.fibers f) ∙ h.own; next = on.0; goes = on.1 }
+    record { own = has_own_bare p.world f (slice_get p.world.fibers f) ∙ h.own; next = on.0; goes = on.1 }
 
 -- who has an own move has a next move
-own_wants : (s : Cells) (f : ℕ) (x : Wish) → is_own s f x ≡ true → wants x ≡ true
-own_wants s f (Shared c) e = refl
-own_wants s f Alone e = refl
-own_wants s f Nothing e = absurd (cc)
+own_wants : (w : World) (f : ℕ) (g : Fiber) (x : Wish) → is_own w f g x ≡ true → wants x ≡ true
+own_wants w f g (Shared c) e = refl
+own_wants w f g Alone e = refl
+own_wants w f g Nothing e = absurd (cc)
 
-own_moves : (s : Cells) (f : ℕ) (o : Option Fiber) → has_own s f o ≡ true → moves_at o ≡ true
-own_moves s f None e = absurd (cc)
-own_moves s f (Some g) e = own_wants s f (wish_of (ask_of g)) e
+own_moves : (w : World) (f : ℕ) (o : Option Fiber) → has_own w f o ≡ true → moves_at o ≡ true
+own_moves w f None e = absurd (cc)
+own_moves w f (Some g) e = own_wants w f g (wish_of (ask_of g)) e
 
-own_steps : (p : Place) (f : ℕ) → has_own p.world.cells f (slice_get p.world.fibers f) ≡ true → stepped p f ≡ bared (entering p f)
-own_steps p f own = moves_step p f (own_moves p.world.cells f (slice_get p.world.fibers f) own)
+own_steps : (p : Place) (f : ℕ) → has_own p.world f (slice_get p.world.fibers f) ≡ true → stepped p f ≡ bared (entering p f)
+own_steps p f own = moves_step p f (own_moves p.world f (slice_get p.world.fibers f) own)
 
-pub own_from : (p : Place) (f : ℕ) (q : Place) → has_own p.world.cells f (slice_get p.world.fibers f) ≡ true → stepped p f ≡ Ok q → IsOwn p f
+pub own_from : (p : Place) (f : ℕ) (q : Place) → has_own p.world f (slice_get p.world.fibers f) ≡ true → stepped p f ≡ Ok q → IsOwn p f
 own_from p f q own goes =
     let on = goes_bare (entering p f) q (sym (own_steps p f own) ∙ goes) in
     record { own = own; next = on.0; goes = on.1 }

@@ -7,7 +7,7 @@ use Rattle.cell_registry.specs.declared.limits.Limits.{Limits}
 use Rattle.cell_registry.specs.declared.limits.CellError.{CellError}
 use Rattle.cell_registry.specs.declared.limits.RunError.{RunError}
 use Rattle.cell_registry.specs.declared.call.Call.{Call}
-use Rattle.cell_registry.specs.declared.call.Call.TheVariants.{Look, Mask, Unmask, Cut}
+use Rattle.cell_registry.specs.declared.call.Call.TheVariants.{Start}
 use Rattle.cell_registry.specs.Cells.{Cells, after, refusal, reply_of}
 use Rattle.scheduled_core.specs.declared.wish.Wish.{Wish}
 use Rattle.scheduled_core.specs.declared.wish.Wish.TheVariants.{Shared, Alone, Nothing}
@@ -18,7 +18,8 @@ use Rattle.scheduled_core.proofs.Standing.Lists.{get_early}
 use Rattle.world_search.specs.Free.{AreFree, Commutes}
 use Rattle.every_schedule.specs.Places.{Place, placed, entering as stepped}
 use Rattle.every_schedule.specs.Reduced.{IsOwn, has_own, is_own}
-use Rattle.every_schedule.proofs.OwnCalls.{IsAdmitted, left_by, other_refusal, other_reply, own_reply, own_stays, room_stays, swaps}
+use Rattle.every_schedule.proofs.OwnCalls.{IsAdmitted, left_by, other_refusal, other_reply, own_reply, room_stays, swaps}
+use Rattle.every_schedule.proofs.OwnKept.{calm_called, kept_called, kept_silent}
 
 -- ---- lists
 -- a change of an element that is there, and one more change and some more elements, in either order
@@ -36,12 +37,9 @@ set_apart (x ∷ xs) (suc f) (suc g) a b apart = ap (λ l. x ∷ l) (set_apart x
 
 -- ---- the own move
 -- a call of its own makes no child
-childless : (a : Fiber) (s : Cells) (f : ℕ) (c : Call) (r : Reply) → is_own s f (Shared c) ≡ true → born a c r ≡ []
-childless a s f Look r own = refl
-childless a s f Mask r own = refl
-childless a s f Unmask r own = refl
-childless a s f Cut r own = refl
-childless a s f _ r own = absurd (cc)
+childless : (a : Fiber) (w : World) (f : ℕ) (c : Call) (r : Reply) → is_own w f a (Shared c) ≡ true → born a c r ≡ []
+childless a w f Start r own = absurd (cc)
+childless a w f _ r own = refl
 
 module _ (k : Limits) (f : ℕ) (a : Fiber) where
   abbrev pub place : World → Place
@@ -51,28 +49,28 @@ module _ (k : Limits) (f : ℕ) (a : Fiber) where
   abbrev pub moved : World → Wish → World
   moved w x = record { fibers = set w.fibers f (move a (reply_to w.cells f x)); cells = left_by w.cells f x }
 
-  own_wished : (w : World) (x : Wish) → is_own w.cells f x ≡ true → IsAdmitted k w.cells f x → wished k w f a x ≡ Ok (moved w x)
+  own_wished : (w : World) (x : Wish) → is_own w f a x ≡ true → IsAdmitted k w.cells f x → wished k w f a x ≡ Ok (moved w x)
   own_wished w (Shared c) own room =
       ap (answered w f a c) room
       ∙ ap (λ l. Ok record { fibers = l; cells = after w.cells f c })
-      (ap (λ b. set w.fibers f (move a (reply_of w.cells f c)) ++ b) (childless a w.cells f c (reply_of w.cells f c) own) ∙
+      (ap (λ b. set w.fibers f (move a (reply_of w.cells f c)) ++ b) (childless a w f c (reply_of w.cells f c) own) ∙
       append-nil (set w.fibers f (move a (reply_of w.cells f c))))
   own_wished w Alone own room = refl
   own_wished w Nothing own room = absurd (cc)
 
   module _ (x : Wish) (is : wish_of (ask_of a) ≡ x) where
-    pub own_step : (w : World) → slice_get w.fibers f ≡ Some a → is_own w.cells f x ≡ true → IsAdmitted k w.cells f x →
+    pub own_step : (w : World) → slice_get w.fibers f ≡ Some a → is_own w f a x ≡ true → IsAdmitted k w.cells f x →
         stepped (place w) f ≡ Ok (place (moved w x))
     own_step w at own room = ap (placed k) (ap (turned k w f) at ∙ ap (wished k w f a) is ∙ own_wished w x own room)
 
-    pub own_free : (w : World) → slice_get w.fibers f ≡ Some a → is_own w.cells f x ≡ true → IsAdmitted k w.cells f x → IsOwn (place w) f
+    pub own_free : (w : World) → slice_get w.fibers f ≡ Some a → is_own w f a x ≡ true → IsAdmitted k w.cells f x → IsOwn (place w) f
     own_free w at own room = record {
-      own = ap (has_own w.cells f) at ∙ ap (is_own w.cells f) is ∙ own;
+      own = ap (has_own w f) at ∙ ap (is_own w f a) is ∙ own;
       next = place (moved w x);
       goes = own_step w at own room;
     }
 
-    module _ (w : World) (g : ℕ) (apart : g ≢ f) (at : slice_get w.fibers f ≡ Some a) (own : is_own w.cells f x ≡ true) (room : IsAdmitted k w.cells f x) where
+    module _ (w : World) (g : ℕ) (apart : g ≢ f) (at : slice_get w.fibers f ≡ Some a) (own : is_own w f a x ≡ true) (room : IsAdmitted k w.cells f x) where
       abbrev on : World
       on = moved w x
 
@@ -84,39 +82,42 @@ module _ (k : Limits) (f : ℕ) (a : Fiber) where
           let here : slice_get (set w.fibers g b) f ≡ Some a = slice_get-set_other w.fibers g f b apart ∙ at in
           set_early (set w.fibers g b) more f a c here ∙ ap (λ l. l ++ more) (set_apart w.fibers g f b c apart)
 
-      by_answer : (b : Fiber) (d : Call) (o : Option CellError) → stepped (place on) g ≡ placed k (answered on g b d o) → Com (placed k (answered w g b d o))
-      by_answer b d None goes =
+      by_answer : (b : Fiber) → slice_get w.fibers g ≡ Some b → (d : Call) → wish_of (ask_of b) ≡ Shared d → (o : Option CellError) → stepped (place on) g ≡ placed k (answered on g b d o) → Com (placed k (answered w g b d o))
+      by_answer b there d wants None goes =
           let q = reply_of w.cells g d in
           let r = reply_to w.cells f x in
           let y : World = called w g b d q in
           let z : World = called on g b d q in
           let here : slice_get y.fibers f ≡ Some a =
           get_early (set w.fibers g (move b q)) (born b d q) f a (slice_get-set_other w.fibers g f (move b q) apart ∙ at) in
-          let own' : is_own y.cells f x ≡ true = own_stays w.cells f g d apart x own in
-          let room' : IsAdmitted k y.cells f x = room_stays w.cells f g d apart k x own room in (
+          let calm = calm_called w f g b apart there a d wants x own in
+          let own' : is_own y f a x ≡ true = kept_called w f g b apart there a d wants x own in
+          let room' : IsAdmitted k y.cells f x = room_stays w.cells f g d apart k x calm room in (
             own_free y here own' room',
             place z,
             own_step y here own' room'
-                ∙ ap (λ s. Ok (place (record { fibers = set y.fibers f (move a s); cells = left_by y.cells f x }))) (own_reply w.cells f g d apart x own)
+                ∙ ap (λ s. Ok (place (record { fibers = set y.fibers f (move a s); cells = left_by y.cells f x }))) (own_reply w.cells f g d apart x calm)
                 ∙ ap (λ l. Ok (place (record { fibers = l; cells = left_by y.cells f x }))) (turn_over (move b q) (born b d q) (move a r))
-                ∙ ap (λ s. Ok (place (record { fibers = z.fibers; cells = s }))) (sym (swaps w.cells f g d apart x own)),
-            goes ∙ ap (λ s. Ok (place (called on g b d s))) (other_reply w.cells f g d apart x own),
+                ∙ ap (λ s. Ok (place (record { fibers = z.fibers; cells = s }))) (sym (swaps w.cells f g d apart x calm)),
+            goes ∙ ap (λ s. Ok (place (called on g b d s))) (other_reply w.cells f g d apart x calm),
           )
-      by_answer b d (Some e) goes = goes
+      by_answer b there d wants (Some e) goes = goes
 
-      by_wish : (b : Fiber) (v : Wish) → stepped (place on) g ≡ placed k (wished k on g b v) → Com (placed k (wished k w g b v))
-      by_wish b (Shared d) goes =
-          by_answer b d (refusal k w.cells g d) (goes ∙ ap (λ o. placed k (answered on g b d o)) (other_refusal w.cells f g d apart k x own))
-      by_wish b Alone goes =
+      by_wish : (b : Fiber) → slice_get w.fibers g ≡ Some b → (v : Wish) → wish_of (ask_of b) ≡ v → stepped (place on) g ≡ placed k (wished k on g b v) → Com (placed k (wished k w g b v))
+      by_wish b there (Shared d) wants goes =
+          by_answer b there d wants (refusal k w.cells g d)
+          (goes ∙ ap (λ o. placed k (answered on g b d o)) (other_refusal w.cells f g d apart k x (calm_called w f g b apart there a d wants x own)))
+      by_wish b there Alone wants goes =
           let y : World = record { fibers = set w.fibers g (silent_move b); cells = w.cells } in
+          let own' : is_own y f a x ≡ true = kept_silent w f g b apart there a wants x own in
           let here : slice_get y.fibers f ≡ Some a = slice_get-set_other w.fibers g f (silent_move b) apart ∙ at in (
-            own_free y here own room,
+            own_free y here own' room,
             place (record { fibers = set on.fibers g (silent_move b); cells = on.cells }),
-            own_step y here own room ∙
+            own_step y here own' room ∙
                 ap (λ l. Ok (place (record { fibers = l; cells = on.cells }))) (set_apart w.fibers g f (silent_move b) (move a (reply_to w.cells f x)) apart),
             goes,
           )
-      by_wish b Nothing goes = (own_free w at own room, place on, own_step w at own room, goes)
+      by_wish b there Nothing wants goes = (own_free w at own room, place on, own_step w at own room, goes)
 
       by_place : (o : Option Fiber) → slice_get w.fibers g ≡ o → Com (placed k (turned k w g o))
       by_place None e = (
@@ -126,7 +127,7 @@ module _ (k : Limits) (f : ℕ) (a : Fiber) where
         ap (λ o. placed k (turned k on g o)) (slice_get-set_other w.fibers f g (move a (reply_to w.cells f x)) (λ e. apart (sym e)) ∙ e),
       )
       by_place (Some b) e =
-          by_wish b (wish_of (ask_of b))
+          by_wish b e (wish_of (ask_of b)) refl
           (ap (λ o. placed k (turned k on g o)) (slice_get-set_other w.fibers f g (move a (reply_to w.cells f x)) (λ e. apart (sym e)) ∙ e))
 
       pub own_commutes : Com (stepped (place w) g)
@@ -143,7 +144,7 @@ module _ (k : Limits) (w : World) (f : ℕ) (q : Place) where
   admitted a Alone goes = tt
   admitted a Nothing goes = tt
 
-  own_commutes_at : (o : Option Fiber) → slice_get w.fibers f ≡ o → has_own w.cells f o ≡ true → placed k (turned k w f o) ≡ Ok q → (y : Place) →
+  own_commutes_at : (o : Option Fiber) → slice_get w.fibers f ≡ o → has_own w f o ≡ true → placed k (turned k w f o) ≡ Ok q → (y : Place) →
       stepped record { limits = k; world = w } f ≡ Ok y → (g : ℕ) → g ≢ f → Commutes stepped IsOwn f y g (stepped record { limits = k; world = w } g)
   own_commutes_at None at own goes y is g apart = absurd (cc)
   own_commutes_at (Some a) at own goes y is g apart =

@@ -5,12 +5,11 @@ use Rattle.std.specs.List.{slice_get}
 use Rattle.std.proofs.lemmas.Option.{slice_get_past, same_Some}
 use Rattle.cell_registry.specs.declared.limits.RunError.{RunError}
 use Rattle.cell_registry.specs.declared.limits.RunError.TheVariants as run
-use Rattle.cell_registry.specs.Cells.{Cells}
 use Rattle.fiber_frames.specs.Fiber.{Fiber, ask_of}
 use Rattle.world_search.specs.Free.{IsReduced, Leads, Leaps}
 use Rattle.world_search.specs.Free.Leads.{Here, On}
 use Rattle.scheduled_core.specs.declared.wish.Wish.TheVariants.{Nothing}
-use Rattle.scheduled_core.specs.Core.{wish_of}
+use Rattle.scheduled_core.specs.Core.{World, wish_of}
 use Rattle.every_schedule.specs.Explored.{HasMove}
 use Rattle.every_schedule.specs.Places.{Place, moves_at, stepped, wants}
 use Rattle.every_schedule.specs.Reduced.{IsOwn, after_own, behind, has_own, is_own, last_own, leapt, leapt_by, or_stays, own_in, pushed, pushed_once, this_or}
@@ -35,17 +34,17 @@ pushed_stays zero p e = refl
 pushed_stays (suc n) p e = ap (pushed n) e ∙ pushed_stays n p e
 
 -- ---- the fiber that is chosen has an own move
-chosen : (s : Cells) (gs : List Fiber) (n : ℕ) (b : Bool) (f : ℕ) → has_own s n (slice_get gs n) ≡ b →
-    (last_own s gs n ≡ Some f → has_own s f (slice_get gs f) ≡ true) → this_or b n (last_own s gs n) ≡ Some f → has_own s f (slice_get gs f) ≡ true
-chosen s gs n true f own rest e = subst (λ i. has_own s i (slice_get gs i) ≡ true) (same_Some n f e) own
-chosen s gs n false f own rest e = rest e
+chosen : (w : World) (n : ℕ) (b : Bool) (f : ℕ) → has_own w n (slice_get w.fibers n) ≡ b →
+    (last_own w n ≡ Some f → has_own w f (slice_get w.fibers f) ≡ true) → this_or b n (last_own w n) ≡ Some f → has_own w f (slice_get w.fibers f) ≡ true
+chosen w n true f own rest e = subst (λ i. has_own w i (slice_get w.fibers i) ≡ true) (same_Some n f e) own
+chosen w n false f own rest e = rest e
 
-pub last_own_is : (s : Cells) (gs : List Fiber) (n f : ℕ) → last_own s gs n ≡ Some f → has_own s f (slice_get gs f) ≡ true
-last_own_is s gs zero f e = absurd (cc)
-last_own_is s gs (suc n) f e = chosen s gs n (has_own s n (slice_get gs n)) f refl (last_own_is s gs n f) e
+pub last_own_is : (w : World) (n f : ℕ) → last_own w n ≡ Some f → has_own w f (slice_get w.fibers f) ≡ true
+last_own_is w zero f e = absurd (cc)
+last_own_is w (suc n) f e = chosen w n (has_own w n (slice_get w.fibers n)) f refl (last_own_is w n f) e
 
-pub last_own_passes : (s : Cells) (gs : List Fiber) (n : ℕ) → has_own s n (slice_get gs n) ≡ false → last_own s gs (suc n) ≡ last_own s gs n
-last_own_passes s gs n other = ap (λ b. this_or b n (last_own s gs n)) other
+pub last_own_passes : (w : World) (n : ℕ) → has_own w n (slice_get w.fibers n) ≡ false → last_own w (suc n) ≡ last_own w n
+last_own_passes w n other = ap (λ b. this_or b n (last_own w n)) other
 
 -- ---- one own move
 module _ (p : Place) where
@@ -59,14 +58,14 @@ module _ (p : Place) where
   once_refused f d e stops = ap (after_own p) e ∙ ap (or_stays p) stops
 
 module _ (p : Place) where
-  led_once : (q : Place) (f : ℕ) (y : Result Place RunError) → has_own p.world.cells f (slice_get p.world.fibers f) ≡ true → stepped p f ≡ y →
+  led_once : (q : Place) (f : ℕ) (y : Result Place RunError) → has_own p.world f (slice_get p.world.fibers f) ≡ true → stepped p f ≡ y →
       Leads stepped IsOwn (or_stays p y) q → Leads stepped IsOwn p q
   led_once q f (Ok x) own e on = On p f x q (own_from p f x own e) e on
   led_once q f (Err d) own e on = on
 
   led_from : (q : Place) (o : Option ℕ) → own_in p ≡ o → Leads stepped IsOwn (after_own p o) q → Leads stepped IsOwn p q
   led_from q None e on = on
-  led_from q (Some f) e on = led_once q f (stepped p f) (last_own_is p.world.cells p.world.fibers (length p.world.fibers) f e) refl on
+  led_from q (Some f) e on = led_once q f (stepped p f) (last_own_is p.world (length p.world.fibers) f e) refl on
 
 pushed_leads : (n : ℕ) (p : Place) → Leads stepped IsOwn p (pushed n p)
 unfolding pushed
@@ -113,16 +112,16 @@ pub refused : (d : RunError) (y : Result Place RunError) → d ≢ run.NoMemory 
 refused d y apart h = refused_with d (y ≡ Err d) apart h
 
 -- ---- who has a next move
-own_moves_by : (s : Cells) (gs : List Fiber) (f : ℕ) (o : Option Fiber) → slice_get gs f ≡ o → has_own s f o ≡ true →
-    (g : Fiber) × (slice_get gs f ≡ Some g) × (wish_of (ask_of g) ≢ Nothing)
-own_moves_by s gs f None e h = absurd (cc)
-own_moves_by s gs f (Some g) e h = (g, e, λ none. let no : is_own s f Nothing ≡ true = subst (λ x. is_own s f x ≡ true) none h in cc)
+own_moves_by : (w : World) (f : ℕ) (o : Option Fiber) → slice_get w.fibers f ≡ o → has_own w f o ≡ true →
+    (g : Fiber) × (slice_get w.fibers f ≡ Some g) × (wish_of (ask_of g) ≢ Nothing)
+own_moves_by w f None e h = absurd (cc)
+own_moves_by w f (Some g) e h = (g, e, λ none. let no : is_own w f g Nothing ≡ true = subst (λ x. is_own w f g x ≡ true) none h in cc)
 
 -- a fiber that has an own move has a next move
 pub own_moves : (p : Place) (f : ℕ) → own_in p ≡ Some f → HasMove p.world f
 own_moves p f e =
-    own_moves_by p.world.cells p.world.fibers f (slice_get p.world.fibers f) refl
-    (last_own_is p.world.cells p.world.fibers (length p.world.fibers) f e)
+    own_moves_by p.world f (slice_get p.world.fibers f) refl
+    (last_own_is p.world (length p.world.fibers) f e)
 
 -- the entry of a fiber that has none changes nothing
 pub none_stays : (p : Place) (f : ℕ) (g : Fiber) → slice_get p.world.fibers f ≡ Some g → wish_of (ask_of g) ≡ Nothing → stepped p f ≡ Ok p

@@ -8,6 +8,8 @@ pub mod Apart
 pub mod Alikeness
 pub mod Entering
 pub mod OwnCalls
+pub mod OwnKept
+pub mod Alone
 pub mod Commuting
 pub mod Growing
 pub mod Bare

@@ -21,14 +21,21 @@ use Rattle.cell_registry.proofs.Lists.{get_or-set_kept}
 use Rattle.scheduled_core.specs.declared.wish.Wish.{Wish}
 use Rattle.scheduled_core.specs.declared.wish.Wish.TheVariants.{Shared, Alone, Nothing}
 use Rattle.scheduled_core.specs.Finals.{reply_to}
-use Rattle.scheduled_core.proofs.PlainFits.{request_stays}
-use Rattle.every_schedule.specs.Reduced.{is_own}
 
 -- the call that is wanted isn't refused
 abbrev pub IsAdmitted : Limits → Cells → ℕ → Wish → Type 0
 IsAdmitted k s f (Shared c) = refusal k s f c ≡ None
 IsAdmitted k s f Alone = Unit {0}
 IsAdmitted k s f Nothing = Unit {0}
+
+-- a call of another fiber leaves the own call as it is
+abbrev pub IsCalm : Cells → ℕ → ℕ → Call → Wish → Type 0
+IsCalm s f g d (Shared Look) = (cell_of (after s g d) f).request ≡ (cell_of s f).request
+IsCalm s f g d (Shared Mask) = Unit {0}
+IsCalm s f g d (Shared Unmask) = Unit {0}
+IsCalm s f g d (Shared Cut) = not (has_ended (cell_of s f).stage) ≡ true
+IsCalm s f g d Alone = Unit {0}
+IsCalm s f g d _ = ⊥
 
 -- the registry after the call that is wanted
 abbrev pub left_by : Cells → ℕ → Wish → Cells
@@ -63,31 +70,23 @@ module _ (s : Cells) (f g : ℕ) (d : Call) (apart : g ≢ f) where
   still : owned (cell_of (after s g d) f) ≡ owned (cell_of s f)
   still = owned-after s g d f apart
 
-  pub own_stays : (x : Wish) → is_own s f x ≡ true → is_own (after s g d) f x ≡ true
-  own_stays (Shared Look) own = request_stays s g d f own
-  own_stays (Shared Mask) own = refl
-  own_stays (Shared Unmask) own = refl
-  own_stays (Shared Cut) own = ap (λ (o : Stage × ℕ × ℕ). not (has_ended o.0)) still ∙ own
-  own_stays Alone own = refl
-  own_stays _ own = absurd (cc)
-
-  pub room_stays : (k : Limits) (x : Wish) → is_own s f x ≡ true → IsAdmitted k s f x → IsAdmitted k (after s g d) f x
+  pub room_stays : (k : Limits) (x : Wish) → IsCalm s f g d x → IsAdmitted k s f x → IsAdmitted k (after s g d) f x
   unfolding refusal
   room_stays k (Shared Look) own room = refl
   room_stays k (Shared Mask) own room = ap (λ (o : Stage × ℕ × ℕ). spent o.2 k.count) still ∙ room
   room_stays k (Shared Unmask) own room = ap (λ (o : Stage × ℕ × ℕ). spent o.2 k.count) still ∙ room
   room_stays k (Shared Cut) own room = ap (λ (o : Stage × ℕ × ℕ). spent o.2 k.count) still ∙ room
   room_stays k Alone own room = tt
-  room_stays k _ own room = absurd (cc)
+  room_stays k _ own room = absurd own
 
-  pub own_reply : (x : Wish) → is_own s f x ≡ true → reply_to (after s g d) f x ≡ reply_to s f x
+  pub own_reply : (x : Wish) → IsCalm s f g d x → reply_to (after s g d) f x ≡ reply_to s f x
   unfolding reply_of
-  own_reply (Shared Look) own = ap reply.Seen (request_stays s g d f own ∙ sym own)
+  own_reply (Shared Look) own = ap reply.Seen own
   own_reply (Shared Mask) own = refl
   own_reply (Shared Unmask) own = refl
   own_reply (Shared Cut) own = refl
   own_reply Alone own = refl
-  own_reply _ own = absurd (cc)
+  own_reply _ own = absurd own
 
   -- what another one is answered, where its own part is as it was
   refused_so : (k : Limits) (t : Cells) → owned (cell_of t g) ≡ owned (cell_of s g) → t.next_fiber ≡ s.next_fiber → t.next_ref ≡ s.next_ref →
@@ -109,14 +108,14 @@ module _ (s : Cells) (f g : ℕ) (d : Call) (apart : g ≢ f) where
   refused_so k t own a b c (Complete i v) = refl
   refused_so k t own a b c (Read i) = refl
 
-  pub other_refusal : (k : Limits) (x : Wish) → is_own s f x ≡ true → refusal k (left_by s f x) g d ≡ refusal k s g d
+  pub other_refusal : (k : Limits) (x : Wish) → IsCalm s f g d x → refusal k (left_by s f x) g d ≡ refusal k s g d
   unfolding after
   other_refusal k (Shared Look) own = refl
   other_refusal k (Shared Mask) own = refused_so k (after s f Mask) (owned-after s f Mask g (λ e. apart (sym e))) refl refl refl d
   other_refusal k (Shared Unmask) own = refused_so k (after s f Unmask) (owned-after s f Unmask g (λ e. apart (sym e))) refl refl refl d
   other_refusal k (Shared Cut) own = refused_so k (after s f Cut) (owned-after s f Cut g (λ e. apart (sym e))) refl refl refl d
   other_refusal k Alone own = refl
-  other_refusal k _ own = absurd (cc)
+  other_refusal k _ own = absurd own
 
   told_so : (cells : List Cell) → ((i : ℕ) → told (get_or cells i fresh) ≡ told (cell_of s i)) → (c : Call) →
       reply_of (record s { cells = cells }) g c ≡ reply_of s g c
@@ -137,7 +136,7 @@ module _ (s : Cells) (f g : ℕ) (d : Call) (apart : g ≢ f) where
   told_so cells h (Complete i v) = refl
   told_so cells h (Read i) = refl
 
-  pub other_reply : (x : Wish) → is_own s f x ≡ true → reply_of (left_by s f x) g d ≡ reply_of s g d
+  pub other_reply : (x : Wish) → IsCalm s f g d x → reply_of (left_by s f x) g d ≡ reply_of s g d
   unfolding after
   other_reply (Shared Look) own = refl
   other_reply (Shared Mask) own = told_so (set s.cells f (masked (cell_of s f))) (get_or-set_kept told s.cells f (masked (cell_of s f)) fresh refl) d
@@ -146,7 +145,7 @@ module _ (s : Cells) (f g : ℕ) (d : Call) (apart : g ≢ f) where
       told_so (set s.cells f (cut (cell_of s f)))
       (get_or-set_kept told s.cells f (cut (cell_of s f)) fresh (cut_told (cell_of s f).stage (cell_of s f).request own)) d
   other_reply Alone own = refl
-  other_reply _ own = absurd (cc)
+  other_reply _ own = absurd own
 
   -- a change of the own cell, and a call of another fiber
   swaps_so : (p : Cell → Cell) → ((c : Cell) → p (requested c) ≡ requested (p c)) → ((c : Cell) → p (awaited c) ≡ awaited (p c)) → (c : Call)
@@ -168,11 +167,11 @@ module _ (s : Cells) (f g : ℕ) (d : Call) (apart : g ≢ f) where
   swaps_so p r w (Complete i v) = refl
   swaps_so p r w (Read i) = refl
 
-  pub swaps : (x : Wish) → is_own s f x ≡ true → after (left_by s f x) g d ≡ left_by (after s g d) f x
+  pub swaps : (x : Wish) → IsCalm s f g d x → after (left_by s f x) g d ≡ left_by (after s g d) f x
   unfolding after
   swaps (Shared Look) own = refl
   swaps (Shared Mask) own = swaps_so masked (λ c. refl) (λ c. refl) d
   swaps (Shared Unmask) own = swaps_so unmasked (λ c. refl) (λ c. refl) d
   swaps (Shared Cut) own = swaps_so cut (λ c. refl) (λ c. refl) d
   swaps Alone own = refl
-  swaps _ own = absurd (cc)
+  swaps _ own = absurd own

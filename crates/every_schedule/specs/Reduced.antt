@@ -1,6 +1,7 @@
--- Moves that the reduced exploration makes at once, behind each entry: those that no other fiber sees anything of, and
--- that nothing which another fiber does can change.
-use Rattle.std.specs.Prelude.{◌≡◌, ℕ, zero, suc, Bool, true, false, not, List, length, Option, Some, None}
+-- Moves that the reduced exploration makes at once, behind each entry: those of which no other fiber sees anything, and
+-- which nothing that another fiber does can change.
+use Rattle.std.specs.Prelude.{◌≡◌, ℕ, zero, suc, nat_eq, nat_lt, Bool, true, false, not, ◌&&◌, ◌||◌, List, [], ◌∷◌}
+use Rattle.std.specs.Prelude.{length, Option, Some, None}
 use Rattle.std.specs.Prelude.{Result, Ok, Err}
 use Rattle.std.specs.List.{slice_get}
 use Rattle.cell_registry.specs.declared.cell.Cell.{Cell}
@@ -8,55 +9,72 @@ use Rattle.cell_registry.specs.declared.call.Call.{Call}
 use Rattle.cell_registry.specs.declared.call.Call.TheVariants.{Start, Cancel, Join, Look, Mask, Unmask, Cut, Finish}
 use Rattle.cell_registry.specs.declared.call.Call.TheVariants.{NewRef, NewDeferred, Get, Set, Modify, Complete, Read}
 use Rattle.cell_registry.specs.declared.limits.RunError.{RunError}
-use Rattle.cell_registry.specs.Cells.{Cells, cell_of}
+use Rattle.cell_registry.specs.Cells.{cell_of}
 use Rattle.cell_registry.specs.Words.{has_ended}
-use Rattle.fiber_frames.specs.Fiber.{Fiber, ask_of}
+use Rattle.fiber_frames.specs.declared.uses.Use.TheVariants.{Cancels}
+use Rattle.fiber_frames.specs.Fiber.{Fiber, ask_of, waits_alone}
+use Rattle.fiber_frames.specs.Uses.{is_some, uses_in}
 use Rattle.scheduled_core.specs.declared.wish.Wish.{Wish}
 use Rattle.scheduled_core.specs.declared.wish.Wish.TheVariants.{Shared, Alone, Nothing}
-use Rattle.scheduled_core.specs.Core.{wish_of}
+use Rattle.scheduled_core.specs.Core.{World, wish_of}
 use Rattle.every_schedule.specs.Places.{Place, entering, stepped}
 
--- The call touches the caller's own cell alone, and there only what nobody else reads or changes: a look where the
--- request is known to come, the masks, and the cut of a fiber that hasn't ended
-abbrev pub is_own_call : Cell → Call → Bool
-is_own_call c Look = c.request
-is_own_call c Mask = true
-is_own_call c Unmask = true
-is_own_call c Cut = not (has_ended c.stage)
-is_own_call c Start = false
-is_own_call c (Cancel f) = false
-is_own_call c (Join f) = false
-is_own_call c (Finish o) = false
-is_own_call c NewRef = false
-is_own_call c NewDeferred = false
-is_own_call c (Get r) = false
-is_own_call c (Set r v) = false
-is_own_call c (Modify r v) = false
-is_own_call c (Complete d v) = false
-is_own_call c (Read d) = false
+-- ---- what the other fibers can still do
+-- of these fibers, which begin with number i, each but fiber f
+abbrev pub others : (Fiber → Bool) → ℕ → ℕ → List Fiber → Bool
+others p f i [] = true
+others p f i (b ∷ bs) = (nat_eq i f || p b) && others p f (suc i) bs
 
--- the move wants such a call of fiber f, or none
-abbrev pub is_own : Cells → ℕ → Wish → Bool
-is_own s f (Shared c) = is_own_call (cell_of s f) c
-is_own s f Alone = true
-is_own s f Nothing = false
+-- the fiber can't request the cancellation of fiber f, nor can one that it starts
+abbrev pub leaves_alone : ℕ → Fiber → Bool
+leaves_alone f b = not (is_some (uses_in Cancels f b.running)) && not (nat_eq b.number f)
+
+-- no other fiber can, and none that is born later
+abbrev pub is_left_alone : World → ℕ → Bool
+is_left_alone w f = nat_lt f w.cells.next_fiber && others (leaves_alone f) f 0 w.fibers
+
+-- ---- moves
+-- The call touches the caller's own cell alone, and there only what nobody else reads or changes: a look where the
+-- request is known to come, or where nobody can make one any more, the masks, and the cut of a fiber that hasn't ended
+abbrev pub is_own_call : World → ℕ → Call → Bool
+is_own_call w f Look = (cell_of w.cells f).request || is_left_alone w f
+is_own_call w f Mask = true
+is_own_call w f Unmask = true
+is_own_call w f Cut = not (has_ended (cell_of w.cells f).stage)
+is_own_call w f Start = false
+is_own_call w f (Cancel i) = false
+is_own_call w f (Join i) = false
+is_own_call w f (Finish o) = false
+is_own_call w f NewRef = false
+is_own_call w f NewDeferred = false
+is_own_call w f (Get r) = false
+is_own_call w f (Set r v) = false
+is_own_call w f (Modify r v) = false
+is_own_call w f (Complete d v) = false
+is_own_call w f (Read d) = false
+
+-- the move wants such a call of fiber f, or none, and isn't that of a `never`
+abbrev pub is_own : World → ℕ → Fiber → Wish → Bool
+is_own w f g (Shared c) = is_own_call w f c
+is_own w f g Alone = not (waits_alone g)
+is_own w f g Nothing = false
 
 -- the fiber of this number is born, and its next move is such a one
-abbrev pub has_own : Cells → ℕ → Option Fiber → Bool
-has_own s f None = false
-has_own s f (Some g) = is_own s f (wish_of (ask_of g))
+abbrev pub has_own : World → ℕ → Option Fiber → Bool
+has_own w f None = false
+has_own w f (Some g) = is_own w f g (wish_of (ask_of g))
 
 -- the last of the first n fibers whose next move is such a one
 abbrev pub this_or : Bool → ℕ → Option ℕ → Option ℕ
 this_or true f other = Some f
 this_or false f other = other
 
-abbrev pub last_own : Cells → List Fiber → ℕ → Option ℕ
-last_own s gs zero = None
-last_own s gs (suc n) = this_or (has_own s n (slice_get gs n)) n (last_own s gs n)
+abbrev pub last_own : World → ℕ → Option ℕ
+last_own w zero = None
+last_own w (suc n) = this_or (has_own w n (slice_get w.fibers n)) n (last_own w n)
 
 abbrev pub own_in : Place → Option ℕ
-own_in p = last_own p.world.cells p.world.fibers (length p.world.fibers)
+own_in p = last_own p.world (length p.world.fibers)
 
 -- such a move is made, unless its call is refused
 abbrev pub or_stays : Place → Result Place RunError → Place
@@ -91,6 +109,6 @@ leapt n p f = leapt_by n p f (slice_get p.world.fibers f)
 
 -- the fiber's next move is such a one, and its call isn't refused
 pub record IsOwn (p : Place) (f : ℕ) : Type 0 where
-  pub own : has_own p.world.cells f (slice_get p.world.fibers f) ≡ true
+  pub own : has_own p.world f (slice_get p.world.fibers f) ≡ true
   pub next : Place
   pub goes : entering p f ≡ Ok next

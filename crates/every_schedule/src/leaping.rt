@@ -2,23 +2,20 @@
 ghost use Rattle.std.specs.Prelude.{◌≡◌, ◌≢◌, ◌⊎◌, ◌++◌, ◌<◌, ◌≤◌, [], ◌∷◌, length, false, true};
 ghost use Rattle.std.specs.Prelude.{IfErr, IfOk, IfSome, OnOk, Some};
 ghost use Rattle.std.specs.Prelude.{Ok as GoesWell, Err as Fails, Result as TheResult};
-ghost use Rattle.cell_registry.specs.Cells.{cell_of};
-ghost use Rattle.fiber_frames.specs.Fiber.{ask_of};
-ghost use Rattle.scheduled_core.specs.Core.{wish_of};
 ghost use Rattle.scheduled_core.specs.Fitting.{AllFit};
 ghost use Rattle.world_search.specs.Lists.{IsMore};
 ghost use Rattle.every_schedule.specs.Explored.{HasMove};
 ghost use Rattle.every_schedule.specs.Places.{Place, stepped};
-ghost use Rattle.every_schedule.specs.Reduced.{is_own, is_own_call as is_so, leapt, own_in, pushed, pushed_once};
+ghost use Rattle.every_schedule.specs.Reduced.{leapt, own_in, pushed, pushed_once};
 ghost use Rattle.every_schedule.specs.Private.Standing.{IsCurrent};
 ghost use Rattle.every_schedule.specs.Private.Trails.{IsTrail};
 
 use crate::core_world::CoreWorld;
 use crate::current::{Current, States, entered, fresh};
+use crate::own_moves::is_own_move;
 use crate::pool::Pooled;
-use cell_registry::{Call, PlainRegistry, RunError};
+use cell_registry::RunError;
 use effect_term::facts_of;
-use fiber_frames::Config;
 use scheduled_core::Wish;
 use std::alloc::{AllocError, Global};
 
@@ -181,47 +178,11 @@ fn last_own(world: &CoreWorld) -> Option<u16>
     ensures fits { AllFit world.now.world }
 {
     let born = born(world);
-    let fibers = world.fibers();
     for done in 0..born {
         let place = born - 1 - done;
-        if is_own_move(world.registry(), place as u16, &fibers[place]) {
+        if is_own_move(world, place as u16) {
             return Some(place as u16);
         }
     }
     None
-}
-
-// Whether the next move of this fiber is an own one.
-fn is_own_move(registry: &PlainRegistry, by: u16, fiber: &Config) -> bool
-    requires { by < registry.now.limits.fibers }
-    ensures { result ≡ is_own registry.now.state by (wish_of (ask_of fiber.now)) }
-{
-    match Wish::of(fiber.ask()) {
-        Wish::Alone => true,
-        Wish::Nothing => false,
-        Wish::Shared(call) => is_own_call(registry, by, call),
-    }
-}
-
-// Whether this call of a fiber is an own one.
-fn is_own_call(registry: &PlainRegistry, by: u16, call: Call) -> bool
-    requires { by < registry.now.limits.fibers }
-    ensures { result ≡ is_so (cell_of registry.now.state by) call }
-{
-    match call {
-        Call::Look => registry.is_requested(by),
-        Call::Mask | Call::Unmask => true,
-        Call::Cut => !registry.has_ended(by),
-        Call::Start
-        | Call::Cancel(_)
-        | Call::Join(_)
-        | Call::Finish(_)
-        | Call::NewRef
-        | Call::NewDeferred
-        | Call::Get(_)
-        | Call::Set(_, _)
-        | Call::Modify(_, _)
-        | Call::Complete(_, _)
-        | Call::Read(_) => false,
-    }
 }

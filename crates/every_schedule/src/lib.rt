@@ -24,6 +24,7 @@ mod exploration;
 mod explored;
 mod faults;
 mod leaping;
+mod own_moves;
 mod pool;
 mod reduced_worlds;
 mod reports;

@@ -196,17 +196,17 @@ const COUNTED: &[Counted<'static>] = &[
         full: 3,
         reduced: 3,
     },
-    // A look, a move without a shared call; a look, and the end.
+    // A look, a move without a shared call, a look; and the end.
     Counted {
         program: "(seq (pure 1) (pure 2))",
         full: 5,
-        reduced: 4,
+        reduced: 3,
     },
-    // A look, a mask entered, and left; a look, and the end.
+    // A look, a mask entered, and left, a look; and the end.
     Counted {
         program: "(uncancelable p (pure 1))",
         full: 6,
-        reduced: 4,
+        reduced: 3,
     },
     // A look and a request for its own cancellation; a look that sees it, the cut, and the end.
     Counted {

@@ -1,5 +1,5 @@
 -- What a fiber at a place uses is what its leaf, its frames and its finalizers use.
-use Rattle.std.proofs.Common.{◌≡◌, ◌<◌, ◌≤◌, ℕ, zero, suc, ◌+◌, List, [], ◌∷◌, map, take, length, reverse, get_or, refl, sym, ap, ◌∙◌, arith}
+use Rattle.std.proofs.Common.{◌≡◌, ◌<◌, ◌≤◌, ℕ, zero, suc, ◌+◌, List, [], ◌∷◌, map, take, length, reverse, get_or, refl, ap, ◌∙◌, arith}
 use mathlib.Core.List.{reverse_aux}
 use Rattle.derived_ops.specs.Tree.{Tree}
 use Rattle.fiber_frames.specs.declared.uses.Use.{Use}

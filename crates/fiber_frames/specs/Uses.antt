@@ -4,7 +4,7 @@ use Rattle.effect_term.specs.declared.reply.Reply.{Reply}
 use Rattle.derived_ops.specs.Tree.{Handle, Known, Open_slot, Action, Request, Ending, Get, Set, Modify, Complete}
 use Rattle.derived_ops.specs.Tree.{Await, Tree, Pure, Raise, Act, Note, Cancel, Let, Seq, Handled, If0, Join, Make}
 use Rattle.derived_ops.specs.Tree.{Start, Loop, Uncancelable, Poll, On_cancel, Masked, Polled, Guarded}
-use Rattle.derived_ops.specs.Naming.{Place, A_fiber, A_ref, A_deferred, No_handle, made_by}
+use Rattle.derived_ops.specs.Naming.{Place, A_fiber, A_ref, A_deferred, made_by}
 use Rattle.fiber_frames.specs.declared.ask.Ask.{Ask}
 use Rattle.fiber_frames.specs.declared.ask.Ask.TheVariants as ask
 use Rattle.fiber_frames.specs.Rows.{number_in}

@@ -4,4 +4,4 @@ use Rattle.every_schedule.proofs.leaping.last_own.Given as goal
 
 -- none of the fibers that were looked at has an own move
 abbrev pub invariant-loop-done : goal.invariant-loop-done
-invariant-loop-done l = own_in l.world ≡ last_own l.world.world.cells l.world.world.fibers (l.born - l.done)
+invariant-loop-done l = own_in l.world ≡ last_own l.world.world (l.born - l.done)
