@@ -24,7 +24,7 @@ const EXPLORED: &[Explored<'static>] = &[
         fibers: 16,
         wants: &[],
         status: Status::Succeeded,
-        text: "explored 4 worlds: 1 report, 0 faults\n\n\
+        text: "explored 2 worlds: 1 report, 0 faults\n\n\
             under \"0*4\"\n\
             fiber 0 succeeded 0: say 4\n\n\
             \x20entry  fiber 0\n\
@@ -49,7 +49,7 @@ const EXPLORED: &[Explored<'static>] = &[
         fibers: 16,
         wants: &["succeeded 7", "unended"],
         status: Status::Errored,
-        text: "explored 3 worlds: 1 report, 0 faults\n\n\
+        text: "explored 2 worlds: 1 report, 0 faults\n\n\
             not wanted, under \"0*2\"\n\
             fiber 0 errored 7\n\n\
             \x20entry  fiber 0\n\
@@ -61,7 +61,7 @@ const EXPLORED: &[Explored<'static>] = &[
         fibers: 16,
         wants: &["unended"],
         status: Status::Succeeded,
-        text: "explored 1 world: 1 report, 0 faults\n\n\
+        text: "explored 2 worlds: 1 report, 0 faults\n\n\
             under \"\"\n\
             fiber 0 unended\n\n\
             \x20entry  fiber 0\n",
