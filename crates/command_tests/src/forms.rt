@@ -110,7 +110,7 @@ const FOUND: &[(&str, &[&str], &str, u8, &str, &str)] = &[
         &["fiber_cli", "explore", "--progress"],
         "(raise 7)",
         0,
-        "explored 3 worlds: 1 report, 0 faults\n\nunder \"0*2\"\nfiber 0 errored 7\n",
+        "explored 2 worlds: 1 report, 0 faults\n\nunder \"0*2\"\nfiber 0 errored 7\n",
         "",
     ),
     (
@@ -118,7 +118,7 @@ const FOUND: &[(&str, &[&str], &str, u8, &str, &str)] = &[
         &["fiber_cli", "explore", "--timeline"],
         "(raise 7)",
         0,
-        "explored 3 worlds: 1 report, 0 faults\n\nunder \"0*2\"\nfiber 0 errored 7\n\n\
+        "explored 2 worlds: 1 report, 0 faults\n\nunder \"0*2\"\nfiber 0 errored 7\n\n\
             \x20entry  fiber 0\n\
             \x20    2  ends: errored 7\n",
         "",
@@ -130,7 +130,7 @@ const FOUND: &[(&str, &[&str], &str, u8, &str, &str)] = &[
         0,
         "{\"answer\":\"exploration\",\"answers\":[{\"report\":{\"answer\":\"report\",\"fibers\":\
             [{\"fiber\":0,\"marks\":[],\"outcome\":{\"errored\":7}}]},\"schedule\":\"0*2\",\"wanted\":true}],\
-            \"complete\":true,\"worlds\":3}\n",
+            \"complete\":true,\"worlds\":2}\n",
         "",
     ),
     (

@@ -322,7 +322,7 @@ const SAMPLE: &[&str] = &["fiber_cli", "sample"];
 const REPORTED: &str = "fiber 0 succeeded 7\n";
 
 const EXPLORED: &str =
-    "explored 3 worlds: 1 report, 0 faults\n\nunder \"0*2\"\nfiber 0 succeeded 7\n";
+    "explored 2 worlds: 1 report, 0 faults\n\nunder \"0*2\"\nfiber 0 succeeded 7\n";
 
 const SAMPLED: &str = "sampled 1000 schedules: 1 report, 0 faults\n\n\
     came 1000 times, first under \"0*2\"\nfiber 0 succeeded 7\n";

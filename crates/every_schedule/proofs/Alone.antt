@@ -1,32 +1,40 @@
--- Whether a fiber is left alone, as it is told of one fiber after the other.
-use Rattle.std.proofs.Common.{◌≡◌, ◌≢◌, ℕ, zero, suc, ◌+◌, ◌<◌, nat_eq, nat_lt, Bool, true, false, not, ◌&&◌, ◌||◌, List, [], ◌∷◌, drop, length, Some, refl, sym, ap, ap₂, ◌∙◌, subst, arith}
+-- What is told of one fiber after the other: that none but one uses a number so any more.
+use Rattle.std.proofs.Common.{◌≡◌, ◌≢◌, inl, inr, ℕ, zero, suc, ◌+◌, ◌<◌, nat_eq, nat_lt, Bool, true, false, not, ◌&&◌, ◌||◌, List, [], ◌∷◌, drop, length, Some, refl, sym, ap, ap₂, ◌∙◌, subst, arith}
 use Rattle.std.specs.List.{slice_get}
 use Rattle.std.proofs.lemmas.Bool.{eqb-true, eq-eqb, lt-ltb}
+use Rattle.fiber_frames.specs.declared.ask.Ask.{Ask}
+use Rattle.fiber_frames.specs.declared.ask.Ask.TheVariants as ask
+use Rattle.fiber_frames.specs.declared.uses.Use.{Use}
 use Rattle.fiber_frames.specs.declared.uses.Use.TheVariants.{Cancels}
-use Rattle.fiber_frames.specs.Fiber.{Fiber}
-use Rattle.fiber_frames.specs.Uses.{is_some, uses_in}
-use Rattle.scheduled_core.specs.Core.{World}
-use Rattle.scheduled_core.specs.Fitting.{AllFit}
-use Rattle.every_schedule.specs.Reduced.{is_left_alone, leaves_alone, others}
-use Rattle.every_schedule.proofs.OwnKept.{same_not}
+use Rattle.fiber_frames.specs.Fiber.{Fiber, ask_of}
+use Rattle.fiber_frames.specs.Naming.{AskNamed}
+use Rattle.fiber_frames.specs.Uses.{is_some, used_place, uses_in}
+use Rattle.cell_registry.specs.declared.call.Call.{Call}
+use Rattle.cell_registry.specs.declared.call.Call.TheVariants.{Get, Set, Modify, Complete, Read}
+use Rattle.cell_registry.specs.Cells.{Cells}
+use Rattle.scheduled_core.specs.declared.wish.Wish.TheVariants.{Shared}
+use Rattle.scheduled_core.specs.Core.{World, wish_of}
+use Rattle.scheduled_core.specs.Fitting.{AllFit, given_by}
+use Rattle.every_schedule.specs.Reduced.{IsNamed, is_another, is_kept, is_left_alone, keeps, next_of, others}
+use Rattle.every_schedule.proofs.OwnKept.{and_true, ask_for, asked_so, or_second, same_not}
 
 drop_suc : (gs : List Fiber) (i : ℕ) (b : Fiber) → slice_get gs i ≡ Some b → drop i gs ≡ b ∷ drop (suc i) gs
 drop_suc [] i b e = absurd (cc)
 drop_suc (x ∷ gs) zero b e = let same : x ≡ b = cc in ap (λ (y : Fiber). y ∷ gs) same
 drop_suc (x ∷ gs) (suc i) b e = drop_suc gs i b e
 
-module _ (f : ℕ) (gs : List Fiber) (i : ℕ) (b : Fiber) (at : slice_get gs i ≡ Some b) where
+module _ (p : Fiber → Bool) (f : ℕ) (gs : List Fiber) (i : ℕ) (b : Fiber) (at : slice_get gs i ≡ Some b) where
   abbrev from : ℕ → Bool
-  from j = others (leaves_alone f) f j (drop j gs)
+  from j = others p f j (drop j gs)
 
-  turn : from i ≡ (nat_eq i f || leaves_alone f b) && from (suc i)
-  turn = ap (others (leaves_alone f) f i) (drop_suc gs i b at)
+  turn : from i ≡ (nat_eq i f || p b) && from (suc i)
+  turn = ap (others p f i) (drop_suc gs i b at)
 
-  pub alone_passes : nat_eq i f || leaves_alone f b ≡ true → from i ≡ from (i + 1)
-  alone_passes so = turn ∙ ap (λ (t : Bool). t && from (suc i)) so ∙ (let e : suc i ≡ i + 1 = omega arith in ap from e)
+  pub one_passes : nat_eq i f || p b ≡ true → from i ≡ from (i + 1)
+  one_passes so = turn ∙ ap (λ (t : Bool). t && from (suc i)) so ∙ (let e : suc i ≡ i + 1 = omega arith in ap from e)
 
-  pub alone_stops : nat_eq i f || leaves_alone f b ≡ false → from i ≡ false
-  alone_stops none = turn ∙ ap (λ (t : Bool). t && from (suc i)) none
+  pub one_stops : nat_eq i f || p b ≡ false → from i ≡ false
+  one_stops none = turn ∙ ap (λ (t : Bool). t && from (suc i)) none
 
 pub itself : (i f : ℕ) (t : Bool) → i ≡ f → nat_eq i f || t ≡ true
 itself i f t e = ap (λ (b : Bool). b || t) (eq-eqb i f e)
@@ -38,30 +46,46 @@ another i f t apart = go (nat_eq i f) refl
     go true e = absurd (apart (eqb-true i f e))
     go false e = refl
 
-module _ (w : World) (fits : AllFit w) (f i : ℕ) (b : Fiber) (at : slice_get w.fibers i ≡ Some b) (apart : i ≢ f) where
-  -- by what its use of this fiber is told
-  pub leaves_told : (r : Bool) → r ≡ is_some (uses_in Cancels f b.running) → nat_eq i f || leaves_alone f b ≡ not r
-  leaves_told r told =
-      another i f (leaves_alone f b) apart
-      ∙ ap₂ (λ (x y : Bool). x && y) (ap not (sym told)) (same_not b.number f (λ same. apart (sym (fits.each i b at).number ∙ same)))
-      ∙ and_all (not r)
-    where
-      and_all : (t : Bool) → t && true ≡ t
-      and_all true = refl
-      and_all false = refl
+-- by what the use of a fiber is told
+pub keeps_told : (u : Use) (n f i : ℕ) (b : Fiber) → i ≢ f → (r : Bool) → r ≡ is_some (uses_in u n b.running) → nat_eq i f || keeps u n b ≡ not r
+keeps_told u n f i b apart r told = another i f (keeps u n b) apart ∙ ap not (sym told)
 
-pub born_alone : (w : World) → AllFit w → (f : ℕ) → f < length w.fibers → is_left_alone w f ≡ others (leaves_alone f) f 0 w.fibers
-born_alone w fits f low =
-    let many = fits.many in
-    ap (λ (t : Bool). t && others (leaves_alone f) f 0 w.fibers) (lt-ltb f w.cells.next_fiber (omega (arith, low, many)))
+-- a number that is given is kept where no other fiber uses it
+pub given_kept : (u : Use) (w : World) (f n : ℕ) → n < next_of (used_place u) w.cells → is_kept u w f n ≡ others (keeps u n) f 0 w.fibers
+given_kept u w f n low = ap (λ (t : Bool). t && others (keeps u n) f 0 w.fibers) (lt-ltb n (next_of (used_place u) w.cells) low)
 
-pub none_left : (f : ℕ) (gs : List Fiber) (i : ℕ) → length gs ≡ i → others (leaves_alone f) f i (drop i gs) ≡ true
-none_left f [] zero e = refl
-none_left f [] (suc i) e = absurd (omega (arith, e))
-none_left f (x ∷ gs) i e = ap (others (leaves_alone f) f i) (past (x ∷ gs) i e)
+others_all : (p : Fiber → Bool) (f : ℕ) (gs : List Fiber) (j : ℕ) → ((i : ℕ) (b : Fiber) → slice_get gs i ≡ Some b → j + i ≢ f → p b ≡ true) → others p f j gs ≡ true
+others_all p f [] j each = refl
+others_all p f (c ∷ gs) j each =
+    and_true (nat_eq j f || p c) (others p f (suc j) gs) (here (nat_eq j f) refl)
+    (others_all p f gs (suc j) (λ i b at apart. each (suc i) b at (λ e. apart (omega (arith, e)))))
   where
-    past : (xs : List Fiber) (j : ℕ) → length xs ≡ j → drop j xs ≡ []
-    past [] zero e = refl
-    past [] (suc j) e = refl
-    past (y ∷ xs) zero e = absurd (omega (arith, e))
-    past (y ∷ xs) (suc j) e = past xs j (omega (arith, e))
+    here : (t : Bool) → nat_eq j f ≡ t → t || p c ≡ true
+    here true e = refl
+    here false e = each 0 c refl (λ same. let is : j ≡ f = omega (arith, same) in let no : false ≡ true = sym e ∙ eq-eqb j f is in cc)
+
+-- each fiber has its own number
+pub alone_kept : (w : World) → AllFit w → (f : ℕ) → is_left_alone w f ≡ is_kept Cancels w f f
+alone_kept w fits f =
+    ap (λ (t : Bool). is_kept Cancels w f f && t)
+    (others_all (is_another f) f w.fibers 0 (λ i b at apart. same_not b.number f (λ same. let number = (fits.each i b at).number in apart (omega (arith, number, same)))))
+    ∙ and_all (is_kept Cancels w f f)
+  where
+    and_all : (t : Bool) → t && true ≡ t
+    and_all true = refl
+    and_all false = refl
+
+pub born_given : (w : World) → AllFit w → (f : ℕ) → f < length w.fibers → f < w.cells.next_fiber
+born_given w fits f low = let many = fits.many in omega (arith, low, many)
+
+-- what a fiber asks for is given
+named_call : (s : Cells) (i : ℕ) (d : Call) → AskNamed (given_by s) i (ask_for d) → IsNamed s d
+named_call s i (Get r) h = h
+named_call s i (Set r v) h = h
+named_call s i (Modify r v) h = h
+named_call s i (Complete d v) h = h
+named_call s i (Read d) h = h
+named_call s i _ h = tt
+
+pub wanted_named : (s : Cells) (i : ℕ) (a : Ask) (d : Call) → AskNamed (given_by s) i a → wish_of a ≡ Shared d → IsNamed s d
+wanted_named s i a d h is = named_call s i d (subst (AskNamed (given_by s) i) (asked_so a d is) h)

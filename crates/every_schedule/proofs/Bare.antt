@@ -1,5 +1,5 @@
 -- Worlds without the notes of joins: an entry leads on from them as from those with these notes.
-use Rattle.std.proofs.Common.{◌≡◌, inl, inr, ℕ, ◌<◌, Bool, true, false, not, ◌||◌, List, ◌++◌, set, Some, None, Option, Result, Ok, Err, refl, sym, ap, ap₂, ◌∙◌, subst}
+use Rattle.std.proofs.Common.{◌≡◌, inl, inr, ℕ, ◌<◌, Bool, true, false, not, ◌&&◌, ◌||◌, nat_lt, List, ◌++◌, set, Some, None, Option, Result, Ok, Err, refl, sym, ap, ap₂, ◌∙◌, subst}
 use Rattle.std.specs.List.{slice_get}
 use Rattle.effect_term.specs.declared.reply.Reply.{Reply}
 use Rattle.fiber_frames.specs.Fiber.{Fiber, ask_of, move, silent_move}
@@ -18,7 +18,11 @@ use Rattle.scheduled_core.specs.Core.{World, answered, born, turned, wish_of, wi
 use Rattle.scheduled_core.specs.Fitting.{AllFit, Fits, Registered, cell_registered, given_by}
 use Rattle.world_search.specs.Free.{AreFree, AreGrowing, Commutes}
 use Rattle.every_schedule.specs.Places.{Place, bare, bared, entering, moves_at, placed, report_at, stepped, stepped_if, unnoted, wants}
-use Rattle.every_schedule.specs.Reduced.{IsOwn, has_own, is_left_alone, is_own, is_own_call}
+use Rattle.derived_ops.specs.Naming as naming
+use Rattle.fiber_frames.specs.declared.uses.Use.{Use}
+use Rattle.fiber_frames.specs.declared.uses.Use.TheVariants.{Awaits, Cancels, Completes, Gets, Joins, Stores}
+use Rattle.fiber_frames.specs.Uses.{used_place}
+use Rattle.every_schedule.specs.Reduced.{IsOwn, has_come_to_end, has_own, is_another, is_completed, is_kept, is_left_alone, is_own, is_own_call, keeps, next_of, others, rests}
 use Rattle.every_schedule.proofs.Commuting.{own_enter}
 use Rattle.every_schedule.proofs.Growing.{reports_enter, size}
 
@@ -121,9 +125,34 @@ fits_bare w h = record {
 }
 
 -- ---- own moves
+next_bare : (s : Cells) (k : naming.Place) → next_of k (without_waits s) ≡ next_of k s
+next_bare s naming.A_fiber = refl
+next_bare s naming.A_ref = refl
+next_bare s naming.A_deferred = refl
+next_bare s naming.No_handle = refl
+
+kept_bare : (u : Use) (w : World) (f n : ℕ) → is_kept u (unnoted w) f n ≡ is_kept u w f n
+kept_bare u w f n = ap (λ m. nat_lt n m && others (keeps u n) f 0 w.fibers) (next_bare w.cells (used_place u))
+
+left_bare : (w : World) (f : ℕ) → is_left_alone (unnoted w) f ≡ is_left_alone w f
+left_bare w f = ap (λ t. t && others (is_another f) f 0 w.fibers) (kept_bare Cancels w f f)
+
+two_bare : (u v : Use) (w : World) (f n : ℕ) → is_kept u (unnoted w) f n && is_kept v (unnoted w) f n ≡ is_kept u w f n && is_kept v w f n
+two_bare u v w f n = ap₂ (λ s t. s && t) (kept_bare u w f n) (kept_bare v w f n)
+
+end_bare : (w : World) (i : ℕ) → has_come_to_end (unnoted w) i ≡ has_come_to_end w i
+end_bare w i = ap (λ (x : Cell). rests (slice_get w.fibers i) && has_ended x.stage) (unawaited_cell w.cells i)
+
 own_call_bare : (w : World) (f : ℕ) (c : Call) → is_own_call (unnoted w) f c ≡ is_own_call w f c
-own_call_bare w f call.Look = ap (λ (x : Cell). x.request || is_left_alone w f) (unawaited_cell w.cells f)
+own_call_bare w f call.Look = ap₂ (λ (x : Cell) (t : Bool). x.request || t) (unawaited_cell w.cells f) (left_bare w f)
 own_call_bare w f call.Cut = ap (λ (x : Cell). not (has_ended x.stage)) (unawaited_cell w.cells f)
+own_call_bare w f (call.Cancel i) = end_bare w i
+own_call_bare w f (call.Join i) = end_bare w i
+own_call_bare w f (call.Finish o) = ap₂ (λ s t. s && t) (left_bare w f) (kept_bare Joins w f f)
+own_call_bare w f (call.Get r) = kept_bare Stores w f r
+own_call_bare w f (call.Set r v) = two_bare Stores Gets w f r
+own_call_bare w f (call.Modify r v) = two_bare Stores Gets w f r
+own_call_bare w f (call.Complete d v) = ap (λ t. is_completed w d || t) (two_bare Completes Awaits w f d)
 own_call_bare w f _ = refl
 
 is_own_bare : (w : World) (f : ℕ) (g : Fiber) (x : Wish) → is_own (unnoted w) f g x ≡ is_own w f g x

@@ -1,13 +1,15 @@
 -- An own move stays one, whatever another fiber does.
 use Rattle.std.proofs.Common.{◌≡◌, ◌≢◌, ◌⊎◌, inl, inr, ℕ, zero, suc, ◌+◌, ◌<◌, ◌≤◌, nat_eq, nat_lt, Bool, true, false, not, ◌&&◌, ◌||◌, List, [], ◌∷◌, ◌++◌, set, get_or, Some, None, Option, refl, sym, ap, ap₂, ◌∙◌, subst, arith, get_or-set_other, append-nil}
+use Rattle.std.specs.Prelude.{is_none, ℤ}
 use Rattle.std.specs.List.{slice_get}
+use Rattle.derived_ops.specs.Naming.{A_deferred, A_fiber, A_ref, No_handle, Place}
 use Rattle.std.proofs.lemmas.Bool.{cases_lt, eqb-true, eqb-false, eq-eqb, lt-ltb, le-ltb}
 use Rattle.effect_term.specs.declared.reply.Reply.{Reply}
 use Rattle.effect_term.specs.declared.reply.Reply.TheVariants as reply
 use Rattle.fiber_frames.specs.declared.ask.Ask.{Ask}
 use Rattle.fiber_frames.specs.declared.ask.Ask.TheVariants as ask
 use Rattle.fiber_frames.specs.declared.uses.Use.{Use}
-use Rattle.fiber_frames.specs.declared.uses.Use.TheVariants.{Cancels}
+use Rattle.fiber_frames.specs.declared.uses.Use.TheVariants.{Awaits, Cancels, Completes, Gets, Joins, Stores}
 use Rattle.fiber_frames.specs.Fiber.{Cuts, Fiber, Looks, Move_case, Reduces, Rests, ask_of, child, move, move_case, move_in, silent_move}
 use Rattle.fiber_frames.specs.Rows.{number_in}
 use Rattle.fiber_frames.specs.Uses.{AskApart, NumberApart, Spares, is_some, used_place, uses_in}
@@ -17,23 +19,26 @@ use Rattle.cell_registry.specs.declared.cell.Stage.{Stage}
 use Rattle.cell_registry.specs.declared.call.Call.{Call}
 use Rattle.cell_registry.specs.declared.call.Call.TheVariants.{Start, Cancel, Join, Look, Mask, Unmask, Cut, Finish}
 use Rattle.cell_registry.specs.declared.call.Call.TheVariants.{NewRef, NewDeferred, Get, Set, Modify, Complete, Read}
-use Rattle.cell_registry.specs.Cells.{Cells, after, awaited, cell_of, cut, finished, fresh, masked, owned, reply_of, requested, unmasked}
+use Rattle.cell_registry.specs.Cells.{Cells, after, awaited, cell_of, cut, deferred_of, finished, fresh, masked, owned, reply_of, requested, unmasked}
 use Rattle.cell_registry.specs.Words.{has_ended}
 use Rattle.cell_registry.proofs.Calls.{owned-after}
 use Rattle.cell_registry.proofs.Lists.{get_or-set_kept}
 use Rattle.scheduled_core.specs.declared.wish.Wish.{Wish}
 use Rattle.scheduled_core.specs.declared.wish.Wish.TheVariants.{Shared, Alone, Nothing}
 use Rattle.scheduled_core.specs.Core.{World, born, called, wish_of}
+use Rattle.scheduled_core.proofs.Lists.{slice_get-set_other}
+use Rattle.scheduled_core.proofs.Standing.Lists.{get_early}
 use Rattle.scheduled_core.proofs.PlainFits.{request_stays}
-use Rattle.every_schedule.specs.Reduced.{is_left_alone, is_own, leaves_alone, others}
-use Rattle.every_schedule.proofs.OwnCalls.{IsCalm}
+use Rattle.every_schedule.specs.Places.{wants}
+use Rattle.every_schedule.specs.Reduced.{has_come_to_end, is_another, is_completed, is_kept, is_left_alone, is_own, is_own_deferred, is_own_ref, keeps, next_of, others, rests}
+use Rattle.every_schedule.proofs.OwnCalls.{IsCalm, IsNoStore, IsOffDeferred, IsOffFiber, IsOffRef, filled_after}
 
 -- ---- truth values
 both_true : (a b : Bool) → a && b ≡ true → (a ≡ true) × (b ≡ true)
 both_true true b e = (refl, e)
 both_true false b e = absurd (cc)
 
-and_true : (a b : Bool) → a ≡ true → b ≡ true → a && b ≡ true
+pub and_true : (a b : Bool) → a ≡ true → b ≡ true → a && b ≡ true
 and_true a b e f = ap₂ (λ x y. x && y) e f
 
 or_cases : (a b : Bool) → a || b ≡ true → (a ≡ true) ⊎ (b ≡ true)
@@ -43,7 +48,7 @@ or_cases false b e = inr e
 or_first : (a b : Bool) → a ≡ true → a || b ≡ true
 or_first a b e = ap (λ x. x || b) e
 
-or_second : (a b : Bool) → b ≡ true → a || b ≡ true
+pub or_second : (a b : Bool) → b ≡ true → a || b ≡ true
 or_second true b e = refl
 or_second false b e = e
 
@@ -111,79 +116,67 @@ move_number b q = go (move_case b)
     go Reduces = refl
     go Rests = refl
 
-module _ (f : ℕ) (b : Fiber) (leaves : leaves_alone f b ≡ true) where
-  abbrev parts : (not (is_some (uses_in Cancels f b.running)) ≡ true) × (not (nat_eq b.number f) ≡ true)
-  parts = both_true (not (is_some (uses_in Cancels f b.running))) (not (nat_eq b.number f)) leaves
+-- ---- who keeps off a number
+module _ (u : Use) (n : ℕ) (b : Fiber) (keeps_off : keeps u n b ≡ true) where
+  spares : Spares u n b.running
+  spares = not_some (uses_in u n b.running) keeps_off
 
-  spares : Spares Cancels f b.running
-  spares = not_some (uses_in Cancels f b.running) parts.0
+  keeps_move : (q : Reply) → NumberApart u n (ask_of b) q → keeps u n (move b q) ≡ true
+  keeps_move q apart = some_not (uses_in u n (move b q).running) (unused_move u n b q spares apart)
 
-  leaves_move : (q : Reply) → NumberApart Cancels f (ask_of b) q → leaves_alone f (move b q) ≡ true
-  leaves_move q apart =
-      and_true (not (is_some (uses_in Cancels f (move b q).running))) (not (nat_eq (move b q).number f))
-      (some_not (uses_in Cancels f (move b q).running) (unused_move Cancels f b q spares apart))
-      (ap (λ n. not (nat_eq n f)) (move_number b q) ∙ parts.1)
+  keeps_child : (m : ℕ) → keeps u n (child b m) ≡ true
+  keeps_child m = some_not (uses_in u n (child b m).running) (unused_child u n b m spares)
 
-  leaves_child : (n : ℕ) → n ≢ f → leaves_alone f (child b n) ≡ true
-  leaves_child n apart =
-      and_true (not (is_some (uses_in Cancels f (child b n).running))) (not (nat_eq n f))
-      (some_not (uses_in Cancels f (child b n).running) (unused_child Cancels f b n spares))
-      (same_not n f apart)
+  pub asks_apart : AskApart u n b.number (ask_of b)
+  asks_apart = unused_ask u n b spares
 
-  no_request : (a : Ask) (d : Call) → AskApart Cancels f b.number a → wish_of a ≡ Shared d → d ≢ Cancel f
-  no_request (ask.Cancel j) d apart is e =
-      let same : j ≡ f = cc in
-      elim (apart refl) [
-        | inl own ↦ not_same b.number f parts.1 (sym own ∙ same)
-        | inr other ↦ other same
-      ]
-  no_request ask.Look d apart is e = absurd (cc)
-  no_request ask.Cut d apart is e = absurd (cc)
-  no_request ask.Mask d apart is e = absurd (cc)
-  no_request ask.Unmask d apart is e = absurd (cc)
-  no_request (ask.Finish o) d apart is e = absurd (cc)
-  no_request (ask.Join j) d apart is e = absurd (cc)
-  no_request ask.Start d apart is e = absurd (cc)
-  no_request ask.NewRef d apart is e = absurd (cc)
-  no_request (ask.Get r) d apart is e = absurd (cc)
-  no_request (ask.Set r v) d apart is e = absurd (cc)
-  no_request (ask.Modify r v) d apart is e = absurd (cc)
-  no_request ask.NewDeferred d apart is e = absurd (cc)
-  no_request (ask.Complete i v) d apart is e = absurd (cc)
-  no_request (ask.Read i) d apart is e = absurd (cc)
-  no_request ask.Silent d apart is e = absurd (cc)
-  no_request (ask.Over o) d apart is e = absurd (cc)
-  no_request ask.Broken d apart is e = absurd (cc)
-
-  pub makes_none : (d : Call) → wish_of (ask_of b) ≡ Shared d → d ≢ Cancel f
-  makes_none d is = no_request (ask_of b) d (unused_ask Cancels f b spares) is
-
--- the number of a new fiber is another one
-start_is : (a : Ask) → wish_of a ≡ Shared Start → a ≡ ask.Start
-start_is ask.Start e = refl
-start_is _ e = absurd (cc)
-
-module _ (s : Cells) (f g : ℕ) (low : f < s.next_fiber) where
-  number_apart : (a : Ask) (d : Call) → wish_of a ≡ Shared d → NumberApart Cancels f a (reply_of s g d)
+-- the numbers that are given are others
+module _ (u : Use) (n : ℕ) (s : Cells) (g : ℕ) (low : n < next_of (used_place u) s) where
+  number_apart : (a : Ask) (d : Call) → wish_of a ≡ Shared d → NumberApart u n a (reply_of s g d)
   unfolding reply_of
   number_apart ask.Start d is = λ kind.
       let start : Start ≡ d = cc in
       let number : number_in (reply_of s g d) ≡ s.next_fiber = ap (λ c. number_in (reply_of s g c)) (sym start) in
-      λ same. omega (arith, low, number, same)
-  number_apart ask.NewRef d is = λ kind. absurd (cc)
-  number_apart ask.NewDeferred d is = λ kind. absurd (cc)
+      let under : n < s.next_fiber = subst (λ k. n < next_of k s) kind low in
+      λ same. omega (arith, under, number, same)
+  number_apart ask.NewRef d is = λ kind.
+      let made : NewRef ≡ d = cc in
+      let number : number_in (reply_of s g d) ≡ s.next_ref = ap (λ c. number_in (reply_of s g c)) (sym made) in
+      let under : n < s.next_ref = subst (λ k. n < next_of k s) kind low in
+      λ same. omega (arith, under, number, same)
+  number_apart ask.NewDeferred d is = λ kind.
+      let made : NewDeferred ≡ d = cc in
+      let number : number_in (reply_of s g d) ≡ s.next_deferred = ap (λ c. number_in (reply_of s g c)) (sym made) in
+      let under : n < s.next_deferred = subst (λ k. n < next_of k s) kind low in
+      λ same. omega (arith, under, number, same)
   number_apart _ d is = tt
 
-silent_apart : (f : ℕ) (a : Ask) (q : Reply) → wish_of a ≡ Alone → NumberApart Cancels f a q
-silent_apart f ask.Start q is = absurd (cc)
-silent_apart f ask.NewRef q is = absurd (cc)
-silent_apart f ask.NewDeferred q is = absurd (cc)
-silent_apart f _ q is = tt
+silent_apart : (u : Use) (n : ℕ) (a : Ask) (q : Reply) → wish_of a ≡ Alone → NumberApart u n a q
+silent_apart u n ask.Start q is = absurd (cc)
+silent_apart u n ask.NewRef q is = absurd (cc)
+silent_apart u n ask.NewDeferred q is = absurd (cc)
+silent_apart u n _ q is = tt
 
-next_more : (s : Cells) (g : ℕ) (d : Call) → s.next_fiber ≤ (after s g d).next_fiber
+fibers_more : (s : Cells) (g : ℕ) (d : Call) → s.next_fiber ≤ (after s g d).next_fiber
 unfolding after
-next_more s g Start = omega arith
-next_more s g _ = omega arith
+fibers_more s g Start = omega arith
+fibers_more s g _ = omega arith
+
+refs_more : (s : Cells) (g : ℕ) (d : Call) → s.next_ref ≤ (after s g d).next_ref
+unfolding after
+refs_more s g NewRef = omega arith
+refs_more s g _ = omega arith
+
+deferreds_more : (s : Cells) (g : ℕ) (d : Call) → s.next_deferred ≤ (after s g d).next_deferred
+unfolding after
+deferreds_more s g NewDeferred = omega arith
+deferreds_more s g _ = omega arith
+
+next_more : (s : Cells) (g : ℕ) (d : Call) (k : Place) → next_of k s ≤ next_of k (after s g d)
+next_more s g d A_fiber = fibers_more s g d
+next_more s g d A_ref = refs_more s g d
+next_more s g d A_deferred = deferreds_more s g d
+next_more s g d No_handle = omega arith
 
 start_reply : (s : Cells) (g : ℕ) (d : Call) → d ≡ Start → number_in (reply_of s g d) ≡ s.next_fiber
 unfolding reply_of
@@ -201,67 +194,285 @@ request_same s f g Cut none = get_or-set_kept (λ (c : Cell). c.request) s.cells
 request_same s f g (Finish o) none = get_or-set_kept (λ (c : Cell). c.request) s.cells g (finished o (cell_of s g)) fresh refl f
 request_same s f g _ none = refl
 
+-- the ask of a wanted call
+abbrev pub ask_for : Call → Ask
+ask_for Start = ask.Start
+ask_for (Cancel f) = ask.Cancel f
+ask_for (Join f) = ask.Join f
+ask_for Look = ask.Look
+ask_for Mask = ask.Mask
+ask_for Unmask = ask.Unmask
+ask_for Cut = ask.Cut
+ask_for (Finish o) = ask.Finish o
+ask_for NewRef = ask.NewRef
+ask_for NewDeferred = ask.NewDeferred
+ask_for (Get r) = ask.Get r
+ask_for (Set r v) = ask.Set r v
+ask_for (Modify r v) = ask.Modify r v
+ask_for (Complete d v) = ask.Complete d v
+ask_for (Read d) = ask.Read d
+
+abbrev ask_in : Wish → Ask
+ask_in (Shared c) = ask_for c
+ask_in Alone = ask.Silent
+ask_in Nothing = ask.Broken
+
+no_broken : (d : Call) → ask.Broken ≡ ask_for d → ⊥
+no_broken Start e = cc
+no_broken _ e = cc
+
+asked_for : (a : Ask) (d : Call) → ask_in (wish_of a) ≡ ask_for d → a ≡ ask_for d
+asked_for (ask.Over o) d e = absurd (no_broken d e)
+asked_for _ d e = e
+
+pub asked_so : (a : Ask) (d : Call) → wish_of a ≡ Shared d → a ≡ ask_for d
+asked_so a d is = asked_for a d (ap ask_in is)
+
+-- what keeps off a number
+no_request : (f i : ℕ) → i ≢ f → (d : Call) → AskApart Cancels f i (ask_for d) → d ≢ Cancel f
+no_request f i other d apart = λ e. elim ((subst (λ c. AskApart Cancels f i (ask_for c)) e apart) refl) [
+  | inl own ↦ other (sym own)
+  | inr isnt ↦ isnt refl
+]
+
+off_ref : (r i : ℕ) (d : Call) → AskApart Stores r i (ask_for d) → AskApart Gets r i (ask_for d) → IsOffRef r d
+off_ref r i (Get j) stores gets = gets refl
+off_ref r i (Set j v) stores gets = stores refl
+off_ref r i (Modify j v) stores gets = stores refl
+off_ref r i _ stores gets = tt
+
+no_store_of : (r i : ℕ) (d : Call) → AskApart Stores r i (ask_for d) → IsNoStore r d
+no_store_of r i (Set j v) stores = stores refl
+no_store_of r i (Modify j v) stores = stores refl
+no_store_of r i _ stores = tt
+
+off_deferred_of : (r i : ℕ) (d : Call) → AskApart Completes r i (ask_for d) → AskApart Awaits r i (ask_for d) → IsOffDeferred r d
+off_deferred_of r i (Complete j v) completes awaits = completes refl
+off_deferred_of r i (Read j) completes awaits = awaits refl
+off_deferred_of r i _ completes awaits = tt
+
+off_fiber_of : (f i : ℕ) → i ≢ f → (d : Call) → AskApart Cancels f i (ask_for d) → AskApart Joins f i (ask_for d) → IsOffFiber f d
+off_fiber_of f i other (Cancel j) cancels joins = elim (cancels refl) [
+  | inl own ↦ λ same. other (sym own ∙ same)
+  | inr isnt ↦ isnt
+]
+off_fiber_of f i other (Join j) cancels joins = joins refl
+off_fiber_of f i other _ cancels joins = tt
+
+-- ---- what has ended, and what is completed
+not_wanted : (g : Fiber) (x : Wish) → wish_of (ask_of g) ≡ x → not (wants (wish_of (ask_of g))) ≡ true → not (wants x) ≡ true
+not_wanted g x e h = ap (λ (v : Wish). not (wants v)) (sym e) ∙ h
+
+rests_so : (o : Option Fiber) → rests o ≡ true → (c : Fiber) × (o ≡ Some c) × (not (wants (wish_of (ask_of c))) ≡ true)
+rests_so None e = absurd (cc)
+rests_so (Some c) e = (c, refl, e)
+
+completed_so : (o : Option ℤ) → not (is_none o) ≡ true → (v : ℤ) × (o ≡ Some v)
+completed_so None e = absurd (cc)
+completed_so (Some v) e = (v, refl)
+
 module _ (w : World) (f g : ℕ) (b : Fiber) (apart : g ≢ f) (at : slice_get w.fibers g ≡ Some b) where
+  -- ---- numbers that only fiber f uses
+  module _ (u : Use) (n : ℕ) (kept : is_kept u w f n ≡ true) where
+    abbrev two : (nat_lt n (next_of (used_place u) w.cells) ≡ true) × (others (keeps u n) f 0 w.fibers ≡ true)
+    two = both_true (nat_lt n (next_of (used_place u) w.cells)) (others (keeps u n) f 0 w.fibers) kept
+
+    low : n < next_of (used_place u) w.cells
+    low = below_true n (next_of (used_place u) w.cells) two.0
+
+    keeps_off : keeps u n b ≡ true
+    keeps_off = others_at (keeps u n) f w.fibers 0 g b two.1 at (λ e. apart (omega (arith, e)))
+
+    asks_off : (d : Call) → wish_of (ask_of b) ≡ Shared d → AskApart u n b.number (ask_for d)
+    asks_off d is = subst (AskApart u n b.number) (asked_so (ask_of b) d is) (asks_apart u n b keeps_off)
+
+    number_called : (d : Call) → wish_of (ask_of b) ≡ Shared d → is_kept u (called w g b d (reply_of w.cells g d)) f n ≡ true
+    number_called d is =
+        let q = reply_of w.cells g d in
+        let more = next_more w.cells g d (used_place u) in
+        let below = low in
+        and_true (nat_lt n (next_of (used_place u) (after w.cells g d))) (others (keeps u n) f 0 (set w.fibers g (move b q) ++ born b d q))
+        (lt-ltb n (next_of (used_place u) (after w.cells g d)) (omega (arith, more, below)))
+        (others_born (keeps u n) f (set w.fibers g (move b q)) b d q
+        (others_set (keeps u n) f w.fibers 0 g (move b q) two.1 (keeps_move u n b keeps_off q (number_apart u n w.cells g low (ask_of b) d is)))
+        (λ start. keeps_child u n b keeps_off (number_in q)))
+
+    number_silent : wish_of (ask_of b) ≡ Alone → is_kept u (record { fibers = set w.fibers g (silent_move b); cells = w.cells }) f n ≡ true
+    number_silent is =
+        and_true (nat_lt n (next_of (used_place u) w.cells)) (others (keeps u n) f 0 (set w.fibers g (silent_move b))) two.0
+        (others_set (keeps u n) f w.fibers 0 g (silent_move b) two.1 (keeps_move u n b keeps_off reply.Done (silent_apart u n (ask_of b) reply.Done is)))
+
+  -- ---- the fiber, which nobody else can request
   module _ (left : is_left_alone w f ≡ true) where
-    abbrev two : (nat_lt f w.cells.next_fiber ≡ true) × (others (leaves_alone f) f 0 w.fibers ≡ true)
-    two = both_true (nat_lt f w.cells.next_fiber) (others (leaves_alone f) f 0 w.fibers) left
+    abbrev parts : (is_kept Cancels w f f ≡ true) × (others (is_another f) f 0 w.fibers ≡ true)
+    parts = both_true (is_kept Cancels w f f) (others (is_another f) f 0 w.fibers) left
 
-    low : f < w.cells.next_fiber
-    low = below_true f w.cells.next_fiber two.0
+    another : is_another f b ≡ true
+    another = others_at (is_another f) f w.fibers 0 g b parts.1 at (λ e. apart (omega (arith, e)))
 
-    leaves : leaves_alone f b ≡ true
-    leaves = others_at (leaves_alone f) f w.fibers 0 g b two.1 at (λ e. apart (omega (arith, e)))
+    moved_another : (q : Reply) → is_another f (move b q) ≡ true
+    moved_another q = ap (λ n. not (nat_eq n f)) (move_number b q) ∙ another
 
     left_called : (d : Call) → wish_of (ask_of b) ≡ Shared d → is_left_alone (called w g b d (reply_of w.cells g d)) f ≡ true
     left_called d is =
         let q = reply_of w.cells g d in
-        let more = next_more w.cells g d in
-        let under = low in
-        and_true (nat_lt f (after w.cells g d).next_fiber) (others (leaves_alone f) f 0 (set w.fibers g (move b q) ++ born b d q))
-        (lt-ltb f (after w.cells g d).next_fiber (omega (arith, more, under)))
-        (others_born (leaves_alone f) f (set w.fibers g (move b q)) b d q
-        (others_set (leaves_alone f) f w.fibers 0 g (move b q) two.1 (leaves_move f b leaves q (number_apart w.cells f g low (ask_of b) d is)))
-        (λ start. leaves_child f b leaves (number_in q) (λ same. let number = start_reply w.cells g d start in omega (arith, number, same, under))))
+        let below = low Cancels f parts.0 in
+        and_true (is_kept Cancels (called w g b d q) f f) (others (is_another f) f 0 (set w.fibers g (move b q) ++ born b d q))
+        (number_called Cancels f parts.0 d is)
+        (others_born (is_another f) f (set w.fibers g (move b q)) b d q
+        (others_set (is_another f) f w.fibers 0 g (move b q) parts.1 (moved_another q))
+        (λ start. same_not (number_in q) f (λ same. let number = start_reply w.cells g d start in omega (arith, number, same, below))))
 
-    left_alone_silent : wish_of (ask_of b) ≡ Alone → is_left_alone (record { fibers = set w.fibers g (silent_move b); cells = w.cells }) f ≡ true
-    left_alone_silent is =
-        and_true (nat_lt f w.cells.next_fiber) (others (leaves_alone f) f 0 (set w.fibers g (silent_move b))) two.0
-        (others_set (leaves_alone f) f w.fibers 0 g (silent_move b) two.1 (leaves_move f b leaves reply.Done (silent_apart f (ask_of b) reply.Done is)))
+    left_silent : wish_of (ask_of b) ≡ Alone → is_left_alone (record { fibers = set w.fibers g (silent_move b); cells = w.cells }) f ≡ true
+    left_silent is =
+        and_true (is_kept Cancels (record { fibers = set w.fibers g (silent_move b); cells = w.cells }) f f) (others (is_another f) f 0 (set w.fibers g (silent_move b)))
+        (number_silent Cancels f parts.0 is)
+        (others_set (is_another f) f w.fibers 0 g (silent_move b) parts.1 (moved_another reply.Done))
 
-  -- the own move of fiber f, in state a
+    not_asked : (d : Call) → wish_of (ask_of b) ≡ Shared d → d ≢ Cancel f
+    not_asked d is = no_request f b.number (not_same b.number f another) d (asks_off Cancels f parts.0 d is)
+
+  -- ---- a fiber that has ended
+  module _ (i : ℕ) (ended : has_come_to_end w i ≡ true) where
+    abbrev ends : (rests (slice_get w.fibers i) ≡ true) × (has_ended (cell_of w.cells i).stage ≡ true)
+    ends = both_true (rests (slice_get w.fibers i)) (has_ended (cell_of w.cells i).stage) ended
+
+    abbrev there : (c : Fiber) × (slice_get w.fibers i ≡ Some c) × (not (wants (wish_of (ask_of c))) ≡ true)
+    there = rests_so (slice_get w.fibers i) ends.0
+
+    not_it : (x : Wish) → wish_of (ask_of b) ≡ x → wants x ≡ true → g ≢ i
+    not_it x is some = λ same.
+        let here : Some b ≡ Some there.0 = sym at ∙ ap (slice_get w.fibers) same ∙ there.1 in
+        let one : b ≡ there.0 = cc in
+        let none : not (wants x) ≡ true = not_wanted b x is (subst (λ (c : Fiber). not (wants (wish_of (ask_of c))) ≡ true) (sym one) there.2) in
+        let no : false ≡ true = ap not (sym some) ∙ none in
+        absurd (cc)
+
+    end_called : (d : Call) → wish_of (ask_of b) ≡ Shared d → has_come_to_end (called w g b d (reply_of w.cells g d)) i ≡ true
+    end_called d is =
+        let q = reply_of w.cells g d in
+        let other = not_it (Shared d) is refl in
+        let still : slice_get (set w.fibers g (move b q) ++ born b d q) i ≡ Some there.0 =
+        get_early (set w.fibers g (move b q)) (born b d q) i there.0 (slice_get-set_other w.fibers g i (move b q) other ∙ there.1) in
+        and_true (rests (slice_get (set w.fibers g (move b q) ++ born b d q) i)) (has_ended (cell_of (after w.cells g d) i).stage)
+        (ap rests still ∙ there.2)
+        (ap (λ (o : Stage × ℕ × ℕ). has_ended o.0) (owned-after w.cells g d i other) ∙ ends.1)
+
+    end_silent : wish_of (ask_of b) ≡ Alone → has_come_to_end (record { fibers = set w.fibers g (silent_move b); cells = w.cells }) i ≡ true
+    end_silent is =
+        let other = not_it Alone is refl in
+        and_true (rests (slice_get (set w.fibers g (silent_move b)) i)) (has_ended (cell_of w.cells i).stage)
+        (ap rests (slice_get-set_other w.fibers g i (silent_move b) other ∙ there.1) ∙ there.2) ends.1
+
+  -- ---- a deferred that is completed
+  completed_called : (d : Call) (i : ℕ) → is_completed w i ≡ true → is_completed (called w g b d (reply_of w.cells g d)) i ≡ true
+  completed_called d i done =
+      let is = completed_so (deferred_of w.cells i) done in
+      ap (λ o. not (is_none o)) (filled_after w.cells g d i is.0 is.1)
+
+  -- ---- the own move of fiber f, in state a
   module _ (a : Fiber) where
-    pub kept_called : (d : Call) → wish_of (ask_of b) ≡ Shared d → (x : Wish) → is_own w f a x ≡ true → is_own (called w g b d (reply_of w.cells g d)) f a x ≡ true
+    abbrev then_called : Call → World
+    then_called d = called w g b d (reply_of w.cells g d)
+
+    abbrev then_silent : World
+    then_silent = record { fibers = set w.fibers g (silent_move b); cells = w.cells }
+
+    pub kept_called : (d : Call) → wish_of (ask_of b) ≡ Shared d → (x : Wish) → is_own w f a x ≡ true → is_own (then_called d) f a x ≡ true
     kept_called d is (Shared Look) own =
         elim (or_cases (cell_of w.cells f).request (is_left_alone w f) own) [
-          | inl known ↦ or_first (cell_of (after w.cells g d) f).request (is_left_alone (called w g b d (reply_of w.cells g d)) f) (request_stays w.cells g d f known)
-          | inr left ↦ or_second (cell_of (after w.cells g d) f).request (is_left_alone (called w g b d (reply_of w.cells g d)) f) (left_called left d is)
+          | inl known ↦ or_first (cell_of (after w.cells g d) f).request (is_left_alone (then_called d) f) (request_stays w.cells g d f known)
+          | inr left ↦ or_second (cell_of (after w.cells g d) f).request (is_left_alone (then_called d) f) (left_called left d is)
         ]
     kept_called d is (Shared Mask) own = refl
     kept_called d is (Shared Unmask) own = refl
     kept_called d is (Shared Cut) own = ap (λ (o : Stage × ℕ × ℕ). not (has_ended o.0)) (owned-after w.cells g d f apart) ∙ own
+    kept_called d is (Shared (Cancel i)) own = end_called i own d is
+    kept_called d is (Shared (Join i)) own = end_called i own d is
+    kept_called d is (Shared (Finish o)) own =
+        let both = both_true (is_left_alone w f) (is_kept Joins w f f) own in
+        and_true (is_left_alone (then_called d) f) (is_kept Joins (then_called d) f f) (left_called both.0 d is) (number_called Joins f both.1 d is)
+    kept_called d is (Shared (Get r)) own = number_called Stores r own d is
+    kept_called d is (Shared (Set r v)) own =
+        let both = both_true (is_kept Stores w f r) (is_kept Gets w f r) own in
+        and_true (is_kept Stores (then_called d) f r) (is_kept Gets (then_called d) f r) (number_called Stores r both.0 d is) (number_called Gets r both.1 d is)
+    kept_called d is (Shared (Modify r v)) own =
+        let both = both_true (is_kept Stores w f r) (is_kept Gets w f r) own in
+        and_true (is_kept Stores (then_called d) f r) (is_kept Gets (then_called d) f r) (number_called Stores r both.0 d is) (number_called Gets r both.1 d is)
+    kept_called d is (Shared (Complete i v)) own =
+        elim (or_cases (is_completed w i) (is_own_deferred w f i) own) [
+          | inl done ↦ or_first (is_completed (then_called d) i) (is_own_deferred (then_called d) f i) (completed_called d i done)
+          | inr left ↦
+              let both = both_true (is_kept Completes w f i) (is_kept Awaits w f i) left in
+              or_second (is_completed (then_called d) i) (is_own_deferred (then_called d) f i)
+              (and_true (is_kept Completes (then_called d) f i) (is_kept Awaits (then_called d) f i) (number_called Completes i both.0 d is) (number_called Awaits i both.1 d is))
+        ]
+    kept_called d is (Shared (Read i)) own = completed_called d i own
     kept_called d is Alone own = own
     kept_called d is _ own = absurd (cc)
 
-    pub kept_silent : wish_of (ask_of b) ≡ Alone → (x : Wish) → is_own w f a x ≡ true → is_own (record { fibers = set w.fibers g (silent_move b); cells = w.cells }) f a x ≡ true
+    pub kept_silent : wish_of (ask_of b) ≡ Alone → (x : Wish) → is_own w f a x ≡ true → is_own then_silent f a x ≡ true
     kept_silent is (Shared Look) own =
         elim (or_cases (cell_of w.cells f).request (is_left_alone w f) own) [
-          | inl known ↦ or_first (cell_of w.cells f).request (is_left_alone (record { fibers = set w.fibers g (silent_move b); cells = w.cells }) f) known
-          | inr left ↦ or_second (cell_of w.cells f).request (is_left_alone (record { fibers = set w.fibers g (silent_move b); cells = w.cells }) f) (left_alone_silent left is)
+          | inl known ↦ or_first (cell_of w.cells f).request (is_left_alone then_silent f) known
+          | inr left ↦ or_second (cell_of w.cells f).request (is_left_alone then_silent f) (left_silent left is)
         ]
     kept_silent is (Shared Mask) own = refl
     kept_silent is (Shared Unmask) own = refl
     kept_silent is (Shared Cut) own = own
+    kept_silent is (Shared (Cancel i)) own = end_silent i own is
+    kept_silent is (Shared (Join i)) own = end_silent i own is
+    kept_silent is (Shared (Finish o)) own =
+        let both = both_true (is_left_alone w f) (is_kept Joins w f f) own in
+        and_true (is_left_alone then_silent f) (is_kept Joins then_silent f f) (left_silent both.0 is) (number_silent Joins f both.1 is)
+    kept_silent is (Shared (Get r)) own = number_silent Stores r own is
+    kept_silent is (Shared (Set r v)) own =
+        let both = both_true (is_kept Stores w f r) (is_kept Gets w f r) own in
+        and_true (is_kept Stores then_silent f r) (is_kept Gets then_silent f r) (number_silent Stores r both.0 is) (number_silent Gets r both.1 is)
+    kept_silent is (Shared (Modify r v)) own =
+        let both = both_true (is_kept Stores w f r) (is_kept Gets w f r) own in
+        and_true (is_kept Stores then_silent f r) (is_kept Gets then_silent f r) (number_silent Stores r both.0 is) (number_silent Gets r both.1 is)
+    kept_silent is (Shared (Complete i v)) own =
+        elim (or_cases (is_completed w i) (is_own_deferred w f i) own) [
+          | inl done ↦ or_first (is_completed then_silent i) (is_own_deferred then_silent f i) done
+          | inr left ↦
+              let both = both_true (is_kept Completes w f i) (is_kept Awaits w f i) left in
+              or_second (is_completed then_silent i) (is_own_deferred then_silent f i)
+              (and_true (is_kept Completes then_silent f i) (is_kept Awaits then_silent f i) (number_silent Completes i both.0 is) (number_silent Awaits i both.1 is))
+        ]
+    kept_silent is (Shared (Read i)) own = own
     kept_silent is Alone own = own
     kept_silent is _ own = absurd (cc)
+
+    off_ref_so : (r : ℕ) → is_own_ref w f r ≡ true → (d : Call) → wish_of (ask_of b) ≡ Shared d → IsOffRef r d
+    off_ref_so r own d is =
+        let both = both_true (is_kept Stores w f r) (is_kept Gets w f r) own in
+        off_ref r b.number d (asks_off Stores r both.0 d is) (asks_off Gets r both.1 d is)
 
     pub calm_called : (d : Call) → wish_of (ask_of b) ≡ Shared d → (x : Wish) → is_own w f a x ≡ true → IsCalm w.cells f g d x
     calm_called d is (Shared Look) own =
         elim (or_cases (cell_of w.cells f).request (is_left_alone w f) own) [
           | inl known ↦ request_stays w.cells g d f known ∙ sym known
-          | inr left ↦ request_same w.cells f g d (makes_none f b (leaves left) d is)
+          | inr left ↦ request_same w.cells f g d (not_asked left d is)
         ]
     calm_called d is (Shared Mask) own = tt
     calm_called d is (Shared Unmask) own = tt
     calm_called d is (Shared Cut) own = own
+    calm_called d is (Shared (Cancel i)) own = (not_it i own (Shared d) is refl, (ends i own).1)
+    calm_called d is (Shared (Join i)) own = not_it i own (Shared d) is refl
+    calm_called d is (Shared (Finish o)) own =
+        let both = both_true (is_left_alone w f) (is_kept Joins w f f) own in
+        off_fiber_of f b.number (not_same b.number f (another both.0)) d (asks_off Cancels f (parts both.0).0 d is) (asks_off Joins f both.1 d is)
+    calm_called d is (Shared (Get r)) own = no_store_of r b.number d (asks_off Stores r own d is)
+    calm_called d is (Shared (Set r v)) own = off_ref_so r own d is
+    calm_called d is (Shared (Modify r v)) own = off_ref_so r own d is
+    calm_called d is (Shared (Complete i v)) own =
+        elim (or_cases (is_completed w i) (is_own_deferred w f i) own) [
+          | inl done ↦ inl (completed_so (deferred_of w.cells i) done)
+          | inr left ↦
+              let both = both_true (is_kept Completes w f i) (is_kept Awaits w f i) left in
+              inr (off_deferred_of i b.number d (asks_off Completes i both.0 d is) (asks_off Awaits i both.1 d is))
+        ]
+    calm_called d is (Shared (Read i)) own = completed_so (deferred_of w.cells i) own
     calm_called d is Alone own = tt
     calm_called d is _ own = absurd (cc)

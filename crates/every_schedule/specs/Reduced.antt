@@ -1,6 +1,6 @@
 -- Moves that the reduced exploration makes at once, behind each entry: those of which no other fiber sees anything, and
 -- which nothing that another fiber does can change.
-use Rattle.std.specs.Prelude.{◌≡◌, ℕ, zero, suc, nat_eq, nat_lt, Bool, true, false, not, ◌&&◌, ◌||◌, List, [], ◌∷◌}
+use Rattle.std.specs.Prelude.{◌≡◌, ◌<◌, ℕ, zero, suc, nat_eq, nat_lt, Bool, true, false, not, ◌&&◌, ◌||◌, is_none, List, [], ◌∷◌}
 use Rattle.std.specs.Prelude.{length, Option, Some, None}
 use Rattle.std.specs.Prelude.{Result, Ok, Err}
 use Rattle.std.specs.List.{slice_get}
@@ -9,15 +9,18 @@ use Rattle.cell_registry.specs.declared.call.Call.{Call}
 use Rattle.cell_registry.specs.declared.call.Call.TheVariants.{Start, Cancel, Join, Look, Mask, Unmask, Cut, Finish}
 use Rattle.cell_registry.specs.declared.call.Call.TheVariants.{NewRef, NewDeferred, Get, Set, Modify, Complete, Read}
 use Rattle.cell_registry.specs.declared.limits.RunError.{RunError}
-use Rattle.cell_registry.specs.Cells.{cell_of}
+use Rattle.cell_registry.specs.Cells.{Cells, cell_of, deferred_of}
 use Rattle.cell_registry.specs.Words.{has_ended}
-use Rattle.fiber_frames.specs.declared.uses.Use.TheVariants.{Cancels}
+use Rattle.derived_ops.specs.Naming as naming
+use Rattle.derived_ops.specs.Naming.{A_fiber, A_ref, A_deferred, No_handle}
+use Rattle.fiber_frames.specs.declared.uses.Use.{Use}
+use Rattle.fiber_frames.specs.declared.uses.Use.TheVariants.{Cancels, Joins, Gets, Stores, Completes, Awaits}
 use Rattle.fiber_frames.specs.Fiber.{Fiber, ask_of, waits_alone}
-use Rattle.fiber_frames.specs.Uses.{is_some, uses_in}
+use Rattle.fiber_frames.specs.Uses.{is_some, used_place, uses_in}
 use Rattle.scheduled_core.specs.declared.wish.Wish.{Wish}
 use Rattle.scheduled_core.specs.declared.wish.Wish.TheVariants.{Shared, Alone, Nothing}
 use Rattle.scheduled_core.specs.Core.{World, wish_of}
-use Rattle.every_schedule.specs.Places.{Place, entering, stepped}
+use Rattle.every_schedule.specs.Places.{Place, entering, stepped, wants}
 
 -- ---- what the other fibers can still do
 -- of these fibers, which begin with number i, each but fiber f
@@ -25,33 +28,80 @@ abbrev pub others : (Fiber → Bool) → ℕ → ℕ → List Fiber → Bool
 others p f i [] = true
 others p f i (b ∷ bs) = (nat_eq i f || p b) && others p f (suc i) bs
 
--- the fiber can't request the cancellation of fiber f, nor can one that it starts
-abbrev pub leaves_alone : ℕ → Fiber → Bool
-leaves_alone f b = not (is_some (uses_in Cancels f b.running)) && not (nat_eq b.number f)
+-- the fiber can't use the number so any more, nor can one that it starts
+abbrev pub keeps : Use → ℕ → Fiber → Bool
+keeps u n b = not (is_some (uses_in u n b.running))
 
--- no other fiber can, and none that is born later
+-- the next number of each kind that a registry gives
+abbrev pub next_of : naming.Place → Cells → ℕ
+next_of A_fiber s = s.next_fiber
+next_of A_ref s = s.next_ref
+next_of A_deferred s = s.next_deferred
+next_of No_handle s = 0
+
+-- no fiber but f can use the number so any more, and none that is born later
+abbrev pub is_kept : Use → World → ℕ → ℕ → Bool
+is_kept u w f n = nat_lt n (next_of (used_place u) w.cells) && others (keeps u n) f 0 w.fibers
+
+-- the fiber has another number
+abbrev pub is_another : ℕ → Fiber → Bool
+is_another f b = not (nat_eq b.number f)
+
+-- nobody can request the cancellation of fiber f any more but itself
 abbrev pub is_left_alone : World → ℕ → Bool
-is_left_alone w f = nat_lt f w.cells.next_fiber && others (leaves_alone f) f 0 w.fibers
+is_left_alone w f = is_kept Cancels w f f && others (is_another f) f 0 w.fibers
+
+-- nobody but fiber f uses the ref any more, or the deferred
+abbrev pub is_own_ref : World → ℕ → ℕ → Bool
+is_own_ref w f r = is_kept Stores w f r && is_kept Gets w f r
+
+abbrev pub is_own_deferred : World → ℕ → ℕ → Bool
+is_own_deferred w f d = is_kept Completes w f d && is_kept Awaits w f d
+
+-- what the call names is given
+abbrev pub IsNamed : Cells → Call → Type 0
+IsNamed s (Get r) = r < s.next_ref
+IsNamed s (Set r v) = r < s.next_ref
+IsNamed s (Modify r v) = r < s.next_ref
+IsNamed s (Complete d v) = d < s.next_deferred
+IsNamed s (Read d) = d < s.next_deferred
+IsNamed s _ = Unit {0}
+
+-- ---- what stays
+-- the fiber is born and has no next move
+abbrev pub rests : Option Fiber → Bool
+rests None = false
+rests (Some g) = not (wants (wish_of (ask_of g)))
+
+-- the fiber has ended
+abbrev pub has_come_to_end : World → ℕ → Bool
+has_come_to_end w i = rests (slice_get w.fibers i) && has_ended (cell_of w.cells i).stage
+
+-- the deferred is completed
+abbrev pub is_completed : World → ℕ → Bool
+is_completed w d = not (is_none (deferred_of w.cells d))
 
 -- ---- moves
--- The call touches the caller's own cell alone, and there only what nobody else reads or changes: a look where the
--- request is known to come, or where nobody can make one any more, the masks, and the cut of a fiber that hasn't ended
+-- Of this call no other fiber sees anything, and nothing that another fiber does can change it: a look where the request
+-- is known to come, or where nobody can make one any more; the masks, and the cut of a fiber that hasn't ended; joins and
+-- requests of a fiber that has ended; what is done with a deferred that is completed; and what is done with a ref or a
+-- deferred that nobody else uses any more, and the end of a fiber that nobody else does.
 abbrev pub is_own_call : World → ℕ → Call → Bool
 is_own_call w f Look = (cell_of w.cells f).request || is_left_alone w f
 is_own_call w f Mask = true
 is_own_call w f Unmask = true
 is_own_call w f Cut = not (has_ended (cell_of w.cells f).stage)
 is_own_call w f Start = false
-is_own_call w f (Cancel i) = false
-is_own_call w f (Join i) = false
-is_own_call w f (Finish o) = false
+is_own_call w f (Cancel i) = has_come_to_end w i
+is_own_call w f (Join i) = has_come_to_end w i
+is_own_call w f (Finish o) = is_left_alone w f && is_kept Joins w f f
 is_own_call w f NewRef = false
 is_own_call w f NewDeferred = false
-is_own_call w f (Get r) = false
-is_own_call w f (Set r v) = false
-is_own_call w f (Modify r v) = false
-is_own_call w f (Complete d v) = false
-is_own_call w f (Read d) = false
+is_own_call w f (Get r) = is_kept Stores w f r
+is_own_call w f (Set r v) = is_own_ref w f r
+is_own_call w f (Modify r v) = is_own_ref w f r
+is_own_call w f (Complete d v) = is_completed w d || is_own_deferred w f d
+is_own_call w f (Read d) = is_completed w d
 
 -- the move wants such a call of fiber f, or none, and isn't that of a `never`
 abbrev pub is_own : World → ℕ → Fiber → Wish → Bool

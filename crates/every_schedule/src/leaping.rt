@@ -82,8 +82,8 @@ fn add(trail: &mut Vec<u16>, fiber: u16) -> Result<(), AllocError>
     Ok(())
 }
 
-// How many fibers are born.
-fn born(world: &CoreWorld) -> usize
+/// How many fibers are born.
+pub(crate) fn born(world: &CoreWorld) -> usize
     ensures born { result ≡ length world.now.world.fibers }
     ensures few { result ≤ 1000 }
     ensures within { result ≤ world.now.limits.fibers }

@@ -1,11 +1,17 @@
-//! Which moves are made at once: those that no other fiber sees anything of, and that nothing which another fiber does
+//! Which moves are made at once: those of which no other fiber sees anything, and which nothing that another fiber does
 //! can change.
 ghost use Rattle.std.specs.Prelude.{◌≡◌, ◌<◌, length};
 ghost use Rattle.std.specs.List.{slice_get};
-ghost use Rattle.every_schedule.specs.Reduced.{has_own, is_left_alone as has_no_other, is_own_call as is_so};
+ghost use Rattle.fiber_frames.specs.Uses.{used_place};
+ghost use Rattle.scheduled_core.specs.Fitting.{AllFit};
+ghost use Rattle.every_schedule.specs.Reduced.{IsNamed, has_come_to_end as has_ended, has_own, next_of};
+ghost use Rattle.every_schedule.specs.Reduced.{is_completed as is_filled, is_kept as is_own_number};
+ghost use Rattle.every_schedule.specs.Reduced.{is_left_alone as has_no_other, is_own_call as is_so};
 
 use crate::core_world::CoreWorld;
+use crate::leaping::born;
 use cell_registry::Call;
+use effect_term::facts_of;
 use fiber_frames::Use;
 use scheduled_core::Wish;
 
@@ -25,37 +31,71 @@ pub(crate) fn is_own_move(world: &CoreWorld, by: u16) -> bool
 
 // Whether this call of a fiber is an own one.
 fn is_own_call(world: &CoreWorld, by: u16, call: Call) -> bool
-    requires born { by < length world.now.world.fibers }
+    requires born { by < world.now.world.cells.next_fiber }
     requires within { by < world.now.limits.fibers }
+    requires named { IsNamed world.now.world.cells call }
     ensures { result ≡ is_so world.now.world by call }
 {
     match call {
         Call::Look => world.registry().is_requested(by) || is_left_alone(world, by),
         Call::Mask | Call::Unmask => true,
         Call::Cut => !world.registry().has_ended(by),
-        Call::Start
-        | Call::Cancel(_)
-        | Call::Join(_)
-        | Call::Finish(_)
-        | Call::NewRef
-        | Call::NewDeferred
-        | Call::Get(_)
-        | Call::Set(_, _)
-        | Call::Modify(_, _)
-        | Call::Complete(_, _)
-        | Call::Read(_) => false,
+        Call::Cancel(other) | Call::Join(other) => has_come_to_end(world, other),
+        Call::Finish(_) => is_left_alone(world, by) && is_kept(world, Use::Joins, by, by),
+        Call::Get(it) => is_kept(world, Use::Stores, by, it),
+        Call::Set(it, _) | Call::Modify(it, _) => {
+            is_kept(world, Use::Stores, by, it) && is_kept(world, Use::Gets, by, it)
+        }
+        Call::Complete(it, _) => {
+            is_completed(world, it)
+                || is_kept(world, Use::Completes, by, it) && is_kept(world, Use::Awaits, by, it)
+        }
+        Call::Read(it) => is_completed(world, it),
+        Call::Start | Call::NewRef | Call::NewDeferred => false,
     }
 }
 
 // Whether no other fiber can request the cancellation of this one any more.
 fn is_left_alone(world: &CoreWorld, fiber: u16) -> bool
-    requires { fiber < length world.now.world.fibers }
+    requires { fiber < world.now.world.cells.next_fiber }
     ensures { result ≡ has_no_other world.now.world fiber }
 {
-    for (number, other) in world.fibers().iter().enumerate() {
-        if number != usize::from(fiber) && other.uses(Use::Cancels, fiber) {
+    is_kept(world, Use::Cancels, fiber, fiber)
+}
+
+// Whether no fiber but this one can use a number so any more. The number is given.
+fn is_kept(world: &CoreWorld, what: Use, by: u16, number: u16) -> bool
+    requires { number < next_of (used_place what) world.now.world.cells }
+    ensures kept { result ≡ is_own_number what world.now.world by number }
+    ensures fits { AllFit world.now.world }
+{
+    for (place, other) in world.fibers().iter().enumerate() {
+        if place != usize::from(by) && other.uses(what, number) {
             return false;
         }
     }
     true
+}
+
+// Whether a fiber has ended.
+fn has_come_to_end(world: &CoreWorld, fiber: u16) -> bool
+    ensures { result ≡ has_ended world.now.world fiber }
+{
+    if usize::from(fiber) >= born(world) {
+        return false;
+    }
+    match Wish::of(world.fibers()[usize::from(fiber)].ask()) {
+        Wish::Nothing => world.registry().has_ended(fiber),
+        Wish::Shared(_) | Wish::Alone => false,
+    }
+}
+
+// Whether a deferred is completed.
+fn is_completed(world: &CoreWorld, deferred: u16) -> bool
+    requires { deferred < world.now.world.cells.next_deferred }
+    ensures { result ≡ is_filled world.now.world deferred }
+{
+    // The registry has given no more deferreds than its limits allow.
+    facts_of(world.registry().limits());
+    !world.registry().is_empty(deferred)
 }

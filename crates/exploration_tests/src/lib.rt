@@ -10,6 +10,8 @@
 #[cfg(test)]
 mod answers;
 #[cfg(test)]
+mod families;
+#[cfg(test)]
 mod listed;
 #[cfg(test)]
 mod places;

@@ -91,6 +91,72 @@ const COMPARED: &[Compared<'static>] = &[
         count: 1000,
         answers: 2,
     },
+    Compared {
+        rule: "two fibers that each add twice to a ref, of which the last to end is read",
+        program: "(ref r 0 (start f0 (repeat 2 (modify r 1)) (start f1 (repeat 2 (modify r 1)) (join f0 x0 \
+            (join f1 x1 (get r) y1 (pure 8) (pure 9)) y0 (pure 8) (pure 9)))))",
+        fibers: 16,
+        count: 1000,
+        answers: 1,
+    },
+    Compared {
+        rule: "two fibers that read a ref and then set it: an addition may be lost",
+        program: "(ref r 0 (start f0 (let x (get r) (let y (add x 1) (set r y))) (start f1 (let x (get r) \
+            (let y (add x 1) (set r y))) (join f0 x0 (join f1 x1 (get r) y1 (pure 8) (pure 9)) y0 \
+            (pure 8) (pure 9)))))",
+        fibers: 16,
+        count: 1000,
+        answers: 2,
+    },
+    Compared {
+        rule: "two fibers that complete a deferred: both read what the first one gave",
+        program: "(deferred d (start f0 (seq (complete d 0) (await d)) (start f1 (seq (complete d 1) \
+            (await d)) (join f0 x0 (join f1 x1 (await d) y1 (pure 8) (pure 9)) y0 (pure 8) (pure \
+            9)))))",
+        fibers: 16,
+        count: 1000,
+        answers: 2,
+    },
+    Compared {
+        rule: "a fiber that sets a ref twice, and one that reads it twice: it never reads an older value later",
+        program: "(ref r 0 (start f0 (seq (set r 1) (set r 2)) (start f1 (let x (get r) (let y (get r) \
+            (seq (say x) (say y)))) (join f0 x0 (join f1 x1 (pure 0) y1 (pure 8) (pure 9)) y0 (pure \
+            8) (pure 9)))))",
+        fibers: 16,
+        count: 1000,
+        answers: 6,
+    },
+    Compared {
+        rule: "a fiber that waits for another one, and for whose end fiber 0 waits",
+        program: "(start f0 (pure 1) (start f1 (join f0 x (add x 1) y (pure 8) (pure 9)) (join f1 x (pure \
+            x) y (pure 8) (pure 9))))",
+        fibers: 16,
+        count: 1000,
+        answers: 1,
+    },
+    Compared {
+        rule: "a deferred that one fiber completes and another one awaits",
+        program: "(ref s 0 (deferred d0 (start f0 (complete d0 1) (start f1 (let x (await d0) (modify s \
+            x)) (join f0 x0 (join f1 x1 (get s) y1 (pure 8) (pure 9)) y0 (pure 8) (pure 9))))))",
+        fibers: 16,
+        count: 1000,
+        answers: 1,
+    },
+    Compared {
+        rule: "a bracket that is canceled",
+        program: "(ref r 0 (start f0 (bracket x (modify r 1) (say 7) (modify r -1)) (seq (cancel f0) (get \
+            r))))",
+        fibers: 16,
+        count: 1000,
+        answers: 5,
+    },
+    Compared {
+        rule: "a fiber and a ref of one number, which a third fiber cancels, and does nothing with",
+        program: "(ref a 0 (ref b 0 (start f (seq (set b 1) (say 1)) (start g (cancel f) (get b)))))",
+        fibers: 16,
+        count: 1000,
+        answers: 6,
+    },
 ];
 
 // Limits that small programs keep, with so many fibers (1 to 16) and own changes (1 to 1000).
@@ -194,25 +260,25 @@ const COUNTED: &[Counted<'static>] = &[
     Counted {
         program: "(pure 1)",
         full: 3,
-        reduced: 3,
+        reduced: 2,
     },
-    // A look, a move without a shared call, a look; and the end.
+    // A look, a move without a shared call, a look, and the end.
     Counted {
         program: "(seq (pure 1) (pure 2))",
         full: 5,
-        reduced: 3,
+        reduced: 2,
     },
-    // A look, a mask entered, and left, a look; and the end.
+    // A look, a mask entered, and left, a look, and the end.
     Counted {
         program: "(uncancelable p (pure 1))",
         full: 6,
-        reduced: 3,
+        reduced: 2,
     },
-    // A look and a request for its own cancellation; a look that sees it, the cut, and the end.
+    // A look; a request for its own cancellation, a look that sees it, the cut, and the end.
     Counted {
         program: "(canceled)",
         full: 6,
-        reduced: 4,
+        reduced: 3,
     },
 ];
 

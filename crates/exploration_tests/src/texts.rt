@@ -17,8 +17,8 @@ struct Explored<'a> {
     text: &'a str,
 }
 
-// A fiber alone: its worlds are those after each of its entries, with the moves behind it that are made at once. A
-// look isn't one of these while no request is there, nor is an end or a call that others see.
+// A fiber alone: its worlds are the first one, and those after its entries, with the moves behind them that are made at
+// once. Nobody can cancel it, so its looks are among these, and so is its end. A start isn't, nor is the move of a `never`.
 const EXPLORED: &[Explored<'static>] = &[
     Explored {
         rule: "a look and an end",
@@ -27,7 +27,7 @@ const EXPLORED: &[Explored<'static>] = &[
         worlds: 100,
         wants: &[],
         status: Status::Succeeded,
-        text: "explored 3 worlds: 1 report, 0 faults\n\nunder \"0*2\"\nfiber 0 succeeded 1\n",
+        text: "explored 2 worlds: 1 report, 0 faults\n\nunder \"0*2\"\nfiber 0 succeeded 1\n",
     },
     Explored {
         rule: "nothing has to move where nothing can end",
@@ -36,25 +36,25 @@ const EXPLORED: &[Explored<'static>] = &[
         worlds: 100,
         wants: &[],
         status: Status::Succeeded,
-        text: "explored 1 world: 1 report, 0 faults\n\nunder \"\"\nfiber 0 unended\n",
+        text: "explored 2 worlds: 1 report, 0 faults\n\nunder \"\"\nfiber 0 unended\n",
     },
     Explored {
         rule: "exactly as many worlds as there may be",
         program: "(pure 1)",
         fibers: 16,
-        worlds: 3,
+        worlds: 2,
         wants: &[],
         status: Status::Succeeded,
-        text: "explored 3 worlds: 1 report, 0 faults\n\nunder \"0*2\"\nfiber 0 succeeded 1\n",
+        text: "explored 2 worlds: 1 report, 0 faults\n\nunder \"0*2\"\nfiber 0 succeeded 1\n",
     },
     Explored {
         rule: "one world more than there may be",
         program: "(pure 1)",
         fibers: 16,
-        worlds: 2,
+        worlds: 1,
         wants: &[],
         status: Status::Unended,
-        text: "stopped at 2 worlds: 0 reports, 0 faults\n",
+        text: "stopped at 1 world: 0 reports, 0 faults\n",
     },
     Explored {
         rule: "a start where there may be one fiber",
@@ -72,7 +72,7 @@ const EXPLORED: &[Explored<'static>] = &[
         worlds: 100,
         wants: &[],
         status: Status::Succeeded,
-        text: "explored 3 worlds: 1 report, 0 faults\n\nunder \"0*2\"\nfiber 0 errored 7\n",
+        text: "explored 2 worlds: 1 report, 0 faults\n\nunder \"0*2\"\nfiber 0 errored 7\n",
     },
     Explored {
         rule: "the outcome is among those that are wanted",
@@ -81,7 +81,7 @@ const EXPLORED: &[Explored<'static>] = &[
         worlds: 100,
         wants: &["succeeded 7", "errored 7"],
         status: Status::Succeeded,
-        text: "explored 3 worlds: 1 report, 0 faults\n\nunder \"0*2\"\nfiber 0 errored 7\n",
+        text: "explored 2 worlds: 1 report, 0 faults\n\nunder \"0*2\"\nfiber 0 errored 7\n",
     },
     Explored {
         rule: "the outcome isn't wanted",
@@ -90,7 +90,7 @@ const EXPLORED: &[Explored<'static>] = &[
         worlds: 100,
         wants: &["succeeded 7", "unended"],
         status: Status::Errored,
-        text: "explored 3 worlds: 1 report, 0 faults\n\nnot wanted, under \"0*2\"\nfiber 0 errored 7\n",
+        text: "explored 2 worlds: 1 report, 0 faults\n\nnot wanted, under \"0*2\"\nfiber 0 errored 7\n",
     },
     Explored {
         rule: "a fault isn't wanted",

@@ -1,7 +1,8 @@
 //! What is told of an exploration while it goes.
 //!
 //! A fiber alone has one way on, so each entry leads, with the moves that are made at once behind it, to one world
-//! more: at the world with the number n, counted from 0, n + 1 worlds are known, and n entries lead there.
+//! more: at the world with the number n, counted from 0, n + 1 worlds are known, and n entries lead there. A request for
+//! its own cancellation isn't made at once, so there are as many entries as such requests, and one before them.
 
 use crate::answers::exploring;
 use exploration_text::obey_explore_watched;
@@ -14,7 +15,7 @@ use std::test::Fail;
 use std::time::{Clock, Duration};
 
 // A fiber alone that goes on for more worlds than there may be.
-const LONG: &str = "(repeat 90000 (cede))";
+const LONG: &str = "(uncancelable p (repeat 90000 (canceled)))";
 
 // What is told of it, by a clock that stands still.
 const TOLD: &str = "explored 10000 worlds, 0 a second, depth 9999\n\
@@ -101,7 +102,7 @@ fn each_ten_thousandth_world_is_told(rt: HostRuntime) {
         &still,
         (Status::Unended, STOPPED, TOLD),
     );
-    let short = "explored 3 worlds: 1 report, 0 faults\n\nunder \"0*2\"\nfiber 0 succeeded 1\n";
+    let short = "explored 2 worlds: 1 report, 0 faults\n\nunder \"0*2\"\nfiber 0 succeeded 1\n";
     expect(
         &rt,
         "a short one",

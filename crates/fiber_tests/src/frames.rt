@@ -6,7 +6,7 @@ ghost use Rattle.fiber_frames.specs.Fiber.{ask_of};
 
 use derived_ops::expand;
 use effect_term::{CancelReply, JoinReply, Outcome, Program, Reply, Value};
-use fiber_frames::{Ask, Config, Mark, Moved};
+use fiber_frames::{Ask, Config, Mark, Moved, Use};
 use std::alloc::{AllocError, Global};
 use std::test::Fail;
 use term_parse::parse;
@@ -450,4 +450,84 @@ fn fibers_of_two_programs_are_two(rt: HostRuntime) {
         return;
     };
     assert!(rt; are_one(&one, &one) && !are_one(&one, &other));
+}
+
+// The fiber of a text's program after some moves, 99 at most, of which each look sees no request.
+fn moved(alloc: Global, program: &[u8], moves: u32) -> Result<Config, Fail> {
+    let Some(begun) = begun(alloc, program) else {
+        return Err(Fail::new("no fiber began"));
+    };
+    let mut config = begun;
+    for _step in 0..moves.min(99) {
+        let ask = config.ask();
+        let Some(reply) = reply(config.number(), &ask, false) else {
+            break;
+        };
+        let (_over, _child) = stepped(&mut config, reply)?;
+    }
+    Ok(config)
+}
+
+// How many moves a fiber has made, a number, and which uses of it are left, in the order of `USES`. Its moves are a
+// look and the start of fiber 1; a look, a mask, the request, the wait for the end, and the end of the mask; a look, and
+// on to the `never`.
+const LEFT: &[(u32, u16, [bool; 6])] = &[
+    (0, 1, [false, false, false, false, false, false]),
+    (2, 1, [true, true, false, false, false, false]),
+    (2, 2, [false, false, false, false, false, false]),
+    (4, 1, [true, true, false, false, false, false]),
+    (5, 1, [false, true, false, false, false, false]),
+    (6, 1, [false, false, false, false, false, false]),
+];
+
+const USES: [Use; 6] = [
+    Use::Cancels,
+    Use::Joins,
+    Use::Gets,
+    Use::Stores,
+    Use::Completes,
+    Use::Awaits,
+];
+
+#[test]
+fn uses_that_are_left_are_told(rt: HostRuntime) -> Result<(), Fail> {
+    let program = b"(start f (pure 1) (seq (cancel f) (never)))";
+    for (moves, number, left) in LEFT {
+        let config = moved(rt.alloc(), program.as_slice(), *moves)?;
+        for (what, is_left) in USES.iter().zip(left.as_slice()) {
+            assert_eq!(rt;
+                config.uses(*what, *number),
+                *is_left,
+                "{moves} moves, number {number}"
+            );
+        }
+    }
+    Ok(())
+}
+
+#[test]
+fn a_use_of_each_kind_is_told(rt: HostRuntime) -> Result<(), Fail> {
+    let refs = b"(ref r 5 (seq (get r) (set r 1) (modify r 2)))";
+    let deferreds = b"(deferred d (seq (complete d 1) (await d)))";
+    // A look, and the ref or the deferred, which has the number 0.
+    let one = moved(rt.alloc(), refs.as_slice(), 2)?;
+    assert!(rt; one.uses(Use::Gets, 0) && one.uses(Use::Stores, 0));
+    assert!(rt; !one.uses(Use::Completes, 0) && !one.uses(Use::Cancels, 0));
+    let other = moved(rt.alloc(), deferreds.as_slice(), 2)?;
+    assert!(rt; other.uses(Use::Completes, 0) && other.uses(Use::Awaits, 0));
+    assert!(rt; !other.uses(Use::Gets, 0) && !other.uses(Use::Joins, 0));
+    Ok(())
+}
+
+#[test]
+fn a_never_waits_alone(rt: HostRuntime) -> Result<(), Fail> {
+    let program = b"(seq (pure 1) (never))";
+    // A look, and on to the `never`.
+    let before = moved(rt.alloc(), program.as_slice(), 1)?;
+    assert!(rt; !before.waits_alone());
+    let there = moved(rt.alloc(), program.as_slice(), 2)?;
+    assert!(rt; there.waits_alone());
+    let joins = moved(rt.alloc(), b"(deferred d (await d))".as_slice(), 2)?;
+    assert!(rt; !joins.waits_alone());
+    Ok(())
 }

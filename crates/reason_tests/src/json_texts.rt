@@ -95,14 +95,14 @@ const EXPLORED: &[(&str, usize, &[&str], &str, Status)] = &[
         &[],
         "{\"answer\":\"exploration\",\"answers\":[{\"report\":{\"answer\":\"report\",\"fibers\":[{\"fiber\":0,\
             \"marks\":[],\"outcome\":{\"succeeded\":1}}]},\"schedule\":\"0*2\",\"wanted\":true}],\
-            \"complete\":true,\"worlds\":3}\n",
+            \"complete\":true,\"worlds\":2}\n",
         Status::Succeeded,
     ),
     (
         "(pure 1)",
-        2,
+        1,
         &[],
-        "{\"answer\":\"exploration\",\"answers\":[],\"complete\":false,\"worlds\":2}\n",
+        "{\"answer\":\"exploration\",\"answers\":[],\"complete\":false,\"worlds\":1}\n",
         Status::Unended,
     ),
     (
@@ -111,7 +111,7 @@ const EXPLORED: &[(&str, usize, &[&str], &str, Status)] = &[
         &["succeeded 7"],
         "{\"answer\":\"exploration\",\"answers\":[{\"report\":{\"answer\":\"report\",\"fibers\":[{\"fiber\":0,\
             \"marks\":[],\"outcome\":{\"errored\":7}}]},\"schedule\":\"0*2\",\"wanted\":false}],\
-            \"complete\":true,\"worlds\":3}\n",
+            \"complete\":true,\"worlds\":2}\n",
         Status::Errored,
     ),
     (
@@ -120,7 +120,7 @@ const EXPLORED: &[(&str, usize, &[&str], &str, Status)] = &[
         &[],
         "{\"answer\":\"exploration\",\"answers\":[{\"fault\":{\"answer\":\"fault\",\"band\":\"refs\",\"limit\":1,\
             \"name\":\"Full\",\"number\":18},\"schedule\":\"0*8\",\"wanted\":true}],\
-            \"complete\":true,\"worlds\":7}\n",
+            \"complete\":true,\"worlds\":3}\n",
         Status::Errored,
     ),
     (
@@ -129,7 +129,7 @@ const EXPLORED: &[(&str, usize, &[&str], &str, Status)] = &[
         &["unended"],
         "{\"answer\":\"exploration\",\"answers\":[{\"fault\":{\"answer\":\"fault\",\"band\":\"refs\",\"limit\":1,\
             \"name\":\"Full\",\"number\":18},\"schedule\":\"0*8\",\"wanted\":false}],\
-            \"complete\":true,\"worlds\":7}\n",
+            \"complete\":true,\"worlds\":3}\n",
         Status::Errored,
     ),
     (
@@ -138,7 +138,7 @@ const EXPLORED: &[(&str, usize, &[&str], &str, Status)] = &[
         &["unended"],
         "{\"answer\":\"exploration\",\"answers\":[{\"report\":{\"answer\":\"report\",\"fibers\":[{\"fiber\":0,\
             \"marks\":[],\"outcome\":\"unended\"}]},\"schedule\":\"\",\"wanted\":true}],\
-            \"complete\":true,\"worlds\":1}\n",
+            \"complete\":true,\"worlds\":2}\n",
         Status::Succeeded,
     ),
     (
