@@ -10,8 +10,8 @@ use Rattle.command_words.specs.declared.sampling.Sampling.{Sampling}
 
 -- what `sample` answers: as JSON, or in words
 abbrev pub samples_as : Bool → SampleOrder → List ℕ → List ℕ → Status → Type 0
-samples_as true order = IsJsonSample order.limits order.seed order.times order.entries
-samples_as false order = IsSampleAnswer order.limits order.times order.entries
+samples_as true order = IsJsonSample order.limits order.seed order.times order.entries order.wants.items
+samples_as false order = IsSampleAnswer order.limits order.times order.entries order.wants.items
 
 abbrev pub ObeysSample : Sampling → Devices → Devices → Status → Type 0
 ObeysSample sampling before after status = Answered (samples_as sampling.json sampling.order) before after status

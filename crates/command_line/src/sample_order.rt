@@ -26,8 +26,8 @@ pub fn obey_sample<I: TextIn, O: TextOut, E: TextOut>(
         (devices (I.seen input.new) (O.seen out.new) (E.seen err.new)) result }
     ensures ends { result ≢ Status.Usage }
 {
-    let order = sampling.order;
-    if sampling.json {
+    let Sampling { order, json } = sampling;
+    if json {
         obey_text(alloc, &SampleJson { order }, input, out, err)
     } else {
         obey_text(alloc, &order, input, out, err)

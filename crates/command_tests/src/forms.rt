@@ -151,8 +151,8 @@ const FOUND: &[(&str, &[&str], &str, u8, &str, &str)] = &[
         "(raise 7)",
         0,
         "{\"answer\":\"sample\",\"answers\":[{\"came\":3,\"cut\":false,\"report\":{\"answer\":\"report\",\"fibers\":\
-            [{\"fiber\":0,\"marks\":[],\"outcome\":{\"errored\":7}}]},\"schedule\":\"0*2\"}],\
-            \"seed\":9,\"times\":3}\n",
+            [{\"fiber\":0,\"marks\":[],\"outcome\":{\"errored\":7}}]},\"schedule\":\"0*2\",\
+            \"wanted\":true}],\"seed\":9,\"times\":3}\n",
         "",
     ),
     (

@@ -48,8 +48,8 @@ const HELP: &[(&[&str], &str)] = &[
         \n   1  something unwanted was found; without --want, a fault\
         \n   3  a bound was reached, and nothing unwanted was found\
         \n\nExit status of sample, where it is not 64, 65 or 70:\
-        \n   0  no schedule came to a fault\
-        \n   1  some schedule came to a fault\
+        \n   0  no schedule came to anything unwanted\
+        \n   1  some schedule came to something unwanted; without --want, to a fault\
         \n",
     ),
     (
@@ -223,13 +223,14 @@ const HELP: &[(&[&str], &str)] = &[
         \n\nExample, which draws the same hundred schedules of a race each time:\
         \n  echo '(race (say 1) (say 2))' | fiber_cli sample --times 100 --seed 7\
         \n  echo '(race (say 1) (say 2))' | fiber_cli sample --times 100 --seed 7 --json\
+        \n  echo '(race (pure 1) (pure 2))' | fiber_cli sample --want 'succeeded 1'\
         \n\n'fiber_cli --help' explains the reports. Each stands below the first schedule that came to it, under\
         \nwhich replay gives it. 'cut short' says that each schedule that came to it has as many entries as\
         \nthere may be (--entries), and that a fiber could still go on: the report may not be a final one. The\
         \nsame seed draws the same schedules.\
         \n\nExit status:\
-        \n   0  the sample was printed, and no schedule came to a fault\
-        \n   1  some schedule came to a fault\
+        \n   0  the sample was printed, and no schedule came to anything unwanted\
+        \n   1  some schedule came to something unwanted; without --want, to a fault\
         \n  64  the words are wrong\
         \n  65  the text is refused\
         \n  70  a device failed, or memory ran out\

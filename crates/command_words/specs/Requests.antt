@@ -68,12 +68,13 @@ pub record SaysExplore (options : List Row) (order : ExploreOrder) : Type 0 wher
   pub bounds : SaysBounds options order.bounds.worlds order.bounds.entries
   pub wants : AreWants (texts_said (codes "want") options) order.wants.items
 
--- what the options of `sample` say that schedules are drawn by, and how many, under which limits
+-- what the options of `sample` say that schedules are drawn by, and how many, under which limits, and what is wanted
 pub record SaysSample (options : List Row) (order : SampleOrder) : Type 0 where
   pub seed : SaysNumber seed_range (first_of (codes "seed") options) order.seed
   pub times : SaysNumber times_range (first_of (codes "times") options) order.times
   pub entries : SaysNumber entries_range (first_of (codes "entries") options) order.entries
   pub limits : SaysLimits few_range options order.limits
+  pub wants : AreWants (texts_said (codes "want") options) order.wants.items
 
 -- the replay that the options of `replay` say
 pub record SaysReplay (options : List Row) (replay : ReplayFields) : Type 0 where

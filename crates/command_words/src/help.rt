@@ -45,8 +45,8 @@ Exit status of explore, where it is not 64, 65 or 70:
    3  a bound was reached, and nothing unwanted was found
 
 Exit status of sample, where it is not 64, 65 or 70:
-   0  no schedule came to a fault
-   1  some schedule came to a fault",
+   0  no schedule came to anything unwanted
+   1  some schedule came to something unwanted; without --want, to a fault",
 };
 
 pub const CHECK: CommandHelp<'static> = CommandHelp {
@@ -151,6 +151,7 @@ pub const SAMPLE: CommandHelp<'static> = CommandHelp {
 Example, which draws the same hundred schedules of a race each time:
   echo '(race (say 1) (say 2))' | fiber_cli sample --times 100 --seed 7
   echo '(race (say 1) (say 2))' | fiber_cli sample --times 100 --seed 7 --json
+  echo '(race (pure 1) (pure 2))' | fiber_cli sample --want 'succeeded 1'
 
 'fiber_cli --help' explains the reports. Each stands below the first schedule that came to it, under
 which replay gives it. 'cut short' says that each schedule that came to it has as many entries as
@@ -158,8 +159,8 @@ there may be (--entries), and that a fiber could still go on: the report may not
 same seed draws the same schedules.
 
 Exit status:
-   0  the sample was printed, and no schedule came to a fault
-   1  some schedule came to a fault
+   0  the sample was printed, and no schedule came to anything unwanted
+   1  some schedule came to something unwanted; without --want, to a fault
   64  the words are wrong
   65  the text is refused
   70  a device failed, or memory ran out",

@@ -150,35 +150,6 @@ fn replay_of<'a>(replay: &ArgMatches<'a>) -> Option<Replay<'a>>
     })
 }
 
-// What the options of `sample` say that schedules are drawn by, and how many, under which limits.
-fn sample_order(sample: &ArgMatches<'_>) -> Option<SampleOrder>
-    ensures said { IfSome result (SaysSample (rows_of (found_of sample.now))) }
-    ensures none { IfNone result ((order : SampleOrder) → SaysSample (rows_of (found_of sample.now)) order → ⊥) }
-{
-    let seed = number_of(sample, "seed", SEED)?;
-    let times = number_of(sample, "times", TIMES)?;
-    let entries = number_of(sample, "entries", ENTRIES)?;
-    let limits = limits_of(sample, FEW)?;
-    Some(SampleOrder {
-        limits,
-        seed,
-        times: times as u32,
-        entries: entries as u32,
-    })
-}
-
-// The sample that the options of `sample` say.
-fn sampling_of(sample: &ArgMatches<'_>) -> Option<Sampling>
-    ensures said { IfSome result (SaysSampling (rows_of (found_of sample.now))) }
-    ensures none { IfNone result ((said : Sampling) → SaysSampling (rows_of (found_of sample.now)) said → ⊥) }
-{
-    let order = sample_order(sample)?;
-    Some(Sampling {
-        order,
-        json: given(sample, "json"),
-    })
-}
-
 // How far the options of `explore` say that the search goes.
 fn bounds_of(explore: &ArgMatches<'_>) -> Option<Bounds>
     ensures said { IfSome result (λ b. SaysBounds (rows_of (found_of explore.now)) b.worlds b.entries) }
@@ -211,7 +182,7 @@ fn wants_of(alloc: Global, texts: &[&str]) -> Result<Option<Vec<Want>>, AllocErr
     Ok(Some(wants))
 }
 
-// The outcomes that the options of `explore` say are wanted, where each text spells one.
+// The outcomes that the options of `explore` or of `sample` say are wanted, where each text spells one.
 fn wants_said(alloc: Global, explore: &ArgMatches<'_>) -> Result<Option<Vec<Want>>, AllocError>
     ensures said { IfOk result (λ found. IfSome found (λ wants.
         AreWants (texts_said (codes "want") (rows_of (found_of explore.now))) wants.items)) }
@@ -268,6 +239,51 @@ fn exploring_of(alloc: Global, explore: &ArgMatches<'_>) -> Result<Option<Explor
     }
 }
 
+// What the options of `sample` say that schedules are drawn by, and how many, under which limits, and what is wanted.
+fn sample_order(alloc: Global, sample: &ArgMatches<'_>) -> Result<Option<SampleOrder>, AllocError>
+    ensures said { IfOk result (λ found. IfSome found (SaysSample (rows_of (found_of sample.now)))) }
+    ensures none { IfOk result (λ found. IfNone found ((order : SampleOrder) →
+        SaysSample (rows_of (found_of sample.now)) order → ⊥)) }
+{
+    let Some(seed) = number_of(sample, "seed", SEED) else {
+        return Ok(None);
+    };
+    let Some(times) = number_of(sample, "times", TIMES) else {
+        return Ok(None);
+    };
+    let Some(entries) = number_of(sample, "entries", ENTRIES) else {
+        return Ok(None);
+    };
+    let Some(limits) = limits_of(sample, FEW) else {
+        return Ok(None);
+    };
+    let Some(wants) = wants_said(alloc, sample)? else {
+        return Ok(None);
+    };
+    Ok(Some(SampleOrder {
+        limits,
+        seed,
+        times: times as u32,
+        entries: entries as u32,
+        wants,
+    }))
+}
+
+// The sample that the options of `sample` say.
+fn sampling_of(alloc: Global, sample: &ArgMatches<'_>) -> Result<Option<Sampling>, AllocError>
+    ensures said { IfOk result (λ found. IfSome found (SaysSampling (rows_of (found_of sample.now)))) }
+    ensures none { IfOk result (λ found. IfNone found ((said : Sampling) →
+        SaysSampling (rows_of (found_of sample.now)) said → ⊥)) }
+{
+    match sample_order(alloc, sample)? {
+        Some(order) => Ok(Some(Sampling {
+            order,
+            json: given(sample, "json"),
+        })),
+        None => Ok(None),
+    }
+}
+
 // The request that `check` gives with its options.
 fn check_request<'a>(options: &ArgMatches<'a>) -> Request<'a>
     ensures { Says (codes "check", rows_of (found_of options.now)) result }
@@ -287,9 +303,10 @@ fn show_request<'a>(options: &ArgMatches<'a>) -> Request<'a>
     })
 }
 
-// The request that a subcommand other than `explore` gives with its options.
+// The request that a subcommand other than `explore` and `sample` gives with its options.
 fn plain_request<'a>(name: &str, options: &ArgMatches<'a>) -> Option<Request<'a>>
-    requires { name.now ≢ codes "explore" }
+    requires explore { name.now ≢ codes "explore" }
+    requires sample { name.now ≢ codes "sample" }
     ensures { GivesRequest (Some (name.now, rows_of (found_of options.now))) result }
 {
     match name {
@@ -297,7 +314,6 @@ fn plain_request<'a>(name: &str, options: &ArgMatches<'a>) -> Option<Request<'a>
         "show" => Some(show_request(options)),
         "replay" => Some(Request::Replay(replay_of(options)?)),
         "run" => Some(Request::Run(running_of(options)?)),
-        "sample" => Some(Request::Sample(sampling_of(options)?)),
         _ => None,
     }
 }
@@ -315,6 +331,19 @@ fn explore_request<'a>(
     }
 }
 
+// The request that `sample` gives with its options.
+fn sample_request<'a>(
+    alloc: Global,
+    options: &ArgMatches<'a>,
+) -> Result<Option<Request<'a>>, AllocError>
+    ensures { IfOk result (GivesRequest (Some (codes "sample", rows_of (found_of options.now)))) }
+{
+    match sampling_of(alloc, options)? {
+        Some(sampling) => Ok(Some(Request::Sample(sampling))),
+        None => Ok(None),
+    }
+}
+
 /// The request that the words give. `AllocError` where memory ran out.
 pub fn request_of<'a>(
     alloc: Global,
@@ -327,6 +356,8 @@ pub fn request_of<'a>(
     };
     if name == "explore" {
         explore_request(alloc, options)
+    } else if name == "sample" {
+        sample_request(alloc, options)
     } else {
         Ok(plain_request(name, options))
     }

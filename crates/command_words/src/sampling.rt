@@ -3,7 +3,7 @@
 use exploration_text::SampleOrder;
 
 /// To tell what schedules of the text's program come to that are drawn at random.
-#[derive(Clone, Copy)]
+#[derive(Drop)]
 pub struct Sampling {
     /// What is sampled, by which seed, how often and how far.
     pub order: SampleOrder,

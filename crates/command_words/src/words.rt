@@ -227,7 +227,8 @@ fn sample_options<'a>(alloc: Global) -> Result<Command<'a>, AllocError>
     let command = new_command(alloc, "sample", help::SAMPLE).arg(seed)?;
     let command = command.arg(number_option(alloc, "times", help::TIMES, TIMES))?;
     let command = command.arg(number_option(alloc, "entries", help::ENTRIES, ENTRIES))?;
-    with_limits(alloc, command, help::FEW)
+    let command = with_limits(alloc, command, help::FEW)?;
+    command.arg(want_option(alloc))
 }
 
 fn sample_command<'a>(alloc: Global) -> Result<Command<'a>, AllocError>

@@ -20,18 +20,19 @@ fn limits(fibers: u16) -> Limits
 }
 
 /// The order to draw so many schedules, with at most so many fibers (1 to 16) and entries (0 to 1000).
-pub fn order(fibers: u16, seed: u64, times: u32, entries: u32) -> SampleOrder {
+pub fn order(alloc: Global, fibers: u16, seed: u64, times: u32, entries: u32) -> SampleOrder {
     SampleOrder {
         limits: limits(fibers),
         seed,
         times,
         entries: entries.min(1000),
+        wants: Vec::new(alloc),
     }
 }
 
 /// What is answered to a program of which so many schedules are drawn by a seed.
 pub fn sampled(alloc: Global, program: &str, seed: u64, times: u32) -> Result<Answer, Fail> {
-    Ok(order(16, seed, times, 1000).answer(alloc, program.as_bytes())?)
+    Ok(order(alloc, 16, seed, times, 1000).answer(alloc, program.as_bytes())?)
 }
 
 /// What is answered to a program that is explored.

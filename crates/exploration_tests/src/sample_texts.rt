@@ -127,7 +127,7 @@ fn is_written(alloc: Global, it: &Sampled<'_>) -> bool {
     let mut out = Vec::new(alloc);
     let answered = answer_text(
         alloc,
-        &order(it.fibers, 1, it.times, it.entries),
+        &order(alloc, it.fibers, 1, it.times, it.entries),
         &mut FromRead::new(it.program.as_bytes()),
         &mut ToWrite::new(&mut out),
     );
@@ -143,7 +143,7 @@ fn programs_are_sampled(rt: HostRuntime) {
 
 // Whether the answer is the one that is wanted, or there is none.
 fn is_answered_if_at_all(alloc: Global, it: &Sampled<'_>) -> bool {
-    match order(it.fibers, 1, it.times, it.entries).answer(alloc, it.program.as_bytes()) {
+    match order(alloc, it.fibers, 1, it.times, it.entries).answer(alloc, it.program.as_bytes()) {
         Ok(answer) => answer.text.as_slice() == it.text.as_bytes() && answer.status == it.status,
         Err(AllocError) => true,
     }

@@ -10,6 +10,7 @@ use Rattle.outcome_trace.specs.declared.text_order.Answer.{Answer}
 use Rattle.outcome_trace.specs.Answers.{IsRefusalAnswer}
 use Rattle.exploration_text.specs.ExplorationText.{IsSpellable}
 use Rattle.sampled_schedules.specs.declared.comings.Coming.{Coming}
+use Rattle.exploration_text.specs.declared.wants.Want.{Want}
 use Rattle.exploration_text.specs.SampleAnswers.{IsSampleAnswer, IsSampledAnswer, samples, unsampled}
 
 -- the schedules of a sample can be spelled
@@ -20,14 +21,14 @@ spellable comings most bound numbers short = λ k d low. record {
   few = omega (arith, short k d low);
 }
 
-pub program_sampled : {E : Type 0} (text : List ℕ) (limits : Limits) (times entries : ℕ) (t : Term) (a : Result Answer E) →
-    reading text ≡ Ok (atoms_of t) → IsProgram t → IfOk a (λ a. IsSampledAnswer t limits times entries a.text.items a.status) →
-    IfOk a (λ a. IsSampleAnswer limits times entries text a.text.items a.status)
-program_sampled text limits times entries t (Ok a) e p h = samples text a.text.items a.status t e p h
-program_sampled text limits times entries t (Err x) e p h = tt
+pub program_sampled : {E : Type 0} (text : List ℕ) (limits : Limits) (times entries : ℕ) (wants : List Want) (t : Term) (a : Result Answer E) →
+    reading text ≡ Ok (atoms_of t) → IsProgram t → IfOk a (λ a. IsSampledAnswer t limits times entries wants a.text.items a.status) →
+    IfOk a (λ a. IsSampleAnswer limits times entries wants text a.text.items a.status)
+program_sampled text limits times entries wants t (Ok a) e p h = samples text a.text.items a.status t e p h
+program_sampled text limits times entries wants t (Err x) e p h = tt
 
-pub refusal_sampled : {E : Type 0} (text : List ℕ) (limits : Limits) (times entries : ℕ) (a : Result Answer E) →
+pub refusal_sampled : {E : Type 0} (text : List ℕ) (limits : Limits) (times entries : ℕ) (wants : List Want) (a : Result Answer E) →
     IfOk a (λ a. IsRefusalAnswer text a.text.items a.status) →
-    IfOk a (λ a. IsSampleAnswer limits times entries text a.text.items a.status)
-refusal_sampled text limits times entries (Ok a) h = unsampled text a.text.items a.status h
-refusal_sampled text limits times entries (Err x) h = tt
+    IfOk a (λ a. IsSampleAnswer limits times entries wants text a.text.items a.status)
+refusal_sampled text limits times entries wants (Ok a) h = unsampled text a.text.items a.status h
+refusal_sampled text limits times entries wants (Err x) h = tt

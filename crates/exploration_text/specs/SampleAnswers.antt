@@ -14,6 +14,7 @@ use Rattle.outcome_trace.specs.Answers.{IsRefusalAnswer}
 use Rattle.scheduled_core.specs.Core.{core, reported}
 use Rattle.sampled_schedules.specs.declared.comings.Sample.{Sample}
 use Rattle.sampled_schedules.specs.Sampled.{IsSampleOf, StaysSo}
+use Rattle.exploration_text.specs.declared.wants.Want.{Want}
 use Rattle.exploration_text.specs.SampleText.{IsSampleText, sample_status}
 
 -- Of code under these limits: each answer is what its schedule leads to, no entries more change one that isn't marked
@@ -25,17 +26,20 @@ pub record IsSampleAt (code : Tree) (limits : Limits) (times entries : ℕ) (s :
   pub schedules : s.schedules ≡ times
 
 -- the text and the status of a sample of the program's schedules
-pub record IsSampledAnswer (t : Term) (limits : Limits) (times entries : ℕ) (answer : List ℕ) (status : Status) : Type 0
+pub record IsSampledAnswer (t : Term) (limits : Limits) (times entries : ℕ) (wants : List Want) (answer : List ℕ)
+    (status : Status) : Type 0
   where
     pub sample : Sample
     pub sampled : IsSampleAt (code_of (source_of t)) limits times entries sample
-    pub text_is : IsSampleText sample answer
-    pub status_is : status ≡ sample_status sample
+    pub text_is : IsSampleText wants sample answer
+    pub status_is : status ≡ sample_status wants sample
 
 -- what `sample` answers under limits, with its status: a refusal, or a sample of the schedules of the program that the
 -- text spells
-pub data IsSampleAnswer (limits : Limits) (times entries : ℕ) : List ℕ → List ℕ → Status → Type 0 where
-  unsampled : (text answer : List ℕ) (status : Status) → IsRefusalAnswer text answer status →
-      IsSampleAnswer limits times entries text answer status
-  samples : (text answer : List ℕ) (status : Status) (t : Term) → reading text ≡ Ok (atoms_of t) → IsProgram t →
-      IsSampledAnswer t limits times entries answer status → IsSampleAnswer limits times entries text answer status
+pub data IsSampleAnswer (limits : Limits) (times entries : ℕ) (wants : List Want) : List ℕ → List ℕ → Status → Type 0
+  where
+    unsampled : (text answer : List ℕ) (status : Status) → IsRefusalAnswer text answer status →
+        IsSampleAnswer limits times entries wants text answer status
+    samples : (text answer : List ℕ) (status : Status) (t : Term) → reading text ≡ Ok (atoms_of t) → IsProgram t →
+        IsSampledAnswer t limits times entries wants answer status →
+        IsSampleAnswer limits times entries wants text answer status

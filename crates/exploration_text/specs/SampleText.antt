@@ -1,12 +1,35 @@
 -- The text of a sample.
-use Rattle.std.specs.Prelude.{◌≡◌, ◌==◌, ℕ, Bool, true, false, if◌then◌else◌, List, [], ◌∷◌, ◌++◌, codes, count_by}
+use Rattle.std.specs.Prelude.{◌≡◌, ℕ, Bool, true, false, if◌then◌else◌, List, [], ◌∷◌, ◌++◌, codes, count_by}
+use Rattle.std.specs.Prelude.{Option, None, Result, Ok, Err}
+use Rattle.std.specs.List.{list_any}
 use Rattle.std.specs.Result.{is_ok, is_err}
+use Rattle.effect_term.specs.declared.reply.Outcome.{Outcome}
+use Rattle.cell_registry.specs.declared.limits.RunError.{RunError}
+use Rattle.scheduled_core.specs.declared.report.Report.{Report}
 use Rattle.text_io.specs.declared.status.Status.{Status}
 use Rattle.text_io.specs.declared.status.Status.TheVariants as ends
 use Rattle.text_io.specs.Schedule.{SpellsEntries}
 use Rattle.exploration_text.specs.ExplorationText.{counted, end_text}
 use Rattle.sampled_schedules.specs.declared.comings.Coming.{Coming}
 use Rattle.sampled_schedules.specs.declared.comings.Sample.{Sample}
+use Rattle.exploration_text.specs.declared.wants.Want.{Want}
+use Rattle.exploration_text.specs.Wants.{first_outcome, is_failure}
+
+-- whether a fiber with this outcome may still end: it hasn't, and each schedule that came to it was cut short
+abbrev pub may_end : Bool → Option Outcome → Bool
+may_end true None = true
+may_end _ _ = false
+
+-- Whether an answer shows that the program isn't right: a fault, or, where outcomes are wanted, a report whose fiber 0
+-- has another one. A fiber 0 that may still end shows nothing.
+abbrev pub is_finding : List Want → Bool → Result Report RunError → Bool
+is_finding wants cut (Err e) = true
+is_finding wants cut (Ok r) = if may_end cut (first_outcome r.fibers) then false else is_failure wants (Ok r)
+
+-- whether an answer is listed as not wanted, which none is where nothing is wanted
+abbrev pub is_unwanted : List Want → Coming → Bool
+is_unwanted [] c = false
+is_unwanted (w ∷ wants) c = is_finding (w ∷ wants) c.cut c.answer.end
 
 -- how many schedules were drawn, and how many reports and faults came of them
 abbrev pub first_line : Sample → List ℕ
@@ -20,29 +43,38 @@ abbrev pub between : Bool → List ℕ
 between true = codes ", cut short, first under "
 between false = codes ", first under "
 
--- what stands before the schedule of an answer that came so often
-abbrev pub heading : ℕ → Bool → List ℕ
-heading times cut = (10 ∷ codes "came ") ++ (counted times (codes "time") ++ between cut)
+-- what an answer begins with, behind a blank line: whether it is wanted, and that it came
+abbrev pub front : Bool → List ℕ
+front true = 10 ∷ codes "not wanted, came "
+front false = 10 ∷ codes "came "
 
--- a blank line, how often the answer came and whether cut short, the first schedule that came to it in quotes, and the
--- answer
-pub record IsComingText (c : Coming) (text : List ℕ) : Type 0 where
+-- what stands before the schedule of an answer that came so often
+abbrev pub heading : Bool → ℕ → Bool → List ℕ
+heading unwanted times cut = front unwanted ++ (counted times (codes "time") ++ between cut)
+
+-- a blank line, whether the answer is not wanted, how often it came and whether cut short, the first schedule that came
+-- to it in quotes, and the answer
+pub record IsComingText (wants : List Want) (c : Coming) (text : List ℕ) : Type 0 where
   pub schedule : List ℕ
   pub spelled : SpellsEntries schedule c.answer.schedule
-  pub text_is : text ≡ heading c.times c.cut ++ (34 ∷ (schedule ++ (34 ∷ 10 ∷ end_text c.answer.end)))
+  pub text_is : text ≡ heading (is_unwanted wants c) c.times c.cut ++ (34 ∷ (schedule ++ (34 ∷ 10 ∷ end_text c.answer.end)))
 
 -- the texts of answers, one behind the other
-abbrev pub AreComingsText : List Coming → List ℕ → Type 0
-AreComingsText [] text = text ≡ []
-AreComingsText (c ∷ comings) text = (front : List ℕ) × (behind : List ℕ) × (text ≡ front ++ behind) ×
-    IsComingText c front × AreComingsText comings behind
+abbrev pub AreComingsText : List Want → List Coming → List ℕ → Type 0
+AreComingsText wants [] text = text ≡ []
+AreComingsText wants (c ∷ comings) text = (first : List ℕ) × (behind : List ℕ) × (text ≡ first ++ behind) ×
+    IsComingText wants c first × AreComingsText wants comings behind
 
 -- the first line, and then the answers
-pub record IsSampleText (s : Sample) (text : List ℕ) : Type 0 where
+pub record IsSampleText (wants : List Want) (s : Sample) (text : List ℕ) : Type 0 where
   pub rest : List ℕ
   pub text_is : text ≡ first_line s ++ rest
-  pub comings_are : AreComingsText s.comings rest
+  pub comings_are : AreComingsText wants s.comings rest
 
--- how the program ends then: as where fiber 0 succeeded, or errored
-abbrev pub sample_status : Sample → Status
-sample_status s = if count_by (λ c. is_err c.answer.end) s.comings == 0 then ends.Succeeded else ends.Errored
+-- whether an answer shows that the program isn't right
+abbrev pub has_finding : List Want → List Coming → Bool
+has_finding wants comings = list_any (λ c. is_finding wants c.cut c.answer.end) comings
+
+-- how the program ends then: as where fiber 0 errored, if an answer shows that the program isn't right, or succeeded
+abbrev pub sample_status : List Want → Sample → Status
+sample_status wants s = if has_finding wants s.comings then ends.Errored else ends.Succeeded

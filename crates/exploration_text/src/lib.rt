@@ -19,7 +19,7 @@ mod watched_texts;
 pub use every_schedule::Bounds;
 pub use explore_texts::ExploreOrder;
 pub use sample_texts::SampleOrder;
-pub use samples::{sample_status, text_of_sample};
+pub use samples::{is_unwanted, sample_status, text_of_sample};
 pub use texts::{
     exploration_status, first_line, is_listed_so, text_of_answer, text_of_exploration,
 };

@@ -5,62 +5,108 @@ ghost use Rattle.std.specs.List.{All};
 ghost use Rattle.std.specs.Result.{is_err, is_ok};
 ghost use Rattle.exploration_text.specs.ExplorationText.{IsSpellable, counted, end_text};
 ghost use Rattle.exploration_text.specs.SampleText.{AreComingsText, IsComingText, IsSampleText, between};
-ghost use Rattle.exploration_text.specs.SampleText.{first_line, heading, sample_status};
+ghost use Rattle.exploration_text.specs.SampleText.{first_line, front, has_finding, heading, is_finding};
+ghost use Rattle.exploration_text.specs.SampleText.{is_unwanted, may_end, sample_status};
 
+use crate::texts::{first_outcome, is_failure};
+use crate::wants::Want;
 use cell_registry::RunError;
+use effect_term::Outcome;
 use itoa::Buffer;
 use outcome_trace::{Refused, Report, Status, line, schedule_text, text_of_report};
 use sampled_schedules::{Coming, Sample};
 use std::alloc::{AllocError, Global};
 
 /// The text of a sample: how many schedules were drawn, and how many different reports and faults came of them; then
-/// each of these in the order in which it came first, behind a blank line, how often it came, whether its schedules
-/// were cut short, and the first of them, as a replay under the schedule writes it.
+/// each of these in the order in which it came first, behind a blank line: whether it is not wanted, how often it came,
+/// whether its schedules were cut short, and the first of them, as a replay under the schedule writes it.
 ///
 /// The entries of each schedule are at most 999, and it has at most 1,000,000. `AllocError` where memory is refused.
-pub fn text_of_sample(alloc: Global, sample: &Sample) -> Result<Vec<u8>, AllocError>
+pub fn text_of_sample(alloc: Global, sample: &Sample, wants: &[Want]) -> Result<Vec<u8>, AllocError>
     requires { All (λ c. IsSpellable c.answer) sample.now.comings }
-    ensures { IfOk result (λ text. IsSampleText sample.now text.items) }
+    ensures { IfOk result (λ text. IsSampleText wants.now sample.now text.items) }
 {
-    let comings = comings_text(alloc, sample.comings.as_slice())?;
+    let comings = comings_text(alloc, sample.comings.as_slice(), wants)?;
     let mut text = first_line(alloc, sample)?.into_bytes();
     text.extend_from_slice(comings.as_slice())?;
     Ok(text)
 }
 
-/// How the program ends behind the text: `Status::Errored` where some schedule came to a fault, else
-/// `Status::Succeeded`.
-pub fn sample_status(sample: &Sample) -> Status
-    ensures { result ≡ sample_status sample.now }
+/// How the program ends behind the text: `Status::Errored` where some schedule came to a fault, or to a report whose
+/// outcome of fiber 0 isn't among those that are wanted, if any is; else `Status::Succeeded`. A report in which fiber 0
+/// hasn't ended counts only where one of its schedules wasn't cut short.
+pub fn sample_status(sample: &Sample, wants: &[Want]) -> Status
+    ensures { result ≡ sample_status wants.now sample.now }
 {
-    if faults(sample.comings.as_slice()) == 0 {
-        Status::Succeeded
-    } else {
+    if has_finding(sample.comings.as_slice(), wants) {
         Status::Errored
+    } else {
+        Status::Succeeded
     }
 }
 
+// Whether an answer shows that the program isn't right.
+fn has_finding(comings: &[Coming], wants: &[Want]) -> bool
+    ensures { result ≡ has_finding wants.now comings.now }
+{
+    for coming in comings {
+        if is_finding(coming.cut, &coming.answer.end, wants) {
+            return true;
+        }
+    }
+    false
+}
+
+// Whether an end shows that the program isn't right, where each of its schedules was cut short or not.
+fn is_finding(cut: bool, end: &Result<Report, RunError>, wants: &[Want]) -> bool
+    ensures { result ≡ is_finding wants.now cut end.now }
+{
+    match end {
+        Ok(report) => !may_end(cut, first_outcome(report)) && is_failure(end, wants),
+        Err(_) => true,
+    }
+}
+
+// Whether fiber 0 may still end, where each schedule was cut short or not.
+fn may_end(cut: bool, outcome: Option<Outcome>) -> bool
+    ensures { result ≡ may_end cut outcome }
+{
+    match outcome {
+        Some(_) => false,
+        None => cut,
+    }
+}
+
+/// Whether what some schedules came to is listed as not wanted: where outcomes of fiber 0 are wanted, a report that has
+/// another one, and a fault.
+pub fn is_unwanted(coming: &Coming, wants: &[Want]) -> bool
+    ensures { result ≡ is_unwanted wants.now coming.now }
+{
+    !wants.is_empty() && is_finding(coming.cut, &coming.answer.end, wants)
+}
+
 // The text of what schedules came to.
-fn comings_text(alloc: Global, comings: &[Coming]) -> Result<Vec<u8>, AllocError>
+fn comings_text(alloc: Global, comings: &[Coming], wants: &[Want]) -> Result<Vec<u8>, AllocError>
     requires { All (λ c. IsSpellable c.answer) comings.now }
-    ensures { IfOk result (λ text. AreComingsText comings.now text.items) }
+    ensures { IfOk result (λ text. AreComingsText wants.now comings.now text.items) }
 {
     let mut text = Vec::new(alloc);
     for coming in comings {
-        let part = coming_text(alloc, coming)?;
+        let part = coming_text(alloc, coming, wants)?;
         text.extend_from_slice(part.as_slice())?;
     }
     Ok(text)
 }
 
 // The text of what some schedules came to, behind the first of them.
-fn coming_text(alloc: Global, coming: &Coming) -> Result<Vec<u8>, AllocError>
+fn coming_text(alloc: Global, coming: &Coming, wants: &[Want]) -> Result<Vec<u8>, AllocError>
     requires { IsSpellable coming.now.answer }
-    ensures { IfOk result (λ text. IsComingText coming.now text.items) }
+    ensures { IfOk result (λ text. IsComingText wants.now coming.now text.items) }
 {
     let schedule = schedule_text(alloc, coming.answer.schedule.as_slice())?;
     let end = end_text(alloc, &coming.answer.end)?;
-    let mut text = heading(alloc, coming.times, coming.cut)?.into_bytes();
+    let unwanted = is_unwanted(coming, wants);
+    let mut text = heading(alloc, unwanted, coming.times, coming.cut)?.into_bytes();
     text.push(b'"')?;
     text.extend_from_slice(schedule.as_bytes())?;
     text.extend_from_slice(b"\"\n")?;
@@ -68,14 +114,26 @@ fn coming_text(alloc: Global, coming: &Coming) -> Result<Vec<u8>, AllocError>
     Ok(text)
 }
 
-// What stands before a schedule: how often its end came, and whether each of its schedules was cut short.
-fn heading(alloc: Global, times: u32, cut: bool) -> Result<String, AllocError>
-    ensures { IfOk result (λ text. string_bytes text ≡ heading times cut) }
+// What is before a schedule: whether its end is not wanted, how often it came, and whether each of its schedules was cut
+// short.
+fn heading(alloc: Global, unwanted: bool, times: u32, cut: bool) -> Result<String, AllocError>
+    ensures { IfOk result (λ text. string_bytes text ≡ heading unwanted times cut) }
 {
-    let mut text = String::from_str(alloc, "\ncame ")?;
+    let mut text = String::from_str(alloc, front(unwanted))?;
     push_counted(&mut text, times as usize, "time")?;
     text.push_str(between(cut))?;
     Ok(text)
+}
+
+// What an answer begins with, behind a blank line.
+fn front(unwanted: bool) -> &'static str
+    ensures { result.now ≡ front unwanted }
+{
+    if unwanted {
+        "\nnot wanted, came "
+    } else {
+        "\ncame "
+    }
 }
 
 // What stands between how often an end came and the first schedule that came to it.

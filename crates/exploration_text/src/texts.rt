@@ -66,8 +66,8 @@ fn has_failure(answers: &[Answer], wants: &[Want]) -> bool
     false
 }
 
-// Whether the end of an answer is a fault, or has an outcome that isn't wanted.
-fn is_failure(end: &Result<Report, RunError>, wants: &[Want]) -> bool
+/// Whether the end of an answer is a fault, or has an outcome that isn't wanted.
+pub(crate) fn is_failure(end: &Result<Report, RunError>, wants: &[Want]) -> bool
     ensures { result ≡ is_failure wants.now end.now }
 {
     match end {
@@ -76,8 +76,8 @@ fn is_failure(end: &Result<Report, RunError>, wants: &[Want]) -> bool
     }
 }
 
-// How fiber 0 has ended, if it has.
-fn first_outcome(report: &Report) -> Option<Outcome>
+/// How fiber 0 has ended, if it has.
+pub(crate) fn first_outcome(report: &Report) -> Option<Outcome>
     ensures { result ≡ first_outcome report.now.fibers }
 {
     report.fibers.as_slice().first()?.outcome

@@ -49,11 +49,11 @@ pub refusal_explored : {E : Type 0} (text : List ℕ) (limits : Limits) (bounds 
 refusal_explored text limits bounds wants (Ok a) h = unexplored text a.text.items a.status h
 refusal_explored text limits bounds wants (Err x) h = tt
 
-pub sample_answers : {E : Type 0} (t : Term) (limits : Limits) (seed times entries : ℕ) (s : Sample) (d : Data) (status : Status)
-    (a : Result Answer E) → IsSampleAt (code_of (source_of t)) limits times entries s → IsSampleData seed s d →
-    status ≡ sample_status s → IfOk a (λ a. a.text.items ≡ line_of_data d) → IfOk a (λ a. a.status ≡ status) →
-    IfOk a (λ a. IsJsonSampled t limits seed times entries a.text.items a.status)
-sample_answers t limits seed times entries s d status (Ok a) sampled is ends line so = record {
+pub sample_answers : {E : Type 0} (t : Term) (limits : Limits) (seed times entries : ℕ) (wants : List Want) (s : Sample) (d : Data) (status : Status)
+    (a : Result Answer E) → IsSampleAt (code_of (source_of t)) limits times entries s → IsSampleData wants seed s d →
+    status ≡ sample_status wants s → IfOk a (λ a. a.text.items ≡ line_of_data d) → IfOk a (λ a. a.status ≡ status) →
+    IfOk a (λ a. IsJsonSampled t limits seed times entries wants a.text.items a.status)
+sample_answers t limits seed times entries wants s d status (Ok a) sampled is ends line so = record {
   sample = s;
   sampled = sampled;
   value = d;
@@ -61,16 +61,16 @@ sample_answers t limits seed times entries s d status (Ok a) sampled is ends lin
   text_is = line;
   status_is = so ∙ ends;
 }
-sample_answers t limits seed times entries s d status (Err x) sampled is ends line so = tt
+sample_answers t limits seed times entries wants s d status (Err x) sampled is ends line so = tt
 
-pub program_sampled : {E : Type 0} (text : List ℕ) (limits : Limits) (seed times entries : ℕ) (t : Term) (a : Result Answer E) →
-    reading text ≡ Ok (atoms_of t) → IsProgram t → IfOk a (λ a. IsJsonSampled t limits seed times entries a.text.items a.status) →
-    IfOk a (λ a. IsJsonSample limits seed times entries text a.text.items a.status)
-program_sampled text limits seed times entries t (Ok a) e p h = samples text a.text.items a.status t e p h
-program_sampled text limits seed times entries t (Err x) e p h = tt
+pub program_sampled : {E : Type 0} (text : List ℕ) (limits : Limits) (seed times entries : ℕ) (wants : List Want) (t : Term) (a : Result Answer E) →
+    reading text ≡ Ok (atoms_of t) → IsProgram t → IfOk a (λ a. IsJsonSampled t limits seed times entries wants a.text.items a.status) →
+    IfOk a (λ a. IsJsonSample limits seed times entries wants text a.text.items a.status)
+program_sampled text limits seed times entries wants t (Ok a) e p h = samples text a.text.items a.status t e p h
+program_sampled text limits seed times entries wants t (Err x) e p h = tt
 
-pub refusal_sampled : {E : Type 0} (text : List ℕ) (limits : Limits) (seed times entries : ℕ) (a : Result Answer E) →
+pub refusal_sampled : {E : Type 0} (text : List ℕ) (limits : Limits) (seed times entries : ℕ) (wants : List Want) (a : Result Answer E) →
     IfOk a (λ a. IsJsonRefusal text a.text.items a.status) →
-    IfOk a (λ a. IsJsonSample limits seed times entries text a.text.items a.status)
-refusal_sampled text limits seed times entries (Ok a) h = unsampled text a.text.items a.status h
-refusal_sampled text limits seed times entries (Err x) h = tt
+    IfOk a (λ a. IsJsonSample limits seed times entries wants text a.text.items a.status)
+refusal_sampled text limits seed times entries wants (Ok a) h = unsampled text a.text.items a.status h
+refusal_sampled text limits seed times entries wants (Err x) h = tt

@@ -14,6 +14,7 @@ use Rattle.serde_json.specs.View.{items_of}
 use Rattle.serde_json.specs.Written.{has_float, items_have_float}
 use Rattle.json_answers.specs.ExplorationData.{AreAnswersData, IsExplorationData, found_data}
 use Rattle.json_answers.specs.ReportData.{fault_data, report_data}
+use Rattle.exploration_text.specs.SampleText.{is_unwanted}
 use Rattle.json_answers.specs.SampleData.{AreComingsData, IsSampleData, came_data}
 use Rattle.json_answers.proofs.Plain.{fault_plain, or_plain, report_plain}
 
@@ -30,9 +31,9 @@ found_plain : (schedule : List ℕ) (wanted : Bool) (end : Result Report RunErro
 found_plain schedule wanted (Ok r) = or_plain (has_float (report_data r.fibers)) false (report_plain r.fibers) refl
 found_plain schedule wanted (Err e) = or_plain (has_float (fault_data e)) false (fault_plain e) refl
 
-came_plain : (times : ℕ) (cut : Bool) (schedule : List ℕ) (end : Result Report RunError) → has_float (came_data times cut schedule end) ≡ false
-came_plain times cut schedule (Ok r) = or_plain (has_float (report_data r.fibers)) false (report_plain r.fibers) refl
-came_plain times cut schedule (Err e) = or_plain (has_float (fault_data e)) false (fault_plain e) refl
+came_plain : (times : ℕ) (cut : Bool) (schedule : List ℕ) (wanted : Bool) (end : Result Report RunError) → has_float (came_data times cut schedule wanted end) ≡ false
+came_plain times cut schedule wanted (Ok r) = or_plain (has_float (report_data r.fibers)) false (report_plain r.fibers) refl
+came_plain times cut schedule wanted (Err e) = or_plain (has_float (fault_data e)) false (fault_plain e) refl
 
 answers_plain : (u : Bool) (answers : List Answer) (ds : List Data) → AreAnswersData u answers ds → items_have_float (items_of ds) ≡ false
 answers_plain u [] ds h = ap (λ xs. items_have_float (items_of xs)) h
@@ -41,12 +42,12 @@ answers_plain u (a ∷ answers) ds h =
     ∙ or_plain (has_float h.0) (items_have_float (items_of h.1)) (ap has_float h.3.data_is ∙ found_plain h.3.schedule (not u) a.end)
     (answers_plain u answers h.1 h.4)
 
-comings_plain : (comings : List Coming) (ds : List Data) → AreComingsData comings ds → items_have_float (items_of ds) ≡ false
-comings_plain [] ds h = ap (λ xs. items_have_float (items_of xs)) h
-comings_plain (c ∷ comings) ds h =
+comings_plain : (wants : List Want) (comings : List Coming) (ds : List Data) → AreComingsData wants comings ds → items_have_float (items_of ds) ≡ false
+comings_plain wants [] ds h = ap (λ xs. items_have_float (items_of xs)) h
+comings_plain wants (c ∷ comings) ds h =
     ap (λ xs. items_have_float (items_of xs)) h.2
-    ∙ or_plain (has_float h.0) (items_have_float (items_of h.1)) (ap has_float h.3.data_is ∙ came_plain c.times c.cut h.3.schedule c.answer.end)
-    (comings_plain comings h.1 h.4)
+    ∙ or_plain (has_float h.0) (items_have_float (items_of h.1)) (ap has_float h.3.data_is ∙ came_plain c.times c.cut h.3.schedule (not (is_unwanted wants c)) c.answer.end)
+    (comings_plain wants comings h.1 h.4)
 
 pub exploration_plain : (wants : List Want) (e : Exploration) (d : Data) → IsExplorationData wants e d → has_float d ≡ false
 exploration_plain wants e d h =
@@ -56,7 +57,7 @@ exploration_plain wants e d h =
     (answers_plain true (filter (λ a. is_listed_so true wants a) e.answers) h.unwanted h.unwanted_is)
     (answers_plain false (filter (λ a. is_listed_so false wants a) e.answers) h.others h.others_are)) refl
 
-pub sample_plain : (seed : ℕ) (s : Sample) (d : Data) → IsSampleData seed s d → has_float d ≡ false
-sample_plain seed s d h =
+pub sample_plain : (wants : List Want) (seed : ℕ) (s : Sample) (d : Data) → IsSampleData wants seed s d → has_float d ≡ false
+sample_plain wants seed s d h =
     ap has_float h.data_is
-    ∙ or_plain (items_have_float (items_of h.comings)) false (comings_plain s.comings h.comings h.comings_are) refl
+    ∙ or_plain (items_have_float (items_of h.comings)) false (comings_plain wants s.comings h.comings h.comings_are) refl

@@ -15,6 +15,7 @@ use Rattle.serde_json.specs.Data.{Data}
 use Rattle.serde_json.specs.View.{items_of, items_view, view}
 use Rattle.serde_json.specs.declared.value.Value.{Value}
 use Rattle.json_answers.specs.ExplorationData.{AreAnswersData, IsAnswerData, IsExplorationData, IsPartData, exploration_data, found_data}
+use Rattle.exploration_text.specs.SampleText.{is_unwanted}
 use Rattle.json_answers.specs.SampleData.{AreComingsData, IsComingData, IsSampleData, came_data, sample_data}
 
 pub one_more : (vs new : List Value) (v : Value) → new ≡ vs ++ v ∷ [] → map view new ≡ map view vs ++ view v ∷ []
@@ -56,32 +57,33 @@ all_listed u wants all i ds past front =
     subst (λ t. IsPartData u wants all t) (append-nil ds) (front [] none)
 
 -- with the values of what schedules came to from this one on behind them, they are those of all
-abbrev pub IsCameFront : List Coming → ℕ → List Data → Type 0
-IsCameFront all i ds = (behind : List Data) → AreComingsData (drop i all) behind → AreComingsData all (ds ++ behind)
+abbrev pub IsCameFront : List Want → List Coming → ℕ → List Data → Type 0
+IsCameFront wants all i ds = (behind : List Data) → AreComingsData wants (drop i all) behind → AreComingsData wants all (ds ++ behind)
 
-pub came : (all : List Coming) (i : ℕ) (c : Coming) (ds new : List Data) (d : Data) → i < length all → c ≡ get_or all i c →
-    IsComingData c d → new ≡ ds ++ d ∷ [] → IsCameFront all i ds → IsCameFront all (i + 1) new
-came all i c ds new d low at is new_is front = λ behind h.
-    let first : AreComingsData (c ∷ drop (i + 1) all) (d ∷ behind) = (d, behind, refl, is, h) in
-    let here : AreComingsData (drop i all) (d ∷ behind) =
-    subst (λ xs. AreComingsData xs (d ∷ behind)) (sym (from_here all i c low at)) first in
-    subst (λ t. AreComingsData all t) (sym (ap (λ t. t ++ behind) new_is ∙ append_assoc ds (d ∷ []) behind))
+pub came : (wants : List Want) (all : List Coming) (i : ℕ) (c : Coming) (ds new : List Data) (d : Data) → i < length all → c ≡ get_or all i c →
+    IsComingData wants c d → new ≡ ds ++ d ∷ [] → IsCameFront wants all i ds → IsCameFront wants all (i + 1) new
+came wants all i c ds new d low at is new_is front = λ behind h.
+    let first : AreComingsData wants (c ∷ drop (i + 1) all) (d ∷ behind) = (d, behind, refl, is, h) in
+    let here : AreComingsData wants (drop i all) (d ∷ behind) =
+    subst (λ xs. AreComingsData wants xs (d ∷ behind)) (sym (from_here all i c low at)) first in
+    subst (λ t. AreComingsData wants all t) (sym (ap (λ t. t ++ behind) new_is ∙ append_assoc ds (d ∷ []) behind))
     (front (d ∷ behind) here)
 
-pub all_came : (all : List Coming) (i : ℕ) (ds : List Data) → length all ≤ i → IsCameFront all i ds → AreComingsData all ds
-all_came all i ds past front =
-    let none : AreComingsData (drop i all) [] = subst (λ xs. AreComingsData xs []) (sym (drop_all i all past)) refl in
-    subst (λ t. AreComingsData all t) (append-nil ds) (front [] none)
+pub all_came : (wants : List Want) (all : List Coming) (i : ℕ) (ds : List Data) → length all ≤ i → IsCameFront wants all i ds →
+    AreComingsData wants all ds
+all_came wants all i ds past front =
+    let none : AreComingsData wants (drop i all) [] = subst (λ xs. AreComingsData wants xs []) (sym (drop_all i all past)) refl in
+    subst (λ t. AreComingsData wants all t) (append-nil ds) (front [] none)
 
 pub answer_found : {E : Type 0} (u : Bool) (a : Answer) (schedule : List ℕ) (r : Result Value E) → SpellsEntries schedule a.schedule →
     IfOk r (λ v. view v ≡ found_data schedule (not u) a.end) → IfOk r (λ v. IsAnswerData u a (view v))
 answer_found u a schedule (Ok v) spelled made = record { schedule = schedule; spelled = spelled; data_is = made }
 answer_found u a schedule (Err e) spelled made = tt
 
-pub coming_found : {E : Type 0} (c : Coming) (schedule : List ℕ) (r : Result Value E) → SpellsEntries schedule c.answer.schedule →
-    IfOk r (λ v. view v ≡ came_data c.times c.cut schedule c.answer.end) → IfOk r (λ v. IsComingData c (view v))
-coming_found c schedule (Ok v) spelled made = record { schedule = schedule; spelled = spelled; data_is = made }
-coming_found c schedule (Err e) spelled made = tt
+pub coming_found : {E : Type 0} (wants : List Want) (c : Coming) (schedule : List ℕ) (r : Result Value E) → SpellsEntries schedule c.answer.schedule →
+    IfOk r (λ v. view v ≡ came_data c.times c.cut schedule (not (is_unwanted wants c)) c.answer.end) → IfOk r (λ v. IsComingData wants c (view v))
+coming_found wants c schedule (Ok v) spelled made = record { schedule = schedule; spelled = spelled; data_is = made }
+coming_found wants c schedule (Err e) spelled made = tt
 
 pub exploration_found : {E : Type 0} (wants : List Want) (e : Exploration) (answers : List Answer) (all some others : List Value)
     (r : Result Value E) → answers ≡ e.answers → all ≡ some ++ others → IsPartData true wants answers (map view some) →
@@ -97,12 +99,12 @@ exploration_found wants e answers all some others (Ok v) same is unwanted rest m
 }
 exploration_found wants e answers all some others (Err x) same is unwanted rest made = tt
 
-pub sample_found : {E : Type 0} (seed : ℕ) (s : Sample) (comings : List Coming) (all : List Value) (r : Result Value E) →
-    comings ≡ s.comings → AreComingsData comings (map view all) →
-    IfOk r (λ v. view v ≡ sample_data (items_view all) seed s.schedules) → IfOk r (λ v. IsSampleData seed s (view v))
-sample_found seed s comings all (Ok v) same are made = record {
+pub sample_found : {E : Type 0} (wants : List Want) (seed : ℕ) (s : Sample) (comings : List Coming) (all : List Value) (r : Result Value E) →
+    comings ≡ s.comings → AreComingsData wants comings (map view all) →
+    IfOk r (λ v. view v ≡ sample_data (items_view all) seed s.schedules) → IfOk r (λ v. IsSampleData wants seed s (view v))
+sample_found wants seed s comings all (Ok v) same are made = record {
   comings = map view all;
   data_is = made;
-  comings_are = subst (λ xs. AreComingsData xs (map view all)) same are;
+  comings_are = subst (λ xs. AreComingsData wants xs (map view all)) same are;
 }
-sample_found seed s comings all (Err x) same are made = tt
+sample_found wants seed s comings all (Err x) same are made = tt

@@ -43,19 +43,22 @@ pub data IsJsonExplore (limits : Limits) (bounds : Bounds) (wants : List Want) :
         IsJsonExplore limits bounds wants text answer status
 
 -- the value and the status of a sample of the program's schedules
-pub record IsJsonSampled (t : Term) (limits : Limits) (seed times entries : ℕ) (answer : List ℕ) (status : Status)
-    : Type 0 where
-  pub sample : Sample
-  pub sampled : IsSampleAt (code_of (source_of t)) limits times entries sample
-  pub value : Data
-  pub value_is : IsSampleData seed sample value
-  pub text_is : answer ≡ line_of_data value
-  pub status_is : status ≡ sample_status sample
+pub record IsJsonSampled (t : Term) (limits : Limits) (seed times entries : ℕ) (wants : List Want) (answer : List ℕ)
+    (status : Status) : Type 0
+  where
+    pub sample : Sample
+    pub sampled : IsSampleAt (code_of (source_of t)) limits times entries sample
+    pub value : Data
+    pub value_is : IsSampleData wants seed sample value
+    pub text_is : answer ≡ line_of_data value
+    pub status_is : status ≡ sample_status wants sample
 
 -- what `sample` answers under limits: a refusal, or a sample of the schedules of the program that the text spells
-pub data IsJsonSample (limits : Limits) (seed times entries : ℕ) : List ℕ → List ℕ → Status → Type 0 where
-  unsampled : (text answer : List ℕ) (status : Status) → IsJsonRefusal text answer status →
-      IsJsonSample limits seed times entries text answer status
-  samples : (text answer : List ℕ) (status : Status) (t : Term) → reading text ≡ Ok (atoms_of t) → IsProgram t →
-      IsJsonSampled t limits seed times entries answer status →
-      IsJsonSample limits seed times entries text answer status
+pub data IsJsonSample (limits : Limits) (seed times entries : ℕ) (wants : List Want)
+    : List ℕ → List ℕ → Status → Type 0
+  where
+    unsampled : (text answer : List ℕ) (status : Status) → IsJsonRefusal text answer status →
+        IsJsonSample limits seed times entries wants text answer status
+    samples : (text answer : List ℕ) (status : Status) (t : Term) → reading text ≡ Ok (atoms_of t) → IsProgram t →
+        IsJsonSampled t limits seed times entries wants answer status →
+        IsJsonSample limits seed times entries wants text answer status

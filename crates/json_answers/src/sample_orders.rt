@@ -15,14 +15,15 @@ use std::alloc::{AllocError, Global};
 /// Tells in JSON what schedules of the program that the text spells come to, which are drawn at random, as
 /// `SampleOrder` does in words: the answers of the sample with its seed, or why the text is refused, with the same
 /// status.
-#[derive(Clone, Copy, Debug)]
+#[derive(Drop)]
 pub struct SampleJson {
     /// What is sampled, by which seed, how often and how far.
     pub order: SampleOrder,
 }
 
 impl TextOrder for SampleJson {
-    ghost answers = { λ it. IsJsonSample it.order.limits it.order.seed it.order.times it.order.entries };
+    ghost answers = { λ it. IsJsonSample it.order.limits it.order.seed it.order.times it.order.entries
+        it.order.wants.items };
 
     fn answer(&self, alloc: Global, text: &[u8]) -> Result<Answer, AllocError> {
         match read_program(alloc, text) {
@@ -39,7 +40,7 @@ fn sampled_answer(
     order: &SampleOrder,
 ) -> Result<Answer, AllocError>
     ensures { IfOk result (λ a. IsJsonSampled program.now order.now.limits order.now.seed order.now.times
-        order.now.entries a.text.items a.status) }
+        order.now.entries order.now.wants.items a.text.items a.status) }
 {
     let Ok(found) = sample(
         alloc,
@@ -51,6 +52,7 @@ fn sampled_answer(
     ) else {
         return Err(AllocError);
     };
-    let value = sample_json(alloc, &found, order.seed)?;
-    value_answer(alloc, &value, sample_status(&found))
+    let wants = order.wants.as_slice();
+    let value = sample_json(alloc, &found, order.seed, wants)?;
+    value_answer(alloc, &value, sample_status(&found, wants))
 }

@@ -8,6 +8,7 @@ ghost use Rattle.json_answers.specs.SampleData.{AreComingsData, IsComingData, Is
 
 use crate::report_values::{fault_json, report_json};
 use cell_registry::RunError;
+use exploration_text::{Want, is_unwanted};
 use outcome_trace::{Report, schedule_text};
 use sampled_schedules::{Coming, Sample};
 use serde_json::{Value, json};
@@ -15,11 +16,16 @@ use std::alloc::{AllocError, Global};
 
 /// A sample: what its schedules came to, in the order in which it came first, the seed and how many were drawn.
 /// `AllocError` where memory ran out.
-pub(crate) fn sample_json(alloc: Global, sample: &Sample, seed: u64) -> Result<Value, AllocError>
+pub(crate) fn sample_json(
+    alloc: Global,
+    sample: &Sample,
+    seed: u64,
+    wants: &[Want],
+) -> Result<Value, AllocError>
     requires { All (λ c. IsSpellable c.answer) sample.now.comings }
-    ensures { IfOk result (λ value. IsSampleData seed sample.now (view value)) }
+    ensures { IfOk result (λ value. IsSampleData wants.now seed sample.now (view value)) }
 {
-    let answers = coming_values(alloc, sample.comings.as_slice())?;
+    let answers = coming_values(alloc, sample.comings.as_slice(), wants)?;
     sample_value(alloc, answers, seed, sample.schedules)
 }
 
@@ -37,22 +43,26 @@ fn sample_value(
 }
 
 // What schedules came to, in its order.
-fn coming_values(alloc: Global, comings: &[Coming]) -> Result<Vec<Value>, AllocError>
+fn coming_values(
+    alloc: Global,
+    comings: &[Coming],
+    wants: &[Want],
+) -> Result<Vec<Value>, AllocError>
     requires { All (λ c. IsSpellable c.answer) comings.now }
-    ensures { IfOk result (λ values. AreComingsData comings.now (map view values.items)) }
+    ensures { IfOk result (λ values. AreComingsData wants.now comings.now (map view values.items)) }
 {
     let mut values = Vec::new(alloc);
     for coming in comings {
-        let value = coming_value(alloc, coming)?;
+        let value = coming_value(alloc, coming, wants)?;
         values.push(value)?;
     }
     Ok(values)
 }
 
 // What some of the schedules came to.
-fn coming_value(alloc: Global, coming: &Coming) -> Result<Value, AllocError>
+fn coming_value(alloc: Global, coming: &Coming, wants: &[Want]) -> Result<Value, AllocError>
     requires { IsSpellable coming.now.answer }
-    ensures { IfOk result (λ value. IsComingData coming.now (view value)) }
+    ensures { IfOk result (λ value. IsComingData wants.now coming.now (view value)) }
 {
     let schedule = schedule_text(alloc, coming.answer.schedule.as_slice())?;
     came_value(
@@ -60,28 +70,35 @@ fn coming_value(alloc: Global, coming: &Coming) -> Result<Value, AllocError>
         coming.times,
         coming.cut,
         schedule.as_str(),
+        !is_unwanted(coming, wants),
         &coming.answer.end,
     )
 }
 
-// How many schedules came to a report or a fault, whether each of them was cut short, and the first.
+// How many schedules came to a report or a fault, whether each of them was cut short, the first, and whether the end is
+// wanted.
 fn came_value(
     alloc: Global,
     times: u32,
     cut: bool,
     schedule: &str,
+    wanted: bool,
     end: &Result<Report, RunError>,
 ) -> Result<Value, AllocError>
-    ensures { IfOk result (λ value. view value ≡ came_data times cut schedule.now end.now) }
+    ensures { IfOk result (λ value. view value ≡ came_data times cut schedule.now wanted end.now) }
 {
     match end {
         Ok(report) => {
             let report = report_json(alloc, report)?;
-            json!(in alloc; {"came": times, "cut": cut, "report": report, "schedule": schedule})
+            json!(in alloc; {
+                "came": times, "cut": cut, "report": report, "schedule": schedule, "wanted": wanted
+            })
         }
         Err(error) => {
             let fault = fault_json(alloc, *error)?;
-            json!(in alloc; {"came": times, "cut": cut, "fault": fault, "schedule": schedule})
+            json!(in alloc; {
+                "came": times, "cut": cut, "fault": fault, "schedule": schedule, "wanted": wanted
+            })
         }
     }
 }

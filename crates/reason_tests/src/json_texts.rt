@@ -158,7 +158,7 @@ const SAMPLED: &[(&str, u64, u32, &str, Status)] = &[
         5,
         "{\"answer\":\"sample\",\"answers\":[{\"came\":5,\"cut\":false,\"report\":{\"answer\":\"report\",\
             \"fibers\":[{\"fiber\":0,\
-            \"marks\":[],\"outcome\":{\"succeeded\":1}}]},\"schedule\":\"0*2\"}],\"seed\":9,\"times\":5}\n",
+            \"marks\":[],\"outcome\":{\"succeeded\":1}}]},\"schedule\":\"0*2\",\"wanted\":true}],\"seed\":9,\"times\":5}\n",
         Status::Succeeded,
     ),
     (
@@ -167,7 +167,7 @@ const SAMPLED: &[(&str, u64, u32, &str, Status)] = &[
         3,
         "{\"answer\":\"sample\",\"answers\":[{\"came\":3,\"cut\":false,\
             \"fault\":{\"answer\":\"fault\",\"band\":\"refs\",\"limit\":1,\
-            \"name\":\"Full\",\"number\":18},\"schedule\":\"0*8\"}],\"seed\":18446744073709551615,\"times\":3}\n",
+            \"name\":\"Full\",\"number\":18},\"schedule\":\"0*8\",\"wanted\":true}],\"seed\":18446744073709551615,\"times\":3}\n",
         Status::Errored,
     ),
     (
@@ -175,7 +175,7 @@ const SAMPLED: &[(&str, u64, u32, &str, Status)] = &[
         1,
         2,
         "{\"answer\":\"sample\",\"answers\":[{\"came\":2,\"cut\":true,\"report\":{\"answer\":\"report\",\"fibers\":\
-            [{\"fiber\":0,\"marks\":[],\"outcome\":\"unended\"}]},\"schedule\":\"0*1000\"}],\"seed\":1,\"times\":2}\n",
+            [{\"fiber\":0,\"marks\":[],\"outcome\":\"unended\"}]},\"schedule\":\"0*1000\",\"wanted\":true}],\"seed\":1,\"times\":2}\n",
         Status::Succeeded,
     ),
     (
@@ -271,6 +271,7 @@ fn sampled(alloc: Global, program: &str, seed: u64, times: u32) -> Result<Answer
             seed,
             times,
             entries: 1000,
+            wants: Vec::new(alloc),
         },
     };
     order.answer(alloc, program.as_bytes())

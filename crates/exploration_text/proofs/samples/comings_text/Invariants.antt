@@ -5,4 +5,4 @@ use Rattle.exploration_text.proofs.samples.comings_text.Given as goal
 -- with the text of the answers that are left behind it, the text so far is that of all
 abbrev pub invariant-loop-coming : goal.invariant-loop-coming
 invariant-loop-coming l =
-    (behind : List ℕ) → AreComingsText (drop l.coming-index l.comings) behind → AreComingsText l.comings (l.text.items ++ behind)
+    (behind : List ℕ) → AreComingsText l.wants (drop l.coming-index l.comings) behind → AreComingsText l.wants l.comings (l.text.items ++ behind)

@@ -7,6 +7,6 @@ pub returns : goal.returns
 returns c =
     let text = c.as_str.result.now in
     let entries = c.args.coming.now.answer.schedule in
-    coming_found c.args.coming.now text c.came_value.result
+    coming_found c.args.wants.now c.args.coming.now text c.came_value.result
     (subst (λ xs. SpellsEntries xs entries) (sym c.as_str.ensures.value) (rw c.as_slice.ensures at c.in_ok-schedule.ensures))
     c.came_value.ensures

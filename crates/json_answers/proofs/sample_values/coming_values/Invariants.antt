@@ -7,5 +7,5 @@ use Rattle.json_answers.proofs.sample_values.coming_values.Given as goal
 -- with the values of what is left behind them, they are those of all
 abbrev pub invariant-loop-coming : goal.invariant-loop-coming
 invariant-loop-coming l =
-    (behind : List Data) → AreComingsData (drop l.coming-index l.comings) behind →
-    AreComingsData l.comings (map view l.values.items ++ behind)
+    (behind : List Data) → AreComingsData l.wants (drop l.coming-index l.comings) behind →
+    AreComingsData l.wants l.comings (map view l.values.items ++ behind)
