@@ -1,12 +1,11 @@
 -- What is told of one fiber after the other: that none but one uses a number so any more.
-use Rattle.std.proofs.Common.{◌≡◌, ◌≢◌, inl, inr, ℕ, zero, suc, ◌+◌, ◌<◌, nat_eq, nat_lt, Bool, true, false, not, ◌&&◌, ◌||◌, List, [], ◌∷◌, drop, length, Some, refl, sym, ap, ap₂, ◌∙◌, subst, arith}
+use Rattle.std.proofs.Common.{◌≡◌, ◌≢◌, ℕ, zero, suc, ◌+◌, ◌<◌, nat_eq, Bool, true, false, not, ◌&&◌, ◌||◌, List, [], ◌∷◌, drop, length, Some, refl, sym, ap, ◌∙◌, subst, arith}
 use Rattle.std.specs.List.{slice_get}
 use Rattle.std.proofs.lemmas.Bool.{eqb-true, eq-eqb, lt-ltb}
 use Rattle.fiber_frames.specs.declared.ask.Ask.{Ask}
-use Rattle.fiber_frames.specs.declared.ask.Ask.TheVariants as ask
 use Rattle.fiber_frames.specs.declared.uses.Use.{Use}
 use Rattle.fiber_frames.specs.declared.uses.Use.TheVariants.{Cancels}
-use Rattle.fiber_frames.specs.Fiber.{Fiber, ask_of}
+use Rattle.fiber_frames.specs.Fiber.{Fiber}
 use Rattle.fiber_frames.specs.Naming.{AskNamed}
 use Rattle.fiber_frames.specs.Uses.{is_some, used_place, uses_in}
 use Rattle.cell_registry.specs.declared.call.Call.{Call}
@@ -16,7 +15,7 @@ use Rattle.scheduled_core.specs.declared.wish.Wish.TheVariants.{Shared}
 use Rattle.scheduled_core.specs.Core.{World, wish_of}
 use Rattle.scheduled_core.specs.Fitting.{AllFit, given_by}
 use Rattle.every_schedule.specs.Reduced.{IsNamed, is_another, is_kept, is_left_alone, keeps, next_of, others}
-use Rattle.every_schedule.proofs.OwnKept.{and_true, ask_for, asked_so, or_second, same_not}
+use Rattle.every_schedule.proofs.OwnKept.{and_true, ask_for, asked_so, same_not}
 
 drop_suc : (gs : List Fiber) (i : ℕ) (b : Fiber) → slice_get gs i ≡ Some b → drop i gs ≡ b ∷ drop (suc i) gs
 drop_suc [] i b e = absurd (cc)

@@ -9,7 +9,7 @@ use Rattle.cell_registry.specs.declared.limits.CellError.{CellError}
 use Rattle.cell_registry.specs.declared.limits.RunError.{RunError}
 use Rattle.cell_registry.specs.declared.call.Call.{Call}
 use Rattle.cell_registry.specs.declared.call.Call.TheVariants as call
-use Rattle.cell_registry.specs.Cells.{Cells, cell_of, owned, refusal, unawaited, without_waits}
+use Rattle.cell_registry.specs.Cells.{Cells, owned, refusal, without_waits}
 use Rattle.cell_registry.specs.Words.{has_ended}
 use Rattle.cell_registry.proofs.Forgetting.{same_after, same_refusal, same_reply, unawaited_cell, without_waits_twice}
 use Rattle.scheduled_core.specs.declared.wish.Wish.{Wish}

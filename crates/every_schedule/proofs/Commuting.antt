@@ -8,7 +8,7 @@ use Rattle.cell_registry.specs.declared.limits.CellError.{CellError}
 use Rattle.cell_registry.specs.declared.limits.RunError.{RunError}
 use Rattle.cell_registry.specs.declared.call.Call.{Call}
 use Rattle.cell_registry.specs.declared.call.Call.TheVariants.{Start}
-use Rattle.cell_registry.specs.Cells.{Cells, after, refusal, reply_of}
+use Rattle.cell_registry.specs.Cells.{after, refusal, reply_of}
 use Rattle.scheduled_core.specs.declared.wish.Wish.{Wish}
 use Rattle.scheduled_core.specs.declared.wish.Wish.TheVariants.{Shared, Alone, Nothing}
 use Rattle.scheduled_core.specs.Core.{World, answered, born, called, turned, wish_of, wished}

@@ -1,9 +1,9 @@
 -- An own move stays one, whatever another fiber does.
-use Rattle.std.proofs.Common.{◌≡◌, ◌≢◌, ◌⊎◌, inl, inr, ℕ, zero, suc, ◌+◌, ◌<◌, ◌≤◌, nat_eq, nat_lt, Bool, true, false, not, ◌&&◌, ◌||◌, List, [], ◌∷◌, ◌++◌, set, get_or, Some, None, Option, refl, sym, ap, ap₂, ◌∙◌, subst, arith, get_or-set_other, append-nil}
+use Rattle.std.proofs.Common.{◌≡◌, ◌≢◌, ◌⊎◌, inl, inr, ℕ, zero, suc, ◌+◌, ◌<◌, ◌≤◌, nat_eq, nat_lt, Bool, true, false, not, ◌&&◌, ◌||◌, List, [], ◌∷◌, ◌++◌, set, Some, None, Option, refl, sym, ap, ap₂, ◌∙◌, subst, arith, get_or-set_other, append-nil}
 use Rattle.std.specs.Prelude.{is_none, ℤ}
 use Rattle.std.specs.List.{slice_get}
 use Rattle.derived_ops.specs.Naming.{A_deferred, A_fiber, A_ref, No_handle, Place}
-use Rattle.std.proofs.lemmas.Bool.{cases_lt, eqb-true, eqb-false, eq-eqb, lt-ltb, le-ltb}
+use Rattle.std.proofs.lemmas.Bool.{cases_lt, eqb-true, eq-eqb, lt-ltb, le-ltb}
 use Rattle.effect_term.specs.declared.reply.Reply.{Reply}
 use Rattle.effect_term.specs.declared.reply.Reply.TheVariants as reply
 use Rattle.fiber_frames.specs.declared.ask.Ask.{Ask}
@@ -19,7 +19,7 @@ use Rattle.cell_registry.specs.declared.cell.Stage.{Stage}
 use Rattle.cell_registry.specs.declared.call.Call.{Call}
 use Rattle.cell_registry.specs.declared.call.Call.TheVariants.{Start, Cancel, Join, Look, Mask, Unmask, Cut, Finish}
 use Rattle.cell_registry.specs.declared.call.Call.TheVariants.{NewRef, NewDeferred, Get, Set, Modify, Complete, Read}
-use Rattle.cell_registry.specs.Cells.{Cells, after, awaited, cell_of, cut, deferred_of, finished, fresh, masked, owned, reply_of, requested, unmasked}
+use Rattle.cell_registry.specs.Cells.{Cells, after, awaited, cell_of, cut, deferred_of, finished, fresh, masked, reply_of, requested, unmasked}
 use Rattle.cell_registry.specs.Words.{has_ended}
 use Rattle.cell_registry.proofs.Calls.{owned-after}
 use Rattle.cell_registry.proofs.Lists.{get_or-set_kept}

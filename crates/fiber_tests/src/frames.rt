@@ -453,7 +453,7 @@ fn fibers_of_two_programs_are_two(rt: HostRuntime) {
 }
 
 // The fiber of a text's program after some moves, 99 at most, of which each look sees no request.
-fn moved(alloc: Global, program: &[u8], moves: u32) -> Result<Config, Fail> {
+fn moved_on(alloc: Global, program: &[u8], moves: u32) -> Result<Config, Fail> {
     let Some(begun) = begun(alloc, program) else {
         return Err(Fail::new("no fiber began"));
     };
@@ -493,7 +493,7 @@ const USES: [Use; 6] = [
 fn uses_that_are_left_are_told(rt: HostRuntime) -> Result<(), Fail> {
     let program = b"(start f (pure 1) (seq (cancel f) (never)))";
     for (moves, number, left) in LEFT {
-        let config = moved(rt.alloc(), program.as_slice(), *moves)?;
+        let config = moved_on(rt.alloc(), program.as_slice(), *moves)?;
         for (what, is_left) in USES.iter().zip(left.as_slice()) {
             assert_eq!(rt;
                 config.uses(*what, *number),
@@ -510,10 +510,10 @@ fn a_use_of_each_kind_is_told(rt: HostRuntime) -> Result<(), Fail> {
     let refs = b"(ref r 5 (seq (get r) (set r 1) (modify r 2)))";
     let deferreds = b"(deferred d (seq (complete d 1) (await d)))";
     // A look, and the ref or the deferred, which has the number 0.
-    let one = moved(rt.alloc(), refs.as_slice(), 2)?;
+    let one = moved_on(rt.alloc(), refs.as_slice(), 2)?;
     assert!(rt; one.uses(Use::Gets, 0) && one.uses(Use::Stores, 0));
     assert!(rt; !one.uses(Use::Completes, 0) && !one.uses(Use::Cancels, 0));
-    let other = moved(rt.alloc(), deferreds.as_slice(), 2)?;
+    let other = moved_on(rt.alloc(), deferreds.as_slice(), 2)?;
     assert!(rt; other.uses(Use::Completes, 0) && other.uses(Use::Awaits, 0));
     assert!(rt; !other.uses(Use::Gets, 0) && !other.uses(Use::Joins, 0));
     Ok(())
@@ -523,11 +523,11 @@ fn a_use_of_each_kind_is_told(rt: HostRuntime) -> Result<(), Fail> {
 fn a_never_waits_alone(rt: HostRuntime) -> Result<(), Fail> {
     let program = b"(seq (pure 1) (never))";
     // A look, and on to the `never`.
-    let before = moved(rt.alloc(), program.as_slice(), 1)?;
+    let before = moved_on(rt.alloc(), program.as_slice(), 1)?;
     assert!(rt; !before.waits_alone());
-    let there = moved(rt.alloc(), program.as_slice(), 2)?;
+    let there = moved_on(rt.alloc(), program.as_slice(), 2)?;
     assert!(rt; there.waits_alone());
-    let joins = moved(rt.alloc(), b"(deferred d (await d))".as_slice(), 2)?;
+    let joins = moved_on(rt.alloc(), b"(deferred d (await d))".as_slice(), 2)?;
     assert!(rt; !joins.waits_alone());
     Ok(())
 }
