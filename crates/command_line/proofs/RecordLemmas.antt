@@ -15,7 +15,7 @@ use Rattle.outcome_trace.specs.declared.text_order.Answer.{Answer}
 use Rattle.text_io.specs.Schedule.{SpellsEntries}
 use Rattle.scheduled_core.specs.Core.{core, reported}
 use Rattle.outcome_trace.specs.ReplayAnswers.{IsRunAnswer, faults as faults_replayed, reports as reports_replayed}
-use Rattle.scheduled_core.specs.Stands.{IsOfSomeSchedule}
+use Rattle.scheduled_core.specs.Spending.{IsSpentReport}
 use Rattle.run_ends.specs.declared.finishing.RunEnd.{RunEnd}
 use Rattle.steal_pool.specs.declared.options.Options.{Options}
 use Rattle.run_recording.specs.declared.schedules.NoSchedule.{NoSchedule}
@@ -56,7 +56,7 @@ line_behind_told t options fault.NoWorker s h = (refl, refl)
 
 -- what a recorded run comes to, with the line of its schedule
 pub recorded_answer : (t : Term) (options : Options) (end : Result RunEnd RunError) (s : Result (String Global) NoSchedule) (a : Answer) →
-    IfOk end (λ it. IsOfSomeSchedule (code_of (source_of t)) (limits_of options) it.report) → IfOk end (λ it. All IsLawful it.report.fibers) →
+    IfOk end (λ it. IsSpentReport (code_of (source_of t)) (limits_of options) options.moves it.report) → IfOk end (λ it. All IsLawful it.report.fibers) →
     IfErr end (IsFaultWithin (limits_of options)) →
     IfOk s (λ text. IsRecord (code_of (source_of t)) (limits_of options) (string_bytes text) (came_to end)) → a.text.items ≡ record_text end s →
     a.status ≡ ended_status end → IsRecordedWith t options (has_line end && is_found s) a.text.items a.status
@@ -66,7 +66,7 @@ recorded_answer t options (Err f) s a some lawful within recorded line status =
     rw (line, status) (faults f (has_line (Err f) && is_found s) (line_behind f s) within (line_behind_told t options f s recorded))
 
 pub recorded_answers : {E : Type 0} (t : Term) (options : Options) (end : Result RunEnd RunError) (s : Result (String Global) NoSchedule)
-    (a : Result Answer E) → IfOk end (λ it. IsOfSomeSchedule (code_of (source_of t)) (limits_of options) it.report) →
+    (a : Result Answer E) → IfOk end (λ it. IsSpentReport (code_of (source_of t)) (limits_of options) options.moves it.report) →
     IfOk end (λ it. All IsLawful it.report.fibers) → IfErr end (IsFaultWithin (limits_of options)) →
     IfOk s (λ text. IsRecord (code_of (source_of t)) (limits_of options) (string_bytes text) (came_to end)) →
     IfOk a (λ a. a.text.items ≡ record_text end s) → IfOk a (λ a. a.status ≡ ended_status end) → IfOk a (λ a. IsRecordedAnswer t options a.text.items a.status)
@@ -114,7 +114,7 @@ timed_answers t options front rows (Err x) h line status = tt
 
 -- ---- without the line of the schedule
 pub ended_answers : (t : Term) (options : Options) (end : Result RunEnd RunError) (a : Answer) →
-    IfOk end (λ it. IsOfSomeSchedule (code_of (source_of t)) (limits_of options) it.report) → IfOk end (λ it. All IsLawful it.report.fibers) →
+    IfOk end (λ it. IsSpentReport (code_of (source_of t)) (limits_of options) options.moves it.report) → IfOk end (λ it. All IsLawful it.report.fibers) →
     IfErr end (IsFaultWithin (limits_of options)) → a.text.items ≡ ended_text end → a.status ≡ ended_status end →
     IsWorkersAnswer t options a.text.items a.status
 ended_answers t options (Ok it) a some lawful within line status = rw (line, status) (reports_worked it.report some lawful)

@@ -11,7 +11,7 @@ use Rattle.json_answers.specs.ReportData.{fault_data, line_of_data, report_data}
 use Rattle.outcome_trace.specs.Lines.{run_line}
 use Rattle.outcome_trace.specs.ReplayAnswers.{report_status}
 use Rattle.outcome_trace.specs.ReportText.{text_of_fibers}
-use Rattle.scheduled_core.specs.Stands.{IsOfSomeSchedule}
+use Rattle.scheduled_core.specs.Spending.{IsSpentReport}
 use Rattle.steal_pool.specs.declared.options.Options.{Options}
 use Rattle.run_ends.specs.Gathering.{IsLawful}
 use Rattle.ready_queues.specs.Faults.{IsFaultWithin}
@@ -19,7 +19,7 @@ use Rattle.steal_pool.specs.Runs.{limits_of}
 use Rattle.command_line.specs.Workers.{IsJsonWorkersAnswer, IsWorkersAnswer, faults, reports, value_of_fault, values}
 
 pub report_answers : {E : Type 0} (t : Term) (options : Options) (r : Report) (a : Result Answer E) →
-    IsOfSomeSchedule (code_of (source_of t)) (limits_of options) r → All IsLawful r.fibers → IfOk a (λ a. a.text.items ≡ text_of_fibers r.fibers) →
+    IsSpentReport (code_of (source_of t)) (limits_of options) options.moves r → All IsLawful r.fibers → IfOk a (λ a. a.text.items ≡ text_of_fibers r.fibers) →
     IfOk a (λ a. a.status ≡ report_status r.fibers) → IfOk a (λ a. IsWorkersAnswer t options a.text.items a.status)
 report_answers t options r (Ok a) some lawful line status = rw (line, status) (reports r some lawful)
 report_answers t options r (Err x) some lawful line status = tt
@@ -30,7 +30,7 @@ fault_answers t options f (Ok a) within line status = rw (line, status) (faults 
 fault_answers t options f (Err x) within line status = tt
 
 pub value_answers : {E : Type 0} (t : Term) (options : Options) (r : Report) (a : Result Answer E) →
-    IsOfSomeSchedule (code_of (source_of t)) (limits_of options) r → All IsLawful r.fibers →
+    IsSpentReport (code_of (source_of t)) (limits_of options) options.moves r → All IsLawful r.fibers →
     IfOk a (λ a. a.text.items ≡ line_of_data (report_data r.fibers)) → IfOk a (λ a. a.status ≡ report_status r.fibers) →
     IfOk a (λ a. IsJsonWorkersAnswer t options a.text.items a.status)
 value_answers t options r (Ok a) some lawful line status = rw (line, status) (values r some lawful)

@@ -18,7 +18,7 @@ use Rattle.outcome_trace.specs.Lines.{run_line}
 use Rattle.outcome_trace.specs.ReplayAnswers.{report_status}
 use Rattle.outcome_trace.specs.ReportText.{text_of_fibers}
 use Rattle.scheduled_core.specs.Core.{core, reported}
-use Rattle.scheduled_core.specs.Stands.{IsOfSomeSchedule}
+use Rattle.scheduled_core.specs.Spending.{IsSpentReport}
 use Rattle.run_ends.specs.declared.finishing.RunEnd.{RunEnd}
 use Rattle.steal_pool.specs.declared.options.Options.{Options}
 use Rattle.run_recording.specs.declared.schedules.NoSchedule.{NoSchedule}
@@ -80,7 +80,7 @@ IsBehindFault t options fault.NoWorker tells line = (tells ≡ false) × (line �
 -- line of the schedule behind it. Whether that line tells a schedule stands beside it.
 pub data IsRecordedWith (t : Term) (options : Options) : Bool → List ℕ → Status → Type 0 where
   reports : (r : Report) (tells : Bool) (line : List ℕ) →
-      IsOfSomeSchedule (code_of (source_of t)) (limits_of options) r → All IsLawful r.fibers →
+      IsSpentReport (code_of (source_of t)) (limits_of options) options.moves r → All IsLawful r.fibers →
       IsScheduleLine t options (Ok r) tells line →
       IsRecordedWith t options tells (text_of_fibers r.fibers ++ line) (report_status r.fibers)
   faults : (e : RunError) (tells : Bool) (line : List ℕ) → IsFaultWithin (limits_of options) e →

@@ -48,7 +48,8 @@ pub fn run_answer<R: Threads + Wait + Sync>(
     requires budget { 1 < options.budget }
     ensures { IfOk result (λ a. IsWorkersAnswer program options a.text.items a.status) }
 {
-    match run(rt, alloc, program, options, &OpenGate) {
+    let ended = run(rt, alloc, program, options, &OpenGate);
+    match ended {
         Ok(report) => report_answer(alloc, &report),
         Err(error) => fault_answer(alloc, error),
     }

@@ -8,7 +8,7 @@ ghost use Rattle.derived_ops.specs.Reading.{source_of};
 ghost use Rattle.ready_queues.specs.Faults.{IsFaultWithin};
 ghost use Rattle.run_ends.specs.Ends.{came_to};
 ghost use Rattle.run_ends.specs.Gathering.{IsLawful};
-ghost use Rattle.scheduled_core.specs.Stands.{IsOfSomeSchedule};
+ghost use Rattle.scheduled_core.specs.Spending.{IsSpentReport};
 ghost use Rattle.steal_pool.specs.Runs.{limits_of};
 
 use cell_registry::RunError;
@@ -39,7 +39,7 @@ pub fn run_spelled<R: Threads + Wait + Sync>(
     requires budget { 1 < options.budget }
     ensures recorded { IfOk result.schedule (λ text. IsRecord (code_of (source_of program)) (limits_of options)
         (string_bytes text) (came_to result.end)) }
-    ensures schedule { IfOk result.end (λ it. IsOfSomeSchedule (code_of (source_of program)) (limits_of options)
+    ensures spent { IfOk result.end (λ it. IsSpentReport (code_of (source_of program)) (limits_of options) options.moves
         it.report) }
     ensures lawful { IfOk result.end (λ it. All IsLawful it.report.fibers) }
     ensures full { IfErr result.end (IsFaultWithin (limits_of options)) }

@@ -22,8 +22,8 @@ first_fits r code p g n p_is g_is =
     subst (λ x. Fits x g) (sym (ap pass_registered p_is)) (subst (Fits (pass_registered (first_pass r))) (sym g_is) at)
 
 pub first_task : (r : RegistryView) (code : Tree) (t : TaskView) (p : PassView) (g : Fiber) (n : ℕ) → p ≡ first_pass r → g ≡ begins 0 code →
-    t ≡ record { home = r; pass = p; state = g; moves = n } → IsTaskOf r code t
-first_task r code t p g n p_is g_is t_is = subst (IsTaskOf r code) (sym t_is) record {
+    t ≡ record { home = r; pass = p; state = g; moves = n } → IsTaskOf r code n t
+first_task r code t p g n p_is g_is t_is = subst (IsTaskOf r code n) (sym t_is) record {
   home = refl;
-  stands = Opens p.seen p.number g (ap (λ (x : PassView). x.seen) p_is) (ap (λ (x : PassView). x.number) p_is) g_is;
+  stands = Opens p.seen p.number g n (ap (λ (x : PassView). x.seen) p_is) (ap (λ (x : PassView). x.number) p_is) g_is refl;
 }

@@ -1,5 +1,6 @@
 -- A turn of a task, as histories see it: the fiber stands where it came to, and so does a child.
-use Rattle.std.proofs.Common.{◌≡◌, ℕ, List, [], ◌∷◌, ◌++◌, Result, Ok, Err, IfOk, IfErr, refl, sym, ap, ◌∙◌, subst}
+use Rattle.std.proofs.Common.{◌≡◌, ℕ, suc, ◌+◌, List, [], ◌∷◌, ◌++◌, length, Result, Ok, Err, IfOk, IfErr, refl, sym, ap, ◌∙◌, subst, arith}
+use Rattle.std.proofs.lemmas.List.{length-append}
 use Rattle.effect_term.specs.declared.reply.Reply.{Reply}
 use Rattle.effect_term.specs.declared.reply.Reply.TheVariants as reply
 use Rattle.derived_ops.specs.Tree.{Tree}
@@ -26,38 +27,36 @@ use Rattle.fiber_poll.proofs.MovesAndCalls.{is_done, no_wish}
 
 module _ (code : Tree) where
   reach_one : (g : Fiber) (r : Reply) (rs : List Reply) → Answers g.number (ask_of g) r →
-      Reaches (move g r) (calls_of (move g r) rs) (moves (move g r) rs) → Reaches g (calls_of g (r ∷ rs)) (moves (move g r) rs)
+      Reaches (length rs) (move g r) (calls_of (move g r) rs) (moves (move g r) rs) →
+      Reaches (length (r ∷ rs)) g (calls_of g (r ∷ rs)) (moves (move g r) rs)
   reach_one g r rs h rest = go (wish g) refl
     where
-      go : (w : Wish) → wish g ≡ w → Reaches g (calls_of g (r ∷ rs)) (moves (move g r) rs)
-      go (Shared c) e = subst (λ x. Reaches g (wished g.number x r ++ calls_of (move g r) rs) (moves (move g r) rs)) (sym e) (0, g, refl, e, rest)
+      go : (w : Wish) → wish g ≡ w → Reaches (length (r ∷ rs)) g (calls_of g (r ∷ rs)) (moves (move g r) rs)
+      go (Shared c) e = subst (λ x. Reaches (length (r ∷ rs)) g (wished g.number x r ++ calls_of (move g r) rs) (moves (move g r) rs)) (sym e) (0, length rs, g, refl, e, rest, omega arith)
       go Alone e =
           let done : r ≡ reply.Done = is_done g.number (ask_of g) r e h in
           let one : Later 1 g (move g r) = (e, ap (move g) (sym done)) in
-          subst (λ x. Reaches g (wished g.number x r ++ calls_of (move g r) rs) (moves (move g r) rs)) (sym e)
-          (later-reaches code 1 g (move g r) (moves (move g r) rs) (calls_of (move g r) rs) one rest)
+          let more = later-reaches code 1 (length rs) g (move g r) (moves (move g r) rs) (calls_of (move g r) rs) one rest in
+          subst (λ x. Reaches (length (r ∷ rs)) g (wished g.number x r ++ calls_of (move g r) rs) (moves (move g r) rs)) (sym e)
+          (subst (λ n. Reaches n g (calls_of (move g r) rs) (moves (move g r) rs)) (let n : 1 + length rs ≡ length (r ∷ rs) = omega arith in n) more)
       go Nothing e = absurd (no_wish g.number (ask_of g) r e h)
 
   -- the moves of a turn reach their end by their calls
-  reached : (g : Fiber) (rs : List Reply) → AreAnswers g rs → Reaches g (calls_of g rs) (moves g rs)
-  reached g [] h = (0, refl)
+  reached : (g : Fiber) (rs : List Reply) → AreAnswers g rs → Reaches (length rs) g (calls_of g rs) (moves g rs)
+  reached g [] h = refl
   reached g (r ∷ rs) h = reach_one g r rs h.0 (reached (move g r) rs h.1)
 
-  pub went_led : (a b : TaskView) (rs : List Reply) → Went a rs b → Led a.pass.number a.pass.seen a.state b.pass.seen b.state
+  pub went_led : (a b : TaskView) (rs : List Reply) → Went a rs b → Led a.pass.number a.pass.seen a.state b.pass.seen b.state (length rs)
   went_led a b rs w = record {
     gained = calls_of a.state rs;
     seen_more = w.seen;
     own = w.own;
-    reaches = subst (λ g. Reaches a.state (calls_of a.state rs) g) (sym w.state) (reached a.state rs w.answers);
+    reaches = subst (λ g. Reaches (length rs) a.state (calls_of a.state rs) g) (sym w.state) (reached a.state rs w.answers);
   }
 
-  -- after a turn the fiber stands where it came to
-  pub turn_stands : (a b : TaskView) (rs : List Reply) → Went a rs b → Stands code a.pass.seen a.pass.number a.state →
-      Stands code b.pass.seen a.pass.number b.state
-  turn_stands a b rs w s = stands-went code a.pass.number a.pass.seen b.pass.seen a.state b.state (went_led a b rs w) s
-
   -- and a fiber that it started stands at its beginning
-  pub child_bore : (a new c : TaskView) (rs : List Reply) → Starts a rs new c → Bore a.pass.number a.pass.seen a.state new.pass.seen c.pass.number c.state
+  pub child_bore : (a new c : TaskView) (rs : List Reply) (s : Starts a rs new c) →
+      Bore a.pass.number a.pass.seen a.state new.pass.seen c.pass.number c.state (length s.before)
   child_bore a new c rs s =
       let p = s.parent in
       let k = s.child in
@@ -65,31 +64,49 @@ module _ (code : Tree) where
       record {
         before = k.before;
         parent = p.state;
-        went = went-looked code a.pass.number a.pass.seen p.pass.seen k.before a.state p.state (went_led a p s.before s.went) k.later
+        went = went-looked code a.pass.number a.pass.seen p.pass.seen k.before a.state p.state (length s.before) (went_led a p s.before s.went) k.later
             (subst (λ i. calls_by i k.before ≡ calls_by i p.pass.seen) same k.still);
         wants = k.wants;
         last = k.last ∙ (λ j. k.before ++ entry (same j) call.Start (k.number j) ∷ []);
         is_child = k.state;
       }
 
-  pub child_stands : (a new c : TaskView) (rs : List Reply) → Starts a rs new c → Stands code a.pass.seen a.pass.number a.state →
-      Stands code c.pass.seen c.pass.number c.state
-  child_stands a new c rs s h =
-      let there = stands-bore code a.pass.number a.pass.seen new.pass.seen a.state c.pass.number c.state (child_bore a new c rs s) h in
-      subst (λ l. Stands code l c.pass.number c.state) (sym (ap (λ (x : Rattle.cell_registry.specs.Passes.PassView). x.seen) s.child.pass)) there
+module _ (code : Tree) (most : ℕ) where
+  -- after a turn the fiber stands where it came to
+  pub turn_stands : (a b : TaskView) (rs : List Reply) → Went a rs b → Stands code most a.pass.seen a.pass.number a.state a.moves →
+      Stands code most b.pass.seen a.pass.number b.state b.moves
+  turn_stands a b rs w s =
+      let left = w.left in
+      stands-went code most a.pass.number a.pass.seen b.pass.seen a.state b.state (length rs) b.moves (went_led code a b rs w)
+      (subst (Stands code most a.pass.seen a.pass.number a.state) (let n : a.moves ≡ length rs + b.moves = omega (arith, left) in n) s)
+
+  -- the last move of a turn that starts a fiber is one more than those before it
+  pub child_stands : (a new c : TaskView) (rs : List Reply) → Went a rs new → Starts a rs new c →
+      Stands code most a.pass.seen a.pass.number a.state a.moves → Stands code most c.pass.seen c.pass.number c.state c.moves
+  child_stands a new c rs w s h =
+      let left = w.left in
+      let own = s.child.left in
+      let many : length rs ≡ length s.before + 1 = ap length s.are ∙ length-append s.before (s.last ∷ []) in
+      let there = stands-bore code most a.pass.number a.pass.seen new.pass.seen a.state c.pass.number c.state (length s.before) c.moves
+      (child_bore code a new c rs s)
+      (subst (Stands code most a.pass.seen a.pass.number a.state)
+      (let n : a.moves ≡ length s.before + suc c.moves = omega (arith, left, own, many) in n) h) in
+      subst (λ l. Stands code most l c.pass.number c.state c.moves)
+      (sym (ap (λ (x : Rattle.cell_registry.specs.Passes.PassView). x.seen) s.child.pass)) there
 
   -- ---- the answers of a turn
-  went_of : (r : RegistryView) (a b : TaskView) (rs : List Reply) → Went a rs b → IsTaskOf r code a → IsTaskOf r code b
+  went_of : (r : RegistryView) (a b : TaskView) (rs : List Reply) → Went a rs b → IsTaskOf r code most a → IsTaskOf r code most b
   went_of r a b rs w of = record {
     home = w.home ∙ of.home;
-    stands = subst (λ i. Stands code b.pass.seen i b.state) (sym w.number) (turn_stands a b rs w of.stands);
+    stands = subst (λ i. Stands code most b.pass.seen i b.state b.moves) (sym w.number) (turn_stands a b rs w of.stands);
   }
 
-  child_of : (r : RegistryView) (a new : TaskView) (rs : List Reply) (c : TaskView) → Went a rs new → Starts a rs new c → IsTaskOf r code a → IsTaskOf r code c
-  child_of r a new rs c w s of = record { home = s.child.home ∙ w.home ∙ of.home; stands = child_stands a new c rs s of.stands }
+  child_of : (r : RegistryView) (a new : TaskView) (rs : List Reply) (c : TaskView) → Went a rs new → Starts a rs new c → IsTaskOf r code most a →
+      IsTaskOf r code most c
+  child_of r a new rs c w s of = record { home = s.child.home ∙ w.home ∙ of.home; stands = child_stands a new c rs w s of.stands }
 
-  turned_of : (r : RegistryView) (a new : TaskView) (budget : ℕ) (t : Turn) → Turned a budget t new → IsTaskOf r code a → IsTaskOf r code new ×
-      ChildIsOf r code t
+  turned_of : (r : RegistryView) (a new : TaskView) (budget : ℕ) (t : Turn) → Turned a budget t new → IsTaskOf r code most a → IsTaskOf r code most new ×
+      ChildIsOf r code most t
   turned_of r a new budget (turn.Started c) t of = (went_of r a new t.replies t.went of, child_of r a new t.replies c t.went t.answered of)
   turned_of r a new budget (turn.Ended o) t of = (went_of r a new t.replies t.went of, tt)
   turned_of r a new budget (turn.Waits w) t of = (went_of r a new t.replies t.went of, tt)
@@ -100,13 +117,13 @@ module _ (code : Tree) where
 
   -- a refusal leaves the fiber where it stood
   failed_of : (r : RegistryView) (a new : TaskView) (e : RunError) → Rattle.cell_registry.specs.Rule.Has a.pass.fibers a.pass.number →
-      Failed a e new → IsTaskOf r code a → StaysOf r code (Err e) new
+      Failed a e new → IsTaskOf r code most a → StaysOf r code most (Err e) new
   failed_of r a new (run.Full b n) own f of =
-      let stands : Stands code new.pass.seen a.pass.number a.state =
-      stands-longer code a.pass.number a.pass.seen new.pass.seen a.state f.4.look.seen (f.4.look.own a.pass.number own) of.stands in
+      let stands : Stands code most new.pass.seen a.pass.number a.state a.moves =
+      stands-longer code most a.pass.number a.pass.seen new.pass.seen a.state a.moves f.4.look.seen (f.4.look.own a.pass.number own) of.stands in
       let number : new.pass.number ≡ a.pass.number = ap (λ (p : PassView). p.number) f.3 in
-      subst (IsTaskOf r code) (sym f.2) record { home = of.home; stands = subst (λ i. Stands code new.pass.seen i a.state) (sym number) stands }
-  failed_of r a new (run.Spent i) own f of = subst (IsTaskOf r code) (sym f.3) of
+      subst (IsTaskOf r code most) (sym f.2) record { home = of.home; stands = subst (λ i. Stands code most new.pass.seen i a.state a.moves) (sym number) stands }
+  failed_of r a new (run.Spent i) own f of = subst (IsTaskOf r code most) (sym f.3) of
   failed_of r a new run.NoMemory own f of = tt
   failed_of r a new (run.Lost i) own f of = absurd f
   failed_of r a new run.NoWorker own f of = absurd f
@@ -118,7 +135,7 @@ module _ (code : Tree) where
       (subst (Rattle.cell_registry.specs.Rule.Has a.pass.fibers) (sym w.number) i.pass.own)
 
   pub stays_of : (r : RegistryView) (a new : TaskView) (budget : ℕ) (result : Result Turn RunError) → IsTask a →
-      IfOk result (λ t. Turned a budget t new) → IfErr result (λ e. Stopped a budget e new) → IsTaskOf r code a → StaysOf r code result new
+      IfOk result (λ t. Turned a budget t new) → IfErr result (λ e. Stopped a budget e new) → IsTaskOf r code most a → StaysOf r code most result new
   stays_of r a new budget (Ok t) i turned stopped of = turned_of r a new budget t turned of
   stays_of r a new budget (Err e) i turned stopped of =
       failed_of r stopped.before new e (own_still a stopped.before stopped.replies stopped.went i) stopped.failed

@@ -46,8 +46,9 @@ pub record Went (old : TaskView) (rs : List Reply) (new : TaskView) : Type 0 whe
   pub others : (f : ℕ) → Has old.pass.fibers f → (f ≡ old.pass.number → ⊥) → calls_by f new.pass.seen ≡ calls_by f
       old.pass.seen
 
--- the task is at home at this registry, and its fiber can stand where it is by moves of this code, under what its
--- pass has seen
-pub record IsTaskOf (r : RegistryView) (code : Tree) (t : TaskView) : Type 0 where
+-- The task is at home at this registry, and its fiber can stand where it is, with so many moves left, by moves of this
+-- code, under what its pass has seen, where fiber 0 may make `most` moves, and each other one as many as its parent had
+-- left
+pub record IsTaskOf (r : RegistryView) (code : Tree) (most : ℕ) (t : TaskView) : Type 0 where
   pub home : t.home ≡ r
-  pub stands : Stands code t.pass.seen t.pass.number t.state
+  pub stands : Stands code most t.pass.seen t.pass.number t.state t.moves

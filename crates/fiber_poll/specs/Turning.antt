@@ -57,13 +57,14 @@ pub record Stopped (old : TaskView) (budget : ℕ) (e : RunError) (new : TaskVie
   pub lawful : IsTask before
   pub failed : Failed before e new
 
--- ---- tasks of one registry and one code
-abbrev pub ChildIsOf : RegistryView → Tree → Turn → Type 0
-ChildIsOf r code (turn.Started c) = IsTaskOf r code c
-ChildIsOf r code _ = Unit {0}
+-- ---- tasks of one registry and one code, within one number of moves
+abbrev pub ChildIsOf : RegistryView → Tree → ℕ → Turn → Type 0
+ChildIsOf r code most (turn.Started c) = IsTaskOf r code most c
+ChildIsOf r code most _ = Unit {0}
 
--- the task is still one of this registry and this code, unless memory was refused, and so is the one that it started
-abbrev pub StaysOf : RegistryView → Tree → Result Turn RunError → TaskView → Type 0
-StaysOf r code (Ok answer) new = IsTaskOf r code new × ChildIsOf r code answer
-StaysOf r code (Err run.NoMemory) new = Unit {0}
-StaysOf r code (Err e) new = IsTaskOf r code new
+-- the task is still one of this registry and this code, within these moves, unless memory was refused, and so is the
+-- one that it started
+abbrev pub StaysOf : RegistryView → Tree → ℕ → Result Turn RunError → TaskView → Type 0
+StaysOf r code most (Ok answer) new = IsTaskOf r code most new × ChildIsOf r code most answer
+StaysOf r code most (Err run.NoMemory) new = Unit {0}
+StaysOf r code most (Err e) new = IsTaskOf r code most new

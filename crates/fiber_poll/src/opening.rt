@@ -27,7 +27,7 @@ pub fn first<'a>(
       state = begins 0 code.now;
       moves = moves;
     }) }
-    ensures of { IfOk result (λ task. IsTaskOf registry.now code.now task) }
+    ensures of { IfOk result (λ task. IsTaskOf registry.now code.now moves task) }
 {
     let _words = code.words();
     let config = Config::new(alloc, code)?;

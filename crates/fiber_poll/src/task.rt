@@ -1,5 +1,5 @@
 //! A fiber that anybody can move.
-ghost use Rattle.std.specs.Prelude.{◌≡◌, ◌≢◌, ◌<◌, [], true, IfOk, IfErr, Ok as GoesWell, Err as Fails};
+ghost use Rattle.std.specs.Prelude.{ℕ, ◌≡◌, ◌≢◌, ◌<◌, [], true, IfOk, IfErr, Ok as GoesWell, Err as Fails};
 ghost use Rattle.cell_registry.specs.Passes.{IsOf, RegistryView};
 ghost use Rattle.derived_ops.specs.Tree.{Tree};
 ghost use Rattle.fiber_frames.specs.Fiber.{active_of, ask_of, outcome_of};
@@ -144,8 +144,8 @@ impl<'a> FiberTask<'a> {
         ensures stopped { IfErr result (λ error. Stopped self.old budget error self.new) }
         ensures ended { (o : Outcome) → outcome_of self.old.state ≡ Some o → (result ≡ GoesWell (Turn.Ended o)) ×
             (self.new ≡ self.old) }
-        ensures stays { (home : RegistryView) (code : Tree) → IsTaskOf home code self.old →
-            StaysOf home code result self.new }
+        ensures stays { (home : RegistryView) (code : Tree) (most : ℕ) →
+            IsTaskOf home code most self.old → StaysOf home code most result self.new }
         ensures broken { ask_of self.old.state ≡ Ask.Broken → (result ≡ Fails RunError.NoMemory) ×
             (self.new ≡ self.old) }
     {
@@ -160,8 +160,8 @@ impl<'a> FiberTask<'a> {
         ensures stopped { IfErr result (λ error. Stopped self.old budget error self.new) }
         ensures ended { (o : Outcome) → outcome_of self.old.state ≡ Some o → (result ≡ GoesWell (Turn.Ended o)) ×
             (self.new ≡ self.old) }
-        ensures stays { (home : RegistryView) (code : Tree) → IsTaskOf home code self.old →
-            StaysOf home code result self.new }
+        ensures stays { (home : RegistryView) (code : Tree) (most : ℕ) →
+            IsTaskOf home code most self.old → StaysOf home code most result self.new }
         ensures broken { ask_of self.old.state ≡ Ask.Broken → (result ≡ Fails RunError.NoMemory) ×
             (self.new ≡ self.old) }
     {

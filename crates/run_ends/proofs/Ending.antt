@@ -1,26 +1,26 @@
 -- Fibers that were gathered go on beside the registry that their run leaves.
-use Rattle.std.proofs.Common.{◌≡◌, ℕ, ◌+◌, List, [], ◌∷◌, ◌++◌, length, map, Option, None, Some, ◌⊎◌, inl, inr, refl, sym, ap, ◌∙◌, subst}
+use Rattle.std.proofs.Common.{◌≡◌, ℕ, ◌+◌, List, [], ◌∷◌, ◌++◌, length, map, Option, None, Some, Ok, ◌⊎◌, inl, inr, refl, sym, ap, ◌∙◌, subst}
 use Rattle.std.specs.List.{slice_get}
 use Rattle.std.proofs.lemmas.List.{length-append}
 use Rattle.derived_ops.specs.Tree.{Tree}
 use Rattle.fiber_frames.specs.Fiber.{Fiber}
 use Rattle.cell_registry.specs.declared.limits.Limits.{Limits}
-use Rattle.cell_registry.specs.Cells.{Cells}
 use Rattle.cell_registry.specs.Histories.{left}
 use Rattle.cell_registry.specs.Passes.{PassView, RegistryView}
 use Rattle.cell_registry.specs.Plain.{IsLeftPlain, PlainView}
 use Rattle.scheduled_core.specs.declared.report.Report.{Report}
-use Rattle.scheduled_core.specs.Core.{fiber_report}
-use Rattle.scheduled_core.specs.Finals.{GoesOn, IsFinal, IsFinalReport, IsStopped}
+use Rattle.scheduled_core.specs.Core.{World, fiber_report}
+use Rattle.scheduled_core.specs.Finals.{IsFinal, IsFinalReport, IsStopped}
 use Rattle.scheduled_core.specs.Fitting.{AllFit, Fits, cell_registered, world_of}
+use Rattle.scheduled_core.specs.Spending.{AreSpent, IsSpentReport, SpendsMany}
 use Rattle.scheduled_core.specs.Stands.{IsOfSomeSchedule, Stands}
-use Rattle.scheduled_core.proofs.Continuing.{all_gathered, final_of, fits_longer, leads_on, some_report}
+use Rattle.scheduled_core.proofs.Continuing.{all_gathered, final_of, fits_longer, leads_on, schedule_of, some_report}
 use Rattle.scheduled_core.proofs.Standing.Lists.{get_early, get_last}
 use Rattle.scheduled_core.proofs.Standing.AfterATurn.{stands-longer}
 use Rattle.fiber_poll.specs.Tasks.{IsBroken}
 use Rattle.run_ends.specs.declared.finishing.RunEnd.{RunEnd}
 use Rattle.run_ends.specs.Ends.{IsEnd, TellsUnended}
-use Rattle.run_ends.specs.Leaving.{Gathered}
+use Rattle.run_ends.specs.Leaving.{FinishesLeft, Gathered}
 use Rattle.run_ends.specs.Private.Gathered.{AreInOrder, IsIn}
 use Rattle.run_ends.proofs.Lining.{reported_at}
 use Rattle.run_ends.proofs.Meeting.{last_or}
@@ -62,21 +62,26 @@ pub still_left : (all now rest : List Fiber) (s : Fiber) → ((i : ℕ) (t : Fib
 still_left all now rest s still is i t e = still i t (subst (λ (l : List Fiber). slice_get l i ≡ Some t) (sym is) (get_early rest (s ∷ []) i t e))
 
 -- ---- the end of a run
-module _ (r : RegistryView) (code : Tree) (met : PassView) (configs fibers : List Fiber) (born : ℕ) (plain : PlainView)
-    (g : Gathered r code met configs) (l : IsLeftPlain r.limits met.fibers met.seen plain) (o : AreInOrder configs born fibers)
+module _ (r : RegistryView) (code : Tree) (most : ℕ) (met : PassView) (configs fibers : List Fiber) (rests : List ℕ) (born : ℕ) (plain : PlainView)
+    (g : Gathered r code most met configs rests) (l : IsLeftPlain r.limits met.fibers met.seen plain) (o : AreInOrder configs born fibers)
     (all : born ≡ plain.state.next_fiber) where
   -- the whole history leaves each fiber where it stands
-  each : (f : ℕ) (s : Fiber) → slice_get fibers f ≡ Some s → Stands code l.history f s × Fits (cell_registered (left r.limits l.history) f) s
+  each : (f : ℕ) (s : Fiber) → slice_get fibers f ≡ Some s → (rest : ℕ) × (slice_get rests f ≡ Some rest) × Stands code most l.history f s rest ×
+      Fits (cell_registered (left r.limits l.history) f) s
   each f s e =
       let i = o.each f s e in
-      let m = g.at i.0.place s i.0.here in
+      let here = g.at i.0.place s i.0.here in
+      let m = here.2 in
       let fits : Fits (cell_registered (left met.registry.limits met.seen) s.number) s = elim m.fits [ inl b ↦ absurd (i.1 b) | inr h ↦ h ] in
       let limits : met.registry.limits ≡ r.limits = ap (λ (x : RegistryView). x.limits) g.home in
-      subst (λ n. Stands code l.history n s × Fits (cell_registered (left r.limits l.history) n) s) i.0.number (
-        stands-longer code s.number met.seen l.history s l.begins (l.own s.number m.own) m.stands,
+      let all = subst (λ n. (slice_get rests n ≡ Some here.0) × Stands code most l.history n s here.0 × Fits (cell_registered (left r.limits l.history) n) s)
+      i.0.number (
+        here.1,
+        stands-longer code most s.number met.seen l.history s here.0 l.begins (l.own s.number m.own) m.stands,
         fits_longer r.limits met.seen l.history s.number s l.begins (l.own s.number m.own)
             (subst (λ (k : Limits). Fits (cell_registered (left k met.seen) s.number) s) limits fits),
-      )
+      ) in
+      (here.0, all.0, all.1, all.2)
 
   many : length fibers ≡ (left r.limits l.history).next_fiber
   many = o.many ∙ all ∙ ap (λ (v : PlainView). v.state.next_fiber) l.plain
@@ -84,22 +89,52 @@ module _ (r : RegistryView) (code : Tree) (met : PassView) (configs fibers : Lis
   -- so entries can follow
   pub gathered_fits : AllFit (world_of fibers plain.state)
   gathered_fits = subst (λ (v : PlainView). AllFit (world_of fibers v.state)) (sym l.plain)
-      (all_gathered r.limits l.history fibers l.legal many (λ f s e. (each f s e).1))
+      (all_gathered r.limits l.history fibers l.legal many (λ f s e. (each f s e).3))
 
-  -- and where they lead is the end of a run
-  pub end_of : (states : List Fiber) (cells : Cells) (rests : List ℕ) (it : RunEnd) → GoesOn plain.limits (world_of fibers plain.state) (world_of states cells)
-      → it.report ≡ record { fibers = map fiber_report states } → (it.stopped ≡ None → IsFinal (world_of states cells)) →
-      ((f : ℕ) → it.stopped ≡ Some f → IsStopped states rests f) → IsEnd code r.limits it
-  end_of states cells rests it goes is final stopped =
-      let from = subst (λ (v : PlainView). GoesOn v.limits (world_of fibers v.state) (world_of states cells)) l.plain goes in
-      let leads = leads_on code r.limits l.history fibers (world_of states cells) l.legal many (λ f s e. (each f s e).0) from in record {
-        schedule = subst (λ (x : Report). IsOfSomeSchedule code r.limits x) (sym is) (some_report code r.limits (world_of states cells) leads);
-        complete = λ e. subst (λ (x : Report). IsFinalReport code r.limits x) (sym is) (final_of code r.limits (world_of states cells) leads (final e));
-        stopped = λ f e.
-            let s = stopped f e in
-            subst (λ (x : Report). TellsUnended x f) (sym is) record {
-              line = fiber_report s.fiber;
-              here = reported_at states f s.fiber s.here;
-              unended = s.unended;
-            };
-      }
+  module _ (after : World) (lasts : List ℕ) (it : RunEnd) (even : length rests ≡ length fibers)
+      (goes : SpendsMany plain.limits (world_of fibers plain.state) rests it.finished after lasts)
+      (is : it.report ≡ record { fibers = map fiber_report after.fibers }) where
+    from : SpendsMany r.limits (world_of fibers (left r.limits l.history)) rests it.finished after lasts
+    from = subst (λ (v : PlainView). SpendsMany v.limits (world_of fibers v.state) rests it.finished after lasts) l.plain goes
+
+    -- and where they lead is the end of a run
+    pub end_of : AreSpent after lasts → (it.stopped ≡ None → IsFinal after) →
+        ((f : ℕ) → it.stopped ≡ Some f → IsStopped after.fibers lasts f) → IsEnd code r.limits most it
+    end_of spent final stopped =
+        let spends = leads_on code most r.limits l.history fibers rests after lasts l.legal many even
+        (λ f s e. let i = each f s e in (i.0, i.1, i.2)) (from.entries, from.spends) in
+        let leads = schedule_of code most r.limits after lasts spends in record {
+          schedule = subst (λ (x : Report). IsOfSomeSchedule code r.limits x) (sym is) (some_report code r.limits after leads);
+          spent = subst (λ (x : Report). IsSpentReport code r.limits most x) (sym is) record {
+            world = after;
+            lefts = lasts;
+            spends = spends;
+            spent_all = spent;
+            reports = refl;
+          };
+          complete = λ e. subst (λ (x : Report). IsFinalReport code r.limits x) (sym is) (final_of code r.limits after leads (final e));
+          stopped = λ f e.
+              let s = stopped f e in
+              subst (λ (x : Report). TellsUnended x f) (sym is) record {
+                line = fiber_report s.fiber;
+                here = reported_at after.fibers f s.fiber s.here;
+                unended = s.unended;
+              };
+        }
+
+    -- by the moves that are told
+    pub finishes : FinishesLeft r.limits met configs rests it
+    finishes = record {
+      before = world_of fibers (left r.limits l.history);
+      is_left = record {
+        states = λ f s e. let i = o.each f s e in (i.0.number, (i.0.place, i.0.here));
+        history = l.history;
+        legal = l.legal;
+        begins = l.begins;
+        cells_are = refl;
+      };
+      after = after;
+      lasts = lasts;
+      spends = from;
+      reports = ap Ok (sym is);
+    }

@@ -7,6 +7,7 @@ use Rattle.cell_registry.specs.declared.limits.RunError.{RunError}
 use Rattle.scheduled_core.specs.declared.report.FiberReport.{FiberReport}
 use Rattle.scheduled_core.specs.declared.report.Report.{Report}
 use Rattle.scheduled_core.specs.Finals.{IsFinalReport}
+use Rattle.scheduled_core.specs.Spending.{IsSpentReport}
 use Rattle.scheduled_core.specs.Stands.{IsOfSomeSchedule}
 use Rattle.run_ends.specs.declared.finishing.RunEnd.{RunEnd}
 
@@ -20,10 +21,12 @@ pub record TellsUnended (report : Report) (f : ℕ) : Type 0 where
 abbrev pub HasUnended : Report → Type 0
 HasUnended report = (f : ℕ) × TellsUnended report f
 
--- The end of a run tells a report of some schedule, and of a fiber that stopped, if there is one: it is unended.
--- Where there is none, the report is a final one
-pub record IsEnd (code : Tree) (k : Limits) (it : RunEnd) : Type 0 where
+-- The end of a run in which fiber 0 may make `most` moves: its report is that of a schedule of moves within these, in
+-- which each unended fiber rests or has used its own. A fiber that is told to have stopped is unended. Where none is,
+-- the report is a final one
+pub record IsEnd (code : Tree) (k : Limits) (most : ℕ) (it : RunEnd) : Type 0 where
   pub schedule : IsOfSomeSchedule code k it.report
+  pub spent : IsSpentReport code k most it.report
   pub complete : it.stopped ≡ None → IsFinalReport code k it.report
   pub stopped : (f : ℕ) → it.stopped ≡ Some f → TellsUnended it.report f
 

@@ -1,11 +1,11 @@
 //! The end of a run, once its workers have ended.
-ghost use Rattle.std.specs.Prelude.{◌≡◌, All, IfOk, true};
+ghost use Rattle.std.specs.Prelude.{◌≡◌, ◌++◌, ◌∷◌, [], ℕ, All, IfOk, OnOk, true};
 ghost use Rattle.derived_ops.specs.Tree.{Tree};
 ghost use Rattle.fiber_poll.specs.Tasks.{IsBroken, IsTaskOf};
 ghost use Rattle.run_ends.specs.Gathering.{IsLawful};
 ghost use Rattle.run_ends.specs.Ends.{IsEnd};
-ghost use Rattle.run_ends.specs.Leaving.{Gathered};
-ghost use Rattle.run_ends.specs.Private.Gathered.{AreInOrder};
+ghost use Rattle.run_ends.specs.Leaving.{FinishesLeft, Gathered};
+ghost use Rattle.run_ends.specs.Private.Gathered.{AreInOrder, AreRests};
 
 use crate::gathering::{meet, push};
 use cell_registry::{Pass, PlainRegistry, Registry, RunError};
@@ -40,16 +40,18 @@ pub struct Leavings {
 }
 
 impl Leavings {
-    /// What is left of a run whose tasks are these, in the order of their numbers. Answers `Lost(0)` where there is
-    /// no task, and `NoMemory` where memory is refused.
+    /// What is left of a run whose tasks are these, in the order of their numbers. Answers `Lost` with the number of
+    /// the first task that is missing among these, `Lost(0)` where there is none, and `NoMemory` where memory is
+    /// refused.
     pub fn of<'a>(
         alloc: Global,
         registry: &Registry,
         code: &Code,
         tasks: Vec<FiberTask<'a>>,
     ) -> Result<Leavings, RunError>
-        requires { All (IsTaskOf registry.now code.now) tasks.items }
-        ensures { IfOk result (λ it. Gathered registry.now code.now it.met it.configs.items) }
+        requires { (most : ℕ) × All (IsTaskOf registry.now code.now most) tasks.items }
+        ensures { IfOk result (λ it. (most : ℕ) → All (IsTaskOf registry.now code.now most) tasks.entry.items →
+            Gathered registry.now code.now most it.met it.configs.items it.rests.items) }
     {
         let rests = rests(alloc, tasks.as_slice())?;
         let (met, configs) = meet(alloc, registry, tasks)?;
@@ -61,7 +63,7 @@ impl Leavings {
     }
 
     /// The end of the run, whose registry is this one: the fibers go on by one thread until none can, and
-    /// their report is read off them. `NoMemory` where memory is or was refused, `Full` and `Spent` as a
+    /// their report is read off them, and `finished` is the number of their moves. `NoMemory` where memory is or was refused, `Full` and `Spent` as a
     /// turn answers them, and `Lost` with the least number of a born fiber that has no task. This log is told of the
     /// moves.
     pub fn finish<L: EntryLog>(
@@ -70,9 +72,12 @@ impl Leavings {
         registry: Registry,
         log: &mut L,
     ) -> Result<RunEnd, RunError>
-        requires met { (code : Tree) × Gathered registry code self.met self.configs.items }
-        ensures ends { IfOk result (λ it. (code : Tree) → Gathered registry code self.met self.configs.items →
-            IsEnd code registry.limits it) }
+        requires met { (code : Tree) × (most : ℕ) ×
+            Gathered registry code most self.met self.configs.items self.rests.items }
+        ensures ends { IfOk result (λ it. (code : Tree) (most : ℕ) →
+            Gathered registry code most self.met self.configs.items self.rests.items →
+            IsEnd code registry.limits most it) }
+        ensures finished { IfOk result (FinishesLeft registry.limits self.met self.configs.items self.rests.items) }
         ensures lawful { IfOk result (λ it. All IsLawful it.report.fibers) }
     {
         let Leavings {
@@ -82,6 +87,9 @@ impl Leavings {
         } = self;
         let mut registry = registry.into_plain(alloc, met)?;
         let mut fibers = in_order(alloc, configs, registry.born())?;
+        if rests.len() != fibers.len() {
+            return Err(RunError::Lost(registry.born()));
+        }
         let mut rests = rests;
         let settled = settle_noted(&mut fibers, &mut registry, &mut rests, log)?;
         let report = report_of_fibers(alloc, fibers)?;
@@ -93,13 +101,34 @@ impl Leavings {
     }
 }
 
-// How many moves these tasks may still make.
-fn rests<'a>(alloc: Global, tasks: &[FiberTask<'a>]) -> Result<Vec<u32>, AllocError> {
+// How many moves these tasks may still make, where each one stands at its number.
+fn rests<'a>(alloc: Global, tasks: &[FiberTask<'a>]) -> Result<Vec<u32>, RunError>
+    ensures { IfOk result (λ it. AreRests tasks.now it.items) }
+{
     let mut rests = Vec::with_capacity(alloc, tasks.len())?;
     for task in tasks {
-        rests.push(task.moves())?;
+        if usize::from(task.number()) != rests.len() {
+            return Err(missing(rests.len()));
+        }
+        add(&mut rests, task.moves())?;
     }
     Ok(rests)
+}
+
+// The moves that one task more may still make.
+fn add(rests: &mut Vec<u32>, moves: u32) -> Result<(), AllocError>
+    ensures { OnOk result (rests.new.items ≡ rests.old.items ++ moves ∷ []) }
+{
+    rests.push(moves)?;
+    Ok(())
+}
+
+// The fault where no task stands at this place.
+fn missing(place: usize) -> RunError {
+    match u16::try_from(place) {
+        Ok(number) => RunError::Lost(number),
+        Err(_) => RunError::Lost(u16::MAX),
+    }
 }
 
 // The states of the fibers below a number, in order, where each one comes before those of lower numbers

@@ -6,8 +6,7 @@ ghost use Rattle.fiber_poll.specs.Tasks.{IsTaskOf};
 ghost use Rattle.scheduled_core.specs.Core.{fiber_report};
 ghost use Rattle.scheduled_core.specs.Stands.{IsOfSomeSchedule};
 ghost use Rattle.run_ends.specs.Gathering.{IsLawful, IsMissing, TellsEach, TellsNoOther};
-ghost use Rattle.run_ends.specs.Leaving.{Gathered};
-ghost use Rattle.run_ends.specs.Private.Gathered.{AreLines, IsAtHome, IsIn, IsLeast, IsNowhere, Taken};
+ghost use Rattle.run_ends.specs.Private.Gathered.{AreLines, AreMet, IsAtHome, IsIn, IsLeast, IsNowhere, Taken};
 
 use cell_registry::{Pass, Registry, RunError};
 use derived_ops::Code;
@@ -18,7 +17,8 @@ use scheduled_core::{FiberReport, FiberReports, Marks, Report};
 use std::alloc::{AllocError, Global};
 
 /// The report of tasks of one registry and one code: all of them are at home at this registry, and
-/// each one's state is one that moves of this code led to.
+/// each one's state is one that moves of this code led to, where each fiber began with as many moves as its parent had
+/// left.
 ///
 /// It doesn't matter who moved them, in whatever order: the report is that of the core under some
 /// schedule. It has a line for each task, at the number of its fiber, and no other. The answer is
@@ -31,7 +31,7 @@ pub fn gather<'a>(
     code: &Code,
     tasks: Vec<FiberTask<'a>>,
 ) -> Result<Report, RunError>
-    requires { All (IsTaskOf registry.now code.now) tasks.items }
+    requires { (most : ℕ) × All (IsTaskOf registry.now code.now most) tasks.items }
     ensures schedule { IfOk result (λ report. IsOfSomeSchedule code.now registry.now.limits report) }
     ensures lawful { IfOk result (λ report. All IsLawful report.fibers) }
     ensures each { IfOk result (TellsEach tasks.entry.items) }
@@ -56,8 +56,9 @@ pub(crate) fn meet<'a>(
     tasks: Vec<FiberTask<'a>>,
 ) -> Result<(Pass, Vec<Config>), RunError>
     requires { All (IsAtHome registry.now) tasks.items }
-    ensures gathered { IfOk result (λ it. (code : Tree) → All (IsTaskOf registry.now code) tasks.entry.items →
-        Gathered registry.now code it.0 it.1.items) }
+    ensures gathered { IfOk result (λ it. (code : Tree) (most : ℕ) →
+        All (IsTaskOf registry.now code most) tasks.entry.items →
+        AreMet registry.now code most tasks.entry.items it.0 it.1.items) }
     ensures home { IfOk result (λ it. IsOf registry.now it.0) }
     ensures taken { IfOk result (λ it. Taken tasks.entry.items [] it.0 it.1.items) }
     ensures lost { IfErr result (λ error. (error ≡ RunError.NoMemory) ⊎

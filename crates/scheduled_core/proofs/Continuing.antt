@@ -1,8 +1,8 @@
 -- Fibers that stand under one history go on in the core, beside the registry that the history leaves.
-use Rattle.std.proofs.Common.{◌≡◌, ℕ, Bool, List, [], ◌∷◌, ◌++◌, length, map, Some, Result, Ok, refl, sym, ap, ◌∙◌}
+use Rattle.std.proofs.Common.{◌≡◌, ℕ, Bool, List, [], ◌∷◌, ◌++◌, length, map, Some, Ok, refl, sym, ap, ◌∙◌}
 use Rattle.std.proofs.Common.{subst, arith, eqb, eq-eqb, ne_eqb, append-nil}
 use Rattle.std.specs.Prelude.{cond}
-use Rattle.std.specs.List.{fold, slice_get}
+use Rattle.std.specs.List.{slice_get}
 use Rattle.std.proofs.lemmas.List.{append_cancel_left}
 use Rattle.std.proofs.lemmas.List.Elements.{filter-append}
 use mathlib.Core.List.{IsPrefix}
@@ -12,19 +12,20 @@ use Rattle.derived_ops.specs.Tree.{Tree}
 use Rattle.derived_ops.specs.Naming.{IsMore}
 use Rattle.fiber_frames.specs.Fiber.{Fiber}
 use Rattle.cell_registry.specs.declared.limits.Limits.{Limits}
-use Rattle.cell_registry.specs.declared.limits.RunError.{RunError}
 use Rattle.cell_registry.specs.declared.call.Entry.{Entry}
 use Rattle.cell_registry.specs.Cells.{Cells, after, cell_of, owned}
 use Rattle.cell_registry.specs.Histories.{IsLegal, calls_by, left, left_from}
 use Rattle.cell_registry.specs.Passes.{IsPass, PassView}
 use Rattle.cell_registry.proofs.Legal.{left_from-append, unborn_cell}
 use Rattle.scheduled_core.specs.declared.report.Report.{Report}
-use Rattle.scheduled_core.specs.Core.{World, core, entered, fiber_report, first_world, reported}
-use Rattle.scheduled_core.specs.Finals.{GoesOn, IsFinal, IsFinalReport, IsSettledReport}
+use Rattle.scheduled_core.specs.Core.{World, core, fiber_report, first_world, reported}
+use Rattle.scheduled_core.specs.Finals.{IsFinal, IsFinalReport, IsSettledReport}
 use Rattle.scheduled_core.specs.Fitting.{AllFit, Fits, cell_registered, given_by, pass_registered, world_of}
+use Rattle.scheduled_core.specs.Spending.{SpendsSome}
 use Rattle.scheduled_core.specs.Stands.{IsOfSomeSchedule, Stands}
-use Rattle.scheduled_core.proofs.Finality.{final_settled, fold_parts}
+use Rattle.scheduled_core.proofs.Finality.{final_settled}
 use Rattle.scheduled_core.proofs.PlainFits.{fits_as, fits_more, plain_other}
+use Rattle.scheduled_core.proofs.Spending.{spends_core, spends_join}
 use Rattle.scheduled_core.proofs.Standing.Schedules.{some_schedules}
 
 -- what fits a pass fits the fiber's cell in the registry that the pass has seen
@@ -65,17 +66,21 @@ pub all_gathered : (k : Limits) (h : List Entry) (states : List Fiber) → IsLeg
     → AllFit record { fibers = states; cells = left k h }
 all_gathered k h states legal many each = record { many = many; each = each; unborn = λ f past. unborn_cell k h f legal past }
 
--- a world to which entries lead from there is one that a schedule leads to
-pub leads_on : (code : Tree) (k : Limits) (h : List Entry) (states : List Fiber) (w : World) → IsLegal k h → length states ≡ (left k h).next_fiber
-    → ((f : ℕ) (g : Fiber) → slice_get states f ≡ Some g → Stands code h f g)
-    → GoesOn k (world_of states (left k h)) w
-    → (schedule : List ℕ) × (core code k schedule ≡ Ok w)
+-- moves that lead from there on are those of a schedule
+pub leads_on : (code : Tree) (most : ℕ) (k : Limits) (h : List Entry) (states : List Fiber) (lefts : List ℕ) (w : World) (last : List ℕ) → IsLegal k h →
+    length states ≡ (left k h).next_fiber → length lefts ≡ length states
+    → ((f : ℕ) (g : Fiber) → slice_get states f ≡ Some g → (n : ℕ) × (slice_get lefts f ≡ Some n) × Stands code most h f g n)
+    → SpendsSome k (world_of states (left k h)) lefts w last
+    → SpendsSome k (first_world code k) (most ∷ []) w last
+leads_on code most k h states lefts w last legal many even each goes =
+    let some = some_schedules code most k h states lefts legal many even each in
+    (some.0 ++ goes.0, spends_join k (first_world code k) (world_of states (left k h)) w (most ∷ []) lefts last some.0 goes.0 some.1 goes.1)
+
+-- they are a schedule of the core
+pub schedule_of : (code : Tree) (most : ℕ) (k : Limits) (w : World) (last : List ℕ) → SpendsSome k (first_world code k) (most ∷ []) w last →
+    (schedule : List ℕ) × (core code k schedule ≡ Ok w)
 unfolding core
-leads_on code k h states w legal many each goes =
-    let some = some_schedules code k h states legal many each in (
-      some.0 ++ goes.entries,
-      fold_parts k (Ok (first_world code k)) some.0 goes.entries ∙ ap (λ (x : Result World RunError). fold (entered k) x goes.entries) some.1 ∙ goes.leads,
-    )
+schedule_of code most k w last goes = (goes.0, spends_core k (first_world code k) w (most ∷ []) last goes.0 goes.1)
 
 -- what such a world's fibers have come to is the report of a schedule
 pub some_report : (code : Tree) (k : Limits) (w : World) → (schedule : List ℕ) × (core code k schedule ≡ Ok w) →

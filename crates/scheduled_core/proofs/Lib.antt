@@ -9,6 +9,7 @@ pub mod Moves
 pub mod Reported
 pub mod SameReports
 pub mod CoreSamples
+pub mod Spending
 pub mod Standing
 pub mod Resting
 pub mod Finality

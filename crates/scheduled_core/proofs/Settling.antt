@@ -1,13 +1,14 @@
 -- What the code asks of a fiber tells whether it rests.
-use Rattle.std.proofs.Common.{◌≡◌, ◌≢◌, ◌⊎◌, inl, inr, ℕ, zero, suc, ◌+◌, ◌<◌, length, Bool, true, false, List, [], ◌∷◌, Err}
+use Rattle.std.proofs.Common.{◌≡◌, ◌≢◌, ◌⊎◌, inl, inr, ℕ, zero, suc, ◌+◌, ◌-◌, ◌^◌, ◌<◌, length, length-set, min, set, get_or, replicate, ◌≤◌, Bool, true, false, List, [], ◌∷◌, Err}
 use Rattle.std.proofs.Common.{◌++◌, Result, Ok, Option, Some, None, if◌then◌else◌, refl, sym, ap, ◌∙◌, subst, arith}
-use Rattle.std.specs.Prelude.{IfNone, is_none, not}
+use Rattle.std.specs.Prelude.{IfNone, IfSome, is_none, not}
 use Rattle.std.specs.Option.{is_some}
-use Rattle.std.specs.List.{fold, slice_get}
+use Rattle.std.specs.List.{slice_get}
 use Rattle.cell_registry.specs.declared.limits.Limits.{Limits}
 use Rattle.cell_registry.specs.declared.limits.RunError.{RunError}
 use Rattle.cell_registry.specs.declared.limits.RunError.TheVariants.{NoMemory}
-use Rattle.std.proofs.lemmas.Option.{same_Some}
+use Rattle.std.proofs.lemmas.List.{length-append}
+use Rattle.std.proofs.lemmas.Option.{same_Some, slice_get-get_or}
 use mathlib.Core.Logic.{dite}
 use native.Mathlib.Decide.{ℕ_discrete}
 use Rattle.effect_term.specs.declared.reply.Outcome.{Outcome}
@@ -24,16 +25,24 @@ use Rattle.fiber_frames.specs.Path.{Running, Runs, Final, Over, Broken, PathStep
 use Rattle.fiber_frames.specs.Path.{In_masked, In_polled, Root, At_term, At_final, active, leaf, path, focus}
 use Rattle.fiber_frames.specs.Path.{is_effective}
 use Rattle.fiber_frames.specs.Rows.{Waited, wait, outcome_in, read_in, action_row, word_row, value_row, error_row, row, row_at}
-use Rattle.fiber_frames.specs.Fiber.{Fiber, active_of, ask_in, ask_of, case_under, outcome_of, row_of}
+use Rattle.fiber_frames.specs.Fiber.{Fiber, active_of, ask_in, ask_of, case_under, move, outcome_of, row_of, silent_move}
 use Rattle.fiber_frames.specs.Naming.{AskNamed, NamedRun}
 use Rattle.fiber_frames.proofs.NamedMoves.{ask_named}
 use Rattle.cell_registry.specs.declared.cell.Stage.{Stage}
 use Rattle.cell_registry.specs.declared.cell.Stage.TheVariants as at
-use Rattle.cell_registry.specs.Cells.{Cells, cell_of, deferred_of, join_reply, reply_of}
+use Rattle.cell_registry.specs.declared.call.Call.{Call}
+use Rattle.cell_registry.specs.declared.call.Call.TheVariants as call
+use Rattle.cell_registry.specs.declared.limits.CellError.{CellError}
+use Rattle.cell_registry.specs.Cells.{Cells, cell_of, deferred_of, join_reply, refusal, reply_of}
 use Rattle.cell_registry.specs.Words.{has_ended}
-use Rattle.scheduled_core.specs.Core.{World, entered, wish_of}
-use Rattle.scheduled_core.specs.Finals.{GoesOn, HasEnded, IsAtRest, IsUnasked, StopsAt, reply_to, word_wish}
+use Rattle.scheduled_core.specs.declared.wish.Wish.{Wish}
+use Rattle.scheduled_core.specs.declared.wish.Wish.TheVariants.{Shared, Alone, Nothing}
+use Rattle.scheduled_core.specs.Core.{World, answered, born, called, entered, turned, wish_of, wished}
+use Rattle.scheduled_core.specs.Finals.{HasEnded, IsAtRest, IsFinal, IsUnasked, StopsAt, reply_to, word_wish}
 use Rattle.scheduled_core.specs.Fitting.{Fits, LookFits, cell_registered}
+use Rattle.scheduled_core.specs.Spending.{AreSpent, Spends, SpendsMany, spent}
+use Rattle.scheduled_core.specs.Private.Settling.{HaveNoMore, IsSpentBy, IsUnended}
+use Rattle.scheduled_core.proofs.Spending.{no_birth, spends_core, spends_join}
 use Rattle.scheduled_core.proofs.Finality.{fold_parts, knowing}
 
 -- ---- a call that waits, under a reply that serves nothing
@@ -181,33 +190,118 @@ pub none_of : {A : Type 0} (o : Option A) {P : Type 0} → (o ≡ None → P) �
 none_of None h = h refl
 none_of (Some x) h = tt
 
+pub some_of : {A : Type 0} (o : Option A) {P : A → Type 0} → ((x : A) → o ≡ Some x → P x) → IfSome o P
+some_of None h = tt
+some_of (Some x) h = h x refl
+
 -- ---- going on
-pub none_on : (k : Limits) (w : World) → GoesOn k w w
-none_on k w = record { entries = []; leads = refl }
+born_few : (g : Fiber) (c : Call) (r : Reply) → (length (born g c r) ≡ 0) ⊎ (length (born g c r) ≡ 1)
+born_few g call.Start r = inr refl
+born_few g _ r = inl refl
 
-pub one_on : (k l : Limits) (w v x : World) (f : ℕ) → GoesOn k w v → l ≡ k → entered l (Ok v) f ≡ Ok x → GoesOn k w x
-one_on k l w v x f g same e = record {
+abbrev Grown : World → World → Type 0
+Grown w u = (length u.fibers ≡ length w.fibers) ⊎ (length u.fibers ≡ suc (length w.fibers))
+
+-- an entry starts one fiber at most
+more_fibers : (k : Limits) (w v : World) (f : ℕ) → entered k (Ok w) f ≡ Ok v → Grown w v
+more_fibers k w v f e = by_fiber (slice_get w.fibers f) e
+  where
+    by_refusal : (g : Fiber) (c : Call) (o : Option CellError) → answered w f g c o ≡ Ok v → Grown w v
+    by_refusal g c None e =
+        let r = reply_of w.cells f c in
+        let same : called w f g c r ≡ v = cc in
+        let sum = length-append (set w.fibers f (move g r)) (born g c r) in
+        let long = length-set w.fibers f (move g r) in
+        subst (Grown w) same (elim (born_few g c r) [ inl n ↦ inl (omega (arith, sum, long, n)) | inr n ↦ inr (omega (arith, sum, long, n)) ])
+    by_refusal g c (Some x) e = absurd (cc)
+
+    by_wish : (g : Fiber) (x : Wish) → wished k w f g x ≡ Ok v → Grown w v
+    by_wish g (Shared c) e = by_refusal g c (refusal k w.cells f c) e
+    by_wish g Alone e =
+        let same : record w { fibers = set w.fibers f (silent_move g) } ≡ v = cc in
+        subst (Grown w) same (inl (length-set w.fibers f (silent_move g)))
+    by_wish g Nothing e = let same : w ≡ v = cc in subst (Grown w) same (inl refl)
+
+    by_fiber : (o : Option Fiber) → turned k w f o ≡ Ok v → Grown w v
+    by_fiber None e = let same : w ≡ v = cc in subst (Grown w) same (inl refl)
+    by_fiber (Some g) e = by_wish g (wish_of (ask_of g)) e
+
+-- a fiber that has moves left
+pub has_rest : (rests : List ℕ) (f : ℕ) → 0 < get_or rests f 0 → slice_get rests f ≡ Some (suc (get_or rests f 0 - 1))
+has_rest [] f less = absurd (omega arith)
+has_rest (x ∷ xs) zero less = ap Some (let e : x ≡ suc (x - 1) = omega arith in e)
+has_rest (x ∷ xs) (suc f) less = has_rest xs f less
+
+-- an entry, and what is left behind it
+spent_by : (k : Limits) (w v : World) (lefts last : List ℕ) (f left : ℕ) → IsUnended w.fibers f → slice_get lefts f ≡ Some (suc left) →
+    entered k (Ok w) f ≡ Ok v → last ≡ spent lefts f left (length v.fibers - length w.fibers) → IsSpentBy k w lefts f v last
+spent_by k w v lefts last f left u at e is = (u.fiber, left, v, u.here, u.unended, at, e, (refl, sym is))
+
+-- an entry that starts nobody
+pub go_alone : (k : Limits) (w v : World) (rests last : List ℕ) (f rest : ℕ) → IsUnended w.fibers f → slice_get rests f ≡ Some (suc rest) →
+    entered k (Ok w) f ≡ Ok v → length rests ≡ length w.fibers → length v.fibers ≤ length rests → last ≡ set rests f rest →
+    (length last ≡ length v.fibers) × IsSpentBy k w rests f v last
+go_alone k w v rests last f rest u at e each few is = elim (more_fibers k w v f e) [
+  | inl n ↦
+      let long = ap length is ∙ length-set rests f rest in
+      (omega (arith, long, each, n), spent_by k w v rests last f rest u at e (is ∙ sym (no_birth rests f rest (length v.fibers) (length w.fibers) n)))
+  | inr n ↦ absurd (omega (arith, n, each, few))
+]
+
+-- and one that starts a fiber
+pub go_born : (k : Limits) (w v : World) (rests last : List ℕ) (f rest : ℕ) → IsUnended w.fibers f → slice_get rests f ≡ Some (suc rest) →
+    entered k (Ok w) f ≡ Ok v → length rests ≡ length w.fibers → length rests < length v.fibers → last ≡ set rests f rest ++ rest ∷ [] →
+    (length last ≡ length v.fibers) × IsSpentBy k w rests f v last
+go_born k w v rests last f rest u at e each many is = elim (more_fibers k w v f e) [
+  | inl n ↦ absurd (omega (arith, n, each, many))
+  | inr n ↦
+      let long = ap length is ∙ length-append (set rests f rest) (rest ∷ []) in
+      let same = length-set rests f rest in
+      let one : length v.fibers - length w.fibers ≡ 1 = omega (arith, n) in (
+        omega (arith, long, same, each, n),
+        spent_by k w v rests last f rest u at e
+            (is ∙ ap (λ m. set rests f rest ++ replicate m rest) (sym one)),
+      )
+]
+
+pub none_on : (k : Limits) (w : World) (lefts : List ℕ) → SpendsMany k w lefts 0 w lefts
+none_on k w lefts = record { entries = []; spends = (refl, refl); count = omega arith }
+
+pub more_on : (k l : Limits) (w v x : World) (lefts now last : List ℕ) (many more f : ℕ) → SpendsMany k w lefts many v now → l ≡ k →
+    IsSpentBy l v now f x last → more ≡ min (many + 1) (2 ^ 64 - 1) → SpendsMany k w lefts more x last
+more_on k l w v x lefts now last many more f g same h count =
+    let long = length-append g.entries (f ∷ []) in
+    let old = g.count in
+    record {
+      entries = g.entries ++ f ∷ [];
+      spends = spends_join k w v x lefts now last g.entries (f ∷ []) g.spends (subst (λ (m : Limits). Spends m v now (f ∷ []) x last) same h);
+      count = omega (arith, long, old, count);
+    }
+
+pub stops_on : (k l : Limits) (w v : World) (lefts now : List ℕ) (many f : ℕ) (e : RunError) → SpendsMany k w lefts many v now → l ≡ k →
+    entered l (Ok v) f ≡ Err e → StopsAt k w e
+stops_on k l w v lefts now many f e g same h = record {
   entries = g.entries ++ f ∷ [];
-  leads = fold_parts k (Ok w) g.entries (f ∷ []) ∙ ap (λ (y : Result World RunError). entered k y f) g.leads ∙
-      subst (λ (m : Limits). entered m (Ok v) f ≡ Ok x) same e;
-}
-
-pub more_on : (k l : Limits) (w v x : World) → GoesOn k w v → l ≡ k → GoesOn l v x → GoesOn k w x
-more_on k l w v x g same h = record {
-  entries = g.entries ++ h.entries;
-  leads = fold_parts k (Ok w) g.entries h.entries ∙ ap (λ (y : Result World RunError). fold (entered k) y h.entries) g.leads ∙
-      subst (λ (m : Limits). fold (entered m) (Ok v) h.entries ≡ Ok x) same h.leads;
-}
-
-pub stops_on : (k l : Limits) (w v : World) (f : ℕ) (e : RunError) → GoesOn k w v → l ≡ k → entered l (Ok v) f ≡ Err e → StopsAt k w e
-stops_on k l w v f e g same h = record {
-  entries = g.entries ++ f ∷ [];
-  stops = fold_parts k (Ok w) g.entries (f ∷ []) ∙ ap (λ (y : Result World RunError). entered k y f) g.leads ∙
+  stops = fold_parts k (Ok w) g.entries (f ∷ []) ∙
+      ap (λ (y : Result World RunError). entered k y f) (spends_core k w v lefts now g.entries g.spends) ∙
       subst (λ (m : Limits). entered m (Ok v) f ≡ Err e) same h;
 }
 
 -- want of memory, or such a stop, behind entries that went well
-pub memory_or_stops : (k l : Limits) (w v : World) (f : ℕ) (e : RunError) → GoesOn k w v → l ≡ k →
+pub memory_or_stops : (k l : Limits) (w v : World) (lefts now : List ℕ) (many f : ℕ) (e : RunError) → SpendsMany k w lefts many v now → l ≡ k →
     (e ≡ NoMemory) ⊎ (entered l (Ok v) f ≡ Err e) → (e ≡ NoMemory) ⊎ StopsAt k w e
-memory_or_stops k l w v f e g same (inl memory) = inl memory
-memory_or_stops k l w v f e g same (inr stops) = inr (stops_on k l w v f e g same stops)
+memory_or_stops k l w v lefts now many f e g same (inl memory) = inl memory
+memory_or_stops k l w v lefts now many f e g same (inr stops) = inr (stops_on k l w v lefts now many f e g same stops)
+
+-- ---- nobody has moves left
+pub final_spent : (w : World) (lefts : List ℕ) → IsFinal w → AreSpent w lefts
+final_spent w lefts final f g e = inl (final f g e)
+
+pub none_spent : (w : World) (lefts : List ℕ) (most : ℕ) → length lefts ≡ length w.fibers → HaveNoMore w lefts most → most ≡ 0 → AreSpent w lefts
+none_spent w lefts most each more none f g e = elim (more f g e) [
+  | inl done ↦ inl done
+  | inr few ↦
+      let low = below_length w.fibers f g e in
+      let zero_left : get_or lefts f 0 ≡ 0 = omega (arith, few, none) in
+      inr (slice_get-get_or lefts f 0 (omega (arith, low, each)) ∙ ap Some zero_left)
+]

@@ -65,11 +65,6 @@ pub record IsSettledReport (code : Tree) (k : Limits) (report : Report) : Type 0
   pub settled : IsSettled k world
   pub reports : reported (Ok world) ≡ Ok report
 
--- entries lead from one world to the other
-pub record GoesOn (k : Limits) (w v : World) : Type 0 where
-  pub entries : List ℕ
-  pub leads : fold (entered k) (Ok w) entries ≡ Ok v
-
 -- entries lead from the world to this fault
 pub record StopsAt (k : Limits) (w : World) (e : RunError) : Type 0 where
   pub entries : List ℕ

@@ -6,3 +6,4 @@ pub mod Stands
 pub mod Finals
 pub mod Covers
 pub mod Whys
+pub mod Spending

@@ -1,5 +1,5 @@
 -- Where a fiber of a code can stand under a history, and which reports are of some schedule.
-use Rattle.std.specs.Prelude.{◌≡◌, ◌≢◌, ℕ, List, [], ◌∷◌, ◌++◌, Ok}
+use Rattle.std.specs.Prelude.{◌≡◌, ◌≢◌, ℕ, suc, List, [], ◌∷◌, ◌++◌, Ok}
 use Rattle.effect_term.specs.declared.reply.Reply.TheVariants.{Done, Number}
 use Rattle.derived_ops.specs.Tree.{Tree}
 use Rattle.fiber_frames.specs.Fiber.{Fiber, ask_of, begins, child, move}
@@ -15,22 +15,24 @@ use Rattle.scheduled_core.specs.Core.{core, reported, wish_of}
 abbrev pub wish : Fiber → Wish
 wish g = wish_of (ask_of g)
 
--- The fiber f of the code can stand in this state where the history is h. Fiber 0 stands at the root of the code
--- before any call. A move without a shared call leads on under the same history. A call of the fiber is the next
--- entry, and its move is made under the reply; an entry of another fiber changes nothing. And a fiber that an entry
--- started stands at the beginning of the child that the move gives
-pub data Stands (code : Tree) : List Entry → ℕ → Fiber → Type 0 where
-  Opens : (h : List Entry) (f : ℕ) (g : Fiber) → h ≡ [] → f ≡ 0 → g ≡ begins 0 code → Stands code h f g
-  Alone_on : (h : List Entry) (f : ℕ) (g m : Fiber) → Stands code h f m → wish m ≡ Alone → g ≡ move m Done →
-      Stands code h f g
-  Calls : (h : List Entry) (f : ℕ) (g : Fiber) (before : List Entry) (e : Entry) (m : Fiber) →
-      Stands code before f m → h ≡ before ++ e ∷ [] → e.by ≡ f → wish m ≡ Shared e.call → g ≡ move m e.reply →
-      Stands code h f g
-  Rests : (h : List Entry) (f : ℕ) (g : Fiber) (before : List Entry) (e : Entry) → Stands code before f g →
-      h ≡ before ++ e ∷ [] → e.by ≢ f → Stands code h f g
-  Begins : (h : List Entry) (f : ℕ) (g : Fiber) (before : List Entry) (e : Entry) (m : Fiber) →
-      Stands code before e.by m → h ≡ before ++ e ∷ [] → e.call ≡ Start → e.reply ≡ Number f → wish m ≡ Shared Start →
-      g ≡ child m f → Stands code h f g
+-- Each fiber may make a number of moves: fiber 0 `most`, and another one as many as its parent has left just after the
+-- move that started it. The fiber f of the code can stand in this state, with `left` moves to go, where the history is
+-- h. Fiber 0 stands at the root of the code before any call. A move without a shared call leads on under the same
+-- history. A call of the fiber is the next entry, and its move is made under the reply; an entry of another fiber
+-- changes nothing. And a fiber that an entry started stands at the beginning of the child that the move gives
+pub data Stands (code : Tree) (most : ℕ) : List Entry → ℕ → Fiber → ℕ → Type 0 where
+  Opens : (h : List Entry) (f : ℕ) (g : Fiber) (left : ℕ) → h ≡ [] → f ≡ 0 → g ≡ begins 0 code → left ≡ most →
+      Stands code most h f g left
+  Alone_on : (h : List Entry) (f : ℕ) (g : Fiber) (left : ℕ) (m : Fiber) → Stands code most h f m (suc left) →
+      wish m ≡ Alone → g ≡ move m Done → Stands code most h f g left
+  Calls : (h : List Entry) (f : ℕ) (g : Fiber) (left : ℕ) (before : List Entry) (e : Entry) (m : Fiber) →
+      Stands code most before f m (suc left) → h ≡ before ++ e ∷ [] → e.by ≡ f → wish m ≡ Shared e.call →
+      g ≡ move m e.reply → Stands code most h f g left
+  Rests : (h : List Entry) (f : ℕ) (g : Fiber) (left : ℕ) (before : List Entry) (e : Entry) →
+      Stands code most before f g left → h ≡ before ++ e ∷ [] → e.by ≢ f → Stands code most h f g left
+  Begins : (h : List Entry) (f : ℕ) (g : Fiber) (left : ℕ) (before : List Entry) (e : Entry) (m : Fiber) →
+      Stands code most before e.by m (suc left) → h ≡ before ++ e ∷ [] → e.call ≡ Start → e.reply ≡ Number f →
+      wish m ≡ Shared Start → g ≡ child m f → Stands code most h f g left
 
 -- the report is that of the core under some schedule
 abbrev pub IsOfSomeSchedule : Tree → Limits → Report → Type 0

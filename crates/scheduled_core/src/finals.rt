@@ -1,12 +1,13 @@
 //! How the fibers of a run go on until none can.
-ghost use Rattle.std.specs.Prelude.{IfErr, IfNone, IfOk, IfSome, OnOk, ◌≡◌, ◌⊎◌, ◌<◌, ◌++◌, ◌∷◌, ℕ};
+ghost use Rattle.std.specs.Prelude.{IfErr, IfNone, IfOk, IfSome, OnOk, ◌≡◌, ◌⊎◌, ◌<◌, ◌≤◌, ◌++◌, ◌∷◌, ℕ, length};
 ghost use Rattle.std.specs.Prelude.{Err as Fails, None as Nobody, Ok as GoesWell, Some as Somebody};
 ghost use Rattle.std.specs.Prelude.{[], true, false, get_or};
 ghost use Rattle.fiber_frames.specs.Fiber.{outcome_of};
 ghost use Rattle.scheduled_core.specs.Core.{entered};
-ghost use Rattle.scheduled_core.specs.Finals.{GoesOn, HasEnded, IsAtRest, IsFinal, IsStopped, StopsAt};
+ghost use Rattle.scheduled_core.specs.Finals.{HasEnded, IsAtRest, IsFinal, IsStopped, StopsAt};
 ghost use Rattle.scheduled_core.specs.Fitting.{AllFit, Fits, cell_registered, world_of};
-ghost use Rattle.scheduled_core.specs.Private.Settling.{IsUnended, moves_left};
+ghost use Rattle.scheduled_core.specs.Private.Settling.{HaveNoMore, IsSpentBy, IsUnended, moves_left};
+ghost use Rattle.scheduled_core.specs.Spending.{AreSpent, SpendsMany};
 
 use crate::scheduled::enter;
 use crate::why::{Why, why_of};
@@ -27,8 +28,9 @@ pub struct Settled {
 /// Goes on with the fibers of a run beside their registry, until each of them has ended, rests at a wait
 /// that nothing serves, or has made all moves that it may still make.
 ///
-/// `rests` tells how many these are, for each fiber; one that is born begins with those that its parent
-/// has then. Of the fibers that could go on, the one with the most goes first. A call that the registry
+/// `rests` has how many these are, for each fiber; one that is born begins with those that its parent
+/// has then. Of the fibers that could go on, the one with the most goes first, so that none has any left where one is
+/// reported to have stopped. A call that the registry
 /// refuses is answered with [`RunError::Full`] or [`RunError::Spent`], and where memory is refused, the
 /// answer is [`RunError::NoMemory`]. After an error nothing is known of the fibers and the registry.
 pub fn settle(
@@ -37,8 +39,11 @@ pub fn settle(
     rests: &mut Vec<u32>,
 ) -> Result<Settled, RunError>
     requires fits { AllFit (world_of fibers.old.items registry.old.state) }
-    ensures goes { OnOk result (GoesOn registry.old.limits (world_of fibers.old.items registry.old.state)
-        (world_of fibers.new.items registry.new.state)) }
+    requires each { length rests.old.items ≡ length fibers.old.items }
+    ensures goes { IfOk result (λ it. SpendsMany registry.old.limits
+        (world_of fibers.old.items registry.old.state) rests.old.items it.finished
+        (world_of fibers.new.items registry.new.state) rests.new.items) }
+    ensures spent { OnOk result (AreSpent (world_of fibers.new.items registry.new.state) rests.new.items) }
     ensures complete { IfOk result (λ it. it.stopped ≡ Nobody →
         IsFinal (world_of fibers.new.items registry.new.state)) }
     ensures stopped { IfOk result (λ it. (f : ℕ) → it.stopped ≡ Somebody f →
@@ -74,8 +79,11 @@ pub fn settle_noted<L: EntryLog>(
     log: &mut L,
 ) -> Result<Settled, RunError>
     requires fits { AllFit (world_of fibers.old.items registry.old.state) }
-    ensures goes { OnOk result (GoesOn registry.old.limits (world_of fibers.old.items registry.old.state)
-        (world_of fibers.new.items registry.new.state)) }
+    requires each { length rests.old.items ≡ length fibers.old.items }
+    ensures goes { IfOk result (λ it. SpendsMany registry.old.limits
+        (world_of fibers.old.items registry.old.state) rests.old.items it.finished
+        (world_of fibers.new.items registry.new.state) rests.new.items) }
+    ensures spent { OnOk result (AreSpent (world_of fibers.new.items registry.new.state) rests.new.items) }
     ensures complete { IfOk result (λ it. it.stopped ≡ Nobody →
         IsFinal (world_of fibers.new.items registry.new.state)) }
     ensures stopped { IfOk result (λ it. (f : ℕ) → it.stopped ≡ Somebody f →
@@ -111,6 +119,8 @@ fn next(fibers: &[Config], registry: &PlainRegistry, rests: &[u32]) -> Option<u1
     requires { AllFit (world_of fibers.now registry.now.state) }
     ensures none { IfNone result (IsFinal (world_of fibers.now registry.now.state)) }
     ensures some { IfSome result (IsUnended fibers.now) }
+    ensures most { IfSome result (λ number. HaveNoMore (world_of fibers.now registry.now.state) rests.now
+        (get_or rests.now number 0)) }
 {
     let mut best = None;
     for config in fibers {
@@ -123,7 +133,9 @@ fn next(fibers: &[Config], registry: &PlainRegistry, rests: &[u32]) -> Option<u1
 
 // The one that has more moves left, or else the first one.
 fn better(best: Option<u16>, number: u16, rests: &[u32]) -> u16
-    ensures { (result ≡ number) ⊎ (best ≡ Somebody result) }
+    ensures one { (result ≡ number) ⊎ (best ≡ Somebody result) }
+    ensures number { get_or rests.now number 0 ≤ get_or rests.now result 0 }
+    ensures best { IfSome best (λ other. get_or rests.now other 0 ≤ get_or rests.now result 0) }
 {
     match best {
         Some(other) => {
@@ -156,10 +168,13 @@ fn go_on(
 ) -> Result<(), RunError>
     requires fits { AllFit (world_of fibers.old.items registry.old.state) }
     requires rest { 0 < get_or rests.old.items number 0 }
+    requires each { length rests.old.items ≡ length fibers.old.items }
+    requires unended { IsUnended fibers.old.items number }
     ensures limits { OnOk result (registry.new.limits ≡ registry.old.limits) }
     ensures fits { OnOk result (AllFit (world_of fibers.new.items registry.new.state)) }
-    ensures goes { OnOk result (GoesOn registry.old.limits (world_of fibers.old.items registry.old.state)
-        (world_of fibers.new.items registry.new.state)) }
+    ensures each { OnOk result (length rests.new.items ≡ length fibers.new.items) }
+    ensures goes { OnOk result (IsSpentBy registry.old.limits (world_of fibers.old.items registry.old.state)
+        rests.old.items number (world_of fibers.new.items registry.new.state) rests.new.items) }
     ensures stops { IfErr result (λ e. (e ≡ RunError.NoMemory) ⊎
         (entered registry.old.limits (GoesWell (world_of fibers.old.items registry.old.state)) number ≡ Fails e)) }
     ensures less { OnOk result (moves_left registry.old.limits.fibers rests.new.items <

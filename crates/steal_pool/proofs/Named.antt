@@ -1,5 +1,5 @@
 -- A turn keeps what the bay's rule asks of a task, and so does a start of its child.
-use Rattle.std.proofs.Common.{Option, Some, None, Result, Ok, Err, IfOk}
+use Rattle.std.proofs.Common.{◌≡◌, ℕ, List, All, subst, Option, Some, None, Result, Ok, Err, IfOk}
 use Rattle.cell_registry.specs.declared.limits.RunError.{RunError}
 use Rattle.derived_ops.specs.Tree.{Tree}
 use Rattle.cell_registry.specs.Passes.{RegistryView}
@@ -11,11 +11,11 @@ use Rattle.wait_bay.specs.Names.{Named, IsNamed}
 use Rattle.steal_pool.specs.Runs.{ChildIsNamed}
 
 turn_named : (named : Option Named) (a b : TaskView) (t : Turn) →
-    ((home : RegistryView) (code : Tree) → IsTaskOf home code a → StaysOf home code (Ok t) b) → IsNamed named a → IsNamed named b
+    ((home : RegistryView) (code : Tree) (most : ℕ) → IsTaskOf home code most a → StaysOf home code most (Ok t) b) → IsNamed named a → IsNamed named b
 turn_named None a b t stays is = tt
-turn_named (Some n) a b t stays is = (stays n.home n.code is).0
+turn_named (Some n) a b t stays is = (stays n.home n.code n.most is).0
 
-of_named : (n : Named) (t : Turn) → ChildIsOf n.home n.code t → ChildIsNamed (Some n) t
+of_named : (n : Named) (t : Turn) → ChildIsOf n.home n.code n.most t → ChildIsNamed (Some n) t
 of_named n (turn.Started c) is = is
 of_named n (turn.Ended o) is = tt
 of_named n (turn.Waits o) is = tt
@@ -34,16 +34,21 @@ none_named (turn.WakeTopic o) = tt
 none_named turn.OutOfMoves = tt
 
 child_named : (named : Option Named) (a b : TaskView) (t : Turn) →
-    ((home : RegistryView) (code : Tree) → IsTaskOf home code a → StaysOf home code (Ok t) b) → IsNamed named a → ChildIsNamed named t
+    ((home : RegistryView) (code : Tree) (most : ℕ) → IsTaskOf home code most a → StaysOf home code most (Ok t) b) → IsNamed named a → ChildIsNamed named t
 child_named None a b t stays is = none_named t
-child_named (Some n) a b t stays is = of_named n t (stays n.home n.code is).1
+child_named (Some n) a b t stays is = of_named n t (stays n.home n.code n.most is).1
 
 pub result_named : (named : Option Named) (a b : TaskView) (r : Result Turn RunError) →
-    ((home : RegistryView) (code : Tree) → IsTaskOf home code a → StaysOf home code r b) → IsNamed named a → IfOk r (λ _. IsNamed named b)
+    ((home : RegistryView) (code : Tree) (most : ℕ) → IsTaskOf home code most a → StaysOf home code most r b) → IsNamed named a → IfOk r (λ _. IsNamed named b)
 result_named named a b (Ok t) stays is = turn_named named a b t stays is
 result_named named a b (Err e) stays is = tt
 
 pub result_child : (named : Option Named) (a b : TaskView) (r : Result Turn RunError) →
-    ((home : RegistryView) (code : Tree) → IsTaskOf home code a → StaysOf home code r b) → IsNamed named a → IfOk r (ChildIsNamed named)
+    ((home : RegistryView) (code : Tree) (most : ℕ) → IsTaskOf home code most a → StaysOf home code most r b) → IsNamed named a → IfOk r (ChildIsNamed named)
 result_child named a b (Ok t) stays is = child_named named a b t stays is
 result_child named a b (Err e) stays is = tt
+
+-- tasks of what is named are of this registry and this code, within these moves
+pub all_named : (n : Named) (named : Option Named) (tasks : List TaskView) → named ≡ Some n → All (IsNamed named) tasks →
+    All (IsTaskOf n.home n.code n.most) tasks
+all_named n named tasks is all = λ k d less. (subst (λ (o : Option Named). All (IsNamed o) tasks) is all) k d less

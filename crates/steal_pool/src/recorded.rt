@@ -9,6 +9,7 @@ ghost use Rattle.run_ends.specs.Gathering.{IsLawful};
 ghost use Rattle.scheduled_core.specs.Core.{core, reported};
 ghost use Rattle.scheduled_core.specs.Covers.{IsInEachCover};
 ghost use Rattle.scheduled_core.specs.Finals.{IsFinalReport, IsSettledReport};
+ghost use Rattle.scheduled_core.specs.Spending.{IsSpentReport};
 ghost use Rattle.scheduled_core.specs.Stands.{IsOfSomeSchedule};
 ghost use Rattle.steal_pool.specs.Runs.{limits_of};
 
@@ -45,6 +46,8 @@ pub fn run_recorded<R: Threads + Wait + Sync, G: Gate>(
         (limits_of options) entries.items) ≡ came_to result.end) }
     ensures schedule { IfOk result.end (λ it. IsOfSomeSchedule (code_of (source_of program)) (limits_of options)
         it.report) }
+    ensures spent { IfOk result.end (λ it. IsSpentReport (code_of (source_of program)) (limits_of options)
+        options.moves it.report) }
     ensures complete { IfOk result.end (λ it. it.stopped ≡ Nobody →
         IsFinalReport (code_of (source_of program)) (limits_of options) it.report) }
     ensures settled { IfOk result.end (λ it. it.stopped ≡ Nobody →
@@ -77,7 +80,7 @@ fn record_with<'g, 'c, R: Threads + Wait + Sync, G: Gate>(
     requires budget { 1 < options.budget }
     ensures recorded { IfOk result.schedule (λ entries. reported (core (code_of (source_of program))
         (limits_of options) entries.items) ≡ came_to result.end) }
-    ensures ends { IfOk result.end (IsEnd (code_of (source_of program)) (limits_of options)) }
+    ensures ends { IfOk result.end (IsEnd (code_of (source_of program)) (limits_of options) options.moves) }
     ensures lawful { IfOk result.end (λ it. All IsLawful it.report.fibers) }
     ensures full { IfErr result.end (IsFaultWithin (limits_of options)) }
 {
@@ -98,7 +101,7 @@ fn end_of<'g, 'c, R: Threads + Wait + Sync, G: Gate>(
 ) -> Result<RunEnd, RunError>
     requires limits { AreLimits (limits_of options) }
     requires budget { 1 < options.budget }
-    ensures ends { IfOk result (IsEnd (code_of (source_of program.now)) (limits_of options)) }
+    ensures ends { IfOk result (IsEnd (code_of (source_of program.now)) (limits_of options) options.moves) }
     ensures lawful { IfOk result (λ it. All IsLawful it.report.fibers) }
     ensures full { IfErr result (IsFaultWithin (limits_of options)) }
 {

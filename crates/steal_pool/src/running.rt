@@ -11,6 +11,7 @@ ghost use Rattle.run_ends.specs.Gathering.{IsLawful};
 ghost use Rattle.run_ends.specs.Leaving.{Gathered};
 ghost use Rattle.scheduled_core.specs.Covers.{IsInEachCover};
 ghost use Rattle.scheduled_core.specs.Finals.{IsFinalReport, IsSettledReport};
+ghost use Rattle.scheduled_core.specs.Spending.{IsSpentReport};
 ghost use Rattle.scheduled_core.specs.Stands.{IsOfSomeSchedule};
 ghost use Rattle.steal_pool.specs.Runs.{limits_of};
 ghost use Rattle.wait_bay.specs.Bays.{IsSeatOf};
@@ -38,7 +39,8 @@ use wait_bay::{Bay, BaySeat};
 
 /// Runs a program on worker threads, until no fiber can go on, and tells what each fiber has come
 /// to. A fiber that rests at a wait that nothing serves, or has used its moves, is unended. The report is
-/// one that the core gives under some schedule; [`run_told`] tells whether it is complete.
+/// one that the core gives under some schedule; [`run_told`] tells whether it is complete. No fiber makes more moves
+/// than the options allow fiber 0, and another one than its parent had left.
 ///
 /// The first fault of a worker ends the run: `Full` and `Spent` as a turn answers them, `NoMemory`
 /// where there was none, for a push on a queue too, and `Lost` where a fiber's task wasn't where it
@@ -55,6 +57,8 @@ pub fn run<R: Threads + Wait + Sync, G: Gate>(
     requires budget { 1 < options.budget }
     ensures schedule { IfOk result (λ report. IsOfSomeSchedule (code_of (source_of program)) (limits_of options)
         report) }
+    ensures spent { IfOk result (λ report. IsSpentReport (code_of (source_of program)) (limits_of options)
+        options.moves report) }
     ensures complete { IfOk result (λ report.
         IsFinalReport (code_of (source_of program)) (limits_of options) report ⊎ HasUnended report) }
     ensures lawful { IfOk result (λ report. All IsLawful report.fibers) }
@@ -85,6 +89,8 @@ pub fn run_told<R: Threads + Wait + Sync, G: Gate>(
     requires budget { 1 < options.budget }
     ensures schedule { IfOk result (λ it. IsOfSomeSchedule (code_of (source_of program)) (limits_of options)
         it.report) }
+    ensures spent { IfOk result (λ it. IsSpentReport (code_of (source_of program)) (limits_of options)
+        options.moves it.report) }
     ensures complete { IfOk result (λ it. it.stopped ≡ Nobody →
         IsFinalReport (code_of (source_of program)) (limits_of options) it.report) }
     ensures settled { IfOk result (λ it. it.stopped ≡ Nobody →
@@ -119,7 +125,7 @@ pub(crate) fn attempt<R: Threads + Wait + Sync, W: Watch, L: EntryLog>(
 ) -> Result<RunEnd, RunError>
     requires limits { AreLimits (limits_of options) }
     requires budget { 1 < options.budget }
-    ensures ends { IfOk result (IsEnd (code_of (source_of program.now)) (limits_of options)) }
+    ensures ends { IfOk result (IsEnd (code_of (source_of program.now)) (limits_of options) options.moves) }
     ensures lawful { IfOk result (λ it. All IsLawful it.report.fibers) }
 {
     let Options {
@@ -148,10 +154,11 @@ fn of_registry<R: Threads + Wait + Sync, W: Watch>(
     requires pass { pass ≡ first_pass registry.now }
     requires some { 0 < options.fibers }
     requires budget { 1 < options.budget }
-    ensures { IfOk result (λ it. Gathered registry.now code.now it.met it.configs.items) }
+    ensures { IfOk result (λ it. Gathered registry.now code.now options.moves it.met it.configs.items
+        it.rests.items) }
 {
     let task = first(alloc, registry, pass, code, options.moves)?;
-    let named = Some((registry, code));
+    let named = Some((registry, code, options.moves));
     let (bay, mut seat) = Bay::new(alloc, options.fibers, options.deferreds, named)?;
     if bay.put(rt, &mut seat, 0, task, true).is_err() {
         return Err(RunError::Lost(0));
@@ -159,7 +166,8 @@ fn of_registry<R: Threads + Wait + Sync, W: Watch>(
     if let Some(fault) = drive(rt, alloc, &bay, seat, options, watch)? {
         return Err(fault);
     }
-    Leavings::of(alloc, registry, code, bay.empty()?)
+    let leavings = Leavings::of(alloc, registry, code, bay.empty()?)?;
+    Ok(leavings)
 }
 
 // Has workers run the tasks of a bay from fiber 0 on, and answers the first fault, if there was one.

@@ -28,7 +28,7 @@ fn only_child<'a>(
     requires { pass ≡ first_pass registry.now }
 {
     let mut parent = first(alloc, registry, pass, code, 99)?;
-    child_of(registry, code, &mut parent)
+    child_of(registry, code, 99, &mut parent)
 }
 
 // Tasks of fibers 1 of two registries. The first of them has ended.

@@ -25,6 +25,9 @@ const NO_DEFERRED: Told = Told::Full(Band::Deferreds, 1);
 
 const SPENT: Told = Told::Spent(0);
 
+// How many moves fiber 0 may make.
+const MOVES: u32 = 99;
+
 const CHILD_SPENT: Told = Told::Spent(1);
 
 // Where each band has one number.
@@ -158,14 +161,15 @@ struct Refused<'a> {
 fn is_refused_thrice(
     registry: &Registry,
     code: &Code,
+    most: u32,
     task: &mut FiberTask<'_>,
     case: &Refused<'_>,
 ) -> Result<bool, AllocError>
-    requires { IsTaskOf registry.now code.now task.old }
-    ensures { IfOk result (λ _. IsTaskOf registry.now code.now task.new) }
+    requires { IsTaskOf registry.now code.now most task.old }
+    ensures { IfOk result (λ _. IsTaskOf registry.now code.now most task.new) }
 {
     'thrice: for _ in 0..3u32 {
-        if turn_told(registry, code, task)? != case.told {
+        if turn_told(registry, code, most, task)? != case.told {
             return Ok(false);
         }
         if task.outcome().is_some() || task.trace() != case.marks {
@@ -176,8 +180,8 @@ fn is_refused_thrice(
 }
 
 // A task's pass, and what its fiber asks.
-fn parts_of(registry: &Registry, code: &Code, task: FiberTask<'_>) -> (Pass, Wanted)
-    requires { IsTaskOf registry.now code.now task }
+fn parts_of(registry: &Registry, code: &Code, most: u32, task: FiberTask<'_>) -> (Pass, Wanted)
+    requires { IsTaskOf registry.now code.now most task }
     ensures { IsOf registry.now result.0 }
 {
     let (pass, config) = task.into_parts();
@@ -222,17 +226,18 @@ fn shares_cells(registry: &Registry, pass: &mut Pass) -> bool
 fn task_goes_on(
     registry: &Registry,
     code: &Code,
+    most: u32,
     task: FiberTask<'_>,
     case: &Refused<'_>,
 ) -> Result<bool, AllocError>
-    requires own { IsTaskOf registry.now code.now task }
+    requires own { IsTaskOf registry.now code.now most task }
     requires limits { AreLimits registry.now.limits }
 {
     let mut task = task;
-    if !is_refused_thrice(registry, code, &mut task, case)? {
+    if !is_refused_thrice(registry, code, most, &mut task, case)? {
         return Ok(false);
     }
-    let (mut pass, wanted) = parts_of(registry, code, task);
+    let (mut pass, wanted) = parts_of(registry, code, most, task);
     let is_there = wanted == case.wanted
         && pass.count() == case.count
         && pass.depth() == case.depth;
@@ -246,8 +251,8 @@ fn goes_on(alloc: Global, limits: Limits, case: &Refused<'_>) -> Result<bool, Fa
     requires { AreLimits limits }
 {
     let (code, registry, pass) = opened(alloc, case.program, limits)?;
-    let task = first(alloc, &registry, pass, &code, 99)?;
-    Ok(task_goes_on(&registry, &code, task, case)?)
+    let task = first(alloc, &registry, pass, &code, MOVES)?;
+    Ok(task_goes_on(&registry, &code, MOVES, task, case)?)
 }
 
 #[test]
@@ -301,28 +306,29 @@ fn cancels_the_other(
 fn refused_cancels(
     registry: &Registry,
     code: &Code,
+    most: u32,
     task: FiberTask<'_>,
     other: FiberTask<'_>,
     refusal: Told,
 ) -> Result<bool, AllocError>
-    requires own { IsTaskOf registry.now code.now task }
+    requires own { IsTaskOf registry.now code.now most task }
     requires two { 1 < registry.now.limits.fibers }
 {
     let mut task = task;
     let mut other = other;
-    if turn_told(registry, code, &mut task)? != refusal {
+    if turn_told(registry, code, most, &mut task)? != refusal {
         return Ok(false);
     }
-    let (mut pass, _) = parts_of(registry, code, task);
+    let (mut pass, _) = parts_of(registry, code, most, task);
     cancels_the_other(registry, &mut pass, &mut other)
 }
 
 // Whether fiber 0 starts fiber 1, is refused so, and then cancels it.
 fn cancels_after_refusal(alloc: Global, program: &str, refusal: Told) -> Result<bool, Fail> {
     let (code, registry, pass) = opened(alloc, program, few(2, 2))?;
-    let mut task = first(alloc, &registry, pass, &code, 99)?;
-    let other = child_of(&registry, &code, &mut task)?;
-    Ok(refused_cancels(&registry, &code, task, other, refusal)?)
+    let mut task = first(alloc, &registry, pass, &code, MOVES)?;
+    let other = child_of(&registry, &code, MOVES, &mut task)?;
+    Ok(refused_cancels(&registry, &code, MOVES, task, other, refusal)?)
 }
 
 const REFUSALS: &[(&str, Told)] = &[

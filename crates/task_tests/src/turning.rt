@@ -72,18 +72,19 @@ pub fn answered<'a>(
     }
 }
 
-/// Makes a turn of a task of this registry and code, which it still is, and so is the task of the
-/// fiber that it started. `AllocError` where memory ran out.
+/// Makes a turn of a task of this registry and code, where fiber 0 may make `most` moves, which it still is, and so is
+/// the task of the fiber that it started. `AllocError` where memory ran out.
 pub fn turned<'a>(
     registry: &Registry,
     code: &Code,
+    most: u32,
     task: &mut FiberTask<'a>,
     budget: u32,
 ) -> Result<(Told, Option<FiberTask<'a>>), AllocError>
     requires budget { 1 < budget }
-    requires own { IsTaskOf registry.now code.now task.old }
-    ensures own { IfOk result (λ _. IsTaskOf registry.now code.now task.new) }
-    ensures child { IfOk result (λ it. IfSome it.1 (IsTaskOf registry.now code.now)) }
+    requires own { IsTaskOf registry.now code.now most task.old }
+    ensures own { IfOk result (λ _. IsTaskOf registry.now code.now most task.new) }
+    ensures child { IfOk result (λ it. IfSome it.1 (IsTaskOf registry.now code.now most)) }
 {
     answered(task.turn(budget))
 }
@@ -92,13 +93,14 @@ pub fn turned<'a>(
 pub fn child_of<'a>(
     registry: &Registry,
     code: &Code,
+    most: u32,
     task: &mut FiberTask<'a>,
 ) -> Result<FiberTask<'a>, Fail>
-    requires { IsTaskOf registry.now code.now task.old }
-    ensures parent { IfOk result (λ _. IsTaskOf registry.now code.now task.new) }
-    ensures child { IfOk result (IsTaskOf registry.now code.now) }
+    requires { IsTaskOf registry.now code.now most task.old }
+    ensures parent { IfOk result (λ _. IsTaskOf registry.now code.now most task.new) }
+    ensures child { IfOk result (IsTaskOf registry.now code.now most) }
 {
-    match turned(registry, code, task, 64)? {
+    match turned(registry, code, most, task, 64)? {
         (_, Some(child)) => Ok(child),
         (_, None) => Err(Fail::new("no fiber was started")),
     }
@@ -109,12 +111,13 @@ pub fn child_of<'a>(
 pub fn turn_told(
     registry: &Registry,
     code: &Code,
+    most: u32,
     task: &mut FiberTask<'_>,
 ) -> Result<Told, AllocError>
-    requires { IsTaskOf registry.now code.now task.old }
-    ensures { IfOk result (λ _. IsTaskOf registry.now code.now task.new) }
+    requires { IsTaskOf registry.now code.now most task.old }
+    ensures { IfOk result (λ _. IsTaskOf registry.now code.now most task.new) }
 {
-    let (told, _) = turned(registry, code, task, 64)?;
+    let (told, _) = turned(registry, code, most, task, 64)?;
     Ok(told)
 }
 
@@ -122,16 +125,17 @@ pub fn turn_told(
 fn turn_of<'a>(
     registry: &Registry,
     code: &Code,
+    most: u32,
     tasks: &mut Vec<FiberTask<'a>>,
     number: usize,
     budget: u32,
 ) -> Result<Told, AllocError>
     requires there { number < length tasks.old.items }
     requires budget { 1 < budget }
-    requires own { All (IsTaskOf registry.now code.now) tasks.old.items }
-    ensures own { IfOk result (λ _. All (IsTaskOf registry.now code.now) tasks.new.items) }
+    requires own { All (IsTaskOf registry.now code.now most) tasks.old.items }
+    ensures own { IfOk result (λ _. All (IsTaskOf registry.now code.now most) tasks.new.items) }
 {
-    let (told, child) = turned(registry, code, &mut tasks[number], budget)?;
+    let (told, child) = turned(registry, code, most, &mut tasks[number], budget)?;
     if let Some(child) = child {
         tasks.push(child)?;
     }
@@ -145,17 +149,18 @@ pub type Row = (usize, u32, Told);
 fn tell<'a>(
     registry: &Registry,
     code: &Code,
+    most: u32,
     tasks: &mut Vec<FiberTask<'a>>,
     turns: &[Row],
 ) -> Result<bool, Fail>
-    requires { All (IsTaskOf registry.now code.now) tasks.old.items }
-    ensures { IfOk result (λ _. All (IsTaskOf registry.now code.now) tasks.new.items) }
+    requires { All (IsTaskOf registry.now code.now most) tasks.old.items }
+    ensures { IfOk result (λ _. All (IsTaskOf registry.now code.now most) tasks.new.items) }
 {
     for (number, budget, told) in turns {
         if *number >= tasks.len() || *budget < 2 {
             return Err(Fail::new("there is no such turn"));
         }
-        if turn_of(registry, code, tasks, *number, *budget)? != *told {
+        if turn_of(registry, code, most, tasks, *number, *budget)? != *told {
             return Ok(false);
         }
     }
@@ -193,10 +198,11 @@ fn is_gathered<'a>(
     alloc: Global,
     registry: &Registry,
     code: &Code,
+    most: u32,
     tasks: Vec<FiberTask<'a>>,
     report: &str,
 ) -> Result<bool, Fail>
-    requires { All (IsTaskOf registry.now code.now) tasks.items }
+    requires { All (IsTaskOf registry.now code.now most) tasks.items }
 {
     if !is_told(alloc, tasks.as_slice(), report)? {
         return Ok(false);
@@ -209,17 +215,18 @@ fn come_to<'a>(
     alloc: Global,
     registry: &Registry,
     code: &Code,
+    most: u32,
     tasks: Vec<FiberTask<'a>>,
     turns: &[Row],
     report: &str,
 ) -> Result<bool, Fail>
-    requires { All (IsTaskOf registry.now code.now) tasks.items }
+    requires { All (IsTaskOf registry.now code.now most) tasks.items }
 {
     let mut tasks = tasks;
-    if !tell(registry, code, &mut tasks, turns)? {
+    if !tell(registry, code, most, &mut tasks, turns)? {
         return Ok(false);
     }
-    is_gathered(alloc, registry, code, tasks, report)
+    is_gathered(alloc, registry, code, most, tasks, report)
 }
 
 // Fiber 0's task, which may make so many moves, as the only one.
@@ -231,7 +238,7 @@ fn only_first<'a>(
     moves: u32,
 ) -> Result<Vec<FiberTask<'a>>, AllocError>
     requires { pass ≡ first_pass registry.now }
-    ensures { IfOk result (λ tasks. All (IsTaskOf registry.now code.now) tasks.items) }
+    ensures { IfOk result (λ tasks. All (IsTaskOf registry.now code.now moves) tasks.items) }
 {
     let mut tasks = Vec::new(alloc);
     tasks.push(first(alloc, registry, pass, code, moves)?)?;
@@ -252,7 +259,7 @@ pub fn turn_by_turn(
 {
     let (code, registry, pass) = opened(alloc, text, limits)?;
     let tasks = only_first(alloc, &registry, pass, &code, moves)?;
-    come_to(alloc, &registry, &code, tasks, turns, report)
+    come_to(alloc, &registry, &code, moves, tasks, turns, report)
 }
 
 /// Turns of a program's fibers that are made by hand, and what comes of them.

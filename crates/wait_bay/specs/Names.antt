@@ -5,20 +5,21 @@ use Rattle.cell_registry.specs.Passes.{RegistryView}
 use Rattle.fiber_poll.specs.Tasks.{IsTaskOf, TaskView}
 use denote.Bor.{Bor}
 
--- a registry, and the code of a program
+-- a registry, the code of a program, and how many moves its fiber 0 may make
 pub record Named : Type 0 where
   pub home : RegistryView
   pub code : Tree
+  pub most : ℕ
 
--- what is named by references to a registry and a code, if there are any
-abbrev pub named_of : Option (Bor RegistryView × Bor Tree) → Option Named
+-- what is named by references to a registry and a code, and by a number of moves, if there are any
+abbrev pub named_of : Option (Bor RegistryView × Bor Tree × ℕ) → Option Named
 named_of None = None
-named_of (Some r) = Some record { home = r.0.now; code = r.1.now }
+named_of (Some r) = Some record { home = r.0.now; code = r.1.now; most = r.2 }
 
--- the task is one of the registry and the code that are named, if any are
+-- the task is one of the registry and the code that are named, within these moves, if any are
 abbrev pub IsNamed : Option Named → TaskView → Type 0
 IsNamed None t = Unit {0}
-IsNamed (Some n) t = IsTaskOf n.home n.code t
+IsNamed (Some n) t = IsTaskOf n.home n.code n.most t
 
 -- what may lie in the slot of the fiber f: nothing, or that fiber's task, which is of what is named
 abbrev pub MayLie : Option Named → ℕ → Option TaskView → Type 0

@@ -56,13 +56,13 @@ impl<'a> Model for Bay<'a> {
 
 impl<'a> Bay<'a> {
     /// A bay with a slot for each number of a fiber below `fibers` and a list for each fiber and
-    /// each deferred below `deferreds`, all empty, and its first seat. It names this registry and
-    /// this code, or nothing. Answers `AllocError` where there is no memory for it.
+    /// each deferred below `deferreds`, all empty, and its first seat. It names this registry,
+    /// this code and how many moves fiber 0 may make, or nothing. Answers `AllocError` where there is no memory for it.
     pub fn new(
         alloc: Global,
         fibers: u16,
         deferreds: u16,
-        named: Option<(&'a Registry, &'a Code)>,
+        named: Option<(&'a Registry, &'a Code, u32)>,
     ) -> Result<(Bay<'a>, BaySeat<'a>), AllocError>
         ensures fibers { IfOk result (λ b. b.0.fibers ≡ fibers) }
         ensures deferreds { IfOk result (λ b. b.0.deferreds ≡ deferreds) }

@@ -7,10 +7,10 @@ use derived_ops::Code;
 use fiber_poll::FiberTask;
 use std::marker::Model;
 
-/// The registry and the code that a bay names, if it names any.
+/// The registry, the code and the moves of fiber 0 that a bay names, if it names any.
 #[derive(Drop)]
 pub struct Names<'a> {
-    pub(crate) named: Option<(&'a Registry, &'a Code)>,
+    pub(crate) named: Option<(&'a Registry, &'a Code, u32)>,
 }
 
 impl<'a> Model for Names<'a> {

@@ -2,13 +2,15 @@
 use Rattle.std.specs.Prelude.{◌≡◌, ◌≢◌, ◌⊎◌, ℕ, ◌<◌, List, length, map, Some}
 use Rattle.std.specs.List.{slice_get}
 use mathlib.Core.List.{IsPrefix}
+use Rattle.derived_ops.specs.Tree.{Tree}
 use Rattle.fiber_frames.specs.Fiber.{Fiber}
 use Rattle.cell_registry.specs.Histories.{calls_by}
-use Rattle.cell_registry.specs.Passes.{PassView, RegistryView}
+use Rattle.cell_registry.specs.Passes.{IsOf, IsPass, PassView, RegistryView}
 use Rattle.cell_registry.specs.Rule.{Has}
 use Rattle.scheduled_core.specs.declared.report.FiberReport.{FiberReport}
 use Rattle.scheduled_core.specs.Core.{fiber_report}
 use Rattle.fiber_poll.specs.Tasks.{IsBroken, TaskView}
+use Rattle.run_ends.specs.Leaving.{IsMet}
 
 -- the task is at home at this registry
 abbrev pub IsAtHome : RegistryView → TaskView → Type 0
@@ -58,3 +60,21 @@ pub record IsLeast (configs : List Fiber) (born f : ℕ) : Type 0 where
 pub record AreInOrder (configs : List Fiber) (born : ℕ) (fibers : List Fiber) : Type 0 where
   pub many : length fibers ≡ born
   pub each : (f : ℕ) (s : Fiber) → slice_get fibers f ≡ Some s → IsIn s configs f × (IsBroken s → ⊥)
+
+-- so many of these tasks, from the first one on, stand at their numbers, and these are the moves that each may still make
+pub record AreRestsBelow (tasks : List TaskView) (n : ℕ) (rests : List ℕ) : Type 0 where
+  pub many : length rests ≡ n
+  pub each : (i : ℕ) (t : TaskView) → i < n → slice_get tasks i ≡ Some t → (t.state.number ≡ i) ×
+      (slice_get rests i ≡ Some t.moves)
+
+-- all these tasks do
+abbrev pub AreRests : List TaskView → List ℕ → Type 0
+AreRests tasks rests = AreRestsBelow tasks (length tasks) rests
+
+-- the pass has met the passes of these states' tasks, each of which is among all
+pub record AreMet (r : RegistryView) (code : Tree) (most : ℕ) (all : List TaskView) (met : PassView) (configs : List Fiber) :
+    Type 0 where
+  pub home : IsOf r met
+  pub pass : IsPass met
+  pub at : (i : ℕ) (s : Fiber) → slice_get configs i ≡ Some s → (j : ℕ) × (t : TaskView) × (slice_get all j ≡ Some t) ×
+      (t.state ≡ s) × IsMet code most met t.moves s

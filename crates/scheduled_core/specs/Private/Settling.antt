@@ -1,7 +1,11 @@
 -- What a loop over the fibers of a run knows.
-use Rattle.std.specs.Prelude.{◌≡◌, ℕ, ◌+◌, ◌-◌, ◌*◌, ◌^◌, List, length, None, Some}
+use Rattle.std.specs.Prelude.{◌≡◌, ◌⊎◌, ℕ, ◌+◌, ◌-◌, ◌*◌, ◌^◌, ◌≤◌, List, [], ◌∷◌, get_or, length, None, Some}
 use Rattle.std.specs.List.{slice_get, sum_by}
 use Rattle.fiber_frames.specs.Fiber.{Fiber, outcome_of}
+use Rattle.cell_registry.specs.declared.limits.Limits.{Limits}
+use Rattle.scheduled_core.specs.Core.{World}
+use Rattle.scheduled_core.specs.Finals.{HasEnded, IsAtRest}
+use Rattle.scheduled_core.specs.Spending.{Spends}
 
 -- the fiber f of these hasn't ended
 pub record IsUnended (fibers : List Fiber) (f : ℕ) : Type 0 where
@@ -13,3 +17,12 @@ pub record IsUnended (fibers : List Fiber) (f : ℕ) : Type 0 where
 -- any number that fits 32 bits
 abbrev pub moves_left : ℕ → List ℕ → ℕ
 moves_left most rests = sum_by (λ n. n) rests + (most - length rests) * 2 ^ 32
+
+-- each fiber has ended, or rests, or has at most so many moves left
+abbrev pub HaveNoMore : World → List ℕ → ℕ → Type 0
+HaveNoMore w lefts most = (f : ℕ) (g : Fiber) → slice_get w.fibers f ≡ Some g →
+    (HasEnded g ⊎ IsAtRest w.cells f g) ⊎ (get_or lefts f 0 ≤ most)
+
+-- an entry of this fiber leads there, and takes one of its moves
+abbrev pub IsSpentBy : Limits → World → List ℕ → ℕ → World → List ℕ → Type 0
+IsSpentBy k w lefts f v last = Spends k w lefts (f ∷ []) v last

@@ -10,7 +10,7 @@ use Rattle.run_ends.proofs.Taking.{missing, tells_each, tells_no_other}
 use Rattle.run_ends.proofs.gathering.gather.Goals as goal
 
 pub meet-requires : goal.meet-requires
-meet-requires c = each_home c.args.registry.now c.args.code.now c.args.tasks.items c.requires
+meet-requires c = each_home c.args.registry.now c.args.code.now c.requires.0 c.args.tasks.items c.requires.1
 
 pub returns-in_err-fibers-clause-lost : goal.returns-in_err-fibers-clause-lost
 returns-in_err-fibers-clause-lost c =
@@ -29,8 +29,8 @@ returns-in_err-fibers-clause-lost c =
 pub returns-clause-schedule : goal.returns-clause-schedule
 returns-clause-schedule c =
     subst (λ (l : List FiberReport). IsOfSomeSchedule c.args.code.now c.args.registry.now.limits record { fibers = l }) (sym c.new.ensures)
-    (gathered_report c.args.registry.now c.args.code.now c.in_ok-met.met c.in_ok-met.configs.items c.born-born.result c.born-born.new.pass
-    c.in_ok-fibers.fibers.items (c.in_ok-met.ensures.gathered c.args.code.now c.requires) c.born-born.ensures.counted
+    (gathered_report c.args.registry.now c.args.code.now c.requires.0 c.args.tasks.items c.in_ok-met.met c.in_ok-met.configs.items c.born-born.result c.born-born.new.pass
+    c.in_ok-fibers.fibers.items (c.in_ok-met.ensures.gathered c.args.code.now c.requires.0 c.requires.1) c.born-born.ensures.counted
     (subst (λ (s : List Fiber). AreLines s c.born-born.result c.in_ok-fibers.fibers.items) c.as_slice.ensures.value c.in_ok-fibers.ensures.lines))
 
 pub returns-clause-lawful : goal.returns-clause-lawful

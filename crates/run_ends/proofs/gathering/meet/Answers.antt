@@ -29,7 +29,7 @@ loop-task-preserved c =
     let i = c.loop-task.invariant in (
       meets_more c.args.registry.now c.loop-task.tasks.items c.pop-in-loop-task.new.self.items c.in-Some-pop.task i.3 c.in-Some-pop.ensures.items
           p.lawful c.into_parts-pass-in-Some-pop.result.0 c.into_parts-pass-in-Some-pop.result.1 p.pass p.state
-          c.args.tasks.items c.loop-task.met c.meet-met.result c.loop-task.configs.items c.push-in-Some-pop.new.configs.items i.0
+          c.args.tasks.items c.loop-task.met c.meet-met.result c.loop-task.configs.items c.push-in-Some-pop.new.configs.items i.1.still i.0
           c.meet-met.ensures.met c.meet-met.ensures.lawful c.in_ok-push-2.ensures.pushed,
       next_taken c.args.tasks.items c.loop-task.tasks.items c.pop-in-loop-task.new.self.items c.in-Some-pop.task
           c.into_parts-pass-in-Some-pop.result.0 c.loop-task.met c.meet-met.result c.loop-task.configs.items c.push-in-Some-pop.new.configs.items
@@ -39,4 +39,4 @@ loop-task-preserved c =
     )
 
 pub returns-clause-gathered : goal.returns-clause-gathered
-returns-clause-gathered c = λ code each. (c.loop-task.invariant.0 code each).0
+returns-clause-gathered c = λ code most each. (c.loop-task.invariant.0 code most each).0

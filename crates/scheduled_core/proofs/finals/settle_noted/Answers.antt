@@ -11,11 +11,12 @@ loop-number-preserved g c =
       limits = t.limits ∙ i.limits;
       fits = t.fits;
       still = λ none. absurd (omega arith);
-      goes = more_on _ _ _ _ _ i.goes i.limits t.goes;
+      each = t.each;
+      goes = more_on _ _ _ _ _ _ _ _ _ _ _ i.goes i.limits t.goes c.saturating_add-finished.ensures;
     }
 
 pub returns-in_err-go_on-clause-stops : goal.returns-in_err-go_on-clause-stops
 returns-in_err-go_on-clause-stops g c =
     let p = err_from_is_err_and c.from_residual.result c.from_residual.ensures.1 in
     let i = c.loop-number.invariant in
-    rw (p.1, p.2) (memory_or_stops _ _ _ _ _ _ i.goes i.limits c.in_err-go_on.ensures.stops)
+    rw (p.1, p.2) (memory_or_stops _ _ _ _ _ _ _ _ _ i.goes i.limits c.in_err-go_on.ensures.stops)

@@ -28,7 +28,7 @@ returns-in_default g c = record {
   ended = λ o e. absurd
       (c.in_default.not-Over o
       (c.ask.ensures.ask ∙ subst (λ (t : TaskView). ask_of t.state ≡ ask.Over o) (sym c.self.view_is) (over_asked c.args.self.now.state o e)));
-  stays = λ home code of. stays_of code home c.args.self.now c.go.new.self c.args.budget c.go.result (subst IsTask c.self.view_is c.self.invariant)
+  stays = λ home code most of. stays_of code most home c.args.self.now c.go.new.self c.args.budget c.go.result (subst IsTask c.self.view_is c.self.invariant)
       c.go.ensures.turned c.go.ensures.stopped of;
   broken = λ e. absurd (c.in_default.not-Broken (c.ask.ensures.ask ∙ subst (λ (t : TaskView). ask_of t.state ≡ ask.Broken) (sym c.self.view_is) e));
 }

@@ -1,16 +1,22 @@
-use Rattle.run_ends.proofs.Ending.{end_of, gathered_fits}
+use Rattle.std.proofs.Common.{arith}
+use Rattle.run_ends.proofs.Ending.{end_of, finishes, gathered_fits}
 use Rattle.run_ends.proofs.finishing.Leavings.finish.Goals as goal
 
-pub settle_noted-requires : goal.settle_noted-requires
-settle_noted-requires o c =
-    record {
-      fits = gathered_fits c.args.registry c.requires.met.0 c.args.self.met c.args.self.configs.items c.in_ok-fibers.fibers.items
-          c.born.result c.in_ok-registry.registry c.requires.met.1 c.in_ok-registry.ensures.left c.in_ok-fibers.ensures c.born.ensures.born;
-    }
+pub settle_noted-requires-clause-fits : goal.settle_noted-requires-clause-fits
+settle_noted-requires-clause-fits o c =
+    gathered_fits c.args.registry c.requires.met.0 c.requires.met.1 c.args.self.met c.args.self.configs.items c.in_ok-fibers.fibers.items
+    c.args.self.rests.items c.born.result c.in_ok-registry.registry c.requires.met.2 c.in_ok-registry.ensures.left c.in_ok-fibers.ensures
+    c.born.ensures.born
 
 pub returns-clause-ends : goal.returns-clause-ends
-returns-clause-ends o c code g =
-    end_of c.args.registry code c.args.self.met c.args.self.configs.items c.in_ok-fibers.fibers.items c.born.result c.in_ok-registry.registry g
-    c.in_ok-registry.ensures.left c.in_ok-fibers.ensures c.born.ensures.born
-    c.settle_noted.new.fibers.items c.settle_noted.new.registry.state c.settle_noted.new.rests.items _ c.in_ok-settled.ensures.goes
-    c.in_ok-report.ensures.reports c.in_ok-settled.ensures.complete c.in_ok-settled.ensures.stopped
+returns-clause-ends o c code most g =
+    end_of c.args.registry code most c.args.self.met c.args.self.configs.items c.in_ok-fibers.fibers.items c.args.self.rests.items c.born.result
+    c.in_ok-registry.registry g c.in_ok-registry.ensures.left c.in_ok-fibers.ensures c.born.ensures.born
+    _ c.settle_noted.new.rests.items _ (omega arith) c.in_ok-settled.ensures.goes c.in_ok-report.ensures.reports
+    c.in_ok-settled.ensures.spent c.in_ok-settled.ensures.complete c.in_ok-settled.ensures.stopped
+
+pub returns-clause-finished : goal.returns-clause-finished
+returns-clause-finished o c =
+    finishes c.args.registry c.requires.met.0 c.requires.met.1 c.args.self.met c.args.self.configs.items c.in_ok-fibers.fibers.items
+    c.args.self.rests.items c.born.result c.in_ok-registry.registry c.requires.met.2 c.in_ok-registry.ensures.left c.in_ok-fibers.ensures
+    c.born.ensures.born _ c.settle_noted.new.rests.items _ (omega arith) c.in_ok-settled.ensures.goes c.in_ok-report.ensures.reports

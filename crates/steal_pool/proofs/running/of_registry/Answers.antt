@@ -1,0 +1,14 @@
+use Rattle.steal_pool.proofs.Named.{all_named}
+use Rattle.steal_pool.proofs.running.of_registry.Goals as goal
+
+pub of-requires : goal.of-requires
+of-requires g c = (
+  c.args.options.moves,
+  all_named record { home = c.args.registry.now; code = c.args.code.now; most = c.args.options.moves } _ _
+      c.in_ok-bay.ensures.named c.in_ok-empty.ensures.named,
+)
+
+pub returns : goal.returns
+returns g c = c.in_ok-leavings.ensures c.args.options.moves
+    (all_named record { home = c.args.registry.now; code = c.args.code.now; most = c.args.options.moves } _ _ c.in_ok-bay.ensures.named
+    c.in_ok-empty.ensures.named)
