@@ -20,12 +20,17 @@ use Rattle.exploration_text.specs.Wants.{is_failure, is_unwanted}
 abbrev pub counted : ℕ → List ℕ → List ℕ
 counted n noun = decimal n ++ (codes " " ++ (noun ++ (if n == 1 then [] else codes "s")))
 
--- whether all was explored, how many worlds were found, and how many reports and faults are listed
+-- whether all was explored, and how many worlds were found; where not all was, how many bytes were counted, too
+abbrev pub how_far : (complete : Bool) → (worlds bytes : ℕ) → List ℕ
+how_far true worlds bytes = codes "explored " ++ counted worlds (codes "world")
+how_far false worlds bytes =
+    codes "stopped at " ++ (counted worlds (codes "world") ++ (codes ", " ++ counted bytes (codes "byte")))
+
+-- how far the exploration has come, and how many reports and faults are listed
 abbrev pub first_line : Exploration → List ℕ
-first_line e = (if e.complete then codes "explored " else codes "stopped at ") ++
-    (counted e.worlds (codes "world") ++ (codes ": " ++
+first_line e = how_far e.complete e.worlds e.bytes ++ (codes ": " ++
     (counted (count_by (λ a. is_ok a.end) e.answers) (codes "report") ++ (codes ", " ++
-    (counted (count_by (λ a. is_err a.end) e.answers) (codes "fault") ++ 10 ∷ [])))))
+    (counted (count_by (λ a. is_err a.end) e.answers) (codes "fault") ++ 10 ∷ []))))
 
 -- what `replay` writes: the report, or the fault's line
 abbrev pub end_text : Result Report RunError → List ℕ

@@ -5,7 +5,7 @@ ghost use Rattle.std.specs.List.{All, list_any};
 ghost use Rattle.std.specs.Result.{is_err, is_ok};
 ghost use Rattle.exploration_text.specs.ExplorationText.{IsAnswerText, IsExplorationText, IsPartText, counted};
 ghost use Rattle.exploration_text.specs.ExplorationText.{end_text, exploration_status, first_line, has_failure};
-ghost use Rattle.exploration_text.specs.ExplorationText.{IsSpellable, heading, is_listed_so};
+ghost use Rattle.exploration_text.specs.ExplorationText.{IsSpellable, heading, how_far, is_listed_so};
 ghost use Rattle.exploration_text.specs.Wants.{first_outcome, is_failure, is_met, is_unwanted};
 
 use crate::wants::Want;
@@ -16,10 +16,9 @@ use itoa::Buffer;
 use outcome_trace::{Refused, Report, Status, line, schedule_text, text_of_report};
 use std::alloc::{AllocError, Global};
 
-/// The text of an exploration: whether all was explored, how many worlds were found and how many reports and faults are
-/// listed; then each answer behind a blank line and its schedule, as a replay under the schedule writes it. Where
-/// outcomes of fiber 0 are wanted, the answers that have another one and the faults stand first, and are headed as not
-/// wanted.
+/// The text of an exploration: its first line ([`first_line`]); then each answer behind a blank line and its schedule,
+/// as a replay under the schedule writes it. Where outcomes of fiber 0 are wanted, the answers that have another one
+/// and the faults stand first, and are headed as not wanted.
 ///
 /// The entries of each schedule are at most 999, and it has at most 1,000,000. `AllocError` where memory is refused.
 pub fn text_of_exploration(
@@ -173,25 +172,38 @@ fn end_text(alloc: Global, end: &Result<Report, RunError>) -> Result<Vec<u8>, Al
     }
 }
 
-/// The first line of the text of an exploration: whether all was explored, how many worlds were found and how many
-/// reports and faults are listed. `AllocError` where memory is refused.
+/// The first line of the text of an exploration: whether all was explored, how many worlds were found, where not all
+/// was explored how many bytes were counted, and how many reports and faults are listed. `AllocError` where memory is
+/// refused.
 pub fn first_line(alloc: Global, exploration: &Exploration) -> Result<String, AllocError>
     ensures { IfOk result (λ line. string_bytes line ≡ first_line exploration.now) }
 {
     let answers = exploration.answers.as_slice();
-    let mut line = String::new(alloc);
-    line.push_str(if exploration.complete {
-        "explored "
-    } else {
-        "stopped at "
-    })?;
-    push_counted(&mut line, exploration.worlds, "world")?;
+    let mut line = how_far(alloc, exploration)?;
     line.push_str(": ")?;
     push_counted(&mut line, reports(answers), "report")?;
     line.push_str(", ")?;
     push_counted(&mut line, faults(answers), "fault")?;
     line.push_str("\n")?;
     Ok(line)
+}
+
+// Whether all was explored, and how many worlds were found; where not all was, how many bytes were counted, too.
+fn how_far(alloc: Global, exploration: &Exploration) -> Result<String, AllocError>
+    ensures { IfOk result (λ text. string_bytes text ≡
+        how_far exploration.now.complete exploration.now.worlds exploration.now.bytes) }
+{
+    let mut text = String::new(alloc);
+    if exploration.complete {
+        text.push_str("explored ")?;
+        push_counted(&mut text, exploration.worlds, "world")?;
+    } else {
+        text.push_str("stopped at ")?;
+        push_counted(&mut text, exploration.worlds, "world")?;
+        text.push_str(", ")?;
+        push_counted(&mut text, exploration.bytes, "byte")?;
+    }
+    Ok(text)
 }
 
 // How many answers are reports.
