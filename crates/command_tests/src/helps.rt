@@ -134,8 +134,11 @@ const HELP: &[(&[&str], &str)] = &[
         \n      --count <N>       How often a fiber may change its own state, 1 to 1099511627775\
         \n                        [default: 1099511627775]\
         \n      --worlds <N>      How many worlds are kept, each a state of all fibers and cells,\
-        \n                        1 to 1000000 [default: 100000]\
+        \n                        1 to 100000000 [default: 10000000]\
         \n      --entries <N>     How many entries a schedule may have, 1 to 1000000 [default: 10000]\
+        \n      --memory <BYTES>  At how many bytes of memory the search stops, by an estimate: 1 to\
+        \n                        10000000000, and behind it k, M or G for 1024, 1024^2 or 1024^3\
+        \n                        [default: 4G]\
         \n      --want <OUTCOME>  An outcome of fiber 0 that is wanted, as a report spells it:\
         \n                        \"succeeded V\", \"errored C\", canceled or unended. It may be given more\
         \n                        than once. A report with another outcome, and a fault, is then not wanted\
@@ -152,7 +155,7 @@ const HELP: &[(&[&str], &str)] = &[
         \n\nExample of all that can come of a race, with how it came:\
         \n  echo '(race (pure 1) (pure 2))' | fiber_cli explore --timeline\
         \n\nExample of a long search, which tells how far it has come:\
-        \n  fiber_cli explore --worlds 1000000 --progress < FILE\
+        \n  fiber_cli explore --memory 8G --progress < FILE\
         \n\n'fiber_cli --help' explains the reports. Each stands below a schedule, under which replay gives it.\
         \n\nExit status:\
         \n   0  every schedule was explored, and nothing unwanted was found\

@@ -276,9 +276,9 @@ const RUNNING: &[Numbers] = &[
 const EXPLORING: &[Numbers] = &[
     Numbers {
         name: "worlds",
-        taken: &["100", "0100", "+100", "1000000"],
-        refused: &["0", "1000001", "4294967396"],
-        range: "1..=1000000",
+        taken: &["100", "0100", "+100", "100000000"],
+        refused: &["0", "100000001", "4294967396"],
+        range: "1..=100000000",
     },
     Numbers {
         name: "entries",
@@ -337,6 +337,55 @@ const COMMANDS: &[(&[&str], &[Numbers], &str)] = &[
     (SAMPLE, LIMITS, SAMPLED),
     (SAMPLE, SAMPLING, SAMPLED),
 ];
+
+// Texts that say how many bytes an exploration may keep, and texts that don't.
+const MEMORY: &[&str] = &[
+    "100000",
+    "0100000",
+    "+100000",
+    "10000000000",
+    "100k",
+    "0100k",
+    "+1M",
+    "4G",
+    "10000000000G",
+];
+
+const NO_MEMORY: &[&str] = &[
+    "",
+    "k",
+    "0",
+    "0k",
+    "-1",
+    "10000000001",
+    "10000000001k",
+    "4K",
+    "4g",
+    "4T",
+    "4kk",
+    "4GM",
+    "4 G",
+    "G4",
+    "1.5G",
+];
+
+// Before any entry, a world takes 13 bytes, and in the store its row 96 and 4 for its fiber's number, the state of this
+// fiber 480, and the registry 160, 32 for each of 16 fibers, 8 for each of 16 refs and 16 for each of 16 deferreds.
+const STOPPED: &str = "stopped at 1 world: 0 reports, 0 faults, 1649 bytes\n";
+
+#[test]
+fn takes_bytes_of_memory(rt: HostRuntime) -> Result<(), AllocError> {
+    for text in MEMORY {
+        expect_number(&rt, EXPLORE, ("memory", *text), 0, EXPLORED, "")?;
+    }
+    for text in NO_MEMORY {
+        expect_number(&rt, EXPLORE, ("memory", *text), 64, "", NO_REQUEST)?;
+    }
+    for text in ["1", "1649", "1k"] {
+        expect_number(&rt, EXPLORE, ("memory", text), 3, STOPPED, "")?;
+    }
+    Ok(())
+}
 
 #[test]
 fn tells_wrong_words(rt: HostRuntime) {

@@ -2,3 +2,4 @@ pub mod FormLemmas
 pub mod RangeLemmas
 pub mod WantLemmas
 pub mod WordLemmas
+pub mod UnitLemmas

@@ -1,6 +1,5 @@
 -- The request that the words of a command line give.
 use Rattle.std.specs.Prelude.{◌≡◌, ◌≤◌, ℕ, List, [], map, Option, Some, None, codes}
-use Rattle.std.specs.Str.Parse.{IsNumeral, digits_value, without_leading_plus}
 use Rattle.std.specs.List.{All}
 use Rattle.std.specs.Option.{unwrap_or}
 use Rattle.clap.specs.Words.{Row, Text, all_of, first_of, subcommand_of}
@@ -18,20 +17,11 @@ use Rattle.command_words.specs.declared.requests.Request.{Request}
 use Rattle.command_words.specs.declared.requests.Request.TheVariants.{Check, Show, Replay, Explore, Run, Sample}
 use Rattle.command_words.specs.declared.running.Running.{Running}
 use Rattle.command_words.specs.declared.sampling.Sampling.{Sampling}
+use Rattle.command_words.specs.Memory.{SaysMemory}
+use Rattle.command_words.specs.Numbers.{SaysNumber}
 use Rattle.command_words.specs.Flags.{SaysExploreForm, SaysFlag, SaysForm, SaysRunForm}
 use Rattle.command_words.specs.Words.{band_range, budget_range, count_range, entries_range, few_range, moves_range}
 use Rattle.command_words.specs.Words.{program, seed_range, times_range, workers_range, worlds_range}
-
--- the text is a number of the range in decimal digits, with or without a plus in front
-abbrev pub IsNumberOf : NumberRange → Text → Type 0
-IsNumberOf range text =
-    IsNumeral 10 (without_leading_plus text) × (range.least ≤ digits_value 10 (without_leading_plus text)) ×
-    (digits_value 10 (without_leading_plus text) ≤ range.most)
-
--- the number that an option says: that of its text, or the usual one where the option isn't given
-abbrev pub SaysNumber : NumberRange → Option Text → ℕ → Type 0
-SaysNumber range None n = n ≡ range.usual
-SaysNumber range (Some text) n = IsNumberOf range text × (n ≡ digits_value 10 (without_leading_plus text))
 
 -- the limits that the options of `replay`, of `explore`, of `run` or of `sample` say, with this range of fibers, refs
 -- and deferreds
@@ -49,9 +39,10 @@ pub record SaysRun (options : List Row) (run : Options) : Type 0 where
   pub moves : SaysNumber moves_range (first_of (codes "moves") options) run.moves
 
 -- how far the options of `explore` say that the search goes
-pub record SaysBounds (options : List Row) (worlds entries : ℕ) : Type 0 where
+pub record SaysBounds (options : List Row) (worlds entries memory : ℕ) : Type 0 where
   pub worlds_are : SaysNumber worlds_range (first_of (codes "worlds") options) worlds
   pub entries_are : SaysNumber entries_range (first_of (codes "entries") options) entries
+  pub memory_is : SaysMemory (first_of (codes "memory") options) memory
 
 -- the texts of an option that may be given more than once, none where it isn't given
 abbrev pub texts_said : Text → List Row → List Text
@@ -65,7 +56,7 @@ pub record AreWants (texts : List Text) (wants : List Want) : Type 0 where
 -- what the options of `explore` say that the text is explored under
 pub record SaysExplore (options : List Row) (order : ExploreOrder) : Type 0 where
   pub limits : SaysLimits few_range options order.limits
-  pub bounds : SaysBounds options order.bounds.worlds order.bounds.entries
+  pub bounds : SaysBounds options order.bounds.worlds order.bounds.entries order.bounds.memory
   pub wants : AreWants (texts_said (codes "want") options) order.wants.items
 
 -- what the options of `sample` say that schedules are drawn by, and how many, under which limits, and what is wanted

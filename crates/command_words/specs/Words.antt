@@ -32,7 +32,11 @@ moves_range = record { least = 1; most = 1000000; usual = 100000 }
 
 -- of worlds that an exploration keeps
 abbrev pub worlds_range : NumberRange
-worlds_range = record { least = 1; most = 1000000; usual = 100000 }
+worlds_range = record { least = 1; most = 100000000; usual = 10000000 }
+
+-- before the unit of the bytes at which an exploration stops; the usual number is of bytes
+abbrev pub memory_range : NumberRange
+memory_range = record { least = 1; most = 10000000000; usual = 4294967296 }
 
 -- of entries that the schedules of an exploration have, and those of a sample
 abbrev pub entries_range : NumberRange
@@ -69,6 +73,13 @@ schedule_option = record (new_rule (codes "schedule")) {
   value_names = 1;
   action = Some Set;
   required = true;
+}
+
+abbrev pub memory_option : Rule
+memory_option = record (new_rule (codes "memory")) {
+  long = Some (codes "memory");
+  value_names = 1;
+  action = Some Set;
 }
 
 abbrev pub want_option : Rule
@@ -109,13 +120,17 @@ abbrev pub with_explore_forms : App → App
 with_explore_forms app =
     with_rule (with_rule (with_rule app (flag (codes "progress"))) (flag (codes "timeline"))) (flag (codes "json"))
 
--- `explore` without its flags
-abbrev pub explore_options : App
-explore_options =
+-- `explore` with the options for its limits and bounds
+abbrev pub explore_bounds : App
+explore_bounds =
     with_rule (with_rule (with_rule (with_limits (new_app (codes "explore")))
     (number_option (codes "worlds") worlds_range))
     (number_option (codes "entries") entries_range))
-    want_option
+    memory_option
+
+-- without its flags
+abbrev pub explore_options : App
+explore_options = with_rule explore_bounds want_option
 
 abbrev pub explore_command : App
 explore_command = with_rule (with_explore_forms explore_options) (flag (codes "explain"))

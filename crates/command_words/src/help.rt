@@ -109,7 +109,7 @@ Example of all that can come of a race, with how it came:
   echo '(race (pure 1) (pure 2))' | fiber_cli explore --timeline
 
 Example of a long search, which tells how far it has come:
-  fiber_cli explore --worlds 1000000 --progress < FILE
+  fiber_cli explore --memory 8G --progress < FILE
 
 'fiber_cli --help' explains the reports. Each stands below a schedule, under which replay gives it.
 
@@ -196,7 +196,11 @@ between, as in \"0*2 1*9\". F is 0 to 999, K is 1 to 100000. Where it is
 -, it is the first line of the input";
 
 pub const WORLDS: &str = "How many worlds are kept, each a state of all fibers and cells,
-1 to 1000000 [default: 100000]";
+1 to 100000000 [default: 10000000]";
+
+pub const MEMORY: &str = "At how many bytes of memory the search stops, by an estimate: 1 to
+10000000000, and behind it k, M or G for 1024, 1024^2 or 1024^3
+[default: 4G]";
 
 pub const ENTRIES: &str = "How many entries a schedule may have, 1 to 1000000 [default: 10000]";
 

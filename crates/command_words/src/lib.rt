@@ -10,6 +10,7 @@ mod checking;
 mod exploring;
 mod flags;
 mod help;
+mod memory;
 mod ranges;
 mod replay;
 mod requests;

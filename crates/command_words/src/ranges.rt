@@ -55,8 +55,16 @@ pub const MOVES: NumberRange = NumberRange {
 /// How many worlds an exploration keeps at most.
 pub const WORLDS: NumberRange = NumberRange {
     least: 1,
-    most: 1_000_000,
-    usual: 100_000,
+    most: 100_000_000,
+    usual: 10_000_000,
+};
+
+/// The number before the unit of the bytes at which an exploration stops. The usual one stands where the option isn't
+/// given, with no unit: 4 times 2^30 bytes.
+pub const MEMORY: NumberRange = NumberRange {
+    least: 1,
+    most: 10_000_000_000,
+    usual: 4_294_967_296,
 };
 
 /// How many entries the schedules of an exploration have at most, and those of a sample.

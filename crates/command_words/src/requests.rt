@@ -14,15 +14,18 @@ ghost use Rattle.command_words.specs.declared.sampling.Sampling.{Sampling};
 ghost use Rattle.exploration_text.specs.declared.sample_texts.SampleOrder.{SampleOrder};
 ghost use Rattle.steal_pool.specs.declared.options.Options.{Options};
 ghost use Rattle.steal_pool.specs.Runs.{limits_of};
-ghost use Rattle.command_words.specs.Requests.{AreWants, GivesRequest, IsNumberOf, Says, SaysBounds, SaysExplore};
-ghost use Rattle.command_words.specs.Requests.{SaysExploring, SaysLimits, SaysNumber, SaysReplay, SaysRun};
+ghost use Rattle.command_words.specs.Memory.{SaysMemory};
+ghost use Rattle.command_words.specs.Numbers.{IsNumberOf, SaysNumber};
+ghost use Rattle.command_words.specs.Requests.{AreWants, GivesRequest, Says, SaysBounds, SaysExplore};
+ghost use Rattle.command_words.specs.Requests.{SaysExploring, SaysLimits, SaysReplay, SaysRun};
 ghost use Rattle.command_words.specs.Requests.{SaysRunning, SaysSample, SaysSampling, texts_said};
 
 use crate::checking::{Checking, Showing};
 use crate::exploring::Exploring;
 use crate::flags::{explore_form, given, replay_form, run_form, text_of};
+use crate::memory::bytes_of;
 use crate::ranges::{
-    BAND, BUDGET, COUNT, ENTRIES, FEW, MOVES, NumberRange, SEED, TIMES, WORKERS, WORLDS,
+    BAND, BUDGET, COUNT, ENTRIES, FEW, MEMORY, MOVES, NumberRange, SEED, TIMES, WORKERS, WORLDS,
 };
 use crate::replay::Replay;
 use crate::running::Running;
@@ -50,8 +53,8 @@ pub enum Request<'a> {
     Sample(Sampling),
 }
 
-// The number of the range that a text spells.
-fn number(text: &str, range: NumberRange) -> Option<u64>
+/// The number of the range that a text spells.
+pub(crate) fn number(text: &str, range: NumberRange) -> Option<u64>
     ensures spelled { IfSome result (SaysNumber range (Some text.now)) }
     ensures none { IfNone result (IsNumberOf range text.now → ⊥) }
 {
@@ -150,18 +153,32 @@ fn replay_of<'a>(replay: &ArgMatches<'a>) -> Option<Replay<'a>>
     })
 }
 
+// The bytes at which the options of `explore` say that the search stops.
+fn memory_of(explore: &ArgMatches<'_>) -> Option<u64>
+    ensures said { IfSome result (SaysMemory (first_of (codes "memory") (rows_of (found_of explore.now)))) }
+    ensures none { IfNone result ((n : ℕ) →
+        SaysMemory (first_of (codes "memory") (rows_of (found_of explore.now))) n → ⊥) }
+{
+    match text_of(explore, "memory") {
+        Some(text) => bytes_of(text),
+        None => Some(MEMORY.usual),
+    }
+}
+
 // How far the options of `explore` say that the search goes.
 fn bounds_of(explore: &ArgMatches<'_>) -> Option<Bounds>
-    ensures said { IfSome result (λ b. SaysBounds (rows_of (found_of explore.now)) b.worlds b.entries) }
-    ensures none { IfNone result ((worlds : ℕ) (entries : ℕ) →
-        SaysBounds (rows_of (found_of explore.now)) worlds entries → ⊥) }
+    ensures said { IfSome result (λ b. SaysBounds (rows_of (found_of explore.now)) b.worlds b.entries b.memory) }
+    ensures none { IfNone result ((worlds : ℕ) (entries : ℕ) (memory : ℕ) →
+        SaysBounds (rows_of (found_of explore.now)) worlds entries memory → ⊥) }
     ensures short { IfSome result (λ b. b.entries ≤ 1000000) }
 {
     let worlds = number_of(explore, "worlds", WORLDS)?;
     let entries = number_of(explore, "entries", ENTRIES)?;
+    let memory = memory_of(explore)?;
     Some(Bounds {
         worlds: worlds as usize,
         entries: entries as usize,
+        memory: memory as usize,
     })
 }
 

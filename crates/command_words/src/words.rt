@@ -7,7 +7,7 @@ ghost use Rattle.command_words.specs.Words.{check_command, explore_command, expl
 ghost use Rattle.command_words.specs.Words.{bare_program, program};
 ghost use Rattle.command_words.specs.Words.{replay_command, run_command, run_options, sample_command, sample_options};
 ghost use Rattle.command_words.specs.Words.{schedule_option, show_command, want_option, with_explore_forms, with_forms};
-ghost use Rattle.command_words.specs.Words.{with_limits, with_run_forms};
+ghost use Rattle.command_words.specs.Words.{explore_bounds, memory_option, with_limits, with_run_forms};
 
 use crate::help;
 use crate::help::{CommandHelp, LimitsHelp};
@@ -121,6 +121,18 @@ fn schedule_option<'a>(alloc: Global) -> Arg<'a>
         .action(ArgAction::Set)
 }
 
+// The option that takes a number of bytes, with a unit or without.
+fn memory_option<'a>(alloc: Global) -> Arg<'a>
+    ensures rule { rule_of result ≡ memory_option }
+    ensures local { result.global ≡ false }
+{
+    Arg::new(alloc, "memory")
+        .long("memory")
+        .value_name("BYTES")
+        .help(help::MEMORY)
+        .action(ArgAction::Set)
+}
+
 // The option that takes an outcome of fiber 0 that is wanted, as often as there are such.
 fn want_option<'a>(alloc: Global) -> Arg<'a>
     ensures rule { rule_of result ≡ want_option }
@@ -175,9 +187,9 @@ fn replay_command<'a>(alloc: Global) -> Result<Command<'a>, AllocError>
     with_reasons(alloc, with_forms(alloc, command)?)
 }
 
-// `explore` without its flags.
-fn explore_options<'a>(alloc: Global) -> Result<Command<'a>, AllocError>
-    ensures shape { IfOk result (λ c. app_of c ≡ explore_options) }
+// `explore` with the options for its limits and bounds.
+fn explore_bounds<'a>(alloc: Global) -> Result<Command<'a>, AllocError>
+    ensures shape { IfOk result (λ c. app_of c ≡ explore_bounds) }
     ensures local { IfOk result (λ c. (out-Command c).has_globals ≡ false) }
 {
     let command = with_limits(
@@ -187,6 +199,15 @@ fn explore_options<'a>(alloc: Global) -> Result<Command<'a>, AllocError>
     )?;
     let command = command.arg(number_option(alloc, "worlds", help::WORLDS, WORLDS))?;
     let command = command.arg(number_option(alloc, "entries", help::ENTRIES, ENTRIES))?;
+    command.arg(memory_option(alloc))
+}
+
+// `explore` without its flags.
+fn explore_options<'a>(alloc: Global) -> Result<Command<'a>, AllocError>
+    ensures shape { IfOk result (λ c. app_of c ≡ explore_options) }
+    ensures local { IfOk result (λ c. (out-Command c).has_globals ≡ false) }
+{
+    let command = explore_bounds(alloc)?;
     command.arg(want_option(alloc))
 }
 

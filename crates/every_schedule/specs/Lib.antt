@@ -1,4 +1,5 @@
 pub mod Explored
 pub mod Places
+pub mod Sizes
 pub mod Reduced
 pub mod Private

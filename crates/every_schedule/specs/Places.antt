@@ -63,7 +63,8 @@ stepped p f = stepped_if (moves_at (slice_get p.world.fibers f)) p f
 abbrev pub report_at : Place → Report
 report_at p = record { fibers = map fiber_report p.world.fibers }
 
--- all that is kept
+-- all that is kept, and how many bytes are counted for it
 pub record Kept : Type 0 where
   pub places : List Place
   pub faults : List RunError
+  pub bytes : ℕ

@@ -43,12 +43,13 @@ pub(crate) struct CoreWorlds {
 }
 
 impl Model for CoreWorlds {
-    ghost use Rattle.std.specs.Prelude.{map, IfSome};
+    ghost use Rattle.std.specs.Prelude.{◌+◌, map, IfSome};
     ghost use Rattle.std.specs.Coded.{codes};
     ghost use Rattle.derived_ops.specs.Stored.{tree_code};
     ghost use Rattle.fiber_frames.specs.contracts.ask.Look as the_look;
     ghost use Rattle.fiber_frames.specs.contracts.mark.Mark as the_mark;
     ghost use Rattle.every_schedule.specs.Places.{Kept};
+    ghost use Rattle.every_schedule.specs.Sizes.{capped};
     ghost use Rattle.every_schedule.specs.Private.Numbered.{AreWorlds, place_of};
     ghost use Rattle.every_schedule.specs.Private.Standing.{IsCurrent};
 
@@ -59,6 +60,7 @@ impl Model for CoreWorlds {
     ghost view = { λ s. record {
       places = map (place_of s.limits s.states.fibers.items.items s.states.registries.items.items) s.rows.items.items;
       faults = s.faults;
+      bytes = capped (s.rows.bytes + s.states.fibers.bytes + s.states.registries.bytes);
     } };
 
     ghost invariant = { λ s.
@@ -74,10 +76,8 @@ impl CoreWorlds {
         limits: Limits,
     ) -> Result<CoreWorlds, AllocError>
         requires { AreLimits limits }
-        ensures { IfOk result (λ s. s ≡ record {
-          places = first_place (code_of (source_of program.now)) limits ∷ [];
-          faults = [];
-        }) }
+        ensures places { IfOk result (λ s. s.places ≡ first_place (code_of (source_of program.now)) limits ∷ []) }
+        ensures faults { IfOk result (λ s. s.faults ≡ []) }
     {
         let mut states = States {
             fibers: Pool::new(alloc),
@@ -137,6 +137,16 @@ impl CoreWorlds {
         let registry = &self.states.registries.items[row.registry() as usize];
         facts_of(registry.limits());
         row.fibers().len() as u16
+    }
+
+    /// About how many bytes the rows and the states take.
+    pub(crate) fn counted(&self) -> usize
+        ensures { result ≡ self.now.bytes }
+    {
+        self.rows
+            .bytes
+            .saturating_add(self.states.fibers.bytes)
+            .saturating_add(self.states.registries.bytes)
     }
 
     /// Makes the entry of a fiber at a world, with at most so many own moves behind it.
@@ -234,6 +244,8 @@ impl Worlds for CoreWorlds {
 
     ghost most_born = { 1000 };
 
+    ghost bytes = { λ s. s.bytes };
+
     fn born(&self, world: usize) -> u16 {
         self.born_at(world)
     }
@@ -250,5 +262,9 @@ impl Worlds for CoreWorlds {
 
     fn len(&self) -> usize {
         self.rows.items.len()
+    }
+
+    fn bytes(&self) -> usize {
+        self.counted()
     }
 }

@@ -82,6 +82,8 @@ pub struct Exploration {
     pub answers: Answers,
     /// How many worlds were found.
     pub worlds: usize,
+    /// How many bytes were counted for what was kept: an estimate, made of the sizes of worlds, entries and states.
+    pub bytes: usize,
     /// Every schedule was explored: there is no other answer, and wherever a schedule has led, some entries more lead
     /// to one.
     pub complete: bool,

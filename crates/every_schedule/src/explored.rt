@@ -1,5 +1,5 @@
 //! What can come of a program under every schedule.
-ghost use Rattle.std.specs.Prelude.{◌≡◌, ◌⊎◌, ◌++◌, ◌<◌, ◌≤◌, ℕ, List, length, max, IfOk, IfErr, true, false};
+ghost use Rattle.std.specs.Prelude.{◌≡◌, ◌⊎◌, ◌++◌, ◌*◌, ◌<◌, ◌≤◌, ℕ, List, length, max, min, IfOk, IfErr, true, false};
 ghost use Rattle.std.specs.Prelude.{Ok as GoesWell, Err as Fails, Result as TheResult};
 ghost use Rattle.cell_registry.specs.declared.limits.RunError.{RunError as TheRunError};
 ghost use Rattle.std.specs.List.{All};
@@ -32,8 +32,12 @@ use world_search::{Bounds, Landing, Unwatched, Watcher, search};
 ///
 /// Where the exploration is complete, no other report that stays and no other fault comes of any schedule, and wherever
 /// a schedule has led, some entries more lead to an answer. Where it isn't, as many worlds were kept as there may be,
-/// or more than a schedule may have entries, or an end that isn't listed comes of a schedule with more entries than the
-/// bound, each of a fiber that has a next move; each answer is right all the same.
+/// or more than a schedule may have entries, or as many bytes were counted as may be kept, or an end that isn't listed
+/// comes of a schedule with more entries than the bound, each of a fiber that has a next move; each answer is right all
+/// the same.
+///
+/// The bytes are an estimate: at least 13 for each world, 8 for each entry from one world to another, and for each
+/// state of a fiber or of what fibers share about what it takes. No contract says how much the machine gives.
 ///
 /// So of a complete exploration: where no fault is listed, no schedule faults; where all answers end alike, the report
 /// doesn't depend on the schedule; where a fiber has ended in each answer, it can still end wherever a schedule has
@@ -78,9 +82,11 @@ pub fn explore(
         (schedule : List ℕ) (w : World) → core (code_of (source_of program.now)) limits schedule ≡ GoesWell w →
         (f : ℕ) → NeverEnds limits w f → ⊥) }
     ensures once { IfOk result (λ it. ListOnce it.answers) }
-    ensures stopped { IfOk result (λ it. it.complete ≡ false → IsAtBound bounds it.worlds ⊎
+    ensures stopped { IfOk result (λ it. it.complete ≡ false → IsAtBound bounds it.worlds it.bytes ⊎
         IsPastBound (code_of (source_of program.now)) limits bounds.entries it.answers) }
     ensures room { IfOk result (λ it. it.worlds ≤ max bounds.worlds 1) }
+    ensures spare { IfOk result (λ it. it.complete ≡ true → it.bytes < bounds.memory) }
+    ensures counted { IfOk result (λ it. min (13 * it.worlds) 18446744073709551615 ≤ it.bytes) }
     ensures numbers { IfOk result (λ it. All (λ a. All (λ f. f < 1000) a.schedule) it.answers) }
     ensures short { IfOk result (λ it. All (λ a. length a.schedule ≤ bounds.entries) it.answers) }
     ensures moves { IfOk result (λ it.
@@ -121,9 +127,11 @@ pub fn explore_watched<V: Watcher>(
         (schedule : List ℕ) (w : World) → core (code_of (source_of program.now)) limits schedule ≡ GoesWell w →
         (f : ℕ) → NeverEnds limits w f → ⊥) }
     ensures once { IfOk result (λ it. ListOnce it.answers) }
-    ensures stopped { IfOk result (λ it. it.complete ≡ false → IsAtBound bounds it.worlds ⊎
+    ensures stopped { IfOk result (λ it. it.complete ≡ false → IsAtBound bounds it.worlds it.bytes ⊎
         IsPastBound (code_of (source_of program.now)) limits bounds.entries it.answers) }
     ensures room { IfOk result (λ it. it.worlds ≤ max bounds.worlds 1) }
+    ensures spare { IfOk result (λ it. it.complete ≡ true → it.bytes < bounds.memory) }
+    ensures counted { IfOk result (λ it. min (13 * it.worlds) 18446744073709551615 ≤ it.bytes) }
     ensures numbers { IfOk result (λ it. All (λ a. All (λ f. f < 1000) a.schedule) it.answers) }
     ensures short { IfOk result (λ it. All (λ a. length a.schedule ≤ bounds.entries) it.answers) }
     ensures moves { IfOk result (λ it.
@@ -146,6 +154,7 @@ pub fn explore_watched<V: Watcher>(
     Ok(Exploration {
         answers: Answers::new(answers),
         worlds: found.worlds,
+        bytes: found.bytes,
         complete: are_both(found.complete, unfolded.whole),
     })
 }
@@ -187,8 +196,10 @@ pub fn explore_full(
         (schedule : List ℕ) (w : World) → core (code_of (source_of program.now)) limits schedule ≡ GoesWell w →
         (f : ℕ) → NeverEnds limits w f → ⊥) }
     ensures once { IfOk result (λ it. ListOnce it.answers) }
-    ensures stopped { IfOk result (λ it. it.complete ≡ false → IsAtBound bounds it.worlds) }
+    ensures stopped { IfOk result (λ it. it.complete ≡ false → IsAtBound bounds it.worlds it.bytes) }
     ensures room { IfOk result (λ it. it.worlds ≤ max bounds.worlds 1) }
+    ensures spare { IfOk result (λ it. it.complete ≡ true → it.bytes < bounds.memory) }
+    ensures counted { IfOk result (λ it. min (13 * it.worlds) 18446744073709551615 ≤ it.bytes) }
     ensures numbers { IfOk result (λ it. All (λ a. All (λ f. f < 1000) a.schedule) it.answers) }
     ensures short { IfOk result (λ it. All (λ a. length a.schedule ≤ bounds.entries) it.answers) }
     ensures lawful { IfOk result (λ it. All HasLawfulMarks it.answers) }
@@ -200,6 +211,7 @@ pub fn explore_full(
     Ok(Exploration {
         answers: Answers::new(answers),
         worlds: found.worlds,
+        bytes: found.bytes,
         complete: found.complete,
     })
 }

@@ -10,7 +10,7 @@
 //! ```
 //! let program = Program::check(alloc, parse(alloc, b"(race (pure 4) (never))")?)?;
 //! let limits = Limits { fibers: 3, refs: 1, deferreds: 1, count: 1000 };
-//! let bounds = Bounds { worlds: 10_000, entries: 10_000 };
+//! let bounds = Bounds { worlds: 10_000, entries: 10_000, memory: 1 << 30 };
 //! let exploration = explore(alloc, &program, limits, bounds)?;
 //! // All schedules were searched, and two reports come of them: fiber 2 is cut before its first move, or in its poll.
 //! assert_eq!((exploration.complete, exploration.answers.as_slice().len()), (true, 2));

@@ -1,15 +1,25 @@
 //! States that are kept once, each with a number.
-ghost use Rattle.std.specs.Prelude.{◌≡◌, ◌++◌, [], ◌∷◌, length, true, IfOk, IfSome, OnErr, OnOk, Some};
+ghost use Rattle.std.specs.Prelude.{◌≡◌, ◌+◌, ◌++◌, ℕ, [], ◌∷◌, length, true, IfOk, IfSome, OnErr, OnOk, Some};
 ghost use Rattle.std.specs.List.{slice_get};
 ghost use Rattle.world_search.specs.Lists.{IsMore};
+ghost use Rattle.every_schedule.specs.Sizes.{capped};
 
 use cell_registry::PlainRegistry;
 use fiber_frames::Config;
 use std::alloc::{AllocError, Global};
 use std::collections::HashMap;
 
+// About how many bytes a fiber takes without its marks.
+const FIBER: usize = 480;
+
+// About how many bytes a registry takes without its cells.
+const REGISTRY: usize = 160;
+
 /// A state that can be looked up among others.
 pub(crate) trait Pooled: Drop {
+    // About how many bytes a state takes.
+    ghost size: { Self → ℕ };
+
     /// The same state once more.
     fn again(&self, alloc: Global) -> Result<Self, AllocError>
         ensures { IfOk result (λ it. it ≡ self.now) };
@@ -20,9 +30,17 @@ pub(crate) trait Pooled: Drop {
 
     /// A number that is the same for states that are taken for one.
     fn key(&self) -> u64;
+
+    /// About how many bytes it takes among others.
+    fn size(&self) -> usize
+        ensures { result ≡ size self.now };
 }
 
 impl Pooled for Config {
+    ghost use Rattle.every_schedule.specs.Sizes.{fiber_size};
+
+    ghost size = { fiber_size };
+
     fn again(&self, alloc: Global) -> Result<Config, AllocError> {
         self.copy(alloc)
     }
@@ -34,9 +52,17 @@ impl Pooled for Config {
     fn key(&self) -> u64 {
         self.digest()
     }
+
+    fn size(&self) -> usize {
+        self.trace().len().saturating_mul(16).saturating_add(FIBER)
+    }
 }
 
 impl Pooled for PlainRegistry {
+    ghost use Rattle.every_schedule.specs.Sizes.{registry_size};
+
+    ghost size = { registry_size };
+
     fn again(&self, alloc: Global) -> Result<PlainRegistry, AllocError> {
         self.copy(alloc)
     }
@@ -48,6 +74,14 @@ impl Pooled for PlainRegistry {
     fn key(&self) -> u64 {
         self.digest()
     }
+
+    fn size(&self) -> usize {
+        let limits = self.limits();
+        REGISTRY
+            + 32 * limits.fibers as usize
+            + 8 * limits.refs as usize
+            + 16 * limits.deferreds as usize
+    }
 }
 
 /// States, each of which has its place for its number. One is looked up by its key, under which the last state of this
@@ -58,17 +92,21 @@ pub(crate) struct Pool<T> {
     pub(crate) items: Vec<T>,
     last: HashMap<u64, u32>,
     earlier: Vec<Option<u32>>,
+    /// About how many bytes all of them take.
+    pub(crate) bytes: usize,
 }
 
 impl<T: Pooled> Pool<T> {
     /// No state yet.
     pub(crate) fn new(alloc: Global) -> Pool<T>
-        ensures { result.items.items ≡ [] }
+        ensures none { result.items.items ≡ [] }
+        ensures bytes { result.bytes ≡ 0 }
     {
         Pool {
             items: Vec::new(alloc),
             last: HashMap::new(alloc),
             earlier: Vec::new(alloc),
+            bytes: 0,
         }
     }
 
@@ -92,6 +130,7 @@ impl<T: Pooled> Pool<T> {
         ensures added { OnOk result (self.new.items.items ≡ self.old.items.items ++ item ∷ []) }
         ensures number { IfOk result (λ n. n ≡ length self.old.items.items) }
         ensures kept { OnErr result (self.new.items.items ≡ self.old.items.items) }
+        ensures counted { OnOk result (self.new.bytes ≡ capped (self.old.bytes + T.size item)) }
     {
         let place = self.items.len();
         if place >= u32::MAX as usize {
@@ -99,6 +138,7 @@ impl<T: Pooled> Pool<T> {
         }
         let number = place as u32;
         let before = self.last.insert(item.key(), number)?;
+        self.bytes = self.bytes.saturating_add(item.size());
         self.earlier.push(before)?;
         self.items.push(item)?;
         Ok(number)

@@ -30,10 +30,9 @@ impl ReducedWorlds {
         limits: Limits,
     ) -> Result<ReducedWorlds, AllocError>
         requires { AreLimits limits }
-        ensures { IfOk result (λ s. s.worlds ≡ record {
-          places = first_place (code_of (source_of program.now)) limits ∷ [];
-          faults = [];
-        }) }
+        ensures places { IfOk result (λ s. s.worlds.places ≡
+            first_place (code_of (source_of program.now)) limits ∷ []) }
+        ensures faults { IfOk result (λ s. s.worlds.faults ≡ []) }
     {
         let worlds = CoreWorlds::new(alloc, program, limits)?;
         Ok(ReducedWorlds { worlds })
@@ -60,6 +59,8 @@ impl Worlds for ReducedWorlds {
 
     ghost most_born = { 1000 };
 
+    ghost bytes = { λ s. s.worlds.bytes };
+
     fn born(&self, world: usize) -> u16 {
         self.worlds.born_at(world)
     }
@@ -74,5 +75,9 @@ impl Worlds for ReducedWorlds {
 
     fn len(&self) -> usize {
         self.worlds.len()
+    }
+
+    fn bytes(&self) -> usize {
+        self.worlds.counted()
     }
 }

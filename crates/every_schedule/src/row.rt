@@ -5,6 +5,9 @@ use crate::pool::Pooled;
 use std::alloc::{AllocError, Global};
 use std::marker::Model;
 
+// About how many bytes a row takes without the numbers of its fibers.
+const ROW: usize = 96;
+
 /// The numbers of a world's states: that of its registry, and those of its fibers.
 #[derive(Drop)]
 pub(crate) struct Row {
@@ -52,6 +55,10 @@ impl Row {
 }
 
 impl Pooled for Row {
+    ghost use Rattle.every_schedule.specs.Sizes.{row_size};
+
+    ghost size = { row_size };
+
     fn again(&self, alloc: Global) -> Result<Row, AllocError> {
         Ok(Row {
             registry: self.registry,
@@ -70,5 +77,9 @@ impl Pooled for Row {
             key = product ^ (product >> 32);
         }
         key
+    }
+
+    fn size(&self) -> usize {
+        self.fibers.len().saturating_mul(4).saturating_add(ROW)
     }
 }

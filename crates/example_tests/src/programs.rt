@@ -102,6 +102,7 @@ fn a_program_is_explored(rt: HostRuntime) -> Result<(), Fail> {
     let bounds = Bounds {
         worlds: 10_000,
         entries: 10_000,
+        memory: usize::MAX,
     };
     let exploration = explore(alloc, &program, few(), bounds)?;
     assert!(rt; exploration.complete);

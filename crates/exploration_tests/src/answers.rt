@@ -28,7 +28,11 @@ pub fn exploring(alloc: Global, fibers: u16, worlds: usize, entries: usize) -> E
 {
     ExploreOrder {
         limits: limits(fibers),
-        bounds: Bounds { worlds, entries },
+        bounds: Bounds {
+            worlds,
+            entries,
+            memory: usize::MAX,
+        },
         wants: Vec::new(alloc),
     }
 }

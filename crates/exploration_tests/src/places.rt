@@ -151,6 +151,8 @@ impl Worlds for Places {
 
     ghost most_born = { 2 };
 
+    ghost bytes = { λ it. length it.places.items + length it.faults.items };
+
     fn born(&self, world: usize) -> u16 {
         let _ = self.places[world];
         2
@@ -174,5 +176,9 @@ impl Worlds for Places {
 
     fn len(&self) -> usize {
         self.places.len()
+    }
+
+    fn bytes(&self) -> usize {
+        self.places.len() + self.faults.len()
     }
 }

@@ -213,6 +213,7 @@ fn explored_twice(alloc: Global, text: &str, limits: Limits) -> Result<Both, Fai
     let bounds = Bounds {
         worlds: 10_000,
         entries: 1000,
+        memory: usize::MAX,
     };
     let Ok(full) = explore_full(alloc, &program, limits, bounds) else {
         return Err(Fail::new("memory ran out"));

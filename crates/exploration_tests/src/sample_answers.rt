@@ -42,6 +42,7 @@ pub fn explored(alloc: Global, program: &str) -> Result<Answer, Fail> {
         bounds: Bounds {
             worlds: 100_000,
             entries: 1000,
+            memory: usize::MAX,
         },
         wants: Vec::new(alloc),
     };

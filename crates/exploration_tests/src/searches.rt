@@ -208,6 +208,7 @@ fn finds(alloc: Global, row: &Row) -> Result<bool, AllocError> {
     let bounds = Bounds {
         worlds: row.most,
         entries: row.entries,
+        memory: usize::MAX,
     };
     let found: Found = search(alloc, &mut places, bounds, &mut Unwatched)?;
     Ok(
@@ -221,6 +222,38 @@ fn finds(alloc: Global, row: &Row) -> Result<bool, AllocError> {
 fn rows(rt: HostRuntime) -> Result<(), Fail> {
     for (index, row) in ROWS.iter().enumerate() {
         assert!(rt; finds(rt.alloc(), row)?, "row {index}");
+    }
+    Ok(())
+}
+
+// The bytes at which a search from place 0 stops, and what it has found then: whether that is all, how many places,
+// and how many bytes are counted. Each place is one byte in its store, so each takes 14, and each of the two entries
+// that lead to the next place 8: that is 14 before the entries at the first place, 2 * 14 + 8 behind them, and 3 * 14
+// + 2 * 8 behind those at the second one.
+const BYTES: [(usize, bool, usize, usize); 7] = [
+    (0, false, 1, 14),
+    (14, false, 1, 14),
+    (15, false, 2, 36),
+    (36, false, 2, 36),
+    (37, false, 3, 58),
+    (58, false, 3, 58),
+    (59, true, 3, 58),
+];
+
+#[test]
+fn a_search_stops_at_the_bytes_that_may_be_kept(rt: HostRuntime) -> Result<(), Fail> {
+    for (memory, complete, worlds, bytes) in BYTES {
+        let mut places = start(rt.alloc(), 0)?;
+        let bounds = Bounds {
+            worlds: 10,
+            entries: 10,
+            memory,
+        };
+        let found = search(rt.alloc(), &mut places, bounds, &mut Unwatched)?;
+        assert_eq!(rt;
+            (found.complete, found.worlds, found.bytes),
+            (complete, worlds, bytes)
+        );
     }
     Ok(())
 }

@@ -20,12 +20,18 @@ use Rattle.exploration_text.specs.Wants.{is_failure, is_unwanted}
 abbrev pub counted : ℕ → List ℕ → List ℕ
 counted n noun = decimal n ++ (codes " " ++ (noun ++ (if n == 1 then [] else codes "s")))
 
--- whether all was explored, how many worlds were found, and how many reports and faults are listed
+-- the end of the first line: where not all was explored, how many bytes were counted
+abbrev pub line_end : (complete : Bool) → (bytes : ℕ) → List ℕ
+line_end true bytes = 10 ∷ []
+line_end false bytes = codes ", " ++ (counted bytes (codes "byte") ++ 10 ∷ [])
+
+-- whether all was explored, how many worlds were found, and how many reports and faults are listed; where not all was
+-- explored, how many bytes were counted, too
 abbrev pub first_line : Exploration → List ℕ
 first_line e = (if e.complete then codes "explored " else codes "stopped at ") ++
     (counted e.worlds (codes "world") ++ (codes ": " ++
     (counted (count_by (λ a. is_ok a.end) e.answers) (codes "report") ++ (codes ", " ++
-    (counted (count_by (λ a. is_err a.end) e.answers) (codes "fault") ++ 10 ∷ [])))))
+    (counted (count_by (λ a. is_err a.end) e.answers) (codes "fault") ++ line_end e.complete e.bytes)))))
 
 -- what `replay` writes: the report, or the fault's line
 abbrev pub end_text : Result Report RunError → List ℕ

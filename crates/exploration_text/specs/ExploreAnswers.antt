@@ -1,5 +1,5 @@
 -- What is answered to a text whose program is explored.
-use Rattle.std.specs.Prelude.{◌≡◌, ◌⊎◌, ◌≤◌, ℕ, List, Ok, length, max, true, false}
+use Rattle.std.specs.Prelude.{◌≡◌, ◌⊎◌, ◌<◌, ◌≤◌, ℕ, List, Ok, length, max, true, false}
 use Rattle.std.specs.List.{All}
 use Rattle.cell_registry.specs.declared.limits.Limits.{Limits}
 use Rattle.derived_ops.specs.Expansion.{code_of}
@@ -26,8 +26,9 @@ pub record IsExplorationOf (code : Tree) (limits : Limits) (bounds : Bounds) (e 
   pub each : All (IsReached code limits) e.answers
   pub once : ListOnce e.answers
   pub stopped : e.complete ≡ false →
-      IsAtBound bounds e.worlds ⊎ IsPastBound code limits bounds.entries e.answers
+      IsAtBound bounds e.worlds e.bytes ⊎ IsPastBound code limits bounds.entries e.answers
   pub room : e.worlds ≤ max bounds.worlds 1
+  pub spare : e.complete ≡ true → e.bytes < bounds.memory
   pub short : All (λ a. length a.schedule ≤ bounds.entries) e.answers
 
 -- the text and the status of an exploration of the program within the bounds

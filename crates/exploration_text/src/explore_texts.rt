@@ -20,7 +20,8 @@ pub struct ExploreOrder {
     /// How many fibers, refs and deferreds there may be (each 1 to 1000), and how often a fiber may change its own
     /// state (1 to 1,099,511,627,775). A world takes memory for each of these numbers but the last.
     pub limits: Limits,
-    /// How many worlds are kept at most, and how many entries a schedule has at most (0 to 1,000,000).
+    /// How many worlds are kept at most, how many entries a schedule has at most (0 to 1,000,000), and at how many
+    /// bytes the search stops.
     pub bounds: Bounds,
     /// The outcomes of fiber 0 that are wanted; none where any is.
     pub wants: Vec<Want>,

@@ -5,7 +5,7 @@ ghost use Rattle.std.specs.List.{All, list_any};
 ghost use Rattle.std.specs.Result.{is_err, is_ok};
 ghost use Rattle.exploration_text.specs.ExplorationText.{IsAnswerText, IsExplorationText, IsPartText, counted};
 ghost use Rattle.exploration_text.specs.ExplorationText.{end_text, exploration_status, first_line, has_failure};
-ghost use Rattle.exploration_text.specs.ExplorationText.{IsSpellable, heading, is_listed_so};
+ghost use Rattle.exploration_text.specs.ExplorationText.{IsSpellable, heading, is_listed_so, line_end};
 ghost use Rattle.exploration_text.specs.Wants.{first_outcome, is_failure, is_met, is_unwanted};
 
 use crate::wants::Want;
@@ -16,10 +16,9 @@ use itoa::Buffer;
 use outcome_trace::{Refused, Report, Status, line, schedule_text, text_of_report};
 use std::alloc::{AllocError, Global};
 
-/// The text of an exploration: whether all was explored, how many worlds were found and how many reports and faults are
-/// listed; then each answer behind a blank line and its schedule, as a replay under the schedule writes it. Where
-/// outcomes of fiber 0 are wanted, the answers that have another one and the faults stand first, and are headed as not
-/// wanted.
+/// The text of an exploration: its first line ([`first_line`]); then each answer behind a blank line and its schedule,
+/// as a replay under the schedule writes it. Where outcomes of fiber 0 are wanted, the answers that have another one
+/// and the faults stand first, and are headed as not wanted.
 ///
 /// The entries of each schedule are at most 999, and it has at most 1,000,000. `AllocError` where memory is refused.
 pub fn text_of_exploration(
@@ -173,8 +172,9 @@ fn end_text(alloc: Global, end: &Result<Report, RunError>) -> Result<Vec<u8>, Al
     }
 }
 
-/// The first line of the text of an exploration: whether all was explored, how many worlds were found and how many
-/// reports and faults are listed. `AllocError` where memory is refused.
+/// The first line of the text of an exploration: whether all was explored, how many worlds were found, how many reports
+/// and faults are listed, and, where not all was explored, how many bytes were counted. `AllocError` where memory is
+/// refused.
 pub fn first_line(alloc: Global, exploration: &Exploration) -> Result<String, AllocError>
     ensures { IfOk result (λ line. string_bytes line ≡ first_line exploration.now) }
 {
@@ -190,8 +190,19 @@ pub fn first_line(alloc: Global, exploration: &Exploration) -> Result<String, Al
     push_counted(&mut line, reports(answers), "report")?;
     line.push_str(", ")?;
     push_counted(&mut line, faults(answers), "fault")?;
-    line.push_str("\n")?;
+    push_line_end(&mut line, exploration.complete, exploration.bytes)?;
     Ok(line)
+}
+
+// Writes the end of the first line: where not all was explored, how many bytes were counted.
+fn push_line_end(line: &mut String, complete: bool, bytes: usize) -> Result<(), AllocError>
+    ensures { OnOk result (string_bytes line.new ≡ string_bytes line.old ++ line_end complete bytes) }
+{
+    if !complete {
+        line.push_str(", ")?;
+        push_counted(line, bytes, "byte")?;
+    }
+    line.push_str("\n")
 }
 
 // How many answers are reports.

@@ -15,8 +15,8 @@ use outcome_trace::{Report, schedule_text};
 use serde_json::{Value, json};
 use std::alloc::{AllocError, Global};
 
-/// An exploration: its answers, those that aren't wanted first, whether they are all, and how many worlds were found.
-/// `AllocError` where memory ran out.
+/// An exploration: its answers, those that aren't wanted first, whether they are all, how many worlds were found, and
+/// where the answers may not be all, how many bytes were counted. `AllocError` where memory ran out.
 pub(crate) fn exploration_json(
     alloc: Global,
     exploration: &Exploration,
@@ -29,20 +29,33 @@ pub(crate) fn exploration_json(
     let mut values = part_values(alloc, answers, wants, true)?;
     let mut others = part_values(alloc, answers, wants, false)?;
     values.append(&mut others)?;
-    exploration_value(alloc, values, exploration.complete, exploration.worlds)
+    exploration_value(
+        alloc,
+        values,
+        exploration.complete,
+        exploration.worlds,
+        exploration.bytes,
+    )
 }
 
-// Answers, whether they are all, and how many worlds were found.
+// Answers, whether they are all, and how many worlds were found; where they may not be all, how many bytes were
+// counted, too.
 fn exploration_value(
     alloc: Global,
     answers: Vec<Value>,
     complete: bool,
     worlds: usize,
+    bytes: usize,
 ) -> Result<Value, AllocError>
-    ensures { IfOk result (λ value. view value ≡ exploration_data (items_view answers.items) complete worlds) }
+    ensures { IfOk result (λ value. view value ≡ exploration_data (items_view answers.items) complete worlds bytes) }
 {
     let answers = Value::Array(answers);
-    json!(in alloc; {"answer": "exploration", "answers": answers, "complete": complete, "worlds": worlds})
+    if complete {
+        json!(in alloc; {"answer": "exploration", "answers": answers, "complete": true, "worlds": worlds})
+    } else {
+        json!(in alloc; {"answer": "exploration", "answers": answers, "bytes": bytes, "complete": false,
+            "worlds": worlds})
+    }
 }
 
 // The answers that are listed as not wanted, or the others.

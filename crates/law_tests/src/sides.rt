@@ -64,6 +64,7 @@ pub fn explored(alloc: Global, within: &str, term: &str) -> Result<Exploration, 
     let bounds = Bounds {
         worlds: 100_000,
         entries: 1000,
+        memory: usize::MAX,
     };
     let Ok(exploration) = explore(alloc, &program, limits(), bounds) else {
         return Err(Fail::new("memory ran out"));

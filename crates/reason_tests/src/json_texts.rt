@@ -102,7 +102,9 @@ const EXPLORED: &[(&str, usize, &[&str], &str, Status)] = &[
         "(pure 1)",
         1,
         &[],
-        "{\"answer\":\"exploration\",\"answers\":[],\"complete\":false,\"worlds\":1}\n",
+        // A world of 13 bytes with a row of 96 and 4, three states of the fiber of 480, as the end is made, and two of
+        // the cells, each of 160, 32 for each of 16 fibers, 8 for the ref and 16 for each of 16 deferreds.
+        "{\"answer\":\"exploration\",\"answers\":[],\"bytes\":3425,\"complete\":false,\"worlds\":1}\n",
         Status::Unended,
     ),
     (
@@ -246,6 +248,7 @@ fn explored(alloc: Global, program: &str, worlds: usize, words: &[&str]) -> Resu
             bounds: Bounds {
                 worlds,
                 entries: 1000,
+                memory: usize::MAX,
             },
             wants,
         },

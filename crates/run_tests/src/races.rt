@@ -24,6 +24,7 @@ const LIMITS: Limits = Limits {
 const BOUNDS: Bounds = Bounds {
     worlds: 100_000,
     entries: 10_000,
+    memory: usize::MAX,
 };
 
 // How each program here is run.

@@ -66,6 +66,7 @@ pub fn exploration(alloc: Global, fibers: u16, words: &[&str]) -> Result<Explore
         bounds: Bounds {
             worlds: 100_000,
             entries: 1000,
+            memory: usize::MAX,
         },
         wants,
     })

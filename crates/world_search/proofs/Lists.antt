@@ -1,7 +1,9 @@
 -- Elements of lists that go on, or of which one is set.
-use Rattle.std.proofs.Common.{◌≡◌, ◌≢◌, ℕ, zero, suc, ◌<◌, ◌≤◌, List, [], ◌∷◌, ◌++◌, length, set, Some, refl, sym, ap}
+use Rattle.std.proofs.Common.{◌≡◌, ◌≢◌, ℕ, zero, suc, ◌+◌, ◌<◌, ◌≤◌, List, [], ◌∷◌, ◌++◌, length, set, Some, refl, sym, ap}
 use Rattle.std.proofs.Common.{◌∙◌, subst, arith, append_assoc, append-nil, length-append, inl, inr, get_or}
-use Rattle.std.specs.Prelude.{IfOk, Result, Ok, Err}
+use Rattle.std.specs.Prelude.{◌*◌, IfOk, Result, Ok, Err}
+use Rattle.std.proofs.Math.Nat.{mul-suc}
+use Rattle.std.proofs.Math.Numerals.{add-one}
 use Rattle.std.specs.List.{slice_get, All}
 use Rattle.std.proofs.lemmas.Option.{same_Some, slice_get-get_or, slice_get_within}
 use mathlib.Core.Logic.{◌⊎◌}
@@ -80,3 +82,6 @@ more_at xs ys i m h = subst (λ l. slice_get l i ≡ slice_get xs i) m.is (back_
 pub ok_then : {T E : Type 0} (P Q : T → Type 0) → ((x : T) → P x → Q x) → (r : Result T E) → IfOk r P → IfOk r Q
 ok_then P Q f (Ok x) h = f x h
 ok_then P Q f (Err e) h = h
+
+pub mul_next : (a i : ℕ) → a * (i + 1) ≡ a * i + a
+mul_next a i = rw add-one (mul-suc a i)

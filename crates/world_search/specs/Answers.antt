@@ -1,5 +1,5 @@
 -- What the answers of a search say.
-use Rattle.std.specs.Prelude.{◌≡◌, ◌≢◌, ◌⊎◌, ℕ, ◌<◌, ◌≤◌, List, length, min, Some, Result, Ok, Err}
+use Rattle.std.specs.Prelude.{◌≡◌, ◌≢◌, ◌⊎◌, ℕ, ◌+◌, ◌*◌, ◌<◌, ◌≤◌, List, length, min, Some, Result, Ok, Err}
 use Rattle.std.specs.List.{slice_get, All}
 use Rattle.world_search.specs.declared.landings.Landing.{Landing}
 use Rattle.world_search.specs.declared.landings.Landing.TheVariants as to
@@ -12,9 +12,16 @@ use Rattle.world_search.specs.Systems.{run, IsSettled}
 abbrev pub IsShort : ℕ → Answer → Type 0
 IsShort entries a = length a.schedule.items ≤ entries
 
--- there are as many worlds as may be kept, or more than a schedule may have entries
-abbrev pub IsAtBound : Bounds → ℕ → Type 0
-IsAtBound bounds worlds = (min bounds.worlds 4294967295 ≤ worlds) ⊎ (min bounds.entries 4294967295 < worlds)
+-- there are as many worlds as may be kept, or more than a schedule may have entries, or as many bytes were counted as
+-- may be kept
+abbrev pub IsAtBound : Bounds → (worlds bytes : ℕ) → Type 0
+IsAtBound bounds worlds bytes =
+    (min bounds.worlds 4294967295 ≤ worlds) ⊎ (min bounds.entries 4294967295 < worlds) ⊎ (bounds.memory ≤ bytes)
+
+-- the bytes that are counted: 13 for each world, 8 for each entry that leads to another world, and those of the store;
+-- no more than fit a word
+abbrev pub bytes_of : (worlds edges store : ℕ) → ℕ
+bytes_of worlds edges store = min (13 * worlds + 8 * edges + store) 18446744073709551615
 
 -- the schedule is of numbers below this one
 abbrev pub IsNumbered : ℕ → Answer → Type 0

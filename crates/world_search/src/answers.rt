@@ -9,6 +9,9 @@ pub struct Bounds {
     pub worlds: usize,
     /// The most entries of a schedule. More than 2^32 - 1 are as many as that.
     pub entries: usize,
+    /// The bytes of memory at which the search stops, as it counts them ([`Found::bytes`]). They are counted before the
+    /// entries at each world, so that as much more may be kept as comes of the entries at one.
+    pub memory: usize,
 }
 
 /// An answer: a schedule, and where it leads.
@@ -27,8 +30,14 @@ pub struct Found {
     /// the ones that are certain. Worlds are met breadth first, so the schedules are short; no contract says so.
     pub answers: Vec<Answer>,
     /// Every schedule was searched: no other leads to a fault that isn't listed, or to a settled world of another
-    /// report. It is so where all worlds are kept, and each of them is met by fewer entries than the most.
+    /// report. It is so where all worlds are kept, each of them is met by fewer entries than the most, and fewer bytes
+    /// are counted than the bound.
     pub complete: bool,
     /// How many worlds the store has.
     pub worlds: usize,
+    /// How many entries were met that lead from one world to another.
+    pub edges: usize,
+    /// How many bytes are counted for what is kept: 13 for each world, 8 for each of these entries, and what the store
+    /// counts ([`Worlds::bytes`](crate::Worlds::bytes)). It is an estimate of the memory that is taken.
+    pub bytes: usize,
 }

@@ -1,8 +1,9 @@
 //! The entries at each world that was met, in turn.
 
-ghost use Rattle.std.specs.Prelude.{◌≡◌, ℕ, ◌<◌, ◌≤◌, length, true, false, max, IfOk, OnOk, Some};
+ghost use Rattle.std.specs.Prelude.{◌≡◌, ◌⊎◌, ℕ, ◌+◌, ◌*◌, ◌<◌, ◌≤◌, length, true, false, max, IfOk, OnOk, Some};
 ghost use Rattle.std.specs.List.{slice_get};
 ghost use Rattle.world_search.specs.declared.graphs.Node.{Node};
+ghost use Rattle.world_search.specs.Answers.{bytes_of};
 ghost use Rattle.world_search.specs.Landings.{LandsAt};
 ghost use Rattle.world_search.specs.Lists.{IsMore};
 ghost use Rattle.world_search.specs.Private.Shapes.{shape};
@@ -25,6 +26,8 @@ pub struct Limits {
     pub worlds: u32,
     /// The most entries that lead to one.
     pub entries: u32,
+    /// The bytes at which no more entries are made.
+    pub memory: usize,
 }
 
 /// What came of entries at a world.
@@ -58,18 +61,54 @@ pub fn explore<W: Worlds, V: Watcher>(
     ensures snug { IsSnug (length (W.worlds worlds.old)) (shape graph.old) →
         OnOk result (IsSnug (length (W.worlds worlds.new)) (shape graph.new)) }
     ensures stopped { IfOk result (λ it. it ≡ false → IsSnug (length (W.worlds worlds.old)) (shape graph.old) →
-        IsStopped limits.worlds limits.entries (length (W.worlds worlds.new))) }
+        IsStopped limits.worlds limits.entries (length (W.worlds worlds.new)) ⊎
+        (limits.memory ≤ bytes_of (length (W.worlds worlds.new)) (length graph.new.edges.items) (W.bytes worlds.new))) }
+    ensures spare { IfOk result (λ it. it ≡ true → bytes_of (length (W.worlds worlds.new))
+        (length graph.new.edges.items) (W.bytes worlds.new) < limits.memory) }
+    ensures edges { OnOk result (length graph.new.edges.items ≤
+        length graph.old.edges.items + W.most_born * length graph.new.nodes.items) }
 {
     let mut whole = true;
     let mut index = 0;
-    while index < graph.nodes.len() && index < limits.worlds as usize {
+    while index < graph.nodes.len() && has_room(&*worlds, &*graph, index, limits) {
         tell(&mut *watcher, &*graph, index);
         if !expand(&mut *worlds, &mut *graph, index, limits)? {
             whole = false;
         }
         index += 1;
     }
-    Ok(whole && index >= graph.nodes.len())
+    Ok(whole && is_all(&*worlds, &*graph, index, limits))
+}
+
+/// How many bytes are counted for the worlds and for what is known of them.
+pub fn bytes_of<W: Worlds>(worlds: &W, graph: &Graph) -> usize
+    ensures { result ≡ bytes_of (length (W.worlds worlds.now)) (length graph.now.edges.items) (W.bytes worlds.now) }
+{
+    let nodes = worlds.len().saturating_mul(13);
+    let edges = graph.edges.len().saturating_mul(8);
+    nodes.saturating_add(edges).saturating_add(worlds.bytes())
+}
+
+// Whether the entries at the world of this number are within the limits of worlds and of memory.
+fn has_room<W: Worlds>(worlds: &W, graph: &Graph, index: usize, limits: Limits) -> bool
+    ensures few { result ≡ true → index < limits.worlds }
+    ensures room { result ≡ true → bytes_of (length (W.worlds worlds.now)) (length graph.now.edges.items)
+        (W.bytes worlds.now) < limits.memory }
+    ensures stops { result ≡ false → (limits.worlds ≤ index) ⊎ (limits.memory ≤ bytes_of
+        (length (W.worlds worlds.now)) (length graph.now.edges.items) (W.bytes worlds.now)) }
+{
+    index < limits.worlds as usize && bytes_of(worlds, graph) < limits.memory
+}
+
+// Whether this is the number of all worlds that were met, and the memory is within its limit.
+fn is_all<W: Worlds>(worlds: &W, graph: &Graph, index: usize, limits: Limits) -> bool
+    ensures all { result ≡ true → length graph.now.nodes.items ≤ index }
+    ensures spare { result ≡ true → bytes_of (length (W.worlds worlds.now)) (length graph.now.edges.items)
+        (W.bytes worlds.now) < limits.memory }
+    ensures isnt { result ≡ false → (index < length graph.now.nodes.items) ⊎
+        (limits.memory ≤ bytes_of (length (W.worlds worlds.now)) (length graph.now.edges.items) (W.bytes worlds.now)) }
+{
+    index >= graph.nodes.len() && bytes_of(worlds, graph) < limits.memory
 }
 
 // The watcher is told of a world, if it is its turn.
@@ -92,10 +131,13 @@ fn expand<W: Worlds>(
         (W.worlds worlds.old) (W.faults worlds.old) (shape graph.old) }
     requires low { index < length graph.old.nodes.items }
     requires few { index < limits.worlds }
+    requires spare { bytes_of (length (W.worlds worlds.old)) (length graph.old.edges.items) (W.bytes worlds.old) <
+        limits.memory }
     ensures grows { OnOk result (Grows (W.worlds worlds.old) (W.worlds worlds.new) (W.faults worlds.old)
         (W.faults worlds.new) (shape graph.old) (shape graph.new)) }
     ensures fits { OnOk result (Fits W.step W.report W.most_born limits.entries (W.worlds worlds.new)
         (W.faults worlds.new) (shape graph.new)) }
+    ensures edges { OnOk result (length graph.new.edges.items ≤ length graph.old.edges.items + W.most_born) }
     ensures flags { OnOk result (SameFlags index graph.old.unsettled.items graph.new.unsettled.items) }
     ensures done { IfOk result (λ it. it ≡ true →
         IsDone W.step W.report W.most_born limits.entries
@@ -165,6 +207,7 @@ fn enter<W: Worlds>(
         OnOk result (IsSnug (length (W.worlds worlds.new)) (shape graph.new)) }
     ensures lost { IfOk result (λ it. it ≡ Came.Lost → IsSnug (length (W.worlds worlds.old)) (shape graph.old) →
         limits.worlds ≤ length (W.worlds worlds.new)) }
+    ensures edges { OnOk result (length graph.new.edges.items ≤ length graph.old.edges.items + 1) }
 {
     let node = Node {
         from: index as u32,
@@ -208,6 +251,7 @@ fn meet<W: Worlds>(
     ensures lost { IfOk result (λ it. it ≡ Came.Lost →
         IsNearly (length (W.worlds worlds.now)) to limits.worlds (shape graph.old) →
         limits.worlds ≤ length (W.worlds worlds.now)) }
+    ensures edges { OnOk result (length graph.new.edges.items ≤ length graph.old.edges.items + 1) }
 {
     if !keep(&mut *graph, node, to, limits.worlds)? {
         return Ok(Came::Lost);

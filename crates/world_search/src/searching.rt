@@ -1,15 +1,16 @@
 //! The search.
 
-ghost use Rattle.std.specs.Prelude.{◌≡◌, ℕ, ◌<◌, ◌≤◌, ◌++◌, List, length, true, false, max, min, Ok as GoesWell};
+ghost use Rattle.std.specs.Prelude.{◌≡◌, ℕ, ◌*◌, ◌<◌, ◌≤◌, ◌++◌, List, length, true, false, max, min, Ok as GoesWell};
 ghost use Rattle.std.specs.Prelude.{IfOk, OnOk, Some};
 ghost use Rattle.std.specs.List.{slice_get, All};
 ghost use Rattle.world_search.specs.Answers.{IsAtBound, IsCovered, IsRight, IsEnd, IsShort, IsNumbered, TellOnce};
+ghost use Rattle.world_search.specs.Answers.{bytes_of};
 ghost use Rattle.world_search.specs.Free.{AreGrowing};
 ghost use Rattle.world_search.specs.Lists.{IsMore};
 ghost use Rattle.world_search.specs.Systems.{run};
 
 use crate::answers::{Bounds, Found};
-use crate::expanding::{Limits, explore};
+use crate::expanding::{Limits, bytes_of, explore};
 use crate::graphs::begin;
 use crate::listing::{list_faults, list_worlds};
 use crate::spread::spread;
@@ -20,8 +21,8 @@ use std::alloc::{AllocError, Global};
 /// Searches every schedule from the first world of a store, the one of number 0.
 ///
 /// Each entry is made once at each world that is met. The watcher is called at each ten-thousandth world, with how far
-/// the search has come; where nobody watches it is [`Unwatched`](crate::Unwatched). Beside the store, a world takes 13
-/// bytes here, and an entry that leads to another world 8. `AllocError` where memory is refused, here or by the store.
+/// the search has come; where nobody watches it is [`Unwatched`](crate::Unwatched). `AllocError` where memory is
+/// refused; where the memory is bounded ([`Bounds::memory`]), the search stops before.
 ///
 /// Where no entry makes a report smaller, and each that changes it makes it larger, a complete search can always go on:
 /// from wherever a schedule has led, some entries more lead to an answer (`onward`).
@@ -50,11 +51,15 @@ pub fn search<W: Worlds, V: Watcher>(
     ensures room { OnOk result (length (W.worlds worlds.new) ≤ max bounds.worlds (length (W.worlds worlds.old))) }
     ensures count { IfOk result (λ it. it.worlds ≡ length (W.worlds worlds.new)) }
     ensures stopped { IfOk result (λ it. it.complete ≡ false → length (W.worlds worlds.old) ≡ 1 →
-        IsAtBound bounds it.worlds) }
+        IsAtBound bounds it.worlds it.bytes) }
+    ensures spare { IfOk result (λ it. it.complete ≡ true → it.bytes < bounds.memory) }
+    ensures counted { IfOk result (λ it. it.bytes ≡ bytes_of it.worlds it.edges (W.bytes worlds.new)) }
+    ensures edges { IfOk result (λ it. it.edges ≤ W.most_born * it.worlds) }
 {
     let limits = Limits {
         worlds: capped(bounds.worlds),
         entries: capped(bounds.entries),
+        memory: bounds.memory,
     };
     let mut graph = begin(alloc)?;
     let complete = explore(&mut *worlds, &mut graph, limits, watcher)?;
@@ -66,6 +71,8 @@ pub fn search<W: Worlds, V: Watcher>(
         answers,
         complete,
         worlds: worlds.len(),
+        edges: graph.edges.len(),
+        bytes: bytes_of(&*worlds, &graph),
     })
 }
 

@@ -28,6 +28,8 @@ pub trait Worlds: Drop {
     ghost report: { Self.World → Self.Report };
     // No world has more fibers.
     ghost most_born: { ℕ };
+    // How many bytes are counted for what is kept.
+    ghost bytes: { Self → ℕ };
 
     /// How many fibers the world of this number has. An entry of another number changes nothing.
     fn born(&self, world: usize) -> u16
@@ -60,4 +62,8 @@ pub trait Worlds: Drop {
     /// How many worlds there are.
     fn len(&self) -> usize
         ensures { result ≡ length (worlds self.now) };
+
+    /// How many bytes are counted for what is kept: an estimate, which the store makes.
+    fn bytes(&self) -> usize
+        ensures { result ≡ bytes self.now };
 }

@@ -7,7 +7,7 @@ use Rattle.scheduled_core.specs.Core.{core}
 use Rattle.world_search.specs.Answers as search
 use Rattle.every_schedule.specs.declared.exploration.Answer.{Answer}
 use Rattle.every_schedule.specs.Explored.{IsAnswered, IsCovered, IsReached, ListOnce}
-use Rattle.every_schedule.specs.Places.{Kept, first_place, report_at, stepped}
+use Rattle.every_schedule.specs.Places.{Place, first_place, report_at, stepped}
 use Rattle.every_schedule.proofs.Placed.{core_run}
 use Rattle.every_schedule.proofs.Deadlocks.{none_waits}
 use Rattle.every_schedule.proofs.Bare.{reports_grow}
@@ -20,7 +20,7 @@ pub told-requires : goal.told-requires
 told-requires c =
     let code = code_of (source_of c.args.program.now) in
     let first : slice_get c.in_ok-worlds.worlds.places 0 ≡ Some (first_place code c.args.limits) =
-    ap (λ (s : Kept). slice_get s.places 0) c.in_ok-worlds.ensures in
+    ap (λ (l : List Place). slice_get l 0) c.in_ok-worlds.ensures.places in
     all_within c.search.new.worlds (first_place code c.args.limits) c.in_ok-found.found.answers.items
     (c.in_ok-found.ensures.each (first_place code c.args.limits) first)
 
@@ -30,7 +30,7 @@ returns-clause-all c = λ complete schedule.
     let k = c.args.limits in
     let kept = c.search.new.worlds in
     let found = c.in_ok-found.found.answers.items in
-    let first : slice_get c.in_ok-worlds.worlds.places 0 ≡ Some (first_place code k) = ap (λ (s : Kept). slice_get s.places 0) c.in_ok-worlds.ensures in
+    let first : slice_get c.in_ok-worlds.worlds.places 0 ≡ Some (first_place code k) = ap (λ (l : List Place). slice_get l 0) c.in_ok-worlds.ensures.places in
     let all = c.in_ok-found.ensures.all complete (first_place code k) first schedule in
     subst (λ (l : List Answer). IsCovered k l (core code k schedule)) (sym c.new-2.ensures)
     (covered kept found c.in_ok-answers.answers.items c.in_ok-answers.ensures.told k (core code k schedule)
@@ -40,7 +40,7 @@ pub returns-clause-each : goal.returns-clause-each
 returns-clause-each c =
     let code = code_of (source_of c.args.program.now) in
     let k = c.args.limits in
-    let first : slice_get c.in_ok-worlds.worlds.places 0 ≡ Some (first_place code k) = ap (λ (s : Kept). slice_get s.places 0) c.in_ok-worlds.ensures in
+    let first : slice_get c.in_ok-worlds.worlds.places 0 ≡ Some (first_place code k) = ap (λ (l : List Place). slice_get l 0) c.in_ok-worlds.ensures.places in
     subst (λ (l : List Answer). All (IsReached code k) l) (sym c.new-2.ensures)
     (reached c.search.new.worlds c.in_ok-found.found.answers.items c.in_ok-answers.answers.items c.in_ok-answers.ensures.told code k
     (c.in_ok-found.ensures.each (first_place code k) first))
@@ -51,7 +51,7 @@ returns-clause-onward c = λ complete schedule.
     let k = c.args.limits in
     let kept = c.search.new.worlds in
     let found = c.in_ok-found.found.answers.items in
-    let first : slice_get c.in_ok-worlds.worlds.places 0 ≡ Some (first_place code k) = ap (λ (s : Kept). slice_get s.places 0) c.in_ok-worlds.ensures in
+    let first : slice_get c.in_ok-worlds.worlds.places 0 ≡ Some (first_place code k) = ap (λ (l : List Place). slice_get l 0) c.in_ok-worlds.ensures.places in
     let on = c.in_ok-found.ensures.onward complete size reports_grow (first_place code k) first schedule in (
       on.0,
       subst (λ (l : List Answer). IsAnswered k l (core code k (schedule ++ on.0))) (sym c.new-2.ensures)

@@ -8,7 +8,7 @@ use Rattle.world_search.specs.declared.answers.Answer.{Answer as Found}
 use Rattle.world_search.specs.Answers as search
 use Rattle.every_schedule.specs.declared.exploration.Answer.{Answer}
 use Rattle.every_schedule.specs.Explored.{AreInOrder, AreMoves, IsAnswered, IsCovered, IsPastBound, IsReached, ListOnce}
-use Rattle.every_schedule.specs.Places.{Kept, first_place, report_at, stepped}
+use Rattle.every_schedule.specs.Places.{Place, first_place, report_at, stepped}
 use Rattle.every_schedule.specs.Private.Trails.{AreUnfolded, EndApart, IsLeftOut}
 use Rattle.every_schedule.proofs.Placed.{core_run}
 use Rattle.every_schedule.proofs.Deadlocks.{none_waits}
@@ -28,7 +28,7 @@ told-requires g c =
     let kept = c.search.new.worlds.worlds in
     let raw = c.in_ok-found.found.answers.items in
     let found = c.in_ok-unfolded.unfolded.answers.items in
-    let first : slice_get c.in_ok-worlds.worlds.worlds.places 0 ≡ Some start = ap (λ (s : Kept). slice_get s.places 0) c.in_ok-worlds.ensures in
+    let first : slice_get c.in_ok-worlds.worlds.worlds.places 0 ≡ Some start = ap (λ (l : List Place). slice_get l 0) c.in_ok-worlds.ensures.places in
     let each : AreUnfolded 100 c.args.bounds.entries start raw found =
     subst (λ (l : List Found). AreUnfolded 100 c.args.bounds.entries start l found) c.as_slice.ensures.value c.in_ok-unfolded.ensures.each in
     all_within kept start found (right kept start 100 c.args.bounds.entries raw found each (c.in_ok-found.ensures.each start first))
@@ -41,7 +41,7 @@ returns-clause-all g c = λ complete schedule.
     let kept = c.search.new.worlds.worlds in
     let raw = c.in_ok-found.found.answers.items in
     let found = c.in_ok-unfolded.unfolded.answers.items in
-    let first : slice_get c.in_ok-worlds.worlds.worlds.places 0 ≡ Some start = ap (λ (s : Kept). slice_get s.places 0) c.in_ok-worlds.ensures in
+    let first : slice_get c.in_ok-worlds.worlds.worlds.places 0 ≡ Some start = ap (λ (l : List Place). slice_get l 0) c.in_ok-worlds.ensures.places in
     let each : AreUnfolded 100 c.args.bounds.entries start raw found =
     subst (λ (l : List Found). AreUnfolded 100 c.args.bounds.entries start l found) c.as_slice.ensures.value c.in_ok-unfolded.ensures.each in
     let whole = λ (i : _) (a : Found) (at : slice_get raw i ≡ Some a). c.in_ok-unfolded.ensures.whole (c.are_both.ensures.other complete) i a
@@ -60,7 +60,7 @@ returns-clause-each g c =
     let kept = c.search.new.worlds.worlds in
     let raw = c.in_ok-found.found.answers.items in
     let found = c.in_ok-unfolded.unfolded.answers.items in
-    let first : slice_get c.in_ok-worlds.worlds.worlds.places 0 ≡ Some start = ap (λ (s : Kept). slice_get s.places 0) c.in_ok-worlds.ensures in
+    let first : slice_get c.in_ok-worlds.worlds.worlds.places 0 ≡ Some start = ap (λ (l : List Place). slice_get l 0) c.in_ok-worlds.ensures.places in
     let each : AreUnfolded 100 c.args.bounds.entries start raw found =
     subst (λ (l : List Found). AreUnfolded 100 c.args.bounds.entries start l found) c.as_slice.ensures.value c.in_ok-unfolded.ensures.each in
     subst (λ (l : List Answer). All (IsReached code k) l) (sym c.new-2.ensures)
@@ -75,7 +75,7 @@ returns-clause-onward g c = λ complete schedule.
     let kept = c.search.new.worlds.worlds in
     let raw = c.in_ok-found.found.answers.items in
     let found = c.in_ok-unfolded.unfolded.answers.items in
-    let first : slice_get c.in_ok-worlds.worlds.worlds.places 0 ≡ Some start = ap (λ (s : Kept). slice_get s.places 0) c.in_ok-worlds.ensures in
+    let first : slice_get c.in_ok-worlds.worlds.worlds.places 0 ≡ Some start = ap (λ (l : List Place). slice_get l 0) c.in_ok-worlds.ensures.places in
     let each : AreUnfolded 100 c.args.bounds.entries start raw found =
     subst (λ (l : List Found). AreUnfolded 100 c.args.bounds.entries start l found) c.as_slice.ensures.value c.in_ok-unfolded.ensures.each in
     let whole = λ (i : _) (a : Found) (at : slice_get raw i ≡ Some a). c.in_ok-unfolded.ensures.whole (c.are_both.ensures.other complete) i a
@@ -96,7 +96,7 @@ returns-clause-numbers g c =
     let kept = c.search.new.worlds.worlds in
     let raw = c.in_ok-found.found.answers.items in
     let found = c.in_ok-unfolded.unfolded.answers.items in
-    let first : slice_get c.in_ok-worlds.worlds.worlds.places 0 ≡ Some start = ap (λ (s : Kept). slice_get s.places 0) c.in_ok-worlds.ensures in
+    let first : slice_get c.in_ok-worlds.worlds.worlds.places 0 ≡ Some start = ap (λ (l : List Place). slice_get l 0) c.in_ok-worlds.ensures.places in
     let each : AreUnfolded 100 c.args.bounds.entries start raw found =
     subst (λ (l : List Found). AreUnfolded 100 c.args.bounds.entries start l found) c.as_slice.ensures.value c.in_ok-unfolded.ensures.each in
     subst (λ (l : List Answer). All (λ a. All (λ f. f < 1000) a.schedule) l) (sym c.new-2.ensures)
@@ -110,7 +110,7 @@ returns-clause-short g c =
     let kept = c.search.new.worlds.worlds in
     let raw = c.in_ok-found.found.answers.items in
     let found = c.in_ok-unfolded.unfolded.answers.items in
-    let first : slice_get c.in_ok-worlds.worlds.worlds.places 0 ≡ Some start = ap (λ (s : Kept). slice_get s.places 0) c.in_ok-worlds.ensures in
+    let first : slice_get c.in_ok-worlds.worlds.worlds.places 0 ≡ Some start = ap (λ (l : List Place). slice_get l 0) c.in_ok-worlds.ensures.places in
     let each : AreUnfolded 100 c.args.bounds.entries start raw found =
     subst (λ (l : List Found). AreUnfolded 100 c.args.bounds.entries start l found) c.as_slice.ensures.value c.in_ok-unfolded.ensures.each in
     subst (λ (l : List Answer). All (λ a. length a.schedule ≤ c.args.bounds.entries) l) (sym c.new-2.ensures)
@@ -165,7 +165,7 @@ returns-clause-once g c =
     let kept = c.search.new.worlds.worlds in
     let raw = c.in_ok-found.found.answers.items in
     let found = c.in_ok-unfolded.unfolded.answers.items in
-    let first : slice_get c.in_ok-worlds.worlds.worlds.places 0 ≡ Some start = ap (λ (s : Kept). slice_get s.places 0) c.in_ok-worlds.ensures in
+    let first : slice_get c.in_ok-worlds.worlds.worlds.places 0 ≡ Some start = ap (λ (l : List Place). slice_get l 0) c.in_ok-worlds.ensures.places in
     let each : AreUnfolded 100 c.args.bounds.entries start raw found =
     subst (λ (l : List Found). AreUnfolded 100 c.args.bounds.entries start l found) c.as_slice.ensures.value c.in_ok-unfolded.ensures.each in
     let apart : EndApart found = c.in_ok-unfolded.ensures.apart
@@ -184,8 +184,8 @@ returns-clause-stopped g c = λ isnt.
     let kept = c.search.new.worlds.worlds in
     let raw = c.in_ok-found.found.answers.items in
     let found = c.in_ok-unfolded.unfolded.answers.items in
-    let first : slice_get c.in_ok-worlds.worlds.worlds.places 0 ≡ Some start = ap (λ (s : Kept). slice_get s.places 0) c.in_ok-worlds.ensures in
-    let alone : length c.in_ok-worlds.worlds.worlds.places ≡ 1 = ap (λ (s : Kept). length s.places) c.in_ok-worlds.ensures in
+    let first : slice_get c.in_ok-worlds.worlds.worlds.places 0 ≡ Some start = ap (λ (l : List Place). slice_get l 0) c.in_ok-worlds.ensures.places in
+    let alone : length c.in_ok-worlds.worlds.worlds.places ≡ 1 = ap (λ (l : List Place). length l) c.in_ok-worlds.ensures.places in
     elim (c.are_both.ensures.neither isnt) [
       | inl stop ↦ inl (c.in_ok-found.ensures.stopped stop alone)
       | inr cut ↦

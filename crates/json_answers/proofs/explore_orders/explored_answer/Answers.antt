@@ -15,6 +15,7 @@ returns c =
       once = c.in-Ok.ensures.once;
       stopped = c.in-Ok.ensures.stopped;
       room = c.in-Ok.ensures.room;
+      spare = c.in-Ok.ensures.spare;
       short = c.in-Ok.ensures.short;
     }) c.in_ok-value.ensures c.exploration_status.ensures
     c.value_answer.ensures.line c.value_answer.ensures.status

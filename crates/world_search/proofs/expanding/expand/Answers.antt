@@ -28,6 +28,7 @@ loop-fiber-init g c =
       room = omega arith;
       snug = λ h. h;
       lost = λ e h. absurd (cc);
+      edges = omega arith;
     }
 
 pub loop-fiber-preserved : goal.loop-fiber-preserved
@@ -64,6 +65,7 @@ loop-fiber-preserved g c =
             | inl one ↦ let a = known.lost one h in omega arith
             | inr other ↦ told.lost other (known.snug h)
           ];
+      edges = let a = known.edges in let b = told.edges in omega arith;
     }
 
 pub returns-in-Stays-clause-fits : goal.returns-in-Stays-clause-fits

@@ -1,4 +1,4 @@
-use Rattle.std.proofs.Common.{◌≡◌, ◌<◌, ◌≤◌, length}
+use Rattle.std.proofs.Common.{◌≡◌, ◌+◌, ◌<◌, ◌≤◌, length}
 use Rattle.std.specs.Prelude.{Some, max}
 use Rattle.std.specs.List.{slice_get}
 use Rattle.world_search.specs.declared.graphs.Node.{Node}
@@ -24,4 +24,5 @@ invariant-loop-fiber g l = record {
       IsSnug (length (g.W.Worlds.worlds l.worlds)) (shape l.graph);
   lost : l.came ≡ outcome.Lost → IsSnug (length (g.W.Worlds.worlds l.initial.worlds)) (shape l.initial.graph) →
       l.limits.worlds ≤ length (g.W.Worlds.worlds l.worlds);
+  edges : length l.graph.edges.items ≤ length l.initial.graph.edges.items + l.fiber;
 }

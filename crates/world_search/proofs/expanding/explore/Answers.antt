@@ -1,6 +1,6 @@
-use Rattle.std.proofs.Common.{length, sym, ◌∙◌, arith}
+use Rattle.std.proofs.Common.{length, sym, ◌∙◌, arith, inl}
 use Rattle.world_search.specs.Private.Shapes.{shape}
-use Rattle.world_search.proofs.Lists.{more_long}
+use Rattle.world_search.proofs.Lists.{more_long, mul_next}
 use Rattle.world_search.proofs.Fitting.{grows_grows}
 use Rattle.world_search.proofs.Entries.{done_next}
 use Rattle.world_search.proofs.Snug.{stopped_on}
@@ -37,6 +37,7 @@ loop-index-preserved g c =
             stopped_on c.args.limits.worlds c.args.limits.entries (length (g.W.Worlds.worlds c.loop-index.worlds))
             (length (g.W.Worlds.worlds c.expand.new.worlds)) more (known.stopped (sym w.whole-is ∙ lost) h)
       ];
+      edges = let a = known.edges in let b = told.edges in let m = mul_next g.W.Worlds.most_born c.loop-index.index in omega arith;
     }
 
 pub returns-then-whole-clause-snug : goal.returns-then-whole-clause-snug
@@ -46,4 +47,4 @@ pub returns-else-whole-clause-snug : goal.returns-else-whole-clause-snug
 returns-else-whole-clause-snug g c = c.loop-index.invariant.snug
 
 pub returns-else-whole-clause-stopped : goal.returns-else-whole-clause-stopped
-returns-else-whole-clause-stopped g c = λ e h. c.loop-index.invariant.stopped c.if-whole.false h
+returns-else-whole-clause-stopped g c = λ e h. inl (c.loop-index.invariant.stopped c.if-whole.false h)

@@ -1,4 +1,4 @@
-use Rattle.std.proofs.Common.{◌≡◌, ℕ, ◌<◌, ◌≤◌, ◌-◌, true, false, length}
+use Rattle.std.proofs.Common.{◌≡◌, ℕ, ◌+◌, ◌*◌, ◌<◌, ◌≤◌, ◌-◌, true, false, length}
 use Rattle.std.specs.Prelude.{max}
 use Rattle.world_search.specs.Private.Shapes.{shape}
 use Rattle.world_search.specs.Private.Graphs.{Fits, Grows, IsDone, IsSnug, IsStopped}
@@ -18,6 +18,7 @@ invariant-loop-index g l = record {
       IsSnug (length (g.W.Worlds.worlds l.worlds)) (shape l.graph);
   stopped : l.whole ≡ false → IsSnug (length (g.W.Worlds.worlds l.initial.worlds)) (shape l.initial.graph) →
       IsStopped l.limits.worlds l.limits.entries (length (g.W.Worlds.worlds l.worlds));
+  edges : length l.graph.edges.items ≤ length l.initial.graph.edges.items + g.W.Worlds.most_born * l.index;
 }
 
 abbrev pub decreases-loop-index : goal.decreases-loop-index

@@ -16,11 +16,11 @@ invariant_of-result c =
     let limits : p.limits ≡ k = ap (λ (q : Place). q.limits) (c.in_ok-current.ensures.world ∙ c.in_ok-first.ensures) in
     let fits : AllFit p.world = subst (λ (q : Place). AllFit q.world) (sym c.in_ok-current.ensures.world) c.in_ok-current.ensures.fits in
     let rows : c.add.new.self.items.items ≡ n ∷ [] = c.in_ok-add.ensures.added ∙
-    ap (λ (l : List Numbers). l ++ c.in_ok-row.row ∷ []) c.new-rows.ensures ∙ ap (λ (m : Numbers). m ∷ []) c.in_ok-row.ensures in
+    ap (λ (l : List Numbers). l ++ c.in_ok-row.row ∷ []) c.new-rows.ensures.none ∙ ap (λ (m : Numbers). m ∷ []) c.in_ok-row.ensures in
     (subst (AreWorlds k fs rs) (sym rows) (first_worlds k fs rs n p c.in_ok-current.ensures.current limits fits), c.in_ok-current.ensures.current)
 
-pub returns : goal.returns
-returns c =
+pub returns-clause-places : goal.returns-clause-places
+returns-clause-places c =
     let k = c.args.limits in
     let fs = c.begun.new.states.fibers.items.items in
     let rs = c.begun.new.states.registries.items.items in
@@ -29,7 +29,7 @@ returns c =
     let first = c.in_ok-current.ensures.world ∙ c.in_ok-first.ensures in
     let limits : p.limits ≡ k = ap (λ (q : Place). q.limits) first in
     let rows : c.add.new.self.items.items ≡ n ∷ [] = c.in_ok-add.ensures.added ∙
-    ap (λ (l : List Numbers). l ++ c.in_ok-row.row ∷ []) c.new-rows.ensures ∙ ap (λ (m : Numbers). m ∷ []) c.in_ok-row.ensures in
+    ap (λ (l : List Numbers). l ++ c.in_ok-row.row ∷ []) c.new-rows.ensures.none ∙ ap (λ (m : Numbers). m ∷ []) c.in_ok-row.ensures in
     let places : map (place_of k fs rs) c.add.new.self.items.items ≡ p ∷ [] = ap (map (place_of k fs rs)) rows ∙
     ap (λ (q : Place). q ∷ []) (world_is k fs rs n p c.in_ok-current.ensures.current limits) in
     search rules

@@ -1,0 +1,16 @@
+-- Numbers of a range.
+use Rattle.std.specs.Prelude.{◌≡◌, ◌≤◌, ℕ, Option, Some, None}
+use Rattle.std.specs.Str.Parse.{IsNumeral, digits_value, without_leading_plus}
+use Rattle.clap.specs.Words.{Text}
+use Rattle.command_words.specs.declared.ranges.NumberRange.{NumberRange}
+
+-- the text is a number of the range in decimal digits, with or without a plus in front
+abbrev pub IsNumberOf : NumberRange → Text → Type 0
+IsNumberOf range text =
+    IsNumeral 10 (without_leading_plus text) × (range.least ≤ digits_value 10 (without_leading_plus text)) ×
+    (digits_value 10 (without_leading_plus text) ≤ range.most)
+
+-- the number that an option says: that of its text, or the usual one where the option isn't given
+abbrev pub SaysNumber : NumberRange → Option Text → ℕ → Type 0
+SaysNumber range None n = n ≡ range.usual
+SaysNumber range (Some text) n = IsNumberOf range text × (n ≡ digits_value 10 (without_leading_plus text))
