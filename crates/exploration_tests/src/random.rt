@@ -41,6 +41,7 @@ fn compared(alloc: Global, text: &str) -> Result<Came, Fail> {
     let bounds = Bounds {
         worlds: 1000,
         entries: 1000,
+        memory: 1 << 30,
     };
     let Ok(full) = explore_full(alloc, &program, limits(), bounds) else {
         return Err(Fail::new("memory ran out"));
