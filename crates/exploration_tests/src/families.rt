@@ -134,6 +134,7 @@ fn is_within(alloc: Global, it: &Family<'_>) -> Result<bool, Fail> {
     let bounds = Bounds {
         worlds: it.worlds,
         entries: 10_000,
+        memory: 1 << 30,
     };
     let Ok(found) = explore(alloc, &program, limits(), bounds) else {
         return Err(Fail::new("memory ran out"));
