@@ -18,7 +18,7 @@ use Rattle.world_search.specs.Landings.{EntersAt, IsNext}
 use Rattle.world_search.specs.Lists.{IsMore}
 use Rattle.world_search.proofs.Lists.{more_same}
 use Rattle.every_schedule.specs.Places.{Place, placed, report_at, stepped}
-use Rattle.every_schedule.specs.Reduced.{after_own, behind, leapt, leapt_by, or_stays, own_in, pushed, pushed_once}
+use Rattle.every_schedule.specs.Reduced.{after_own, behind, leapt, leapt_by, or_stays, own_of, pushed, pushed_once, swept}
 use Rattle.every_schedule.specs.Private.Keeping.{IsKept}
 use Rattle.every_schedule.specs.Private.Numbered.{AreAt, AreWorlds, IsWorld, IsWorldOf, MayAdd, Numbers, picked, place_of}
 use Rattle.every_schedule.specs.Private.Reporting.{AreAlike, AreOther}
@@ -43,10 +43,15 @@ once_limits p (Some f) = by (stepped p f) refl
     by (Ok q) e = stepped_limits p f q e
     by (Err d) e = refl
 
+swept_limits : (n : ℕ) (p : Place) → (swept n p).limits ≡ p.limits
+unfolding swept
+swept_limits zero p = refl
+swept_limits (suc n) p = swept_limits n (after_own p (own_of p n)) ∙ once_limits p (own_of p n)
+
 pushed_limits : (n : ℕ) (p : Place) → (pushed n p).limits ≡ p.limits
 unfolding pushed
 pushed_limits zero p = refl
-pushed_limits (suc n) p = pushed_limits n (pushed_once p) ∙ once_limits p (own_in p)
+pushed_limits (suc n) p = pushed_limits n (pushed_once p) ∙ swept_limits (length p.world.fibers) p
 
 behind_limits : (n : ℕ) (p : Place) (f : ℕ) (y : Result Place RunError) (q : Place) → stepped p f ≡ y → behind n y ≡ Ok q → q.limits ≡ p.limits
 behind_limits n p f (Ok x) q is e =

@@ -12,7 +12,7 @@ use Rattle.scheduled_core.specs.declared.wish.Wish.TheVariants.{Nothing}
 use Rattle.scheduled_core.specs.Core.{World, wish_of}
 use Rattle.every_schedule.specs.Explored.{HasMove}
 use Rattle.every_schedule.specs.Places.{Place, moves_at, stepped, wants}
-use Rattle.every_schedule.specs.Reduced.{IsOwn, after_own, behind, has_own, is_own, last_own, leapt, leapt_by, or_stays, own_in, pushed, pushed_once, this_or}
+use Rattle.every_schedule.specs.Reduced.{IsOwn, after_own, behind, has_own, if_own, is_own, leapt, leapt_by, or_stays, own_of, pushed, pushed_once, swept}
 use Rattle.every_schedule.proofs.Bare.{idle_stays, own_are_free, own_from, unborn_stays}
 
 -- ---- several own moves
@@ -33,29 +33,23 @@ unfolding pushed
 pushed_stays zero p e = refl
 pushed_stays (suc n) p e = ap (pushed n) e ∙ pushed_stays n p e
 
--- ---- the fiber that is chosen has an own move
-chosen : (w : World) (n : ℕ) (b : Bool) (f : ℕ) → has_own w n (slice_get w.fibers n) ≡ b →
-    (last_own w n ≡ Some f → has_own w f (slice_get w.fibers f) ≡ true) → this_or b n (last_own w n) ≡ Some f → has_own w f (slice_get w.fibers f) ≡ true
-chosen w n true f own rest e = subst (λ i. has_own w i (slice_get w.fibers i) ≡ true) (same_Some n f e) own
-chosen w n false f own rest e = rest e
+-- ---- the own move of one fiber
+own_here : (b : Bool) (f g : ℕ) → if_own b f ≡ Some g → (f ≡ g) × (b ≡ true)
+own_here true f g e = (same_Some f g e, refl)
+own_here false f g e = absurd (cc)
 
-pub last_own_is : (w : World) (n f : ℕ) → last_own w n ≡ Some f → has_own w f (slice_get w.fibers f) ≡ true
-last_own_is w zero f e = absurd (cc)
-last_own_is w (suc n) f e = chosen w n (has_own w n (slice_get w.fibers n)) f refl (last_own_is w n f) e
+module _ (p : Place) (f : ℕ) where
+  pub fiber_none : has_own p.world f (slice_get p.world.fibers f) ≡ false → after_own p (own_of p f) ≡ p
+  fiber_none e = ap (λ b. after_own p (if_own b f)) e
 
-pub last_own_passes : (w : World) (n : ℕ) → has_own w n (slice_get w.fibers n) ≡ false → last_own w (suc n) ≡ last_own w n
-last_own_passes w n other = ap (λ b. this_or b n (last_own w n)) other
+  pub fiber_made : (q : Place) → has_own p.world f (slice_get p.world.fibers f) ≡ true → stepped p f ≡ Ok q → after_own p (own_of p f) ≡ q
+  fiber_made q e goes = ap (λ b. after_own p (if_own b f)) e ∙ ap (or_stays p) goes
 
--- ---- one own move
-module _ (p : Place) where
-  pub once_none : own_in p ≡ None → pushed_once p ≡ p
-  once_none e = ap (after_own p) e
+  pub fiber_refused : (d : RunError) → has_own p.world f (slice_get p.world.fibers f) ≡ true → stepped p f ≡ Err d → after_own p (own_of p f) ≡ p
+  fiber_refused d e stops = ap (λ b. after_own p (if_own b f)) e ∙ ap (or_stays p) stops
 
-  pub once_made : (f : ℕ) (q : Place) → own_in p ≡ Some f → stepped p f ≡ Ok q → pushed_once p ≡ q
-  once_made f q e goes = ap (after_own p) e ∙ ap (or_stays p) goes
-
-  pub once_refused : (f : ℕ) (d : RunError) → own_in p ≡ Some f → stepped p f ≡ Err d → pushed_once p ≡ p
-  once_refused f d e stops = ap (after_own p) e ∙ ap (or_stays p) stops
+  pub fiber_unborn : length p.world.fibers ≤ f → after_own p (own_of p f) ≡ p
+  fiber_unborn past = fiber_none (ap (has_own p.world f) (slice_get_past p.world.fibers f past))
 
 module _ (p : Place) where
   led_once : (q : Place) (f : ℕ) (y : Result Place RunError) → has_own p.world f (slice_get p.world.fibers f) ≡ true → stepped p f ≡ y →
@@ -63,14 +57,33 @@ module _ (p : Place) where
   led_once q f (Ok x) own e on = On p f x q (own_from p f x own e) e on
   led_once q f (Err d) own e on = on
 
-  led_from : (q : Place) (o : Option ℕ) → own_in p ≡ o → Leads stepped IsOwn (after_own p o) q → Leads stepped IsOwn p q
-  led_from q None e on = on
-  led_from q (Some f) e on = led_once q f (stepped p f) (last_own_is p.world (length p.world.fibers) f e) refl on
+  led_from : (q : Place) (f : ℕ) (b : Bool) → has_own p.world f (slice_get p.world.fibers f) ≡ b → Leads stepped IsOwn (after_own p (if_own b f)) q →
+      Leads stepped IsOwn p q
+  led_from q f true e on = led_once q f (stepped p f) e refl on
+  led_from q f false e on = on
+
+-- ---- those of several fibers
+pub swept_none : (p : Place) → swept 0 p ≡ p
+unfolding swept
+swept_none p = refl
+
+swept_more : (n : ℕ) (p : Place) → swept (suc n) p ≡ swept n (after_own p (own_of p n))
+unfolding swept
+swept_more n p = refl
+
+pub swept_next : (n m : ℕ) (p q : Place) → n ≡ suc m → q ≡ after_own p (own_of p m) → swept n p ≡ swept m q
+swept_next n m p q e h = ap (λ i. swept i p) e ∙ swept_more m p ∙ ap (swept m) (sym h)
+
+swept_leads : (n : ℕ) (p q : Place) → Leads stepped IsOwn (swept n p) q → Leads stepped IsOwn p q
+unfolding swept
+swept_leads zero p q on = on
+swept_leads (suc n) p q on =
+    led_from p q n (has_own p.world n (slice_get p.world.fibers n)) refl (swept_leads n (after_own p (own_of p n)) q on)
 
 pushed_leads : (n : ℕ) (p : Place) → Leads stepped IsOwn p (pushed n p)
 unfolding pushed
 pushed_leads zero p = Here p p refl
-pushed_leads (suc n) p = led_from p (pushed n (pushed_once p)) (own_in p) refl (pushed_leads n (pushed_once p))
+pushed_leads (suc n) p = swept_leads (length p.world.fibers) p (pushed n (pushed_once p)) (pushed_leads n (pushed_once p))
 
 behind_leaps : (n : ℕ) (y : Result Place RunError) → Leaps stepped IsOwn y (behind n y)
 behind_leaps n (Ok q) = (pushed n q, pushed_leads n q, refl)
@@ -118,10 +131,8 @@ own_moves_by w f None e h = absurd (cc)
 own_moves_by w f (Some g) e h = (g, e, λ none. let no : is_own w f g Nothing ≡ true = subst (λ x. is_own w f g x ≡ true) none h in cc)
 
 -- a fiber that has an own move has a next move
-pub own_moves : (p : Place) (f : ℕ) → own_in p ≡ Some f → HasMove p.world f
-own_moves p f e =
-    own_moves_by p.world f (slice_get p.world.fibers f) refl
-    (last_own_is p.world (length p.world.fibers) f e)
+pub own_moves : (p : Place) (f : ℕ) → has_own p.world f (slice_get p.world.fibers f) ≡ true → HasMove p.world f
+own_moves p f own = own_moves_by p.world f (slice_get p.world.fibers f) refl own
 
 -- the entry of a fiber that has none changes nothing
 pub none_stays : (p : Place) (f : ℕ) (g : Fiber) → slice_get p.world.fibers f ≡ Some g → wish_of (ask_of g) ≡ Nothing → stepped p f ≡ Ok p

@@ -113,17 +113,13 @@ abbrev pub has_own : World → ℕ → Option Fiber → Bool
 has_own w f None = false
 has_own w f (Some g) = is_own w f g (wish_of (ask_of g))
 
--- the last of the first n fibers whose next move is such a one
-abbrev pub this_or : Bool → ℕ → Option ℕ → Option ℕ
-this_or true f other = Some f
-this_or false f other = other
+-- the fiber of this number, where its next move is such a one
+abbrev pub if_own : Bool → ℕ → Option ℕ
+if_own true f = Some f
+if_own false f = None
 
-abbrev pub last_own : World → ℕ → Option ℕ
-last_own w zero = None
-last_own w (suc n) = this_or (has_own w n (slice_get w.fibers n)) n (last_own w n)
-
-abbrev pub own_in : Place → Option ℕ
-own_in p = last_own p.world (length p.world.fibers)
+abbrev pub own_of : Place → ℕ → Option ℕ
+own_of p f = if_own (has_own p.world f (slice_get p.world.fibers f)) f
 
 -- such a move is made, unless its call is refused
 abbrev pub or_stays : Place → Result Place RunError → Place
@@ -134,11 +130,16 @@ abbrev pub after_own : Place → Option ℕ → Place
 after_own p None = p
 after_own p (Some f) = or_stays p (stepped p f)
 
--- one such move, if there is one
-abbrev pub pushed_once : Place → Place
-pushed_once p = after_own p (own_in p)
+-- one such move of each of the first n fibers that has one, the last of them first
+unfoldable pub swept : ℕ → Place → Place
+swept zero p = p
+swept (suc n) p = swept n (after_own p (own_of p n))
 
--- at most n of them
+-- one of each fiber
+abbrev pub pushed_once : Place → Place
+pushed_once p = swept (length p.world.fibers) p
+
+-- at most n of them of each fiber
 unfoldable pub pushed : ℕ → Place → Place
 pushed zero p = p
 pushed (suc n) p = pushed n (pushed_once p)

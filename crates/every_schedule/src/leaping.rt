@@ -6,7 +6,8 @@ ghost use Rattle.scheduled_core.specs.Fitting.{AllFit};
 ghost use Rattle.world_search.specs.Lists.{IsMore};
 ghost use Rattle.every_schedule.specs.Explored.{HasMove};
 ghost use Rattle.every_schedule.specs.Places.{Place, stepped};
-ghost use Rattle.every_schedule.specs.Reduced.{leapt, own_in, pushed, pushed_once};
+ghost use Rattle.std.specs.List.{slice_get};
+ghost use Rattle.every_schedule.specs.Reduced.{after_own, has_own, leapt, own_of, pushed, pushed_once};
 ghost use Rattle.every_schedule.specs.Private.Standing.{IsCurrent};
 ghost use Rattle.every_schedule.specs.Private.Trails.{IsTrail};
 
@@ -94,7 +95,7 @@ pub(crate) fn born(world: &CoreWorld) -> usize
     world.fibers().len()
 }
 
-// At most so many own moves, one after another.
+// At most `at_once` own moves of each fiber.
 fn push(
     alloc: Global,
     current: Current,
@@ -121,7 +122,7 @@ fn push(
     Ok(now)
 }
 
-// One own move, if there is one and its call isn't refused. Whether it was made.
+// One own move of each fiber that has one, the last fiber first. Whether any was made.
 fn push_once(
     alloc: Global,
     current: Current,
@@ -138,9 +139,47 @@ fn push_once(
     ensures fits { IfOk result (λ r. AllFit r.0.world.world) }
     ensures trail { IfOk result (λ r. IsTrail trail.old.items trail.new.items current.world (GoesWell r.0.world)) }
 {
-    let Some(fiber) = last_own(&current.world) else {
+    let born = born(&current.world);
+    let mut now = current;
+    let mut moved = false;
+    for done in 0..born {
+        let fiber = (born - 1 - done) as u16;
+        let (next, made) = push_fiber(alloc, now, &mut *states, fiber, &mut *trail)?;
+        now = next;
+        moved = either(moved, made);
+    }
+    Ok((now, moved))
+}
+
+// Whether one of the two is so.
+fn either(one: bool, other: bool) -> bool
+    ensures { result ≡ false → (one ≡ false) × (other ≡ false) }
+{
+    one || other
+}
+
+// An own move of this fiber, if it has one and its call isn't refused. Whether it was made.
+fn push_fiber(
+    alloc: Global,
+    current: Current,
+    states: &mut States,
+    fiber: u16,
+    trail: &mut Vec<u16>,
+) -> Result<(Current, bool), AllocError>
+    requires current { IsCurrent states.old.fibers.items.items states.old.registries.items.items current }
+    requires few { fiber < 1000 }
+    ensures fibers { IsMore states.old.fibers.items.items states.new.fibers.items.items }
+    ensures registries { IsMore states.old.registries.items.items states.new.registries.items.items }
+    ensures goes { IfOk result (λ r. r.0.world ≡ after_own current.world (own_of current.world fiber)) }
+    ensures stays { IfOk result (λ r. r.1 ≡ false → r.0.world ≡ current.world) }
+    ensures current { IfOk result (λ r.
+        IsCurrent states.new.fibers.items.items states.new.registries.items.items r.0) }
+    ensures fits { IfOk result (λ r. AllFit r.0.world.world) }
+    ensures trail { IfOk result (λ r. IsTrail trail.old.items trail.new.items current.world (GoesWell r.0.world)) }
+{
+    if !has_own_move(&current.world, fiber) {
         return Ok((current, false));
-    };
+    }
     let row = current.row.again(alloc)?;
     match entered(alloc, current, &mut *states, fiber) {
         Ok(next) => {
@@ -161,6 +200,14 @@ fn push_once(
     }
 }
 
+// Whether a fiber is born and its next move is an own one.
+fn has_own_move(world: &CoreWorld, fiber: u16) -> bool
+    ensures own { result ≡ has_own world.now.world fiber (slice_get world.now.world.fibers fiber) }
+    ensures fits { AllFit world.now.world }
+{
+    usize::from(fiber) < born(world) && is_own_move(world, fiber)
+}
+
 /// Whether this is want of memory.
 pub(crate) fn is_memory(fault: RunError) -> bool
     ensures { result ≡ false → fault ≢ RunError.NoMemory }
@@ -169,20 +216,4 @@ pub(crate) fn is_memory(fault: RunError) -> bool
         RunError::NoMemory => true,
         RunError::Full(_, _) | RunError::Spent(_) | RunError::Lost(_) | RunError::NoWorker => false,
     }
-}
-
-// The last fiber that has an own move.
-fn last_own(world: &CoreWorld) -> Option<u16>
-    ensures own { result ≡ own_in world.now }
-    ensures few { IfSome result (λ f. f < 1000) }
-    ensures fits { AllFit world.now.world }
-{
-    let born = born(world);
-    for done in 0..born {
-        let place = born - 1 - done;
-        if is_own_move(world, place as u16) {
-            return Some(place as u16);
-        }
-    }
-    None
 }

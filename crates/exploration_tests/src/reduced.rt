@@ -157,6 +157,14 @@ const COMPARED: &[Compared<'static>] = &[
         count: 1000,
         answers: 6,
     },
+    Compared {
+        rule: "two fibers that each add twice to a ref, beside one that goes round without end",
+        program: "(ref r 0 (start f (forever (pure 1)) (start g (seq (modify r 1) (modify r 1)) \
+            (seq (modify r 1) (modify r 1) (get r)))))",
+        fibers: 16,
+        count: 1000,
+        answers: 5,
+    },
 ];
 
 // Limits that small programs keep, with so many fibers (1 to 16) and own changes (1 to 1000).

@@ -1,110 +1,42 @@
-use Rattle.std.proofs.Common.{◌≡◌, ℕ, List, Some, Ok, Err, refl, sym, ◌∙◌, subst}
-use Rattle.every_schedule.specs.Places.{Place, stepped}
-use Rattle.every_schedule.specs.Reduced.{own_in, pushed_once}
-use Rattle.every_schedule.specs.Private.Numbered.{IsWorldOf, Numbers}
-use Rattle.every_schedule.specs.Private.Trails.{IsTrail}
-use Rattle.every_schedule.proofs.Leaps.{once_made, once_refused, own_moves, refused}
-use Rattle.every_schedule.proofs.Numbered.{of_more, one_rebuilt}
-use Rattle.every_schedule.proofs.Trails.{trail_none, trail_one}
+use Rattle.std.proofs.Common.{◌≡◌, ℕ, suc, ◌+◌, ◌-◌, Ok, sym, ap, ◌∙◌, subst, arith}
+use Rattle.world_search.proofs.Lists.{more_more}
+use Rattle.every_schedule.specs.Places.{Place}
+use Rattle.every_schedule.specs.Reduced.{pushed_once, swept}
+use Rattle.every_schedule.proofs.Leaps.{swept_next, swept_none}
+use Rattle.every_schedule.proofs.Trails.{trail_more}
 use Rattle.every_schedule.proofs.leaping.push_once.Goals as goal
 
-pub fresh-requires : goal.fresh-requires
-fresh-requires c =
-    let fs = c.args.states.now.fibers.items.items in
-    let rs = c.args.states.now.registries.items.items in
-    let fs' = c.entered.new.states.fibers.items.items in
-    let rs' = c.entered.new.states.registries.items.items in
-    let p = c.args.current.world in
+pub loop-done-preserved : goal.loop-done-preserved
+loop-done-preserved c =
+    let known = c.loop-done.invariant in
+    let told = c.in_ok-next.ensures in
+    let m : ℕ = c.born-born.result - 1 - c.loop-done.done in
+    let place : m ≡ c.born-born.result - (c.loop-done.done + 1) = omega arith in
+    let left : c.born-born.result - c.loop-done.done ≡ suc m = omega arith in
     record {
-      row = (
-        p.limits,
-        record {
-          place = p;
-          limits = refl;
-          is = subst (λ (n : Numbers). IsWorldOf fs' rs' n p) (sym c.in_ok-row.ensures)
-              (of_more fs fs' rs rs' c.entered.ensures.fibers c.entered.ensures.registries c.args.current.row p c.requires);
-          fits = c.last_own.ensures.fits;
-        },
-      );
+      fibers = more_more c.args.states.now.fibers.items.items c.loop-done.states.fibers.items.items c.push_fiber.new.states.fibers.items.items
+          known.fibers told.fibers;
+      registries = more_more c.args.states.now.registries.items.items c.loop-done.states.registries.items.items
+          c.push_fiber.new.states.registries.items.items known.registries told.registries;
+      current = told.current;
+      goes = known.goes ∙ swept_next (c.born-born.result - c.loop-done.done) m c.loop-done.now.world c.in_ok-next.next.world left told.goes ∙
+          ap (λ i. swept i c.in_ok-next.next.world) place;
+      stays = λ none. let both = c.either-moved.ensures none in told.stays both.1 ∙ known.stays both.0;
+      fits = told.fits;
+      trail = trail_more c.args.trail.now.items c.loop-done.trail.items c.push_fiber.new.trail.items c.args.current.world c.loop-done.now.world
+          (Ok c.in_ok-next.next.world) known.trail told.trail;
     }
-
-pub returns-in-Ok-clause-trail : goal.returns-in-Ok-clause-trail
-returns-in-Ok-clause-trail c =
-    let old = c.args.trail.now.items in
-    subst (λ (l : List ℕ). IsTrail old l c.args.current.world (Ok c.in-Ok.next.world)) (sym c.in_ok-add-in-Ok.ensures)
-    (trail_one old c.args.current.world c.in-Some.fiber (Ok c.in-Ok.next.world) c.in-Some.ensures.few
-    (own_moves c.args.current.world c.in-Some.fiber (sym c.last_own.ensures.own ∙ c.in-Some.is)) c.in-Ok.ensures.goes)
 
 pub returns-clause-goes : goal.returns-clause-goes
 returns-clause-goes c =
-    let fs = c.args.states.now.fibers.items.items in
-    let rs = c.args.states.now.registries.items.items in
-    let fs' = c.entered.new.states.fibers.items.items in
-    let rs' = c.entered.new.states.registries.items.items in
-    let p = c.args.current.world in
-    let last = c.in_ok-before-in-Err.before in
-    let same : last.world ≡ p = one_rebuilt fs fs' rs rs' c.entered.ensures.fibers c.entered.ensures.registries c.args.current.row c.in_ok-row.row
-    last.row p last.world c.requires c.in_ok-row.ensures c.in_ok-before-in-Err.ensures.row c.in_ok-before-in-Err.ensures.current in
-    let own : own_in p ≡ Some c.in-Some.fiber = sym c.last_own.ensures.own ∙ c.in-Some.is in
-    let stops : stepped p c.in-Some.fiber ≡ Err c.in-Err.fault =
-    refused c.in-Err.fault (stepped p c.in-Some.fiber) (c.is_memory.ensures c.if-is_memory.false) c.in-Err.ensures.stops in
-    let once : pushed_once p ≡ p = once_refused p c.in-Some.fiber c.in-Err.fault own stops in
-    same ∙ sym once
+    let known = c.loop-done.invariant in
+    let none : c.born-born.result - c.loop-done.done ≡ 0 = omega arith in
+    sym (ap (λ i. swept i c.args.current.world) (sym c.born-born.ensures.born) ∙ known.goes ∙ ap (λ i. swept i c.loop-done.now.world) none ∙ swept_none c.loop-done.now.world)
 
 pub returns-clause-stays : goal.returns-clause-stays
-returns-clause-stays c = λ other.
-    let fs = c.args.states.now.fibers.items.items in
-    let rs = c.args.states.now.registries.items.items in
-    let fs' = c.entered.new.states.fibers.items.items in
-    let rs' = c.entered.new.states.registries.items.items in
-    let p = c.args.current.world in
-    let last = c.in_ok-before-in-Err.before in
-    let same : last.world ≡ p = one_rebuilt fs fs' rs rs' c.entered.ensures.fibers c.entered.ensures.registries c.args.current.row c.in_ok-row.row
-    last.row p last.world c.requires c.in_ok-row.ensures c.in_ok-before-in-Err.ensures.row c.in_ok-before-in-Err.ensures.current in
-    let own : own_in p ≡ Some c.in-Some.fiber = sym c.last_own.ensures.own ∙ c.in-Some.is in
-    let stops : stepped p c.in-Some.fiber ≡ Err c.in-Err.fault =
-    refused c.in-Err.fault (stepped p c.in-Some.fiber) (c.is_memory.ensures c.if-is_memory.false) c.in-Err.ensures.stops in
-    let once : pushed_once p ≡ p = once_refused p c.in-Some.fiber c.in-Err.fault own stops in
-    subst (λ (x : Place). pushed_once x ≡ x) (sym same) once
-
-pub returns-clause-trail : goal.returns-clause-trail
-returns-clause-trail c =
-    let fs = c.args.states.now.fibers.items.items in
-    let rs = c.args.states.now.registries.items.items in
-    let fs' = c.entered.new.states.fibers.items.items in
-    let rs' = c.entered.new.states.registries.items.items in
-    let p = c.args.current.world in
-    let last = c.in_ok-before-in-Err.before in
-    let same : last.world ≡ p = one_rebuilt fs fs' rs rs' c.entered.ensures.fibers c.entered.ensures.registries c.args.current.row c.in_ok-row.row
-    last.row p last.world c.requires c.in_ok-row.ensures c.in_ok-before-in-Err.ensures.row c.in_ok-before-in-Err.ensures.current in
-    let own : own_in p ≡ Some c.in-Some.fiber = sym c.last_own.ensures.own ∙ c.in-Some.is in
-    let stops : stepped p c.in-Some.fiber ≡ Err c.in-Err.fault =
-    refused c.in-Err.fault (stepped p c.in-Some.fiber) (c.is_memory.ensures c.if-is_memory.false) c.in-Err.ensures.stops in
-    let once : pushed_once p ≡ p = once_refused p c.in-Some.fiber c.in-Err.fault own stops in
-    subst (λ (x : Place). IsTrail c.args.trail.now.items c.args.trail.now.items p (Ok x)) (sym same) (trail_none c.args.trail.now.items p)
-
-pub returns-then-is-clause-stays : goal.returns-then-is-clause-stays
-returns-then-is-clause-stays c = λ stays.
-    let fs = c.args.states.now.fibers.items.items in
-    let rs = c.args.states.now.registries.items.items in
-    let fs' = c.entered.new.states.fibers.items.items in
-    let rs' = c.entered.new.states.registries.items.items in
-    let p = c.args.current.world in
-    let next = c.in-Ok.next in
-    let same : next.world ≡ p = one_rebuilt fs fs' rs rs' c.entered.ensures.fibers c.entered.ensures.registries c.args.current.row c.in_ok-row.row
-    next.row p next.world c.requires c.in_ok-row.ensures (c.is.ensures c.if-is.true) c.in-Ok.ensures.current in
-    let own : own_in p ≡ Some c.in-Some.fiber = sym c.last_own.ensures.own ∙ c.in-Some.is in
-    let once : pushed_once p ≡ next.world = once_made p c.in-Some.fiber next.world own c.in-Ok.ensures.goes in
-    subst (λ (x : Place). pushed_once x ≡ x) (sym same) (once ∙ same)
-
-pub returns-then-is-clause-trail : goal.returns-then-is-clause-trail
-returns-then-is-clause-trail c =
-    let fs = c.args.states.now.fibers.items.items in
-    let rs = c.args.states.now.registries.items.items in
-    let fs' = c.entered.new.states.fibers.items.items in
-    let rs' = c.entered.new.states.registries.items.items in
-    let p = c.args.current.world in
-    let next = c.in-Ok.next in
-    let same : next.world ≡ p = one_rebuilt fs fs' rs rs' c.entered.ensures.fibers c.entered.ensures.registries c.args.current.row c.in_ok-row.row
-    next.row p next.world c.requires c.in_ok-row.ensures (c.is.ensures c.if-is.true) c.in-Ok.ensures.current in
-    subst (λ (x : Place). IsTrail c.args.trail.now.items c.args.trail.now.items p (Ok x)) (sym same) (trail_none c.args.trail.now.items p)
+returns-clause-stays c = λ still.
+    let known = c.loop-done.invariant in
+    let none : c.born-born.result - c.loop-done.done ≡ 0 = omega arith in
+    let goes : pushed_once c.args.current.world ≡ c.loop-done.now.world =
+    ap (λ i. swept i c.args.current.world) (sym c.born-born.ensures.born) ∙ known.goes ∙ ap (λ i. swept i c.loop-done.now.world) none ∙ swept_none c.loop-done.now.world in
+    subst (λ (x : Place). pushed_once x ≡ c.loop-done.now.world) (sym (known.stays still)) goes
