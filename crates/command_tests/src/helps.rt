@@ -212,18 +212,21 @@ const HELP: &[(&[&str], &str)] = &[
         "Draws schedules at random, and prints what came of them and how often\
         \n\nUsage: fiber_cli sample [OPTIONS]\
         \n\nOptions:\
-        \n      --seed <N>       What the schedules are drawn by, 0 to 9223372036854775807 [default: 0]\
-        \n      --times <N>      How many schedules are drawn, 1 to 1000000 [default: 1000]\
-        \n      --entries <N>    How many entries a schedule may have, 1 to 1000000 [default: 10000]\
-        \n      --fibers <N>     How many fibers there may be, 1 to 1000 [default: 16]\
-        \n      --refs <N>       How many refs there may be, 1 to 1000 [default: 16]\
-        \n      --deferreds <N>  How many deferreds there may be, 1 to 1000 [default: 16]\
-        \n      --count <N>      How often a fiber may change its own state, 1 to 1099511627775\
-        \n                       [default: 1099511627775]\
-        \n      --json           Print the answer as JSON, on one line\
-        \n  -h, --help           Print help\
+        \n      --seed <N>        What the schedules are drawn by, 0 to 9223372036854775807 [default: 0]\
+        \n      --times <N>       How many schedules are drawn, 1 to 1000000 [default: 1000]\
+        \n      --entries <N>     How many entries a schedule may have, 1 to 1000000 [default: 10000]\
+        \n      --fibers <N>      How many fibers there may be, 1 to 1000 [default: 16]\
+        \n      --refs <N>        How many refs there may be, 1 to 1000 [default: 16]\
+        \n      --deferreds <N>   How many deferreds there may be, 1 to 1000 [default: 16]\
+        \n      --count <N>       How often a fiber may change its own state, 1 to 1099511627775\
+        \n                        [default: 1099511627775]\
+        \n      --want <OUTCOME>  An outcome of fiber 0 that is wanted, as a report spells it:\
+        \n                        \"succeeded V\", \"errored C\", canceled or unended. It may be given more\
+        \n                        than once. A report with another outcome, and a fault, is then not wanted\
+        \n      --json            Print the answer as JSON, on one line\
+        \n  -h, --help            Print help\
         \n\nThe program's text is read from standard input.\
-        \n\nExample, which draws the same hundred schedules of a race each time:\
+        \n\nExamples, of which the first two draw the same hundred schedules of a race each time:\
         \n  echo '(race (say 1) (say 2))' | fiber_cli sample --times 100 --seed 7\
         \n  echo '(race (say 1) (say 2))' | fiber_cli sample --times 100 --seed 7 --json\
         \n  echo '(race (pure 1) (pure 2))' | fiber_cli sample --want 'succeeded 1'\

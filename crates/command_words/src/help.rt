@@ -148,7 +148,7 @@ pub const SAMPLE: CommandHelp<'static> = CommandHelp {
     about: "Draws schedules at random, and prints what came of them and how often",
     after: "The program's text is read from standard input.
 
-Example, which draws the same hundred schedules of a race each time:
+Examples, of which the first two draw the same hundred schedules of a race each time:
   echo '(race (say 1) (say 2))' | fiber_cli sample --times 100 --seed 7
   echo '(race (say 1) (say 2))' | fiber_cli sample --times 100 --seed 7 --json
   echo '(race (pure 1) (pure 2))' | fiber_cli sample --want 'succeeded 1'
