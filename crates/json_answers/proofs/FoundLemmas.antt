@@ -49,19 +49,19 @@ pub refusal_explored : {E : Type 0} (text : List ℕ) (limits : Limits) (bounds 
 refusal_explored text limits bounds wants (Ok a) h = unexplored text a.text.items a.status h
 refusal_explored text limits bounds wants (Err x) h = tt
 
-pub sample_answers : {E : Type 0} (t : Term) (limits : Limits) (seed times entries : ℕ) (wants : List Want) (s : Sample) (d : Data) (status : Status)
-    (a : Result Answer E) → IsSampleAt (code_of (source_of t)) limits times entries s → IsSampleData wants seed s d →
-    status ≡ sample_status wants s → IfOk a (λ a. a.text.items ≡ line_of_data d) → IfOk a (λ a. a.status ≡ status) →
+pub sample_answers : {E : Type 0} (t : Term) (limits : Limits) (seed times entries : ℕ) (wants seen : List Want) (s : Sample) (d : Data)
+    (status : Status) (a : Result Answer E) → seen ≡ wants → IsSampleAt (code_of (source_of t)) limits times entries s →
+    IsSampleData seen seed s d → status ≡ sample_status seen s → IfOk a (λ a. a.text.items ≡ line_of_data d) → IfOk a (λ a. a.status ≡ status) →
     IfOk a (λ a. IsJsonSampled t limits seed times entries wants a.text.items a.status)
-sample_answers t limits seed times entries wants s d status (Ok a) sampled is ends line so = record {
+sample_answers t limits seed times entries wants seen s d status (Ok a) same sampled is ends line so = record {
   sample = s;
   sampled = sampled;
   value = d;
-  value_is = is;
+  value_is = subst (λ ws. IsSampleData ws seed s d) same is;
   text_is = line;
-  status_is = so ∙ ends;
+  status_is = subst (λ ws. a.status ≡ sample_status ws s) same (so ∙ ends);
 }
-sample_answers t limits seed times entries wants s d status (Err x) sampled is ends line so = tt
+sample_answers t limits seed times entries wants seen s d status (Err x) same sampled is ends line so = tt
 
 pub program_sampled : {E : Type 0} (text : List ℕ) (limits : Limits) (seed times entries : ℕ) (wants : List Want) (t : Term) (a : Result Answer E) →
     reading text ≡ Ok (atoms_of t) → IsProgram t → IfOk a (λ a. IsJsonSampled t limits seed times entries wants a.text.items a.status) →

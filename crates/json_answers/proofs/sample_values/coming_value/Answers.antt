@@ -9,4 +9,4 @@ returns c =
     let entries = c.args.coming.now.answer.schedule in
     coming_found c.args.wants.now c.args.coming.now text c.came_value.result
     (subst (λ xs. SpellsEntries xs entries) (sym c.as_str.ensures.value) (rw c.as_slice.ensures at c.in_ok-schedule.ensures))
-    c.came_value.ensures
+    (rw c.is_unwanted.ensures at c.came_value.ensures)
