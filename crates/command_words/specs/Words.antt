@@ -151,14 +151,17 @@ run_options =
 abbrev pub run_command : App
 run_command = with_rule (with_run_forms run_options) (flag (codes "explain"))
 
--- `sample` without its flag
-abbrev pub sample_options : App
-sample_options =
-    with_rule (with_limits (with_rule (with_rule (with_rule (new_app (codes "sample"))
+-- `sample` with what its schedules are drawn by, and under which limits
+abbrev pub sample_bounds : App
+sample_bounds =
+    with_limits (with_rule (with_rule (with_rule (new_app (codes "sample"))
     (number_option (codes "seed") seed_range))
     (number_option (codes "times") times_range))
-    (number_option (codes "entries") entries_range)))
-    want_option
+    (number_option (codes "entries") entries_range))
+
+-- `sample` without its flag
+abbrev pub sample_options : App
+sample_options = with_rule sample_bounds want_option
 
 abbrev pub sample_command : App
 sample_command = with_rule sample_options (flag (codes "json"))

@@ -4,8 +4,8 @@ ghost use Rattle.std.specs.Prelude.{◌≡◌, ◌<◌, ◌^◌, codes, false, I
 ghost use Rattle.clap.specs.Words.{app_of, new_app, rule_of, with_rule};
 ghost use Rattle.clap.specs.declared.builder.command.Command.TheViews.{out-Command};
 ghost use Rattle.command_words.specs.Words.{check_command, explore_command, explore_options, flag, number_option};
-ghost use Rattle.command_words.specs.Words.{bare_program, program};
-ghost use Rattle.command_words.specs.Words.{replay_command, run_command, run_options, sample_command, sample_options};
+ghost use Rattle.command_words.specs.Words.{bare_program, program, sample_options};
+ghost use Rattle.command_words.specs.Words.{replay_command, run_command, run_options, sample_bounds, sample_command};
 ghost use Rattle.command_words.specs.Words.{schedule_option, show_command, want_option, with_explore_forms, with_forms};
 ghost use Rattle.command_words.specs.Words.{explore_bounds, memory_option, with_limits, with_run_forms};
 
@@ -239,16 +239,24 @@ fn run_command<'a>(alloc: Global) -> Result<Command<'a>, AllocError>
     with_reasons(alloc, with_run_forms(alloc, command)?)
 }
 
-// `sample` without its flag.
-fn sample_options<'a>(alloc: Global) -> Result<Command<'a>, AllocError>
-    ensures shape { IfOk result (λ c. app_of c ≡ sample_options) }
+// `sample` with what its schedules are drawn by, and under which limits.
+fn sample_bounds<'a>(alloc: Global) -> Result<Command<'a>, AllocError>
+    ensures shape { IfOk result (λ c. app_of c ≡ sample_bounds) }
     ensures local { IfOk result (λ c. (out-Command c).has_globals ≡ false) }
 {
     let seed = number_option(alloc, "seed", help::SEED, SEED);
     let command = new_command(alloc, "sample", help::SAMPLE).arg(seed)?;
     let command = command.arg(number_option(alloc, "times", help::TIMES, TIMES))?;
     let command = command.arg(number_option(alloc, "entries", help::ENTRIES, ENTRIES))?;
-    let command = with_limits(alloc, command, help::FEW)?;
+    with_limits(alloc, command, help::FEW)
+}
+
+// `sample` without its flag.
+fn sample_options<'a>(alloc: Global) -> Result<Command<'a>, AllocError>
+    ensures shape { IfOk result (λ c. app_of c ≡ sample_options) }
+    ensures local { IfOk result (λ c. (out-Command c).has_globals ≡ false) }
+{
+    let command = sample_bounds(alloc)?;
     command.arg(want_option(alloc))
 }
 
