@@ -6,8 +6,14 @@
 #![tactic(auto)]
 
 #[cfg(test)]
+mod files;
+#[cfg(test)]
 mod form_faults;
 #[cfg(test)]
 mod forms;
+#[cfg(test)]
+mod item_faults;
+#[cfg(test)]
+mod items;
 #[cfg(test)]
 mod sizes;

@@ -1,0 +1,122 @@
+//! Why forms are no items.
+
+ghost use Rattle.std.specs.Prelude.{◌≡◌};
+ghost use Rattle.model_text.specs.Files.{item_code, item_place};
+ghost use Rattle.model_text.specs.declared.fault.ItemFault.TheVariants.{NoMemory};
+
+use std::alloc::{AllocError, AllocFailed};
+use thiserror::Error;
+
+/// Why forms are no items, and where. A place is the number of bytes before the form that is at fault.
+#[derive(Clone, Copy, PartialEq, Eq, Debug, Error)]
+pub enum ItemFault {
+    /// There was no memory for the items.
+    #[error("no memory")]
+    NoMemory,
+    /// A form of the file is no list that begins with one of the three words.
+    #[error("`define`, `defaults` or `model` was wanted")]
+    NotAnItem(usize),
+    /// A definition lacks a part, or has one too many.
+    #[error("`(define (name part ..) term ..)` or `(define name number)` was wanted")]
+    NotADefinition(usize),
+    /// No name stands where one is wanted.
+    #[error("a name was wanted here: letters, digits, `-` and `_`, beginning with a letter")]
+    NotAName(usize),
+    /// No number stands where one is wanted, or one that is out of range.
+    #[error("a number from -4611686018427387904 to 4611686018427387903 was wanted")]
+    NotANumber(usize),
+    /// A definition has a part that is none.
+    #[error("a part was wanted: `x`, `r:ref`, `d:deferred`, `f:fiber`, `p:poll`, or `(body x ..)`")]
+    NotAPart(usize),
+    /// No bound stands where one is wanted.
+    #[error("a bound was wanted, as `(worlds 200000)`")]
+    NotABound(usize),
+    /// A model has no name.
+    #[error("`(model name claim .. (run term ..))` was wanted")]
+    NotAModel(usize),
+    /// Behind a model's name stands something else.
+    #[error("a claim, a bound or `run` was wanted")]
+    NotAClaim(usize),
+    /// A model has no `run`. The place is that of its name.
+    #[error("this model has no `(run ..)`")]
+    NoRun(usize),
+    /// A list is empty.
+    #[error("an empty bracket")]
+    EmptyList(usize),
+    /// Behind an opening bracket stands no word.
+    #[error("behind an opening bracket a word was wanted")]
+    NotAWord(usize),
+    /// A text stands elsewhere than behind the name of a model.
+    #[error("a string stands behind the name of a model alone")]
+    StrayText(usize),
+    /// There is nothing behind `run`.
+    #[error("an empty block: at least one term was wanted")]
+    EmptyRun(usize),
+    /// A form follows the `run` of a model.
+    #[error("nothing stands behind `run` in a model")]
+    BehindRun(usize),
+}
+
+impl From<AllocError> for ItemFault {
+    ghost from_gives = { λ _ e. e ≡ NoMemory };
+
+    fn from(_error: AllocError) -> ItemFault {
+        ItemFault::NoMemory
+    }
+}
+
+impl<T: Drop> From<AllocFailed<T>> for ItemFault {
+    ghost from_gives = { λ _ e. e ≡ NoMemory };
+
+    fn from(_error: AllocFailed<T>) -> ItemFault {
+        ItemFault::NoMemory
+    }
+}
+
+impl ItemFault {
+    /// The number of bytes before what is at fault; none where memory ran out.
+    pub fn place(self) -> Option<usize>
+        ensures { result ≡ item_place self }
+    {
+        match self {
+            ItemFault::NoMemory => None,
+            ItemFault::NotAnItem(place) => Some(place),
+            ItemFault::NotADefinition(place) => Some(place),
+            ItemFault::NotAName(place) => Some(place),
+            ItemFault::NotANumber(place) => Some(place),
+            ItemFault::NotAPart(place) => Some(place),
+            ItemFault::NotABound(place) => Some(place),
+            ItemFault::NotAModel(place) => Some(place),
+            ItemFault::NotAClaim(place) => Some(place),
+            ItemFault::NoRun(place) => Some(place),
+            ItemFault::EmptyList(place) => Some(place),
+            ItemFault::NotAWord(place) => Some(place),
+            ItemFault::StrayText(place) => Some(place),
+            ItemFault::EmptyRun(place) => Some(place),
+            ItemFault::BehindRun(place) => Some(place),
+        }
+    }
+
+    /// A short name of the kind of fault, as `E13`.
+    pub fn code(self) -> &'static str
+        ensures { result.now ≡ item_code self }
+    {
+        match self {
+            ItemFault::NoMemory => "E24",
+            ItemFault::NotAnItem(_) => "E18",
+            ItemFault::NotADefinition(_) => "E16",
+            ItemFault::NotAName(_) => "E13",
+            ItemFault::NotANumber(_) => "E14",
+            ItemFault::NotAPart(_) => "E16",
+            ItemFault::NotABound(_) => "E18",
+            ItemFault::NotAModel(_) => "E18",
+            ItemFault::NotAClaim(_) => "E18",
+            ItemFault::NoRun(_) => "E18",
+            ItemFault::EmptyList(_) => "E05",
+            ItemFault::NotAWord(_) => "E05",
+            ItemFault::StrayText(_) => "E13",
+            ItemFault::EmptyRun(_) => "E06",
+            ItemFault::BehindRun(_) => "E18",
+        }
+    }
+}
