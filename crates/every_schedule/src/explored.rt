@@ -48,9 +48,11 @@ use world_search::{Bounds, Landing, Unwatched, Watcher, search};
 /// schedules first. The limits are in their ranges ([`Limits`]); a world takes memory for each of its numbers.
 /// [`RunError::NoMemory`] is the only error.
 ///
-/// It is a search with partial-order reduction: behind each entry, up to a hundred moves are made at once of which no
-/// other fiber sees anything, and which nothing that another fiber does can change. These are moves without a shared
-/// call, masks that are entered and left, looks where the request is set, and cuts.
+/// It is a search with partial-order reduction: behind each entry, up to a hundred moves of each fiber are made at once
+/// of which no other fiber sees anything, and which nothing that another fiber does can change. These are moves without
+/// a shared call; masks that are entered and left, and cuts; looks where the request is set, or where nobody can set it
+/// any more; joins and requests of a fiber that has ended; what is done with a completed deferred; and what is done with
+/// a ref, a deferred or a fiber that nobody else uses any more.
 ///
 /// In the schedules of the answers each move is an entry, and each entry is of a fiber that has a next move there. They
 /// needn't be the shortest, which [`explore_full`] finds. While it explores, the bound counts the entries alone,
