@@ -1,7 +1,5 @@
 -- No answer to a text ends as wrong usage does.
-use Rattle.std.proofs.Common.{◌≡◌, ◌≢◌, ◌==◌, ◌∙◌, if◌then◌else◌, Bool, true, false, ℕ, List, [], ◌∷◌, Option, Some, None, Result, Ok, Err, sym}
-use Rattle.std.specs.Prelude.{count_by}
-use Rattle.std.specs.Result.{is_err}
+use Rattle.std.proofs.Common.{◌≡◌, ◌≢◌, ◌∙◌, if◌then◌else◌, Bool, true, false, ℕ, List, [], ◌∷◌, Option, Some, None, Result, Ok, Err, sym}
 use Rattle.cell_registry.specs.declared.limits.Limits.{Limits}
 use Rattle.effect_term.specs.declared.reply.Outcome.{Outcome}
 use Rattle.effect_term.specs.declared.reply.Outcome.TheVariants.{Succeeded, Errored, Canceled}
@@ -28,6 +26,7 @@ use Rattle.json_answers.specs.FoundAnswers.{samples as samples_json, unexplored 
 use Rattle.json_answers.specs.FoundAnswers.{unsampled as unsampled_json}
 use Rattle.timelines.specs.ExploreTimelines.{IsExploreTimeline}
 use Rattle.timelines.specs.TimelineAnswers.{IsTimelineAnswer}
+use Rattle.exploration_text.specs.SampleText.{has_finding}
 use Rattle.exploration_text.specs.SampleAnswers.{IsSampleAnswer, samples, unsampled}
 use Rattle.exploration_text.specs.declared.sample_texts.SampleOrder.{SampleOrder}
 use Rattle.steal_pool.specs.declared.options.Options.{Options}
@@ -161,21 +160,21 @@ check_as_ends true text answer status h = json_check_ends h
 check_as_ends false text answer status h = check_ends h
 
 -- ---- of samples
-two_ends : (none : Bool) → (if none then ends.Succeeded else ends.Errored) ≢ ends.Usage
+two_ends : (some : Bool) → (if some then ends.Errored else ends.Succeeded) ≢ ends.Usage
 two_ends true = λ u. cc
 two_ends false = λ u. cc
 
-pub sample_ends : {limits : Limits} {times entries : ℕ} (text answer : List ℕ) (status : Status) →
-    IsSampleAnswer limits times entries text answer status → status ≢ ends.Usage
+pub sample_ends : {limits : Limits} {times entries : ℕ} {wants : List Want} (text answer : List ℕ) (status : Status) →
+    IsSampleAnswer limits times entries wants text answer status → status ≢ ends.Usage
 sample_ends text answer status (unsampled _ _ _ h) = refusal_ends h
-sample_ends text answer status (samples _ _ _ t reads program h) =
-    λ u. two_ends (count_by (λ c. is_err c.answer.end) h.sample.comings == 0) (sym h.status_is ∙ u)
+sample_ends {limits} {times} {entries} {wants} text answer status (samples _ _ _ t reads program h) =
+    λ u. two_ends (has_finding wants h.sample.comings) (sym h.status_is ∙ u)
 
-json_sample_ends : {limits : Limits} {seed times entries : ℕ} (text answer : List ℕ) (status : Status) →
-    IsJsonSample limits seed times entries text answer status → status ≢ ends.Usage
+json_sample_ends : {limits : Limits} {seed times entries : ℕ} {wants : List Want} (text answer : List ℕ) (status : Status) →
+    IsJsonSample limits seed times entries wants text answer status → status ≢ ends.Usage
 json_sample_ends text answer status (unsampled_json _ _ _ h) = json_refusal_ends h
-json_sample_ends text answer status (samples_json _ _ _ t reads program h) =
-    λ u. two_ends (count_by (λ c. is_err c.answer.end) h.sample.comings == 0) (sym h.status_is ∙ u)
+json_sample_ends {limits} {seed} {times} {entries} {wants} text answer status (samples_json _ _ _ t reads program h) =
+    λ u. two_ends (has_finding wants h.sample.comings) (sym h.status_is ∙ u)
 
 pub sample_as_ends : (json : Bool) (order : SampleOrder) (text answer : List ℕ) (status : Status) → samples_as json order text answer status →
     status ≢ ends.Usage
