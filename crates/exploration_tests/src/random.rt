@@ -38,9 +38,10 @@ fn compared(alloc: Global, text: &str) -> Result<Came, Fail> {
     let Ok(program) = read_program(alloc, text.as_bytes()) else {
         return Ok(Came::Skipped);
     };
+    // Of a loop up to a hundred moves are made behind each entry, and each is an entry of an answer's schedule.
     let bounds = Bounds {
         worlds: 1000,
-        entries: 1000,
+        entries: 1_000_000,
         memory: 1 << 30,
     };
     let Ok(full) = explore_full(alloc, &program, limits(), bounds) else {
