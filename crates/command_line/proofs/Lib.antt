@@ -3,3 +3,4 @@ pub mod ReasonLemmas
 pub mod RecordLemmas
 pub mod RunLemmas
 pub mod WorkerLemmas
+pub mod CompareLemmas

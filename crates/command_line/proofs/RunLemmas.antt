@@ -106,19 +106,19 @@ text_shown out out' err text result done is goes only failed = record {
 }
 
 -- a fault says the same of each kind of answer
-out_same : (old new : Option (List ℕ)) (text : List ℕ) (f : TextFault) → GoesOut {A = Unit {0}} old new text (Err f) → GoesOut {A = Status} old new text (Err f)
+pub out_same : (old new : Option (List ℕ)) (text : List ℕ) (f : TextFault) → GoesOut {A = Unit {0}} old new text (Err f) → GoesOut {A = Status} old new text (Err f)
 out_same old new text faults.NoMemory g = g
 out_same old new text faults.ReadFault g = g
 out_same old new text (faults.WriteFault n) g = g
 out_same old new text faults.TurnBound g = g
 
-only_same : (f : TextFault) → OnlyWriteFaults {A = Unit {0}} (Err f) → OnlyWriteFaults {A = Status} (Err f)
+pub only_same : (f : TextFault) → OnlyWriteFaults {A = Unit {0}} (Err f) → OnlyWriteFaults {A = Status} (Err f)
 only_same faults.NoMemory o = o
 only_same faults.ReadFault o = o
 only_same (faults.WriteFault n) o = o
 only_same faults.TurnBound o = o
 
-write_same : (f : TextFault) → is_write_fault {A = Unit {0}} (Err f) ≡ is_write_fault {A = Status} (Err f)
+pub write_same : (f : TextFault) → is_write_fault {A = Unit {0}} (Err f) ≡ is_write_fault {A = Status} (Err f)
 write_same faults.NoMemory = refl
 write_same faults.ReadFault = refl
 write_same (faults.WriteFault n) = refl

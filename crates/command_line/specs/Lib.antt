@@ -9,3 +9,4 @@ pub mod RunReasons
 pub mod Runs
 pub mod Samplings
 pub mod Workers
+pub mod Comparings

@@ -6,7 +6,9 @@ use Rattle.text_io.specs.declared.status.Status.{Status}
 use Rattle.text_io.specs.Devices.{Devices}
 use Rattle.command_words.specs.declared.requests.Request.{Request}
 use Rattle.command_words.specs.declared.requests.Request.TheVariants.{Check, Show, Replay, Explore, Run, Sample}
+use Rattle.command_words.specs.declared.requests.Request.TheVariants.{Compare}
 use Rattle.command_line.specs.Checks.{ObeysCheck, ObeysShow}
+use Rattle.command_line.specs.Comparings.{ObeysCompare}
 use Rattle.command_line.specs.Explorings.{ObeysExplore}
 use Rattle.command_line.specs.Replays.{ObeysReplay}
 use Rattle.command_line.specs.Runs.{ObeysRun}
@@ -23,6 +25,8 @@ ObeysRequest (Replay replay) before after status = ObeysReplay replay before aft
 ObeysRequest (Explore exploring) before after status = ObeysExplore exploring before after status
 ObeysRequest (Run running) before after status = ObeysRun running before after status
 ObeysRequest (Sample sampling) before after status = ObeysSample sampling before after status
+ObeysRequest (Compare comparing) before after status = (after.input ≡ before.input) ×
+    ObeysCompare comparing.order before.out after.out before.err after.err status
 
 -- Nothing is wrong with the words, and the request that they give is obeyed.
 pub record RunsRequest (words : List Text) (before after : Devices) (status : Status) : Type 0 where

@@ -8,6 +8,7 @@ ghost use Rattle.command_words.specs.Telling.{TellsKind};
 ghost use Rattle.text_io.specs.Devices.{devices};
 
 use crate::check_order::{obey_check, obey_show};
+use crate::compare_order::obey_compare;
 use crate::explore_order::obey_explore;
 use crate::replay_order::obey_replay;
 use crate::run_order::obey_run;
@@ -18,6 +19,7 @@ use command_words::{Request, all_words, refuse_words, request_of};
 use outcome_trace::{Status, TextFault, TextIn, TextOut, tell_fault, write_text};
 use std::alloc::Global;
 use std::convert::AsStr;
+use std::rt::Files;
 use std::sync::Wait;
 use std::thread::Threads;
 use std::time::Clock;
@@ -62,7 +64,7 @@ fn obey_request<R, I, O, E>(
     err: &mut E,
 ) -> Status
 where
-    R: AllocGlobal + Clock + Threads + Wait + Sync,
+    R: AllocGlobal + Clock + Files + Threads + Wait + Sync,
     I: TextIn,
     O: TextOut,
     E: TextOut,
@@ -83,6 +85,7 @@ where
         Request::Explore(exploring) => obey_explore(rt, rt.alloc(), exploring, input, out, err),
         Request::Run(running) => obey_run(rt, rt.alloc(), running, input, out, err),
         Request::Sample(sampling) => obey_sample(rt.alloc(), sampling, input, out, err),
+        Request::Compare(comparing) => obey_compare(rt, rt.alloc(), comparing, out, err),
     }
 }
 
@@ -101,7 +104,7 @@ pub fn command<'a, R, S, I, O, E>(
     err: &mut E,
 ) -> Status
 where
-    R: AllocGlobal + Clock + Threads + Wait + Sync,
+    R: AllocGlobal + Clock + Files + Threads + Wait + Sync,
     S: AsStr,
     I: TextIn,
     O: TextOut,

@@ -6,6 +6,7 @@
 
 mod check_order;
 mod cli;
+mod compare_order;
 mod explore_order;
 mod first_line;
 mod order;

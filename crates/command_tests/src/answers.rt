@@ -5,6 +5,7 @@ use outcome_trace::{FromRead, ToWrite};
 use std::alloc::{AllocError, Global};
 use std::io::{Read, Write};
 use std::process::Abort;
+use std::rt::Files;
 use std::sync::Wait;
 use std::thread::Threads;
 use std::time::Clock;
@@ -21,12 +22,11 @@ pub struct Answer {
 }
 
 /// Runs a command line whose output goes there. Gives what it tells, and its status.
-pub fn told<R: AllocGlobal + Clock + Threads + Wait + Sync, S: Read + Drop, T: Write + Drop>(
-    rt: &R,
-    words: &[&str],
-    input: S,
-    out: T,
-) -> (Vec<u8>, u8) {
+pub fn told<
+    R: AllocGlobal + Clock + Files + Threads + Wait + Sync,
+    S: Read + Drop,
+    T: Write + Drop,
+>(rt: &R, words: &[&str], input: S, out: T) -> (Vec<u8>, u8) {
     let mut err = Vec::new(rt.alloc());
     let status = command(
         rt,
@@ -39,7 +39,7 @@ pub fn told<R: AllocGlobal + Clock + Threads + Wait + Sync, S: Read + Drop, T: W
 }
 
 /// Runs a command line.
-pub fn answered<R: AllocGlobal + Clock + Threads + Wait + Sync, S: Read + Drop>(
+pub fn answered<R: AllocGlobal + Clock + Files + Threads + Wait + Sync, S: Read + Drop>(
     rt: &R,
     words: &[&str],
     input: S,
@@ -51,7 +51,7 @@ pub fn answered<R: AllocGlobal + Clock + Threads + Wait + Sync, S: Read + Drop>(
 
 /// Runs a command line, and compares all that it writes and its status. Where that isn't what is
 /// wanted, the rule is printed.
-pub fn expect<R: Abort + AllocGlobal + Clock + Threads + Wait + Sync>(
+pub fn expect<R: Abort + AllocGlobal + Clock + Files + Threads + Wait + Sync>(
     rt: &R,
     rule: &str,
     words: &[&str],

@@ -7,6 +7,7 @@ use std::alloc::{AllocError, Global};
 use std::io;
 use std::io::{ErrorKind, Read, Write};
 use std::process::Abort;
+use std::rt::Files;
 use std::sync::Wait;
 use std::test::Fail;
 use std::thread::Threads;
@@ -109,7 +110,7 @@ fn cut_at(alloc: Global, bytes: usize) -> Result<String, AllocError> {
 }
 
 // Runs a command line over a reader, and compares all that it writes and its status.
-fn expect_of<R: Abort + AllocGlobal + Clock + Threads + Wait + Sync, S: Read + Drop>(
+fn expect_of<R: Abort + AllocGlobal + Clock + Files + Threads + Wait + Sync, S: Read + Drop>(
     rt: &R,
     words: &[&str],
     input: S,
@@ -160,7 +161,7 @@ fn tells_failed_readers(rt: HostRuntime) {
 }
 
 // Runs a command line whose output is full after so many bytes, and asks that this be told.
-fn expect_write_fault<R: Abort + AllocGlobal + Clock + Threads + Wait + Sync>(
+fn expect_write_fault<R: Abort + AllocGlobal + Clock + Files + Threads + Wait + Sync>(
     rt: &R,
     words: &[&str],
     room: usize,

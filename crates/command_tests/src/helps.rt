@@ -15,11 +15,12 @@ const HELP: &[(&[&str], &str)] = &[
         \n  explore  Explores every schedule, and prints all that can come of the program\
         \n  run      Runs the program on work-stealing threads, and prints its report\
         \n  sample   Draws schedules at random, and prints what came of them and how often\
+        \n  compare  Compares two programs by the ends that they can come to under every schedule\
         \n  help     Print this message or the help of the given subcommand(s)\
         \n\nOptions:\
         \n  -h, --help     Print help\
         \n  -V, --version  Print version\
-        \n\nThe program's text is read from standard input.\
+        \n\nThe program's text is read from standard input; compare reads two files.\
         \n\nExamples, of which the first finds all that can come of a race:\
         \n  echo '(race (pure 1) (pure 2))' | fiber_cli explore\
         \n  fiber_cli run < FILE\
@@ -47,6 +48,10 @@ const HELP: &[(&[&str], &str)] = &[
         \n   0  every schedule was explored, and nothing unwanted was found\
         \n   1  something unwanted was found; without --want, a fault\
         \n   3  a bound was reached, and nothing unwanted was found\
+        \n\nExit status of compare, where it is not 64, 65 or 70:\
+        \n   0  both programs have the same ends\
+        \n   1  one of them has an end that the other hasn't\
+        \n   3  a bound was reached, and what was found doesn't decide\
         \n\nExit status of sample, where it is not 64, 65 or 70:\
         \n   0  no schedule came to anything unwanted\
         \n   1  some schedule came to something unwanted; without --want, to a fault\
@@ -240,6 +245,44 @@ const HELP: &[(&[&str], &str)] = &[
         \n  64  the words are wrong\
         \n  65  the text is refused\
         \n  70  a device failed, or memory ran out\
+        \n",
+    ),
+    (
+        &["fiber_cli", "compare", "--help"],
+        "Compares two programs by the ends that they can come to under every schedule\
+        \n\nUsage: fiber_cli compare [OPTIONS] <FILE> <FILE>\
+        \n\nArguments:\
+        \n  <FILE>  The file with the first program's text\
+        \n  <FILE>  The file with the second program's text\
+        \n\nOptions:\
+        \n      --fibers <N>      How many fibers there may be, 1 to 1000 [default: 16]\
+        \n      --refs <N>        How many refs there may be, 1 to 1000 [default: 16]\
+        \n      --deferreds <N>   How many deferreds there may be, 1 to 1000 [default: 16]\
+        \n      --count <N>       How often a fiber may change its own state, 1 to 1099511627775\
+        \n                        [default: 1099511627775]\
+        \n      --worlds <N>      How many worlds are kept, each a state of all fibers and cells,\
+        \n                        1 to 100000000 [default: 10000000]\
+        \n      --entries <N>     How many entries a schedule may have, 1 to 1000000 [default: 10000]\
+        \n      --memory <BYTES>  At how many bytes of memory the search stops, by an estimate: 1 to\
+        \n                        10000000000, and behind it k, M or G for 1024, 1024^2 or 1024^3\
+        \n                        [default: 4G]\
+        \n      --all             Compare how all fibers end, by their numbers, and not what they say\
+        \n      --json            Print the answer as JSON, on one line\
+        \n  -h, --help            Print help\
+        \n\nThe programs' texts are read from two files, of which either may be /dev/stdin.\
+        \n\nExample, of a guarantee and what it expands to, which is the same:\
+        \n  echo '(guarantee (pure 1) (say 2))' > one\
+        \n  fiber_cli show < one > two\
+        \n  fiber_cli compare one two\
+        \n\nAn end is how fiber 0 ended and what it said, in a report that no further move changes, or a fault.\
+        \nAn end that only one program has is printed below a schedule, under which replay gives it.\
+        \n\nExit status:\
+        \n   0  both programs have the same ends\
+        \n   1  one of them has an end that the other hasn't\
+        \n   3  a bound was reached, and what was found doesn't decide\
+        \n  64  the words are wrong\
+        \n  65  a text is refused\
+        \n  70  a file or a device failed, or memory ran out\
         \n",
     ),
 ];

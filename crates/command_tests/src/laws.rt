@@ -6,6 +6,7 @@
 use crate::answers::answered;
 use std::alloc::{AllocError, Global};
 use std::process::Abort;
+use std::rt::Files;
 use std::str;
 use std::sync::Wait;
 use std::test::Fail;
@@ -224,7 +225,7 @@ const TIMES: usize = 40;
 const MOMENTS: usize = 36;
 
 // What a replay of the program reports.
-fn replayed<R: Abort + AllocGlobal + Clock + Threads + Wait + Sync>(
+fn replayed<R: Abort + AllocGlobal + Clock + Files + Threads + Wait + Sync>(
     rt: &R,
     program: &str,
     schedule: &str,
@@ -263,7 +264,7 @@ fn ending_in(alloc: Global, report: &str) -> Result<String, AllocError> {
 }
 
 // How a program ends under a schedule.
-fn ending<R: Abort + AllocGlobal + Clock + Threads + Wait + Sync>(
+fn ending<R: Abort + AllocGlobal + Clock + Files + Threads + Wait + Sync>(
     rt: &R,
     program: &str,
     schedule: &str,
@@ -286,7 +287,7 @@ fn schedule(alloc: Global, round: &str, times: usize) -> Result<String, AllocErr
 }
 
 // Compares how the two sides of a law end under a schedule.
-fn expect_same<R: Abort + AllocGlobal + Clock + Threads + Wait + Sync>(
+fn expect_same<R: Abort + AllocGlobal + Clock + Files + Threads + Wait + Sync>(
     rt: &R,
     law: &Law<'_>,
     schedule: &str,
@@ -302,7 +303,7 @@ fn expect_same<R: Abort + AllocGlobal + Clock + Threads + Wait + Sync>(
 }
 
 // Compares how the two sides of each law end under these rounds.
-fn expect_laws<R: Abort + AllocGlobal + Clock + Threads + Wait + Sync>(
+fn expect_laws<R: Abort + AllocGlobal + Clock + Files + Threads + Wait + Sync>(
     rt: &R,
     round: &str,
 ) -> Result<(), AllocError> {
@@ -326,7 +327,7 @@ fn the_sides_of_a_law_end_alike_in_every_order(rt: HostRuntime) -> Result<(), Fa
 
 // How a program ends in a fiber that is canceled after so many of its moves. The first of them are
 // those of a `cede`, so the request comes before the program's own first look, too.
-fn canceled_ending<R: Abort + AllocGlobal + Clock + Threads + Wait + Sync>(
+fn canceled_ending<R: Abort + AllocGlobal + Clock + Files + Threads + Wait + Sync>(
     rt: &R,
     whole: &str,
     moment: usize,
@@ -336,7 +337,7 @@ fn canceled_ending<R: Abort + AllocGlobal + Clock + Threads + Wait + Sync>(
 }
 
 // The same after each number of its moves in turn.
-fn endings<R: Abort + AllocGlobal + Clock + Threads + Wait + Sync>(
+fn endings<R: Abort + AllocGlobal + Clock + Files + Threads + Wait + Sync>(
     rt: &R,
     program: &str,
 ) -> Result<Vec<String>, AllocError> {
@@ -361,7 +362,7 @@ fn are_among(some: &[String], others: &[String]) -> bool {
 }
 
 // The sides of a law have the same endings.
-fn expect_same_endings<R: Abort + AllocGlobal + Clock + Threads + Wait + Sync>(
+fn expect_same_endings<R: Abort + AllocGlobal + Clock + Files + Threads + Wait + Sync>(
     rt: &R,
     law: &Law<'_>,
 ) -> Result<(), AllocError> {

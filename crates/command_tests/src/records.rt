@@ -3,6 +3,7 @@
 
 use crate::answers::{answered, expect};
 use std::process::Abort;
+use std::rt::Files;
 use std::sync::Wait;
 use std::thread::Threads;
 use std::time::Clock;
@@ -138,7 +139,7 @@ const REPLAYED: &[&str] = &[
 ];
 
 // Runs a program on so many workers, and compares what a replay under its schedule gives with its report.
-fn expect_replayed<R: Abort + AllocGlobal + Clock + Threads + Wait + Sync>(
+fn expect_replayed<R: Abort + AllocGlobal + Clock + Files + Threads + Wait + Sync>(
     rt: &R,
     workers: &str,
     program: &str,

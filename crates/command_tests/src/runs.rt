@@ -2,6 +2,7 @@
 
 use crate::answers::expect;
 use std::process::Abort;
+use std::rt::Files;
 use std::sync::Wait;
 use std::thread::Threads;
 use std::time::Clock;
@@ -24,7 +25,7 @@ struct Run<'a> {
 }
 
 // Runs a program with this option on one worker and on more, and compares the report and the status.
-fn expect_run<R: Abort + AllocGlobal + Clock + Threads + Wait + Sync>(
+fn expect_run<R: Abort + AllocGlobal + Clock + Files + Threads + Wait + Sync>(
     rt: &R,
     option: &str,
     run: &Run<'_>,

@@ -3,6 +3,7 @@
 use crate::answers::{LONG, expect, nested};
 use std::alloc::AllocError;
 use std::process::Abort;
+use std::rt::Files;
 use std::sync::Wait;
 use std::test::Fail;
 use std::thread::Threads;
@@ -260,7 +261,7 @@ const ANSWERS: &[Answers<'static>] = &[
 ];
 
 // Answers these texts.
-fn expect_answers<R: Abort + AllocGlobal + Clock + Threads + Wait + Sync>(
+fn expect_answers<R: Abort + AllocGlobal + Clock + Files + Threads + Wait + Sync>(
     rt: &R,
     answers: &Answers<'_>,
 ) {
@@ -416,7 +417,7 @@ const DEEP: &[Deep<'static>] = &[
 ];
 
 // Checks a text that goes so deep.
-fn expect_deep<R: Abort + AllocGlobal + Clock + Threads + Wait + Sync>(
+fn expect_deep<R: Abort + AllocGlobal + Clock + Files + Threads + Wait + Sync>(
     rt: &R,
     deep: &Deep<'_>,
 ) -> Result<(), AllocError> {

@@ -5,6 +5,7 @@ use command_line::refuse_words;
 use outcome_trace::ToWrite;
 use std::alloc::AllocError;
 use std::process::Abort;
+use std::rt::Files;
 use std::sync::Wait;
 use std::test::Fail;
 use std::thread::Threads;
@@ -84,7 +85,7 @@ const WRONG: &[(&str, &[&str], &str)] = &[
         "a subcommand is required",
         &["fiber_cli"],
         "error: 'fiber_cli' requires a subcommand but one was not provided\
-        \n  [subcommands: check, show, replay, explore, run, sample, help]\
+        \n  [subcommands: check, show, replay, explore, run, sample, compare, help]\
         \n\nUsage: fiber_cli <COMMAND>\
         \n\nFor more information, try '--help'.\
         \n",
@@ -402,7 +403,7 @@ fn tells_flags_that_do_not_go_together(rt: HostRuntime) {
 }
 
 // Runs a command with an option that takes a number, and compares what comes of it.
-fn expect_number<R: Abort + AllocGlobal + Clock + Threads + Wait + Sync>(
+fn expect_number<R: Abort + AllocGlobal + Clock + Files + Threads + Wait + Sync>(
     rt: &R,
     command: &[&str],
     option: (&str, &str),
@@ -428,7 +429,7 @@ fn expect_number<R: Abort + AllocGlobal + Clock + Threads + Wait + Sync>(
 }
 
 // The same of a number that is refused, for this reason.
-fn refuses<R: Abort + AllocGlobal + Clock + Threads + Wait + Sync>(
+fn refuses<R: Abort + AllocGlobal + Clock + Files + Threads + Wait + Sync>(
     rt: &R,
     command: &[&str],
     option: (&str, &str),
@@ -442,7 +443,7 @@ fn refuses<R: Abort + AllocGlobal + Clock + Threads + Wait + Sync>(
 }
 
 // The same of one that isn't in this range.
-fn refuses_beyond<R: Abort + AllocGlobal + Clock + Threads + Wait + Sync>(
+fn refuses_beyond<R: Abort + AllocGlobal + Clock + Files + Threads + Wait + Sync>(
     rt: &R,
     command: &[&str],
     option: (&str, &str),
@@ -466,7 +467,7 @@ const NO_NUMBERS: &[(&str, &str)] = &[
 ];
 
 // A command takes the numbers of an option's range, with this answer, and nothing else.
-fn expect_range<R: Abort + AllocGlobal + Clock + Threads + Wait + Sync>(
+fn expect_range<R: Abort + AllocGlobal + Clock + Files + Threads + Wait + Sync>(
     rt: &R,
     command: &[&str],
     option: &Numbers,

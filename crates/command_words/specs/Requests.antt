@@ -10,16 +10,21 @@ use Rattle.exploration_text.specs.Wants.{IsInRange, want_text}
 use Rattle.exploration_text.specs.declared.sample_texts.SampleOrder.{SampleOrder}
 use Rattle.steal_pool.specs.declared.options.Options.{Options}
 use Rattle.steal_pool.specs.Runs.{limits_of}
+use Rattle.compared_ends.specs.declared.basis.Basis.{Basis}
+use Rattle.compared_ends.specs.declared.basis.Basis.TheVariants.{AllFibers, FirstFiber}
+use Rattle.comparison_answers.specs.declared.pairs.CompareOrder.{CompareOrder}
+use Rattle.command_words.specs.declared.comparing.Comparing.{Comparing}
 use Rattle.command_words.specs.declared.exploring.Exploring.{Exploring}
 use Rattle.command_words.specs.declared.ranges.NumberRange.{NumberRange}
 use Rattle.command_words.specs.declared.replay.Replay.{Replay as ReplayFields}
 use Rattle.command_words.specs.declared.requests.Request.{Request}
 use Rattle.command_words.specs.declared.requests.Request.TheVariants.{Check, Show, Replay, Explore, Run, Sample}
+use Rattle.command_words.specs.declared.requests.Request.TheVariants.{Compare}
 use Rattle.command_words.specs.declared.running.Running.{Running}
 use Rattle.command_words.specs.declared.sampling.Sampling.{Sampling}
 use Rattle.command_words.specs.Memory.{SaysMemory}
 use Rattle.command_words.specs.Numbers.{SaysNumber}
-use Rattle.command_words.specs.Flags.{SaysExploreForm, SaysFlag, SaysForm, SaysRunForm}
+use Rattle.command_words.specs.Flags.{IsGiven, IsLeftOut, SaysExploreForm, SaysFlag, SaysForm, SaysRunForm}
 use Rattle.command_words.specs.Words.{band_range, budget_range, count_range, entries_range, few_range, moves_range}
 use Rattle.command_words.specs.Words.{program, seed_range, times_range, workers_range, worlds_range}
 
@@ -89,6 +94,24 @@ pub record SaysSampling (options : List Row) (sampling : Sampling) : Type 0 wher
   pub order : SaysSample options sampling.order
   pub json : SaysFlag (codes "json") options sampling.json
 
+-- by what the options of `compare` say that ends are compared
+abbrev pub SaysBasis : List Row → Basis → Type 0
+SaysBasis options AllFibers = IsGiven (codes "all") options
+SaysBasis options FirstFiber = IsLeftOut (codes "all") options
+
+-- how the options of `compare` say that programs are compared
+pub record SaysCompare (options : List Row) (order : CompareOrder) : Type 0 where
+  pub limits : SaysLimits few_range options order.limits
+  pub bounds : SaysBounds options order.bounds.worlds order.bounds.entries order.bounds.memory
+  pub basis : SaysBasis options order.basis
+  pub json : SaysFlag (codes "json") options order.json
+
+-- the comparison that the options of `compare` say
+pub record SaysComparing (options : List Row) (comparing : Comparing) : Type 0 where
+  pub first : first_of (codes "first") options ≡ Some comparing.first.now
+  pub second : first_of (codes "second") options ≡ Some comparing.second.now
+  pub order : SaysCompare options comparing.order
+
 -- the request that a subcommand with its options says
 abbrev pub Says : Text × List Row → Request → Type 0
 Says said (Check checking) =
@@ -99,6 +122,7 @@ Says said (Replay replay) = (said.0 ≡ codes "replay") × SaysReplay said.1 rep
 Says said (Explore exploring) = (said.0 ≡ codes "explore") × SaysExploring said.1 exploring
 Says said (Run running) = (said.0 ≡ codes "run") × SaysRunning said.1 running
 Says said (Sample sampling) = (said.0 ≡ codes "sample") × SaysSampling said.1 sampling
+Says said (Compare comparing) = (said.0 ≡ codes "compare") × SaysComparing said.1 comparing
 
 -- the request of the words, where a subcommand with its options stands in them that says one
 abbrev pub GivesRequest : Option (Text × List Row) → Option Request → Type 0
@@ -115,6 +139,7 @@ TakesSchedule (Replay replay) = replay.schedule.now ≡ codes "-"
 TakesSchedule (Explore exploring) = ⊥
 TakesSchedule (Run running) = ⊥
 TakesSchedule (Sample sampling) = ⊥
+TakesSchedule (Compare comparing) = ⊥
 
 -- the words ask for a schedule that comes in the input
 pub record HasScheduleInInput (words : List Text) : Type 0 where

@@ -82,6 +82,14 @@ memory_option = record (new_rule (codes "memory")) {
   action = Some Set;
 }
 
+-- the path of a file
+abbrev pub file_argument : Text → Rule
+file_argument id = record (new_rule id) {
+  value_names = 1;
+  action = Some Set;
+  required = true;
+}
+
 abbrev pub want_option : Rule
 want_option = record (new_rule (codes "want")) {
   long = Some (codes "want");
@@ -166,18 +174,37 @@ sample_options = with_rule sample_bounds want_option
 abbrev pub sample_command : App
 sample_command = with_rule sample_options (flag (codes "json"))
 
+-- `compare` with its files, and under which limits
+abbrev pub compare_files : App
+compare_files =
+    with_limits (with_rule (with_rule (new_app (codes "compare"))
+    (file_argument (codes "first")))
+    (file_argument (codes "second")))
+
+-- `compare` without its flags
+abbrev pub compare_options : App
+compare_options =
+    with_rule (with_rule (with_rule compare_files
+    (number_option (codes "worlds") worlds_range))
+    (number_option (codes "entries") entries_range))
+    memory_option
+
+abbrev pub compare_command : App
+compare_command = with_rule (with_rule compare_options (flag (codes "all"))) (flag (codes "json"))
+
 -- the command, which wants a subcommand, and tells its version
 abbrev pub bare_program : App
 bare_program = on_top (λ s. record s { subcommand_required = true; has_version = true }) (new_app (codes "fiber_cli"))
 
--- with its six subcommands
+-- with its seven subcommands
 abbrev pub program : App
 program =
-    with_subcommand (with_subcommand (with_subcommand (with_subcommand
+    with_subcommand (with_subcommand (with_subcommand (with_subcommand (with_subcommand
     (with_subcommand (with_subcommand bare_program
     check_command.top)
     show_command.top)
     replay_command.top)
     explore_command.top)
     run_command.top)
-    sample_command.top
+    sample_command.top)
+    compare_command.top

@@ -11,7 +11,7 @@ pub struct CommandHelp<'a> {
 /// The program itself, with the legend of the marks.
 pub const PROGRAM: CommandHelp<'static> = CommandHelp {
     about: "Runs effect programs on fibers",
-    after: "The program's text is read from standard input.
+    after: "The program's text is read from standard input; compare reads two files.
 
 Examples, of which the first finds all that can come of a race:
   echo '(race (pure 1) (pure 2))' | fiber_cli explore
@@ -43,6 +43,11 @@ Exit status of explore, where it is not 64, 65 or 70:
    0  every schedule was explored, and nothing unwanted was found
    1  something unwanted was found; without --want, a fault
    3  a bound was reached, and nothing unwanted was found
+
+Exit status of compare, where it is not 64, 65 or 70:
+   0  both programs have the same ends
+   1  one of them has an end that the other hasn't
+   3  a bound was reached, and what was found doesn't decide
 
 Exit status of sample, where it is not 64, 65 or 70:
    0  no schedule came to anything unwanted
@@ -166,6 +171,27 @@ Exit status:
   70  a device failed, or memory ran out",
 };
 
+pub const COMPARE: CommandHelp<'static> = CommandHelp {
+    about: "Compares two programs by the ends that they can come to under every schedule",
+    after: "The programs' texts are read from two files, of which either may be /dev/stdin.
+
+Example, of a guarantee and what it expands to, which is the same:
+  echo '(guarantee (pure 1) (say 2))' > one
+  fiber_cli show < one > two
+  fiber_cli compare one two
+
+An end is how fiber 0 ended and what it said, in a report that no further move changes, or a fault.
+An end that only one program has is printed below a schedule, under which replay gives it.
+
+Exit status:
+   0  both programs have the same ends
+   1  one of them has an end that the other hasn't
+   3  a bound was reached, and what was found doesn't decide
+  64  the words are wrong
+  65  a text is refused
+  70  a file or a device failed, or memory ran out",
+};
+
 /// What is told of the options for the limits of a run.
 #[derive(Clone, Copy)]
 pub struct LimitsHelp<'a> {
@@ -181,7 +207,7 @@ pub const MANY: LimitsHelp<'static> = LimitsHelp {
     deferreds: "How many deferreds there may be, 1 to 1000 [default: 1000]",
 };
 
-/// Of `explore` and of `sample`.
+/// Of `explore`, of `sample` and of `compare`.
 pub const FEW: LimitsHelp<'static> = LimitsHelp {
     fibers: "How many fibers there may be, 1 to 1000 [default: 16]",
     refs: "How many refs there may be, 1 to 1000 [default: 16]",
@@ -242,3 +268,9 @@ pub const PROGRESS: &str = "Tell on standard error how far the search has come, 
 pub const SVG: &str = "Print a picture of the run in place of the report, as SVG";
 
 pub const JSON: &str = "Print the answer as JSON, on one line";
+
+pub const FIRST: &str = "The file with the first program's text";
+
+pub const SECOND: &str = "The file with the second program's text";
+
+pub const ALL: &str = "Compare how all fibers end, by their numbers, and not what they say";

@@ -7,6 +7,9 @@
 #![tactic(auto)]
 
 mod checking;
+mod compare_requests;
+mod compare_words;
+mod comparing;
 mod exploring;
 mod flags;
 mod help;
@@ -20,6 +23,7 @@ mod words;
 mod wrong_words;
 
 pub use checking::{Checking, Showing};
+pub use comparing::Comparing;
 pub use exploring::{ExploreForm, Exploring};
 pub use replay::{AnswerForm, Replay};
 pub use requests::{Request, request_of};

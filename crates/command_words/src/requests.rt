@@ -21,6 +21,8 @@ ghost use Rattle.command_words.specs.Requests.{SaysExploring, SaysLimits, SaysRe
 ghost use Rattle.command_words.specs.Requests.{SaysRunning, SaysSample, SaysSampling, texts_said};
 
 use crate::checking::{Checking, Showing};
+use crate::compare_requests::comparing_of;
+use crate::comparing::Comparing;
 use crate::exploring::Exploring;
 use crate::flags::{explore_form, given, replay_form, run_form, text_of};
 use crate::memory::bytes_of;
@@ -51,6 +53,8 @@ pub enum Request<'a> {
     Run(Running),
     /// To tell what schedules of the text's program come to that are drawn at random.
     Sample(Sampling),
+    /// To compare the programs of two files.
+    Compare(Comparing<'a>),
 }
 
 /// The number of the range that a text spells.
@@ -79,9 +83,8 @@ fn number_of(matches: &ArgMatches<'_>, name: &str, range: NumberRange) -> Option
     }
 }
 
-// The limits that the options of `replay`, of `explore`, of `run` or of `sample` say, with this range of
-// fibers, of refs and of deferreds.
-fn limits_of(options: &ArgMatches<'_>, band: NumberRange) -> Option<Limits>
+/// The limits that the options of a subcommand say, with this range of fibers, of refs and of deferreds.
+pub(crate) fn limits_of(options: &ArgMatches<'_>, band: NumberRange) -> Option<Limits>
     requires least { band.least ≡ 1 }
     requires most { band.most ≡ 1000 }
     requires usual { (1 ≤ band.usual) × (band.usual ≤ 1000) }
@@ -165,8 +168,8 @@ fn memory_of(explore: &ArgMatches<'_>) -> Option<u64>
     }
 }
 
-// How far the options of `explore` say that the search goes.
-fn bounds_of(explore: &ArgMatches<'_>) -> Option<Bounds>
+/// How far the options of `explore` or of `compare` say that the search goes.
+pub(crate) fn bounds_of(explore: &ArgMatches<'_>) -> Option<Bounds>
     ensures said { IfSome result (λ b. SaysBounds (rows_of (found_of explore.now)) b.worlds b.entries b.memory) }
     ensures none { IfNone result ((worlds : ℕ) (entries : ℕ) (memory : ℕ) →
         SaysBounds (rows_of (found_of explore.now)) worlds entries memory → ⊥) }
@@ -331,6 +334,7 @@ fn plain_request<'a>(name: &str, options: &ArgMatches<'a>) -> Option<Request<'a>
         "show" => Some(show_request(options)),
         "replay" => Some(Request::Replay(replay_of(options)?)),
         "run" => Some(Request::Run(running_of(options)?)),
+        "compare" => Some(Request::Compare(comparing_of(options)?)),
         _ => None,
     }
 }

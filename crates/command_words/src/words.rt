@@ -9,6 +9,7 @@ ghost use Rattle.command_words.specs.Words.{replay_command, run_command, run_opt
 ghost use Rattle.command_words.specs.Words.{schedule_option, show_command, want_option, with_explore_forms, with_forms};
 ghost use Rattle.command_words.specs.Words.{explore_bounds, memory_option, with_limits, with_run_forms};
 
+use crate::compare_words::compare_command;
 use crate::help;
 use crate::help::{CommandHelp, LimitsHelp};
 use crate::ranges::{
@@ -20,8 +21,8 @@ use std::alloc::{AllocError, Global};
 // What `--version` tells behind the name.
 const VERSION: &str = "0.1.0";
 
-// A command without words of its own, with its help.
-fn new_command<'a>(alloc: Global, name: &'a str, help: CommandHelp<'a>) -> Command<'a>
+/// A command without words of its own, with its help.
+pub(crate) fn new_command<'a>(alloc: Global, name: &'a str, help: CommandHelp<'a>) -> Command<'a>
     ensures shape { app_of result ≡ new_app name.entry.now }
     ensures local { (out-Command result).has_globals ≡ false }
 {
@@ -30,8 +31,13 @@ fn new_command<'a>(alloc: Global, name: &'a str, help: CommandHelp<'a>) -> Comma
         .after_help(help.after)
 }
 
-// An option that takes a whole number of this range.
-fn number_option<'a>(alloc: Global, name: &'a str, help: &'a str, range: NumberRange) -> Arg<'a>
+/// An option that takes a whole number of this range.
+pub(crate) fn number_option<'a>(
+    alloc: Global,
+    name: &'a str,
+    help: &'a str,
+    range: NumberRange,
+) -> Arg<'a>
     requires least { range.least < 2 ^ 63 }
     requires most { range.most < 2 ^ 63 }
     ensures rule { rule_of result ≡ number_option name.entry.now range }
@@ -56,8 +62,8 @@ fn flag<'a>(alloc: Global, name: &'a str, help: &'a str) -> Arg<'a>
         .action(ArgAction::SetTrue)
 }
 
-// Adds a flag.
-fn with_flag<'a>(
+/// Adds a flag.
+pub(crate) fn with_flag<'a>(
     alloc: Global,
     command: Command<'a>,
     name: &'a str,
@@ -121,8 +127,8 @@ fn schedule_option<'a>(alloc: Global) -> Arg<'a>
         .action(ArgAction::Set)
 }
 
-// The option that takes a number of bytes, with a unit or without.
-fn memory_option<'a>(alloc: Global) -> Arg<'a>
+/// The option that takes a number of bytes, with a unit or without.
+pub(crate) fn memory_option<'a>(alloc: Global) -> Arg<'a>
     ensures rule { rule_of result ≡ memory_option }
     ensures local { result.global ≡ false }
 {
@@ -145,8 +151,8 @@ fn want_option<'a>(alloc: Global) -> Arg<'a>
         .action(ArgAction::Append)
 }
 
-// Adds the options for the limits of a run.
-fn with_limits<'a>(
+/// Adds the options for the limits of a run.
+pub(crate) fn with_limits<'a>(
     alloc: Global,
     command: Command<'a>,
     help: LimitsHelp<'a>,
@@ -292,5 +298,7 @@ pub fn all_words<'a>(alloc: Global) -> Result<Command<'a>, AllocError>
     let program = program.subcommand(explore)?;
     let run = run_command(alloc)?;
     let program = program.subcommand(run)?;
-    program.subcommand(sample_command(alloc)?)
+    let sample = sample_command(alloc)?;
+    let program = program.subcommand(sample)?;
+    program.subcommand(compare_command(alloc)?)
 }

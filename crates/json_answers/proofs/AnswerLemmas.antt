@@ -8,6 +8,8 @@ use Rattle.effect_term.specs.declared.refusal.TermError.{TermError}
 use Rattle.effect_term.specs.declared.refusal.TermError.TheVariants as term
 use Rattle.term_parse.specs.declared.error.ParseError.{ParseError}
 use Rattle.term_parse.specs.declared.error.ParseError.TheVariants as parse
+use Rattle.serde_json.specs.View.{view}
+use Rattle.serde_json.specs.declared.value.Value.{Value}
 use Rattle.outcome_trace.specs.declared.text_order.Answer.{Answer}
 use Rattle.text_io.specs.declared.status.Status.TheVariants as ends
 use Rattle.outcome_trace.specs.declared.lines.Refused.{Refused}
@@ -17,7 +19,8 @@ use Rattle.outcome_trace.specs.Answers.{IsRefused}
 use Rattle.outcome_trace.specs.ReplayAnswers.{replayed, report_status}
 use Rattle.json_answers.specs.Answers.{IsJsonRefusal, IsJsonRun, faults, no_program, no_term, reports}
 use Rattle.json_answers.specs.ReportData.{fault_data, line_of_data, report_data}
-use Rattle.json_answers.specs.Refusals.{parse_data, term_data}
+use Rattle.json_answers.specs.Refusals as values
+use Rattle.json_answers.specs.Refusals.{IsRefusalData, parse_data, term_data}
 
 pub parse_refused : {E : Type 0} (text : List ℕ) (e : ParseError) (r : Refused) → r ≡ refusals.Parse e → IsRefused text r → (a : Result Answer E) →
     IfOk a (λ a. a.text.items ≡ line_of_data (parse_data e)) → IfOk a (λ a. a.status ≡ ends.Refused) → OnOk a (e ≢ parse.NoMemory) →
@@ -37,6 +40,23 @@ term_refused text e r same why (Ok a) line status other =
       | inr past ↦ rw (line, status) (no_program text at.0 e at.1 past)
     ]
 term_refused text e r same why (Err x) line status other = tt
+
+pub parse_shown : {E : Type 0} (text : List ℕ) (e : ParseError) (r : Refused) → r ≡ refusals.Parse e → IsRefused text r → (v : Result Value E) →
+    IfOk v (λ v. view v ≡ parse_data e) → OnOk v (e ≢ parse.NoMemory) → IfOk v (λ v. IsRefusalData text (view v))
+parse_shown text e r same why (Ok v) value memory =
+    let at : IsRefused text (refusals.Parse e) = subst (IsRefused text) same why in
+    rw value (values.no_term text e (at memory))
+parse_shown text e r same why (Err x) value memory = tt
+
+pub term_shown : {E : Type 0} (text : List ℕ) (e : TermError) (r : Refused) → r ≡ refusals.Term e → IsRefused text r → (v : Result Value E) →
+    IfOk v (λ v. view v ≡ term_data e) → OnOk v (e ≢ term.NoMemory) → IfOk v (λ v. IsRefusalData text (view v))
+term_shown text e r same why (Ok v) value other =
+    let at : IsRefused text (refusals.Term e) = subst (IsRefused text) same why in
+    elim at.2 [
+      | inl memory ↦ absurd (other memory)
+      | inr past ↦ rw value (values.no_program text at.0 e at.1 past)
+    ]
+term_shown text e r same why (Err x) value other = tt
 
 pub report_answers : {E : Type 0} (t : Term) (schedule : List ℕ) (limits : Limits) (r : Report) (a : Result Answer E) →
     replayed t limits schedule ≡ Ok r → IfOk a (λ a. a.text.items ≡ line_of_data (report_data r.fibers)) →

@@ -1,10 +1,13 @@
 -- Refusals and programs as JSON.
-use Rattle.std.specs.Prelude.{◌-◌, ◌^◌, ℕ, min, List, codes}
+use Rattle.std.specs.Prelude.{◌≡◌, ◌-◌, ◌^◌, ℕ, min, List, codes, Ok, Err, Some}
 use Rattle.effect_term.specs.declared.term.Term.{Term}
 use Rattle.effect_term.specs.declared.refusal.TermError.{TermError}
 use Rattle.effect_term.specs.declared.refusal.TermError.TheVariants as term
 use Rattle.effect_term.specs.Masks.{masks_of}
 use Rattle.effect_term.specs.Sizes.{size_of, nest_of}
+use Rattle.effect_term.specs.Programs.{limit_passed}
+use Rattle.term_parse.specs.Atoms.{atoms_of}
+use Rattle.term_parse.specs.Reading.{reading}
 use Rattle.term_parse.specs.declared.error.ParseError.{ParseError}
 use Rattle.term_parse.specs.declared.error.ParseError.TheVariants as parse
 use Rattle.serde_json.specs.Data.{Data, null, string, object, no_members, member}
@@ -40,6 +43,12 @@ term_data (term.DeepMasks n) = object (member (codes "answer") (string (codes "r
     (member (codes "number") (count 3) no_members))))
 term_data term.Large = object (member (codes "answer") (string (codes "refused"))
     (member (codes "name") (string (codes "Large")) (member (codes "number") (count 26) no_members)))
+
+-- the refusal of a text: its first fault, or the limit that the term which it spells goes past
+pub data IsRefusalData : List ℕ → Data → Type 0 where
+  no_term : (text : List ℕ) (e : ParseError) → reading text ≡ Err e → IsRefusalData text (parse_data e)
+  no_program : (text : List ℕ) (t : Term) (e : TermError) → reading text ≡ Ok (atoms_of t) → limit_passed t ≡ Some e →
+      IsRefusalData text (term_data e)
 
 -- a count, which is the greatest of 64 bits where it is above that
 abbrev pub capped : ℕ → Data

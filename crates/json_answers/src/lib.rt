@@ -18,6 +18,7 @@ mod values;
 
 pub use explore_orders::ExploreJson;
 pub use orders::{CheckJson, ReplayJson, fault_json_answer, report_json_answer};
-pub use refusals::{InJson, refusal_answer};
+pub use refusals::{InJson, refusal_answer, refusal_json};
 pub use report_values::{fault_json, report_json};
 pub use sample_orders::SampleJson;
+pub use values::value_answer;

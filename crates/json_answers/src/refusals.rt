@@ -5,7 +5,7 @@ ghost use Rattle.serde_json.specs.View.{view};
 ghost use Rattle.outcome_trace.specs.Answers.{IsRefused};
 ghost use Rattle.json_answers.specs.Answers.{IsJsonRefusal};
 ghost use Rattle.json_answers.specs.ReportData.{line_of_data};
-ghost use Rattle.json_answers.specs.Refusals.{parse_data, program_data, refused_at, term_data};
+ghost use Rattle.json_answers.specs.Refusals.{IsRefusalData, parse_data, program_data, refused_at, term_data};
 
 use crate::values::value_answer;
 use effect_term::{Term, TermError};
@@ -35,6 +35,18 @@ pub fn refusal_answer(alloc: Global, text: &[u8], refused: Refused) -> Result<An
     match refused {
         Refused::Parse(error) => parse_answer(alloc, error),
         Refused::Term(error) => term_answer(alloc, error),
+        Refused::Run(_) => unreachable!(),
+    }
+}
+
+/// The value of the refusal of a text that is refused so. `AllocError` where memory ran out, also where that is why.
+pub fn refusal_json(alloc: Global, text: &[u8], refused: Refused) -> Result<Value, AllocError>
+    requires { IsRefused text.now refused }
+    ensures { IfOk result (λ value. IsRefusalData text.now (view value)) }
+{
+    match refused {
+        Refused::Parse(error) => parse_value(alloc, error),
+        Refused::Term(error) => term_value(alloc, error),
         Refused::Run(_) => unreachable!(),
     }
 }

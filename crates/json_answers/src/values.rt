@@ -10,11 +10,8 @@ use serde_json::Value;
 use std::alloc::{AllocError, Global};
 
 /// An answer: the text of a value without spaces, and a line feed. No part of the value is a number with a point.
-pub(crate) fn value_answer(
-    alloc: Global,
-    value: &Value,
-    status: Status,
-) -> Result<Answer, AllocError>
+/// `AllocError` where memory ran out.
+pub fn value_answer(alloc: Global, value: &Value, status: Status) -> Result<Answer, AllocError>
     requires { has_float (view value.now) ≡ false }
     ensures line { IfOk result (λ a. a.text.items ≡ line_of_data (view value.now)) }
     ensures status { IfOk result (λ a. a.status ≡ status) }

@@ -3,6 +3,7 @@
 
 use super::{Run, expect_run};
 use std::process::Abort;
+use std::rt::Files;
 use std::sync::Wait;
 use std::thread::Threads;
 use std::time::Clock;
@@ -170,7 +171,7 @@ const TOO_FEW: &[(&str, Run<'static>)] = &[
 ];
 
 // Runs each program under its option, and compares the fault.
-fn expect_faults<R: Abort + AllocGlobal + Clock + Threads + Wait + Sync>(
+fn expect_faults<R: Abort + AllocGlobal + Clock + Files + Threads + Wait + Sync>(
     rt: &R,
     all: &[Faults<'_>],
 ) {
@@ -188,7 +189,7 @@ fn expect_faults<R: Abort + AllocGlobal + Clock + Threads + Wait + Sync>(
 }
 
 // Runs each program under its option, and compares the report and the status.
-fn expect_each<R: Abort + AllocGlobal + Clock + Threads + Wait + Sync>(
+fn expect_each<R: Abort + AllocGlobal + Clock + Files + Threads + Wait + Sync>(
     rt: &R,
     runs: &[(&str, Run<'_>)],
 ) {

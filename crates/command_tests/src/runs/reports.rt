@@ -2,6 +2,7 @@
 
 use super::{Run, expect_run};
 use std::process::Abort;
+use std::rt::Files;
 use std::sync::Wait;
 use std::thread::Threads;
 use std::time::Clock;
@@ -139,7 +140,10 @@ const REFUSED: &[Run<'static>] = &[
 ];
 
 // Runs each program in turns of the default length, and of two moves.
-fn expect_runs<R: Abort + AllocGlobal + Clock + Threads + Wait + Sync>(rt: &R, runs: &[Run<'_>]) {
+fn expect_runs<R: Abort + AllocGlobal + Clock + Files + Threads + Wait + Sync>(
+    rt: &R,
+    runs: &[Run<'_>],
+) {
     for option in ["--budget=64", "--budget=2"] {
         for run in runs {
             expect_run(rt, option, run);

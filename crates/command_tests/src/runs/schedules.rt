@@ -3,6 +3,7 @@
 use crate::answers::{answered, expect};
 use std::alloc::{AllocError, Global};
 use std::process::Abort;
+use std::rt::Files;
 use std::sync::Wait;
 use std::test::Fail;
 use std::thread::Threads;
@@ -50,7 +51,7 @@ const REPORTS: &[&[u8]] = &[
 ];
 
 // Runs the program on four workers, and asks that its report be one of the five.
-fn expect_one_of_five<R: Abort + AllocGlobal + Clock + Threads + Wait + Sync>(rt: &R) {
+fn expect_one_of_five<R: Abort + AllocGlobal + Clock + Files + Threads + Wait + Sync>(rt: &R) {
     let answer = answered(rt, ON_FOUR, CANCELED_ANYWHERE.as_bytes());
     assert_eq!(rt; (answer.status, answer.err.len()), (0, 0));
     assert!(rt; REPORTS.contains(&answer.out.as_slice()));

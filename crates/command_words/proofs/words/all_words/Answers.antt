@@ -13,5 +13,6 @@ returns c =
     let three = c.in_ok-program-3.ensures.shape c.in_ok-replay.ensures.local ∙ ap₂ with_subcommand two (ap top_of c.in_ok-replay.ensures.shape) in
     let four = c.in_ok-program-4.ensures.shape c.in_ok-explore.ensures.local ∙ ap₂ with_subcommand three (ap top_of c.in_ok-explore.ensures.shape) in
     let five = c.in_ok-program-5.ensures.shape c.in_ok-run.ensures.local ∙ ap₂ with_subcommand four (ap top_of c.in_ok-run.ensures.shape) in
-    IfOk-weaker c.subcommand-6.result _ _ (λ m h. h.shape c.in_ok-sample_command.ensures.local ∙
-    ap₂ with_subcommand five (ap top_of c.in_ok-sample_command.ensures.shape)) c.subcommand-6.ensures
+    let six = c.in_ok-program-6.ensures.shape c.in_ok-sample.ensures.local ∙ ap₂ with_subcommand five (ap top_of c.in_ok-sample.ensures.shape) in
+    IfOk-weaker c.subcommand-7.result _ _ (λ m h. h.shape c.in_ok-compare_command.ensures.local ∙
+    ap₂ with_subcommand six (ap top_of c.in_ok-compare_command.ensures.shape)) c.subcommand-7.ensures

@@ -1,0 +1,74 @@
+-- What comes of two texts that are compared.
+use Rattle.std.proofs.Common.{◌≡◌, ◌≢◌, ◌∙◌, ℕ, List, Result, Ok, Err, refl, ap, subst}
+use Rattle.std.specs.Prelude.{IfOk}
+use Rattle.comparison_answers.specs.declared.pairs.CompareOrder.{CompareOrder}
+use Rattle.comparison_answers.specs.PairAnswers.{IsPairAnswer}
+use Rattle.text_io.specs.declared.fault.TextFault.{TextFault}
+use Rattle.text_io.specs.declared.fault.TextFault.TheVariants as faults
+use Rattle.text_io.specs.declared.status.Status.{Status}
+use Rattle.text_io.specs.declared.status.Status.TheVariants.{Fault}
+use Rattle.text_io.specs.Devices.{Reader, Writer}
+use Rattle.text_io.specs.Exchange.{IsOutOfReads}
+use Rattle.text_io.specs.FaultLines.{fault_line}
+use Rattle.text_io.specs.Telling.{Told}
+use Rattle.text_io.specs.Text.{GoesOut, OnlyWriteFaults, is_read_fault, is_write_fault}
+use Rattle.command_line.specs.declared.compare_order.Side.{Side}
+use Rattle.command_line.specs.Comparings.{FailsSide, WritesPair, answered, side_line}
+use Rattle.command_line.proofs.RunLemmas.{only_same, out_same, write_same}
+
+read_same : (X : Type 0) (f : TextFault) → is_read_fault {A = X} (Err f) ≡ is_read_fault {A = Status} (Err f)
+read_same X faults.NoMemory = refl
+read_same X faults.ReadFault = refl
+read_same X (faults.WriteFault n) = refl
+read_same X faults.TurnBound = refl
+
+-- a text can't be read
+pub side_fails : {X : Type 0} (side : Side) (before after : Reader) (out err err' : Writer) (status : Status) (r : Result X TextFault) (f : TextFault) →
+    r ≡ Err f → after.failed ≡ is_read_fault r → (r ≡ Err faults.TurnBound → IsOutOfReads before after) →
+    ((n : ℕ) → r ≢ Err (faults.WriteFault n)) → Told (side_line side f) err err' → status ≡ Fault → FailsSide side before after out out err err' status
+side_fails {X} side before after out err err' status r f is failed turns nothing told status_is = record {
+  fault = f;
+  failed = failed ∙ ap is_read_fault is ∙ read_same X f;
+  turns = λ same. turns (is ∙ ap Err same);
+  nothing_written = λ n same. nothing n (is ∙ ap Err same);
+  unanswered = refl;
+  told = told;
+  status_is = status_is;
+}
+
+module _ (order : CompareOrder) (out out' : Writer) (one other answer : List ℕ) (own : Status)
+    (answers : IsPairAnswer order.json order.limits order.bounds order.basis one other answer own) (result : Result (Unit {0}) TextFault)
+    (written : List ℕ) (same : written ≡ answer) (goes : GoesOut out.contents out'.contents written result) (only : OnlyWriteFaults result)
+    (failed : out'.failed ≡ is_write_fault result) where
+  -- the answer went out
+  pub pair_answered : (err : Writer) (done : Unit {0}) → result ≡ Ok done → WritesPair order one other out out' err err own
+  pair_answered err done is = answered record {
+    answer = answer;
+    own = own;
+    result = Ok own;
+    answers = answers;
+    gives = refl;
+    goes = subst (λ (r : Result (Unit {0}) TextFault). GoesOut out.contents out'.contents answer r) is
+        (subst (λ (t : List ℕ). GoesOut out.contents out'.contents t result) same goes);
+    only = tt;
+    failed = failed ∙ ap is_write_fault is;
+    told = refl;
+    status_is = refl;
+  }
+
+  -- or a write failed, which is told
+  pub pair_kept_back : (err err' : Writer) (f : TextFault) (status : Status) → result ≡ Err f → Told (fault_line f) err err' → status ≡ Fault →
+      WritesPair order one other out out' err err' status
+  pair_kept_back err err' f status is told status_is = answered record {
+    answer = answer;
+    own = own;
+    result = Err f;
+    answers = answers;
+    gives = tt;
+    goes = out_same out.contents out'.contents answer f (subst (λ (r : Result (Unit {0}) TextFault). GoesOut out.contents out'.contents answer r) is
+        (subst (λ (t : List ℕ). GoesOut out.contents out'.contents t result) same goes));
+    only = only_same f (subst (λ (r : Result (Unit {0}) TextFault). OnlyWriteFaults r) is only);
+    failed = failed ∙ ap is_write_fault is ∙ write_same f;
+    told = told;
+    status_is = status_is;
+  }

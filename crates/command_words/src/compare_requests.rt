@@ -1,0 +1,56 @@
+//! The comparison that the words of a command line ask for.
+
+ghost use Rattle.std.specs.Prelude.{◌≡◌, codes, IfNone, IfSome};
+ghost use Rattle.clap.specs.Words.{found_of, rows_of};
+ghost use Rattle.compared_ends.specs.declared.basis.Basis.{Basis as TheBasis};
+ghost use Rattle.comparison_answers.specs.declared.pairs.CompareOrder.{CompareOrder};
+ghost use Rattle.command_words.specs.declared.comparing.Comparing.{Comparing};
+ghost use Rattle.command_words.specs.Requests.{SaysBasis, SaysCompare, SaysComparing};
+
+use crate::comparing::Comparing;
+use crate::flags::{given, text_of};
+use crate::ranges::FEW;
+use crate::requests::{bounds_of, limits_of};
+use clap::ArgMatches;
+use comparison_answers::{Basis, CompareOrder};
+
+// By what the options of `compare` say that ends are compared.
+fn basis_of(compare: &ArgMatches<'_>) -> Basis
+    ensures { SaysBasis (rows_of (found_of compare.now)) result }
+{
+    if given(compare, "all") {
+        Basis::AllFibers
+    } else {
+        Basis::FirstFiber
+    }
+}
+
+// How the options of `compare` say that programs are compared.
+fn compare_order(compare: &ArgMatches<'_>) -> Option<CompareOrder>
+    ensures said { IfSome result (SaysCompare (rows_of (found_of compare.now))) }
+    ensures none { IfNone result ((order : CompareOrder) → SaysCompare (rows_of (found_of compare.now)) order → ⊥) }
+{
+    let limits = limits_of(compare, FEW)?;
+    let bounds = bounds_of(compare)?;
+    Some(CompareOrder {
+        limits,
+        bounds,
+        basis: basis_of(compare),
+        json: given(compare, "json"),
+    })
+}
+
+/// The comparison that the options of `compare` say.
+pub(crate) fn comparing_of<'a>(compare: &ArgMatches<'a>) -> Option<Comparing<'a>>
+    ensures said { IfSome result (SaysComparing (rows_of (found_of compare.now))) }
+    ensures none { IfNone result ((said : Comparing) → SaysComparing (rows_of (found_of compare.now)) said → ⊥) }
+{
+    let first = text_of(compare, "first")?;
+    let second = text_of(compare, "second")?;
+    let order = compare_order(compare)?;
+    Some(Comparing {
+        first,
+        second,
+        order,
+    })
+}

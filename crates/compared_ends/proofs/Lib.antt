@@ -1,0 +1,2 @@
+pub mod ValuesSaid
+pub mod BothWays

@@ -1,0 +1,29 @@
+//! Two programs, compared by the ends that they can come to under every schedule.
+//!
+//! It stands on the exploration of a program (`every_schedule`). Two programs are explored under the same limits, and
+//! their ends are compared by how fiber 0 ends and what it says, or by how each fiber ends. It promises that programs
+//! which are reported to have the same ends have them under every schedule, and that an end which only one program is
+//! reported to have is reached there by the schedule that is given, and by no schedule of the other program.
+//!
+//! A race against what never ends is the other side, by how fiber 0 ends. By how all fibers end it isn't, since only the
+//! race starts some:
+//!
+//! ```
+//! let race = Program::check(alloc, parse(alloc, b"(race (pure 4) (never))")?)?;
+//! let side = Program::check(alloc, parse(alloc, b"(pure 4)")?)?;
+//! let limits = Limits { fibers: 3, refs: 1, deferreds: 1, count: 1000 };
+//! let bounds = Bounds { worlds: 10_000, entries: 10_000, memory: 1 << 30 };
+//! let found = compare_ends(alloc, &race, &side, limits, bounds, Basis::FirstFiber)?;
+//! assert_eq!((found.first_extra, found.second_extra), (Extra::Nothing, Extra::Nothing));
+//! ```
+#![tactic(auto)]
+
+mod basis;
+mod comparing;
+mod comparison;
+mod extras;
+mod views;
+
+pub use basis::Basis;
+pub use comparing::compare_ends;
+pub use comparison::{Comparison, Extra};

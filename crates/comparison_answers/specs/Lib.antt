@@ -1,0 +1,3 @@
+pub mod ComparisonText
+pub mod ComparisonData
+pub mod PairAnswers
