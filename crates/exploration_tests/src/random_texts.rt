@@ -339,7 +339,7 @@ fn below(draws: &mut Xoshiro256PlusPlus, bound: u32) -> u32 {
 }
 
 // The form of a term that nests at most so deep.
-fn form(draws: &mut Xoshiro256PlusPlus, depth: u32, scope: Scope) -> &'static Form {
+fn drawn_form(draws: &mut Xoshiro256PlusPlus, depth: u32, scope: Scope) -> &'static Form {
     let forms = if depth == 0 || below(draws, 6) == 0 {
         LEAVES
     } else {
@@ -425,7 +425,7 @@ pub fn random_text(alloc: Global, seed: u64, depth: u32) -> Result<String, Alloc
             Part::Value => push_value(&mut text, &mut draws, scope)?,
             Part::Term => push_parts(
                 &mut pieces,
-                form(&mut draws, depth, scope),
+                drawn_form(&mut draws, depth, scope),
                 depth.saturating_sub(1),
                 scope,
             )?,
@@ -433,7 +433,7 @@ pub fn random_text(alloc: Global, seed: u64, depth: u32) -> Result<String, Alloc
                 let scope = under(scope, kind);
                 push_parts(
                     &mut pieces,
-                    form(&mut draws, depth, scope),
+                    drawn_form(&mut draws, depth, scope),
                     depth.saturating_sub(1),
                     scope,
                 )?;
