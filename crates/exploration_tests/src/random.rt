@@ -66,18 +66,18 @@ fn compared(alloc: Global, text: &str) -> Result<Came, Fail> {
     }
 }
 
-// Compares 500 programs, of which half have more than one answer and more than a hundred worlds.
+// Compares 250 programs, of which half have more than one answer and more than a hundred worlds.
 fn compare_many(alloc: Global, first: u64) -> Result<(), Fail> {
     let mut rich = 0u32;
     let mut poor = 0u32;
     for number in 0..20_000u64 {
-        if rich >= 250 && poor >= 250 {
+        if rich >= 125 && poor >= 125 {
             return Ok(());
         }
         let text = random_text(alloc, first.wrapping_add(number), 4)?;
         match compared(alloc, text.as_str())? {
-            Came::Same => rich += 1,
-            Came::SameOfFew => poor += 1,
+            Came::Same => rich = rich.saturating_add(1),
+            Came::SameOfFew => poor = poor.saturating_add(1),
             Came::Different => return Err(Fail::new(text.as_str())),
             Came::Skipped => {}
         }
@@ -85,7 +85,7 @@ fn compare_many(alloc: Global, first: u64) -> Result<(), Fail> {
     Err(Fail::new("too few programs have several answers"))
 }
 
-// Each test has a minute, and the machine may have other work: so they are four.
+// Each test has a minute, and the machine may have other work: so they are eight.
 #[test]
 fn random_programs_have_the_answers_of_the_plain_search(rt: HostRuntime) -> Result<(), Fail> {
     compare_many(rt.alloc(), 1)
@@ -108,4 +108,28 @@ fn fourth_random_programs_have_the_answers_of_the_plain_search(
     rt: HostRuntime,
 ) -> Result<(), Fail> {
     compare_many(rt.alloc(), 3_000_000)
+}
+
+#[test]
+fn fifth_random_programs_have_the_answers_of_the_plain_search(rt: HostRuntime) -> Result<(), Fail> {
+    compare_many(rt.alloc(), 4_000_000)
+}
+
+#[test]
+fn sixth_random_programs_have_the_answers_of_the_plain_search(rt: HostRuntime) -> Result<(), Fail> {
+    compare_many(rt.alloc(), 5_000_000)
+}
+
+#[test]
+fn seventh_random_programs_have_the_answers_of_the_plain_search(
+    rt: HostRuntime,
+) -> Result<(), Fail> {
+    compare_many(rt.alloc(), 6_000_000)
+}
+
+#[test]
+fn eighth_random_programs_have_the_answers_of_the_plain_search(
+    rt: HostRuntime,
+) -> Result<(), Fail> {
+    compare_many(rt.alloc(), 7_000_000)
 }
