@@ -202,12 +202,12 @@ refused_ends ran.Json text answer status h = json_refusal_ends h
 
 workers_end : {t : Term} {options : Options} {answer : List ℕ} {status : Status} → IsWorkersAnswer t options answer status → status ≢ ends.Usage
 workers_end (reports_worked r some lawful) = report_ends r.fibers
-workers_end (faults_worked e within) = λ u. cc
+workers_end (faults_worked e within of_run) = λ u. cc
 
 recorded_ends : {t : Term} {options : Options} {b : Bool} {answer : List ℕ} {status : Status} → IsRecordedWith t options b answer status →
     status ≢ ends.Usage
 recorded_ends (reports_recorded r b line some lawful told) = report_ends r.fibers
-recorded_ends (faults_recorded e b line within told) = λ u. cc
+recorded_ends (faults_recorded e b line within of_run told) = λ u. cc
 
 timed_ends : {t : Term} {options : Options} {answer : List ℕ} {status : Status} → IsTimedAnswer t options answer status → status ≢ ends.Usage
 timed_ends (alone answer status h) = recorded_ends h
@@ -215,7 +215,7 @@ timed_ends (timed answer timeline status h) = recorded_ends h
 
 values_end : {t : Term} {options : Options} {answer : List ℕ} {status : Status} → IsJsonWorkersAnswer t options answer status → status ≢ ends.Usage
 values_end (values r some lawful) = report_ends r.fibers
-values_end (value_of_fault e within) = λ u. cc
+values_end (value_of_fault e within of_run) = λ u. cc
 
 comes_ends : (form : RunForm) (options : Options) (t : Term) (answer : List ℕ) (status : Status) → comes_as form options t answer status → status ≢ ends.Usage
 comes_ends ran.Report options t answer status h = workers_end h

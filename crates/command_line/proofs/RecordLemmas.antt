@@ -20,7 +20,7 @@ use Rattle.run_ends.specs.declared.finishing.RunEnd.{RunEnd}
 use Rattle.steal_pool.specs.declared.options.Options.{Options}
 use Rattle.run_recording.specs.declared.schedules.NoSchedule.{NoSchedule}
 use Rattle.run_ends.specs.Gathering.{IsLawful}
-use Rattle.run_ends.specs.Ends.{came_to}
+use Rattle.run_ends.specs.Ends.{IsRunFault, came_to}
 use Rattle.ready_queues.specs.Faults.{IsFaultWithin}
 use Rattle.steal_pool.specs.Runs.{limits_of}
 use Rattle.command_line.specs.Recording.{AreEntriesOf, IsBehindFault, IsRecord, IsRecordedAnswer, IsRecordedWith, IsScheduleLine, IsTimedAnswer}
@@ -57,22 +57,23 @@ line_behind_told t options fault.NoWorker s h = (refl, refl)
 -- what a recorded run comes to, with the line of its schedule
 pub recorded_answer : (t : Term) (options : Options) (end : Result RunEnd RunError) (s : Result (String Global) NoSchedule) (a : Answer) →
     IfOk end (λ it. IsSpentReport (code_of (source_of t)) (limits_of options) options.moves it.report) → IfOk end (λ it. All IsLawful it.report.fibers) →
-    IfErr end (IsFaultWithin (limits_of options)) →
+    IfErr end (IsFaultWithin (limits_of options)) → IfErr end (IsRunFault (code_of (source_of t)) (limits_of options)) →
     IfOk s (λ text. IsRecord (code_of (source_of t)) (limits_of options) (string_bytes text) (came_to end)) → a.text.items ≡ record_text end s →
     a.status ≡ ended_status end → IsRecordedWith t options (has_line end && is_found s) a.text.items a.status
-recorded_answer t options (Ok it) s a some lawful within recorded line status =
+recorded_answer t options (Ok it) s a some lawful within of_run recorded line status =
     rw (line, status) (reports it.report (is_found s) (told_line s) some lawful (line_told t options (Ok it.report) s recorded))
-recorded_answer t options (Err f) s a some lawful within recorded line status =
-    rw (line, status) (faults f (has_line (Err f) && is_found s) (line_behind f s) within (line_behind_told t options f s recorded))
+recorded_answer t options (Err f) s a some lawful within of_run recorded line status =
+    rw (line, status) (faults f (has_line (Err f) && is_found s) (line_behind f s) within of_run (line_behind_told t options f s recorded))
 
 pub recorded_answers : {E : Type 0} (t : Term) (options : Options) (end : Result RunEnd RunError) (s : Result (String Global) NoSchedule)
     (a : Result Answer E) → IfOk end (λ it. IsSpentReport (code_of (source_of t)) (limits_of options) options.moves it.report) →
     IfOk end (λ it. All IsLawful it.report.fibers) → IfErr end (IsFaultWithin (limits_of options)) →
+    IfErr end (IsRunFault (code_of (source_of t)) (limits_of options)) →
     IfOk s (λ text. IsRecord (code_of (source_of t)) (limits_of options) (string_bytes text) (came_to end)) →
     IfOk a (λ a. a.text.items ≡ record_text end s) → IfOk a (λ a. a.status ≡ ended_status end) → IfOk a (λ a. IsRecordedAnswer t options a.text.items a.status)
-recorded_answers t options end s (Ok a) some lawful within recorded line status =
-    (has_line end && is_found s, recorded_answer t options end s a some lawful within recorded line status)
-recorded_answers t options end s (Err x) some lawful within recorded line status = tt
+recorded_answers t options end s (Ok a) some lawful within of_run recorded line status =
+    (has_line end && is_found s, recorded_answer t options end s a some lawful within of_run recorded line status)
+recorded_answers t options end s (Err x) some lawful within of_run recorded line status = tt
 
 -- what was read of a schedule that was found
 pub entries_found : (s : Result (String Global) NoSchedule) (text : String Global) (bytes entries : List ℕ) → s ≡ Ok text →
@@ -115,10 +116,11 @@ timed_answers t options front rows (Err x) h line status = tt
 -- ---- without the line of the schedule
 pub ended_answers : (t : Term) (options : Options) (end : Result RunEnd RunError) (a : Answer) →
     IfOk end (λ it. IsSpentReport (code_of (source_of t)) (limits_of options) options.moves it.report) → IfOk end (λ it. All IsLawful it.report.fibers) →
-    IfErr end (IsFaultWithin (limits_of options)) → a.text.items ≡ ended_text end → a.status ≡ ended_status end →
+    IfErr end (IsFaultWithin (limits_of options)) → IfErr end (IsRunFault (code_of (source_of t)) (limits_of options)) →
+    a.text.items ≡ ended_text end → a.status ≡ ended_status end →
     IsWorkersAnswer t options a.text.items a.status
-ended_answers t options (Ok it) a some lawful within line status = rw (line, status) (reports_worked it.report some lawful)
-ended_answers t options (Err f) a some lawful within line status = rw (line, status) (faults_worked f within)
+ended_answers t options (Ok it) a some lawful within of_run line status = rw (line, status) (reports_worked it.report some lawful)
+ended_answers t options (Err f) a some lawful within of_run line status = rw (line, status) (faults_worked f within of_run)
 
 -- a replay under the entries of the schedule comes to the same
 replay_comes : (t : Term) (options : Options) (end : Result RunEnd RunError) (entries : List ℕ) →

@@ -13,6 +13,7 @@ use Rattle.outcome_trace.specs.ReplayAnswers.{report_status}
 use Rattle.outcome_trace.specs.ReportText.{text_of_fibers}
 use Rattle.scheduled_core.specs.Spending.{IsSpentReport}
 use Rattle.steal_pool.specs.declared.options.Options.{Options}
+use Rattle.run_ends.specs.Ends.{IsRunFault}
 use Rattle.run_ends.specs.Gathering.{IsLawful}
 use Rattle.ready_queues.specs.Faults.{IsFaultWithin}
 use Rattle.steal_pool.specs.Runs.{limits_of}
@@ -25,9 +26,10 @@ report_answers t options r (Ok a) some lawful line status = rw (line, status) (r
 report_answers t options r (Err x) some lawful line status = tt
 
 pub fault_answers : {E : Type 0} (t : Term) (options : Options) (f : RunError) (a : Result Answer E) → IsFaultWithin (limits_of options) f →
+    IsRunFault (code_of (source_of t)) (limits_of options) f →
     IfOk a (λ a. a.text.items ≡ run_line f) → IfOk a (λ a. a.status ≡ Fault) → IfOk a (λ a. IsWorkersAnswer t options a.text.items a.status)
-fault_answers t options f (Ok a) within line status = rw (line, status) (faults f within)
-fault_answers t options f (Err x) within line status = tt
+fault_answers t options f (Ok a) within of_run line status = rw (line, status) (faults f within of_run)
+fault_answers t options f (Err x) within of_run line status = tt
 
 pub value_answers : {E : Type 0} (t : Term) (options : Options) (r : Report) (a : Result Answer E) →
     IsSpentReport (code_of (source_of t)) (limits_of options) options.moves r → All IsLawful r.fibers →
@@ -37,7 +39,8 @@ value_answers t options r (Ok a) some lawful line status = rw (line, status) (va
 value_answers t options r (Err x) some lawful line status = tt
 
 pub fault_value_answers : {E : Type 0} (t : Term) (options : Options) (f : RunError) (a : Result Answer E) → IsFaultWithin (limits_of options) f →
+    IsRunFault (code_of (source_of t)) (limits_of options) f →
     IfOk a (λ a. a.text.items ≡ line_of_data (fault_data f)) → IfOk a (λ a. a.status ≡ Fault) →
     IfOk a (λ a. IsJsonWorkersAnswer t options a.text.items a.status)
-fault_value_answers t options f (Ok a) within line status = rw (line, status) (value_of_fault f within)
-fault_value_answers t options f (Err x) within line status = tt
+fault_value_answers t options f (Ok a) within of_run line status = rw (line, status) (value_of_fault f within of_run)
+fault_value_answers t options f (Err x) within of_run line status = tt

@@ -23,6 +23,7 @@ use Rattle.run_ends.specs.declared.finishing.RunEnd.{RunEnd}
 use Rattle.steal_pool.specs.declared.options.Options.{Options}
 use Rattle.run_recording.specs.declared.schedules.NoSchedule.{NoSchedule}
 use Rattle.run_recording.specs.declared.schedules.NoSchedule.TheVariants.{TooLong, NotFound, NoMemory}
+use Rattle.run_ends.specs.Ends.{IsRunFault}
 use Rattle.run_ends.specs.Gathering.{IsLawful}
 use Rattle.ready_queues.specs.Faults.{IsFaultWithin}
 use Rattle.steal_pool.specs.Runs.{limits_of}
@@ -84,6 +85,7 @@ pub data IsRecordedWith (t : Term) (options : Options) : Bool → List ℕ → S
       IsScheduleLine t options (Ok r) tells line →
       IsRecordedWith t options tells (text_of_fibers r.fibers ++ line) (report_status r.fibers)
   faults : (e : RunError) (tells : Bool) (line : List ℕ) → IsFaultWithin (limits_of options) e →
+      IsRunFault (code_of (source_of t)) (limits_of options) e →
       IsBehindFault t options e tells line → IsRecordedWith t options tells (run_line e ++ line) Fault
 
 -- it is what comes of it, whether or not a schedule is told

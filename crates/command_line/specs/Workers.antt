@@ -14,23 +14,26 @@ use Rattle.outcome_trace.specs.ReplayAnswers.{report_status}
 use Rattle.outcome_trace.specs.ReportText.{text_of_fibers}
 use Rattle.scheduled_core.specs.Spending.{IsSpentReport}
 use Rattle.steal_pool.specs.declared.options.Options.{Options}
+use Rattle.run_ends.specs.Ends.{IsRunFault}
 use Rattle.run_ends.specs.Gathering.{IsLawful}
 use Rattle.ready_queues.specs.Faults.{IsFaultWithin}
 use Rattle.steal_pool.specs.Runs.{limits_of}
 
 -- What comes of a program on workers, with its status: the report of a schedule of moves within those of the options,
 -- in which each fiber that hasn't ended rests at a wait that nothing serves, or has used its moves, and whose marks are
--- lawful, with the status of fiber 0's end; or a fault, which tells the limit that it tells of.
+-- lawful, with the status of fiber 0's end; or a fault, with the limit that it names: that of a call which the core
+-- refuses under some schedule, or one of memory, of a missing task, or of threads.
 pub data IsWorkersAnswer (t : Term) (options : Options) : List ℕ → Status → Type 0 where
   reports : (r : Report) → IsSpentReport (code_of (source_of t)) (limits_of options) options.moves r → All IsLawful r.fibers →
       IsWorkersAnswer t options (text_of_fibers r.fibers) (report_status r.fibers)
-  faults : (e : RunError) → IsFaultWithin (limits_of options) e → IsWorkersAnswer t options (run_line e) Fault
+  faults : (e : RunError) → IsFaultWithin (limits_of options) e → IsRunFault (code_of (source_of t)) (limits_of options) e →
+      IsWorkersAnswer t options (run_line e) Fault
 
 -- the same as JSON
 pub data IsJsonWorkersAnswer (t : Term) (options : Options) : List ℕ → Status → Type 0 where
   values : (r : Report) → IsSpentReport (code_of (source_of t)) (limits_of options) options.moves r → All IsLawful r.fibers →
       IsJsonWorkersAnswer t options (line_of_data (report_data r.fibers)) (report_status r.fibers)
-  value_of_fault : (e : RunError) → IsFaultWithin (limits_of options) e →
+  value_of_fault : (e : RunError) → IsFaultWithin (limits_of options) e → IsRunFault (code_of (source_of t)) (limits_of options) e →
       IsJsonWorkersAnswer t options (line_of_data (fault_data e)) Fault
 
 -- what `run` answers to a text

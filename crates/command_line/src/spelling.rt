@@ -6,7 +6,7 @@ ghost use Rattle.command_line.specs.Recording.{IsRecord, SpellsFound};
 ghost use Rattle.derived_ops.specs.Expansion.{code_of};
 ghost use Rattle.derived_ops.specs.Reading.{source_of};
 ghost use Rattle.ready_queues.specs.Faults.{IsFaultWithin};
-ghost use Rattle.run_ends.specs.Ends.{came_to};
+ghost use Rattle.run_ends.specs.Ends.{IsRunFault, came_to};
 ghost use Rattle.run_ends.specs.Gathering.{IsLawful};
 ghost use Rattle.scheduled_core.specs.Spending.{IsSpentReport};
 ghost use Rattle.steal_pool.specs.Runs.{limits_of};
@@ -43,6 +43,7 @@ pub fn run_spelled<R: Threads + Wait + Sync>(
         it.report) }
     ensures lawful { IfOk result.end (λ it. All IsLawful it.report.fibers) }
     ensures full { IfErr result.end (IsFaultWithin (limits_of options)) }
+    ensures faults { IfErr result.end (IsRunFault (code_of (source_of program)) (limits_of options)) }
 {
     let Recorded { end, schedule } = run_recorded(rt, alloc, program, options, &OpenGate);
     let schedule = spell(alloc, schedule);

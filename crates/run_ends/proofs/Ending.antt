@@ -1,15 +1,18 @@
 -- Fibers that were gathered go on beside the registry that their run leaves.
-use Rattle.std.proofs.Common.{◌≡◌, ℕ, ◌+◌, List, [], ◌∷◌, ◌++◌, length, map, Option, None, Some, Ok, ◌⊎◌, inl, inr, refl, sym, ap, ◌∙◌, subst}
+use Rattle.std.proofs.Common.{◌≡◌, ℕ, ◌+◌, List, [], ◌∷◌, ◌++◌, length, map, Option, None, Some, Ok, Err, fold, ◌⊎◌, inl, inr, refl, sym, ap, ◌∙◌, subst}
 use Rattle.std.specs.List.{slice_get}
 use Rattle.std.proofs.lemmas.List.{length-append}
+use Rattle.std.proofs.lemmas.List.Sums.{fold-append}
 use Rattle.derived_ops.specs.Tree.{Tree}
 use Rattle.fiber_frames.specs.Fiber.{Fiber}
 use Rattle.cell_registry.specs.declared.limits.Limits.{Limits}
+use Rattle.cell_registry.specs.declared.limits.RunError.{RunError}
+use Rattle.cell_registry.specs.declared.limits.RunError.TheVariants as fault
 use Rattle.cell_registry.specs.Histories.{left}
 use Rattle.cell_registry.specs.Passes.{PassView, RegistryView}
 use Rattle.cell_registry.specs.Plain.{IsLeftPlain, PlainView}
 use Rattle.scheduled_core.specs.declared.report.Report.{Report}
-use Rattle.scheduled_core.specs.Core.{World, fiber_report}
+use Rattle.scheduled_core.specs.Core.{World, core, entered, fiber_report, first_world}
 use Rattle.scheduled_core.specs.Finals.{IsFinal, IsFinalReport, IsStopped}
 use Rattle.scheduled_core.specs.Fitting.{AllFit, Fits, cell_registered, world_of}
 use Rattle.scheduled_core.specs.Spending.{AreSpent, IsSpentReport, SpendsMany}
@@ -19,7 +22,7 @@ use Rattle.scheduled_core.proofs.Standing.Lists.{get_early, get_last}
 use Rattle.scheduled_core.proofs.Standing.AfterATurn.{stands-longer}
 use Rattle.fiber_poll.specs.Tasks.{IsBroken}
 use Rattle.run_ends.specs.declared.finishing.RunEnd.{RunEnd}
-use Rattle.run_ends.specs.Ends.{IsEnd, TellsUnended}
+use Rattle.run_ends.specs.Ends.{IsEnd, IsFaultOfSomeSchedule, IsNoRefusal, IsRunFault, TellsUnended}
 use Rattle.run_ends.specs.Leaving.{FinishesLeft, Gathered}
 use Rattle.run_ends.specs.Private.Gathered.{AreInOrder, IsIn}
 use Rattle.run_ends.proofs.Lining.{reported_at}
@@ -138,3 +141,36 @@ module _ (r : RegistryView) (code : Tree) (most : ℕ) (met : PassView) (configs
       spends = from;
       reports = ap Ok (sym is);
     }
+
+  -- a call that is refused behind entries from there is refused so under a schedule
+  pub refused_there : length rests ≡ length fibers → (entries : List ℕ) (e : RunError) →
+      fold (entered plain.limits) (Ok (world_of fibers plain.state)) entries ≡ Err e → IsFaultOfSomeSchedule code r.limits e
+  unfolding core
+  refused_there even entries e stops =
+      let here = leads_on code most r.limits l.history fibers rests (world_of fibers (left r.limits l.history)) rests l.legal many even
+      (λ f s e. let i = each f s e in (i.0, i.1, i.2)) ([], (refl, refl)) in
+      let leads = schedule_of code most r.limits (world_of fibers (left r.limits l.history)) rests here in
+      let stops_there : fold (entered r.limits) (Ok (world_of fibers (left r.limits l.history))) entries ≡ Err e =
+      subst (λ (v : PlainView). fold (entered v.limits) (Ok (world_of fibers v.state)) entries ≡ Err e) l.plain stops in (
+        leads.0 ++ entries,
+        fold-append (entered r.limits) (Ok (first_world code r.limits)) leads.0 entries ∙
+            ap (λ x. fold (entered r.limits) x entries) leads.1 ∙ stops_there,
+      )
+
+-- ---- faults
+pub core_fault : (code : Tree) (k : Limits) (e : RunError) → IsFaultOfSomeSchedule code k e → IsRunFault code k e
+core_fault code k (fault.Full band n) h = h
+core_fault code k (fault.Spent f) h = h
+core_fault code k fault.NoMemory h = tt
+core_fault code k (fault.Lost f) h = tt
+core_fault code k fault.NoWorker h = tt
+
+pub other_fault : (code : Tree) (k : Limits) (e : RunError) → IsNoRefusal e → IsRunFault code k e
+other_fault code k (fault.Full band n) h = absurd h
+other_fault code k (fault.Spent f) h = absurd h
+other_fault code k fault.NoMemory h = tt
+other_fault code k (fault.Lost f) h = tt
+other_fault code k fault.NoWorker h = tt
+
+pub no_memory_fault : (code : Tree) (k : Limits) (e : RunError) → e ≡ fault.NoMemory → IsRunFault code k e
+no_memory_fault code k e is = rw is tt

@@ -3,3 +3,4 @@ pub mod Lining
 pub mod Meeting
 pub mod Taking
 pub mod Recording
+pub mod Faults

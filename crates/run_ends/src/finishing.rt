@@ -1,9 +1,9 @@
 //! The end of a run, once its workers have ended.
-ghost use Rattle.std.specs.Prelude.{◌≡◌, ◌++◌, ◌∷◌, [], ℕ, All, IfOk, OnOk, true};
+ghost use Rattle.std.specs.Prelude.{◌≡◌, ◌++◌, ◌∷◌, [], ℕ, All, IfErr, IfOk, OnOk, true};
 ghost use Rattle.derived_ops.specs.Tree.{Tree};
 ghost use Rattle.fiber_poll.specs.Tasks.{IsBroken, IsTaskOf};
 ghost use Rattle.run_ends.specs.Gathering.{IsLawful};
-ghost use Rattle.run_ends.specs.Ends.{IsEnd};
+ghost use Rattle.run_ends.specs.Ends.{IsEnd, IsNoRefusal, IsRunFault};
 ghost use Rattle.run_ends.specs.Leaving.{FinishesLeft, Gathered};
 ghost use Rattle.run_ends.specs.Private.Gathered.{AreInOrder, AreRests};
 
@@ -12,7 +12,7 @@ use cell_registry::{Pass, PlainRegistry, Registry, RunError};
 use derived_ops::Code;
 use fiber_frames::{Ask, Config};
 use fiber_poll::FiberTask;
-use scheduled_core::{EntryLog, Report, report_of_fibers, settle_noted};
+use scheduled_core::{EntryLog, Report, enter_all, report_of_fibers, settle_noted};
 use std::alloc::{AllocError, Global};
 
 /// How a run has ended.
@@ -50,8 +50,9 @@ impl Leavings {
         tasks: Vec<FiberTask<'a>>,
     ) -> Result<Leavings, RunError>
         requires { (most : ℕ) × All (IsTaskOf registry.now code.now most) tasks.items }
-        ensures { IfOk result (λ it. (most : ℕ) → All (IsTaskOf registry.now code.now most) tasks.entry.items →
+        ensures left { IfOk result (λ it. (most : ℕ) → All (IsTaskOf registry.now code.now most) tasks.entry.items →
             Gathered registry.now code.now most it.met it.configs.items it.rests.items) }
+        ensures none { IfErr result IsNoRefusal }
     {
         let rests = rests(alloc, tasks.as_slice())?;
         let (met, configs) = meet(alloc, registry, tasks)?;
@@ -79,6 +80,9 @@ impl Leavings {
             IsEnd code registry.limits most it) }
         ensures finished { IfOk result (FinishesLeft registry.limits self.met self.configs.items self.rests.items) }
         ensures lawful { IfOk result (λ it. All IsLawful it.report.fibers) }
+        ensures faults { IfErr result (λ e. (code : Tree) (most : ℕ) →
+            Gathered registry code most self.met self.configs.items self.rests.items →
+            IsRunFault code registry.limits e) }
     {
         let Leavings {
             met,
@@ -91,7 +95,10 @@ impl Leavings {
             return Err(RunError::Lost(registry.born()));
         }
         let mut rests = rests;
-        let settled = settle_noted(&mut fibers, &mut registry, &mut rests, log)?;
+        let settled = match settle_noted(&mut fibers, &mut registry, &mut rests, log) {
+            Ok(settled) => settled,
+            Err(fault) => return Err(fault),
+        };
         let report = report_of_fibers(alloc, fibers)?;
         Ok(RunEnd {
             report,
@@ -99,11 +106,64 @@ impl Leavings {
             finished: settled.finished,
         })
     }
+
+    /// The fault of the run, whose registry is this one, where a worker's call was refused: the fibers make one entry
+    /// each by one thread, in the order of their numbers, and the first refused call is the fault, `Full` or `Spent`.
+    /// `NoMemory` where memory is or was refused, and `Lost` with the least number of a born fiber that has no task, or
+    /// with how many fibers are born where no call is refused.
+    pub fn refused(self, alloc: Global, registry: Registry) -> RunError
+        requires met { (code : Tree) × (most : ℕ) ×
+            Gathered registry code most self.met self.configs.items self.rests.items }
+        ensures { (code : Tree) (most : ℕ) →
+            Gathered registry code most self.met self.configs.items self.rests.items →
+            IsRunFault code registry.limits result }
+    {
+        match self.enter_each(alloc, registry) {
+            Ok(born) => RunError::Lost(born),
+            Err(fault) => fault,
+        }
+    }
+
+    // One entry more of each fiber. Returns how many fibers there were, where no call is refused.
+    fn enter_each(self, alloc: Global, registry: Registry) -> Result<u16, RunError>
+        requires met { (code : Tree) × (most : ℕ) ×
+            Gathered registry code most self.met self.configs.items self.rests.items }
+        ensures { IfErr result (λ e. (code : Tree) (most : ℕ) →
+            Gathered registry code most self.met self.configs.items self.rests.items →
+            IsRunFault code registry.limits e) }
+    {
+        let Leavings {
+            met,
+            configs,
+            rests,
+        } = self;
+        let mut registry = registry.into_plain(alloc, met)?;
+        let born = registry.born();
+        let mut fibers = in_order(alloc, configs, born)?;
+        if rests.len() != fibers.len() {
+            return Err(RunError::Lost(born));
+        }
+        let numbers = numbers_below(alloc, born)?;
+        match enter_all(&mut fibers, &mut registry, numbers.as_slice()) {
+            Ok(()) => Ok(born),
+            Err(fault) => Err(fault),
+        }
+    }
+}
+
+// The numbers below this one, in order.
+fn numbers_below(alloc: Global, end: u16) -> Result<Vec<u16>, AllocError> {
+    let mut numbers = Vec::with_capacity(alloc, usize::from(end))?;
+    for number in 0..end {
+        numbers.push(number)?;
+    }
+    Ok(numbers)
 }
 
 // How many moves these tasks may still make, where each one stands at its number.
 fn rests<'a>(alloc: Global, tasks: &[FiberTask<'a>]) -> Result<Vec<u32>, RunError>
-    ensures { IfOk result (λ it. AreRests tasks.now it.items) }
+    ensures rests { IfOk result (λ it. AreRests tasks.now it.items) }
+    ensures none { IfErr result IsNoRefusal }
 {
     let mut rests = Vec::with_capacity(alloc, tasks.len())?;
     for task in tasks {
@@ -124,7 +184,9 @@ fn add(rests: &mut Vec<u32>, moves: u32) -> Result<(), AllocError>
 }
 
 // The fault where no task stands at this place.
-fn missing(place: usize) -> RunError {
+fn missing(place: usize) -> RunError
+    ensures { IsNoRefusal result }
+{
     match u16::try_from(place) {
         Ok(number) => RunError::Lost(number),
         Err(_) => RunError::Lost(u16::MAX),
@@ -134,7 +196,8 @@ fn missing(place: usize) -> RunError {
 // The states of the fibers below a number, in order, where each one comes before those of lower numbers
 // and none is missing or broken.
 fn in_order(alloc: Global, configs: Vec<Config>, born: u16) -> Result<Vec<Config>, RunError>
-    ensures { IfOk result (λ it. AreInOrder configs.items born it.items) }
+    ensures order { IfOk result (λ it. AreInOrder configs.items born it.items) }
+    ensures none { IfErr result IsNoRefusal }
 {
     let mut configs = configs;
     let mut fibers = Vec::with_capacity(alloc, usize::from(born))?;

@@ -1,6 +1,7 @@
 -- A turn keeps what the bay's rule asks of a task, and so does a start of its child.
-use Rattle.std.proofs.Common.{◌≡◌, ℕ, List, All, subst, Option, Some, None, Result, Ok, Err, IfOk}
+use Rattle.std.proofs.Common.{◌≡◌, ◌⊎◌, ℕ, List, All, subst, Option, Some, None, Result, Ok, Err, IfErr, IfOk, inl, inr, refl}
 use Rattle.cell_registry.specs.declared.limits.RunError.{RunError}
+use Rattle.cell_registry.specs.declared.limits.RunError.TheVariants as run
 use Rattle.derived_ops.specs.Tree.{Tree}
 use Rattle.cell_registry.specs.Passes.{RegistryView}
 use Rattle.fiber_poll.specs.declared.turn.Turn.{Turn}
@@ -47,6 +48,23 @@ pub result_child : (named : Option Named) (a b : TaskView) (r : Result Turn RunE
     ((home : RegistryView) (code : Tree) (most : ℕ) → IsTaskOf home code most a → StaysOf home code most r b) → IsNamed named a → IfOk r (ChildIsNamed named)
 result_child named a b (Ok t) stays is = child_named named a b t stays is
 result_child named a b (Err e) stays is = tt
+
+-- unless memory was refused, a turn that met a fault keeps it, too
+kept_or_none : (named : Option Named) (a b : TaskView) (e : RunError) →
+    ((home : RegistryView) (code : Tree) (most : ℕ) → IsTaskOf home code most a → StaysOf home code most (Err e) b) → IsNamed named a →
+    (e ≡ run.NoMemory) ⊎ IsNamed named b
+kept_or_none None a b e stays is = inr tt
+kept_or_none (Some n) a b (run.Full band k) stays is = inr (stays n.home n.code n.most is)
+kept_or_none (Some n) a b (run.Spent f) stays is = inr (stays n.home n.code n.most is)
+kept_or_none (Some n) a b run.NoMemory stays is = inl refl
+kept_or_none (Some n) a b (run.Lost f) stays is = inr (stays n.home n.code n.most is)
+kept_or_none (Some n) a b run.NoWorker stays is = inr (stays n.home n.code n.most is)
+
+pub result_kept : (named : Option Named) (a b : TaskView) (r : Result Turn RunError) →
+    ((home : RegistryView) (code : Tree) (most : ℕ) → IsTaskOf home code most a → StaysOf home code most r b) → IsNamed named a →
+    IfErr r (λ e. (e ≡ run.NoMemory) ⊎ IsNamed named b)
+result_kept named a b (Ok t) stays is = tt
+result_kept named a b (Err e) stays is = kept_or_none named a b e stays is
 
 -- tasks of what is named are of this registry and this code, within these moves
 pub all_named : (n : Named) (named : Option Named) (tasks : List TaskView) → named ≡ Some n → All (IsNamed named) tasks →

@@ -4,7 +4,7 @@ ghost use Rattle.cell_registry.specs.Cells.{AreLimits};
 ghost use Rattle.derived_ops.specs.Expansion.{code_of};
 ghost use Rattle.derived_ops.specs.Reading.{source_of};
 ghost use Rattle.ready_queues.specs.Faults.{IsFaultWithin};
-ghost use Rattle.run_ends.specs.Ends.{IsEnd, TellsUnended, came_to};
+ghost use Rattle.run_ends.specs.Ends.{IsEnd, IsRunFault, TellsUnended, came_to};
 ghost use Rattle.run_ends.specs.Gathering.{IsLawful};
 ghost use Rattle.scheduled_core.specs.Core.{core, reported};
 ghost use Rattle.scheduled_core.specs.Covers.{IsInEachCover};
@@ -57,6 +57,7 @@ pub fn run_recorded<R: Threads + Wait + Sync, G: Gate>(
     ensures stopped { IfOk result.end (λ it. (f : ℕ) → it.stopped ≡ Somebody f → TellsUnended it.report f) }
     ensures lawful { IfOk result.end (λ it. All IsLawful it.report.fibers) }
     ensures full { IfErr result.end (IsFaultWithin (limits_of options)) }
+    ensures faults { IfErr result.end (IsRunFault (code_of (source_of program)) (limits_of options)) }
 {
     let clock = AtomicU64::new(0);
     match Recorder::new(alloc, gate, &clock, options.workers, options.fibers) {
@@ -83,6 +84,7 @@ fn record_with<'g, 'c, R: Threads + Wait + Sync, G: Gate>(
     ensures ends { IfOk result.end (IsEnd (code_of (source_of program)) (limits_of options) options.moves) }
     ensures lawful { IfOk result.end (λ it. All IsLawful it.report.fibers) }
     ensures full { IfErr result.end (IsFaultWithin (limits_of options)) }
+    ensures faults { IfErr result.end (IsRunFault (code_of (source_of program)) (limits_of options)) }
 {
     let mut settled = SettledEntries::new(alloc);
     let end = end_of(rt, alloc, &program, options, recorder, &mut settled);
@@ -104,6 +106,7 @@ fn end_of<'g, 'c, R: Threads + Wait + Sync, G: Gate>(
     ensures ends { IfOk result (IsEnd (code_of (source_of program.now)) (limits_of options) options.moves) }
     ensures lawful { IfOk result (λ it. All IsLawful it.report.fibers) }
     ensures full { IfErr result (IsFaultWithin (limits_of options)) }
+    ensures faults { IfErr result (IsRunFault (code_of (source_of program.now)) (limits_of options)) }
 {
     match attempt(rt, alloc, program, options, recorder, settled) {
         Ok(end) => Ok(end),

@@ -6,7 +6,7 @@ ghost use Rattle.cell_registry.specs.Passes.{first_pass};
 ghost use Rattle.derived_ops.specs.Expansion.{code_of};
 ghost use Rattle.derived_ops.specs.Reading.{source_of};
 ghost use Rattle.ready_queues.specs.Faults.{IsFaultWithin};
-ghost use Rattle.run_ends.specs.Ends.{HasUnended, IsEnd, TellsUnended};
+ghost use Rattle.run_ends.specs.Ends.{HasUnended, IsEnd, IsNoRefusal, IsRunFault, TellsUnended};
 ghost use Rattle.run_ends.specs.Gathering.{IsLawful};
 ghost use Rattle.run_ends.specs.Leaving.{Gathered};
 ghost use Rattle.scheduled_core.specs.Covers.{IsInEachCover};
@@ -42,9 +42,9 @@ use wait_bay::{Bay, BaySeat};
 /// one that the core gives under some schedule; [`run_told`] tells whether it is complete. No fiber makes more moves
 /// than the options allow fiber 0, and another one than its parent had left.
 ///
-/// The first fault of a worker ends the run: `Full` and `Spent` as a turn answers them, `NoMemory`
-/// where there was none, for a push on a queue too, and `Lost` where a fiber's task wasn't where it
-/// should be. `NoWorker` is answered where no thread could be started; else the run goes on with those
+/// The first fault of a worker ends the run. Where a call was refused, the answer is `Full` or `Spent` as the core gives
+/// it under some schedule; `NoMemory` where memory was refused, for a push on a queue too, and `Lost` where a fiber's
+/// task wasn't where it should be. `NoWorker` is answered where no thread could be started; else the run goes on with those
 /// that were. No thread is left when it answers.
 pub fn run<R: Threads + Wait + Sync, G: Gate>(
     rt: &R,
@@ -63,6 +63,7 @@ pub fn run<R: Threads + Wait + Sync, G: Gate>(
         IsFinalReport (code_of (source_of program)) (limits_of options) report ⊎ HasUnended report) }
     ensures lawful { IfOk result (λ report. All IsLawful report.fibers) }
     ensures full { IfErr result (IsFaultWithin (limits_of options)) }
+    ensures faults { IfErr result (IsRunFault (code_of (source_of program)) (limits_of options)) }
 {
     match run_told(rt, alloc, program, options, gate) {
         Ok(end) => Ok(end.report),
@@ -100,6 +101,7 @@ pub fn run_told<R: Threads + Wait + Sync, G: Gate>(
     ensures stopped { IfOk result (λ it. (f : ℕ) → it.stopped ≡ Somebody f → TellsUnended it.report f) }
     ensures lawful { IfOk result (λ it. All IsLawful it.report.fibers) }
     ensures full { IfErr result (IsFaultWithin (limits_of options)) }
+    ensures faults { IfErr result (IsRunFault (code_of (source_of program)) (limits_of options)) }
 {
     match attempt(
         rt,
@@ -127,6 +129,7 @@ pub(crate) fn attempt<R: Threads + Wait + Sync, W: Watch, L: EntryLog>(
     requires budget { 1 < options.budget }
     ensures ends { IfOk result (IsEnd (code_of (source_of program.now)) (limits_of options) options.moves) }
     ensures lawful { IfOk result (λ it. All IsLawful it.report.fibers) }
+    ensures faults { IfErr result (IsRunFault (code_of (source_of program.now)) (limits_of options)) }
 {
     let Options {
         fibers,
@@ -137,11 +140,14 @@ pub(crate) fn attempt<R: Threads + Wait + Sync, W: Watch, L: EntryLog>(
     } = options;
     let code = expand(alloc, program)?;
     let (registry, pass) = Registry::new(alloc, fibers, refs, deferreds, count)?;
-    let leavings = of_registry(rt, alloc, &registry, pass, &code, options, watch)?;
+    let (leavings, is_refused) = of_registry(rt, alloc, &registry, pass, &code, options, watch)?;
+    if is_refused {
+        return Err(leavings.refused(alloc, registry));
+    }
     leavings.finish(alloc, registry, log)
 }
 
-// The bay of a run, and what the workers leave.
+// The bay of a run, and what the workers leave, with whether the registry refused a call of one of them.
 fn of_registry<R: Threads + Wait + Sync, W: Watch>(
     rt: &R,
     alloc: Global,
@@ -150,12 +156,13 @@ fn of_registry<R: Threads + Wait + Sync, W: Watch>(
     code: &Code,
     options: Options,
     watch: &W,
-) -> Result<Leavings, RunError>
+) -> Result<(Leavings, bool), RunError>
     requires pass { pass ≡ first_pass registry.now }
     requires some { 0 < options.fibers }
     requires budget { 1 < options.budget }
-    ensures { IfOk result (λ it. Gathered registry.now code.now options.moves it.met it.configs.items
-        it.rests.items) }
+    ensures left { IfOk result (λ it. Gathered registry.now code.now options.moves it.0.met it.0.configs.items
+        it.0.rests.items) }
+    ensures none { IfErr result IsNoRefusal }
 {
     let task = first(alloc, registry, pass, code, options.moves)?;
     let named = Some((registry, code, options.moves));
@@ -163,11 +170,13 @@ fn of_registry<R: Threads + Wait + Sync, W: Watch>(
     if bay.put(rt, &mut seat, 0, task, true).is_err() {
         return Err(RunError::Lost(0));
     }
-    if let Some(fault) = drive(rt, alloc, &bay, seat, options, watch)? {
-        return Err(fault);
-    }
+    let is_refused = match drive(rt, alloc, &bay, seat, options, watch)? {
+        None => false,
+        Some(RunError::Full(_, _)) | Some(RunError::Spent(_)) => true,
+        Some(fault) => return Err(fault),
+    };
     let leavings = Leavings::of(alloc, registry, code, bay.empty()?)?;
-    Ok(leavings)
+    Ok((leavings, is_refused))
 }
 
 // Has workers run the tasks of a bay from fiber 0 on, and answers the first fault, if there was one.
@@ -182,6 +191,7 @@ fn drive<'b, 'a, R: Threads + Wait + Sync, W: Watch>(
     requires here { IsSeatOf bay.now seat }
     requires some { 0 < bay.now.fibers }
     requires budget { 1 < options.budget }
+    ensures { IfErr result IsNoRefusal }
 {
     let injector = empty_injector(alloc)?;
     if InjectorEnd::of(&injector).push(rt, 0).is_err() {
@@ -204,6 +214,7 @@ fn start<'q, 'b, 'a, C: FaultCell + Send + Sync, R: Threads + Wait + Sync, W: Wa
 ) -> Result<Option<RunError>, RunError>
     requires cell { cell_name cell.now ≡ C.name }
     requires budget { 1 < budget }
+    ensures { IfErr result IsNoRefusal }
 {
     let Workers { workers, idle } = all;
     let threads = Vec::with_capacity(alloc, workers.len())?;
@@ -214,17 +225,20 @@ fn start<'q, 'b, 'a, C: FaultCell + Send + Sync, R: Threads + Wait + Sync, W: Wa
         idle,
         first_fault: FirstFault::of(cell),
     };
-    start_all(rt, &shared, workers, threads)
+    match start_all(rt, &shared, workers, threads) {
+        Some(first) => Ok(first),
+        None => Err(RunError::NoWorker),
+    }
 }
 
-// Starts a thread for each worker, and answers the first fault, if there was one, once all have
-// ended. There is room for all threads.
+// Starts a thread for each worker, and returns the first fault, if there was one, once all have
+// ended. There is room for all threads. `None` where no thread could be started.
 fn start_all<'q, 'b, 'a, C: FaultCell + Send + Sync, R: Threads + Wait + Sync, W: Watch>(
     rt: &R,
     shared: &Shared<'_, '_, W, C>,
     workers: Vec<Worker<'q, 'b, 'a>>,
     threads: Vec<JoinHandle<Learned<C>>>,
-) -> Result<Option<RunError>, RunError> {
+) -> Option<Option<RunError>> {
     thread::scope(thread::scope_env(), rt, move |scope| {
         let mut threads = threads;
         for worker in workers {
@@ -233,9 +247,9 @@ fn start_all<'q, 'b, 'a, C: FaultCell + Send + Sync, R: Threads + Wait + Sync, W
             }
         }
         if threads.is_empty() {
-            return Err(RunError::NoWorker);
+            return None;
         }
-        Ok(join_all(rt, &shared.first_fault, threads))
+        Some(join_all(rt, &shared.first_fault, threads))
     })
 }
 

@@ -37,12 +37,23 @@ impl<'g, 'f, W: Watch, C: FaultCell> Shared<'g, 'f, W, C> {
         let mut waited = None;
         for _ in rt.forever() {
             if self.first_fault.is_known() {
+                // The run is over. The task goes back, so that the fault can be found again.
+                seat.put(rt, task, false)?;
                 return Ok(None);
             }
             self.watch.enter(worker, task.number());
             let before = waited;
             waited = None;
-            match seat.turn(&mut task, self.budget, log)? {
+            let turn = match seat.turn(&mut task, self.budget, log) {
+                Ok(turn) => turn,
+                // The fiber has lost its term.
+                Err(RunError::NoMemory) => return Err(RunError::NoMemory),
+                Err(fault) => {
+                    seat.put(rt, task, false)?;
+                    return Err(fault);
+                }
+            };
+            match turn {
                 Turn::Ended(_) => return self.end(rt, queues, seat, task),
                 Turn::Waits(topic) => {
                     if before == Some(topic) {

@@ -1,5 +1,5 @@
 //! A worker's seat at the bay.
-ghost use Rattle.std.specs.Prelude.{◌≡◌, ◌<◌, IfOk, IfSome};
+ghost use Rattle.std.specs.Prelude.{◌≡◌, ◌⊎◌, ◌<◌, IfErr, IfOk, IfSome};
 ghost use Rattle.wait_bay.specs.Bays.{IsSeatOf};
 ghost use Rattle.wait_bay.specs.Names.{IsNamed};
 ghost use Rattle.steal_pool.specs.Runs.{ChildIsNamed};
@@ -78,7 +78,8 @@ impl<'b, 'a> WorkerSeat<'b, 'a> {
         }
     }
 
-    /// Makes a turn of a task of this bay, of which this log is told.
+    /// Makes a turn of a task of this bay, of which this log is told. Unless memory was refused, the task is still of
+    /// what the bay names.
     #[inline(always)]
     pub(crate) fn turn<L: TurnLog>(
         &self,
@@ -90,6 +91,7 @@ impl<'b, 'a> WorkerSeat<'b, 'a> {
         requires budget { 1 < budget }
         ensures named { IfOk result (λ _. IsNamed self.now.named task.new) }
         ensures child { IfOk result (ChildIsNamed self.now.named) }
+        ensures kept { IfErr result (λ error. (error ≡ RunError.NoMemory) ⊎ IsNamed self.now.named task.new) }
     {
         log.begins(&*task);
         let answer = task.turn_noted(budget, log);

@@ -14,7 +14,7 @@ returns-in-Some g c =
     let tells = tells_found _ end s c.in_ok-entries.field-0 c.in-Some.entries line c.in_ok-entries.ensures.some c.in-Some.is in
     timed_answers c.args.program c.args.options front _ c.with_timeline.result
     (subst (λ (b : Bool). IsRecordedWith c.args.program c.args.options b front.text.items front.status) tells
-    (recorded_answer c.args.program c.args.options end s front ran.spent ran.lawful ran.full ran.recorded told.text told.status))
+    (recorded_answer c.args.program c.args.options end s front ran.spent ran.lawful ran.full ran.faults ran.recorded told.text told.status))
     c.with_timeline.ensures.text c.with_timeline.ensures.status
 
 pub returns-then-not-has_line : goal.returns-then-not-has_line
@@ -27,7 +27,7 @@ returns-then-not-has_line g c =
     let tells = tells_none end s (sym c.has_line.ensures ∙ c.if-not-has_line.true) in
     alone front.text.items front.status
     (subst (λ (b : Bool). IsRecordedWith c.args.program c.args.options b front.text.items front.status) tells
-    (recorded_answer c.args.program c.args.options end s front ran.spent ran.lawful ran.full ran.recorded told.text told.status))
+    (recorded_answer c.args.program c.args.options end s front ran.spent ran.lawful ran.full ran.faults ran.recorded told.text told.status))
 
 pub returns : goal.returns
 returns g c =
@@ -40,4 +40,4 @@ returns g c =
     let tells = finds_none end s line (none_found s c.in_ok-entries.field-0 c.in_ok-entries.ensures.none c.in-None.is) in
     alone front.text.items front.status
     (subst (λ (b : Bool). IsRecordedWith c.args.program c.args.options b front.text.items front.status) tells
-    (recorded_answer c.args.program c.args.options end s front ran.spent ran.lawful ran.full ran.recorded told.text told.status))
+    (recorded_answer c.args.program c.args.options end s front ran.spent ran.lawful ran.full ran.faults ran.recorded told.text told.status))

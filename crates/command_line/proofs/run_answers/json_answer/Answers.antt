@@ -9,5 +9,5 @@ returns-in-Ok g c =
 
 pub returns-in-Err : goal.returns-in-Err
 returns-in-Err g c =
-    fault_value_answers c.args.program c.args.options c.in-Err.error c.fault_json_answer.result c.in-Err.ensures.full
+    fault_value_answers c.args.program c.args.options c.in-Err.error c.fault_json_answer.result c.in-Err.ensures.full c.in-Err.ensures.faults
     c.fault_json_answer.ensures.line c.fault_json_answer.ensures.status

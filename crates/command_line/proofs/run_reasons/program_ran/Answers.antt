@@ -7,7 +7,7 @@ use Rattle.command_line.proofs.run_reasons.program_ran.Goals as goal
 pub returns-clause-answers : goal.returns-clause-answers
 returns-clause-answers g c =
     let ran = c.run_spelled-end.ensures in
-    ended_answers c.args.program c.args.options c.run_spelled-end.result.end c.in_ok-answer.answer ran.spent ran.lawful ran.full
+    ended_answers c.args.program c.args.options c.run_spelled-end.result.end c.in_ok-answer.answer ran.spent ran.lawful ran.full ran.faults
     c.in_ok-answer.ensures.text c.in_ok-answer.ensures.status
 
 pub returns-clause-replayed : goal.returns-clause-replayed

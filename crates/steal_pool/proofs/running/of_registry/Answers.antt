@@ -8,7 +8,7 @@ of-requires g c = (
       c.in_ok-bay.ensures.named c.in_ok-empty.ensures.named,
 )
 
-pub returns : goal.returns
-returns g c = c.in_ok-leavings.ensures c.args.options.moves
+pub returns-clause-left : goal.returns-clause-left
+returns-clause-left g c = c.in_ok-leavings.ensures.left c.args.options.moves
     (all_named record { home = c.args.registry.now; code = c.args.code.now; most = c.args.options.moves } _ _ c.in_ok-bay.ensures.named
     c.in_ok-empty.ensures.named)

@@ -1,0 +1,18 @@
+use Rattle.std.proofs.Common.{◌∙◌, ap, subst, sym}
+use Rattle.cell_registry.specs.declared.limits.Limits.{Limits}
+use Rattle.cell_registry.specs.declared.limits.RunError.{RunError}
+use Rattle.derived_ops.specs.Expansion.{code_of}
+use Rattle.derived_ops.specs.Reading.{source_of}
+use Rattle.ready_queues.specs.Faults.{fault_within}
+use Rattle.run_ends.specs.Ends.{IsRunFault}
+use Rattle.steal_pool.specs.Runs.{limits_of}
+use Rattle.steal_pool.proofs.Faults.{within_fault}
+use Rattle.steal_pool.proofs.recorded.end_of.Goals as goal
+
+pub returns-in-Err-clause-faults : goal.returns-in-Err-clause-faults
+returns-in-Err-clause-faults g c =
+    let code = code_of (source_of c.args.program.now) in
+    let k = limits_of c.args.options in
+    subst (λ (e : RunError). IsRunFault code k e)
+    (sym (c.within.ensures.same ∙ ap (λ (l : Limits). fault_within l c.in-Err.fault) c.limits.ensures))
+    (within_fault code k c.in-Err.fault c.in-Err.ensures.faults)
