@@ -9,19 +9,19 @@ const HELP: &[(&[&str], &str)] = &[
         "Runs effect programs on fibers\
         \n\nUsage: fiber_cli <COMMAND>\
         \n\nCommands:\
-        \n  check    Tells whether the text is a program\
+        \n  check    Checks whether the text is a program\
         \n  show     Prints the expansion of the program\
         \n  replay   Runs the program under a schedule, and prints its report\
-        \n  explore  Explores every schedule, and prints all that can come of the program\
+        \n  explore  Explores every schedule, and prints every final report and fault\
         \n  run      Runs the program on work-stealing threads, and prints its report\
-        \n  sample   Draws schedules at random, and prints what came of them and how often\
-        \n  compare  Compares two programs by the ends that they can come to under every schedule\
+        \n  sample   Draws schedules at random, and counts the reports and faults\
+        \n  compare  Compares how two programs can end under every schedule\
         \n  help     Print this message or the help of the given subcommand(s)\
         \n\nOptions:\
         \n  -h, --help     Print help\
         \n  -V, --version  Print version\
         \n\nThe program's text is read from standard input; compare reads two files.\
-        \n\nExamples, of which the first finds all that can come of a race:\
+        \n\nExamples; the first lists every outcome of a race:\
         \n  echo '(race (pure 1) (pure 2))' | fiber_cli explore\
         \n  fiber_cli run < FILE\
         \n\nA report has a line for each fiber: its number, its outcome, and its marks in their order. M is the\
@@ -53,17 +53,17 @@ const HELP: &[(&[&str], &str)] = &[
         \n   1  one of them has an end that the other hasn't\
         \n   3  a bound was reached, and what was found doesn't decide\
         \n\nExit status of sample, where it is not 64, 65 or 70:\
-        \n   0  no schedule came to anything unwanted\
-        \n   1  some schedule came to something unwanted; without --want, to a fault\
+        \n   0  nothing unwanted was found\
+        \n   1  something unwanted was found; without --want, a fault\
         \n",
     ),
     (
         &["fiber_cli", "check", "--help"],
-        "Tells whether the text is a program\
+        "Checks whether the text is a program\
         \n\nUsage: fiber_cli check [OPTIONS]\
         \n\nOptions:\
         \n      --json     Print the answer as JSON, on one line\
-        \n      --explain  Tell reasons on standard error: where a text or a schedule is refused, and\
+        \n      --explain  Write reasons to standard error: where a text or a schedule is refused, and\
         \n                 why a fiber of a replay or a run hasn't ended\
         \n  -h, --help     Print help\
         \n\nThe text is read from standard input.\
@@ -81,7 +81,7 @@ const HELP: &[(&[&str], &str)] = &[
         "Prints the expansion of the program\
         \n\nUsage: fiber_cli show [OPTIONS]\
         \n\nOptions:\
-        \n      --explain  Tell reasons on standard error: where a text or a schedule is refused, and\
+        \n      --explain  Write reasons to standard error: where a text or a schedule is refused, and\
         \n                 why a fiber of a replay or a run hasn't ended\
         \n  -h, --help     Print help\
         \n\nThe program's text is read from standard input.\
@@ -102,19 +102,19 @@ const HELP: &[(&[&str], &str)] = &[
         \n      --schedule <TEXT>  Whose move is next: items F or F*K (K moves of fiber F) with one space\
         \n                         between, as in \"0*2 1*9\". F is 0 to 999, K is 1 to 100000. Where it is\
         \n                         -, it is the first line of the input\
-        \n      --fibers <N>       How many fibers there may be, 1 to 1000 [default: 1000]\
-        \n      --refs <N>         How many refs there may be, 1 to 1000 [default: 1000]\
-        \n      --deferreds <N>    How many deferreds there may be, 1 to 1000 [default: 1000]\
-        \n      --count <N>        How often a fiber may change its own state, 1 to 1099511627775\
+        \n      --fibers <N>       The greatest number of fibers, 1 to 1000 [default: 1000]\
+        \n      --refs <N>         The greatest number of refs, 1 to 1000 [default: 1000]\
+        \n      --deferreds <N>    The greatest number of deferreds, 1 to 1000 [default: 1000]\
+        \n      --count <N>        How often a fiber can change its own state, 1 to 1099511627775\
         \n                         [default: 1099511627775]\
         \n      --timeline         Print a timeline behind the report: a row for each entry that did something\
         \n      --svg              Print a picture of the run in place of the report, as SVG\
         \n      --json             Print the answer as JSON, on one line\
-        \n      --explain          Tell reasons on standard error: where a text or a schedule is refused, and\
+        \n      --explain          Write reasons to standard error: where a text or a schedule is refused, and\
         \n                         why a fiber of a replay or a run hasn't ended\
         \n  -h, --help             Print help\
         \n\nThe program's text is read from standard input. With --schedule - the schedule is its first line,\
-        \nand the text is what stands behind it.\
+        \nand the text is all behind it.\
         \n\nExample, of a fiber that is canceled where it polls:\
         \n  echo '(uncancelable p (seq (canceled) (poll p (say 2))))' | fiber_cli replay --schedule \"0*99\"\
         \n\n'fiber_cli --help' explains the report.\
@@ -125,43 +125,43 @@ const HELP: &[(&[&str], &str)] = &[
         \n   3  fiber 0 has not ended\
         \n  64  the words or the schedule are wrong\
         \n  65  the text is refused\
-        \n  70  the replay came to a fault, a device failed, or memory ran out\
+        \n  70  the replay ended with a fault, a device failed, or memory ran out\
         \n",
     ),
     (
         &["fiber_cli", "explore", "--help"],
-        "Explores every schedule, and prints all that can come of the program\
+        "Explores every schedule, and prints every final report and fault\
         \n\nUsage: fiber_cli explore [OPTIONS]\
         \n\nOptions:\
-        \n      --fibers <N>      How many fibers there may be, 1 to 1000 [default: 16]\
-        \n      --refs <N>        How many refs there may be, 1 to 1000 [default: 16]\
-        \n      --deferreds <N>   How many deferreds there may be, 1 to 1000 [default: 16]\
-        \n      --count <N>       How often a fiber may change its own state, 1 to 1099511627775\
+        \n      --fibers <N>      The greatest number of fibers, 1 to 1000 [default: 16]\
+        \n      --refs <N>        The greatest number of refs, 1 to 1000 [default: 16]\
+        \n      --deferreds <N>   The greatest number of deferreds, 1 to 1000 [default: 16]\
+        \n      --count <N>       How often a fiber can change its own state, 1 to 1099511627775\
         \n                        [default: 1099511627775]\
         \n      --worlds <N>      How many worlds are kept, each a state of all fibers and cells,\
         \n                        1 to 100000000 [default: 10000000]\
-        \n      --entries <N>     How many entries a schedule may have, 1 to 1000000 [default: 10000]\
+        \n      --entries <N>     How many entries a schedule has at most, 1 to 1000000 [default: 10000]\
         \n      --memory <BYTES>  At how many bytes of memory the search stops, by an estimate: 1 to\
         \n                        10000000000, and behind it k, M or G for 1024, 1024^2 or 1024^3\
         \n                        [default: 4G]\
         \n      --want <OUTCOME>  An outcome of fiber 0 that is wanted, as a report spells it:\
-        \n                        \"succeeded V\", \"errored C\", canceled or unended. It may be given more\
+        \n                        \"succeeded V\", \"errored C\", canceled or unended. It can be given more\
         \n                        than once. A report with another outcome, and a fault, is then not wanted\
-        \n      --progress        Tell on standard error how far the search has come, while it goes on\
+        \n      --progress        Write to standard error how far the search has come, while it goes on\
         \n      --timeline        Print a timeline behind each report and each fault\
         \n      --json            Print the answer as JSON, on one line\
-        \n      --explain         Tell reasons on standard error: where a text or a schedule is refused, and\
+        \n      --explain         Write reasons to standard error: where a text or a schedule is refused, and\
         \n                        why a fiber of a replay or a run hasn't ended\
         \n  -h, --help            Print help\
         \n\nThe program's text is read from standard input.\
         \n\nExample, which finds a release that is lost:\
         \n  echo '(ref r 0 (start f (let c (modify r 1) (guarantee (never) (modify r -1)))\
         \n    (seq (cancel f) (get r))))' | fiber_cli explore --want \"succeeded 0\"\
-        \n\nExample of all that can come of a race, with how it came:\
+        \n\nExample of every outcome of a race, with timelines:\
         \n  echo '(race (pure 1) (pure 2))' | fiber_cli explore --timeline\
-        \n\nExample of a long search, which tells how far it has come:\
+        \n\nExample of a long search, which prints its progress:\
         \n  fiber_cli explore --memory 8G --progress < FILE\
-        \n\n'fiber_cli --help' explains the reports. Each stands below a schedule, under which replay gives it.\
+        \n\n'fiber_cli --help' explains the reports. Each is below a schedule, under which replay gives it.\
         \n\nExit status:\
         \n   0  every schedule was explored, and nothing unwanted was found\
         \n   1  something unwanted was found; without --want, a fault\
@@ -178,21 +178,21 @@ const HELP: &[(&[&str], &str)] = &[
         \n\nOptions:\
         \n      --workers <N>    How many workers there are, threads that move fibers and steal them from\
         \n                       one another, 1 to 16 [default: 4]\
-        \n      --fibers <N>     How many fibers there may be, 1 to 1000 [default: 1000]\
-        \n      --refs <N>       How many refs there may be, 1 to 1000 [default: 1000]\
-        \n      --deferreds <N>  How many deferreds there may be, 1 to 1000 [default: 1000]\
-        \n      --count <N>      How often a fiber may change its own state, 1 to 1099511627775\
+        \n      --fibers <N>     The greatest number of fibers, 1 to 1000 [default: 1000]\
+        \n      --refs <N>       The greatest number of refs, 1 to 1000 [default: 1000]\
+        \n      --deferreds <N>  The greatest number of deferreds, 1 to 1000 [default: 1000]\
+        \n      --count <N>      How often a fiber can change its own state, 1 to 1099511627775\
         \n                       [default: 1099511627775]\
         \n      --budget <N>     How many moves a worker makes of a fiber in one turn at most, after which\
         \n                       another that is ready has its turn, 2 to 10000 [default: 64]\
-        \n      --moves <N>      How many moves fiber 0 may make, and each other fiber with those of its\
+        \n      --moves <N>      How many moves fiber 0 can make, and each other fiber with those of its\
         \n                       parent before it, 1 to 1000000 [default: 100000]. A fiber that has made\
         \n                       them is reported as unended\
-        \n      --record         Tell a schedule behind the report, under which replay gives it, or why\
+        \n      --record         Print a schedule behind the report, under which replay gives it, or why\
         \n                       there is none\
         \n      --timeline       With --record: print a timeline behind the schedule, of the replay under it\
         \n      --json           Print the answer as JSON, on one line\
-        \n      --explain        Tell reasons on standard error: where a text or a schedule is refused, and\
+        \n      --explain        Write reasons to standard error: where a text or a schedule is refused, and\
         \n                       why a fiber of a replay or a run hasn't ended\
         \n  -h, --help           Print help\
         \n\nThe program's text is read from standard input.\
@@ -214,19 +214,19 @@ const HELP: &[(&[&str], &str)] = &[
     ),
     (
         &["fiber_cli", "sample", "--help"],
-        "Draws schedules at random, and prints what came of them and how often\
+        "Draws schedules at random, and counts the reports and faults\
         \n\nUsage: fiber_cli sample [OPTIONS]\
         \n\nOptions:\
-        \n      --seed <N>        What the schedules are drawn by, 0 to 9223372036854775807 [default: 0]\
+        \n      --seed <N>        The seed of the schedules, 0 to 9223372036854775807 [default: 0]\
         \n      --times <N>       How many schedules are drawn, 1 to 1000000 [default: 1000]\
-        \n      --entries <N>     How many entries a schedule may have, 1 to 1000000 [default: 10000]\
-        \n      --fibers <N>      How many fibers there may be, 1 to 1000 [default: 16]\
-        \n      --refs <N>        How many refs there may be, 1 to 1000 [default: 16]\
-        \n      --deferreds <N>   How many deferreds there may be, 1 to 1000 [default: 16]\
-        \n      --count <N>       How often a fiber may change its own state, 1 to 1099511627775\
+        \n      --entries <N>     How many entries a schedule has at most, 1 to 1000000 [default: 10000]\
+        \n      --fibers <N>      The greatest number of fibers, 1 to 1000 [default: 16]\
+        \n      --refs <N>        The greatest number of refs, 1 to 1000 [default: 16]\
+        \n      --deferreds <N>   The greatest number of deferreds, 1 to 1000 [default: 16]\
+        \n      --count <N>       How often a fiber can change its own state, 1 to 1099511627775\
         \n                        [default: 1099511627775]\
         \n      --want <OUTCOME>  An outcome of fiber 0 that is wanted, as a report spells it:\
-        \n                        \"succeeded V\", \"errored C\", canceled or unended. It may be given more\
+        \n                        \"succeeded V\", \"errored C\", canceled or unended. It can be given more\
         \n                        than once. A report with another outcome, and a fault, is then not wanted\
         \n      --json            Print the answer as JSON, on one line\
         \n  -h, --help            Print help\
@@ -235,13 +235,13 @@ const HELP: &[(&[&str], &str)] = &[
         \n  echo '(race (say 1) (say 2))' | fiber_cli sample --times 100 --seed 7\
         \n  echo '(race (say 1) (say 2))' | fiber_cli sample --times 100 --seed 7 --json\
         \n  echo '(race (pure 1) (pure 2))' | fiber_cli sample --want 'succeeded 1'\
-        \n\n'fiber_cli --help' explains the reports. Each stands below the first schedule that came to it, under\
-        \nwhich replay gives it. 'cut short' says that each schedule that came to it has as many entries as\
-        \nthere may be (--entries), and that a fiber could still go on: the report may not be a final one. The\
+        \n\n'fiber_cli --help' explains the reports. Each is below the first schedule that led to it, under\
+        \nwhich replay gives it. 'cut short' says that each schedule that led to it has as many entries as\
+        \n--entries allows, and that a fiber could still go on: the report need not be a final one. The\
         \nsame seed draws the same schedules.\
         \n\nExit status:\
-        \n   0  the sample was printed, and no schedule came to anything unwanted\
-        \n   1  some schedule came to something unwanted; without --want, to a fault\
+        \n   0  the sample was printed, and nothing unwanted was found\
+        \n   1  something unwanted was found; without --want, a fault\
         \n  64  the words are wrong\
         \n  65  the text is refused\
         \n  70  a device failed, or memory ran out\
@@ -249,28 +249,28 @@ const HELP: &[(&[&str], &str)] = &[
     ),
     (
         &["fiber_cli", "compare", "--help"],
-        "Compares two programs by the ends that they can come to under every schedule\
+        "Compares how two programs can end under every schedule\
         \n\nUsage: fiber_cli compare [OPTIONS] <FILE> <FILE>\
         \n\nArguments:\
         \n  <FILE>  The file with the first program's text\
         \n  <FILE>  The file with the second program's text\
         \n\nOptions:\
-        \n      --fibers <N>      How many fibers there may be, 1 to 1000 [default: 16]\
-        \n      --refs <N>        How many refs there may be, 1 to 1000 [default: 16]\
-        \n      --deferreds <N>   How many deferreds there may be, 1 to 1000 [default: 16]\
-        \n      --count <N>       How often a fiber may change its own state, 1 to 1099511627775\
+        \n      --fibers <N>      The greatest number of fibers, 1 to 1000 [default: 16]\
+        \n      --refs <N>        The greatest number of refs, 1 to 1000 [default: 16]\
+        \n      --deferreds <N>   The greatest number of deferreds, 1 to 1000 [default: 16]\
+        \n      --count <N>       How often a fiber can change its own state, 1 to 1099511627775\
         \n                        [default: 1099511627775]\
         \n      --worlds <N>      How many worlds are kept, each a state of all fibers and cells,\
         \n                        1 to 100000000 [default: 10000000]\
-        \n      --entries <N>     How many entries a schedule may have, 1 to 1000000 [default: 10000]\
+        \n      --entries <N>     How many entries a schedule has at most, 1 to 1000000 [default: 10000]\
         \n      --memory <BYTES>  At how many bytes of memory the search stops, by an estimate: 1 to\
         \n                        10000000000, and behind it k, M or G for 1024, 1024^2 or 1024^3\
         \n                        [default: 4G]\
         \n      --all             Compare how all fibers end, by their numbers, and not what they say\
         \n      --json            Print the answer as JSON, on one line\
         \n  -h, --help            Print help\
-        \n\nThe programs' texts are read from two files, of which either may be /dev/stdin.\
-        \n\nExample, of a guarantee and what it expands to, which is the same:\
+        \n\nThe programs' texts are read from two files; either can be /dev/stdin.\
+        \n\nExample of a guarantee and its expansion, which have the same ends:\
         \n  echo '(guarantee (pure 1) (say 2))' > one\
         \n  fiber_cli show < one > two\
         \n  fiber_cli compare one two\

@@ -1,7 +1,6 @@
-//! What the help tells: of the program, of each subcommand and of each option. No line that comes of these texts is
-//! longer than 100 columns.
+//! The help: of the program, of each subcommand and of each option. No line of it is longer than 100 columns.
 
-/// What is told of a command: in one line, and behind its options.
+/// The help of a command: in one line, and behind its options.
 #[derive(Clone, Copy)]
 pub struct CommandHelp<'a> {
     pub about: &'a str,
@@ -13,7 +12,7 @@ pub const PROGRAM: CommandHelp<'static> = CommandHelp {
     about: "Runs effect programs on fibers",
     after: "The program's text is read from standard input; compare reads two files.
 
-Examples, of which the first finds all that can come of a race:
+Examples; the first lists every outcome of a race:
   echo '(race (pure 1) (pure 2))' | fiber_cli explore
   fiber_cli run < FILE
 
@@ -50,12 +49,12 @@ Exit status of compare, where it is not 64, 65 or 70:
    3  a bound was reached, and what was found doesn't decide
 
 Exit status of sample, where it is not 64, 65 or 70:
-   0  no schedule came to anything unwanted
-   1  some schedule came to something unwanted; without --want, to a fault",
+   0  nothing unwanted was found
+   1  something unwanted was found; without --want, a fault",
 };
 
 pub const CHECK: CommandHelp<'static> = CommandHelp {
-    about: "Tells whether the text is a program",
+    about: "Checks whether the text is a program",
     after: "The text is read from standard input.
 
 Example:
@@ -85,7 +84,7 @@ Exit status:
 pub const REPLAY: CommandHelp<'static> = CommandHelp {
     about: "Runs the program under a schedule, and prints its report",
     after: "The program's text is read from standard input. With --schedule - the schedule is its first line,
-and the text is what stands behind it.
+and the text is all behind it.
 
 Example, of a fiber that is canceled where it polls:
   echo '(uncancelable p (seq (canceled) (poll p (say 2))))' | fiber_cli replay --schedule \"0*99\"
@@ -99,24 +98,24 @@ Exit status:
    3  fiber 0 has not ended
   64  the words or the schedule are wrong
   65  the text is refused
-  70  the replay came to a fault, a device failed, or memory ran out",
+  70  the replay ended with a fault, a device failed, or memory ran out",
 };
 
 pub const EXPLORE: CommandHelp<'static> = CommandHelp {
-    about: "Explores every schedule, and prints all that can come of the program",
+    about: "Explores every schedule, and prints every final report and fault",
     after: "The program's text is read from standard input.
 
 Example, which finds a release that is lost:
   echo '(ref r 0 (start f (let c (modify r 1) (guarantee (never) (modify r -1)))
     (seq (cancel f) (get r))))' | fiber_cli explore --want \"succeeded 0\"
 
-Example of all that can come of a race, with how it came:
+Example of every outcome of a race, with timelines:
   echo '(race (pure 1) (pure 2))' | fiber_cli explore --timeline
 
-Example of a long search, which tells how far it has come:
+Example of a long search, which prints its progress:
   fiber_cli explore --memory 8G --progress < FILE
 
-'fiber_cli --help' explains the reports. Each stands below a schedule, under which replay gives it.
+'fiber_cli --help' explains the reports. Each is below a schedule, under which replay gives it.
 
 Exit status:
    0  every schedule was explored, and nothing unwanted was found
@@ -150,7 +149,7 @@ Exit status:
 };
 
 pub const SAMPLE: CommandHelp<'static> = CommandHelp {
-    about: "Draws schedules at random, and prints what came of them and how often",
+    about: "Draws schedules at random, and counts the reports and faults",
     after: "The program's text is read from standard input.
 
 Examples, of which the first two draw the same hundred schedules of a race each time:
@@ -158,24 +157,24 @@ Examples, of which the first two draw the same hundred schedules of a race each 
   echo '(race (say 1) (say 2))' | fiber_cli sample --times 100 --seed 7 --json
   echo '(race (pure 1) (pure 2))' | fiber_cli sample --want 'succeeded 1'
 
-'fiber_cli --help' explains the reports. Each stands below the first schedule that came to it, under
-which replay gives it. 'cut short' says that each schedule that came to it has as many entries as
-there may be (--entries), and that a fiber could still go on: the report may not be a final one. The
+'fiber_cli --help' explains the reports. Each is below the first schedule that led to it, under
+which replay gives it. 'cut short' says that each schedule that led to it has as many entries as
+--entries allows, and that a fiber could still go on: the report need not be a final one. The
 same seed draws the same schedules.
 
 Exit status:
-   0  the sample was printed, and no schedule came to anything unwanted
-   1  some schedule came to something unwanted; without --want, to a fault
+   0  the sample was printed, and nothing unwanted was found
+   1  something unwanted was found; without --want, a fault
   64  the words are wrong
   65  the text is refused
   70  a device failed, or memory ran out",
 };
 
 pub const COMPARE: CommandHelp<'static> = CommandHelp {
-    about: "Compares two programs by the ends that they can come to under every schedule",
-    after: "The programs' texts are read from two files, of which either may be /dev/stdin.
+    about: "Compares how two programs can end under every schedule",
+    after: "The programs' texts are read from two files; either can be /dev/stdin.
 
-Example, of a guarantee and what it expands to, which is the same:
+Example of a guarantee and its expansion, which have the same ends:
   echo '(guarantee (pure 1) (say 2))' > one
   fiber_cli show < one > two
   fiber_cli compare one two
@@ -192,7 +191,7 @@ Exit status:
   70  a file or a device failed, or memory ran out",
 };
 
-/// What is told of the options for the limits of a run.
+/// The help of the options for the limits of a run.
 #[derive(Clone, Copy)]
 pub struct LimitsHelp<'a> {
     pub fibers: &'a str,
@@ -202,19 +201,19 @@ pub struct LimitsHelp<'a> {
 
 /// Of `replay` and of `run`.
 pub const MANY: LimitsHelp<'static> = LimitsHelp {
-    fibers: "How many fibers there may be, 1 to 1000 [default: 1000]",
-    refs: "How many refs there may be, 1 to 1000 [default: 1000]",
-    deferreds: "How many deferreds there may be, 1 to 1000 [default: 1000]",
+    fibers: "The greatest number of fibers, 1 to 1000 [default: 1000]",
+    refs: "The greatest number of refs, 1 to 1000 [default: 1000]",
+    deferreds: "The greatest number of deferreds, 1 to 1000 [default: 1000]",
 };
 
 /// Of `explore`, of `sample` and of `compare`.
 pub const FEW: LimitsHelp<'static> = LimitsHelp {
-    fibers: "How many fibers there may be, 1 to 1000 [default: 16]",
-    refs: "How many refs there may be, 1 to 1000 [default: 16]",
-    deferreds: "How many deferreds there may be, 1 to 1000 [default: 16]",
+    fibers: "The greatest number of fibers, 1 to 1000 [default: 16]",
+    refs: "The greatest number of refs, 1 to 1000 [default: 16]",
+    deferreds: "The greatest number of deferreds, 1 to 1000 [default: 16]",
 };
 
-pub const COUNT: &str = "How often a fiber may change its own state, 1 to 1099511627775
+pub const COUNT: &str = "How often a fiber can change its own state, 1 to 1099511627775
 [default: 1099511627775]";
 
 pub const SCHEDULE: &str = "Whose move is next: items F or F*K (K moves of fiber F) with one space
@@ -228,10 +227,10 @@ pub const MEMORY: &str = "At how many bytes of memory the search stops, by an es
 10000000000, and behind it k, M or G for 1024, 1024^2 or 1024^3
 [default: 4G]";
 
-pub const ENTRIES: &str = "How many entries a schedule may have, 1 to 1000000 [default: 10000]";
+pub const ENTRIES: &str = "How many entries a schedule has at most, 1 to 1000000 [default: 10000]";
 
 pub const WANT: &str = "An outcome of fiber 0 that is wanted, as a report spells it:
-\"succeeded V\", \"errored C\", canceled or unended. It may be given more
+\"succeeded V\", \"errored C\", canceled or unended. It can be given more
 than once. A report with another outcome, and a fault, is then not wanted";
 
 pub const WORKERS: &str = "How many workers there are, threads that move fibers and steal them from
@@ -240,19 +239,19 @@ one another, 1 to 16 [default: 4]";
 pub const BUDGET: &str = "How many moves a worker makes of a fiber in one turn at most, after which
 another that is ready has its turn, 2 to 10000 [default: 64]";
 
-pub const MOVES: &str = "How many moves fiber 0 may make, and each other fiber with those of its
+pub const MOVES: &str = "How many moves fiber 0 can make, and each other fiber with those of its
 parent before it, 1 to 1000000 [default: 100000]. A fiber that has made
 them is reported as unended";
 
-pub const SEED: &str = "What the schedules are drawn by, 0 to 9223372036854775807 [default: 0]";
+pub const SEED: &str = "The seed of the schedules, 0 to 9223372036854775807 [default: 0]";
 
 pub const TIMES: &str = "How many schedules are drawn, 1 to 1000000 [default: 1000]";
 
 pub const EXPLAIN: &str =
-    "Tell reasons on standard error: where a text or a schedule is refused, and
+    "Write reasons to standard error: where a text or a schedule is refused, and
 why a fiber of a replay or a run hasn't ended";
 
-pub const RECORD: &str = "Tell a schedule behind the report, under which replay gives it, or why
+pub const RECORD: &str = "Print a schedule behind the report, under which replay gives it, or why
 there is none";
 
 pub const TIMELINE: &str =
@@ -263,7 +262,7 @@ pub const RUN_TIMELINE: &str =
 
 pub const EXPLORE_TIMELINE: &str = "Print a timeline behind each report and each fault";
 
-pub const PROGRESS: &str = "Tell on standard error how far the search has come, while it goes on";
+pub const PROGRESS: &str = "Write to standard error how far the search has come, while it goes on";
 
 pub const SVG: &str = "Print a picture of the run in place of the report, as SVG";
 
