@@ -38,7 +38,8 @@ is_part bs = is_part_split bs (position (λ b. b == 58) bs)
 abbrev pub is_claim : List ℕ → Bool
 is_claim bs =
     bytes_eq bs (codes "want") || bytes_eq bs (codes "must") || bytes_eq bs (codes "can") || bytes_eq bs (codes "always") ||
-    bytes_eq bs (codes "ever") || bytes_eq bs (codes "never") || bytes_eq bs (codes "before") || bytes_eq bs (codes "fails")
+    bytes_eq bs (codes "ever") || bytes_eq bs (codes "never") || bytes_eq bs (codes "before") || bytes_eq bs (codes "fails") ||
+    bytes_eq bs (codes "all-end") || bytes_eq bs (codes "no-deadlock")
 
 abbrev pub is_bound : List ℕ → Bool
 is_bound bs =

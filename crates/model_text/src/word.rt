@@ -108,6 +108,8 @@ fn is_claim(bytes: &[u8]) -> bool
         || is_same(bytes, b"never")
         || is_same(bytes, b"before")
         || is_same(bytes, b"fails")
+        || is_same(bytes, b"all-end")
+        || is_same(bytes, b"no-deadlock")
 }
 
 fn is_bound(bytes: &[u8]) -> bool
