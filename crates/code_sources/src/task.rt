@@ -1,0 +1,26 @@
+//! What is left to tell of a text.
+
+use crate::sources::StartRole;
+use model_forms::Block;
+use std::alloc::AllocError;
+
+/// Something that is left to tell.
+#[derive(Clone, Copy)]
+pub(crate) enum Task {
+    /// The words of the form of this number.
+    Form(usize),
+    /// So many words of the form at this place.
+    Words(usize, usize),
+    /// A word of the form at this place that starts such a fiber.
+    Start(StartRole, usize),
+    /// What is left of a sequence at this place: the lists of a block.
+    Sequence(Block, usize),
+}
+
+/// Puts these tasks before the others, the first one first.
+pub(crate) fn put_first(tasks: &mut Vec<Task>, first: &[Task]) -> Result<(), AllocError> {
+    for task in first.iter().rev() {
+        tasks.push(*task)?;
+    }
+    Ok(())
+}

@@ -1,0 +1,198 @@
+//! The bounds of a model.
+
+use crate::faults::plain_fault;
+use crate::parts::{behind, first_at, form_at, head_at, only_at, parts_at, word_at};
+use model_forms::Block;
+use model_terms::{Refused, Source};
+use model_text::{Item, Model, read_number};
+use std::alloc::Global;
+
+/// The bounds that a model sets; none where it leaves one to the command line.
+#[derive(Clone, Copy)]
+pub struct Settings {
+    /// How many worlds are kept, from 1 to 100,000,000.
+    pub worlds: Option<u64>,
+    /// How many entries a schedule has at most, from 1 to 1,000,000.
+    pub entries: Option<u64>,
+    /// How many fibers there are at most, from 1 to 1000.
+    pub fibers: Option<u64>,
+    /// How many refs there are at most, from 1 to 1000.
+    pub refs: Option<u64>,
+    /// How many deferreds there are at most, from 1 to 1000.
+    pub deferreds: Option<u64>,
+    /// How often a fiber can change its own state, from 1 to 1,099,511,627,775.
+    pub count: Option<u64>,
+    /// How many schedules are drawn, from 1 to 1,000,000.
+    pub times: Option<u64>,
+    /// The seed of the drawing, from 0 to 4,611,686,018,427,387,903.
+    pub seed: Option<u64>,
+}
+
+// The word of a bound.
+#[derive(Clone, Copy)]
+enum Bound {
+    Worlds,
+    Entries,
+    Fibers,
+    Refs,
+    Deferreds,
+    Count,
+    Times,
+    Seed,
+}
+
+// The bound that these bytes are the word of, if any.
+fn bound_of(bytes: &[u8]) -> Option<Bound> {
+    match bytes {
+        b"worlds" => Some(Bound::Worlds),
+        b"entries" => Some(Bound::Entries),
+        b"fibers" => Some(Bound::Fibers),
+        b"refs" => Some(Bound::Refs),
+        b"deferreds" => Some(Bound::Deferreds),
+        b"count" => Some(Bound::Count),
+        b"times" => Some(Bound::Times),
+        b"seed" => Some(Bound::Seed),
+        _ => None,
+    }
+}
+
+// The least number of a bound.
+fn least(bound: Bound) -> u64 {
+    match bound {
+        Bound::Seed => 0,
+        Bound::Worlds => 1,
+        Bound::Entries => 1,
+        Bound::Fibers => 1,
+        Bound::Refs => 1,
+        Bound::Deferreds => 1,
+        Bound::Count => 1,
+        Bound::Times => 1,
+    }
+}
+
+// The greatest number of a bound.
+fn most(bound: Bound) -> u64 {
+    match bound {
+        Bound::Worlds => 100_000_000,
+        Bound::Entries => 1_000_000,
+        Bound::Fibers => 1000,
+        Bound::Refs => 1000,
+        Bound::Deferreds => 1000,
+        Bound::Count => 1_099_511_627_775,
+        Bound::Times => 1_000_000,
+        Bound::Seed => 4_611_686_018_427_387_903,
+    }
+}
+
+// The numbers of a bound, as a fault tells them.
+fn range_words(bound: Bound) -> &'static str {
+    match bound {
+        Bound::Worlds => "a number from 1 to 100000000 was wanted",
+        Bound::Entries => "a number from 1 to 1000000 was wanted",
+        Bound::Fibers => "a number from 1 to 1000 was wanted",
+        Bound::Refs => "a number from 1 to 1000 was wanted",
+        Bound::Deferreds => "a number from 1 to 1000 was wanted",
+        Bound::Count => "a number from 1 to 1099511627775 was wanted",
+        Bound::Times => "a number from 1 to 1000000 was wanted",
+        Bound::Seed => "a number from 0 to 4611686018427387903 was wanted",
+    }
+}
+
+// Sets a bound.
+fn set(settings: &mut Settings, bound: Bound, number: u64) {
+    match bound {
+        Bound::Worlds => settings.worlds = Some(number),
+        Bound::Entries => settings.entries = Some(number),
+        Bound::Fibers => settings.fibers = Some(number),
+        Bound::Refs => settings.refs = Some(number),
+        Bound::Deferreds => settings.deferreds = Some(number),
+        Bound::Count => settings.count = Some(number),
+        Bound::Times => settings.times = Some(number),
+        Bound::Seed => settings.seed = Some(number),
+    }
+}
+
+// No bounds.
+fn no_settings() -> Settings {
+    Settings {
+        worlds: None,
+        entries: None,
+        fibers: None,
+        refs: None,
+        deferreds: None,
+        count: None,
+        times: None,
+        seed: None,
+    }
+}
+
+/// The bounds of a model: those of the file's defaults above it, and then its own; a later one counts. The fault is that
+/// of a number out of range, at the number.
+pub fn read_settings(alloc: Global, source: &Source, model: &Model) -> Result<Settings, Refused> {
+    let mut settings = no_settings();
+    for item in source.file.items.as_slice() {
+        match *item {
+            Item::Defaults(block) => {
+                if block.first < model.claims.first {
+                    set_all(alloc, source, block, &mut settings)?;
+                }
+            }
+            Item::Constant(_) => {}
+            Item::Definition(_) => {}
+            Item::Model(_) => {}
+        }
+    }
+    set_all(alloc, source, model.claims, &mut settings)?;
+    Ok(settings)
+}
+
+// Sets each bound of a block.
+fn set_all(
+    alloc: Global,
+    source: &Source,
+    block: Block,
+    settings: &mut Settings,
+) -> Result<(), Refused> {
+    let mut rest = block;
+    for _ in 0..source.file.forms.len() {
+        let Some(at) = first_at(source, rest) else {
+            return Ok(());
+        };
+        set_one(alloc, source, at, settings)?;
+        rest = behind(source, rest);
+    }
+    Ok(())
+}
+
+// Sets the bound with this number; nothing where it is none.
+fn set_one(
+    alloc: Global,
+    source: &Source,
+    at: usize,
+    settings: &mut Settings,
+) -> Result<(), Refused> {
+    let Some(bound) = bound_of(head_at(source, at)) else {
+        return Ok(());
+    };
+    let Some(part) = only_at(source, parts_at(source, at)) else {
+        return Ok(());
+    };
+    match amount_at(source, part) {
+        Some(number) if least(bound) <= number && number <= most(bound) => {
+            set(settings, bound, number);
+            Ok(())
+        }
+        _ => Err(out_of_range(alloc, source, part, bound)),
+    }
+}
+
+// The number that a word is, where it isn't negative.
+fn amount_at(source: &Source, at: usize) -> Option<u64> {
+    let number = read_number(word_at(source, at))?;
+    u64::try_from(number.get()).ok()
+}
+
+// The fault of a number out of range.
+fn out_of_range(alloc: Global, source: &Source, at: usize, bound: Bound) -> Refused {
+    plain_fault(alloc, source, "E14", at, range_words(bound))
+}

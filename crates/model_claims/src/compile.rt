@@ -1,0 +1,337 @@
+//! Conditions, from their forms.
+
+use crate::condition::{Comparison, Condition, Wanted, Who, Word};
+use crate::faults::plain_fault;
+use crate::names::who_at;
+use crate::parts::{
+    Place, behind, both_at, first_at, head_at, number_at, only_at, outcome_at, parts_at, word_at,
+};
+use crate::refs::{Subjects, add_ref};
+use crate::words::{Test, test_of};
+use model_forms::Block;
+use model_terms::Refused;
+use std::alloc::{AllocError, Global};
+
+/// The wording where a way to end is wanted.
+pub(crate) const OUTCOME_WANTED: &str =
+    "an outcome was wanted: V, (succeeded V), (errored C), succeeded, errored, canceled or unended";
+
+const CONDITION_WANTED: &str =
+    "a condition was wanted: (ends f o ..), (said f v), (= r v) and its like, (and ..), (or ..), (not c)";
+
+// How the truths of several conditions are joined.
+#[derive(Clone, Copy)]
+enum Join {
+    All,
+    Any,
+}
+
+// What is left to do.
+#[derive(Clone, Copy)]
+enum Task {
+    // The words of the condition with this number.
+    Condition(usize),
+    // The words of the conditions of this block, each joined to those before it.
+    Each(Block, Join),
+    // This word.
+    Put(Word),
+}
+
+/// Adds the words of the condition with this number. `subjects` gets what it speaks of.
+pub(crate) fn compile(
+    alloc: Global,
+    place: &Place,
+    at: usize,
+    condition: &mut Condition,
+    subjects: &mut Subjects,
+) -> Result<(), Refused> {
+    let mut tasks = Vec::new(alloc);
+    tasks.push(Task::Condition(at))?;
+    let steps = place
+        .source
+        .file
+        .forms
+        .len()
+        .saturating_mul(4)
+        .saturating_add(4);
+    for _ in 0..steps {
+        match tasks.pop() {
+            None => return Ok(()),
+            Some(task) => make(alloc, place, task, condition, subjects, &mut tasks)?,
+        }
+    }
+    Err(no_condition(alloc, place, at))
+}
+
+// The fault of a form that is no condition.
+fn no_condition(alloc: Global, place: &Place, at: usize) -> Refused {
+    plain_fault(alloc, place.source, "E20", at, CONDITION_WANTED)
+}
+
+// Does what is next.
+fn make(
+    alloc: Global,
+    place: &Place,
+    task: Task,
+    condition: &mut Condition,
+    subjects: &mut Subjects,
+    tasks: &mut Vec<Task>,
+) -> Result<(), Refused> {
+    match task {
+        Task::Condition(at) => one(alloc, place, at, condition, subjects, tasks),
+        Task::Each(block, join) => {
+            each(place, block, join, tasks)?;
+            Ok(())
+        }
+        Task::Put(word) => {
+            condition.words.push(word)?;
+            Ok(())
+        }
+    }
+}
+
+// The word that joins two truths.
+fn joining(join: Join) -> Word {
+    match join {
+        Join::All => Word::And,
+        Join::Any => Word::Or,
+    }
+}
+
+// Puts the first condition of a block next, the word that joins it behind it, and behind that the rest of the block.
+fn each(place: &Place, block: Block, join: Join, tasks: &mut Vec<Task>) -> Result<(), AllocError> {
+    let Some(first) = first_at(place.source, block) else {
+        return Ok(());
+    };
+    tasks.push(Task::Each(behind(place.source, block), join))?;
+    tasks.push(Task::Put(joining(join)))?;
+    tasks.push(Task::Condition(first))?;
+    Ok(())
+}
+
+// The condition with this number.
+fn one(
+    alloc: Global,
+    place: &Place,
+    at: usize,
+    condition: &mut Condition,
+    subjects: &mut Subjects,
+    tasks: &mut Vec<Task>,
+) -> Result<(), Refused> {
+    let Some(test) = test_of(head_at(place.source, at)) else {
+        return Err(no_condition(alloc, place, at));
+    };
+    match test {
+        Test::And => {
+            joined(place, at, Word::Yes, Join::All, condition, tasks)?;
+            Ok(())
+        }
+        Test::Or => {
+            joined(place, at, Word::No, Join::Any, condition, tasks)?;
+            Ok(())
+        }
+        Test::Not => negated(alloc, place, at, tasks),
+        Test::Ends => ends(alloc, place, at, condition, subjects),
+        Test::Said => said(alloc, place, at, condition, subjects),
+        Test::Says => says(alloc, place, at, condition, subjects),
+        Test::Compares(comparison) => {
+            compares(alloc, place, at, comparison, condition, subjects)
+        }
+        Test::AllEnd => ended(alloc, place, at, Who::Everyone, condition, subjects),
+        Test::NoDeadlock => ended(alloc, place, at, Who::Main, condition, subjects),
+    }
+}
+
+// `and` and `or`: what holds of no conditions, and how each further one is joined.
+fn joined(
+    place: &Place,
+    at: usize,
+    none: Word,
+    join: Join,
+    condition: &mut Condition,
+    tasks: &mut Vec<Task>,
+) -> Result<(), AllocError> {
+    condition.words.push(none)?;
+    tasks.push(Task::Each(parts_at(place.source, at), join))?;
+    Ok(())
+}
+
+// `(not c)`.
+fn negated(alloc: Global, place: &Place, at: usize, tasks: &mut Vec<Task>) -> Result<(), Refused> {
+    let Some(part) = only_at(place.source, parts_at(place.source, at)) else {
+        return Err(no_condition(alloc, place, at));
+    };
+    tasks.push(Task::Put(Word::Not))?;
+    tasks.push(Task::Condition(part))?;
+    Ok(())
+}
+
+// `(all-end)` and `(no-deadlock)`.
+fn ended(
+    alloc: Global,
+    place: &Place,
+    at: usize,
+    who: Who,
+    condition: &mut Condition,
+    subjects: &mut Subjects,
+) -> Result<(), Refused> {
+    if first_at(place.source, parts_at(place.source, at)).is_some() {
+        return Err(no_condition(alloc, place, at));
+    }
+    subjects.fibers = true;
+    condition.words.push(Word::Ended(who))?;
+    Ok(())
+}
+
+// The fibers that a leaf speaks of: those that the first of its parts names.
+fn who_of(
+    alloc: Global,
+    place: &Place,
+    at: usize,
+    subjects: &mut Subjects,
+) -> Result<Who, Refused> {
+    let Some(first) = first_at(place.source, parts_at(place.source, at)) else {
+        return Err(no_condition(alloc, place, at));
+    };
+    if word_at(place.source, first).is_empty() {
+        return Err(no_condition(alloc, place, at));
+    }
+    subjects.fibers = true;
+    who_at(alloc, place, first)
+}
+
+// `(ends f o ..)`.
+fn ends(
+    alloc: Global,
+    place: &Place,
+    at: usize,
+    condition: &mut Condition,
+    subjects: &mut Subjects,
+) -> Result<(), Refused> {
+    let who = who_of(alloc, place, at, subjects)?;
+    let rest = behind(place.source, parts_at(place.source, at));
+    if first_at(place.source, rest).is_none() {
+        return Err(no_condition(alloc, place, at));
+    }
+    let from = condition.outcomes.len();
+    push_outcomes(alloc, place, rest, &mut condition.outcomes)?;
+    let to = condition.outcomes.len();
+    condition.words.push(Word::Ends(who, from, to))?;
+    Ok(())
+}
+
+/// Adds the ways to end that a block names.
+pub(crate) fn push_outcomes(
+    alloc: Global,
+    place: &Place,
+    block: Block,
+    outcomes: &mut Vec<Wanted>,
+) -> Result<(), Refused> {
+    let mut rest = block;
+    for _ in 0..place.source.file.forms.len() {
+        let Some(first) = first_at(place.source, rest) else {
+            return Ok(());
+        };
+        push_outcome(alloc, place, first, outcomes)?;
+        rest = behind(place.source, rest);
+    }
+    Ok(())
+}
+
+// Adds the way to end that a form names.
+fn push_outcome(
+    alloc: Global,
+    place: &Place,
+    at: usize,
+    outcomes: &mut Vec<Wanted>,
+) -> Result<(), Refused> {
+    match outcome_at(place.source, place.model, at) {
+        Some(outcome) => {
+            outcomes.push(outcome)?;
+            Ok(())
+        }
+        None => Err(plain_fault(alloc, place.source, "E20", at, OUTCOME_WANTED)),
+    }
+}
+
+// `(said f v ..)`.
+fn said(
+    alloc: Global,
+    place: &Place,
+    at: usize,
+    condition: &mut Condition,
+    subjects: &mut Subjects,
+) -> Result<(), Refused> {
+    let who = who_of(alloc, place, at, subjects)?;
+    let rest = behind(place.source, parts_at(place.source, at));
+    if first_at(place.source, rest).is_none() {
+        return Err(no_condition(alloc, place, at));
+    }
+    let from = condition.values.len();
+    push_values(alloc, place, at, rest, condition)?;
+    let to = condition.values.len();
+    condition.words.push(Word::Said(who, from, to))?;
+    Ok(())
+}
+
+// `(says f v ..)`.
+fn says(
+    alloc: Global,
+    place: &Place,
+    at: usize,
+    condition: &mut Condition,
+    subjects: &mut Subjects,
+) -> Result<(), Refused> {
+    let who = who_of(alloc, place, at, subjects)?;
+    let rest = behind(place.source, parts_at(place.source, at));
+    let from = condition.values.len();
+    push_values(alloc, place, at, rest, condition)?;
+    let to = condition.values.len();
+    condition.words.push(Word::Says(who, from, to))?;
+    Ok(())
+}
+
+// Adds the numbers of a block, a part of the condition with this number.
+fn push_values(
+    alloc: Global,
+    place: &Place,
+    at: usize,
+    block: Block,
+    condition: &mut Condition,
+) -> Result<(), Refused> {
+    let mut rest = block;
+    for _ in 0..place.source.file.forms.len() {
+        let Some(first) = first_at(place.source, rest) else {
+            return Ok(());
+        };
+        let Some(value) = number_at(place.source, place.model, first) else {
+            return Err(no_condition(alloc, place, at));
+        };
+        condition.values.push(value)?;
+        rest = behind(place.source, rest);
+    }
+    Ok(())
+}
+
+// `(= r v)` and its like.
+fn compares(
+    alloc: Global,
+    place: &Place,
+    at: usize,
+    comparison: Comparison,
+    condition: &mut Condition,
+    subjects: &mut Subjects,
+) -> Result<(), Refused> {
+    let Some((name, number)) = both_at(place.source, parts_at(place.source, at)) else {
+        return Err(no_condition(alloc, place, at));
+    };
+    let Some(value) = number_at(place.source, place.model, number) else {
+        return Err(no_condition(alloc, place, at));
+    };
+    if word_at(place.source, name).is_empty() {
+        return Err(no_condition(alloc, place, at));
+    }
+    add_ref(alloc, place, subjects, name)?;
+    condition.words.push(Word::Compares(comparison, value))?;
+    Ok(())
+}

@@ -1,0 +1,395 @@
+//! The claims of a model, from their forms.
+
+use crate::claim::{Claim, Want};
+use crate::compile::{OUTCOME_WANTED, compile};
+use crate::condition::{Condition, Wanted, Who, Word, empty_condition};
+use crate::faults::{plain_fault, quoting_fault};
+use crate::judging::Rule;
+use crate::names::who_at;
+use crate::parts::{
+    Place, behind, both_at, first_at, head_at, inside_at, number_at, only_at, outcome_at, parts_at,
+    word_at,
+};
+use crate::refs::{Subjects, no_subjects, ref_fault};
+use crate::words::{Head, head_of};
+use effect_term::Value;
+use model_forms::{Block, form_bytes};
+use model_terms::{ModelTerm, Probe, Refused, Said, Source};
+use model_text::Model;
+use std::alloc::Global;
+
+const BEFORE_WANTED: &str = "`(before (f v) (g w))` was wanted: f says v before g says w";
+
+const SEVERAL_REFS: &str =
+    "a claim on several refs at one moment isn't supported: state it of one ref";
+
+const REF_AND_FIBERS: &str =
+    "a claim on a ref and fibers at one moment isn't supported: state it of the ref alone";
+
+const REF_AT_THE_END: &str =
+    "the value of a ref at the end isn't supported: let main read it and end with it";
+
+/// The claims of a model, in the order of the file, or the first fault. The term is the model's with no probe in it.
+pub fn read_claims(
+    alloc: Global,
+    source: &Source,
+    model: &Model,
+    term: &ModelTerm,
+) -> Result<Vec<Claim>, Refused> {
+    let place = Place {
+        source,
+        model,
+        term,
+    };
+    let mut claims = Vec::new(alloc);
+    let mut rest = model.claims;
+    for _ in 0..source.file.forms.len() {
+        let Some(at) = first_at(source, rest) else {
+            break;
+        };
+        push_claim(alloc, &place, at, &mut claims)?;
+        rest = behind(source, rest);
+    }
+    if claims.is_empty() {
+        return Err(no_claims(alloc, &place));
+    }
+    Ok(claims)
+}
+
+// The fault of a model that claims nothing.
+fn no_claims(alloc: Global, place: &Place) -> Refused {
+    let name = form_bytes(place.source.text.as_slice(), place.model.name);
+    let refused = quoting_fault(
+        alloc,
+        place.source,
+        "E19",
+        0,
+        "model ",
+        name,
+        " claims nothing: no answer could fail it",
+    );
+    match refused {
+        Refused::NoMemory => Refused::NoMemory,
+        Refused::Fault(mut fault) => {
+            fault.start = place.model.name.start;
+            fault.end = place.model.name.end;
+            Refused::Fault(fault)
+        }
+    }
+}
+
+// Adds the claim with this number; nothing where it is a bound or the statements of the model.
+fn push_claim(
+    alloc: Global,
+    place: &Place,
+    at: usize,
+    claims: &mut Vec<Claim>,
+) -> Result<(), Refused> {
+    if head_of(head_at(place.source, at)).is_none() {
+        return Ok(());
+    }
+    let claim = claim_at(alloc, place, at)?;
+    claims.push(claim)?;
+    Ok(())
+}
+
+// The claim with this number.
+fn claim_at(alloc: Global, place: &Place, at: usize) -> Result<Claim, Refused> {
+    let mut inner = at;
+    let mut fails = false;
+    for _ in 0..place.source.file.forms.len() {
+        let Some(head) = head_of(head_at(place.source, inner)) else {
+            return Err(no_claim(alloc, place, at));
+        };
+        match head {
+            Head::Fails => {}
+            _ => return plain_claim(alloc, place, at, inner, head, fails),
+        }
+        let Some(part) = only_at(place.source, parts_at(place.source, inner)) else {
+            return Err(no_claim(alloc, place, at));
+        };
+        inner = part;
+        fails = !fails;
+    }
+    Err(no_claim(alloc, place, at))
+}
+
+// The fault of what stands behind `fails` and is no claim.
+fn no_claim(alloc: Global, place: &Place, at: usize) -> Refused {
+    plain_fault(
+        alloc,
+        place.source,
+        "E20",
+        at,
+        "a claim was wanted behind `fails`",
+    )
+}
+
+// The claim with this number, which is the number of the form inside each `fails`, with this head.
+fn plain_claim(
+    alloc: Global,
+    place: &Place,
+    form: usize,
+    at: usize,
+    head: Head,
+    fails: bool,
+) -> Result<Claim, Refused> {
+    let mut condition = empty_condition(alloc);
+    let mut wants = Vec::new(alloc);
+    let (rule, probe) = read_claim(alloc, place, at, head, &mut condition, &mut wants)?;
+    Ok(Claim {
+        form,
+        fails,
+        rule,
+        probe,
+        condition,
+        wants,
+        blind: false,
+    })
+}
+
+// Fills in what a claim wants and what holds of an answer that meets it.
+fn read_claim(
+    alloc: Global,
+    place: &Place,
+    at: usize,
+    head: Head,
+    condition: &mut Condition,
+    wants: &mut Vec<Want>,
+) -> Result<(Rule, Probe), Refused> {
+    match head {
+        Head::Want => want(alloc, place, at, condition, wants),
+        Head::Must => at_the_end(alloc, place, at, Rule::Every, condition),
+        Head::Can => at_the_end(alloc, place, at, Rule::Some, condition),
+        Head::Always => at_any_moment(alloc, place, at, Rule::Every, condition),
+        Head::Ever => at_any_moment(alloc, place, at, Rule::Some, condition),
+        Head::Never => never(alloc, place, at, condition),
+        Head::Before => before(alloc, place, at, condition),
+        Head::AllEnd => ended(alloc, place, at, Who::Everyone, condition),
+        Head::NoDeadlock => ended(alloc, place, at, Who::Main, condition),
+        Head::Fails => Err(no_claim(alloc, place, at)),
+    }
+}
+
+// `(want o ..)`.
+fn want(
+    alloc: Global,
+    place: &Place,
+    at: usize,
+    condition: &mut Condition,
+    wants: &mut Vec<Want>,
+) -> Result<(Rule, Probe), Refused> {
+    let block = parts_at(place.source, at);
+    if first_at(place.source, block).is_none() {
+        return Err(plain_fault(alloc, place.source, "E20", at, OUTCOME_WANTED));
+    }
+    push_wants(alloc, place, block, condition, wants)?;
+    let to = condition.outcomes.len();
+    condition.words.push(Word::Ends(Who::Main, 0, to))?;
+    Ok((Rule::Every, Probe::Nothing))
+}
+
+// Adds the ways to end that a `want` names.
+fn push_wants(
+    alloc: Global,
+    place: &Place,
+    block: Block,
+    condition: &mut Condition,
+    wants: &mut Vec<Want>,
+) -> Result<(), Refused> {
+    let mut rest = block;
+    for _ in 0..place.source.file.forms.len() {
+        let Some(form) = first_at(place.source, rest) else {
+            return Ok(());
+        };
+        let Some(outcome) = outcome_at(place.source, place.model, form) else {
+            return Err(plain_fault(alloc, place.source, "E20", form, OUTCOME_WANTED));
+        };
+        push_want(form, &outcome, condition, wants)?;
+        rest = behind(place.source, rest);
+    }
+    Ok(())
+}
+
+fn push_want(
+    form: usize,
+    outcome: &Wanted,
+    condition: &mut Condition,
+    wants: &mut Vec<Want>,
+) -> Result<(), Refused> {
+    condition.outcomes.push(*outcome)?;
+    let want = Want {
+        form,
+        outcome: *outcome,
+    };
+    wants.push(want)?;
+    Ok(())
+}
+
+// `(all-end)` and `(no-deadlock)`.
+fn ended(
+    alloc: Global,
+    place: &Place,
+    at: usize,
+    who: Who,
+    condition: &mut Condition,
+) -> Result<(Rule, Probe), Refused> {
+    if first_at(place.source, parts_at(place.source, at)).is_some() {
+        return Err(parts_fault(alloc, place, at, " has no parts"));
+    }
+    condition.words.push(Word::Ended(who))?;
+    Ok((Rule::Every, Probe::Nothing))
+}
+
+// The fault of a claim that lacks a part, or has one too many.
+fn parts_fault(alloc: Global, place: &Place, at: usize, words: &str) -> Refused {
+    quoting_fault(
+        alloc,
+        place.source,
+        "E20",
+        at,
+        "",
+        head_at(place.source, at),
+        words,
+    )
+}
+
+// Compiles the one condition of a claim.
+fn only_condition(
+    alloc: Global,
+    place: &Place,
+    at: usize,
+    condition: &mut Condition,
+) -> Result<Subjects, Refused> {
+    let Some(part) = only_at(place.source, parts_at(place.source, at)) else {
+        return Err(parts_fault(alloc, place, at, " has one condition"));
+    };
+    let mut subjects = no_subjects();
+    compile(alloc, place, part, condition, &mut subjects)?;
+    Ok(subjects)
+}
+
+// `must` and `can`.
+fn at_the_end(
+    alloc: Global,
+    place: &Place,
+    at: usize,
+    rule: Rule,
+    condition: &mut Condition,
+) -> Result<(Rule, Probe), Refused> {
+    let subjects = only_condition(alloc, place, at, condition)?;
+    match subjects.cell {
+        Some(_) => Err(ref_fault(alloc, place, at, REF_AT_THE_END)),
+        None => Ok((rule, Probe::Nothing)),
+    }
+}
+
+// `always` and `ever`.
+fn at_any_moment(
+    alloc: Global,
+    place: &Place,
+    at: usize,
+    rule: Rule,
+    condition: &mut Condition,
+) -> Result<(Rule, Probe), Refused> {
+    let subjects = only_condition(alloc, place, at, condition)?;
+    match subjects.cell {
+        Some(cell) => {
+            one_ref(alloc, place, at, subjects)?;
+            Ok((rule, Probe::Watch(cell)))
+        }
+        None => Err(no_ref_spoken_of(alloc, place, at, rule)),
+    }
+}
+
+// The fault of `always` or `ever` that speaks of fibers alone.
+fn no_ref_spoken_of(alloc: Global, place: &Place, at: usize, rule: Rule) -> Refused {
+    match rule {
+        Rule::Every => moment_fault(alloc, place, at, " speaks of a ref: of fibers say `must`"),
+        Rule::Some => moment_fault(alloc, place, at, " speaks of a ref: of fibers say `can`"),
+    }
+}
+
+fn moment_fault(alloc: Global, place: &Place, at: usize, words: &str) -> Refused {
+    quoting_fault(
+        alloc,
+        place.source,
+        "E22",
+        at,
+        "",
+        head_at(place.source, at),
+        words,
+    )
+}
+
+// The fault of a claim on a ref that speaks of another ref or of fibers, too.
+fn one_ref(alloc: Global, place: &Place, at: usize, subjects: Subjects) -> Result<(), Refused> {
+    if subjects.several {
+        return Err(ref_fault(alloc, place, at, SEVERAL_REFS));
+    }
+    if subjects.fibers {
+        return Err(ref_fault(alloc, place, at, REF_AND_FIBERS));
+    }
+    Ok(())
+}
+
+// `never`: of a ref at no moment, of fibers in no answer.
+fn never(
+    alloc: Global,
+    place: &Place,
+    at: usize,
+    condition: &mut Condition,
+) -> Result<(Rule, Probe), Refused> {
+    let subjects = only_condition(alloc, place, at, condition)?;
+    condition.words.push(Word::Not)?;
+    match subjects.cell {
+        Some(cell) => {
+            one_ref(alloc, place, at, subjects)?;
+            Ok((Rule::Every, Probe::Watch(cell)))
+        }
+        None => Ok((Rule::Every, Probe::Nothing)),
+    }
+}
+
+// `(before (f v) (g w))`.
+fn before(
+    alloc: Global,
+    place: &Place,
+    at: usize,
+    condition: &mut Condition,
+) -> Result<(Rule, Probe), Refused> {
+    let Some((one, other)) = both_at(place.source, parts_at(place.source, at)) else {
+        return Err(no_order(alloc, place, at));
+    };
+    let first = saying(alloc, place, at, one)?;
+    let second = saying(alloc, place, at, other)?;
+    push_late(condition, second.value)?;
+    Ok((Rule::Every, Probe::Order(first, second)))
+}
+
+// No fiber says this value late.
+fn push_late(condition: &mut Condition, value: Value) -> Result<(), Refused> {
+    condition.words.push(Word::Late(value))?;
+    condition.words.push(Word::Not)?;
+    Ok(())
+}
+
+// The fault of a `before` that isn't spelled so.
+fn no_order(alloc: Global, place: &Place, at: usize) -> Refused {
+    plain_fault(alloc, place.source, "E20", at, BEFORE_WANTED)
+}
+
+// `(f v)`, a part of the `before` with this number.
+fn saying(alloc: Global, place: &Place, at: usize, part: usize) -> Result<Said, Refused> {
+    let Some((fiber, number)) = both_at(place.source, inside_at(place.source, part)) else {
+        return Err(no_order(alloc, place, at));
+    };
+    let Some(value) = number_at(place.source, place.model, number) else {
+        return Err(no_order(alloc, place, at));
+    };
+    if word_at(place.source, fiber).is_empty() {
+        return Err(no_order(alloc, place, at));
+    }
+    let _who = who_at(alloc, place, fiber)?;
+    Ok(Said { fiber, value })
+}

@@ -1,0 +1,92 @@
+//! The ref that a claim speaks of.
+
+use crate::faults::{Names, plain_fault, unknown_name};
+use crate::names::{Spelled, has_spelling, is_ref, no_names, push_binder, spelled_at};
+use crate::parts::Place;
+use model_terms::{BinderName, Refused};
+use std::alloc::{AllocError, Global};
+
+/// What a claim speaks of.
+#[derive(Clone, Copy)]
+pub(crate) struct Subjects {
+    /// Whether it speaks of fibers.
+    pub fibers: bool,
+    /// The ref that it speaks of, if any.
+    pub cell: Option<BinderName>,
+    /// Whether it speaks of several refs.
+    pub several: bool,
+}
+
+/// What a condition with no words speaks of.
+pub(crate) fn no_subjects() -> Subjects {
+    Subjects {
+        fibers: false,
+        cell: None,
+        several: false,
+    }
+}
+
+/// Adds the refs that the word with this number names, or returns the fault that none is called so.
+pub(crate) fn add_ref(
+    alloc: Global,
+    place: &Place,
+    subjects: &mut Subjects,
+    at: usize,
+) -> Result<(), Refused> {
+    let spelled = spelled_at(place.source, at);
+    let mut found = false;
+    for binder in place.term.binders.as_slice() {
+        if is_ref(binder.kind) && has_spelling(place.source, binder.name, spelled) {
+            found = true;
+            add_cell(subjects, binder.name);
+        }
+    }
+    if found {
+        Ok(())
+    } else {
+        Err(no_ref(alloc, place, at))
+    }
+}
+
+// Adds a ref.
+fn add_cell(subjects: &mut Subjects, name: BinderName) {
+    match subjects.cell {
+        None => subjects.cell = Some(name),
+        Some(other) => {
+            if other != name {
+                subjects.several = true;
+            }
+        }
+    }
+}
+
+// The fault that no ref is called so.
+fn no_ref(alloc: Global, place: &Place, at: usize) -> Refused {
+    match ref_names(alloc, place) {
+        Ok(names) => unknown_name(
+            alloc,
+            place.source,
+            at,
+            "no ref of this model is called ",
+            "its refs: ",
+            &names,
+        ),
+        Err(_error) => Refused::NoMemory,
+    }
+}
+
+// The names of the model's refs.
+fn ref_names(alloc: Global, place: &Place) -> Result<Names, AllocError> {
+    let mut names = no_names(alloc);
+    for binder in place.term.binders.as_slice() {
+        if is_ref(binder.kind) {
+            push_binder(&mut names, place.source, binder)?;
+        }
+    }
+    Ok(names)
+}
+
+/// The fault of a claim whose refs no answer tells.
+pub(crate) fn ref_fault(alloc: Global, place: &Place, at: usize, words: &str) -> Refused {
+    plain_fault(alloc, place.source, "E22", at, words)
+}

@@ -1,0 +1,193 @@
+//! What is told of the claims of a model that don't pass, and its warnings.
+
+use crate::digits::{push_about, push_word};
+use crate::found::{push_answers, push_found, schedule_of};
+use crate::judged::{JudgedModel, name_of};
+use crate::named_file::{bytes_of, push_place, start_of};
+use crate::one_line::joined;
+use crate::shown::push_shown;
+use crate::source_faults::push_headline;
+use crate::timeline_table::push_timeline;
+use model_claims::{Rule, Verdict};
+use model_runs::{ClaimResult, NamedAnswer, Search, Warning};
+use std::alloc::{AllocError, Global};
+
+// How many bytes of a form are shown in a warning.
+const SHOWN: usize = 60;
+
+/// What is told of a model behind all models: its warnings, a line each, and of each claim that doesn't pass where it
+/// stands, what was found, and a timeline. `AllocError` where memory is refused.
+pub fn model_details(alloc: Global, judged: JudgedModel) -> Result<Vec<u8>, AllocError> {
+    let mut told = Vec::new(alloc);
+    for warning in judged.result.warnings.iter() {
+        push_warning(&mut told, alloc, judged, *warning)?;
+    }
+    for claim in judged.result.claims.iter() {
+        if claim.verdict != Verdict::Passed {
+            push_claim(&mut told, alloc, judged, claim)?;
+        }
+    }
+    Ok(told)
+}
+
+// A warning, with its place.
+fn push_warning(
+    told: &mut Vec<u8>,
+    alloc: Global,
+    judged: JudgedModel,
+    warning: Warning,
+) -> Result<(), AllocError> {
+    push_headline(told, "warning", warning.code())?;
+    push_place(told, judged.file, start_of(judged.source, warning.form()))?;
+    push_word(told, ": `")?;
+    let line = joined(alloc, bytes_of(judged.source, warning.form()))?;
+    push_cut(told, line.as_slice())?;
+    push_word(told, warning_words(warning))
+}
+
+// The first bytes of a form, and three dots where it has more.
+fn push_cut(told: &mut Vec<u8>, line: &[u8]) -> Result<(), AllocError> {
+    match line.get(..SHOWN) {
+        Some(first) if line.len() > SHOWN => {
+            push_shown(told, first)?;
+            push_word(told, "...")
+        }
+        _ => push_shown(told, line),
+    }
+}
+
+// What is said of the form of a warning, behind it.
+fn warning_words(warning: Warning) -> &'static str {
+    match warning {
+        Warning::Torn(_) => {
+            "`: the ref is read before it is changed: two moves, and another fiber may come between\n"
+        }
+        Warning::Unmet(_) => "` is wanted, and no schedule comes to it\n",
+    }
+}
+
+// A claim that doesn't pass: its text, its place and why.
+fn push_claim(
+    told: &mut Vec<u8>,
+    alloc: Global,
+    judged: JudgedModel,
+    claim: &ClaimResult,
+) -> Result<(), AllocError> {
+    push_word(told, "\n---- ")?;
+    push_shown(told, name_of(judged.source, judged.model))?;
+    push_word(told, ": ")?;
+    let line = joined(alloc, bytes_of(judged.source, claim.form))?;
+    push_shown(told, line.as_slice())?;
+    push_word(told, "\n     at ")?;
+    push_place(told, judged.file, start_of(judged.source, claim.form))?;
+    told.push(b'\n')?;
+    match judged.result.searches.get(claim.search) {
+        Some(search) => push_why(told, alloc, judged, claim, search),
+        None => Ok(()),
+    }
+}
+
+// Why a claim doesn't pass.
+fn push_why(
+    told: &mut Vec<u8>,
+    alloc: Global,
+    judged: JudgedModel,
+    claim: &ClaimResult,
+    search: &Search,
+) -> Result<(), AllocError> {
+    match claim.verdict {
+        Verdict::Passed => Ok(()),
+        Verdict::Undecided => push_undecided(told, claim.rule, search),
+        Verdict::Failed => push_failed(told, alloc, judged, claim, search),
+    }
+}
+
+// That a claim is undecided.
+fn push_undecided(told: &mut Vec<u8>, rule: Rule, search: &Search) -> Result<(), AllocError> {
+    push_word(told, "     undecided: ")?;
+    if search.complete {
+        return push_word(told, "an exploration doesn't decide it\n");
+    }
+    push_about(told, "a bound was met at ", search.worlds)?;
+    push_word(told, " worlds")?;
+    if search.sampled > 0 {
+        push_about(told, ", and ", search.sampled)?;
+        push_word(told, sampled_words(rule))?;
+    }
+    told.push(b'\n')?;
+    Ok(())
+}
+
+// What is said of schedules that were drawn at random and decide nothing.
+fn sampled_words(rule: Rule) -> &'static str {
+    match rule {
+        Rule::Every => " sampled schedules show nothing against it",
+        Rule::Some => " sampled schedules don't meet it",
+    }
+}
+
+// What refutes a claim.
+fn push_failed(
+    told: &mut Vec<u8>,
+    alloc: Global,
+    judged: JudgedModel,
+    claim: &ClaimResult,
+    search: &Search,
+) -> Result<(), AllocError> {
+    if claim.fails {
+        push_word(told, gone_words(claim.rule))?;
+    }
+    match claim.shown {
+        Some(number) => match search.answers.get(number) {
+            Some(answer) => push_shown_answer(told, alloc, judged, claim, search, answer),
+            None => Ok(()),
+        },
+        None if claim.fails => Ok(()),
+        None => push_none_meets(told, judged, search),
+    }
+}
+
+// That a claim was to fail, and doesn't.
+fn gone_words(rule: Rule) -> &'static str {
+    match rule {
+        Rule::Every => {
+            "     it was to fail, and holds of every schedule: the mistake that it shows is gone\n"
+        }
+        Rule::Some => "     it was to fail, and a schedule meets it\n",
+    }
+}
+
+// That no schedule meets a claim, and what can come.
+fn push_none_meets(
+    told: &mut Vec<u8>,
+    judged: JudgedModel,
+    search: &Search,
+) -> Result<(), AllocError> {
+    push_about(told, "     no schedule of ", search.worlds)?;
+    push_word(told, " worlds meets it; what can come:\n")?;
+    push_answers(told, judged.source, search)
+}
+
+// The answer that decides a claim: what was found, its schedule and its timeline.
+fn push_shown_answer(
+    told: &mut Vec<u8>,
+    alloc: Global,
+    judged: JudgedModel,
+    claim: &ClaimResult,
+    search: &Search,
+    answer: &NamedAnswer,
+) -> Result<(), AllocError> {
+    let schedule = schedule_of(alloc, answer)?;
+    push_word(told, "     found: ")?;
+    push_found(told, judged.source, search, answer, claim.replay.as_ref())?;
+    push_word(told, "\n     under \"")?;
+    push_word(told, schedule.as_str())?;
+    push_word(told, "\"\n")?;
+    match &claim.replay {
+        Some(replay) => {
+            told.push(b'\n')?;
+            push_timeline(told, alloc, judged.file, judged.source, replay)
+        }
+        None => Ok(()),
+    }
+}

@@ -1,0 +1,223 @@
+//! What was found under a schedule, in the names of a file.
+
+use crate::digits::{push_about, push_word};
+use crate::event_words::push_outcome;
+use crate::names::{push_fiber_name, push_ref};
+use cell_registry::{Band, Call, RunError};
+use effect_term::Outcome;
+use fiber_events::Deed;
+use model_claims::{FiberName, Seen, SeenFiber};
+use model_runs::{Named, NamedAnswer, Search};
+use model_terms::Source;
+use std::alloc::{AllocError, Global};
+use text_io::{MOST_ENTRIES, schedule_text};
+
+// How many answers are listed at most.
+const MOST_LISTED: usize = 20;
+
+/// An answer: what its fibers have come to, what a ref held that was watched, and the fault that ends its schedule, if
+/// one does. `AllocError` where memory is refused.
+pub(crate) fn push_found(
+    told: &mut Vec<u8>,
+    source: &Source,
+    search: &Search,
+    answer: &NamedAnswer,
+    replay: Option<&Named>,
+) -> Result<(), AllocError> {
+    if let Some(fault) = answer.fault {
+        push_fault(told, fault)?;
+    }
+    push_fibers(told, source, &answer.seen, replay, answer.fault.is_some())?;
+    if answer.came > 0 {
+        push_about(told, " (", answer.came)?;
+        push_about(told, " of ", search.sampled)?;
+        push_word(told, " sampled schedules)")?;
+    }
+    Ok(())
+}
+
+// The fibers of an answer, each with a comma and a space before it but the first.
+fn push_fibers(
+    told: &mut Vec<u8>,
+    source: &Source,
+    seen: &Seen,
+    replay: Option<&Named>,
+    behind: bool,
+) -> Result<(), AllocError> {
+    let mut behind = behind;
+    for (number, fiber) in seen.fibers.iter().enumerate() {
+        if is_told(fiber, replay.is_some()) {
+            push_comma(told, behind)?;
+            push_fiber_end(told, source, fiber, number, replay)?;
+            behind = true;
+        }
+    }
+    Ok(())
+}
+
+// A comma and a space behind something.
+fn push_comma(told: &mut Vec<u8>, behind: bool) -> Result<(), AllocError> {
+    if behind {
+        push_word(told, ", ")?;
+    }
+    Ok(())
+}
+
+// Whether the end of a fiber is told: not of one that has no name in the file and succeeded, and of one that watches a
+// ref where a replay says which.
+fn is_told(fiber: &SeenFiber, has_replay: bool) -> bool {
+    match fiber.name {
+        FiberName::Watcher => has_replay && has_succeeded(fiber),
+        FiberName::Hidden => !has_succeeded(fiber),
+        FiberName::Main
+        | FiberName::Word(_)
+        | FiberName::Row(_, _)
+        | FiberName::Left
+        | FiberName::Right => true,
+    }
+}
+
+// Whether a fiber succeeded.
+fn has_succeeded(fiber: &SeenFiber) -> bool {
+    matches!(fiber.outcome, Some(Outcome::Succeeded(_)))
+}
+
+// How a fiber ended, or what the ref held that it watches.
+fn push_fiber_end(
+    told: &mut Vec<u8>,
+    source: &Source,
+    fiber: &SeenFiber,
+    number: usize,
+    replay: Option<&Named>,
+) -> Result<(), AllocError> {
+    if fiber.name == FiberName::Watcher
+        && let Some(replay) = replay
+    {
+        push_watched(told, source, replay, number)?;
+        return push_held(told, fiber.outcome);
+    }
+    push_fiber_name(told, source, fiber.name, number)?;
+    push_end(told, fiber.outcome)
+}
+
+// What a ref held, by the end of the fiber that watches it.
+fn push_held(told: &mut Vec<u8>, outcome: Option<Outcome>) -> Result<(), AllocError> {
+    match outcome {
+        Some(ended) => push_read(told, ended),
+        None => push_word(told, " unended"),
+    }
+}
+
+// What a ref held that was read by a fiber that ended so.
+fn push_read(told: &mut Vec<u8>, ended: Outcome) -> Result<(), AllocError> {
+    match ended {
+        Outcome::Succeeded(value) => push_about(told, " = ", value.get()),
+        Outcome::Errored(code) => push_about(told, " errored ", code.get()),
+        Outcome::Canceled => push_word(told, " canceled"),
+    }
+}
+
+// How a fiber ended, or that it didn't.
+fn push_end(told: &mut Vec<u8>, outcome: Option<Outcome>) -> Result<(), AllocError> {
+    told.push(b' ')?;
+    match outcome {
+        Some(outcome) => push_outcome(told, outcome),
+        None => push_word(told, "unended"),
+    }
+}
+
+// The ref that a fiber watches.
+fn push_watched(
+    told: &mut Vec<u8>,
+    source: &Source,
+    replay: &Named,
+    fiber: usize,
+) -> Result<(), AllocError> {
+    match watched_ref(replay, fiber) {
+        Some(number) => push_ref(told, source, replay, number),
+        None => push_word(told, "the ref"),
+    }
+}
+
+/// The number of the ref that a fiber of a replay reads first.
+pub(crate) fn watched_ref(replay: &Named, fiber: usize) -> Option<u16> {
+    for event in replay.events.as_slice() {
+        if usize::from(event.fiber) == fiber
+            && let Deed::Called(Call::Get(number), _) = event.deed
+        {
+            return Some(number);
+        }
+    }
+    None
+}
+
+/// A fault of a run, as `replay` writes it. `AllocError` where memory is refused.
+pub(crate) fn push_fault(told: &mut Vec<u8>, fault: RunError) -> Result<(), AllocError> {
+    match fault {
+        RunError::Full(Band::Fibers, limit) => push_limit(told, limit, " fibers"),
+        RunError::Full(Band::Refs, limit) => push_limit(told, limit, " refs"),
+        RunError::Full(Band::Deferreds, limit) => push_limit(told, limit, " deferreds"),
+        RunError::Spent(fiber) => push_about(told, "fault 19 Spent ", fiber),
+        RunError::NoMemory => push_word(told, "fault 20 NoMemory"),
+        RunError::Lost(fiber) => push_about(told, "fault 21 Lost ", fiber),
+        RunError::NoWorker => push_word(told, "fault 22 NoWorker"),
+    }
+}
+
+// That all numbers of a band were given.
+fn push_limit(told: &mut Vec<u8>, limit: u16, band: &str) -> Result<(), AllocError> {
+    push_word(told, "fault 18 Full")?;
+    push_word(told, band)?;
+    push_about(told, " ", limit)
+}
+
+/// A schedule, as `--schedule` takes it. `AllocError` where memory is refused.
+pub(crate) fn schedule_of(alloc: Global, answer: &NamedAnswer) -> Result<String, AllocError> {
+    let entries = answer.schedule.as_slice();
+    if entries.len() <= MOST_ENTRIES && entries.iter().all(|fiber| *fiber < 1000) {
+        schedule_text(alloc, entries)
+    } else {
+        String::from_str(alloc, "..")
+    }
+}
+
+/// The answers of a search, a line each behind these spaces: at most 20 whose fibers have come to different ends, and how
+/// many more answers there are. `AllocError` where memory is refused.
+pub(crate) fn push_answers(
+    told: &mut Vec<u8>,
+    source: &Source,
+    search: &Search,
+) -> Result<(), AllocError> {
+    let mut listed = 0usize;
+    for (number, answer) in search.answers.iter().enumerate() {
+        if listed < MOST_LISTED && is_new(search, number, answer) {
+            push_word(told, "       ")?;
+            push_found(told, source, search, answer, None)?;
+            told.push(b'\n')?;
+            listed = listed.saturating_add(1);
+        }
+    }
+    if listed == MOST_LISTED {
+        push_word(told, "       ..\n")?;
+    }
+    Ok(())
+}
+
+// Whether no answer before this one has the same fibers with the same ends.
+fn is_new(search: &Search, number: usize, answer: &NamedAnswer) -> bool {
+    for before in search.answers.iter().take(number) {
+        if before.fault == answer.fault && is_same(&before.seen, &answer.seen) {
+            return false;
+        }
+    }
+    true
+}
+
+// Whether two answers have the same fibers with the same ends.
+fn is_same(one: &Seen, other: &Seen) -> bool {
+    let mut same = one.fibers.len() == other.fibers.len();
+    for (first, second) in one.fibers.iter().zip(other.fibers.iter()) {
+        same = same && first.name == second.name && first.outcome == second.outcome;
+    }
+    same
+}

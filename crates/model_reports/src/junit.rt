@@ -1,0 +1,105 @@
+//! Reports in the format of JUnit.
+
+use crate::claim_details::model_details;
+use crate::digits::{push_about, push_seconds, push_word};
+use crate::judged::{JudgedModel, name_of};
+use crate::verdicts::counts_of;
+use model_claims::Verdict;
+use std::alloc::{AllocError, Global};
+
+/// A document of test cases, each of them made by [`junit_case`]. The verdicts are those of its models. `AllocError`
+/// where memory is refused.
+pub fn junit_document(
+    alloc: Global,
+    verdicts: &[Verdict],
+    cases: &[u8],
+) -> Result<Vec<u8>, AllocError> {
+    let counts = counts_of(verdicts);
+    let mut told = Vec::new(alloc);
+    push_word(&mut told, "<?xml version=\"1.0\" encoding=\"UTF-8\"?>\n")?;
+    push_about(
+        &mut told,
+        "<testsuite name=\"fiber_cli\" tests=\"",
+        verdicts.len(),
+    )?;
+    push_about(&mut told, "\" failures=\"", counts.failed)?;
+    push_about(&mut told, "\" errors=\"0\" skipped=\"", counts.undecided)?;
+    push_word(&mut told, "\">\n")?;
+    told.extend_from_slice(cases)?;
+    push_word(&mut told, "</testsuite>\n")?;
+    Ok(told)
+}
+
+/// A model as a test case: failed with what is told of its claims, or skipped where it is undecided. `AllocError` where
+/// memory is refused.
+pub fn junit_case(alloc: Global, judged: JudgedModel) -> Result<Vec<u8>, AllocError> {
+    let mut told = Vec::new(alloc);
+    push_word(&mut told, "  <testcase classname=\"")?;
+    push_escaped(&mut told, alloc, judged.file.name)?;
+    push_word(&mut told, "\" name=\"")?;
+    push_escaped(&mut told, alloc, name_of(judged.source, judged.model))?;
+    push_word(&mut told, "\" time=\"")?;
+    push_seconds(&mut told, judged.milliseconds)?;
+    push_word(&mut told, "\"")?;
+    match judged.result.verdict {
+        Verdict::Passed => push_word(&mut told, "/>\n")?,
+        Verdict::Failed => push_element(&mut told, alloc, judged, FAILURE)?,
+        Verdict::Undecided => push_element(&mut told, alloc, judged, SKIPPED)?,
+    }
+    Ok(told)
+}
+
+// The marks around what is told of a model.
+#[derive(Clone, Copy)]
+struct Element {
+    start: &'static str,
+    end: &'static str,
+}
+
+// Of a model that failed.
+const FAILURE: Element = Element {
+    start: ">\n    <failure message=\"a claim failed\">",
+    end: "</failure>\n  </testcase>\n",
+};
+
+// Of a model that is undecided.
+const SKIPPED: Element = Element {
+    start: ">\n    <skipped message=\"a bound was met\">",
+    end: "</skipped>\n  </testcase>\n",
+};
+
+// What is told of a model between these marks.
+fn push_element(
+    told: &mut Vec<u8>,
+    alloc: Global,
+    judged: JudgedModel,
+    element: Element,
+) -> Result<(), AllocError> {
+    let details = model_details(alloc, judged)?;
+    push_word(told, element.start)?;
+    push_escaped(told, alloc, details.as_slice())?;
+    push_word(told, element.end)
+}
+
+// Bytes as text of an XML document. What is no UTF-8, or no character of XML, is replaced by U+FFFD.
+fn push_escaped(told: &mut Vec<u8>, alloc: Global, bytes: &[u8]) -> Result<(), AllocError> {
+    let text = String::from_utf8_lossy(alloc, bytes)?;
+    let mut escaped = String::new(alloc);
+    for character in text.chars() {
+        push_character(&mut escaped, character)?;
+    }
+    told.extend_from_slice(escaped.as_bytes())
+}
+
+// A character as text of an XML document.
+fn push_character(escaped: &mut String, character: char) -> Result<(), AllocError> {
+    match character {
+        '&' => escaped.push_str("&amp;"),
+        '<' => escaped.push_str("&lt;"),
+        '>' => escaped.push_str("&gt;"),
+        '"' => escaped.push_str("&quot;"),
+        '\n' => escaped.push('\n'),
+        '\0'..='\u{1f}' | '\u{fffe}' | '\u{ffff}' => escaped.push('\u{fffd}'),
+        other => escaped.push(other),
+    }
+}

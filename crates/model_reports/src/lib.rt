@@ -1,0 +1,33 @@
+//! What is told of the models of a file: faults, verdicts and timelines, as text, as JSON, and in the formats of the
+//! Test Anything Protocol and of JUnit.
+//!
+//! It stands on what became of a model (`model_runs`), and tells it in the names and the places of the file
+//! (`model_terms`). It promises the status that verdicts come to. What the texts say is shown by tests.
+#![tactic(auto)]
+
+mod claim_details;
+mod digits;
+mod event_words;
+mod found;
+mod json_models;
+mod judged;
+mod junit;
+mod named_file;
+mod names;
+mod one_line;
+mod rows;
+mod shown;
+mod source_faults;
+mod tap;
+mod timeline_columns;
+mod timeline_table;
+mod verdicts;
+
+pub use claim_details::model_details;
+pub use json_models::{json_report, model_json};
+pub use judged::{JudgedModel, listed_model, model_line, named_term};
+pub use junit::{junit_case, junit_document};
+pub use named_file::NamedFile;
+pub use source_faults::{fault_text, unread_text};
+pub use tap::{tap_head, tap_model};
+pub use verdicts::{Counts, counts_of, status_of, summary};

@@ -1,0 +1,132 @@
+//! The rows of a timeline: which events anyone would see.
+
+use crate::names::fiber_name;
+use cell_registry::Call;
+use effect_term::{JoinReply, Reply};
+use fiber_events::{Deed, Event};
+use model_claims::FiberName;
+use model_runs::Named;
+use model_terms::BinderName;
+use std::alloc::{AllocError, Global};
+
+/// A row of a timeline.
+#[derive(Clone, Copy)]
+pub(crate) struct Row {
+    /// What its entry was.
+    pub(crate) event: Event,
+    /// The number of the form of the file that its move comes from, if it comes from one.
+    pub(crate) form: Option<usize>,
+}
+
+// What a fiber waits for.
+#[derive(Clone, Copy, PartialEq, Eq, Debug)]
+enum Topic {
+    // It doesn't wait.
+    Nothing,
+    // The end of this fiber.
+    Fiber(u16),
+    // The completion of this deferred.
+    Deferred(u16),
+    // What never comes.
+    Never,
+}
+
+/// The events of a replay that anyone would see, in their order, and of a wait that goes on the first. What a fiber does
+/// that watches a ref has no rows, nor what is done to a ref that has no name in the file. `AllocError` where memory is
+/// refused.
+pub(crate) fn rows_of(alloc: Global, replay: &Named) -> Result<Vec<Row>, AllocError> {
+    let mut waits = vec![in alloc; Topic::Nothing; replay.fibers.len()]?;
+    let mut rows = Vec::new(alloc);
+    for (number, event) in replay.events.as_slice().iter().enumerate() {
+        let is_new = is_new(waits.as_mut_slice(), event);
+        if is_new && !is_of_watcher(replay, event) && !is_of_hidden_ref(replay, event) {
+            let form = form_of(replay, number);
+            let row = Row {
+                event: *event,
+                form,
+            };
+            rows.push(row)?;
+        }
+    }
+    Ok(rows)
+}
+
+// The form that the move of an event comes from.
+fn form_of(replay: &Named, number: usize) -> Option<usize> {
+    match replay.forms.get(number) {
+        Some(form) => *form,
+        None => None,
+    }
+}
+
+// Whether an event is a move of a fiber that watches a ref, or starts one.
+fn is_of_watcher(replay: &Named, event: &Event) -> bool {
+    let started = match event.deed {
+        Deed::Called(Call::Start, Reply::Number(number)) => fiber_name(replay, number),
+        _ => FiberName::Main,
+    };
+    started == FiberName::Watcher || fiber_name(replay, event.fiber) == FiberName::Watcher
+}
+
+// Whether an event is a call on a ref that has no name in the file.
+fn is_of_hidden_ref(replay: &Named, event: &Event) -> bool {
+    match ref_of(event) {
+        Some(number) => is_hidden(replay.refs.get(usize::from(number))),
+        None => false,
+    }
+}
+
+// The number of the ref that an event made or called.
+fn ref_of(event: &Event) -> Option<u16> {
+    match event.deed {
+        Deed::Called(Call::NewRef, Reply::Number(number)) => Some(number),
+        Deed::Called(Call::Get(number), _) => Some(number),
+        Deed::Called(Call::Set(number, _), _) => Some(number),
+        Deed::Called(Call::Modify(number, _), _) => Some(number),
+        _ => None,
+    }
+}
+
+// Whether this is no name of the file.
+fn is_hidden(name: Option<&BinderName>) -> bool {
+    match name {
+        Some(BinderName::Word(_)) | Some(BinderName::Row(_, _)) => false,
+        Some(BinderName::Hidden) | Some(BinderName::Watcher) | None => true,
+    }
+}
+
+// Whether anyone would see what an event did: not a look that found no request, nor a move that changes the fiber alone
+// and notes nothing.
+fn is_seen(event: &Event) -> bool {
+    match event.deed {
+        Deed::Called(Call::Look, Reply::Seen(asked)) => asked,
+        Deed::Alone => event.mark.is_some(),
+        _ => true,
+    }
+}
+
+// What the fiber of an event waits for since.
+fn waits_for(event: &Event) -> Topic {
+    match event.deed {
+        Deed::Called(Call::Join(fiber), Reply::Join(JoinReply::Waits)) => Topic::Fiber(fiber),
+        Deed::Called(Call::Read(number), Reply::Read(None)) => Topic::Deferred(number),
+        Deed::Rested => Topic::Never,
+        _ => Topic::Nothing,
+    }
+}
+
+// Whether an event is seen and isn't a wait that goes on. What each fiber waits for is kept.
+fn is_new(waits: &mut [Topic], event: &Event) -> bool {
+    if !is_seen(event) {
+        return false;
+    }
+    let now = waits_for(event);
+    match waits.get_mut(usize::from(event.fiber)) {
+        Some(before) => {
+            let goes_on = now != Topic::Nothing && *before == now;
+            *before = now;
+            !goes_on
+        }
+        None => true,
+    }
+}

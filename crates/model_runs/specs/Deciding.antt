@@ -1,0 +1,30 @@
+-- What becomes of claims by what is found.
+use Rattle.std.specs.Prelude.{◌≡◌, ◌&&◌, not, ℕ, List, map, Option, Some}
+use Rattle.std.specs.List.{slice_get}
+use Rattle.model_terms.specs.declared.source.Source.{Source}
+use Rattle.model_claims.specs.declared.claim.Claim.{Claim}
+use Rattle.model_claims.specs.declared.judging.Verdict.{Verdict}
+use Rattle.model_claims.specs.Conditions.{truth_in}
+use Rattle.model_claims.specs.Judging.{IsJudged, under}
+use Rattle.model_runs.specs.declared.result.ClaimResult.{ClaimResult}
+use Rattle.model_runs.specs.declared.result.Search.{Search}
+
+-- the verdict of a claim by what its search has found, and the answer that is shown
+abbrev pub IsJudgedBy : Source → Claim → Search → Option ℕ → Verdict → Type 0
+IsJudgedBy source claim s shown verdict =
+    IsJudged claim.rule (s.complete && not claim.blind) (map (λ a. truth_in source claim a.seen) s.answers.items) shown
+    (under claim.fails verdict)
+
+-- what became of a claim is what its search says of it
+pub record IsResultOf (source : Source) (claim : Claim) (s : Search) (it : ClaimResult) : Type 0 where
+  pub form : it.form ≡ claim.form
+  pub rule : it.rule ≡ claim.rule
+  pub fails : it.fails ≡ claim.fails
+  pub judged : IsJudgedBy source claim s it.shown it.verdict
+
+-- what became of a claim is what one of these searches says of it, the one that is named
+pub record IsDecided (source : Source) (searches : List Search) (it : ClaimResult) : Type 0 where
+  pub claim : Claim
+  pub search : Search
+  pub named : slice_get searches it.search ≡ Some search
+  pub is_result : IsResultOf source claim search it

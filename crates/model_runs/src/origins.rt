@@ -1,0 +1,122 @@
+//! The words of a term's code, in the names of its file.
+
+use code_sources::{StartRole, WordSource};
+use model_claims::FiberName;
+use model_terms::{Binder, BinderName, ModelTerm, WordPlace};
+use std::alloc::{AllocError, Global};
+
+/// Where a word of a code comes from, in the names of the file.
+#[derive(Clone, Copy)]
+pub(crate) struct Origin {
+    /// The number of the form of the file, if one is known.
+    pub form: Option<usize>,
+    /// The name that the form binds, if it begins with one.
+    pub name: BinderName,
+    /// What the fiber is that it starts, where it starts one.
+    pub role: StartRole,
+}
+
+impl Origin {
+    /// The name of the fiber that the word starts.
+    pub(crate) fn fiber_name(self) -> FiberName {
+        match self.role {
+            StartRole::Own => fiber_name(self.name),
+            StartRole::Left => FiberName::Left,
+            StartRole::Right => FiberName::Right,
+            StartRole::Helper => FiberName::Hidden,
+        }
+    }
+}
+
+// The name of a fiber whose binder has this one.
+fn fiber_name(name: BinderName) -> FiberName {
+    match name {
+        BinderName::Word(form) => FiberName::Word(form),
+        BinderName::Row(form, number) => FiberName::Row(form, number),
+        BinderName::Hidden => FiberName::Hidden,
+        BinderName::Watcher => FiberName::Watcher,
+    }
+}
+
+/// Where the words of a term's code come from, by the places of its text.
+pub(crate) fn origins_of(
+    alloc: Global,
+    term: &ModelTerm,
+    sources: &[WordSource],
+) -> Result<Vec<Origin>, AllocError> {
+    let mut origins = Vec::with_capacity(alloc, sources.len())?;
+    for source in sources {
+        origins.push(Origin {
+            form: form_at(term.places.as_slice(), source.place),
+            name: name_behind(term, source.place),
+            role: source.role,
+        })?;
+    }
+    Ok(origins)
+}
+
+// More halvings than a search among any number of places has.
+const HALVINGS: u32 = 64;
+
+// The form of the file that the form of the term at this place was made for.
+fn form_at(places: &[WordPlace], place: usize) -> Option<usize> {
+    let mut low = 0usize;
+    let mut high = places.len();
+    for _ in 0..HALVINGS {
+        let middle = low.saturating_add(high) / 2;
+        let found = places.get(middle)?;
+        if found.term == place {
+            return Some(found.form);
+        }
+        if found.term < place {
+            low = middle.saturating_add(1);
+        } else {
+            high = middle;
+        }
+    }
+    None
+}
+
+// The name of the binder at this place.
+fn binder_at(binders: &[Binder], place: usize) -> Option<BinderName> {
+    let mut low = 0usize;
+    let mut high = binders.len();
+    for _ in 0..HALVINGS {
+        let middle = low.saturating_add(high) / 2;
+        let found = binders.get(middle)?;
+        if found.start == place {
+            return Some(found.name);
+        }
+        if found.start < place {
+            low = middle.saturating_add(1);
+        } else {
+            high = middle;
+        }
+    }
+    None
+}
+
+// The name that the form at this place binds behind its word.
+fn name_behind(term: &ModelTerm, place: usize) -> BinderName {
+    match token_behind(term.text.as_slice(), place) {
+        None => BinderName::Hidden,
+        Some(start) => match binder_at(term.binders.as_slice(), start) {
+            None => BinderName::Hidden,
+            Some(name) => name,
+        },
+    }
+}
+
+// Where the second token of the form at this place begins.
+fn token_behind(text: &[u8], place: usize) -> Option<usize> {
+    let mut behind_word = false;
+    let form = text.get(place..)?;
+    for (many, byte) in form.iter().enumerate() {
+        if *byte == b' ' {
+            behind_word = true;
+        } else if behind_word {
+            return Some(place.saturating_add(many));
+        }
+    }
+    None
+}

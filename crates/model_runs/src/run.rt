@@ -1,0 +1,187 @@
+//! A model explored and judged.
+
+ghost use Rattle.std.specs.Prelude.{◌≡◌, IfOk};
+ghost use Rattle.std.specs.List.{All};
+ghost use Rattle.model_runs.specs.Deciding.{IsDecided};
+ghost use Rattle.model_runs.specs.Seeing.{IsRightOfSome};
+ghost use Rattle.model_runs.specs.Verdicts.{worst};
+ghost use Rattle.cell_registry.specs.Cells.{AreLimits};
+
+use crate::judging::claim_result;
+use crate::plan::{Plan, SearchBounds, plan_of};
+use crate::prepared::{prepare, program_in};
+use crate::probes::{probe_number, probes_of};
+use crate::result::{ClaimResult, ModelResult, Search};
+use crate::searching::search_term;
+use crate::verdicts::worst_verdict;
+use crate::warnings::{Warning, warnings_of};
+use model_claims::{Claim, read_claims, read_settings};
+use model_terms::{Probe, Refused, Source, translate};
+use model_text::Model;
+use std::alloc::Global;
+
+/// Explores a model's term, with what each of its claims wants put into it, and judges the claims.
+///
+/// The model's bounds go before these. An exploration keeps few worlds at first, and then ten times as many, up to its
+/// bound; where it isn't complete even so, schedules are drawn at random, and what they come to counts as found. Each
+/// claim is judged by the search of the term with what it wants put into it. Where the model has a fault, it is refused
+/// as by [`check_model`].
+pub fn run_model(
+    alloc: Global,
+    source: &Source,
+    model: &Model,
+    bounds: SearchBounds,
+) -> Result<ModelResult, Refused>
+    ensures verdict { IfOk result (λ it. it.verdict ≡ worst it.claims.items) }
+    ensures searches { IfOk result (λ it. All IsRightOfSome it.searches.items) }
+    ensures claims { IfOk result (λ it. All (IsDecided source.now it.searches.items) it.claims.items) }
+{
+    let term = translate(alloc, source, model, Probe::Nothing)?;
+    let claims = read_claims(alloc, source, model, &term)?;
+    let settings = read_settings(alloc, source, model)?;
+    let plan = plan_of(settings, bounds);
+    let probes = probes_of(alloc, claims.as_slice())?;
+    let searches = searches_of(alloc, source, model, plan, probes.as_slice())?;
+    let results = results_of(
+        alloc,
+        source,
+        model,
+        plan,
+        claims.as_slice(),
+        probes.as_slice(),
+        searches.as_slice(),
+    )?;
+    let warnings = warnings_of(
+        alloc,
+        &term,
+        claims.as_slice(),
+        results.as_slice(),
+        searches.as_slice(),
+    )?;
+    Ok(result_of(searches, results, warnings))
+}
+
+// What became of a model, by its claims.
+fn result_of(searches: Vec<Search>, claims: Vec<ClaimResult>, warnings: Vec<Warning>) -> ModelResult
+    ensures verdict { result.verdict ≡ worst result.claims.items }
+    ensures searches { result.searches.items ≡ searches.items }
+    ensures claims { result.claims.items ≡ claims.items }
+{
+    let verdict = worst_verdict(claims.as_slice());
+    let worlds = all_worlds(searches.as_slice());
+    ModelResult {
+        verdict,
+        worlds,
+        searches,
+        claims,
+        warnings,
+    }
+}
+
+// How many worlds these searches have found.
+fn all_worlds(searches: &[Search]) -> u64 {
+    let mut worlds = 0u64;
+    for search in searches {
+        worlds = worlds.saturating_add(search.worlds as u64);
+    }
+    worlds
+}
+
+// A search of the term with each of these put into it.
+fn searches_of(
+    alloc: Global,
+    source: &Source,
+    model: &Model,
+    plan: Plan,
+    probes: &[Probe],
+) -> Result<Vec<Search>, Refused>
+    requires limits { AreLimits plan.limits }
+    ensures right { IfOk result (λ it. All IsRightOfSome it.items) }
+{
+    let mut searches = Vec::new(alloc);
+    for probe in probes {
+        searches.push(search_with(alloc, source, model, plan, *probe)?)?;
+    }
+    Ok(searches)
+}
+
+// A search of the term with this put into it.
+fn search_with(
+    alloc: Global,
+    source: &Source,
+    model: &Model,
+    plan: Plan,
+    probe: Probe,
+) -> Result<Search, Refused>
+    requires limits { AreLimits plan.limits }
+    ensures right { IfOk result IsRightOfSome }
+{
+    let prepared = prepare(alloc, source, model, probe)?;
+    match search_term(alloc, &prepared, plan) {
+        Ok(found) => Ok(found),
+        Err(_) => Err(Refused::NoMemory),
+    }
+}
+
+// What became of each claim.
+fn results_of(
+    alloc: Global,
+    source: &Source,
+    model: &Model,
+    plan: Plan,
+    claims: &[Claim],
+    probes: &[Probe],
+    searches: &[Search],
+) -> Result<Vec<ClaimResult>, Refused>
+    requires limits { AreLimits plan.limits }
+    ensures decided { IfOk result (λ it. All (IsDecided source.now searches.now) it.items) }
+{
+    let mut results = Vec::new(alloc);
+    for claim in claims {
+        results.push(decided(alloc, source, model, plan, claim, probes, searches)?)?;
+    }
+    Ok(results)
+}
+
+// What became of a claim, by the search of the term with what it wants put into it.
+fn decided(
+    alloc: Global,
+    source: &Source,
+    model: &Model,
+    plan: Plan,
+    claim: &Claim,
+    probes: &[Probe],
+    searches: &[Search],
+) -> Result<ClaimResult, Refused>
+    requires limits { AreLimits plan.limits }
+    ensures decided { IfOk result (IsDecided source.now searches.now) }
+{
+    // Each probe of a claim is among these, and has a search.
+    let Some(number) = probe_number(probes, &claim.probe) else {
+        return Err(Refused::NoMemory);
+    };
+    match searches.get(number) {
+        Some(search) => claim_result(alloc, source, model, claim, plan, number, search),
+        None => Err(Refused::NoMemory),
+    }
+}
+
+/// The first fault of a model, which is told before any model runs: one of its term, its claims and bounds, or of its
+/// term with what a claim wants put into it.
+pub fn check_model(alloc: Global, source: &Source, model: &Model) -> Result<(), Refused> {
+    let term = translate(alloc, source, model, Probe::Nothing)?;
+    let claims = read_claims(alloc, source, model, &term)?;
+    let _ = read_settings(alloc, source, model)?;
+    let _ = program_in(alloc, source, model, &term)?;
+    for claim in claims.as_slice() {
+        check_probe(alloc, source, model, claim.probe)?;
+    }
+    Ok(())
+}
+
+// The fault of a term with this put into it, if it has one.
+fn check_probe(alloc: Global, source: &Source, model: &Model, probe: Probe) -> Result<(), Refused> {
+    let term = translate(alloc, source, model, probe)?;
+    let _ = program_in(alloc, source, model, &term)?;
+    Ok(())
+}

@@ -1,0 +1,198 @@
+//! What is put into a term so that its reports show more.
+
+use crate::binder::{BinderName, NameKind};
+use crate::look::value;
+use crate::reading::Reading;
+use crate::scope::{FiberName, Here, Operand};
+use crate::task::Task;
+use crate::translation::LATE;
+use crate::writing::{SaidBy, Writing};
+use crate::wrong::Stop;
+use itoa::Buffer;
+use term_parse::Word;
+
+/// A fiber that reads the ref with this name once, if this binder's refs are watched. It is one more open bracket.
+pub(crate) fn watch(
+    out: &mut Writing,
+    at: usize,
+    name: usize,
+    binder: BinderName,
+) -> Result<(), Stop> {
+    if out.watched != Some(binder) {
+        return Ok(());
+    }
+    let watcher = out.fresh(b"watch")?;
+    out.then(Task::Open(Word::Start, at))?;
+    out.then(Task::Bind(watcher, NameKind::Fiber, BinderName::Watcher))?;
+    out.then(Task::Open(Word::Get, at))?;
+    out.then(Task::Operand(Operand::Name(name)))?;
+    out.then(Task::Close(1))?;
+    out.lets = out.lets.saturating_add(1);
+    Ok(())
+}
+
+// Whether a spelling is that of one of a row: the row's name, a dot and a number.
+fn is_one_of(spelled: &[u8], row: &[u8], number: usize) -> bool {
+    let mut buffer = Buffer::new();
+    let behind = buffer.format(number).as_bytes();
+    spelled.get(..row.len()) == Some(row)
+        && spelled.get(row.len()).copied() == Some(b'.')
+        && spelled.get(row.len().saturating_add(1)..) == Some(behind)
+}
+
+// Whether a fiber is called so.
+fn is_called(read: Reading, fiber: FiberName, spelled: &[u8]) -> bool {
+    match fiber {
+        FiberName::Main => spelled == b"main".as_slice(),
+        FiberName::Left => spelled == b"left".as_slice(),
+        FiberName::Right => spelled == b"right".as_slice(),
+        FiberName::Word(at) => spelled == read.word(at),
+        FiberName::Row(at, number) => {
+            let row = read.word(at);
+            spelled == row || is_one_of(spelled, row, number)
+        }
+    }
+}
+
+// Whether a fiber that says a value says this.
+fn is_said(read: Reading, said: SaidBy, fiber: FiberName, operand: Operand) -> bool {
+    match operand {
+        Operand::Number(number) => {
+            number == said.value && is_called(read, fiber, read.word(said.fiber))
+        }
+        Operand::Name(_) => false,
+    }
+}
+
+// Which of two is said: the first, the second or neither.
+#[derive(Clone, Copy)]
+enum Turn {
+    First,
+    Second,
+    Neither,
+}
+
+// Which of the two whose order is looked at a fiber says, with this value.
+fn turn_of(
+    read: Reading,
+    said: Option<(SaidBy, SaidBy)>,
+    fiber: FiberName,
+    operand: Operand,
+) -> Turn {
+    match said {
+        Some((first, second)) => {
+            if is_said(read, first, fiber, operand) {
+                Turn::First
+            } else if is_said(read, second, fiber, operand) {
+                Turn::Second
+            } else {
+                Turn::Neither
+            }
+        }
+        None => Turn::Neither,
+    }
+}
+
+/// The `say` with this number, whose value is the form with that number.
+pub(crate) fn say(
+    read: Reading,
+    out: &mut Writing,
+    at: usize,
+    first: usize,
+    here: Here,
+) -> Result<(), Stop> {
+    out.lets = 0;
+    let operand = value(read, out, first, here)?;
+    let turn = turn_of(read, out.said, here.fiber, operand);
+    match turn {
+        Turn::First => say_first(out, at)?,
+        Turn::Second => say_second(out, at)?,
+        Turn::Neither => {}
+    }
+    out.then(Task::Open(Word::Say, at))?;
+    out.then(Task::Operand(operand))?;
+    let open = out.lets.saturating_add(1);
+    out.then(Task::Close(open))
+}
+
+// Opens what is around the first of two that are said: it sets the hidden ref.
+fn say_first(out: &mut Writing, at: usize) -> Result<(), Stop> {
+    let order = out.order;
+    open_mask(out, at)?;
+    out.then(Task::Open(Word::Seq, at))?;
+    out.then(Task::Open(Word::Set, at))?;
+    out.then(Task::Operand(Operand::Name(order)))?;
+    out.then(Task::Operand(Operand::Number(1)))?;
+    out.then(Task::Close(1))?;
+    out.lets = out.lets.saturating_add(2);
+    Ok(())
+}
+
+// Opens a mask.
+fn open_mask(out: &mut Writing, at: usize) -> Result<(), Stop> {
+    let poll = out.fresh(b"u")?;
+    out.then(Task::Open(Word::Uncancelable, at))?;
+    out.then(Task::Bind(poll, NameKind::Poll, BinderName::Hidden))
+}
+
+// Opens what is around the second of two that are said: it says first where the hidden ref isn't set.
+fn say_second(out: &mut Writing, at: usize) -> Result<(), Stop> {
+    let order = out.order;
+    open_mask(out, at)?;
+    let was = out.fresh(b"t")?;
+    out.then(Task::Open(Word::Let, at))?;
+    out.then(Task::Bind(was, NameKind::Value, BinderName::Hidden))?;
+    out.then(Task::Open(Word::Get, at))?;
+    out.then(Task::Operand(Operand::Name(order)))?;
+    out.then(Task::Close(1))?;
+    out.then(Task::Open(Word::Seq, at))?;
+    say_late(out, at, was)?;
+    out.lets = out.lets.saturating_add(3);
+    Ok(())
+}
+
+// Says that it is too late, if a value is 0.
+fn say_late(out: &mut Writing, at: usize, was: usize) -> Result<(), Stop> {
+    out.then(Task::Open(Word::If0, at))?;
+    out.then(Task::Operand(Operand::Name(was)))?;
+    out.then(Task::Open(Word::Say, at))?;
+    out.then(Task::Operand(Operand::Number(LATE)))?;
+    out.then(Task::Close(1))?;
+    out.then(Task::Open(Word::Pure, at))?;
+    out.then(Task::Operand(Operand::Number(0)))?;
+    out.then(Task::Close(2))
+}
+
+/// Notes the form with this number, if the bytes of the term from here on read the ref with this name.
+pub(crate) fn note_torn(
+    out: &mut Writing,
+    start: usize,
+    name: usize,
+    form: usize,
+) -> Result<(), Stop> {
+    if reads(out, start, name) && !out.torn.as_slice().contains(&form) {
+        out.torn.push(form)?;
+    }
+    Ok(())
+}
+
+// Whether the bytes of the term from here on read the ref with this name.
+fn reads(out: &Writing, start: usize, name: usize) -> bool {
+    let spelled = out.spellings.spelled(name);
+    let text = out.text.as_slice();
+    for at in start..text.len() {
+        if is_get(text.get(at..).unwrap_or(&[]), spelled) {
+            return true;
+        }
+    }
+    false
+}
+
+// Whether these bytes begin with the `get` of a name.
+fn is_get(bytes: &[u8], spelled: &[u8]) -> bool {
+    let front: &[u8] = b"(get ";
+    let behind = bytes.get(5..).unwrap_or(&[]);
+    bytes.get(..5) == Some(front)
+        && behind.get(..spelled.len()) == Some(spelled)
+        && behind.get(spelled.len()).copied() == Some(b')')
+}

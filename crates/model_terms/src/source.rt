@@ -1,0 +1,154 @@
+//! A model file behind the definitions that every file has.
+
+ghost use Rattle.std.specs.Prelude.{◌≡◌, IfOk, drop};
+ghost use Rattle.model_text.specs.Files.{IsFile};
+
+use crate::file_fault::{file_refused, twice_refused};
+use crate::named::{ItemNames, NamedItem, name_of};
+use crate::reading::{Reading, bytes_of};
+use crate::refused::Refused;
+use crate::trial::try_definitions;
+use crate::wrong::Span;
+use model_text::{Item, ModelFile, read_file};
+use std::alloc::{AllocError, Global};
+use term_parse::word_of;
+
+// The definitions that every file has.
+const PRELUDE: &str = "(define (wait f:fiber) (join f _ 0 _ 0 0))
+(define (value-of f:fiber) (join f x x e (raise e) (canceled)))
+(define (spin-until-zero r:ref) (handle (forever (if0 (get r) (raise 1) (cede))) _ 0))
+(define (ignore-errors (e)) (handle (e) _ 0))
+(define (guarantee-case (e) (done) (failed) (cut)) (bracketcase _ 0 (e) _ (done) _ (failed) (cut)))
+";
+
+/// The text of the definitions that every file has.
+pub fn prelude() -> &'static str {
+    PRELUDE
+}
+
+/// A model file behind the definitions that every file has. Places and forms count from the first of these.
+#[derive(Drop)]
+pub struct Source {
+    /// The definitions that every file has, and behind them the file.
+    pub text: Vec<u8>,
+    /// How many bytes of the text are the definitions that every file has.
+    pub prelude: usize,
+    /// The forms and items of the text.
+    pub file: ModelFile,
+    // The names of the items.
+    names: ItemNames,
+}
+
+/// What of a source is read by a translation.
+pub(crate) fn reading_of(source: &Source) -> Reading<'_> {
+    Reading {
+        text: source.text.as_slice(),
+        forms: source.file.forms.as_slice(),
+        named: &source.names,
+    }
+}
+
+/// Why a name is refused.
+#[derive(Clone, Copy)]
+pub(crate) enum NameFault {
+    /// It is a word of the language.
+    Word,
+    /// Another definition or constant has it: where that begins.
+    Twice(usize),
+    /// Another model has it: where that begins.
+    TwoModels(usize),
+}
+
+// Whether a spelling is a word of the language of models.
+fn is_word(spelled: &[u8]) -> bool {
+    match spelled {
+        b"do" | b"starts" | b"deferreds" | b"refs" | b"if" | b"when" | b"unless" => true,
+        _ => word_of(spelled).is_some(),
+    }
+}
+
+// Whether a name stands for a model.
+fn is_model(item: NamedItem) -> bool {
+    matches!(item, NamedItem::Model)
+}
+
+// Why a name is refused beside those above it, if it is.
+fn name_fault(names: &ItemNames, text: &[u8], name: Span, item: NamedItem) -> Option<NameFault> {
+    let spelled = bytes_of(text, name);
+    let model = is_model(item);
+    if !model && is_word(spelled) {
+        return Some(NameFault::Word);
+    }
+    let other = names.find(text, spelled, model)?;
+    if model {
+        Some(NameFault::TwoModels(other.name.start))
+    } else {
+        Some(NameFault::Twice(other.name.start))
+    }
+}
+
+// The names of the items, or the first one that is refused.
+fn names_of(
+    names: &mut ItemNames,
+    text: &[u8],
+    items: &[Item],
+) -> Result<Option<(Span, NameFault)>, AllocError> {
+    for item in items {
+        if let Some((name, stands_for)) = name_of(item) {
+            match name_fault(names, text, name, stands_for) {
+                Some(fault) => return Ok(Some((name, fault))),
+                None => names.add(text, name, stands_for)?,
+            }
+        }
+    }
+    Ok(None)
+}
+
+/// Reads a file behind the definitions that every file has, and tries each of its definitions.
+///
+/// # Errors
+/// [`Refused::Fault`] with the first fault: one of the brackets and strings of the file, or else of its items, or else
+/// of their names, or else of a definition. [`Refused::NoMemory`] where memory ran out.
+pub fn read_source(alloc: Global, bytes: &[u8]) -> Result<Source, Refused>
+    ensures behind { IfOk result (λ s. drop s.prelude s.text.items ≡ bytes.now) }
+    ensures file { IfOk result (λ s. IsFile s.text.items s.file) }
+{
+    let mut text = Vec::from_slice(alloc, PRELUDE.as_bytes())?;
+    let prelude = text.len();
+    text.extend_from_slice(bytes)?;
+    match read_file(alloc, text.as_slice()) {
+        Ok(file) => with_names(alloc, text, prelude, file),
+        Err(fault) => Err(file_refused(alloc, text.as_slice(), fault)),
+    }
+}
+
+// A source of this text and file.
+fn with_names(
+    alloc: Global,
+    text: Vec<u8>,
+    prelude: usize,
+    file: ModelFile,
+) -> Result<Source, Refused>
+    ensures text { IfOk result (λ s. s.text ≡ text) }
+    ensures prelude { IfOk result (λ s. s.prelude ≡ prelude) }
+    ensures file { IfOk result (λ s. s.file ≡ file) }
+{
+    let mut names = ItemNames::new(alloc)?;
+    match names_of(&mut names, text.as_slice(), file.items.as_slice()) {
+        Ok(None) => {}
+        Ok(Some((name, fault))) => {
+            return Err(twice_refused(alloc, text.as_slice(), prelude, name, fault));
+        }
+        Err(_) => return Err(Refused::NoMemory),
+    }
+    let source = Source {
+        text,
+        prelude,
+        file,
+        names,
+    };
+    match try_definitions(alloc, reading_of(&source), prelude) {
+        Ok(()) => Ok(source),
+        Err(refused) => Err(refused),
+    }
+}

@@ -1,0 +1,187 @@
+//! The term of a model.
+
+ghost use Rattle.std.specs.Prelude.{◌≡◌, ◌<◌, ◌≤◌, ◌↔◌, All, IfOk, IsTrue, vec_len};
+
+use crate::binder::{Binder, BinderName, NameKind, WordPlace};
+use crate::reading::{Reading, first_of, span_of};
+use crate::refused::Refused;
+use crate::scope::{FiberName, Here, Meaning, NONE, Operand, View};
+use crate::source::{Source, reading_of};
+use crate::task::Task;
+use crate::term::write_all;
+use crate::wording::refused;
+use crate::writing::{MOST_BYTES, SaidBy, Writing};
+use crate::wrong::{Limit, Stop};
+use effect_term::Value;
+use model_text::Model;
+use std::alloc::Global;
+use term_parse::Word;
+
+/// A fiber's name in a file, and a value that it says.
+#[derive(Clone, Copy)]
+pub struct Said {
+    /// The number of the form that spells the fiber's name, as the claim spells it: `w`, `w.1`, `main`.
+    pub fiber: usize,
+    /// The value.
+    pub value: Value,
+}
+
+/// What is put into a term so that its reports show more.
+#[derive(Clone, Copy)]
+pub enum Probe {
+    /// Nothing.
+    Nothing,
+    /// Beside each ref that this binder makes, a fiber reads it once, at any moment, and ends with what it held.
+    Watch(BinderName),
+    /// A hidden ref tells whether the first was said before the second: where it wasn't, the fiber that says the
+    /// second says [`LATE`] before it.
+    Order(Said, Said),
+}
+
+/// What is said before the second of two, where the first wasn't said before it.
+pub const LATE: i64 = 4611686018427387901;
+
+/// The term of a model, as text.
+#[derive(Drop)]
+pub struct ModelTerm {
+    /// The text of the term.
+    pub text: Vec<u8>,
+    /// Its binders, in the order of the text.
+    pub binders: Vec<Binder>,
+    /// Where its forms come from, in the order of the text.
+    pub places: Vec<WordPlace>,
+    /// The forms of the file that read a ref, add to it and set it, as two moves, between which another fiber may come.
+    pub torn: Vec<usize>,
+}
+
+// What is seen at the statements of what has a name that begins here.
+fn top(limit: usize) -> Here {
+    let view = View {
+        scope: NONE,
+        uses: NONE,
+        limit,
+    };
+    Here {
+        view,
+        fiber: FiberName::Main,
+    }
+}
+
+// Leaves the statements of a model to write.
+fn plan_model(read: Reading, out: &mut Writing, model: &Model) -> Result<(), Stop> {
+    let here = top(model.name.start);
+    match out.said {
+        Some(_) => {
+            let at = first_of(read.forms, model.body).unwrap_or(0);
+            let order = out.fresh(b"order")?;
+            out.order = order;
+            out.then(Task::Open(Word::Ref, at))?;
+            out.then(Task::Bind(order, NameKind::Ref, BinderName::Hidden))?;
+            out.then(Task::Operand(Operand::Number(0)))?;
+            out.then(Task::Statements(model.body, false, here))?;
+            out.then(Task::Close(1))
+        }
+        None => { out.then(Task::Statements(model.body, false, here)) }
+    }
+}
+
+// A fiber that says a value.
+fn said_by(said: &Said) -> SaidBy {
+    SaidBy {
+        fiber: said.fiber,
+        value: said.value.get(),
+    }
+}
+
+// Keeps what a probe puts into a term.
+fn keep_probe(out: &mut Writing, probe: &Probe) {
+    match probe {
+        Probe::Nothing => {}
+        Probe::Watch(binder) => out.watched = Some(*binder),
+        Probe::Order(first, second) => {
+            let first = said_by(first);
+            let second = said_by(second);
+            out.said = Some((first, second));
+        }
+    }
+}
+
+// Writes the term of a model.
+fn write_model(read: Reading, out: &mut Writing, model: &Model) -> Result<(), Stop> {
+    plan_model(read, out, model)?;
+    write_all(read, out)
+}
+
+/// The term of a model of a source, with what a probe puts into it.
+///
+/// # Errors
+/// [`Refused::Fault`] where the model has a fault: the first one of its forms, in the order in which the term is
+/// written. [`Refused::NoMemory`] where memory ran out.
+pub fn translate(
+    alloc: Global,
+    source: &Source,
+    model: &Model,
+    probe: Probe,
+) -> Result<ModelTerm, Refused>
+    ensures short { IfOk result (λ t. vec_len t.text ≤ 65536) }
+    ensures binders { IfOk result (λ t. All (λ b. (b.start ≤ b.end) × (b.end ≤ vec_len t.text)) t.binders.items) }
+    ensures places { IfOk result (λ t. All (λ p. p.term < vec_len t.text) t.places.items) }
+{
+    let read = reading_of(source);
+    let mut out = Writing::new(alloc)?;
+    keep_probe(&mut out, &probe);
+    match write_model(read, &mut out, model) {
+        Ok(()) => finished(alloc, read, out, model),
+        Err(stop) => {
+            let name = span_of(model.name);
+            Err(refused(alloc, read, &out, source.prelude, name, stop))
+        }
+    }
+}
+
+// Whether all binders lie within so many bytes.
+fn are_within(binders: &[Binder], count: usize) -> bool
+    ensures { IsTrue result ↔ All (λ b. (b.start ≤ b.end) × (b.end ≤ count)) binders.now }
+{
+    binders
+        .iter()
+        .all(|binder| binder.start <= binder.end && binder.end <= count)
+}
+
+// Whether all places lie within so many bytes.
+fn are_places_within(places: &[WordPlace], count: usize) -> bool
+    ensures { IsTrue result ↔ All (λ p. p.term < count) places.now }
+{
+    places.iter().all(|place| place.term < count)
+}
+
+// The term that is written, where it is as long as a term may be at most, and its binders and places lie within it.
+fn finished(alloc: Global, read: Reading, out: Writing, model: &Model) -> Result<ModelTerm, Refused>
+    ensures short { IfOk result (λ t. vec_len t.text ≤ 65536) }
+    ensures binders { IfOk result (λ t. All (λ b. (b.start ≤ b.end) × (b.end ≤ vec_len t.text)) t.binders.items) }
+    ensures places { IfOk result (λ t. All (λ p. p.term < vec_len t.text) t.places.items) }
+{
+    let length = out.text.len();
+    if MOST_BYTES < length
+        || !are_within(out.binders.as_slice(), length)
+        || !are_places_within(out.places.as_slice(), length)
+    {
+        let stop = Stop::Limit(Limit::TooLong);
+        return Err(refused(alloc, read, &out, 0, span_of(model.name), stop));
+    }
+    Ok(term_of(out))
+}
+
+// The term that is written.
+fn term_of(out: Writing) -> ModelTerm
+    ensures text { result.text ≡ out.text }
+    ensures binders { result.binders ≡ out.binders }
+    ensures places { result.places ≡ out.places }
+{
+    ModelTerm {
+        text: out.text,
+        binders: out.binders,
+        places: out.places,
+        torn: out.torn,
+    }
+}

@@ -1,0 +1,112 @@
+//! Definitions are tried where they stand, so that their faults are told there.
+
+use crate::named::{ItemName, NamedItem};
+use crate::reading::{Reading, bytes_of, first_of};
+use crate::refused::Refused;
+use crate::scope::{FiberName, Handed, Here, Meaning, NONE, View};
+use crate::term::write_all;
+use crate::uses::{DefinedPart, PartKind, part_at, plan_body};
+use crate::wording::refused;
+use crate::writing::Writing;
+use crate::wrong::Stop;
+use model_forms::behind_first;
+use model_text::Definition;
+use std::alloc::Global;
+
+// How much work the trials of all definitions of a file may be.
+const MOST_WORK: usize = 1_000_000;
+
+// What a part of a definition means while that is tried: 0, a new name, or any term.
+fn tried_meaning(
+    read: Reading,
+    out: &mut Writing,
+    part: DefinedPart,
+    view: View,
+) -> Result<Meaning, Stop> {
+    match part.kind {
+        PartKind::Value => Ok(Meaning::Number(0)),
+        PartKind::Name(kind) => {
+            let name = out.fresh(bytes_of(read.text, part.name))?;
+            Ok(Meaning::Name(kind, name))
+        }
+        PartKind::Term => {
+            let number = out.handed.len();
+            out.handed.push(Handed {
+                form: 0,
+                names: part.names,
+                view,
+                any: true,
+            })?;
+            Ok(Meaning::Term(number))
+        }
+    }
+}
+
+// Writes the term of a definition, whose parts are anything of their kinds.
+fn write_definition(read: Reading, out: &mut Writing, definition: Definition) -> Result<(), Stop> {
+    let limit = definition.name.start;
+    let mut scope = NONE;
+    let mut parts = definition.parts;
+    for _ in 0..read.forms.len() {
+        let Some(at) = first_of(read.forms, parts) else {
+            break;
+        };
+        let part = part_at(read, at);
+        let view = View {
+            scope: NONE,
+            uses: NONE,
+            limit,
+        };
+        let meaning = tried_meaning(read, out, part, view)?;
+        scope = out.bind(scope, part.name, meaning)?;
+        parts = behind_first(read.forms, parts);
+    }
+    let view = View {
+        scope,
+        uses: NONE,
+        limit,
+    };
+    let here = Here {
+        view,
+        fiber: FiberName::Main,
+    };
+    plan_body(read, out, definition.body, here)?;
+    write_all(read, out)
+}
+
+// Tries one definition with so much work at most, and returns how much of it is left.
+fn try_definition(
+    alloc: Global,
+    read: Reading,
+    prelude: usize,
+    name: ItemName,
+    definition: Definition,
+    work: usize,
+) -> Result<usize, Refused> {
+    let mut out = Writing::new(alloc)?;
+    out.limit_work(work);
+    match write_definition(read, &mut out, definition) {
+        Ok(()) => Ok(out.work_left()),
+        Err(stop) => match stop {
+            Stop::Limit(_) => Ok(out.work_left()),
+            Stop::NoMemory => Err(Refused::NoMemory),
+            Stop::Wrong(_, _, _) => Err(refused(alloc, read, &out, prelude, name.name, stop)),
+        },
+    }
+}
+
+/// Tries each definition of a file, while the work for all isn't used up.
+pub(crate) fn try_definitions(alloc: Global, read: Reading, prelude: usize) -> Result<(), Refused> {
+    let mut work = MOST_WORK;
+    for name in read.named.names() {
+        match name.item {
+            NamedItem::Definition(definition) => {
+                if prelude <= name.name.start {
+                    work = try_definition(alloc, read, prelude, *name, definition, work)?;
+                }
+            }
+            NamedItem::Number(_) | NamedItem::Model => {}
+        }
+    }
+    Ok(())
+}

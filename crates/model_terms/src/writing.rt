@@ -1,0 +1,257 @@
+//! The term as far as it is written, and what is left to write.
+
+use crate::binder::{Binder, BinderName, NameKind, WordPlace};
+use crate::reading::bytes_of;
+use crate::scope::{Bound, Handed, Meaning, NONE, Operand, Use};
+use crate::spelling::Spellings;
+use crate::task::Task;
+use crate::wrong::{Limit, Span, Stop};
+use itoa::Buffer;
+use std::alloc::{AllocError, Global};
+use term_parse::{Word, spelling_of};
+
+/// How many bytes a term may have.
+pub(crate) const MOST_BYTES: usize = 65536;
+
+// How many brackets of a term may be open.
+const MOST_OPEN: usize = 100;
+
+// How many names may be looked at, and steps be made.
+const MOST_WORK: usize = 5_000_000;
+
+/// A fiber that says a value: the number of the form that spells the fiber's name, and the value.
+#[derive(Clone, Copy)]
+pub(crate) struct SaidBy {
+    pub(crate) fiber: usize,
+    pub(crate) value: i64,
+}
+
+/// A term as far as it is written.
+#[derive(Drop)]
+pub(crate) struct Writing {
+    pub(crate) text: Vec<u8>,
+    pub(crate) binders: Vec<Binder>,
+    pub(crate) places: Vec<WordPlace>,
+    pub(crate) torn: Vec<usize>,
+    /// The binder whose refs are watched.
+    pub(crate) watched: Option<BinderName>,
+    /// The two whose order is looked at.
+    pub(crate) said: Option<(SaidBy, SaidBy)>,
+    /// The name of the hidden ref that an order is kept in.
+    pub(crate) order: usize,
+    pub(crate) spellings: Spellings,
+    pub(crate) bounds: Vec<Bound>,
+    pub(crate) handed: Vec<Handed>,
+    pub(crate) uses: Vec<Use>,
+    /// What the step under way leaves to write, first what comes first.
+    pub(crate) plan: Vec<Task>,
+    /// What is left to write, last what comes first.
+    pub(crate) stack: Vec<Task>,
+    /// The values of the form under way.
+    pub(crate) values: Vec<Operand>,
+    /// The binders of the form under way.
+    pub(crate) made: Vec<Bound>,
+    /// How many `let`s are open around the form under way.
+    pub(crate) lets: usize,
+    open: usize,
+    work: usize,
+}
+
+impl Writing {
+    /// Nothing is written yet.
+    pub(crate) fn new(alloc: Global) -> Result<Writing, AllocError> {
+        let spellings = Spellings::new(alloc)?;
+        Ok(Writing {
+            text: Vec::new(alloc),
+            binders: Vec::new(alloc),
+            places: Vec::new(alloc),
+            torn: Vec::new(alloc),
+            watched: None,
+            said: None,
+            order: NONE,
+            spellings,
+            bounds: Vec::new(alloc),
+            handed: Vec::new(alloc),
+            uses: Vec::new(alloc),
+            plan: Vec::new(alloc),
+            stack: Vec::new(alloc),
+            values: Vec::new(alloc),
+            made: Vec::new(alloc),
+            lets: 0,
+            open: 0,
+            work: MOST_WORK,
+        })
+    }
+
+    /// Pays for so many looks at names, or steps.
+    pub(crate) fn pay(&mut self, count: usize) -> Result<(), Stop> {
+        match self.work.checked_sub(count) {
+            Some(left) => {
+                self.work = left;
+                Ok(())
+            }
+            None => Err(Stop::Limit(Limit::TooMuchWork)),
+        }
+    }
+
+    /// The limit on steps of a definition that is tried.
+    pub(crate) fn limit_work(&mut self, most: usize) {
+        self.work = self.work.min(most);
+    }
+
+    /// How much work is left.
+    pub(crate) fn work_left(&self) -> usize {
+        self.work
+    }
+
+    /// Puts what the step left onto what is left to write.
+    pub(crate) fn settle(&mut self) -> Result<(), Stop> {
+        let mut left = self.plan.len();
+        for _ in 0..self.plan.len() {
+            left = left.saturating_sub(1);
+            if let Some(task) = self.plan.get(left) {
+                self.stack.push(*task)?;
+            }
+        }
+        self.plan.clear();
+        Ok(())
+    }
+
+    /// Leaves a task.
+    pub(crate) fn then(&mut self, task: Task) -> Result<(), Stop> {
+        self.plan.push(task)?;
+        Ok(())
+    }
+
+    /// A new name.
+    pub(crate) fn fresh(&mut self, name: &[u8]) -> Result<usize, Stop> {
+        let number = self.spellings.fresh(name)?;
+        Ok(number)
+    }
+
+    /// A scope with one more name.
+    pub(crate) fn bind(
+        &mut self,
+        scope: usize,
+        name: Span,
+        meaning: Meaning,
+    ) -> Result<usize, Stop> {
+        self.pay(1)?;
+        let number = self.bounds.len();
+        self.bounds.push(Bound {
+            name,
+            meaning,
+            next: scope,
+        })?;
+        Ok(number)
+    }
+
+    /// What this spelling means in a scope, if it has a binder there.
+    pub(crate) fn innermost(
+        &mut self,
+        text: &[u8],
+        spelled: &[u8],
+        scope: usize,
+    ) -> Result<Option<Meaning>, Stop> {
+        let mut at = scope;
+        let mut looked: usize = 1;
+        let mut found = None;
+        for _ in 0..self.bounds.len() {
+            let Some(bound) = self.bounds.get(at) else {
+                break;
+            };
+            if bytes_of(text, bound.name) == spelled {
+                found = Some(bound.meaning);
+                break;
+            }
+            looked = looked.saturating_add(1);
+            at = bound.next;
+        }
+        self.pay(looked)?;
+        Ok(found)
+    }
+
+    // Writes bytes, where the term may have so many.
+    fn write(&mut self, bytes: &[u8]) -> Result<(), Stop> {
+        if MOST_BYTES < self.text.len().saturating_add(bytes.len()) {
+            return Err(Stop::Limit(Limit::TooLong));
+        }
+        self.text.extend_from_slice(bytes)?;
+        Ok(())
+    }
+
+    // Writes a space, but at the beginning.
+    fn write_space(&mut self) -> Result<(), Stop> {
+        if self.text.is_empty() {
+            return Ok(());
+        }
+        self.write(b" ")
+    }
+
+    /// Writes an opening bracket and its word, for a form.
+    pub(crate) fn write_open(&mut self, word: Word, form: usize) -> Result<(), Stop> {
+        if MOST_OPEN <= self.open {
+            return Err(Stop::Limit(Limit::TooDeep));
+        }
+        self.open = self.open.saturating_add(1);
+        self.write_space()?;
+        let term = self.text.len();
+        self.places.push(WordPlace { term, form })?;
+        self.write(b"(")?;
+        self.write(spelling_of(word))
+    }
+
+    /// Writes closing brackets.
+    pub(crate) fn write_close(&mut self, count: usize) -> Result<(), Stop> {
+        self.open = self.open.saturating_sub(count);
+        for _ in 0..count {
+            self.write(b")")?;
+        }
+        Ok(())
+    }
+
+    // Writes the name with this number.
+    fn write_name(&mut self, number: usize) -> Result<(), Stop> {
+        self.write_space()?;
+        let spelled = self.spellings.spelled(number);
+        if MOST_BYTES < self.text.len().saturating_add(spelled.len()) {
+            return Err(Stop::Limit(Limit::TooLong));
+        }
+        self.text.extend_from_slice(spelled)?;
+        Ok(())
+    }
+
+    // Writes a number.
+    fn write_number(&mut self, number: i64) -> Result<(), Stop> {
+        self.write_space()?;
+        let mut buffer = Buffer::new();
+        self.write(buffer.format(number).as_bytes())
+    }
+
+    /// Writes a value.
+    pub(crate) fn write_operand(&mut self, operand: Operand) -> Result<(), Stop> {
+        match operand {
+            Operand::Number(number) => self.write_number(number),
+            Operand::Name(number) => self.write_name(number),
+        }
+    }
+
+    /// Writes a binder.
+    pub(crate) fn write_binder(
+        &mut self,
+        number: usize,
+        kind: NameKind,
+        name: BinderName,
+    ) -> Result<(), Stop> {
+        self.write_name(number)?;
+        let end = self.text.len();
+        let start = end.saturating_sub(self.spellings.spelled(number).len());
+        self.binders.push(Binder {
+            kind,
+            start,
+            end,
+            name,
+        })?;
+        Ok(())
+    }
+}
