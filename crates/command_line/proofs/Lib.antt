@@ -4,3 +4,4 @@ pub mod RecordLemmas
 pub mod RunLemmas
 pub mod WorkerLemmas
 pub mod CompareLemmas
+pub mod TestLemmas

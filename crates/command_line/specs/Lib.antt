@@ -8,5 +8,6 @@ pub mod Replays
 pub mod RunReasons
 pub mod Runs
 pub mod Samplings
+pub mod Tests
 pub mod Workers
 pub mod Comparings

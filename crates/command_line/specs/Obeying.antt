@@ -6,13 +6,14 @@ use Rattle.text_io.specs.declared.status.Status.{Status}
 use Rattle.text_io.specs.Devices.{Devices}
 use Rattle.command_words.specs.declared.requests.Request.{Request}
 use Rattle.command_words.specs.declared.requests.Request.TheVariants.{Check, Show, Replay, Explore, Run, Sample}
-use Rattle.command_words.specs.declared.requests.Request.TheVariants.{Compare}
+use Rattle.command_words.specs.declared.requests.Request.TheVariants.{Compare, Test, Terms}
 use Rattle.command_line.specs.Checks.{ObeysCheck, ObeysShow}
 use Rattle.command_line.specs.Comparings.{ObeysCompare}
 use Rattle.command_line.specs.Explorings.{ObeysExplore}
 use Rattle.command_line.specs.Replays.{ObeysReplay}
 use Rattle.command_line.specs.Runs.{ObeysRun}
 use Rattle.command_line.specs.Samplings.{ObeysSample}
+use Rattle.command_line.specs.Tests.{ObeysTest}
 use Rattle.command_words.specs.Telling.{LacksMemory, TellsKind, TellsWrong}
 use Rattle.command_words.specs.Words.{program}
 use Rattle.command_words.specs.Requests.{GivesRequest}
@@ -27,6 +28,8 @@ ObeysRequest (Run running) before after status = ObeysRun running before after s
 ObeysRequest (Sample sampling) before after status = ObeysSample sampling before after status
 ObeysRequest (Compare comparing) before after status = (after.input ≡ before.input) ×
     ObeysCompare comparing.order before.out after.out before.err after.err status
+ObeysRequest (Test testing) before after status = ObeysTest before after status
+ObeysRequest (Terms translating) before after status = ObeysTest before after status
 
 -- Nothing is wrong with the words, and the request that they give is obeyed.
 pub record RunsRequest (words : List Text) (before after : Devices) (status : Status) : Type 0 where

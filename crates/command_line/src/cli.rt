@@ -1,10 +1,10 @@
 //! One command line, over devices.
 
-ghost use Rattle.std.specs.Prelude.{◌≡◌, ◌<◌, ◌^◌, false, map};
+ghost use Rattle.std.specs.Prelude.{◌≡◌, ◌⊎◌, ◌<◌, ◌^◌, false, map};
 ghost use Rattle.clap.specs.Words.{kind_of};
 ghost use Rattle.command_line.specs.Obeying.{ObeysRequest, Runs};
 ghost use Rattle.command_words.specs.Requests.{HasScheduleInInput, TakesSchedule};
-ghost use Rattle.command_words.specs.Telling.{TellsKind};
+ghost use Rattle.command_words.specs.Telling.{LacksMemory, TellsKind, TellsWrong};
 ghost use Rattle.text_io.specs.Devices.{devices};
 
 use crate::check_order::{obey_check, obey_show};
@@ -13,9 +13,10 @@ use crate::explore_order::obey_explore;
 use crate::replay_order::obey_replay;
 use crate::run_order::obey_run;
 use crate::sample_order::obey_sample;
-use clap::Error;
+use crate::test_order::{obey_terms, obey_test};
 use clap::error::ErrorKind;
-use command_words::{Request, all_words, refuse_words, request_of};
+use clap::{ArgMatches, Error};
+use command_words::{Request, all_words, no_request_reason, refuse_words, request_of};
 use outcome_trace::{Status, TextFault, TextIn, TextOut, tell_fault, write_text};
 use std::alloc::Global;
 use std::convert::AsStr;
@@ -23,14 +24,6 @@ use std::rt::Files;
 use std::sync::Wait;
 use std::thread::Threads;
 use std::time::Clock;
-
-// What is told where the words give no request. `clap` looks at each of them but the outcomes, and not at
-// whether flags go together.
-const NO_REQUEST: &str = "these words ask for nothing: flags don't go together, of which these do:
-  replay   one of '--timeline', '--svg' and '--json', and '--explain'
-  explore  one of '--timeline' and '--json', and '--explain'; or '--progress' alone
-  run      '--record', and '--timeline' beside it; or '--json' alone; or '--explain' alone
-or an outcome of '--want <OUTCOME>' is none of 'succeeded V', 'errored C', 'canceled' and 'unended'";
 
 // Tells help or the version that was asked for, or what is wrong with the words, in `clap`'s words.
 // Where help can't be written, that is told as any other fault.
@@ -86,6 +79,20 @@ where
         Request::Run(running) => obey_run(rt, rt.alloc(), running, input, out, err),
         Request::Sample(sampling) => obey_sample(rt.alloc(), sampling, input, out, err),
         Request::Compare(comparing) => obey_compare(rt, rt.alloc(), comparing, out, err),
+        Request::Test(testing) => obey_test(rt, rt.alloc(), testing, out, err),
+        Request::Terms(translating) => obey_terms(rt, rt.alloc(), translating, out, err),
+    }
+}
+
+// Tells why words give no request.
+fn refuse_request<E: TextOut>(alloc: Global, matches: &ArgMatches<'_>, err: &mut E) -> Status
+    requires { (E.seen err.old).failed ≡ false }
+    ensures { TellsWrong (E.seen err.old) (E.seen err.new) result ⊎
+        LacksMemory (E.seen err.old) (E.seen err.new) result }
+{
+    match no_request_reason(alloc, matches) {
+        Ok(reason) => refuse_words(alloc, reason.as_str(), err),
+        Err(_) => tell_fault(TextFault::NoMemory, err),
     }
 }
 
@@ -127,7 +134,7 @@ where
     match all.try_get_matches_from(words) {
         Ok(matches) => match request_of(alloc, &matches) {
             Ok(Some(request)) => obey_request(rt, request, input, out, err),
-            Ok(None) => refuse_words(alloc, NO_REQUEST, err),
+            Ok(None) => refuse_request(alloc, &matches, err),
             Err(_) => tell_fault(TextFault::NoMemory, err),
         },
         Err(error) => usage(alloc, &error, out, err),

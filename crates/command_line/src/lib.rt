@@ -18,6 +18,7 @@ mod run_order;
 mod run_reasons;
 mod sample_order;
 mod spelling;
+mod test_order;
 
 pub use cli::command;
 pub use command_words::refuse_words;

@@ -105,6 +105,14 @@ const RUN: &[(&str, &[&str], &str, u8, &str, &str)] = &[
         "fiber 0 waits without end\n",
     ),
     (
+        "moves behind the last one that shows are made before it is told",
+        &["fiber_cli", "run", "--explain", "--workers", "1"],
+        "(seq (say 1) (cede) (cede) (never))",
+        3,
+        "fiber 0 unended: say 1\n",
+        "fiber 0 waits without end\n",
+    ),
+    (
         "of a run whose fibers have ended nothing is told",
         &["fiber_cli", "run", "--explain"],
         "(raise 3)",

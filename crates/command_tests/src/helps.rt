@@ -16,11 +16,13 @@ const HELP: &[(&[&str], &str)] = &[
         \n  run      Runs the program on work-stealing threads, and prints its report\
         \n  sample   Draws schedules at random, and counts the reports and faults\
         \n  compare  Compares how two programs can end under every schedule\
+        \n  test     Explores the models of files, and checks what they claim\
+        \n  terms    Prints the terms of the models of a file\
         \n  help     Print this message or the help of the given subcommand(s)\
         \n\nOptions:\
         \n  -h, --help     Print help\
         \n  -V, --version  Print version\
-        \n\nThe program's text is read from standard input; compare reads two files.\
+        \n\nThe program's text is read from standard input; compare, test and terms read files.\
         \n\nExamples; the first lists every outcome of a race:\
         \n  echo '(race (pure 1) (pure 2))' | fiber_cli explore\
         \n  fiber_cli run < FILE\
@@ -52,6 +54,10 @@ const HELP: &[(&[&str], &str)] = &[
         \n   0  both programs have the same ends\
         \n   1  one of them has an end that the other hasn't\
         \n   3  a bound was reached, and what was found doesn't decide\
+        \n\nExit status of test, where it is not 64, 65 or 70:\
+        \n   0  every model passed\
+        \n   1  a model failed, or there was none to test\
+        \n   3  none failed, and one is undecided\
         \n\nExit status of sample, where it is not 64, 65 or 70:\
         \n   0  nothing unwanted was found\
         \n   1  something unwanted was found; without --want, a fault\
@@ -283,6 +289,58 @@ const HELP: &[(&[&str], &str)] = &[
         \n  64  the words are wrong\
         \n  65  a text is refused\
         \n  70  a file or a device failed, or memory ran out\
+        \n",
+    ),
+    (
+        &["fiber_cli", "test", "--help"],
+        "Explores the models of files, and checks what they claim\
+        \n\nUsage: fiber_cli test [OPTIONS] <FILE>...\
+        \n\nArguments:\
+        \n  <FILE>...  The model files\
+        \n\nOptions:\
+        \n      --filter <TEXT>   Test only the models whose names contain this text\
+        \n      --junit <FILE>    Write a report for CI to this file, in the format of JUnit\
+        \n      --worlds <N>      How many worlds are kept of a model that sets no bound of its own,\
+        \n                        1 to 100000000 [default: 1000000]\
+        \n      --memory <BYTES>  At how many bytes of memory the search stops, by an estimate: 1 to\
+        \n                        10000000000, and behind it k, M or G for 1024, 1024^2 or 1024^3\
+        \n                        [default: 4G]\
+        \n      --list            Print the models with their places, and explore none\
+        \n      --json            Print the answer as JSON, on one line\
+        \n      --tap             Print the answer in the Test Anything Protocol\
+        \n  -h, --help            Print help\
+        \n\nA model file has comments, definitions and models; each model has claims, and a program that is\
+        \nexplored under every schedule. All faults of all files are told before any model is explored.\
+        \n\nExamples:\
+        \n  fiber_cli test models/*.fm\
+        \n  fiber_cli test --filter mutex --junit report.xml models/*.fm\
+        \n\nA model that fails is printed with its claim, what was found, its schedule and its timeline.\
+        \n\nExit status:\
+        \n   0  every model passed\
+        \n   1  a model failed, or there was none to test\
+        \n   3  none failed, and one is undecided since a bound was reached\
+        \n  64  the words are wrong\
+        \n  65  a file has a fault\
+        \n  70  a file or a device failed, or memory ran out\
+        \n",
+    ),
+    (
+        &["fiber_cli", "terms", "--help"],
+        "Prints the terms of the models of a file\
+        \n\nUsage: fiber_cli terms <FILE>\
+        \n\nArguments:\
+        \n  <FILE>  The model file\
+        \n\nOptions:\
+        \n  -h, --help  Print help\
+        \n\nEach term is on one line behind a comment with the name of its model. Every other subcommand\
+        \ntakes such a term.\
+        \n\nExample:\
+        \n  fiber_cli terms models/mutex.fm\
+        \n\nExit status:\
+        \n   0  the terms were printed\
+        \n  64  the words are wrong\
+        \n  65  the file has a fault\
+        \n  70  the file or a device failed, or memory ran out\
         \n",
     ),
 ];

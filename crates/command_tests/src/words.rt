@@ -11,42 +11,106 @@ use std::test::Fail;
 use std::thread::Threads;
 use std::time::Clock;
 
-// What is told of an outcome that is wanted and is none, and of flags that don't go together.
-const NO_REQUEST: &str =
-    "error: these words ask for nothing: flags don't go together, of which these do:\
-    \n  replay   one of '--timeline', '--svg' and '--json', and '--explain'\
-    \n  explore  one of '--timeline' and '--json', and '--explain'; or '--progress' alone\
-    \n  run      '--record', and '--timeline' beside it; or '--json' alone; or '--explain' alone\
-    \nor an outcome of '--want <OUTCOME>' is none of 'succeeded V', 'errored C', 'canceled' and \
-    'unended'\
-    \n\nUsage: fiber_cli <COMMAND>\
+// What stands behind a reason why words give no request.
+const BEHIND_REASON: &str = "\n\nUsage: fiber_cli <COMMAND>\
     \n\nFor more information, try '--help'.\
     \n";
 
-// Words whose flags don't go together.
-const APART: &[&[&str]] = &[
-    &["fiber_cli", "replay", "--svg", "--schedule", "0", "--json"],
-    &["fiber_cli", "replay", "--timeline", "--svg", "--schedule=0"],
-    &[
-        "fiber_cli",
-        "replay",
-        "--schedule=0",
-        "--json",
-        "--timeline",
-    ],
-    &["fiber_cli", "explore", "--progress", "--explain"],
-    &["fiber_cli", "explore", "--timeline", "--progress"],
-    &["fiber_cli", "explore", "--progress", "--json"],
-    &["fiber_cli", "explore", "--json", "--timeline"],
-    &["fiber_cli", "explore", "--json", "--explain", "--timeline"],
+// Words with two flags that cannot be used together, and the two.
+const APART: &[(&[&str], &str, &str)] = &[
+    (
+        &["fiber_cli", "replay", "--svg", "--schedule", "0", "--json"],
+        "svg",
+        "json",
+    ),
+    (
+        &["fiber_cli", "replay", "--timeline", "--svg", "--schedule=0"],
+        "timeline",
+        "svg",
+    ),
+    (
+        &[
+            "fiber_cli",
+            "replay",
+            "--schedule=0",
+            "--json",
+            "--timeline",
+        ],
+        "timeline",
+        "json",
+    ),
+    (
+        &["fiber_cli", "explore", "--progress", "--explain"],
+        "progress",
+        "explain",
+    ),
+    (
+        &["fiber_cli", "explore", "--timeline", "--progress"],
+        "progress",
+        "timeline",
+    ),
+    (
+        &["fiber_cli", "explore", "--progress", "--json"],
+        "progress",
+        "json",
+    ),
+    (
+        &["fiber_cli", "explore", "--json", "--timeline"],
+        "timeline",
+        "json",
+    ),
+    (
+        &["fiber_cli", "explore", "--json", "--explain", "--timeline"],
+        "timeline",
+        "json",
+    ),
+    (
+        &["fiber_cli", "run", "--record", "--json"],
+        "record",
+        "json",
+    ),
+    (
+        &["fiber_cli", "run", "--explain", "--record"],
+        "record",
+        "explain",
+    ),
+    (
+        &["fiber_cli", "run", "--json", "--explain"],
+        "json",
+        "explain",
+    ),
+    (
+        &["fiber_cli", "run", "--record", "--timeline", "--json"],
+        "record",
+        "json",
+    ),
+    (
+        &["fiber_cli", "run", "--explain", "--timeline", "--record"],
+        "record",
+        "explain",
+    ),
+    (
+        &["fiber_cli", "test", "--list", "--json", "models.fm"],
+        "list",
+        "json",
+    ),
+    (
+        &["fiber_cli", "test", "--tap", "models.fm", "--list"],
+        "list",
+        "tap",
+    ),
+    (
+        &["fiber_cli", "test", "models.fm", "--json", "--tap"],
+        "json",
+        "tap",
+    ),
+];
+
+// Words with a timeline of a run that is not recorded.
+const UNRECORDED: &[&[&str]] = &[
     &["fiber_cli", "run", "--timeline"],
-    &["fiber_cli", "run", "--record", "--json"],
-    &["fiber_cli", "run", "--explain", "--record"],
     &["fiber_cli", "run", "--json", "--timeline"],
     &["fiber_cli", "run", "--explain", "--timeline"],
-    &["fiber_cli", "run", "--json", "--explain"],
-    &["fiber_cli", "run", "--record", "--timeline", "--json"],
-    &["fiber_cli", "run", "--explain", "--timeline", "--record"],
 ];
 
 // Words that are refused with status 64, before the text is read: the rule, the words, and what is
@@ -85,7 +149,7 @@ const WRONG: &[(&str, &[&str], &str)] = &[
         "a subcommand is required",
         &["fiber_cli"],
         "error: 'fiber_cli' requires a subcommand but one was not provided\
-        \n  [subcommands: check, show, replay, explore, run, sample, compare, help]\
+        \n  [subcommands: check, show, replay, explore, run, sample, compare, test, terms, help]\
         \n\nUsage: fiber_cli <COMMAND>\
         \n\nFor more information, try '--help'.\
         \n",
@@ -137,17 +201,26 @@ const WRONG: &[(&str, &[&str], &str)] = &[
     (
         "no such outcome",
         &["fiber_cli", "explore", "--want", "done"],
-        NO_REQUEST,
+        "error: invalid value 'done' for '--want <OUTCOME>': expected 'succeeded V', 'errored C', 'canceled' or 'unended'\
+        \n\nUsage: fiber_cli <COMMAND>\
+        \n\nFor more information, try '--help'.\
+        \n",
     ),
     (
         "an outcome without its value",
         &["fiber_cli", "explore", "--want", "succeeded"],
-        NO_REQUEST,
+        "error: invalid value 'succeeded' for '--want <OUTCOME>': expected 'succeeded V', 'errored C', 'canceled' or 'unended'\
+        \n\nUsage: fiber_cli <COMMAND>\
+        \n\nFor more information, try '--help'.\
+        \n",
     ),
     (
         "a zero in front of an outcome's value",
         &["fiber_cli", "explore", "--want", "succeeded 07"],
-        NO_REQUEST,
+        "error: invalid value 'succeeded 07' for '--want <OUTCOME>': expected 'succeeded V', 'errored C', 'canceled' or 'unended'\
+        \n\nUsage: fiber_cli <COMMAND>\
+        \n\nFor more information, try '--help'.\
+        \n",
     ),
     (
         "an outcome's value that is out of range",
@@ -157,7 +230,10 @@ const WRONG: &[(&str, &[&str], &str)] = &[
             "--want",
             "errored 4611686018427387904",
         ],
-        NO_REQUEST,
+        "error: invalid value 'errored 4611686018427387904' for '--want <OUTCOME>': expected 'succeeded V', 'errored C', 'canceled' or 'unended'\
+        \n\nUsage: fiber_cli <COMMAND>\
+        \n\nFor more information, try '--help'.\
+        \n",
     ),
     (
         "one wrong outcome behind others",
@@ -171,7 +247,10 @@ const WRONG: &[(&str, &[&str], &str)] = &[
             "--want",
             "Canceled",
         ],
-        NO_REQUEST,
+        "error: invalid value 'Canceled' for '--want <OUTCOME>': expected 'succeeded V', 'errored C', 'canceled' or 'unended'\
+        \n\nUsage: fiber_cli <COMMAND>\
+        \n\nFor more information, try '--help'.\
+        \n",
     ),
     (
         "sample takes no schedule",
@@ -380,7 +459,12 @@ fn takes_bytes_of_memory(rt: HostRuntime) -> Result<(), AllocError> {
         expect_number(&rt, EXPLORE, ("memory", *text), 0, EXPLORED, "")?;
     }
     for text in NO_MEMORY {
-        expect_number(&rt, EXPLORE, ("memory", *text), 64, "", NO_REQUEST)?;
+        let reason = format!(in rt.alloc();
+            "invalid value '{text}' for '--memory <BYTES>': \
+            expected 1 to 10000000000, and behind it nothing, k, M or G"
+        )?;
+        let err = refusal(&rt, reason.as_str())?;
+        expect_number(&rt, EXPLORE, ("memory", *text), 64, "", err.as_str())?;
     }
     for text in ["1", "1649", "1k"] {
         expect_number(&rt, EXPLORE, ("memory", text), 3, STOPPED, "")?;
@@ -396,10 +480,24 @@ fn tells_wrong_words(rt: HostRuntime) {
 }
 
 #[test]
-fn tells_flags_that_do_not_go_together(rt: HostRuntime) {
-    for words in APART {
-        expect(&rt, "flags apart", words, "(pure 7)", 64, "", NO_REQUEST);
+fn tells_flags_that_cannot_be_used_together(rt: HostRuntime) -> Result<(), AllocError> {
+    for (words, first, second) in APART {
+        let reason = format!(in rt.alloc();
+            "the argument '--{first}' cannot be used with '--{second}'"
+        )?;
+        let err = refusal(&rt, reason.as_str())?;
+        expect(&rt, "flags apart", words, "(pure 7)", 64, "", err.as_str());
     }
+    let err = refusal(&rt, "the argument '--timeline' needs '--record'")?;
+    for words in UNRECORDED {
+        expect(&rt, "no record", words, "(pure 7)", 64, "", err.as_str());
+    }
+    Ok(())
+}
+
+// What is told of words that give no request, for this reason.
+fn refusal<R: AllocGlobal>(rt: &R, reason: &str) -> Result<String, AllocError> {
+    format!(in rt.alloc(); "error: {reason}{BEHIND_REASON}")
 }
 
 // Runs a command with an option that takes a number, and compares what comes of it.

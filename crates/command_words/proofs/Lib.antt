@@ -1,5 +1,6 @@
 pub mod FormLemmas
 pub mod RangeLemmas
+pub mod TestLemmas
 pub mod WantLemmas
 pub mod WordLemmas
 pub mod UnitLemmas

@@ -7,6 +7,8 @@ use Rattle.command_words.specs.declared.replay.AnswerForm.{AnswerForm}
 use Rattle.command_words.specs.declared.replay.AnswerForm.TheVariants.{Report, Timeline, Picture, Json}
 use Rattle.command_words.specs.declared.running.RunForm.{RunForm}
 use Rattle.command_words.specs.declared.running.RunForm.TheVariants as runs
+use Rattle.command_words.specs.declared.testing.TestForm.{TestForm}
+use Rattle.command_words.specs.declared.testing.TestForm.TheVariants as tests
 
 -- the flag stands in the words
 abbrev pub IsGiven : Text → List Row → Type 0
@@ -66,3 +68,14 @@ SaysRunForm options runs.Json false =
     IsLeftOut (codes "record") options × IsLeftOut (codes "timeline") options × IsGiven (codes "json") options ×
     IsLeftOut (codes "explain") options
 SaysRunForm options runs.Json true = ⊥
+
+-- the form that the options of `test` say: that of the one flag of these three that is given, or a report
+abbrev pub SaysTestForm : List Row → TestForm → Type 0
+SaysTestForm options tests.Report =
+    IsLeftOut (codes "list") options × IsLeftOut (codes "json") options × IsLeftOut (codes "tap") options
+SaysTestForm options tests.List =
+    IsGiven (codes "list") options × IsLeftOut (codes "json") options × IsLeftOut (codes "tap") options
+SaysTestForm options tests.Json =
+    IsLeftOut (codes "list") options × IsGiven (codes "json") options × IsLeftOut (codes "tap") options
+SaysTestForm options tests.Tap =
+    IsLeftOut (codes "list") options × IsLeftOut (codes "json") options × IsGiven (codes "tap") options

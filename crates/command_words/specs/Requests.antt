@@ -1,5 +1,5 @@
 -- The request that the words of a command line give.
-use Rattle.std.specs.Prelude.{◌≡◌, ◌≤◌, ℕ, List, [], map, Option, Some, None, codes}
+use Rattle.std.specs.Prelude.{◌≡◌, ◌≤◌, ℕ, List, [], map, Option, Some, None, codes, option_map}
 use Rattle.std.specs.List.{All}
 use Rattle.std.specs.Option.{unwrap_or}
 use Rattle.clap.specs.Words.{Row, Text, all_of, first_of, subcommand_of}
@@ -19,14 +19,17 @@ use Rattle.command_words.specs.declared.ranges.NumberRange.{NumberRange}
 use Rattle.command_words.specs.declared.replay.Replay.{Replay as ReplayFields}
 use Rattle.command_words.specs.declared.requests.Request.{Request}
 use Rattle.command_words.specs.declared.requests.Request.TheVariants.{Check, Show, Replay, Explore, Run, Sample}
-use Rattle.command_words.specs.declared.requests.Request.TheVariants.{Compare}
+use Rattle.command_words.specs.declared.requests.Request.TheVariants.{Compare, Test, Terms}
 use Rattle.command_words.specs.declared.running.Running.{Running}
 use Rattle.command_words.specs.declared.sampling.Sampling.{Sampling}
+use Rattle.command_words.specs.declared.testing.Testing.{Testing}
+use Rattle.command_words.specs.declared.testing.Translating.{Translating}
 use Rattle.command_words.specs.Memory.{SaysMemory}
 use Rattle.command_words.specs.Numbers.{SaysNumber}
 use Rattle.command_words.specs.Flags.{IsGiven, IsLeftOut, SaysExploreForm, SaysFlag, SaysForm, SaysRunForm}
+use Rattle.command_words.specs.Flags.{SaysTestForm}
 use Rattle.command_words.specs.Words.{band_range, budget_range, count_range, entries_range, few_range, moves_range}
-use Rattle.command_words.specs.Words.{program, seed_range, times_range, workers_range, worlds_range}
+use Rattle.command_words.specs.Words.{model_worlds_range, program, seed_range, times_range, workers_range, worlds_range}
 
 -- the limits that the options of `replay`, of `explore`, of `run` or of `sample` say, with this range of fibers, refs
 -- and deferreds
@@ -112,6 +115,19 @@ pub record SaysComparing (options : List Row) (comparing : Comparing) : Type 0 w
   pub second : first_of (codes "second") options ≡ Some comparing.second.now
   pub order : SaysCompare options comparing.order
 
+-- the test of model files that the options of `test` say
+pub record SaysTesting (options : List Row) (testing : Testing) : Type 0 where
+  pub files_are : map (λ s. s.now) testing.files.items ≡ texts_said (codes "files") options
+  pub filter_is : option_map (λ s. s.now) testing.filter ≡ first_of (codes "filter") options
+  pub junit_is : option_map (λ s. s.now) testing.junit ≡ first_of (codes "junit") options
+  pub worlds_are : SaysNumber model_worlds_range (first_of (codes "worlds") options) testing.worlds
+  pub memory_is : SaysMemory (first_of (codes "memory") options) testing.memory
+  pub form_is : SaysTestForm options testing.form
+
+-- the translation of a model file that the options of `terms` say
+pub record SaysTranslating (options : List Row) (translating : Translating) : Type 0 where
+  pub file_is : first_of (codes "file") options ≡ Some translating.file.now
+
 -- the request that a subcommand with its options says
 abbrev pub Says : Text × List Row → Request → Type 0
 Says said (Check checking) =
@@ -123,6 +139,8 @@ Says said (Explore exploring) = (said.0 ≡ codes "explore") × SaysExploring sa
 Says said (Run running) = (said.0 ≡ codes "run") × SaysRunning said.1 running
 Says said (Sample sampling) = (said.0 ≡ codes "sample") × SaysSampling said.1 sampling
 Says said (Compare comparing) = (said.0 ≡ codes "compare") × SaysComparing said.1 comparing
+Says said (Test testing) = (said.0 ≡ codes "test") × SaysTesting said.1 testing
+Says said (Terms translating) = (said.0 ≡ codes "terms") × SaysTranslating said.1 translating
 
 -- the request of the words, where a subcommand with its options stands in them that says one
 abbrev pub GivesRequest : Option (Text × List Row) → Option Request → Type 0
@@ -140,6 +158,8 @@ TakesSchedule (Explore exploring) = ⊥
 TakesSchedule (Run running) = ⊥
 TakesSchedule (Sample sampling) = ⊥
 TakesSchedule (Compare comparing) = ⊥
+TakesSchedule (Test testing) = ⊥
+TakesSchedule (Terms translating) = ⊥
 
 -- the words ask for a schedule that comes in the input
 pub record HasScheduleInInput (words : List Text) : Type 0 where

@@ -34,6 +34,10 @@ moves_range = record { least = 1; most = 1000000; usual = 100000 }
 abbrev pub worlds_range : NumberRange
 worlds_range = record { least = 1; most = 100000000; usual = 10000000 }
 
+-- of worlds that are kept of a model that sets no bound of its own
+abbrev pub model_worlds_range : NumberRange
+model_worlds_range = record { least = 1; most = 100000000; usual = 1000000 }
+
 -- before the unit of the bytes at which an exploration stops; the usual number is of bytes
 abbrev pub memory_range : NumberRange
 memory_range = record { least = 1; most = 10000000000; usual = 4294967296 }
@@ -88,6 +92,22 @@ file_argument id = record (new_rule id) {
   value_names = 1;
   action = Some Set;
   required = true;
+}
+
+-- the paths of files, at least one
+abbrev pub files_argument : Rule
+files_argument = record (new_rule (codes "files")) {
+  value_names = 1;
+  action = Some Append;
+  required = true;
+}
+
+-- an option that takes a text
+abbrev pub text_option : Text → Rule
+text_option id = record (new_rule id) {
+  long = Some id;
+  value_names = 1;
+  action = Some Set;
 }
 
 abbrev pub want_option : Rule
@@ -192,19 +212,43 @@ compare_options =
 abbrev pub compare_command : App
 compare_command = with_rule (with_rule compare_options (flag (codes "all"))) (flag (codes "json"))
 
+-- `test` with its files, and which models of them
+abbrev pub test_files : App
+test_files =
+    with_rule (with_rule (with_rule (new_app (codes "test")) files_argument)
+    (text_option (codes "filter")))
+    (text_option (codes "junit"))
+
+-- `test` without its flags
+abbrev pub test_bounds : App
+test_bounds = with_rule (with_rule test_files (number_option (codes "worlds") model_worlds_range)) memory_option
+
+-- with the flags that ask for another form of a test than a report
+abbrev pub with_test_forms : App → App
+with_test_forms app =
+    with_rule (with_rule (with_rule app (flag (codes "list"))) (flag (codes "json"))) (flag (codes "tap"))
+
+abbrev pub test_command : App
+test_command = with_test_forms test_bounds
+
+abbrev pub terms_command : App
+terms_command = with_rule (new_app (codes "terms")) (file_argument (codes "file"))
+
 -- the command, which wants a subcommand, and tells its version
 abbrev pub bare_program : App
 bare_program = on_top (λ s. record s { subcommand_required = true; has_version = true }) (new_app (codes "fiber_cli"))
 
--- with its seven subcommands
+-- with its nine subcommands
 abbrev pub program : App
 program =
     with_subcommand (with_subcommand (with_subcommand (with_subcommand (with_subcommand
-    (with_subcommand (with_subcommand bare_program
+    (with_subcommand (with_subcommand (with_subcommand (with_subcommand bare_program
     check_command.top)
     show_command.top)
     replay_command.top)
     explore_command.top)
     run_command.top)
     sample_command.top)
-    compare_command.top
+    compare_command.top)
+    test_command.top)
+    terms_command.top

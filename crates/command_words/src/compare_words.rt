@@ -11,8 +11,8 @@ use crate::words::{memory_option, new_command, number_option, with_flag, with_li
 use clap::{Arg, ArgAction, Command};
 use std::alloc::{AllocError, Global};
 
-// The path of a file, which must be given.
-fn file_argument<'a>(alloc: Global, name: &'a str, help: &'a str) -> Arg<'a>
+/// The path of a file, which must be given.
+pub(crate) fn file_argument<'a>(alloc: Global, name: &'a str, help: &'a str) -> Arg<'a>
     ensures rule { rule_of result ≡ file_argument name.entry.now }
     ensures local { result.global ≡ false }
 {

@@ -10,7 +10,7 @@ pub struct CommandHelp<'a> {
 /// The program itself, with the legend of the marks.
 pub const PROGRAM: CommandHelp<'static> = CommandHelp {
     about: "Runs effect programs on fibers",
-    after: "The program's text is read from standard input; compare reads two files.
+    after: "The program's text is read from standard input; compare, test and terms read files.
 
 Examples; the first lists every outcome of a race:
   echo '(race (pure 1) (pure 2))' | fiber_cli explore
@@ -47,6 +47,11 @@ Exit status of compare, where it is not 64, 65 or 70:
    0  both programs have the same ends
    1  one of them has an end that the other hasn't
    3  a bound was reached, and what was found doesn't decide
+
+Exit status of test, where it is not 64, 65 or 70:
+   0  every model passed
+   1  a model failed, or there was none to test
+   3  none failed, and one is undecided
 
 Exit status of sample, where it is not 64, 65 or 70:
    0  nothing unwanted was found
@@ -191,6 +196,41 @@ Exit status:
   70  a file or a device failed, or memory ran out",
 };
 
+pub const TEST: CommandHelp<'static> = CommandHelp {
+    about: "Explores the models of files, and checks what they claim",
+    after: "A model file has comments, definitions and models; each model has claims, and a program that is
+explored under every schedule. All faults of all files are told before any model is explored.
+
+Examples:
+  fiber_cli test models/*.fm
+  fiber_cli test --filter mutex --junit report.xml models/*.fm
+
+A model that fails is printed with its claim, what was found, its schedule and its timeline.
+
+Exit status:
+   0  every model passed
+   1  a model failed, or there was none to test
+   3  none failed, and one is undecided since a bound was reached
+  64  the words are wrong
+  65  a file has a fault
+  70  a file or a device failed, or memory ran out",
+};
+
+pub const TERMS: CommandHelp<'static> = CommandHelp {
+    about: "Prints the terms of the models of a file",
+    after: "Each term is on one line behind a comment with the name of its model. Every other subcommand
+takes such a term.
+
+Example:
+  fiber_cli terms models/mutex.fm
+
+Exit status:
+   0  the terms were printed
+  64  the words are wrong
+  65  the file has a fault
+  70  the file or a device failed, or memory ran out",
+};
+
 /// The help of the options for the limits of a run.
 #[derive(Clone, Copy)]
 pub struct LimitsHelp<'a> {
@@ -267,6 +307,21 @@ pub const PROGRESS: &str = "Write to standard error how far the search has come,
 pub const SVG: &str = "Print a picture of the run in place of the report, as SVG";
 
 pub const JSON: &str = "Print the answer as JSON, on one line";
+
+pub const FILES: &str = "The model files";
+
+pub const MODEL_FILE: &str = "The model file";
+
+pub const FILTER: &str = "Test only the models whose names contain this text";
+
+pub const JUNIT: &str = "Write a report for CI to this file, in the format of JUnit";
+
+pub const LIST: &str = "Print the models with their places, and explore none";
+
+pub const TAP: &str = "Print the answer in the Test Anything Protocol";
+
+pub const MODEL_WORLDS: &str = "How many worlds are kept of a model that sets no bound of its own,
+1 to 100000000 [default: 1000000]";
 
 pub const FIRST: &str = "The file with the first program's text";
 

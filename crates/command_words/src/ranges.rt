@@ -59,6 +59,13 @@ pub const WORLDS: NumberRange = NumberRange {
     usual: 10_000_000,
 };
 
+/// How many worlds are kept of a model that sets no bound of its own.
+pub const MODEL_WORLDS: NumberRange = NumberRange {
+    least: 1,
+    most: 100_000_000,
+    usual: 1_000_000,
+};
+
 /// The number before the unit of the bytes at which an exploration stops. The usual one stands where the option isn't
 /// given, with no unit: 4 times 2^30 bytes.
 pub const MEMORY: NumberRange = NumberRange {

@@ -32,6 +32,8 @@ use crate::ranges::{
 use crate::replay::Replay;
 use crate::running::Running;
 use crate::sampling::Sampling;
+use crate::test_requests::{testing_of, translating_of};
+use crate::testing::{Testing, Translating};
 use clap::ArgMatches;
 use exploration_text::{Bounds, ExploreOrder, SampleOrder, Want, read_want};
 use outcome_trace::Limits;
@@ -55,6 +57,10 @@ pub enum Request<'a> {
     Sample(Sampling),
     /// To compare the programs of two files.
     Compare(Comparing<'a>),
+    /// To test the models of files.
+    Test(Testing<'a>),
+    /// To print the terms of the models of a file.
+    Terms(Translating<'a>),
 }
 
 /// The number of the range that a text spells.
@@ -68,8 +74,8 @@ pub(crate) fn number(text: &str, range: NumberRange) -> Option<u64>
     }
 }
 
-// The number that an option says, which is the usual one where the option isn't given.
-fn number_of(matches: &ArgMatches<'_>, name: &str, range: NumberRange) -> Option<u64>
+/// The number that an option says, which is the usual one where the option isn't given.
+pub(crate) fn number_of(matches: &ArgMatches<'_>, name: &str, range: NumberRange) -> Option<u64>
     requires { (range.least ≤ range.usual) × (range.usual ≤ range.most) }
     ensures said { IfSome result (SaysNumber range (first_of name.now (rows_of (found_of matches.now)))) }
     ensures none { IfNone result ((n : ℕ) → SaysNumber range (first_of name.now (rows_of (found_of matches.now))) n →
@@ -156,8 +162,8 @@ fn replay_of<'a>(replay: &ArgMatches<'a>) -> Option<Replay<'a>>
     })
 }
 
-// The bytes at which the options of `explore` say that the search stops.
-fn memory_of(explore: &ArgMatches<'_>) -> Option<u64>
+/// The bytes at which the options of a subcommand say that the search stops.
+pub(crate) fn memory_of(explore: &ArgMatches<'_>) -> Option<u64>
     ensures said { IfSome result (SaysMemory (first_of (codes "memory") (rows_of (found_of explore.now)))) }
     ensures none { IfNone result ((n : ℕ) →
         SaysMemory (first_of (codes "memory") (rows_of (found_of explore.now))) n → ⊥) }
@@ -323,10 +329,11 @@ fn show_request<'a>(options: &ArgMatches<'a>) -> Request<'a>
     })
 }
 
-// The request that a subcommand other than `explore` and `sample` gives with its options.
+// The request that a subcommand other than `explore`, `sample` and `test` gives with its options.
 fn plain_request<'a>(name: &str, options: &ArgMatches<'a>) -> Option<Request<'a>>
     requires explore { name.now ≢ codes "explore" }
     requires sample { name.now ≢ codes "sample" }
+    requires test { name.now ≢ codes "test" }
     ensures { GivesRequest (Some (name.now, rows_of (found_of options.now))) result }
 {
     match name {
@@ -335,6 +342,7 @@ fn plain_request<'a>(name: &str, options: &ArgMatches<'a>) -> Option<Request<'a>
         "replay" => Some(Request::Replay(replay_of(options)?)),
         "run" => Some(Request::Run(running_of(options)?)),
         "compare" => Some(Request::Compare(comparing_of(options)?)),
+        "terms" => Some(Request::Terms(translating_of(options)?)),
         _ => None,
     }
 }
@@ -365,6 +373,19 @@ fn sample_request<'a>(
     }
 }
 
+// The request that `test` gives with its options.
+fn test_request<'a>(
+    alloc: Global,
+    options: &ArgMatches<'a>,
+) -> Result<Option<Request<'a>>, AllocError>
+    ensures { IfOk result (GivesRequest (Some (codes "test", rows_of (found_of options.now)))) }
+{
+    match testing_of(alloc, options)? {
+        Some(testing) => Ok(Some(Request::Test(testing))),
+        None => Ok(None),
+    }
+}
+
 /// The request that the words give. `AllocError` where memory ran out.
 pub fn request_of<'a>(
     alloc: Global,
@@ -379,6 +400,8 @@ pub fn request_of<'a>(
         explore_request(alloc, options)
     } else if name == "sample" {
         sample_request(alloc, options)
+    } else if name == "test" {
+        test_request(alloc, options)
     } else {
         Ok(plain_request(name, options))
     }

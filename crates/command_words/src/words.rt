@@ -15,6 +15,7 @@ use crate::help::{CommandHelp, LimitsHelp};
 use crate::ranges::{
     BAND, BUDGET, COUNT, ENTRIES, MOVES, NumberRange, SEED, TIMES, WORKERS, WORLDS,
 };
+use crate::test_words::{terms_command, test_command};
 use clap::{Arg, ArgAction, Command, value_parser};
 use std::alloc::{AllocError, Global};
 
@@ -300,5 +301,9 @@ pub fn all_words<'a>(alloc: Global) -> Result<Command<'a>, AllocError>
     let program = program.subcommand(run)?;
     let sample = sample_command(alloc)?;
     let program = program.subcommand(sample)?;
-    program.subcommand(compare_command(alloc)?)
+    let compare = compare_command(alloc)?;
+    let program = program.subcommand(compare)?;
+    let test = test_command(alloc)?;
+    let program = program.subcommand(test)?;
+    program.subcommand(terms_command(alloc)?)
 }

@@ -29,7 +29,7 @@ returns-in-Ok-None-clause-runs g c =
     let same : c.in-Ok-None.field-0 ≡ None = search rules in
     let gives = subst (λ (r : Option Request). GivesRequest (subcommand_rows_of c.in-Ok-try_get_matches_from.matches) r) same c.in-Ok-None.ensures.request in
     runs_no_request _ _ c.in-Ok-try_get_matches_from.matches _ _ _ c.in-Ok.ensures c.in-Ok-try_get_matches_from.ensures.matches gives refl refl
-    c.refuse_words.ensures
+    c.refuse_request.ensures
 
 pub returns-in-Ok-try_get_matches_from-clause-runs :
     goal.returns-in-Ok-try_get_matches_from-clause-runs

@@ -3,3 +3,11 @@ use Rattle.command_line.proofs.cli.obey_request.Goals as goal
 
 pub returns-in-Compare-clause-obeyed : goal.returns-in-Compare-clause-obeyed
 returns-in-Compare-clause-obeyed g c = rw c.in-Compare.is (refl, c.obey_compare.ensures)
+
+pub returns-in-Test-clause-obeyed : goal.returns-in-Test-clause-obeyed
+returns-in-Test-clause-obeyed g c =
+    rw c.in-Test.is record { unread = refl; whole = c.obey_test.ensures.whole; status_is = c.obey_test.ensures.status }
+
+pub returns-in-Terms-clause-obeyed : goal.returns-in-Terms-clause-obeyed
+returns-in-Terms-clause-obeyed g c =
+    rw c.in-Terms.is record { unread = refl; whole = c.obey_terms.ensures.whole; status_is = c.obey_terms.ensures.status }

@@ -14,5 +14,7 @@ returns c =
     let four = c.in_ok-program-4.ensures.shape c.in_ok-explore.ensures.local ∙ ap₂ with_subcommand three (ap top_of c.in_ok-explore.ensures.shape) in
     let five = c.in_ok-program-5.ensures.shape c.in_ok-run.ensures.local ∙ ap₂ with_subcommand four (ap top_of c.in_ok-run.ensures.shape) in
     let six = c.in_ok-program-6.ensures.shape c.in_ok-sample.ensures.local ∙ ap₂ with_subcommand five (ap top_of c.in_ok-sample.ensures.shape) in
-    IfOk-weaker c.subcommand-7.result _ _ (λ m h. h.shape c.in_ok-compare_command.ensures.local ∙
-    ap₂ with_subcommand six (ap top_of c.in_ok-compare_command.ensures.shape)) c.subcommand-7.ensures
+    let seven = c.in_ok-program-7.ensures.shape c.in_ok-compare.ensures.local ∙ ap₂ with_subcommand six (ap top_of c.in_ok-compare.ensures.shape) in
+    let eight = c.in_ok-program-8.ensures.shape c.in_ok-test.ensures.local ∙ ap₂ with_subcommand seven (ap top_of c.in_ok-test.ensures.shape) in
+    IfOk-weaker c.subcommand-9.result _ _ (λ m h. h.shape c.in_ok-terms_command.ensures.local ∙
+    ap₂ with_subcommand eight (ap top_of c.in_ok-terms_command.ensures.shape)) c.subcommand-9.ensures

@@ -1,0 +1,21 @@
+-- What it comes to, to test the models of files.
+use Rattle.std.specs.Prelude.{◌≡◌, ◌≢◌, false}
+use Rattle.text_io.specs.declared.status.Status.{Status}
+use Rattle.text_io.specs.declared.status.Status.TheVariants.{Succeeded, Errored, Canceled, Unended, Usage, Refused, Fault}
+use Rattle.text_io.specs.Devices.{Devices}
+
+-- a status of `test` and of `terms`, behind words that are right
+abbrev pub IsTestStatus : Status → Type 0
+IsTestStatus Succeeded = Unit {0}
+IsTestStatus Errored = Unit {0}
+IsTestStatus Canceled = ⊥
+IsTestStatus Unended = Unit {0}
+IsTestStatus Usage = ⊥
+IsTestStatus Refused = Unit {0}
+IsTestStatus Fault = Unit {0}
+
+-- The input isn't read. Where the status tells no fault, all that was to go out has gone out.
+pub record ObeysTest (before after : Devices) (status : Status) : Type 0 where
+  pub unread : after.input ≡ before.input
+  pub whole : status ≢ Fault → after.out.failed ≡ false
+  pub status_is : IsTestStatus status

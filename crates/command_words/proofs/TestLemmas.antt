@@ -1,0 +1,32 @@
+-- Options of `test` that say two forms at once say none.
+use Rattle.std.proofs.Common.{◌≡◌, ◌∙◌, List, [], ap, codes, map, sym}
+use Rattle.std.specs.Borrow.{Bor}
+use Rattle.clap.specs.Words.{Row, Text}
+use Rattle.command_words.specs.declared.testing.TestForm.{TestForm}
+use Rattle.command_words.specs.declared.testing.TestForm.TheVariants as forms
+use Rattle.command_words.specs.Flags.{IsGiven, SaysTestForm}
+
+pub list_with_json : (options : List Row) → IsGiven (codes "list") options → IsGiven (codes "json") options → (form : TestForm) →
+    SaysTestForm options form → ⊥
+list_with_json options list json forms.Report says = says.0 list
+list_with_json options list json forms.List says = says.1 json
+list_with_json options list json forms.Json says = says.0 list
+list_with_json options list json forms.Tap says = says.0 list
+
+pub list_with_tap : (options : List Row) → IsGiven (codes "list") options → IsGiven (codes "tap") options → (form : TestForm) →
+    SaysTestForm options form → ⊥
+list_with_tap options list tap forms.Report says = says.0 list
+list_with_tap options list tap forms.List says = says.2 tap
+list_with_tap options list tap forms.Json says = says.0 list
+list_with_tap options list tap forms.Tap says = says.0 list
+
+pub json_with_tap : (options : List Row) → IsGiven (codes "json") options → IsGiven (codes "tap") options → (form : TestForm) →
+    SaysTestForm options form → ⊥
+json_with_tap options json tap forms.Report says = says.1 json
+json_with_tap options json tap forms.List says = says.1 json
+json_with_tap options json tap forms.Json says = says.2 tap
+json_with_tap options json tap forms.Tap says = says.1 json
+
+-- where there are no texts, none are copied
+pub nothing_copied : (copy : List (Bor Text)) (texts : List Text) → copy ≡ [] → texts ≡ [] → map (λ s. s.now) copy ≡ texts
+nothing_copied copy texts none nothing = ap (map (λ s. s.now)) none ∙ sym nothing

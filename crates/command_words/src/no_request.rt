@@ -1,0 +1,168 @@
+//! Why words that `clap` takes give no request.
+
+use crate::flags::{given, text_of};
+use crate::memory::bytes_of;
+use clap::ArgMatches;
+use exploration_text::read_want;
+use std::alloc::{AllocError, Global};
+
+// Two flags of a subcommand that cannot be used together.
+#[derive(Clone, Copy)]
+struct Conflict {
+    subcommand: &'static str,
+    first: &'static str,
+    second: &'static str,
+}
+
+// The flags that cannot be used together, in the order in which they are told.
+const CONFLICTS: &[Conflict] = &[
+    Conflict {
+        subcommand: "replay",
+        first: "timeline",
+        second: "svg",
+    },
+    Conflict {
+        subcommand: "replay",
+        first: "timeline",
+        second: "json",
+    },
+    Conflict {
+        subcommand: "replay",
+        first: "svg",
+        second: "json",
+    },
+    Conflict {
+        subcommand: "explore",
+        first: "progress",
+        second: "timeline",
+    },
+    Conflict {
+        subcommand: "explore",
+        first: "progress",
+        second: "json",
+    },
+    Conflict {
+        subcommand: "explore",
+        first: "progress",
+        second: "explain",
+    },
+    Conflict {
+        subcommand: "explore",
+        first: "timeline",
+        second: "json",
+    },
+    Conflict {
+        subcommand: "run",
+        first: "record",
+        second: "json",
+    },
+    Conflict {
+        subcommand: "run",
+        first: "record",
+        second: "explain",
+    },
+    Conflict {
+        subcommand: "run",
+        first: "json",
+        second: "explain",
+    },
+    Conflict {
+        subcommand: "test",
+        first: "list",
+        second: "json",
+    },
+    Conflict {
+        subcommand: "test",
+        first: "list",
+        second: "tap",
+    },
+    Conflict {
+        subcommand: "test",
+        first: "json",
+        second: "tap",
+    },
+];
+
+/// Why words that `clap` takes give no request: two flags that cannot be used together, one that needs another, or a
+/// value that is wrong.
+pub fn no_request_reason(alloc: Global, matches: &ArgMatches<'_>) -> Result<String, AllocError> {
+    let Some((subcommand, options)) = matches.subcommand() else {
+        return String::from_str(alloc, "a subcommand is needed");
+    };
+    if let Some(conflict) = first_conflict(subcommand, options) {
+        return conflict_reason(alloc, conflict);
+    }
+    if subcommand == "run" && given(options, "timeline") {
+        return String::from_str(alloc, "the argument '--timeline' needs '--record'");
+    }
+    if let Some(text) = wrong_want(options) {
+        return value_reason(
+            alloc,
+            text,
+            "--want <OUTCOME>",
+            "expected 'succeeded V', 'errored C', 'canceled' or 'unended'",
+        );
+    }
+    memory_reason(alloc, options)
+}
+
+// The first two flags that cannot be used together and are given.
+fn first_conflict(subcommand: &str, options: &ArgMatches<'_>) -> Option<Conflict> {
+    for conflict in CONFLICTS {
+        if conflict.subcommand == subcommand
+            && given(options, conflict.first)
+            && given(options, conflict.second)
+        {
+            return Some(*conflict);
+        }
+    }
+    None
+}
+
+// That two flags cannot be used together.
+fn conflict_reason(alloc: Global, conflict: Conflict) -> Result<String, AllocError> {
+    let mut text = String::from_str(alloc, "the argument '--")?;
+    text.push_str(conflict.first)?;
+    text.push_str("' cannot be used with '--")?;
+    text.push_str(conflict.second)?;
+    text.push_str("'")?;
+    Ok(text)
+}
+
+// The first wanted outcome that is none.
+fn wrong_want<'a>(options: &ArgMatches<'a>) -> Option<&'a str> {
+    let texts = options.get_strs("want")?;
+    for text in texts {
+        if read_want(text).is_none() {
+            return Some(*text);
+        }
+    }
+    None
+}
+
+// That a number of bytes is none.
+fn memory_reason(alloc: Global, options: &ArgMatches<'_>) -> Result<String, AllocError> {
+    let expected = "expected 1 to 10000000000, and behind it nothing, k, M or G";
+    match text_of(options, "memory") {
+        Some(text) if bytes_of(text).is_none() => {
+            value_reason(alloc, text, "--memory <BYTES>", expected)
+        }
+        _ => String::from_str(alloc, "the words ask for nothing"),
+    }
+}
+
+// That the value of an option is wrong, and what was expected.
+fn value_reason(
+    alloc: Global,
+    value: &str,
+    option: &str,
+    expected: &str,
+) -> Result<String, AllocError> {
+    let mut text = String::from_str(alloc, "invalid value '")?;
+    text.push_str(value)?;
+    text.push_str("' for '")?;
+    text.push_str(option)?;
+    text.push_str("': ")?;
+    text.push_str(expected)?;
+    Ok(text)
+}

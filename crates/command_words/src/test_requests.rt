@@ -1,0 +1,102 @@
+//! The test of model files that the words of a command line ask for.
+
+ghost use Rattle.std.specs.Prelude.{◌≡◌, ◌++◌, codes, IfNone, IfOk, IfSome, map, option_map};
+ghost use Rattle.clap.specs.Words.{first_of, found_of, rows_of};
+ghost use Rattle.command_words.specs.declared.testing.TestForm.{TestForm};
+ghost use Rattle.command_words.specs.declared.testing.Testing.{Testing};
+ghost use Rattle.command_words.specs.declared.testing.Translating.{Translating};
+ghost use Rattle.command_words.specs.Flags.{SaysTestForm};
+ghost use Rattle.command_words.specs.Requests.{SaysTesting, SaysTranslating, texts_said};
+
+use crate::flags::{given, text_of};
+use crate::ranges::MODEL_WORLDS;
+use crate::requests::{memory_of, number_of};
+use crate::testing::{TestForm, Testing, Translating};
+use clap::ArgMatches;
+use std::alloc::{AllocError, Global};
+
+// The form that the options of `test` say, where they say no two.
+#[tactic(auto, using(crate::proofs::TestLemmas::list_with_json, crate::proofs::TestLemmas::list_with_tap, crate::proofs::TestLemmas::json_with_tap))]
+fn test_form(test: &ArgMatches<'_>) -> Option<TestForm>
+    ensures said { IfSome result (SaysTestForm (rows_of (found_of test.now))) }
+    ensures none { IfNone result ((form : TestForm) → SaysTestForm (rows_of (found_of test.now)) form → ⊥) }
+{
+    let list = given(test, "list");
+    let json = given(test, "json");
+    let tap = given(test, "tap");
+    if list {
+        if json || tap {
+            None
+        } else {
+            Some(TestForm::List)
+        }
+    } else if json {
+        if tap { None } else { Some(TestForm::Json) }
+    } else if tap {
+        Some(TestForm::Tap)
+    } else {
+        Some(TestForm::Report)
+    }
+}
+
+// These texts once more.
+fn copied<'a>(alloc: Global, texts: &[&'a str]) -> Result<Vec<&'a str>, AllocError>
+    ensures { IfOk result (λ copy. map (λ s. s.now) copy.items ≡ map (λ s. s.now) texts.now) }
+{
+    let mut copy = Vec::new(alloc);
+    for text in texts {
+        copy.push(*text)?;
+    }
+    Ok(copy)
+}
+
+// The files that the options of `test` say.
+fn files_said<'a>(alloc: Global, test: &ArgMatches<'a>) -> Result<Vec<&'a str>, AllocError>
+    ensures { IfOk result (λ files. map (λ s. s.now) files.items ≡
+        texts_said (codes "files") (rows_of (found_of test.now))) }
+{
+    match test.get_strs("files") {
+        Some(texts) => copied(alloc, texts),
+        None => Ok(Vec::new(alloc)),
+    }
+}
+
+/// The test that the options of `test` say.
+pub(crate) fn testing_of<'a>(
+    alloc: Global,
+    test: &ArgMatches<'a>,
+) -> Result<Option<Testing<'a>>, AllocError>
+    ensures said { IfOk result (λ found. IfSome found (SaysTesting (rows_of (found_of test.now)))) }
+    ensures none { IfOk result (λ found. IfNone found ((said : Testing) →
+        SaysTesting (rows_of (found_of test.now)) said → ⊥)) }
+{
+    let Some(form) = test_form(test) else {
+        return Ok(None);
+    };
+    let Some(worlds) = number_of(test, "worlds", MODEL_WORLDS) else {
+        return Ok(None);
+    };
+    let Some(memory) = memory_of(test) else {
+        return Ok(None);
+    };
+    let files = files_said(alloc, test)?;
+    let filter = text_of(test, "filter");
+    let junit = text_of(test, "junit");
+    Ok(Some(Testing {
+        files,
+        filter,
+        junit,
+        worlds,
+        memory,
+        form,
+    }))
+}
+
+/// The translation that the options of `terms` say.
+pub(crate) fn translating_of<'a>(terms: &ArgMatches<'a>) -> Option<Translating<'a>>
+    ensures said { IfSome result (SaysTranslating (rows_of (found_of terms.now))) }
+    ensures none { IfNone result ((said : Translating) → SaysTranslating (rows_of (found_of terms.now)) said → ⊥) }
+{
+    let file = text_of(terms, "file")?;
+    Some(Translating { file })
+}

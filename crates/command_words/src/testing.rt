@@ -1,0 +1,38 @@
+//! What a test of model files is told.
+
+/// What is printed of a test of model files.
+#[derive(Clone, Copy)]
+pub enum TestForm {
+    /// A line for each model, and behind them what failed.
+    Report,
+    /// A line for each model, of which none is explored.
+    List,
+    /// One line of JSON.
+    Json,
+    /// The Test Anything Protocol.
+    Tap,
+}
+
+/// To test the models of files.
+#[derive(Drop)]
+pub struct Testing<'a> {
+    /// The paths of the files, at least one.
+    pub files: Vec<&'a str>,
+    /// A text that the name of a model contains, if it is to be tested.
+    pub filter: Option<&'a str>,
+    /// The path of the file to which a report for CI is written.
+    pub junit: Option<&'a str>,
+    /// How many worlds are kept of a model that sets no bound of its own.
+    pub worlds: u64,
+    /// At how many bytes of memory the search stops, for each model.
+    pub memory: u64,
+    /// What is printed.
+    pub form: TestForm,
+}
+
+/// To print the terms of the models of a file.
+#[derive(Clone, Copy)]
+pub struct Translating<'a> {
+    /// The path of the file.
+    pub file: &'a str,
+}
