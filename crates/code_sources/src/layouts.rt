@@ -95,13 +95,13 @@ pub(crate) fn bracket(
     )
 }
 
-// How many words of a race follow those that cancel both sides: the two waits there, and what comes of the winner.
+// How many words of a race follow those that cancel both sides: the two waits there, and the outcome of the winner.
 const RACE_REST: usize = 9 + 45;
 
 // The same of `both`, and then the ref's value and its binder.
 const BOTH_REST: usize = 9 + 55 + 2;
 
-// The words that run both sides of a race, and cancel them where the wait is cut. Behind these stand so many words.
+// The words that run both sides of a race, and cancel them where the wait is cut. This many words follow them.
 fn sides(
     tasks: &mut Vec<Task>,
     place: usize,

@@ -28,8 +28,8 @@ pub struct WordSource {
     pub role: StartRole,
 }
 
-/// Where each word of a code comes from, in the order of the words, by the text of the code's term. The code has so many
-/// words.
+/// Where each word of a code comes from, in the order of the words, by the text of the code's term. `many` is the
+/// number of words of the code.
 ///
 /// A word of the inner machinery of a form, as of `race` or `guarantee`, comes from that form. Where the text isn't that
 /// of the code's term, there is one place for each word all the same: those that no form is found for have place 0.

@@ -9,7 +9,7 @@ use std::alloc::AllocError;
 pub(crate) enum Task {
     /// The words of the form of this number.
     Form(usize),
-    /// So many words of the form at this place.
+    /// This number of words of the form at this place.
     Words(usize, usize),
     /// A word of the form at this place that starts such a fiber.
     Start(StartRole, usize),

@@ -36,7 +36,7 @@ pub(crate) fn inside(forms: &[Form], number: usize) -> Block {
 /// The first list of a block with what stands before it left out, or an empty block.
 pub(crate) fn first_list(forms: &[Form], block: Block) -> Block {
     let mut rest = block;
-    // No form has so many parts before a term, but a text that is no term may.
+    // No form has as many parts before a term, but a text that is no term can.
     for _ in 0..forms.len() {
         match first_form(forms, rest) {
             None => return rest,

@@ -13,7 +13,7 @@ use term_parse::{Word, word_of};
 // More steps than the walk through a code has: a code has fewer than 2,000,000 words, and no form more than 20 tasks.
 const STEPS: u64 = 100_000_000;
 
-/// Where so many words of a code come from.
+/// Where this number of words of a code comes from.
 pub(crate) fn walk(
     alloc: Global,
     text: &[u8],
@@ -44,7 +44,7 @@ fn source(place: usize, role: StartRole) -> WordSource {
     WordSource { place, role }
 }
 
-// So many more words of the form at this place, up to the number of the code's.
+// This number of words more of the form at this place, up to the number of words of the code.
 fn add(
     sources: &mut Vec<WordSource>,
     many: usize,

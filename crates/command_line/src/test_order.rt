@@ -14,7 +14,7 @@ use std::time::Clock;
 
 /// Tests the models of files, and gives the status: `Status::Succeeded` where all passed, `Status::Errored` where one
 /// failed, `Status::Unended` where none failed and one is undecided, `Status::Refused` where a file has a fault, which
-/// is told on the last device, and `Status::Fault` where a device failed or memory ran out.
+/// is written to the last device, and `Status::Fault` where a device failed or memory ran out.
 pub fn obey_test<R: Files + Clock, O: TextOut, E: TextOut>(
     rt: &R,
     alloc: Global,
@@ -91,7 +91,7 @@ fn test_suite<R: Files + Clock, O: TextOut, E: TextOut>(
     }
 }
 
-// Tests the models one after another, and writes what is told of each as soon as it is known.
+// Tests the models one after another, and writes the report of each as soon as it is known.
 fn write_models<C: Clock, O: TextOut>(
     clock: &C,
     suite: &mut Suite<'_>,
@@ -133,7 +133,7 @@ fn write_tested<C: Clock, O: TextOut>(
     Ok(())
 }
 
-// Writes what is told behind all models, and the report for CI, where one is asked for.
+// Writes what is printed behind all models, and the report for CI, where one is asked for.
 #[tactic(auto, using(crate::proofs::TestLemmas::suite_status))]
 fn end_suite<R: Files, O: TextOut, E: TextOut>(
     rt: &R,

@@ -14,7 +14,7 @@ struct Conflict {
     second: &'static str,
 }
 
-// The flags that cannot be used together, in the order in which they are told.
+// The flags that cannot be used together, in the order in which they are reported.
 const CONFLICTS: &[Conflict] = &[
     Conflict {
         subcommand: "replay",

@@ -1,4 +1,4 @@
-//! What a test of model files is told.
+//! What is asked of a test of model files.
 
 /// What is printed of a test of model files.
 #[derive(Clone, Copy)]

@@ -166,7 +166,7 @@ fn decided(
     }
 }
 
-/// The first fault of a model, which is told before any model runs: one of its term, its claims and bounds, or of its
+/// The first fault of a model, which is reported before any model runs: one of its term, its claims and bounds, or of its
 /// term with what a claim wants put into it.
 pub fn check_model(alloc: Global, source: &Source, model: &Model) -> Result<(), Refused> {
     let term = translate(alloc, source, model, Probe::Nothing)?;

@@ -50,7 +50,7 @@ fn explore_by_plan(alloc: Global, program: &Program, plan: Plan) -> Result<Explo
     explore_with(alloc, program, plan, plan.worlds)
 }
 
-// What can come of a program, with at most so many worlds.
+// The answers of a program, with at most this number of worlds.
 fn explore_with(
     alloc: Global,
     program: &Program,
@@ -106,7 +106,7 @@ fn explored_answers(
     Ok(answers)
 }
 
-// What was found, with these answers, after so many schedules were drawn.
+// What was found, with these answers, after this number of schedules was drawn.
 fn search_of(found: &Exploration, sampled: u32, answers: Vec<NamedAnswer>) -> Search
     ensures complete { result.complete ≡ found.now.complete }
     ensures answers { result.answers.items ≡ answers.items }

@@ -68,7 +68,7 @@ struct Models<'a> {
     entries: Vec<Entry>,
     // How many models the files have in all.
     all: usize,
-    // What is told of the faults of files.
+    // The texts of the faults of files.
     faults: Vec<u8>,
 }
 
@@ -106,7 +106,7 @@ impl<'a> Suite<'a> {
         })
     }
 
-    /// What is told of the faults of files; nothing where they have none. Where they have some, no model is tested.
+    /// The texts of the faults of files; nothing where they have none. Where they have some, no model is tested.
     pub fn faults(&self) -> &[u8] {
         self.models.faults.as_slice()
     }
@@ -174,7 +174,7 @@ fn named<'b>(file: &'b SuiteFile<'_>) -> NamedFile<'b> {
     }
 }
 
-// Reads a file, and adds its models or what is told of its faults.
+// Reads a file, and adds its models or the texts of its faults.
 fn add_file<'a, R: Files>(
     rt: &R,
     alloc: Global,
@@ -207,7 +207,7 @@ fn add_unread(
     faults.extend_from_slice(told.as_slice())
 }
 
-// Adds the models of a file with these bytes, or what is told of its faults.
+// Adds the models of a file with these bytes, or the texts of its faults.
 fn add_bytes<'a>(
     alloc: Global,
     models: &mut Models<'a>,
@@ -227,7 +227,7 @@ fn add_bytes<'a>(
     }
 }
 
-// Adds what is told of a fault.
+// Adds the text of a fault.
 fn add_fault(
     alloc: Global,
     faults: &mut Vec<u8>,
@@ -238,7 +238,7 @@ fn add_fault(
     faults.extend_from_slice(told.as_slice())
 }
 
-// Adds the models of a file that was read, or what is told of their faults.
+// Adds the models of a file that was read, or the texts of their faults.
 fn add_source<'a>(
     alloc: Global,
     models: &mut Models<'a>,
@@ -255,7 +255,7 @@ fn add_source<'a>(
     Ok(())
 }
 
-// Adds a model, or what is told of its first fault.
+// Adds a model, or the text of its first fault.
 fn add_model(
     alloc: Global,
     models: &mut Models<'_>,

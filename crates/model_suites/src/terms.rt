@@ -26,7 +26,7 @@ pub(crate) fn push_terms(
     }
 }
 
-// Want of memory is told. A model with a fault has no term.
+// Out of memory is an error. A model with a fault has no term.
 fn passed_over(refused: Refused) -> Result<(), AllocError> {
     match refused {
         Refused::NoMemory => Err(AllocError),

@@ -1,4 +1,4 @@
-//! What is told of the models that were tested so far.
+//! The reports of the models that were tested so far.
 
 use crate::suite::SuiteForm;
 use model_claims::Verdict;
@@ -9,7 +9,7 @@ use model_reports::{
 use serde_json::Value;
 use std::alloc::{AllocError, Global};
 
-/// What is told of the models that were tested so far, as far as it isn't printed at once.
+/// The reports of the models that were tested so far, as far as they aren't printed at once.
 #[derive(Drop)]
 pub(crate) struct Told {
     /// The verdict of each.
@@ -23,7 +23,7 @@ pub(crate) struct Told {
 }
 
 impl Told {
-    /// Nothing is told so far.
+    /// No model was tested so far.
     pub(crate) fn new(alloc: Global) -> Told {
         Told {
             verdicts: Vec::new(alloc),
