@@ -495,7 +495,7 @@ fn tells_flags_that_cannot_be_used_together(rt: HostRuntime) -> Result<(), Alloc
     Ok(())
 }
 
-// What is told of words that give no request, for this reason.
+// The usage fault of words that give no request, with this reason.
 fn refusal<R: AllocGlobal>(rt: &R, reason: &str) -> Result<String, AllocError> {
     format!(in rt.alloc(); "error: {reason}{BEHIND_REASON}")
 }

@@ -13,7 +13,7 @@ use crate::words::{memory_option, new_command, number_option, with_flag};
 use clap::{Arg, ArgAction, Command};
 use std::alloc::{AllocError, Global};
 
-// The paths of files, of which at least one must be given.
+// The paths of files. At least one is required.
 fn files_argument<'a>(alloc: Global) -> Arg<'a>
     ensures rule { rule_of result ≡ files_argument }
     ensures local { result.global ≡ false }

@@ -1,4 +1,4 @@
-//! What is told of the claims of a model that don't pass, and its warnings.
+//! The reports of the claims of a model that don't pass, and its warnings.
 
 use crate::digits::{push_about, push_word};
 use crate::found::{push_answers, push_found, schedule_of};
