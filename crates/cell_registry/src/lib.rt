@@ -1,13 +1,12 @@
-//! The registry by which fibers share: who was born, who was asked to cancel, who ended how, and
-//! the refs and deferreds of all.
+//! The registry that all fibers share: which fibers were started, which were asked to cancel, how each ended, and all
+//! refs and deferreds.
 //!
-//! It stands on `effect_term`, which has the replies, on `control_word`, which packs a fiber's cell
-//! into one word, and on the kit's `atomic_table`, whose words change in single atomic steps. The
-//! definitions in `specs/` say what each call does to a registry of plain records, when it is
-//! refused, and which lists of calls one thread could have made (a legal history).
-//! [`PlainRegistry`] is that registry for one thread. [`Registry`] is the lock-free one, which
-//! fibers on any threads share, each by its own [`Pass`]: it promises that all calls stand, with
-//! their replies, in one legal history, which leaves exactly the words.
+//! It uses `effect_term`, which has the replies, `control_word`, which packs a fiber's cell into one word, and the
+//! kit's `atomic_table`, whose words change in single atomic steps. The definitions in `specs/` say what each call does
+//! to a registry of plain records, when it is refused, and which lists of calls one thread could have made (legal
+//! histories). [`PlainRegistry`] is that registry, for one thread. [`Registry`] is the lock-free one, which fibers on
+//! any threads share, each through its own [`Pass`]. It promises that there is one legal history of all calls and their
+//! replies, which leaves exactly the words of the table.
 //!
 //! Two threads share a registry so: one cancels the child, and the other looks, as the child:
 //!
