@@ -8,7 +8,7 @@
 //! any threads share, each through its own [`Pass`]. It promises that there is one legal history of all calls and their
 //! replies, which leaves exactly the words of the table.
 //!
-//! Two threads share a registry so: one cancels the child, and the other looks, as the child:
+//! Two threads share a registry. One cancels the child, and the other looks, as the child:
 //!
 //! ```
 //! let (registry, mut parent) = Registry::new(alloc, 2, 1, 1, 10)?;
