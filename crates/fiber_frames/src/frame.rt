@@ -28,11 +28,11 @@ pub(crate) enum Frame {
     Handle(usize, usize),
     /// The finalizer of what runs inside.
     Guarded(usize, usize),
-    /// A poll that lifted no mask.
+    /// A poll that undid no mask.
     Idle(Mask),
     /// The mask of this number.
     Masked(u64),
-    /// A poll that lifted the fiber's own mask of this number.
+    /// A poll that undid the fiber's own mask of this number.
     Polled(u64),
 }
 

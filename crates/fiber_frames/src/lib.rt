@@ -9,7 +9,7 @@
 //! and a fiber that has ended released each acquired bracket exactly once, innermost first.
 //! A fiber is moved by hand so, where the code is that of `(seq (say 1) (pure 7))`:
 //!
-//! ```
+//! This moves a fiber by hand; its code is that of `(seq (say 1) (pure 7))`:
 //! let mut fiber = Config::new(alloc, &code)?;
 //! for _move in 0..6u32 {
 //!     let _moved = match fiber.ask() {

@@ -48,7 +48,7 @@ impl Machine {
         self.note(Mark::Leave(number))
     }
 
-    // The result leaves the poll that lifted the mask of this number; its frame is removed.
+    // The result leaves the poll that undid the mask of this number; its frame is removed.
     #[tactic(auto, using(crate::proofs::Reversing::reverse_push))]
     #[inline(never)]
     fn leave_poll(&mut self, number: u64) -> Result<(), AllocError>
