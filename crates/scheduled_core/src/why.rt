@@ -22,12 +22,12 @@ pub enum Why {
     WaitsForDeferred(u16),
     /// It waits without end.
     WaitsWithoutEnd,
-    /// It may be able to go on.
+    /// It can go on, as far as is known.
     CouldGoOn,
 }
 
-/// Why a fiber that stands beside this registry hasn't ended. Where it is said to wait, no request for its
-/// cancellation reaches it.
+/// Why a fiber hasn't ended, with this registry. If the result is a wait, no request for the fiber's cancellation
+/// reaches it there.
 pub fn why_of(config: &Config, registry: &PlainRegistry) -> Why
     requires { Fits (cell_registered registry.now.state config.now.number) config.now }
     ensures { IsWhy registry.now.state config.now.number config.now result }
@@ -80,8 +80,8 @@ pub fn why_of(config: &Config, registry: &PlainRegistry) -> Why
     }
 }
 
-// Whether no request for its cancellation reaches the fiber where it is: a mask is active, or none was made. It makes
-// no call.
+// Whether no request for its cancellation reaches the fiber: a mask is active, or there is no request. It makes no
+// call.
 fn is_unasked(config: &Config, registry: &PlainRegistry) -> bool
     requires { Fits (cell_registered registry.now.state config.now.number) config.now }
     ensures { result ≡ true → (active_of config.now ≢ []) ⊎
