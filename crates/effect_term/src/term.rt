@@ -66,7 +66,7 @@ pub enum Term {
     Canceled,
     /// Runs the term masked. It binds the mask's poll.
     Uncancelable(Box<Term>),
-    /// Runs the term with the poll's mask lifted.
+    /// Runs the term with the poll's mask undone.
     Poll(Name, Box<Term>),
     /// Runs the first term; the second is its finalizer, which runs if cancellation is observed in it.
     OnCancel(Box<Term>, Box<Term>),
