@@ -27,7 +27,7 @@ pub(crate) enum Closing {
 }
 
 impl Writer {
-    /// Lifts the masks around a body for the words written so far.
+    /// Undoes the masks around a body for the words written so far.
     #[inline(never)]
     pub(crate) fn opened(&mut self, closing: Closing) -> Result<(), AllocError>
         requires { last_of_closing closing < 2 ^ 32 }

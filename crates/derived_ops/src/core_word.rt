@@ -46,7 +46,7 @@ pub enum CoreWord {
     Loop(Turns),
     /// Runs the term masked. It binds the mask's poll.
     Uncancelable,
-    /// Runs the term with the mask lifted whose poll has this slot.
+    /// Runs the term with the mask undone whose poll has this slot.
     Poll(u32),
     /// Runs the first term; the second is its finalizer, which runs if cancellation is observed in it.
     OnCancel(u32),

@@ -20,7 +20,7 @@ abbrev pub outcome_of_closing : Closing → ℕ
 outcome_of_closing (Finalizer s) = s + 1
 outcome_of_closing (Release s) = s + 3
 
--- the body, with the masks lifted
+-- the body, with the masks undone
 abbrev pub opened_by : Closing → Tree → Tree
 opened_by (Finalizer s) e = Poll (Named s) e
 opened_by (Release s) e = Poll (Named (s + 2)) (Poll (Named s) e)
