@@ -5,7 +5,7 @@
 //! registry for one thread (`cell_registry`), and neither texts nor devices. It promises that a run under a schedule is
 //! the core's, that a run which goes on until no fiber can move is that of some schedule, and why a fiber hasn't ended.
 //! Explorations, samples, events and workers are built on this crate; the texts of reports are in `outcome_trace`.
-//! A program is replayed so, within limits for 3 fibers, a ref, a deferred and 1000 changes of each fiber:
+//! This replays a program within limits for 3 fibers, a ref, a deferred and 1000 changes of each fiber:
 //!
 //! ```
 //! let limits = Limits { fibers: 3, refs: 1, deferreds: 1, count: 1000 };
