@@ -4,9 +4,9 @@ use crate::value::Value;
 /// How a fiber ended.
 #[derive(Clone, Copy, PartialEq, Eq, Debug)]
 pub enum Outcome {
-    /// It gave this value.
+    /// The fiber gave this value.
     Succeeded(Value),
-    /// It raised this error code.
+    /// The fiber raised this error code.
     Errored(Value),
     /// A request for its cancellation was observed, and its finalizers have run.
     Canceled,

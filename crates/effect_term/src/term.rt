@@ -64,7 +64,7 @@ pub enum Term {
     Never,
     /// Requests the cancellation of its own fiber, and gives 0.
     Canceled,
-    /// Runs the term masked. It binds the mask's poll.
+    /// Runs the term masked. The term binds the mask's poll.
     Uncancelable(Box<Term>),
     /// Runs the term with the poll's mask undone.
     Poll(Name, Box<Term>),
