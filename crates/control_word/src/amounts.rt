@@ -32,8 +32,8 @@ pub fn cut_amount() -> u64
 }
 
 /// The amount that, added to a word, ends the fiber with this outcome and adds one change. The fiber hasn't ended,
-/// `finalizing` is whether it is finalizing, and its count is below the greatest. It is `1 + 2^48 (2 - phase) + 2^50
-/// kind`: the value of the outcome has a word of its own, which no amount changes.
+/// `finalizing` is whether it is finalizing, and its count is below the greatest. The amount is `1 + 2^48 (2 - phase) +
+/// 2^50 kind`: the value of the outcome has a word of its own, which no amount changes.
 pub fn finish_amount(finalizing: bool, outcome: Outcome) -> u64
     ensures law { Finishes finalizing outcome result }
     ensures sum { result ≡ finish_sum finalizing outcome }
