@@ -4,11 +4,11 @@ use effect_term::Outcome;
 /// How far a fiber has come.
 #[derive(Clone, Copy)]
 pub enum Stage {
-    /// It runs its program.
+    /// The fiber runs its program.
     Running,
     /// A request for its cancellation was observed, and it runs its finalizers.
     Finalizing,
-    /// It has ended, with this outcome.
+    /// The fiber has ended, with this outcome.
     Ended(Outcome),
 }
 

@@ -41,8 +41,8 @@ fn is_finalizing(stage: Stage) -> bool
     }
 }
 
-/// Each call adds 1 to the count of the caller's changes. It returns `Spent(count)` exactly if the count is the limit,
-/// and then changes nothing: the pass is as it was, and nothing was stored in the fiber's value word.
+/// Each call adds 1 to the count of the caller's changes. The call returns `Spent(count)` exactly if the count is the
+/// limit, and then changes nothing: the pass is as it was, and nothing was stored in the fiber's value word.
 impl Registry {
     /// Enters a mask, as in Cats Effect 3's `MonadCancel`. The fiber hasn't ended, and is in fewer than 255 masks.
     pub fn mask(&self, pass: &mut Pass) -> Result<(), CellError>
@@ -80,8 +80,8 @@ impl Registry {
         Ok(())
     }
 
-    /// Observes the request for cancellation: the fiber becomes finalizing, in one mask. It is running and unmasked,
-    /// and its last look saw the request.
+    /// Observes the request for cancellation: the fiber becomes finalizing, in one mask. The fiber is running and
+    /// unmasked, and its last look saw the request.
     pub fn cut(&self, pass: &mut Pass) -> Result<(), CellError>
         requires own { IsOf self.now pass.old }
         requires running { pass.old.stage ≡ at.Running }

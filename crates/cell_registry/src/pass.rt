@@ -12,9 +12,10 @@ use std::mem::size_of;
 
 /// A fiber's token, with which it makes its calls at the registry that made it.
 ///
-/// It can't be cloned: a fiber has one, and only `Registry::new`, `start` and `meet` make one. It knows what only the
-/// fiber itself changes in its cell. Contracts see these numbers, the history that the pass has seen, and the fibers
-/// whose calls it makes or made. As long as its fiber hasn't ended, it has stored nothing in the fiber's value word.
+/// A pass can't be cloned: a fiber has one, and only `Registry::new`, `start` and `meet` make one. A pass knows what
+/// only the fiber itself changes in its cell. Contracts see these numbers, the history that the pass has seen, and the
+/// fibers whose calls it makes or made. As long as its fiber hasn't ended, it has stored nothing in the fiber's value
+/// word.
 #[derive(Drop)]
 pub struct Pass {
     pub(crate) seat: Seat<u8, Knowledge>,

@@ -392,8 +392,8 @@ impl PlainRegistry {
             && same_items(self.deferreds.as_slice(), other.deferreds.as_slice())
     }
 
-    /// A hash: equal for registries that are the [`same`](PlainRegistry::same), and seldom equal for others. It is for
-    /// lookups, and nothing else is promised of it.
+    /// A hash: equal for registries that are the [`same`](PlainRegistry::same), and seldom equal for others. The hash
+    /// is for lookups, and nothing else is promised of it.
     pub fn digest(&self) -> u64 {
         let fibers = usize::from(self.next_fiber);
         let refs = usize::from(self.next_ref);

@@ -33,7 +33,7 @@ use std::marker::Model;
 /// again if another fiber took that number in between. The value or code that a fiber ends with has a word of its own:
 /// an end stores it before its step, and a join that finds an end loads it after its step. Every step is `SeqCst`, the
 /// only ordering that `atomic_table` has. So all steps on all words are in one order, and the history lists in that
-/// order the steps that made a call. It is a history that one thread could have made, and each pass has seen a
+/// order the steps that made a call. This is a history that one thread could have made, and each pass has seen a
 /// beginning of it. No call locks or waits, and only `new` allocates memory.
 ///
 /// The cells of all numbers below the limits exist from the start: a fiber's is running, unmasked and without a
@@ -248,7 +248,7 @@ impl Registry {
 
     /// Returns the number of fibers that were started, fiber 0 included: from 1 to the limit of fibers. Below that
     /// limit, the result is the number that the next start gives. This is a load of the fibers' claim word, by which
-    /// the pass sees the whole history up to that moment. It isn't a call of the fiber.
+    /// the pass sees the whole history up to that moment. The load isn't a call of the fiber.
     pub fn born(&self, pass: &mut Pass) -> u16
         requires own { IsOf self.now pass.old }
         ensures same { OnlySees pass.old pass.new }
