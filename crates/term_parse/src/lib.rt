@@ -2,9 +2,9 @@
 //!
 //! The crate uses `effect_term`, whose terms it reads and writes. One table of the language says how each word is
 //! spelled and what its form contains. The grammar and the faults use this table, and so can other crates
-//! ([`every_word`]). It promises that [`parse`] returns a term exactly if the grammar spells it, and otherwise the
-//! first fault with its place, and that [`print`] writes the canonical spelling, which spells the same term again. A
-//! parsed term is closed and well kinded.
+//! ([`every_word`]). The crate promises that [`parse`] returns a term exactly if the grammar spells it, and otherwise
+//! the first fault with its place, and that [`print`] writes the canonical spelling, which spells the same term again.
+//! A parsed term is closed and well kinded.
 //!
 //! This reads a text, and prints it in the canonical spelling:
 //!
