@@ -43,8 +43,8 @@ impl Model for Code {
 
 impl Code {
     /// The words of this code, fewer than 2,000,000. The slot of each binder in its term is the number of binders
-    /// around it. The term has at most 1,000,000 words and marks, where a sequence counts as one. It names a fiber, a
-    /// ref or a deferred only by the slot of a binder of that kind.
+    /// around it. The term has at most 1,000,000 words and marks, where a sequence counts as one. The term names a
+    /// fiber, a ref or a deferred only by the slot of a binder of that kind.
     #[tactic(auto, using(crate::proofs::Levels::levelled_code, crate::proofs::Coded::named_code, crate::proofs::Counts::small_code))]
     pub fn words(&self) -> &[CoreWord]
         ensures term { tree_of result.now ≡ self.now }

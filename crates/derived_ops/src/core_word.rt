@@ -44,7 +44,7 @@ pub enum CoreWord {
     Start(u32),
     /// Runs the term again and again.
     Loop(Turns),
-    /// Runs the term masked. It binds the mask's poll.
+    /// Runs the term masked. The term binds the mask's poll.
     Uncancelable,
     /// Runs the term with the mask undone whose poll has this slot.
     Poll(u32),
