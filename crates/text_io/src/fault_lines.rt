@@ -1,5 +1,5 @@
-//! The lines that report a fault of a device or of a schedule's text. They allocate no memory, so even a fault of
-//! memory can be reported.
+//! The lines that report a fault of a device or of a schedule's text. The functions here allocate no memory, so even a
+//! fault of memory can be reported.
 
 ghost use Rattle.std.specs.Prelude.{◌≡◌, ◌≤◌, length};
 ghost use Rattle.text_io.specs.FaultLines.{fault_line, schedule_line, told};

@@ -170,8 +170,8 @@ fn push_times(entries: &mut Vec<u16>, fiber: u16, times: u32) -> Result<(), Allo
     entries.resize(len, fiber)
 }
 
-// The number of entries for which room is made at first. It is enough if each item is one entry, since an item and its
-// space have at least two bytes.
+// The number of entries for which room is made at first. The room is enough if each item is one entry, since an item
+// and its space have at least two bytes.
 fn first_room(text: &str) -> usize {
     MOST_ENTRIES.min(text.len() / 2 + 1)
 }

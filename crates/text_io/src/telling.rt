@@ -11,7 +11,7 @@ use crate::schedule::ScheduleError;
 use crate::status::Status;
 use crate::text::write_text;
 
-/// Writes the line of a fault. It allocates no memory. If this device fails too, nothing more is written.
+/// Writes the line of a fault. Allocates no memory. If this device fails too, nothing more is written.
 pub fn tell_fault<E: TextOut>(fault: TextFault, err: &mut E) -> Status
     requires { (E.seen err.old).failed ≡ false }
     ensures told { Told (fault_line fault) (E.seen err.old) (E.seen err.new) }

@@ -16,7 +16,7 @@ pub const TEXT_BOUND: usize = 65_537;
 
 /// The rest of the input, at most `TEXT_BOUND` bytes. An interrupted read is tried again.
 ///
-/// It makes at most `TEXT_BOUND` reads; the reader has counted fewer than 2^63 before. Returns `ReadFault` if a read
+/// Makes at most `TEXT_BOUND` reads; the reader has counted fewer than 2^63 before. Returns `ReadFault` if a read
 /// failed, `TurnBound` if `TEXT_BOUND` reads neither found the end of the input nor gave as many bytes, and `NoMemory`
 /// if memory ran out, which is before the first read.
 pub fn read_text<T: TextIn>(alloc: Global, input: &mut T) -> Result<Vec<u8>, TextFault>
@@ -77,7 +77,7 @@ fn zeros(alloc: Global, count: usize) -> Result<Vec<u8>, AllocError>
     vec![in alloc; 0u8; count]
 }
 
-/// Writes the whole text. It allocates no memory. The only fault is `WriteFault`, with the number of bytes that were
+/// Writes the whole text. Allocates no memory. The only fault is `WriteFault`, with the number of bytes that were
 /// written before a write failed, was interrupted, or took nothing.
 pub fn write_text<T: TextOut>(text: &[u8], out: &mut T) -> Result<(), TextFault>
     requires { (T.seen out.old).failed ≡ false }

@@ -76,8 +76,8 @@ fn read_error(error: &io::Error) -> ReadError
     }
 }
 
-/// Any reader, as a device. It keeps whether a read has failed, and whether one has found the end, and counts the
-/// reads.
+/// Any reader, as a device. The device keeps whether a read has failed, and whether one has found the end, and counts
+/// the reads.
 #[derive(Drop)]
 pub struct FromRead<R> {
     inner: R,
@@ -136,7 +136,7 @@ impl<R: Source> TextIn for FromRead<R> {
     }
 }
 
-/// Any writer, as a device. It keeps whether a write has failed.
+/// Any writer, as a device. The device keeps whether a write has failed.
 #[derive(Drop)]
 pub struct ToWrite<W> {
     inner: W,
