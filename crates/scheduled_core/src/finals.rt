@@ -112,7 +112,8 @@ pub fn settle_noted<L: EntryLog>(
     }
 }
 
-// The first of the fibers that can move and have the most moves left; `None` if the world is final. It makes no call.
+// The first of the fibers that can move and have the most moves left; `None` if the world is final. Makes no call of
+// the registry.
 fn next(fibers: &[Config], registry: &PlainRegistry, rests: &[u32]) -> Option<u16>
     requires { AllFit (world_of fibers.now registry.now.state) }
     ensures none { IfNone result (IsFinal (world_of fibers.now registry.now.state)) }
@@ -198,7 +199,7 @@ fn add(rests: &mut Vec<u32>, rest: u32) -> Result<(), AllocError>
 }
 
 /// Whether the fiber has ended, or rests at a wait that nothing in this registry ends, where no request for its
-/// cancellation reaches it. An entry of such a fiber changes nothing. It makes no call.
+/// cancellation reaches it. An entry of such a fiber changes nothing. Makes no call of the registry.
 pub fn is_done(config: &Config, registry: &PlainRegistry) -> bool
     requires { Fits (cell_registered registry.now.state config.now.number) config.now }
     ensures done { result ≡ true → HasEnded config.now ⊎ IsAtRest registry.now.state config.now.number config.now }

@@ -1,10 +1,12 @@
 //! The core under a schedule: a program's fibers with one registry, one move for each entry, and the report of the
 //! result.
 //!
-//! It uses the programs (`effect_term`), their code (`derived_ops`), the moves of a fiber (`fiber_frames`) and the
-//! registry for one thread (`cell_registry`), and neither texts nor devices. It promises that a run under a schedule is
-//! the core's, that a run which goes on until no fiber can move is that of some schedule, and why a fiber hasn't ended.
-//! Explorations, samples, events and workers are built on this crate; the texts of reports are in `outcome_trace`.
+//! The crate uses the programs (`effect_term`), their code (`derived_ops`), the moves of a fiber (`fiber_frames`) and
+//! the registry for one thread (`cell_registry`), and neither texts nor devices. The crate promises that a run under a
+//! schedule is the core's, that a run which goes on until no fiber can move is that of some schedule, and why a fiber
+//! hasn't ended. Explorations, samples, events and workers are built on this crate; the texts of reports are in
+//! `outcome_trace`.
+//!
 //! This replays a program within limits for 3 fibers, a ref, a deferred and 1000 changes of each fiber:
 //!
 //! ```

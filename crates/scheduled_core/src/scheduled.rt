@@ -58,8 +58,8 @@ pub fn replay(
     Ok(report)
 }
 
-/// Fiber 0 of a program before its first move, or `AllocError` if memory is refused. It is at the root of the program's
-/// code, and names no number of a fiber, ref or deferred.
+/// Fiber 0 of a program before its first move, or `AllocError` if memory is refused. The fiber is at the root of the
+/// program's code, and names no number of a fiber, ref or deferred.
 pub fn first_fiber(alloc: Global, program: &Program) -> Result<Config, AllocError>
     ensures first { IfOk result (λ fiber. fiber ≡ begins 0 (code_of (source_of program.now))) }
     ensures named { IfOk result (λ fiber. (given : Given) → NamedBeginning given fiber) }
@@ -118,8 +118,8 @@ pub fn enter_all(
 /// and a new registry are, and so is the world that the entry leads to. Returns [`RunError::Full`] or
 /// [`RunError::Spent`], the fault of the core, if the registry refuses the call, and [`RunError::NoMemory`] if memory
 /// runs out. After an error nothing is known of the fibers and the registry.
-// It goes through the loop over entries, so that a program has one copy of the code of a move. With more copies the
-// compiler makes a call of it.
+// This call goes through the loop over entries, so that a program has one copy of the code of a move. With more copies
+// the compiler makes a call of it.
 pub fn enter(
     fibers: &mut Vec<Config>,
     registry: &mut PlainRegistry,
