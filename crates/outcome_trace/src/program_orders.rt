@@ -35,7 +35,7 @@ impl RefusalForm for InWords {
     }
 }
 
-/// The order that a program is answered by. It is an order of texts, too.
+/// The order that a program is answered by. Such an order is an order of texts, too.
 pub trait ProgramOrder {
     /// The form of the answer to a text that spells no program.
     type Refusals: RefusalForm;
