@@ -10,11 +10,11 @@ use std::marker::Model;
 /// What the move of an entry did.
 #[derive(Clone, Copy, PartialEq, Eq, Debug)]
 pub enum Deed {
-    /// It made this shared call, and got this reply.
+    /// The move made this shared call, and got this reply.
     Called(Call, Reply),
-    /// It was the fiber's own: it made no shared call.
+    /// The move made no shared call.
     Alone,
-    /// It was the fiber's own, and waits for what can't come (`never`). The next move is the same one.
+    /// The move made no shared call, and waits for what can't come (`never`). The next move is the same one.
     Rested,
 }
 
