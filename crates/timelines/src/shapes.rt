@@ -54,7 +54,7 @@ pub(crate) fn push_line(
     text.push_str("\"/>\n")
 }
 
-/// Words of a class, which begin or are centred at a place. They contain no markup.
+/// Words of a class, which begin or are centred at a place. The words contain no markup.
 pub(crate) fn push_words(
     text: &mut String,
     class: &str,
@@ -98,7 +98,7 @@ pub(crate) fn push_sign(
     text.push_str("/>\n")
 }
 
-/// The sign of an event. It shows the event's words when the pointer is on it.
+/// The sign of an event, which shows the event's words when the pointer is on it.
 pub(crate) fn push_event_sign(
     text: &mut String,
     class: &str,

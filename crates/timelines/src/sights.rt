@@ -8,7 +8,7 @@ use std::alloc::{AllocError, Global};
 // What a fiber waits for.
 #[derive(Clone, Copy, PartialEq, Eq, Debug)]
 enum Topic {
-    // It doesn't wait.
+    // The fiber doesn't wait.
     Nothing,
     // The end of this fiber.
     Fiber(u16),
