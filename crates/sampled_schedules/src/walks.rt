@@ -111,8 +111,8 @@ fn can_go_on(fibers: &[Config], registry: &PlainRegistry, number: u16) -> bool
     place < fibers.len() && !is_done(&fibers[place], registry)
 }
 
-// Makes one more entry. It is added to the schedule before it is made, so that a schedule contains the entry of its
-// fault.
+// Makes one more entry. The entry is added to the schedule before it is made, so that a schedule contains the entry of
+// its fault.
 fn make_entry(
     fibers: &mut Vec<Config>,
     registry: &mut PlainRegistry,
