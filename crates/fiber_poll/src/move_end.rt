@@ -8,8 +8,8 @@ use crate::turn::Turn;
 use effect_term::{CancelReply, Reply};
 use fiber_frames::{Ask, Moved};
 
-/// The end of a move that starts no fiber. With the move's ask it determines the event. It has no fields, so that it is
-/// returned in a register.
+/// The end of a move that starts no fiber. The end and the move's ask determine the event. A `MoveEnd` has no fields,
+/// so that it is returned in a register.
 #[derive(Clone, Copy)]
 pub(crate) enum MoveEnd {
     /// The move has no event.

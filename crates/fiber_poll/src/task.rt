@@ -120,9 +120,9 @@ impl<'a> FiberTask<'a> {
 
     /// Makes moves, one after another, at most `budget` of them, up to the first event.
     ///
-    /// It stops before a move if the task has no moves left ([`Turn::OutOfMoves`]), and after a move that ended the
-    /// fiber, waited, yielded, started a fiber, was the first to request the cancellation of another fiber, or
-    /// completed a deferred. It also yields after `budget` moves. Each move takes one of the task's moves, and a
+    /// The turn stops before a move if the task has no moves left ([`Turn::OutOfMoves`]), and after a move that ended
+    /// the fiber, waited, yielded, started a fiber, was the first to request the cancellation of another fiber, or
+    /// completed a deferred. The turn also yields after `budget` moves. Each move takes one of the task's moves, and a
     /// started fiber begins with as many as are then left. A fiber that has ended returns its outcome again, without a
     /// move. The budget is at least 2.
     ///
@@ -218,7 +218,7 @@ impl<'a> FiberTask<'a> {
         };
         log.made(number, self.moves, ask, &reply, before);
         let woke = wakes(number, ask, &reply);
-        // The result is large, since it can hold a child. It isn't moved before it is matched.
+        // The result is large, since it can hold a child. So the match borrows it in its place.
         let resumed = self.config.resume(reply);
         match &resumed {
             Ok(moved) => {
