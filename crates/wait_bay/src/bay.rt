@@ -55,8 +55,8 @@ impl<'a> Model for Bay<'a> {
 
 impl<'a> Bay<'a> {
     /// A bay with a slot for each number of a fiber below `fibers` and a list for each fiber and each deferred below
-    /// `deferreds`, all empty, and its first seat. It names this registry, this code and the number of moves of fiber
-    /// 0, or nothing. Returns `AllocError` if there is no memory for it.
+    /// `deferreds`, all empty, and its first seat. The bay names this registry, this code and the number of moves of
+    /// fiber 0, or nothing. Returns `AllocError` if there is no memory for it.
     pub fn new(
         alloc: Global,
         fibers: u16,
@@ -107,7 +107,7 @@ impl<'a> Bay<'a> {
         }
     }
 
-    /// Another seat of this bay, for another worker. It loads one word, so the bay has at least one slot.
+    /// Another seat of this bay, for another worker. The call loads one word, so the bay has at least one slot.
     pub fn split(&self, seat: &mut BaySeat<'a>) -> BaySeat<'a>
         requires here { IsSeatOf self.now seat.old }
         requires some { 0 < self.now.fibers }
@@ -135,7 +135,7 @@ impl<'a> Bay<'a> {
         Ok(())
     }
 
-    /// Whether a fiber was recorded as waiting for a topic since the topic's list was last drained. It takes no lock. A
+    /// Whether a fiber was recorded as waiting for a topic since the topic's list was last drained. Takes no lock. A
     /// fiber that is recorded after a `false` sees at its next look what had happened before the call.
     #[inline(always)]
     pub fn is_awaited(&self, topic: Topic) -> bool

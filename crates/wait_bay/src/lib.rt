@@ -1,7 +1,7 @@
 //! The tasks of fibers that no worker holds, and the lists of which fiber waits for what.
 //!
 //! The crate uses the tasks (`fiber_poll`), the locks of `std` and the kit's `atomic_table` and `once_cell`. A [`Bay`]
-//! has a slot for each fiber and a list of waiters for each topic. It names a registry and a code, or nothing, and
+//! has a slot for each fiber and a list of waiters for each topic. The bay names a registry and a code, or nothing, and
 //! promises that a task taken from a slot is that of the slot's fiber and, if the bay names them, a task of that
 //! registry and that code.
 //!

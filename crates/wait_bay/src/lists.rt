@@ -13,7 +13,7 @@ const PAGE: usize = 64;
 /// The fibers that wait for one topic, as workers share them.
 #[derive(Drop)]
 pub(crate) struct WaiterList {
-    /// Whether a fiber was recorded since the list was last drained. It changes under the lock.
+    /// Whether a fiber was recorded since the list was last drained. The flag changes under the lock.
     pub noted: AtomicBool,
     pub waiters: Mutex<Waiters>,
 }

@@ -125,7 +125,7 @@ impl<'a> Bay<'a> {
         back
     }
 
-    // Takes a slot out, if it is at home. It tries once: a seat that has the slot is putting or taking.
+    // Takes a slot out, if it is at home. Tries once: a seat that has the slot is putting or taking.
     #[inline(always)]
     fn take_out(&self, seat: &mut Seat<Option<FiberTask<'a>>, Knowledge>, f: u16) -> bool
         requires here { seat.old.table_id ≡ self.now.table }
