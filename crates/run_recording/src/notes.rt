@@ -94,11 +94,11 @@ pub(crate) const UNSEEN: Seen = Seen {
 /// Whether a log is complete.
 #[derive(Clone, Copy, PartialEq, Eq, Debug)]
 pub enum Whole {
-    /// It is complete.
+    /// The log is complete.
     Yes,
-    /// It received more calls than it keeps.
+    /// The log received more calls than it keeps.
     TooLong,
-    /// It lacked memory.
+    /// The log lacked memory.
     NoMemory,
 }
 

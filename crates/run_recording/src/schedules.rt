@@ -10,7 +10,7 @@ use std::alloc::{AllocError, AllocFailed, Global};
 /// Why a recorded run has no schedule.
 #[derive(Clone, Copy, PartialEq, Eq, Debug)]
 pub enum NoSchedule {
-    /// It has more than 1,000,000 entries, or a worker noted more than 1,000,000 calls.
+    /// The schedule has more than 1,000,000 entries, or a worker noted more than 1,000,000 calls.
     TooLong,
     /// No schedule was found whose replay has the run's end, or the run ended with a fault of its workers or its
     /// memory, which no schedule has.

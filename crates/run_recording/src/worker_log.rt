@@ -62,8 +62,8 @@ impl<'c> WorkerLog<'c> {
         }
     }
 
-    /// Notes that the last move of the fiber `by` waited. It came after a look unless a mask was active. The fiber has
-    /// `left` moves left.
+    /// Notes that the last move of the fiber `by` waited. The move came after a look unless a mask was active. The
+    /// fiber has `left` moves left.
     pub fn waited(&mut self, by: u16, left: u32, masked: bool) {
         let looked = if masked { 0 } else { 1 };
         self.note(by, left.saturating_add(1), CallKind::Wait, looked);
