@@ -19,10 +19,10 @@ use std::alloc::{AllocError, Global};
 /// The report of tasks of one registry and one code: all of them belong to this registry, and moves of this code led to
 /// each one's state, where each fiber began with as many moves as its parent had left.
 ///
-/// It doesn't matter who moved them, or in which order: the report is that of the core under some schedule. It has a
-/// line for each task, at the number of its fiber, and no other. Returns [`RunError::Lost`] with the least number of a
-/// started fiber that has no task among these, which is 0 if there is no task, and [`RunError::NoMemory`] if memory is
-/// refused. The tasks are dropped.
+/// It doesn't matter who moved them, or in which order: the report is that of the core under some schedule. The report
+/// has a line for each task, at the number of its fiber, and no other. Returns [`RunError::Lost`] with the least number
+/// of a started fiber that has no task among these, which is 0 if there is no task, and [`RunError::NoMemory`] if
+/// memory is refused. The tasks are dropped.
 pub fn gather<'a>(
     alloc: Global,
     registry: &Registry,

@@ -6,8 +6,8 @@
 //! order, and makes a report of them. [`Leavings`] are the tasks that the workers of a run left: one thread moves their
 //! fibers on until none can move. [`certify`] replays a schedule that was found for a recorded run.
 //!
-//! It promises that every report is one that the core has under some schedule, that a run's report is a final one
-//! unless a fiber has used up its moves, and that a certified schedule leads to exactly the run's end.
+//! The crate promises that every report is one that the core has under some schedule, that a run's report is a final
+//! one unless a fiber has used up its moves, and that a certified schedule leads to exactly the run's end.
 #![tactic(auto)]
 
 mod certifying;
