@@ -78,7 +78,7 @@ impl Idle {
         }
     }
 
-    /// A worker that searched is parked from now on. It has to look at all queues once more before it sleeps.
+    /// A worker that searched is parked from now on. The worker has to look at all queues once more before it sleeps.
     pub(crate) fn park(&self, worker: u8) {
         self.sleeping.fetch_add(1, Ordering::SeqCst);
         if let Some(sleeper) = self.sleepers.get(worker as usize) {

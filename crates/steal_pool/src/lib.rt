@@ -6,8 +6,9 @@
 //! tasks from the bay, makes turns of them and puts them back, until no fiber can go on. One thread finishes what they
 //! left, which is nothing if each wake arrived.
 //!
-//! It promises that every report is one that the core has under some schedule, and that a run's report is complete
-//! ([`run_told`]) unless a fiber has used up its moves. That wakes arrive and that workers run at once is only tested.
+//! The crate promises that every report is one that the core has under some schedule, and that a run's report is
+//! complete ([`run_told`]) unless a fiber has used up its moves. That wakes arrive and that workers run at once is only
+//! tested.
 //!
 //! This runs a program of two fibers on two workers:
 //!

@@ -30,8 +30,8 @@ use std::thread::Threads;
 /// Runs a program as [`run_told`] does, and returns a schedule under which the core has the same end, this report or
 /// this fault, under the limits of the run.
 ///
-/// The workers note their calls, and a schedule is made from the notes. It is replayed, and returned only if the replay
-/// has the end of the run. The notes never make a run fail. That a schedule is found isn't promised.
+/// The workers note their calls, and a schedule is made from the notes. The schedule is replayed, and returned only if
+/// the replay has the end of the run. The notes never make a run fail. That a schedule is found isn't promised.
 pub fn run_recorded<R: Threads + Wait + Sync, G: Gate>(
     rt: &R,
     alloc: Global,
