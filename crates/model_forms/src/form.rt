@@ -23,8 +23,8 @@ pub struct Form {
     pub start: usize,
     /// The number of bytes up to its last one.
     pub end: usize,
-    /// The number of forms inside a list, at any depth. They follow it in the list of all forms. It is 0 for a word and
-    /// a text.
+    /// The number of forms inside a list, at any depth. These forms follow the list in the list of all forms. The
+    /// number is 0 for a word and a text.
     pub inside: usize,
 }
 
