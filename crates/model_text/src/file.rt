@@ -22,7 +22,7 @@ pub struct ModelFile {
 /// Why the bytes of a file aren't a model file.
 #[derive(Clone, Copy, PartialEq, Eq, Debug, Error)]
 pub enum FileFault {
-    /// They have no forms.
+    /// The bytes have no forms.
     #[error("{0}")]
     Form(FormFault),
     /// Its forms aren't items.
