@@ -11,7 +11,8 @@ use crate::wrong::Stop;
 use itoa::Buffer;
 use term_parse::Word;
 
-/// Plans a fiber that reads the ref with this name once, if this binder's refs are watched. It opens one more bracket.
+/// Plans a fiber that reads the ref with this name once, if this binder's refs are watched. The fiber takes one more
+/// open bracket.
 pub(crate) fn watch(
     out: &mut Writing,
     at: usize,

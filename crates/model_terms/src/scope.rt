@@ -7,8 +7,8 @@ use model_forms::Block;
 /// The end of a list of binders, or of uses.
 pub(crate) const NONE: usize = usize::MAX;
 
-/// What a place sees: the innermost binder, the innermost use of a definition around it, and a limit. It sees the
-/// definitions and constants that begin before this number of bytes of the source.
+/// What a place sees: the innermost binder, the innermost use of a definition around it, and a limit. The place sees
+/// the definitions and constants that begin before this number of bytes of the source.
 #[derive(Clone, Copy)]
 pub(crate) struct View {
     pub(crate) scope: usize,

@@ -51,7 +51,7 @@ pub(crate) fn reading_of(source: &Source) -> Reading<'_> {
 /// Why a name is refused.
 #[derive(Clone, Copy)]
 pub(crate) enum NameFault {
-    /// It is a word of the language.
+    /// The name is a word of the language.
     Word,
     /// Another definition or constant, which begins here, has it.
     Twice(usize),

@@ -76,11 +76,11 @@ pub(crate) enum Wrong {
 /// The limit that a term passes.
 #[derive(Clone, Copy)]
 pub(crate) enum Limit {
-    /// It has too many bytes.
+    /// The term has too many bytes.
     TooLong,
     /// Too many brackets of it are open.
     TooDeep,
-    /// It takes too many steps.
+    /// The translation takes too many steps.
     TooMuchWork,
 }
 
