@@ -4,8 +4,8 @@
 //! (`derived_ops`). Most words of a code come from one form of the term's text each. A form such as `race`, `both`,
 //! `guarantee` or a bracket gives many words of the code, and a message about one of these words shows that form.
 //! [`code_sources`] returns for each word of a code where its form begins, and for a start the role of the fiber: one
-//! that the text starts, a side of a race, or a fiber that a race starts for itself. It promises one entry for each
-//! word of the code.
+//! that the text starts, a side of a race, or a fiber that a race starts for itself. The function promises one entry
+//! for each word of the code.
 //!
 //! ```
 //! let text = b"(let x (pure 1) (say x))";
