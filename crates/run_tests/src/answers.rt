@@ -82,8 +82,8 @@ fn told(alloc: Global, answer: Result<RunEnd, RunError>) -> Result<String, Fail>
     }
 }
 
-/// The result of a run of the program that this text spells, with this gate. It says whether the workers left moves to
-/// be made.
+/// The result of a run of the program that this text spells, with this gate. The text says whether the workers left
+/// moves to be made.
 pub fn run_past<R: Threads + Wait + Sync, G: Gate>(
     rt: &R,
     alloc: Global,

@@ -28,10 +28,10 @@ const RACE: &str = "(race (pure 4) (oncancel (never) (say 9)))";
 //
 // With a budget of 64 moves, fiber 0 starts the others in its first two turns, and looks at the deferred in its third,
 // which is held until fiber 1 has completed the deferred. So it doesn't wait there, but for the end of fiber 1, which
-// is held until then. It requests the cancellation of fiber 2 in its fourth turn or in its fifth, and begins its sixth,
-// since fiber 2 hasn't ended. Fiber 2 makes all moves up to its wait in its first turn. With a budget of 4 moves it has
-// entered its poll then. Fiber 1 completes the deferred in its third turn. Fiber 0 begins to wait for its end in its
-// fifth, makes the request in the sixth or the seventh, and begins its eighth.
+// is held until then. Fiber 0 requests the cancellation of fiber 2 in its fourth turn or in its fifth, and begins its
+// sixth, since fiber 2 hasn't ended. Fiber 2 makes all moves up to its wait in its first turn. With a budget of 4 moves
+// it has entered its poll then. Fiber 1 completes the deferred in its third turn. Fiber 0 begins to wait for its end in
+// its fifth, makes the request in the sixth or the seventh, and begins its eighth.
 const HELD: &[(u32, &[Hold], &str)] = &[
     (
         64,

@@ -7,8 +7,8 @@ use std::sync::Wait;
 use std::test::Fail;
 use std::thread::Threads;
 
-// The number of fibers of a ring. They go round three times: each completes a deferred of the fiber before it, yields
-// and awaits its own.
+// The number of fibers of a ring. The values go round three times: each completes a deferred of the fiber before it,
+// yields and awaits its own.
 const RING: u32 = 12;
 
 // How a single ring is run.
@@ -22,8 +22,8 @@ const ALONE: Runs<'static> = Runs {
 // The number of rings that run one after another in one run.
 const MANY: u32 = 27;
 
-// One more fiber of a ring. It passes on its own place first, and then what it got, so in the end it has the place of
-// the fiber three places on. Then it runs `then`.
+// One more fiber of a ring. The fiber passes on its own place first, and then what it got, so in the end it has the
+// place of the fiber three places on. Then it runs `then`.
 fn member(alloc: Global, at: u32, then: &str) -> Result<String, AllocError> {
     let before = at.wrapping_add(RING - 1) % RING;
     format!(in alloc;
