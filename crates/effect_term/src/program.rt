@@ -1,4 +1,4 @@
-//! Programs: the terms that a fiber may run.
+//! Programs: the terms that a fiber can run.
 
 ghost use Rattle.std.specs.Prelude.{◌≡◌, [], None, IfOk, OnOk, IfErr, IsOkUnless, IsTrue, ◌↔◌};
 ghost use Rattle.effect_term.specs.Kinds.{WellKinded};
@@ -17,8 +17,7 @@ const MASKS_LIMIT: u64 = 250;
 // The greatest number of words and marks of a program's expansion.
 const EXPANSION_LIMIT: u64 = 1_000_000;
 
-/// A closed, well-kinded term with at most 250 masks, whose expansion has at most 1,000,000 words
-/// and marks.
+/// A closed, well-kinded term with at most 250 masks, whose expansion has at most 1,000,000 words and marks.
 #[derive(Drop)]
 pub struct Program {
     term: Term,

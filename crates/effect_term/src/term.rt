@@ -5,7 +5,7 @@
 
 use crate::value::Value;
 
-/// What a name stands for.
+/// The kind of what a name is bound to.
 #[derive(Clone, Copy, PartialEq, Eq, Debug)]
 pub enum Kind {
     /// A whole number of 63 bits with sign.
@@ -25,7 +25,7 @@ pub enum Kind {
 pub struct Name {
     /// The number of binders that enclose the binder, from 0 on.
     pub slot: u32,
-    /// What the name stands for.
+    /// The kind of what the name is bound to.
     pub kind: Kind,
 }
 
@@ -34,7 +34,7 @@ pub struct Name {
 pub enum Operand {
     /// This number.
     Number(Value),
-    /// The value that this name stands for.
+    /// The value that this name is bound to.
     Named(Name),
 }
 
