@@ -1,4 +1,4 @@
--- The bands of numbers that a registry gives out: those of fibers, refs and deferreds.
+-- The bands of numbers that a registry gives: those of fibers, refs and deferreds.
 use Rattle.std.specs.Prelude.{◌≡◌, ℕ, ◌<◌, ◌≤◌, List, [], ◌∷◌, ◌⊎◌}
 use Rattle.effect_term.specs.declared.reply.Reply.TheVariants as reply
 use Rattle.cell_registry.specs.declared.limits.Limits.{Limits}

@@ -107,7 +107,8 @@ Unmasked v w = Changed v Unmask unmasked w
 abbrev pub WasCut : Knowledge → Knowledge → Type 0
 WasCut v w = Changed v Cut cut w
 
--- the owner added k, which ends the fiber with an outcome whose number is the one that the pass had stored last
+-- the owner added k: if k is the amount of an end whose outcome has the number that the pass had stored last, this is
+-- that end
 abbrev pub Finished : ℕ → Knowledge → Knowledge → Type 0
 Finished k v w = (b : Bool) (o : Outcome) → phase_at (seen_cell v v.number).stage ≡ bit b → OutcomeFits o →
     v.stored ≡ Some (value_bits (value_of o)) → k ≡ finish_sum b o → Changed v (Finish o) (finished o) w
@@ -135,7 +136,7 @@ AtRef i k P = (r : ℕ) → i ≡ r + (3 + k.fibers) → P r
 abbrev pub AtDeferred : ℕ → Limits → (ℕ → Type 0) → Type 0
 AtDeferred i k P = (d : ℕ) → i ≡ d + (3 + k.fibers + k.refs) → P d
 
--- n has the lowest 63 bits of v
+-- n has the 63 bits of the value v
 abbrev pub HasBits : ℕ → ℤ → Type 0
 HasBits n v = IsValue v × (n ≡ value_bits v)
 
@@ -151,7 +152,7 @@ abbrev pub Modified : ℕ → ℕ → Knowledge → ℕ → Knowledge → Type 0
 Modified i n v found w = AtRef i v.limits (λ r. (x : ℤ) → HasBits n x →
     Called v (Modify r x) (reply.Value (ref_value found)) w × IsSame v w)
 
--- the word of an empty deferred was exchanged for n
+-- n, the word of a completed deferred, replaced the word of the deferred if that was empty; `found` is the word before
 abbrev pub Completed : ℕ → ℕ → Knowledge → ℕ → Knowledge → Type 0
 Completed i n v found w = AtDeferred i v.limits (λ d. (x : ℤ) → IsValue x → n ≡ deferred_word (Some x) →
     Called v (Complete d x) (reply.Completed (found == 0)) w × IsSame v w)

@@ -20,7 +20,7 @@ pub struct Cell {
     pub depth: u8,
     /// Whether its cancellation is requested.
     pub request: bool,
-    /// Whether somebody has joined it.
+    /// Whether a fiber has joined it.
     pub waited: bool,
     /// The number of changes that its owner has made.
     pub count: u64,
