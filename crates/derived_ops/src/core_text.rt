@@ -141,7 +141,7 @@ fn push_maker(text: &mut Vec<u8>, maker: &Maker, slot: usize) -> Result<(), Allo
     }
 }
 
-// Writes what stands before the part of a loop.
+// Writes the beginning of a loop, up to its part.
 #[inline(never)]
 fn push_turns(text: &mut Vec<u8>, turns: &Turns) -> Result<(), AllocError>
     ensures { OnOk result (text.new.items ≡ text.old.items ++ turns_text (turns_in_core turns.now)) }
