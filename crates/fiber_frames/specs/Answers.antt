@@ -42,8 +42,8 @@ abbrev pub IsRead : Reply → Type 0
 IsRead (reply.Read o) = Unit {0}
 IsRead _ = ⊥
 
--- the reply is of the kind that the ask of fiber i wants; the reply to a start is a number above i. An ask that wants
--- no call has no reply
+-- the reply is of the kind that the ask of fiber i wants; a start gets a number above i, and a move without a call gets
+-- `Done`. A fiber that has ended or is broken gets no reply
 abbrev pub Answers : ℕ → Ask → Reply → Type 0
 Answers i ask.Look r = IsSeen r
 Answers i ask.Cut r = IsDone r
