@@ -54,6 +54,6 @@ abbrev pub first_result : Result World RunError → Result (Option Outcome) RunE
 first_result (Ok w) = Ok (outcome_at (slice_get w.fibers 0))
 first_result (Err e) = Err e
 
--- the limits of a run that is given none
+-- the default limits of a run
 abbrev pub default_limits : Limits
 default_limits = record { fibers = 1000; refs = 1000; deferreds = 1000; count = 1099511627775 }
