@@ -55,7 +55,7 @@ pub(crate) enum Wrong {
     BracketForName(NameKind),
     /// A name to bind is expected.
     NoName,
-    /// A string stands in a term.
+    /// A term contains a string.
     StrayText,
     /// A number is expected, or the number is out of range.
     NoNumber,
@@ -91,7 +91,7 @@ pub(crate) enum Stop {
     NoMemory,
     /// The term passes this limit.
     Limit(Limit),
-    /// This is wrong at these bytes, where these names are seen.
+    /// This is wrong at these bytes; the view has the names that they see.
     Wrong(Wrong, Span, View),
 }
 
