@@ -12,8 +12,7 @@ use std::alloc::{AllocError, Global};
 /// The fiber that calls, 0 or 1, the call, and the result. The only ref and the only deferred have the number 0.
 pub(crate) type Row = (u16, Call, Result<Reply, CellError>);
 
-/// A new registry of two fibers, one ref and one deferred, the pass of fiber 0, and that of fiber 1,
-/// which was started.
+/// A new registry of two fibers, one ref and one deferred, the pass of fiber 0, and that of fiber 1, which was started.
 pub(crate) fn two_fibers(
     alloc: Global,
     count: u64,

@@ -207,8 +207,7 @@ fn refs_wrap_and_deferreds_fill_once(rt: HostRuntime) -> Result<(), AllocError> 
     Ok(())
 }
 
-// The sum of -1 and 1 carries into the highest bit of a ref's word, and the word of a completed deferred
-// has that bit.
+// The sum of -1 and 1 carries into the highest bit of a ref's word, and the word of a completed deferred has that bit.
 fn highest_bits() -> [Row; 6] {
     let minus_one = Value::from_i32(-1);
     let five = Value::from_i32(5);
