@@ -12,7 +12,8 @@ pub enum Rest {
 }
 
 /// A word of a code, without its parts. The words of a term are in the order in which they are written, so a word's
-/// first part is the next word. The numbers of a word are the distances from its first part to its further parts.
+/// first part is the next word. For each further part, a word has the distance from the first part to that part, as a
+/// number of words.
 ///
 /// A binder's slot isn't stored: it is the number of binders around it.
 #[derive(Clone, Copy)]
