@@ -1,4 +1,4 @@
-//! The end of one move of a turn, as the loop over moves sees it.
+//! The kind of one move of a turn, as the loop over moves sees it.
 ghost use Rattle.std.specs.Prelude.{◌≡◌, ◌≢◌, ℕ, if◌then◌else◌};
 ghost use Rattle.fiber_poll.specs.Turns.{awaited, woken};
 ghost use Rattle.fiber_poll.specs.Private.Told.{Follows, IsLast, Tells, event_at, event_in, event_told};
@@ -8,7 +8,7 @@ use crate::turn::Turn;
 use effect_term::{CancelReply, Reply};
 use fiber_frames::{Ask, Moved};
 
-/// The end of a move that starts no fiber. The end and the move's ask determine the event. A `MoveEnd` has no fields,
+/// The kind of a move that starts no fiber. The kind and the move's ask determine the event. A `MoveEnd` has no fields,
 /// so that it is returned in a register.
 #[derive(Clone, Copy)]
 pub(crate) enum MoveEnd {
@@ -24,7 +24,7 @@ pub(crate) enum MoveEnd {
     Ended,
 }
 
-/// The end of a move with this ask. `woke` is whether a plain move woke fibers.
+/// The kind of a move with this ask. `woke` is whether a plain move woke fibers.
 #[inline(always)]
 pub(crate) fn move_end_of(ask: &Ask, woke: bool, moved: &Moved) -> MoveEnd
     requires follows { Follows ask.now moved.now }
@@ -64,7 +64,7 @@ pub(crate) fn wakes(number: u16, ask: &Ask, reply: &Reply) -> bool
     }
 }
 
-/// The result of a turn whose last move has this end.
+/// The result of a turn whose last move is of this kind.
 pub(crate) fn told<'a>(ask: Ask, end: MoveEnd) -> Turn<'a>
     requires tells { Tells ask end }
     requires told { end ≢ MoveEnd.Plain }

@@ -63,7 +63,7 @@ abbrev pub CanEnd : Ask → Type 0
 CanEnd (ask.Finish o) = Unit {0}
 CanEnd _ = ⊥
 
--- a move with this ask can have this end
+-- a move with this ask can be of this kind
 abbrev pub Tells : Ask → MoveEnd → Type 0
 Tells a move_end.Woke = CanWake a
 Tells a move_end.Ended = CanEnd a
@@ -99,7 +99,7 @@ IsLast (turn.Started t) = ⊥
 IsLast turn.OutOfMoves = ⊥
 IsLast _ = Unit {0}
 
--- one move, under some reply, with this end: how far the fiber has come by it; the fiber goes on unless the move has an
+-- one move, under some reply, of this kind: how far the fiber has come by it; the fiber goes on unless the move has an
 -- event
 pub record Made (old : TaskView) (a : Ask) (s : MoveEnd) (new : TaskView) : Type 0 where
   pub reply : Reply
