@@ -67,7 +67,8 @@ pub fn certify(
     }
 }
 
-// The entries and the report, if a replay under the entries has this report.
+// Certifies the schedule `found` by replaying it to this report. Returns its entries, or why there are none, and the
+// report.
 fn of_report(
     alloc: Global,
     program: &Program,
@@ -88,7 +89,7 @@ fn of_report(
     }
 }
 
-// The entries, if a replay under them has this end.
+// Certifies the schedule `found` by replaying it to this end. Returns its entries, or why there are none.
 fn leading_to(
     alloc: Global,
     program: &Program,
@@ -105,7 +106,8 @@ fn leading_to(
     Ok(entries)
 }
 
-// Whether a replay under the entries has this end.
+// Checks that a replay under the entries has this end. Returns `NotFound` if it hasn't, and `NoMemory` if memory runs
+// out.
 #[tactic(auto, using(crate::proofs::Recording::replayed_comes))]
 fn comes(
     alloc: Global,
