@@ -31,7 +31,7 @@ pub fn picture(alloc: Global, told: &Told) -> Result<String, AllocError> {
     Ok(text)
 }
 
-// The text before the shapes: the size of the picture, its style and its background.
+// What stands before the shapes: the size of the picture, its style, and its ground.
 fn push_head(alloc: Global, text: &mut String, scale: Scale) -> Result<(), AllocError> {
     let width = scale.right().saturating_add(200).max(WIDTH);
     let height = scale.bottom().saturating_add(20 + HEIGHT);

@@ -64,7 +64,7 @@ impl Lane {
         }
     }
 
-    /// Draws one event of the fiber, in the order of the entries.
+    /// One event of the fiber, in the order of the entries.
     pub(crate) fn push(
         &mut self,
         text: &mut String,
@@ -197,7 +197,7 @@ impl Lane {
         self.push_sign(place, event)
     }
 
-    // Draws the sign of an event, unless there is one at its place already.
+    // The sign of an event, unless one stands there already.
     fn push_sign(&mut self, place: Place, event: &Event) -> Result<(), AllocError> {
         let sign = sign_of(event);
         if place.x == self.signed && sign.class == "tick" {

@@ -32,7 +32,7 @@ fn push_name(text: &mut String, scale: Scale, fiber: usize) -> Result<(), AllocE
     push_counted(text, "name", at, "fiber ", fiber)
 }
 
-// The lane of a fiber, and its outcome.
+// The lane of a fiber, and how it ended.
 fn push_lane(
     alloc: Global,
     text: &mut String,

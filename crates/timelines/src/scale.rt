@@ -2,7 +2,7 @@
 
 use fiber_events::Event;
 
-/// The distance of the first entry from the left, behind the names of the fibers.
+/// How far from the left the first entry is: behind the names of the fibers.
 pub(crate) const LEFT: usize = 84;
 
 /// The distance of the first lane from the top.

@@ -98,7 +98,7 @@ pub(crate) fn push_sign(
     text.push_str("/>\n")
 }
 
-/// The sign of an event, which shows the event's words when the pointer is on it.
+/// A sign that stands for an event, whose words it shows to who points at it.
 pub(crate) fn push_event_sign(
     text: &mut String,
     class: &str,

@@ -1,6 +1,6 @@
 //! The style of a picture: its colours, for light and dark display.
 
-/// The style, the fillings and the markers of the shapes.
+/// The style of the shapes, and what they are filled and headed with.
 pub(crate) const STYLE: &str = "<style>\n\
 svg { --paper: #ffffff; --ink: #1c2128; --faint: #6b7480; --grid: #e4e7eb; --runs: #c9d3df; --masked: #7186b8; \
 --polled: #a5d6b7; --final: #e0a94f; --span: #3d5a99; --bad: #c03535; --good: #2c8554; \
