@@ -21,7 +21,7 @@ const RUN: &[&str] = &["fiber_cli", "run"];
 
 const RUN_WHY: &[&str] = &["fiber_cli", "run", "--explain"];
 
-// A replay whose schedule is the first line of the input.
+// The words of a replay whose schedule is the first line of the input.
 const FROM_INPUT: &[&str] = &["fiber_cli", "replay", "--schedule", "-"];
 
 // A reader that gives one byte for each read, and fails after a number of bytes.
