@@ -1,4 +1,4 @@
--- The bands of numbers that a registry gives: fibers, refs and deferreds.
+-- The bands of numbers that a registry gives: those of fibers, refs and deferreds.
 use Rattle.std.specs.Prelude.{◌≡◌, ℕ, ◌<◌, ◌≤◌, List, [], ◌∷◌, ◌⊎◌}
 use Rattle.effect_term.specs.declared.reply.Reply.TheVariants as reply
 use Rattle.cell_registry.specs.declared.limits.Limits.{Limits}
@@ -16,7 +16,7 @@ next_of Fibers s = s.next_fiber
 next_of Refs s = s.next_ref
 next_of Deferreds s = s.next_deferred
 
--- how many numbers the band has
+-- the number of numbers in the band
 abbrev pub limit_of : Band → Limits → ℕ
 limit_of Fibers k = k.fibers
 limit_of Refs k = k.refs
@@ -28,22 +28,22 @@ claim_of Fibers = Start
 claim_of Refs = NewRef
 claim_of Deferreds = NewDeferred
 
--- the first number that a call gives: fiber 0 is born with the registry
+-- the first number that a call gives; fiber 0 exists from the start
 abbrev pub first_of : Band → ℕ
 first_of Fibers = 1
 first_of Refs = 0
 first_of Deferreds = 0
 
--- some call in the history was answered the number n of the band
+-- the reply to some call in the history was the number n of the band
 abbrev pub WasGiven : Band → List Entry → ℕ → Type 0
 WasGiven b [] n = ⊥
 WasGiven b (e ∷ es) n = ((e.call ≡ claim_of b) × (e.reply ≡ reply.Number n)) ⊎ WasGiven b es n
 
--- all numbers of the band were given: the next one is the limit, and each number below it stands in the history
+-- all numbers of the band were given: the next one is the limit, and the history gave each number below it
 pub record AreAllGiven (b : Band) (k : Limits) (h : List Entry) : Type 0 where
   pub next : next_of b (left k h) ≡ limit_of b k
   pub each : (n : ℕ) → first_of b ≤ n → n < limit_of b k → WasGiven b h n
 
--- the number is the first fiber's, or the reply of a start in the history
+-- the number is 0, or the reply to a start in the history
 abbrev pub WasBorn : List Entry → ℕ → Type 0
 WasBorn h f = (f ≡ 0) ⊎ WasGiven Fibers h f

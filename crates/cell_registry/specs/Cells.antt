@@ -39,18 +39,18 @@ pub record AreLimits (k : Limits) : Type 0 where
 abbrev pub fresh : Cell
 fresh = record { stage = Running; depth = 0; request = false; waited = false; count = 0 }
 
--- what others change in a cell
+-- what other fibers change in a cell
 abbrev pub requested : Cell → Cell
 requested c = record c { request = true }
 
 abbrev pub awaited : Cell → Cell
 awaited c = record c { waited = true }
 
--- nobody has joined it, as far as it is noted
+-- the cell without the note that its fiber was joined
 abbrev pub unawaited : Cell → Cell
 unawaited c = record c { waited = false }
 
--- what its owner changes: each such change adds 1 to the count
+-- what the owner changes: each such change adds 1 to the count
 abbrev pub masked : Cell → Cell
 masked c = record c { depth = c.depth + 1; count = c.count + 1 }
 
@@ -67,7 +67,7 @@ finished o c = record c { stage = Ended o; count = c.count + 1 }
 abbrev pub owned : Cell → Stage × ℕ × ℕ
 owned c = (c.stage, c.depth, c.count)
 
--- what a request for cancellation is answered
+-- the reply to a request for cancellation
 abbrev pub cancel_reply : Stage → Bool → CancelReply
 cancel_reply (Ended o) request = canceled.Ended
 cancel_reply Running true = canceled.Already
@@ -75,7 +75,7 @@ cancel_reply Finalizing true = canceled.Already
 cancel_reply Running false = canceled.Asked
 cancel_reply Finalizing false = canceled.Asked
 
--- what a join is answered
+-- the reply to a join
 abbrev pub join_reply : Stage → JoinReply
 join_reply (Ended o) = joined.Ended o
 join_reply Running = joined.Waits
@@ -87,14 +87,14 @@ IsOpen Running = Unit {0}
 IsOpen Finalizing = Unit {0}
 IsOpen (Ended o) = ⊥
 
--- a mask may be left: the one that a cut enters stays
+-- a mask can be left, except the one that a cut enters
 abbrev pub MayUnmask : Stage → ℕ → Type 0
 MayUnmask Running depth = 0 < depth
 MayUnmask Finalizing depth = 1 < depth
 MayUnmask (Ended o) depth = ⊥
 
--- the fiber may end with this outcome: a running one unmasked and not as canceled, and one that runs its finalizers
--- as canceled, under the mask of the cut alone
+-- the fiber can end with this outcome: a running, unmasked fiber with a value or an error, and a finalizing fiber as
+-- canceled, if the mask of the cut is its only one
 abbrev pub MayFinish : Stage → ℕ → Outcome → Type 0
 MayFinish Running depth (Succeeded v) = (depth ≡ 0) × IsValue v
 MayFinish Running depth (Errored c) = (depth ≡ 0) × IsValue c
@@ -105,8 +105,8 @@ MayFinish Finalizing depth Canceled = depth ≡ 1
 MayFinish (Ended p) depth o = ⊥
 
 -- ---- the registry
--- a cell for each fiber number, a value for each ref, an optional value for each deferred, and the next number of
--- each band
+-- a cell for each fiber number, a value for each ref, an optional value for each deferred, and the next number of each
+-- band
 pub record Cells : Type 0 where
   pub next_fiber : ℕ
   pub next_ref : ℕ
@@ -115,7 +115,7 @@ pub record Cells : Type 0 where
   pub refs : List ℤ
   pub deferreds : List (Option ℤ)
 
--- the registry before all calls: the first fiber is born, and no other
+-- the registry before all calls: only fiber 0 was started
 abbrev pub opening : Limits → Cells
 opening k = record {
   next_fiber = 1;
@@ -144,11 +144,11 @@ with_ref s r v = record s { refs = slice_set s.refs r v }
 abbrev pub with_deferred : Cells → ℕ → Option ℤ → Cells
 with_deferred s d v = record s { deferreds = slice_set s.deferreds d v }
 
--- the same registry, where it isn't noted which fibers were joined
+-- the same registry, without the notes of which fibers were joined
 abbrev pub without_waits : Cells → Cells
 without_waits s = record s { cells = map unawaited s.cells }
 
--- a deferred is filled at most once
+-- a deferred keeps the first value that it is completed with
 abbrev pub filled : Option ℤ → ℤ → Option ℤ
 filled None v = Some v
 filled (Some w) v = Some w
@@ -171,7 +171,7 @@ after s by (Modify r v) = with_ref s r (wrapped (ref_of s r +ℤ v))
 after s by (Complete d v) = with_deferred s d (filled (deferred_of s d) v)
 after s by (Read d) = s
 
--- what the call is answered
+-- the reply of a call
 unfoldable pub reply_of : Cells → ℕ → Call → Reply
 reply_of s by Start = reply.Number s.next_fiber
 reply_of s by (Cancel f) = reply.Cancel (cancel_reply (cell_of s f).stage (cell_of s f).request)
@@ -189,7 +189,7 @@ reply_of s by (Modify r v) = reply.Value (ref_of s r)
 reply_of s by (Complete d v) = reply.Completed (is_none (deferred_of s d))
 reply_of s by (Read d) = reply.Read (deferred_of s d)
 
--- the condition of a call holds; that of a cut asks for the request itself
+-- the condition of the call holds; a cut needs the request to be set
 unfoldable pub IsAllowed : Limits → Cells → ℕ → Call → Type 0
 IsAllowed k s by Start = IsOpen (cell_of s by).stage
 IsAllowed k s by (Cancel f) = f < k.fibers
@@ -215,7 +215,7 @@ full band next limit = cond (next == limit) (Some (Full band limit)) None
 abbrev pub spent : ℕ → ℕ → Option CellError
 spent count limit = cond (count == limit) (Some (Spent count)) None
 
--- how a call is refused, if it is
+-- why the call is refused, if it is
 unfoldable pub refusal : Limits → Cells → ℕ → Call → Option CellError
 refusal k s by Start = full Fibers s.next_fiber k.fibers
 refusal k s by (Cancel f) = None

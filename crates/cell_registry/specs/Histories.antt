@@ -5,7 +5,7 @@ use Rattle.cell_registry.specs.declared.limits.Limits.{Limits}
 use Rattle.cell_registry.specs.declared.call.Entry.{Entry}
 use Rattle.cell_registry.specs.Cells.{Cells, opening, after, reply_of, IsAccepted}
 
--- the caller was born, its call is accepted, and the reply is the registry's
+-- the caller was started, its call is accepted, and the reply is that of the registry
 pub record MayFollow (k : Limits) (s : Cells) (e : Entry) : Type 0 where
   pub born : e.by < s.next_fiber
   pub accepted : IsAccepted k s e.by e.call
@@ -23,7 +23,7 @@ IsLegalFrom k s (e ∷ es) = MayFollow k s e × IsLegalFrom k (after s e.by e.ca
 unfoldable pub left : Limits → List Entry → Cells
 left k h = left_from (opening k) h
 
--- a legal history: one thread could have made it
+-- a legal history: one that a single thread could have made
 unfoldable pub IsLegal : Limits → List Entry → Type 0
 IsLegal k h = IsLegalFrom k (opening k) h
 

@@ -1,4 +1,4 @@
--- What contracts see of a registry and of its passes, and what the calls promise.
+-- What contracts see of a registry and its passes, and what the calls promise.
 use Rattle.std.specs.Prelude.{◌≡◌, ℕ, ◌+◌, ◌<◌, ◌≤◌, List, [], ◌∷◌, ◌++◌, Bool, true, false, None}
 use mathlib.Core.List.{IsPrefix}
 use Rattle.atomic_table.specs.Seated.{TableId}
@@ -24,7 +24,7 @@ use Rattle.cell_registry.specs.Words.{cell_word}
 use Rattle.cell_registry.specs.Steps.{IsCall, IsLook}
 
 -- ---- a registry
--- which table it is, and its limits
+-- the identity of its table, and its limits
 pub record RegistryView : Type 0 where
   pub table : TableId
   pub limits : Limits
@@ -38,8 +38,8 @@ pub record IsRegistry (key : Limits) (r : RegistryView) : Type 0 where
   pub slots : r.table.slots ≡ 0
 
 -- ---- a pass
--- the registry that it is of, the fiber, what its owner knows of the fiber's cell, the reply of the last look, the
--- fibers whose calls the pass makes or made, and the history that it has seen
+-- its registry, its fiber, what the owner knows of the fiber's cell, the reply of the last look, the fibers whose calls
+-- the pass makes or made, and the history that it has seen
 pub record PassView : Type 0 where
   pub registry : RegistryView
   pub number : ℕ
@@ -54,8 +54,9 @@ pub record PassView : Type 0 where
 abbrev pub own_cell : PassView → Cell
 own_cell p = cell_of (left p.registry.limits p.seen) p.number
 
--- what holds of every pass: what it has seen is legal, and leaves the fiber's cell as the pass tells, whose count
--- is within its limit. The fiber is one of the pass's, and all of these were born in what it has seen
+-- what holds of every pass: what it has seen is legal, and leaves the fiber's cell as the pass has it, with a count
+-- within the limit. The fiber is one of the pass's fibers, and what the pass has seen contains the start of each of
+-- these
 pub record IsPass (p : PassView) : Type 0 where
   pub limits : AreLimits p.registry.limits
   pub legal : IsLegal p.registry.limits p.seen
@@ -80,15 +81,15 @@ pass_of t v number stage depth count saw = record {
   seen = v.seen;
 }
 
--- what holds of a pass and of what its seat knows. As long as its fiber hasn't ended, it has stored no number: so the
--- fiber's value word is 0 between its calls (`StoredLast` of the rule), and a call that is refused, after which the
--- fiber hasn't ended, has stored none
+-- what holds of a pass and its seat's knowledge. As long as its fiber hasn't ended, the pass has stored no number. So
+-- the fiber's value word is 0 between its calls (`StoredLast` of the rule), and a refused call, after which the fiber
+-- hasn't ended, has stored none
 pub record IsSeated (v : Knowledge) (p : PassView) : Type 0 where
   pub number_is : p.number ≡ v.number
   pub pass : IsPass p
   pub unstored : IsOpen p.stage → v.stored ≡ None
 
--- the pass is one of this registry's
+-- the pass belongs to this registry
 abbrev pub IsOf : RegistryView → PassView → Type 0
 IsOf r p = p.registry ≡ r
 
@@ -106,33 +107,33 @@ first_pass r = record {
 }
 
 -- ---- the calls
--- the pass has seen more, and nothing else has changed
+-- the pass has seen more of the history, and nothing else has changed
 abbrev pub OnlySees : PassView → PassView → Type 0
 OnlySees p q = q ≡ record p { seen = q.seen }
 
--- the pass p made this call, and is q since
+-- the pass p made this call and became q
 abbrev pub Calls : PassView → Call → Reply → PassView → Type 0
 Calls p c r q = IsCall p.registry.limits p.fibers p.seen p.number c r q.seen
 
--- a change that the pass p made of its fiber's own cell: the fiber is at this stage and depth since, with one
--- change more. The count was below the limit
+-- the pass p changed its fiber's own cell and became q: the fiber is at this stage and depth, with one change more. The
+-- count was below the limit
 pub record Changes (p : PassView) (c : Call) (g : Stage) (depth : ℕ) (q : PassView) : Type 0 where
   pub room : p.count < p.registry.limits.count
   pub same : q ≡ record p { stage = g; depth = depth; count = p.count + 1; seen = q.seen }
   pub call : Calls p c reply.Done q
 
--- the fiber's changes are used up, and nothing has changed
+-- the fiber has made as many changes as the limit allows, and nothing has changed
 pub record IsSpent (p : PassView) (e : CellError) (q : PassView) : Type 0 where
   pub error : e ≡ Spent p.count
   pub limit : p.count ≡ p.registry.limits.count
   pub same : q ≡ p
 
--- the pass of a new fiber: it has seen what its parent has, and its fiber runs with no mask
+-- the pass of a new fiber: it has seen what its parent has, and its fiber is running without a mask
 abbrev pub newborn : PassView → ℕ → PassView
 newborn p n = record p { number = n; stage = Running; depth = 0; count = 0; saw = false; fibers = n ∷ [] }
 
--- the pass p started the fiber of the pass c, and is q since. The fiber's number is below the limit and above those
--- of p's fibers, and the fiber has made no call
+-- the pass p started the fiber of the pass c and became q. The fiber's number is below the limit and above those of p's
+-- fibers, and the fiber has made no call
 pub record Starts (p c q : PassView) : Type 0 where
   pub call : Calls p Start (reply.Number c.number) q
   pub child : c ≡ newborn q c.number
@@ -140,24 +141,24 @@ pub record Starts (p c q : PassView) : Type 0 where
   pub above : (f : ℕ) → Has p.fibers f → f < c.number
   pub silent : calls_by c.number q.seen ≡ []
 
--- the pass was given the number n of a band
+-- a call gave the pass the number n of a band
 pub record Gives (b : Band) (p : PassView) (n : ℕ) (q : PassView) : Type 0 where
   pub call : Calls p (claim_of b) (reply.Number n) q
   pub within : n < limit_of b p.registry.limits
 
--- the pass made no call, and has seen the giving of all numbers of the band
+-- the pass made no call, and has seen that all numbers of the band were given
 pub record SeesAllGiven (b : Band) (p q : PassView) : Type 0 where
   pub look : IsLook p.registry.limits p.fibers p.seen q.seen
   pub given : AreAllGiven b p.registry.limits q.seen
 
--- The pass made no call, and has seen a history in which n fibers were born
+-- the pass made no call, and has seen a history in which n fibers were started
 pub record Counts (p : PassView) (n : ℕ) (q : PassView) : Type 0 where
   pub look : IsLook p.registry.limits p.fibers p.seen q.seen
   pub next : (left p.registry.limits q.seen).next_fiber ≡ n
 
--- The pass a has met b, and is q since: what it has seen is one legal history, which begins with what a had seen
--- and with what b had seen. The calls in it of the fibers of a are those that a had seen, and of the fibers of b
--- those that b had. No fiber is of both
+-- the pass a met b and became q: what q has seen is one legal history that begins with what a had seen and with what b
+-- had seen. Its calls by a's fibers are those that a had seen, and its calls by b's fibers those that b had seen. No
+-- fiber belongs to both
 pub record Meets (a b q : PassView) : Type 0 where
   pub same : q ≡ record a { fibers = a.fibers ++ b.fibers; seen = q.seen }
   pub first : IsPrefix a.seen q.seen
@@ -167,8 +168,8 @@ pub record Meets (a b q : PassView) : Type 0 where
   pub other : (f : ℕ) → Has b.fibers f → calls_by f q.seen ≡ calls_by f b.seen
   pub apart : (f : ℕ) → Has a.fibers f → Has b.fibers f → ⊥
 
--- At the end, the word of the fiber f is n: some legal history, which begins with all that was seen and has no
--- further call of the fibers fs, leaves it so
+-- at the end, the word of the fiber f is n: some legal history leaves this word, begins with all that was seen and has
+-- no further call by the fibers fs
 pub record IsLeftWord (k : Limits) (fs : List ℕ) (seen : List Entry) (f n : ℕ) : Type 0 where
   pub history : List Entry
   pub begins : IsPrefix seen history

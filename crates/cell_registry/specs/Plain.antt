@@ -10,7 +10,7 @@ use Rattle.cell_registry.specs.Histories.{left, IsLegal, calls_by}
 use Rattle.cell_registry.specs.Rule.{Has}
 use Rattle.cell_registry.specs.Cells.{AreLimits, Cells, opening, after, reply_of, IsAllowed, refusal, IsSound}
 
--- what contracts see of a registry for one thread: its limits, and what its calls have left
+-- what contracts see of a registry for one thread: its limits, and the cells that its calls have left
 pub record PlainView : Type 0 where
   pub limits : Limits
   pub state : Cells
@@ -19,12 +19,12 @@ pub record PlainView : Type 0 where
 abbrev pub new_plain : Limits → PlainView
 new_plain k = record { limits = k; state = opening k }
 
--- what holds of every such registry: its limits are ones that a registry can have, and it is within them
+-- what holds of every such registry: its limits are allowed, and it is within them
 pub record IsPlain (r : PlainView) : Type 0 where
   pub limits : AreLimits r.limits
   pub sound : IsSound r.limits r.state
 
--- the caller was born, and the condition of its call holds
+-- the caller was started, and the condition of its call holds
 pub record MayCall (r : PlainView) (by : ℕ) (c : Call) : Type 0 where
   pub born : by < r.state.next_fiber
   pub allowed : IsAllowed r.limits r.state by c
@@ -40,8 +40,8 @@ pub record IsRefused (old new : PlainView) (by : ℕ) (c : Call) (e : CellError)
   pub why : refusal old.limits old.state by c ≡ Some e
   pub same : new ≡ old
 
--- At the end, the registry is r: some legal history, which begins with all that was seen and has no further call of
--- the fibers fs, leaves it so
+-- at the end, the registry is r: some legal history leaves it, begins with all that was seen and has no further call by
+-- the fibers fs
 pub record IsLeftPlain (k : Limits) (fs : List ℕ) (seen : List Entry) (r : PlainView) : Type 0 where
   pub history : List Entry
   pub begins : IsPrefix seen history

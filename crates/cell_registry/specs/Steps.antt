@@ -1,4 +1,4 @@
--- What each step tells the pass that makes it.
+-- What the pass that makes a step learns from it.
 use Rattle.std.specs.Prelude.{◌≡◌, ◌≢◌, ℕ, ◌+◌, ◌<◌, Bool, ◌==◌, List, [], ◌∷◌, ◌++◌, ◌⊎◌, Option, Some, None, ℤ}
 use mathlib.Core.List.{IsPrefix}
 use Rattle.effect_term.specs.declared.reply.Outcome.{Outcome}
@@ -28,10 +28,10 @@ use Rattle.cell_registry.specs.Rule.{Has, seen_cell}
 abbrev pub entry : ℕ → Call → Reply → Entry
 entry by c r = record { by = by; call = c; reply = r }
 
--- Each call in a history. A pass that makes the calls of the fibers fs had seen `before`, and its fiber `by` made a
--- call: what it has seen now is one legal history, which begins with all that it had seen and ends with this call
--- and its reply. The caller's calls in it are those before, and then this one. The reply is the registry's after
--- the entries that stand before the call. The pass's other fibers have made none since
+-- each call in a history. A pass whose fibers are fs had seen `before`, and its fiber `by` made a call. What it has
+-- seen now is one legal history, which begins with all that it had seen and ends with this call and its reply. The
+-- caller's calls in it are the earlier ones and then this call. The reply is the registry's after the entries before
+-- the call. The pass's other fibers have made no call since
 pub record IsCall (k : Limits) (fs : List ℕ) (before : List Entry) (by : ℕ) (c : Call) (r : Reply) (now : List Entry)
     : Type 0 where
   pub between : List Entry
@@ -41,8 +41,8 @@ pub record IsCall (k : Limits) (fs : List ℕ) (before : List Entry) (by : ℕ) 
   pub own : calls_by by now ≡ calls_by by before ++ entry by c r ∷ []
   pub others : (f : ℕ) → Has fs f → f ≢ by → calls_by f now ≡ calls_by f before
 
--- The pass made no call, and has seen a whole legal history, which begins with all that it had seen and has no
--- further call of its fibers
+-- the pass made no call, and has seen a whole legal history, which begins with all that it had seen and has no further
+-- call by its fibers
 pub record IsLook (k : Limits) (fs : List ℕ) (before now : List Entry) : Type 0 where
   pub seen : IsPrefix before now
   pub legal : IsLegal k now
@@ -54,7 +54,7 @@ Called v c r w = IsCall v.limits v.fibers v.seen v.number c r w.seen
 abbrev pub Looked : Knowledge → Knowledge → Type 0
 Looked v w = IsLook v.limits v.fibers v.seen w.seen
 
--- the same pass, whose own part of its cell is as before, and which has stored no number since
+-- the same pass: its own part of its cell is unchanged, and it has stored no number since
 pub record IsSame (v w : Knowledge) : Type 0 where
   pub limits : w.limits ≡ v.limits
   pub number : w.number ≡ v.number
@@ -67,7 +67,7 @@ pub record IsSame (v w : Knowledge) : Type 0 where
 abbrev pub AtCell : ℕ → (ℕ → Type 0) → Type 0
 AtCell i P = (f : ℕ) → i ≡ f + 3 → P f
 
--- the word that was found is that of a cell
+-- the word that the step found is that of a cell
 abbrev pub FoundCell : ℕ → (Cell → Type 0) → Type 0
 FoundCell n P = (c : Cell) × InRange (control c) × (cell_word c ≡ n) × P c
 
@@ -75,18 +75,18 @@ abbrev pub Cancelled : ℕ → Knowledge → ℕ → Knowledge → Type 0
 Cancelled f v found w =
     FoundCell found (λ c. Called v (Cancel f) (reply.Cancel (cancel_reply c.stage c.request)) w × IsSame v w)
 
--- the stage that was found stands in what was seen
+-- what the pass has seen contains the stage that the step found
 abbrev pub Joined : ℕ → Knowledge → ℕ → Knowledge → Type 0
 Joined f v found w = FoundCell found (λ c. Called v (Join f) (reply.Join (join_reply c.stage)) w × IsSame v w ×
     ((seen_cell w f).stage ≡ c.stage))
 
--- the request that was found stands in what was seen
+-- what the pass has seen contains the request that the step found
 abbrev pub SawRequest : Knowledge → ℕ → Knowledge → Type 0
 SawRequest v found w = FoundCell found (λ c. Called v Look (reply.Seen c.request) w × IsSame v w ×
     ((seen_cell w v.number).request ≡ c.request))
 
 -- ---- steps on the caller's own word
--- the same pass, whose own part of its cell is now this, and which has stored no number since
+-- the same pass: its own part of its cell is now this, and it has stored no number since
 pub record IsChanged (v w : Knowledge) (own : Stage × ℕ × ℕ) : Type 0 where
   pub limits : w.limits ≡ v.limits
   pub number : w.number ≡ v.number
@@ -94,7 +94,7 @@ pub record IsChanged (v w : Knowledge) (own : Stage × ℕ × ℕ) : Type 0 wher
   pub fibers : w.fibers ≡ v.fibers
   pub cell : owned (seen_cell w v.number) ≡ own
 
--- the call was made, and changed the caller's cell so
+-- the call was made, and changed the caller's cell by this function
 abbrev pub Changed : Knowledge → Call → (Cell → Cell) → Knowledge → Type 0
 Changed v c φ w = Called v c reply.Done w × IsChanged v w (owned (φ (seen_cell v v.number)))
 
@@ -107,12 +107,13 @@ Unmasked v w = Changed v Unmask unmasked w
 abbrev pub WasCut : Knowledge → Knowledge → Type 0
 WasCut v w = Changed v Cut cut w
 
--- the owner added k, which tells the outcome with what the pass had stored last
+-- the owner added k: if k is the amount of an end whose outcome has the number that the pass had stored last, this is
+-- that end
 abbrev pub Finished : ℕ → Knowledge → Knowledge → Type 0
 Finished k v w = (b : Bool) (o : Outcome) → phase_at (seen_cell v v.number).stage ≡ bit b → OutcomeFits o →
     v.stored ≡ Some (value_bits (value_of o)) → k ≡ finish_sum b o → Changed v (Finish o) (finished o) w
 
--- ---- steps on value words, which make no call and see nothing more
+-- ---- steps on value words, which make no call and see no more of the history
 -- the number n was stored in the value word of the pass's fiber
 abbrev pub WasStored : ℕ → Knowledge → Knowledge → Type 0
 WasStored n v w = w ≡ record v { stored = Some n }
@@ -121,7 +122,7 @@ WasStored n v w = w ≡ record v { stored = Some n }
 abbrev pub AtValue : ℕ → Limits → (ℕ → Type 0) → Type 0
 AtValue i k P = (f : ℕ) → i ≡ value_place k f → P f
 
--- the word that was found is that of the outcome that stands in what the pass has seen, if one does
+-- if what the pass has seen has an outcome of the fiber, the word that the step found is that of the outcome
 abbrev pub FoundValue : ℕ → Knowledge → ℕ → Knowledge → Type 0
 FoundValue i v found w = (w ≡ v) ×
     AtValue i v.limits (λ f. (o : Outcome) → (seen_cell v f).stage ≡ Ended o → HoldsOutcome found o)
@@ -135,7 +136,7 @@ AtRef i k P = (r : ℕ) → i ≡ r + (3 + k.fibers) → P r
 abbrev pub AtDeferred : ℕ → Limits → (ℕ → Type 0) → Type 0
 AtDeferred i k P = (d : ℕ) → i ≡ d + (3 + k.fibers + k.refs) → P d
 
--- n has the 63 bits of v
+-- n has the 63 bits of the value v
 abbrev pub HasBits : ℕ → ℤ → Type 0
 HasBits n v = IsValue v × (n ≡ value_bits v)
 
@@ -151,12 +152,12 @@ abbrev pub Modified : ℕ → ℕ → Knowledge → ℕ → Knowledge → Type 0
 Modified i n v found w = AtRef i v.limits (λ r. (x : ℤ) → HasBits n x →
     Called v (Modify r x) (reply.Value (ref_value found)) w × IsSame v w)
 
--- n was exchanged for an empty deferred's word
+-- n, the word of a completed deferred, replaced the word of the deferred if that was empty; `found` is the word before
 abbrev pub Completed : ℕ → ℕ → Knowledge → ℕ → Knowledge → Type 0
 Completed i n v found w = AtDeferred i v.limits (λ d. (x : ℤ) → IsValue x → n ≡ deferred_word (Some x) →
     Called v (Complete d x) (reply.Completed (found == 0)) w × IsSame v w)
 
--- the word that was found is that of the value
+-- the word that the step found is that of the value
 abbrev pub WasRead : ℕ → Knowledge → ℕ → Knowledge → Type 0
 WasRead i v found w = AtDeferred i v.limits (λ d. (x : Option ℤ) × ValueFits x × (deferred_word x ≡ found) ×
     Called v (Read d) (reply.Read x) w × IsSame v w)
@@ -173,13 +174,13 @@ MayClaim Fibers g = IsOpen g
 MayClaim Refs g = Unit {0}
 MayClaim Deferreds g = Unit {0}
 
--- a new fiber's number is the first of the pass's fibers, until it is handed out
+-- a new fiber's number is the first of the pass's fibers, until the new fiber has a pass of its own
 abbrev pub fibers_with : Band → ℕ → List ℕ → List ℕ
 fibers_with Fibers n fs = n ∷ fs
 fibers_with Refs n fs = fs
 fibers_with Deferreds n fs = fs
 
--- a number that no fiber had: it has made no call, and its cell is as it opened
+-- a number that no fiber had: its fiber has made no call, and its cell is fresh
 pub record IsUnused (v : Knowledge) (n : ℕ) (w : Knowledge) : Type 0 where
   pub above : (f : ℕ) → Has v.fibers f → f < n
   pub cell : owned (seen_cell w n) ≡ (Running, 0, 0)
@@ -201,11 +202,11 @@ pub record Claimed (b : Band) (v : Knowledge) (n : ℕ) (w : Knowledge) : Type 0
   pub within : n < limit_of b v.limits
   pub new : IsNew b v n w
 
--- the history so far was seen, and the next number of the band found
+-- the pass has seen the whole history, and found the next number of the band
 abbrev pub SawNext : Band → Knowledge → ℕ → Knowledge → Type 0
 SawNext b v found w = Looked v w × IsSame v w × (next_of b (left v.limits w.seen) ≡ found)
 
--- a claim of the number old
+-- an attempt to claim the number old
 abbrev pub Tried : Band → ℕ → Knowledge → ℕ → Knowledge → Type 0
 Tried b old v found w = ((found ≡ old) × Claimed b v found w) ⊎ ((found ≢ old) × SawNext b v found w)
 
@@ -216,7 +217,7 @@ AtBand i P = (b : Band) → i ≡ band_word b → P b
 abbrev pub FoundNone : Band → Knowledge → Knowledge → Type 0
 FoundNone b v w = Looked v w × IsSame v w × AreAllGiven b v.limits w.seen
 
--- ---- what passes between seats
+-- ---- what one seat passes to another
 -- the number that was claimed last, and the fibers without it
 abbrev pub newest : List ℕ → ℕ
 newest [] = 0
@@ -233,7 +234,7 @@ parent v = record v { fibers = without_newest v.fibers; guests = []; heard = [] 
 abbrev pub child : Knowledge → Knowledge
 child v = record v { number = newest v.fibers; fibers = newest v.fibers ∷ []; guests = []; heard = []; stored = None }
 
--- one pass takes in the fibers of another, which is spent
+-- one pass takes over the fibers of another, which is consumed
 abbrev pub hosting : Knowledge → Knowledge → Knowledge
 hosting v w = record v { guests = w.fibers; heard = w.seen }
 
@@ -248,7 +249,7 @@ nothing = record {
   stored = None;
 }
 
--- the guests became fibers of the pass, which has seen the history so far
+-- the guests became fibers of the pass, which has seen the whole history
 pub record Met (v w : Knowledge) : Type 0 where
   pub seen : IsPrefix v.seen w.seen
   pub heard : IsPrefix v.heard w.seen

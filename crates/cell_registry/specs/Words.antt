@@ -1,4 +1,4 @@
--- The words of the table, and the registry that they are left by.
+-- The words of the table, and the registry that leaves them.
 use Rattle.std.specs.Prelude.{◌≡◌, ℕ, ◌+◌, ◌%◌, ◌^◌, List, ◌∷◌, ◌++◌, length, map, Bool, true, false, Option, Some}
 use Rattle.std.specs.Prelude.{None, slice_index_or, ℤ}
 use Rattle.effect_term.specs.declared.reply.Outcome.{Outcome}
@@ -56,10 +56,11 @@ value_place k f = f + (3 + k.fibers + k.refs + k.deferreds)
 abbrev pub HoldsOutcome : ℕ → Outcome → Type 0
 HoldsOutcome n o = OutcomeFits o × (n ≡ value_bits (value_of o))
 
--- ---- the words that a registry leaves: the next number of each band, then a word for each fiber, for each ref and
--- for each deferred, and at last a value word for each fiber. A ref's value is its word modulo 2 ^ 63. The value word
--- of a fiber that has ended has the bits of its outcome's number. That of any other fiber is nothing that the calls
--- have left: its pass knows it (`StoredLast` of the rule)
+-- ---- the words that a registry leaves:
+-- the next number of each band, then a word for each fiber, for each ref and for each deferred, and last a value word
+-- for each fiber. A ref's value is its word modulo 2 ^ 63. The value word of a fiber that has ended has the bits of its
+-- outcome's number. The calls don't determine the value word of any other fiber: the fiber's pass knows it
+-- (`StoredLast` of the rule)
 pub record Leaves (words : List ℕ) (s : Cells) : Type 0 where
   pub raw : List ℕ
   pub values : List ℕ
@@ -75,14 +76,14 @@ pub record Leaves (words : List ℕ) (s : Cells) : Type 0 where
 abbrev pub ref_value : ℕ → ℤ
 ref_value n = bits_value (n % 2 ^ 63)
 
--- ---- the reply that a word tells
+-- ---- the replies that words give
 abbrev pub TellsCancel : ℕ → CancelReply → Type 0
 TellsCancel n r = (c : Cell) → InRange (control c) → cell_word c ≡ n → r ≡ cancel_reply c.stage c.request
 
 abbrev pub TellsEnd : ℕ → Bool → Type 0
 TellsEnd n b = (c : Cell) → InRange (control c) → cell_word c ≡ n → b ≡ has_ended c.stage
 
--- the word n of a fiber that has ended, and its value word m
+-- the outcome of a fiber that has ended, from its word n and its value word m
 abbrev pub TellsOutcome : ℕ → ℕ → Outcome → Type 0
 TellsOutcome n m p = (c : Cell) (o : Outcome) → InRange (control c) → cell_word c ≡ n → c.stage ≡ Ended o →
     HoldsOutcome m o → p ≡ o

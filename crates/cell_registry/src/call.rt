@@ -1,16 +1,16 @@
 //! The calls that fibers share.
 use effect_term::{Outcome, Reply, Value};
 
-/// One shared call.
+/// A call of the registry.
 #[derive(Clone, Copy, PartialEq, Eq, Debug)]
 pub enum Call {
-    /// Makes a fiber.
+    /// Starts a fiber.
     Start,
     /// Requests the cancellation of a fiber.
     Cancel(u16),
-    /// Asks whether a fiber has ended, and how.
+    /// Reads whether a fiber has ended, and how.
     Join(u16),
-    /// Asks whether one's own cancellation is requested.
+    /// Reads whether the caller's own cancellation is requested.
     Look,
     /// Enters a mask.
     Mask,
@@ -24,24 +24,24 @@ pub enum Call {
     NewRef,
     /// Makes an empty deferred.
     NewDeferred,
-    /// Asks for the value of a ref.
+    /// Reads the value of a ref.
     Get(u16),
     /// Sets the value of a ref.
     Set(u16, Value),
-    /// Adds to a ref modulo 2^63, and asks for its old value.
+    /// Adds to a ref modulo 2^63, and reads its old value.
     Modify(u16, Value),
-    /// Fills a deferred, unless it is filled.
+    /// Completes a deferred, unless it is completed already.
     Complete(u16, Value),
-    /// Asks for the value of a deferred.
+    /// Reads the value of a deferred.
     Read(u16),
 }
 
-/// A call that was made: by which fiber, and what it was answered.
+/// A call that was made, with its caller and its reply.
 pub struct Entry {
     /// The fiber that called.
     pub by: u16,
-    /// What it called.
+    /// The call.
     pub call: Call,
-    /// What it was answered.
+    /// Its reply.
     pub reply: Reply,
 }

@@ -4,11 +4,11 @@ use effect_term::Outcome;
 /// How far a fiber has come.
 #[derive(Clone, Copy)]
 pub enum Stage {
-    /// It runs its program.
+    /// The fiber runs its program.
     Running,
-    /// It observed its cancellation, and runs its finalizers.
+    /// A request for its cancellation was observed, and it runs its finalizers.
     Finalizing,
-    /// It ended, with this outcome.
+    /// The fiber has ended, with this outcome.
     Ended(Outcome),
 }
 
@@ -16,12 +16,12 @@ pub enum Stage {
 pub struct Cell {
     /// How far the fiber has come.
     pub stage: Stage,
-    /// How many masks are active.
+    /// The number of active masks.
     pub depth: u8,
     /// Whether its cancellation is requested.
     pub request: bool,
-    /// Whether somebody has joined it.
+    /// Whether a fiber has joined it.
     pub waited: bool,
-    /// How many changes its owner has made.
+    /// The number of changes that its owner has made.
     pub count: u64,
 }

@@ -11,8 +11,8 @@ use crate::rule::{self, Rule};
 use crate::words::claim_place;
 use atomic_table::{Seat, Shared};
 
-/// Claims the next number of the band, unless all `limit` are given. The claim word only rises, so
-/// a claim fails at most as often as the band has numbers.
+/// Claims the next number of the band, unless all `limit` numbers are given. The claim word only rises, so a claim
+/// fails at most as often as the band has numbers.
 pub(crate) fn claim(
     shared: &Shared<u8, Knowledge, Limits, Rule>,
     seat: &mut Seat<u8, Knowledge>,

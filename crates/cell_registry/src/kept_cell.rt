@@ -1,4 +1,4 @@
-//! A fiber's cell as the registry for one thread keeps it.
+//! A fiber's cell, in the form that the registry for one thread keeps.
 ghost use Rattle.std.specs.Prelude.{◌≡◌, ◌+◌, ◌<◌, ◌^◌, map, IfErr, IfOk, Some, None};
 ghost use Rattle.cell_registry.specs.Words.{has_ended};
 ghost use Rattle.cell_registry.specs.Cells.{awaited, cancel_reply, cut, finished, fresh, join_reply, masked};
@@ -13,8 +13,8 @@ use effect_term::{CancelReply, JoinReply, Outcome, Value};
 use std::marker::Model;
 use std::mem::size_of;
 
-/// A cell in 24 bytes, which changes in place. With a stage in it, it would have 40: a stage and its
-/// outcome have a tag each. Contracts see the cell.
+/// A cell in 24 bytes, which changes in place. With a field of type `Stage` it would have 40, since a stage and its
+/// outcome each have a tag. Contracts see a [`Cell`].
 #[derive(Clone, Drop)]
 pub(crate) struct KeptCell {
     count: u64,
@@ -86,7 +86,7 @@ impl KeptCell {
         self.phase = Phase::Finalizing;
     }
 
-    /// The fiber has ended so.
+    /// The fiber has ended with this outcome.
     #[inline(always)]
     pub(crate) fn end(&mut self, outcome: Outcome)
         ensures { self.new ≡ record self.old { stage = Ended outcome } }
@@ -144,7 +144,7 @@ impl KeptCell {
         }
     }
 
-    /// Notes that somebody waits for the fiber's end.
+    /// Notes that another fiber waits for the fiber's end.
     #[inline(always)]
     pub(crate) fn join(&mut self) -> JoinReply
         ensures cell { self.new ≡ awaited self.old }
@@ -159,7 +159,7 @@ impl KeptCell {
         }
     }
 
-    /// Forgets whether somebody has joined the fiber.
+    /// Forgets whether the fiber was joined.
     #[inline(always)]
     pub(crate) fn forget_wait(&mut self)
         ensures { self.new ≡ unawaited self.old }
@@ -167,7 +167,7 @@ impl KeptCell {
         self.waited = false;
     }
 
-    /// Refuses where the count of changes is used up.
+    /// Refuses if the count of changes is the limit.
     #[inline(always)]
     pub(crate) fn refuse_if_spent(&self, limit: u64) -> Result<(), CellError>
         ensures room { IfOk result (λ _. spent self.now.count limit ≡ None) }
@@ -224,14 +224,14 @@ impl KeptCell {
     }
 }
 
-/// Forgets of each of these whether somebody has joined its fiber.
+/// Forgets of each of these cells whether its fiber was joined.
 pub(crate) fn forget_waits(cells: &mut Vec<KeptCell>)
     ensures { cells.new.items ≡ map unawaited cells.old.items }
 {
     forget_each(cells.as_mut_slice());
 }
 
-// The same of a slice of them.
+// The same for a slice of cells.
 fn forget_each(cells: &mut [KeptCell])
     ensures { cells.new ≡ map unawaited cells.old }
 {

@@ -1,27 +1,27 @@
-//! How much a registry has, and what is answered where it is used up.
+//! The limits of a registry, and the refusals at them.
 ghost use Rattle.std.specs.Prelude.{◌≡◌};
 ghost use Rattle.cell_registry.specs.declared.limits.RunError.TheVariants.{NoMemory};
 
 use std::alloc::AllocError;
 
-/// How many numbers each band of a registry has, each from 1 to 1000, and how often the owner of a
-/// fiber may change its cell, from 1 to 1,099,511,627,775.
+/// The size of each band of a registry, from 1 to 1000, and how often the owner of a fiber can change its cell, from 1
+/// to 1,099,511,627,775.
 #[derive(Clone, Copy, Debug)]
 pub struct Limits {
-    /// How many fibers, the first one included.
+    /// The number of fibers, fiber 0 included.
     pub fibers: u16,
-    /// How many refs.
+    /// The number of refs.
     pub refs: u16,
-    /// How many deferreds.
+    /// The number of deferreds.
     pub deferreds: u16,
-    /// How many owner's changes each fiber may make.
+    /// The number of changes that the owner of each fiber can make.
     pub count: u64,
 }
 
 /// The kinds of numbers that a registry gives.
 #[derive(Clone, Copy, PartialEq, Eq, Debug)]
 pub enum Band {
-    /// The numbers of fibers. The first one, 0, is born with the registry; a start gives the others.
+    /// The numbers of fibers. Fiber 0 exists from the start; a start gives each other number.
     Fibers,
     /// The numbers of refs, from 0.
     Refs,
@@ -29,27 +29,26 @@ pub enum Band {
     Deferreds,
 }
 
-/// Why a registry refuses a call. A refused call is none of the calls that the registry has
-/// answered, and changes no cell. To learn that a band is full, a pass of the lock-free registry may
-/// have seen more of what others called.
+/// Why a registry refuses a call. A refused call isn't an entry of the history, and changes no cell. A pass of the
+/// lock-free registry that finds a band full can have seen more of the calls of others.
 #[derive(Clone, Copy, PartialEq, Eq, Debug)]
 pub enum CellError {
-    /// All numbers of the band are given. It has so many.
+    /// All numbers of the band are given: this many.
     Full(Band, u16),
-    /// The caller has made as many changes of its cell as the limit allows, which is this number.
+    /// The caller has made as many changes of its cell as the limit, this number, allows.
     Spent(u64),
 }
 
 /// Why a run of a whole program ends without a report.
 #[derive(Clone, Copy, PartialEq, Eq, Debug)]
 pub enum RunError {
-    /// A fiber wanted a further number of the band, which has so many.
+    /// A fiber needed another number of a band, and all of them, this many, are given.
     Full(Band, u16),
-    /// The fiber of this number has used up its count.
+    /// The fiber of this number has made as many changes as the limit allows.
     Spent(u16),
     /// Memory ran out.
     NoMemory,
-    /// The fiber of this number was to go on, and couldn't be found.
+    /// The fiber of this number should move, and wasn't found.
     Lost(u16),
     /// No worker thread could be started.
     NoWorker,

@@ -1,4 +1,4 @@
-//! What a fiber changes in its own cell: masks, its cut, and its end.
+//! The calls by which a fiber changes its own cell: masks, its cut, and its end.
 ghost use Rattle.std.specs.Prelude.{◌≡◌, ◌≢◌, ◌+◌, ◌-◌, ◌<◌, IfErr, IfOk, true};
 ghost use Rattle.control_word.specs.Word.{bit};
 ghost use Rattle.cell_registry.specs.declared.limits.CellError.TheVariants.{Spent};
@@ -19,7 +19,7 @@ use crate::words::{cell_place, outcome_word, value_place};
 use control_word::{cut_amount, finish_amount, mask_amount, unmask_amount};
 use effect_term::Outcome;
 
-// Refuses where the count of changes is used up.
+// Refuses if the count of changes is the limit.
 fn refuse_if_spent(count: u64, limit: u64) -> Result<(), CellError>
     ensures room { IfOk result (λ _. count ≢ limit) }
     ensures spent { IfErr result (λ e. (e ≡ Spent count) × (count ≡ limit)) }
@@ -41,12 +41,10 @@ fn is_finalizing(stage: Stage) -> bool
     }
 }
 
-/// Each call adds 1 to the count of the caller's changes. It answers `Spent(count)` exactly where
-/// the count is the limit, and has then changed nothing: the pass is as it was, and by its type has
-/// stored nothing in the fiber's value word.
+/// Each call adds 1 to the count of the caller's changes. The call returns `Spent(count)` exactly if the count is the
+/// limit, and then changes nothing: the pass is as it was, and nothing was stored in the fiber's value word.
 impl Registry {
-    /// Enters a mask, as in Cats Effect 3's `MonadCancel`. The fiber hasn't ended, and is under less
-    /// than 255 masks.
+    /// Enters a mask, as in Cats Effect 3's `MonadCancel`. The fiber hasn't ended, and is in fewer than 255 masks.
     pub fn mask(&self, pass: &mut Pass) -> Result<(), CellError>
         requires own { IsOf self.now pass.old }
         requires open { IsOpen pass.old.stage }
@@ -64,8 +62,7 @@ impl Registry {
         Ok(())
     }
 
-    /// Leaves a mask. The fiber hasn't ended, and is under a mask; while it finalizes, under one
-    /// beside that of its cut.
+    /// Leaves a mask. The fiber hasn't ended, and is in a mask; while it finalizes, in one besides that of its cut.
     pub fn unmask(&self, pass: &mut Pass) -> Result<(), CellError>
         requires own { IsOf self.now pass.old }
         requires masked { MayUnmask pass.old.stage pass.old.depth }
@@ -83,8 +80,8 @@ impl Registry {
         Ok(())
     }
 
-    /// Observes the request for cancellation: the fiber goes on to its finalizers, under one mask.
-    /// It is running and under no mask, and its last look saw the request.
+    /// Observes the request for cancellation: the fiber becomes finalizing, in one mask. The fiber is running and
+    /// unmasked, and its last look saw the request.
     pub fn cut(&self, pass: &mut Pass) -> Result<(), CellError>
         requires own { IsOf self.now pass.old }
         requires running { pass.old.stage ≡ at.Running }
@@ -105,9 +102,9 @@ impl Registry {
         Ok(())
     }
 
-    /// Ends the fiber. A running one is under no mask and doesn't end as canceled; one that
-    /// finalizes is under the mask of its cut alone, and does. The outcome's number is stored in the
-    /// fiber's value word first, which no other fiber reads before the end.
+    /// Ends the fiber. A running fiber is unmasked and doesn't end as canceled; a finalizing fiber is in the mask of
+    /// its cut only, and ends as canceled. The outcome's number is stored in the fiber's value word first, which no
+    /// other fiber reads before the end.
     pub fn finish(&self, pass: &mut Pass, outcome: Outcome) -> Result<(), CellError>
         requires own { IsOf self.now pass.old }
         requires may { MayFinish pass.old.stage pass.old.depth outcome }

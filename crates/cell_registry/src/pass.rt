@@ -10,17 +10,17 @@ use effect_term::Value;
 use std::marker::Model;
 use std::mem::size_of;
 
-/// A fiber's token, with which it makes its calls at the registry that gave it.
+/// A fiber's token, with which it makes its calls at the registry that made it.
 ///
-/// It isn't cloned: a fiber has one, and `Registry::new`, `start` and `meet` alone make it. It knows
-/// what only the fiber itself changes in its cell. Contracts see these numbers, the history that
-/// the pass has seen, and the fibers whose calls it makes or made. As long as its fiber hasn't ended,
-/// it has stored nothing in the fiber's value word.
+/// A pass can't be cloned: a fiber has one, and only `Registry::new`, `start` and `meet` make one. A pass knows what
+/// only the fiber itself changes in its cell. Contracts see these numbers, the history that the pass has seen, and the
+/// fibers whose calls it makes or made. As long as its fiber hasn't ended, it has stored nothing in the fiber's value
+/// word.
 #[derive(Drop)]
 pub struct Pass {
     pub(crate) seat: Seat<u8, Knowledge>,
-    // A pass is moved by value, and has 24 bytes. With a stage in it, it would have 40: a stage and its
-    // outcome have a tag each.
+    // A pass is moved by value, and has 24 bytes. With a field of type `Stage` it would have 40, since a stage and its
+    // outcome each have a tag.
     pub(crate) count: u64,
     // What the fiber ended with, if it succeeded or errored.
     pub(crate) value: Value,
@@ -55,7 +55,7 @@ impl Pass {
         self.number
     }
 
-    /// How many masks the fiber is under.
+    /// The number of masks that the fiber is in.
     pub fn depth(&self) -> u8
         ensures depth { result ≡ self.now.depth }
     {
@@ -69,14 +69,14 @@ impl Pass {
         self.phase.stage(self.value)
     }
 
-    /// How often the fiber changed its own cell.
+    /// The number of changes that the fiber made to its own cell.
     pub fn count(&self) -> u64
         ensures count { result ≡ self.now.count }
     {
         self.count
     }
 
-    /// The reply of the fiber's last look, `false` before one.
+    /// The reply of the fiber's last look, `false` before the first.
     pub fn saw(&self) -> bool
         ensures saw { result ≡ self.now.saw }
     {

@@ -6,7 +6,7 @@ ghost use Rattle.cell_registry.specs.declared.cell.Stage.TheVariants.{Ended};
 use crate::cell::Stage;
 use effect_term::{Outcome, Value};
 
-/// How far a fiber has come, and in which way it ended.
+/// How far a fiber has come, and how it ended.
 #[derive(Clone, Copy, PartialEq)]
 pub(crate) enum Phase {
     Running,
@@ -17,7 +17,7 @@ pub(crate) enum Phase {
 }
 
 impl Phase {
-    /// The stage of a fiber in this phase that ended with this value, if it succeeded or errored.
+    /// The stage of a fiber in this phase. The value counts if the fiber succeeded or errored.
     #[inline(always)]
     pub(crate) fn stage(self, value: Value) -> Stage
         ensures { result ≡ stage_of self value }
@@ -31,7 +31,7 @@ impl Phase {
         }
     }
 
-    /// The phase of a fiber that has ended so, and the value beside it, which is this one if it was canceled.
+    /// The phase of a fiber that ended with this outcome, and the outcome's value, or `value` if it was canceled.
     #[inline(always)]
     pub(crate) fn ended(outcome: Outcome, value: Value) -> (Phase, Value)
         ensures { stage_of result.0 result.1 ≡ Ended outcome }

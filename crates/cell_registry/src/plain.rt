@@ -18,10 +18,9 @@ use std::marker::Model;
 
 /// The registry of all fibers, refs and deferreds, for one thread.
 ///
-/// Each call is made by a fiber that was born: 0, or a number that [`start`](PlainRegistry::start)
-/// gave. The cells of all numbers below the limits exist from the start, so a call may name a number
-/// that no call has given yet. A call that is refused changes nothing. Only
-/// [`new`](PlainRegistry::new) takes memory.
+/// The caller of each call is a fiber that was started: 0, or a number that [`start`](PlainRegistry::start) gave. The
+/// cells of all numbers below the limits exist from the start, so a call can name a number that no call has given yet.
+/// A call that is refused changes nothing. Only [`new`](PlainRegistry::new) allocates memory.
 #[derive(Drop)]
 pub struct PlainRegistry {
     limits: Limits,
@@ -65,8 +64,8 @@ impl Model for PlainRegistry {
 
 #[tactic(auto, unfolding(crate::specs::Cells::after, crate::specs::Cells::reply_of, crate::specs::Cells::refusal, crate::specs::Cells::IsAllowed))]
 impl PlainRegistry {
-    /// A registry with so many fibers, refs and deferreds, in which each fiber may make `limit`
-    /// owner's changes. Fiber 0 is born. The ranges are those of [`Limits`].
+    /// A registry with these numbers of fibers, refs and deferreds, in which the owner of each fiber can make `limit`
+    /// changes. Fiber 0 is running. The ranges are those of [`Limits`].
     pub fn new(
         alloc: Global,
         fibers: u16,
@@ -99,7 +98,7 @@ impl PlainRegistry {
         })
     }
 
-    /// The registry that these words are left by.
+    /// The registry that left these words.
     pub(crate) fn shown(
         alloc: Global,
         words: &[u64],
@@ -135,14 +134,14 @@ impl PlainRegistry {
         self.limits
     }
 
-    /// How many fibers were born. It is no call.
+    /// The number of fibers that were started, fiber 0 included. This isn't a call of the registry.
     pub fn born(&self) -> u16
         ensures born { result ≡ self.now.state.next_fiber }
     {
         self.next_fiber
     }
 
-    /// Whether a fiber, whose number is below the limit, has ended. It is no call.
+    /// Whether a fiber, whose number is below the limit, has ended. This isn't a call of the registry.
     pub fn has_ended(&self, fiber: u16) -> bool
         requires within { fiber < self.now.limits.fibers }
         ensures ended { result ≡ has_ended (cell_of self.now.state fiber).stage }
@@ -150,7 +149,8 @@ impl PlainRegistry {
         self.cells[usize::from(fiber)].has_ended()
     }
 
-    /// Whether the cancellation of a fiber, whose number is below the limit, is requested. It is no call.
+    /// Whether the cancellation of a fiber, whose number is below the limit, is requested. This isn't a call of the
+    /// registry.
     pub fn is_requested(&self, fiber: u16) -> bool
         requires within { fiber < self.now.limits.fibers }
         ensures request { result ≡ (cell_of self.now.state fiber).request }
@@ -158,7 +158,7 @@ impl PlainRegistry {
         self.cells[usize::from(fiber)].is_requested()
     }
 
-    /// Whether a deferred, whose number is below the limit, is empty. It is no call.
+    /// Whether a deferred, whose number is below the limit, is empty. This isn't a call of the registry.
     pub fn is_empty(&self, number: u16) -> bool
         requires within { number < self.now.limits.deferreds }
         ensures empty { result ≡ is_none (deferred_of self.now.state number) }
@@ -167,8 +167,7 @@ impl PlainRegistry {
         self.deferreds[at].is_none()
     }
 
-    /// Makes a fiber, and gives its number. The caller hasn't ended. Answers `Full` where all
-    /// fibers were started.
+    /// Starts a fiber, and returns its number. The caller hasn't ended. Returns `Full` if all fibers were started.
     pub fn start(&mut self, by: u16) -> Result<u16, CellError>
         requires may { MayCall self.old by Call.Start }
         ensures lawful { IsPlain self.new }
@@ -183,8 +182,8 @@ impl PlainRegistry {
         Ok(number)
     }
 
-    /// Requests the cancellation of a fiber, whose number is below the limit, as in Cats Effect 3's
-    /// `GenSpawn` (`Fiber::cancel`). The request is set whatever the fiber's phase.
+    /// Requests the cancellation of a fiber, whose number is below the limit, as in Cats Effect 3's `GenSpawn`
+    /// (`Fiber::cancel`). The request is set in every phase of the fiber.
     pub fn cancel(&mut self, by: u16, fiber: u16) -> CancelReply
         requires may { MayCall self.old by (Call.Cancel fiber) }
         ensures lawful { IsPlain self.new }
@@ -193,8 +192,8 @@ impl PlainRegistry {
         self.cells[usize::from(fiber)].request()
     }
 
-    /// Whether a fiber, whose number is below the limit, has ended, and how, as in Cats Effect 3's
-    /// `GenSpawn` (`Fiber::join`). That somebody waits is noted whatever the fiber's phase.
+    /// Returns whether a fiber, whose number is below the limit, has ended, and how, as in Cats Effect 3's `GenSpawn`
+    /// (`Fiber::join`). In every phase of the fiber, its cell notes that it was joined.
     pub fn join(&mut self, by: u16, fiber: u16) -> JoinReply
         requires may { MayCall self.old by (Call.Join fiber) }
         ensures lawful { IsPlain self.new }
@@ -203,7 +202,7 @@ impl PlainRegistry {
         self.cells[usize::from(fiber)].join()
     }
 
-    /// Whether the caller's cancellation is requested. The caller hasn't ended and isn't masked.
+    /// Returns whether the caller's cancellation is requested. The caller hasn't ended and isn't masked.
     pub fn look(&mut self, by: u16) -> bool
         requires may { MayCall self.old by Call.Look }
         ensures lawful { IsPlain self.new }
@@ -212,8 +211,8 @@ impl PlainRegistry {
         self.cells[usize::from(by)].is_requested()
     }
 
-    /// Enters a mask. The caller hasn't ended, and is in fewer than 255 masks. Answers `Spent` where
-    /// its count is used up.
+    /// Enters a mask. The caller hasn't ended, and is in fewer than 255 masks. Returns `Spent` if its count is the
+    /// limit.
     pub fn mask(&mut self, by: u16) -> Result<(), CellError>
         requires may { MayCall self.old by Call.Mask }
         ensures lawful { IsPlain self.new }
@@ -226,8 +225,8 @@ impl PlainRegistry {
         Ok(())
     }
 
-    /// Leaves a mask. The caller hasn't ended, and is in a mask, other than that of its cut. Answers
-    /// `Spent` where its count is used up.
+    /// Leaves a mask. The caller hasn't ended, and is in a mask other than that of its cut. Returns `Spent` if its
+    /// count is the limit.
     pub fn unmask(&mut self, by: u16) -> Result<(), CellError>
         requires may { MayCall self.old by Call.Unmask }
         ensures lawful { IsPlain self.new }
@@ -240,8 +239,8 @@ impl PlainRegistry {
         Ok(())
     }
 
-    /// Observes the request, and enters the mask of the finalizers. The caller is running and isn't
-    /// masked, and its cancellation is requested. Answers `Spent` where its count is used up.
+    /// Observes the request, and enters the mask of the finalizers. The caller is running and isn't masked, and its
+    /// cancellation is requested. Returns `Spent` if its count is the limit.
     pub fn cut(&mut self, by: u16) -> Result<(), CellError>
         requires may { MayCall self.old by Call.Cut }
         ensures lawful { IsPlain self.new }
@@ -254,8 +253,8 @@ impl PlainRegistry {
         Ok(())
     }
 
-    /// Ends the caller: with a value or an error where it is running and isn't masked, and as
-    /// canceled where it has run its finalizers. Answers `Spent` where its count is used up.
+    /// Ends the caller: with a value or an error if it is running and isn't masked, and as canceled if it has run its
+    /// finalizers. Returns `Spent` if its count is the limit.
     pub fn finish(&mut self, by: u16, outcome: Outcome) -> Result<(), CellError>
         requires may { MayCall self.old by (Call.Finish outcome) }
         ensures lawful { IsPlain self.new }
@@ -268,7 +267,7 @@ impl PlainRegistry {
         Ok(())
     }
 
-    /// Makes a ref that holds 0, and gives its number. Answers `Full` where all refs were made.
+    /// Makes a ref that holds 0, and returns its number. Returns `Full` if all refs were made.
     pub fn new_ref(&mut self, by: u16) -> Result<u16, CellError>
         requires may { MayCall self.old by Call.NewRef }
         ensures lawful { IsPlain self.new }
@@ -283,7 +282,7 @@ impl PlainRegistry {
         Ok(number)
     }
 
-    /// Makes an empty deferred, and gives its number. Answers `Full` where all deferreds were made.
+    /// Makes an empty deferred, and returns its number. Returns `Full` if all deferreds were made.
     pub fn new_deferred(&mut self, by: u16) -> Result<u16, CellError>
         requires may { MayCall self.old by Call.NewDeferred }
         ensures lawful { IsPlain self.new }
@@ -298,7 +297,7 @@ impl PlainRegistry {
         Ok(number)
     }
 
-    /// The value of a ref (`Ref::get`), whose number is below the limit.
+    /// Returns the value of a ref (`Ref::get`), whose number is below the limit.
     pub fn get(&mut self, by: u16, number: u16) -> Value
         requires may { MayCall self.old by (Call.Get number) }
         ensures lawful { IsPlain self.new }
@@ -316,7 +315,7 @@ impl PlainRegistry {
         self.refs[usize::from(number)] = value;
     }
 
-    /// Adds to a ref, whose number is below the limit, modulo 2^63, and gives its old value.
+    /// Adds to a ref, whose number is below the limit, modulo 2^63, and returns its old value.
     pub fn modify(&mut self, by: u16, number: u16, value: Value) -> Value
         requires may { MayCall self.old by (Call.Modify number value) }
         ensures lawful { IsPlain self.new }
@@ -329,8 +328,8 @@ impl PlainRegistry {
         old
     }
 
-    /// Fills a deferred (`Deferred::complete`), whose number is below the limit, unless it is filled.
-    /// Whether this did it.
+    /// Completes a deferred (`Deferred::complete`), whose number is below the limit, unless it is completed already.
+    /// Returns whether this call completed it.
     pub fn complete(&mut self, by: u16, number: u16, value: Value) -> bool
         requires may { MayCall self.old by (Call.Complete number value) }
         ensures lawful { IsPlain self.new }
@@ -344,7 +343,7 @@ impl PlainRegistry {
         empty
     }
 
-    /// The value of a deferred (`Deferred::tryGet`), whose number is below the limit, if it is filled.
+    /// Returns the value of a deferred (`Deferred::tryGet`), whose number is below the limit, if it is completed.
     pub fn read(&mut self, by: u16, number: u16) -> Option<Value>
         requires may { MayCall self.old by (Call.Read number) }
         ensures lawful { IsPlain self.new }
@@ -355,7 +354,7 @@ impl PlainRegistry {
 }
 
 impl PlainRegistry {
-    /// The same registry once more, or `AllocError` where memory is refused.
+    /// Returns a copy of the registry, or `AllocError` if memory is refused.
     pub fn copy(&self, alloc: Global) -> Result<PlainRegistry, AllocError>
         ensures same { IfOk result (λ copy. copy ≡ self.now) }
         ensures lawful { IfOk result (λ copy. IsPlain copy) }
@@ -371,7 +370,7 @@ impl PlainRegistry {
         })
     }
 
-    /// Forgets which fibers somebody has joined. No reply and no refusal depends on it.
+    /// Forgets which fibers were joined. No reply and no refusal depends on it.
     pub fn forget_waits(&mut self)
         ensures forgets { self.new ≡ record self.old { state = without_waits self.old.state } }
         ensures lawful { IsPlain self.new }
@@ -379,7 +378,7 @@ impl PlainRegistry {
         forget_waits(&mut self.cells);
     }
 
-    /// Whether two registries are one: the same limits, numbers given, cells and values.
+    /// Whether two registries are equal: the same limits, numbers given, cells and values.
     pub fn same(&self, other: &PlainRegistry) -> bool
         ensures same { result ≡ true → self.now ≡ other.now }
         ensures other { result ≡ false → self.now ≢ other.now }
@@ -393,8 +392,8 @@ impl PlainRegistry {
             && same_items(self.deferreds.as_slice(), other.deferreds.as_slice())
     }
 
-    /// A number that is the same for registries that [`same`](PlainRegistry::same) takes for one, and
-    /// for others mostly isn't. It serves to look one up among many, and no more is promised of it.
+    /// A hash: equal for registries that are the [`same`](PlainRegistry::same), and seldom equal for others. The hash
+    /// is for lookups, and nothing else is promised of it.
     pub fn digest(&self) -> u64 {
         let fibers = usize::from(self.next_fiber);
         let refs = usize::from(self.next_ref);

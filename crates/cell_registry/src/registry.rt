@@ -1,4 +1,4 @@
-//! The registry: the cells that fibers share, each in one word that changes in single atomic steps.
+//! The registry: the cells that fibers share, each in words that change in single atomic steps.
 ghost use Rattle.std.specs.Prelude.{◌≡◌, ◌<◌, IfErr, IfOk, true};
 ghost use Rattle.effect_term.specs.declared.reply.Reply.TheVariants as reply;
 ghost use Rattle.cell_registry.specs.declared.limits.Band.TheVariants.{Deferreds, Fibers, Refs};
@@ -29,17 +29,15 @@ use std::marker::Model;
 
 /// The cells of all fibers, refs and deferreds, which fibers on any threads share.
 ///
-/// Each call takes effect in one atomic step on one word. A call that takes a number loads the word
-/// first, and tries again where somebody else took that number in between. The value or code that a
-/// fiber ends with has a word of its own: an end stores it before its step, and a join that finds an
-/// end loads it after its step. Every step is `SeqCst`, the only ordering that `atomic_table` has: so
-/// all steps on all words stand in one order, and the history lists in that order those that made a
-/// call. It is a history that one thread could have made, and each pass has seen a beginning of it.
-/// No call locks or waits, and none but `new` takes memory.
+/// Each call takes effect in one atomic step on one word. A call that takes a number loads the word first, and tries
+/// again if another fiber took that number in between. The value or code that a fiber ends with has a word of its own:
+/// an end stores it before its step, and a join that finds an end loads it after its step. Every step is `SeqCst`, the
+/// only ordering that `atomic_table` has. So all steps on all words are in one order, and the history lists in that
+/// order the steps that made a call. This is a history that one thread could have made, and each pass has seen a
+/// beginning of it. No call locks or waits, and only `new` allocates memory.
 ///
-/// The cells of all numbers below the limits exist from the start: a fiber's is running, under no
-/// mask, with no request, a ref holds 0 and a deferred is empty. So a call may name a number that no
-/// call has given yet.
+/// The cells of all numbers below the limits exist from the start: a fiber's is running, unmasked and without a
+/// request, a ref holds 0 and a deferred is empty. So a call can name a number that no call has given yet.
 #[derive(Drop)]
 pub struct Registry {
     pub(crate) table: Table<u8, Knowledge, Limits, Rule, Global>,
@@ -58,9 +56,9 @@ impl Model for Registry {
 }
 
 impl Registry {
-    /// A registry for so many fibers, refs and deferreds, each from 1 to 1000, in which each fiber
-    /// may change its own cell `limit` times, from 1 to 1,099,511,627,775. The pass is fiber 0's,
-    /// which is born and running. Answers `AllocError` where there is no memory for the words.
+    /// A registry for these numbers of fibers, refs and deferreds, each from 1 to 1000, in which each fiber can change
+    /// its own cell `limit` times, from 1 to 1,099,511,627,775. The pass is that of fiber 0, which is running. Returns
+    /// `AllocError` if there is no memory for the words.
     pub fn new(
         alloc: Global,
         fibers: u16,
@@ -101,9 +99,9 @@ impl Registry {
         Ok((Registry { table, limits }, pass))
     }
 
-    /// Makes a fiber, which begins running and unmasked, as in Cats Effect 3's `GenSpawn::start`. Its
-    /// pass has seen what the caller's has. The caller's fiber hasn't ended. Answers
-    /// `Full(Band::Fibers, n)` where all n fibers of the registry were made.
+    /// Starts a fiber, which is running and unmasked, as in Cats Effect 3's `GenSpawn::start`. Its pass has seen what
+    /// the caller's has. The caller's fiber hasn't ended. Returns `Full(Band::Fibers, n)` if all n fibers of the
+    /// registry were started.
     pub fn start(&self, pass: &mut Pass) -> Result<Pass, CellError>
         requires own { IsOf self.now pass.old }
         requires open { IsOpen pass.old.stage }
@@ -130,8 +128,8 @@ impl Registry {
         })
     }
 
-    /// Makes a ref, which holds 0, as in Cats Effect 3's `Ref`, and gives its number. Answers
-    /// `Full(Band::Refs, n)` where all n refs of the registry were made.
+    /// Makes a ref, which holds 0, as in Cats Effect 3's `Ref`, and returns its number. Returns `Full(Band::Refs, n)`
+    /// if all n refs of the registry were made.
     pub fn new_ref(&self, pass: &mut Pass) -> Result<u16, CellError>
         requires own { IsOf self.now pass.old }
         ensures same { OnlySees pass.old pass.new }
@@ -147,8 +145,8 @@ impl Registry {
         ))
     }
 
-    /// Makes an empty deferred, as in Cats Effect 3's `Deferred`, and gives its number. Answers
-    /// `Full(Band::Deferreds, n)` where all n deferreds of the registry were made.
+    /// Makes an empty deferred, as in Cats Effect 3's `Deferred`, and returns its number. Returns
+    /// `Full(Band::Deferreds, n)` if all n deferreds of the registry were made.
     pub fn new_deferred(&self, pass: &mut Pass) -> Result<u16, CellError>
         requires own { IsOf self.now pass.old }
         ensures same { OnlySees pass.old pass.new }
@@ -164,10 +162,10 @@ impl Registry {
         ))
     }
 
-    /// Requests the cancellation of a fiber, as in Cats Effect 3's `GenSpawn` (`Fiber::cancel`), and
-    /// doesn't wait for its end. The number is below the limit of fibers; the cell of each such
-    /// number exists from the start. The request is set whatever the fiber's phase. Answers `Ended`
-    /// where the fiber has ended, else whether it had been asked before.
+    /// Requests the cancellation of a fiber, as in Cats Effect 3's `GenSpawn` (`Fiber::cancel`), and doesn't wait for
+    /// its end. The number is below the limit of fibers; the cell of each such number exists from the start. The
+    /// request is set in every phase of the fiber. Returns `Ended` if the fiber has ended, else whether this request is
+    /// the first.
     pub fn cancel(&self, pass: &mut Pass, fiber: u16) -> CancelReply
         requires own { IsOf self.now pass.old }
         requires within { fiber < self.now.limits.fibers }
@@ -182,9 +180,9 @@ impl Registry {
         cancel_answer(found)
     }
 
-    /// Asks for the end of a fiber, as in Cats Effect 3's `GenSpawn` (`Fiber::join`). Answers how it
-    /// ended, or `Waits`. The number is below the limit of fibers; the cell of each such number
-    /// exists from the start. That somebody waits is noted in the cell whatever the fiber's phase.
+    /// Returns how a fiber ended, as in Cats Effect 3's `GenSpawn` (`Fiber::join`), or `Waits` if it hasn't. The number
+    /// is below the limit of fibers; the cell of each such number exists from the start. In every phase of the fiber,
+    /// its cell notes that it was joined.
     pub fn join(&self, pass: &mut Pass, fiber: u16) -> JoinReply
         requires own { IsOf self.now pass.old }
         requires within { fiber < self.now.limits.fibers }
@@ -204,8 +202,7 @@ impl Registry {
         JoinReply::Ended(outcome_answer(found, value))
     }
 
-    /// Looks whether the caller's own cancellation is requested. The fiber hasn't ended, and is
-    /// under no mask.
+    /// Returns whether the caller's own cancellation is requested. The fiber hasn't ended, and is unmasked.
     pub fn look(&self, pass: &mut Pass) -> bool
         requires own { IsOf self.now pass.old }
         requires open { IsOpen pass.old.stage }
@@ -224,9 +221,9 @@ impl Registry {
         requested
     }
 
-    /// The pass `a` with the calls of both fibers in what it has seen. It is `a`'s fiber's, and
-    /// `b`'s fiber makes no more calls. Joining the two seats tells nothing of the words, so a load
-    /// follows, by which the pass takes the whole history of that moment into what it has seen.
+    /// Returns the pass of `a`'s fiber, which has now also seen what `b` has seen; `b`'s fiber makes no more calls.
+    /// Joining the two seats reads no word, so a load follows, by which the pass sees the whole history up to that
+    /// moment.
     pub fn meet(&self, a: Pass, b: Pass) -> Pass
         requires first { IsOf self.now a }
         requires second { IsOf self.now b }
@@ -249,10 +246,9 @@ impl Registry {
         met
     }
 
-    /// How many fibers were born, the first one too: from 1 to the limit of fibers. Below that limit
-    /// it is the number that the next start gives. It is a load of the fibers' claim word, by which
-    /// the pass takes the whole history of that moment into what it has seen, and no call of the
-    /// fiber's.
+    /// Returns the number of fibers that were started, fiber 0 included: from 1 to the limit of fibers. Below that
+    /// limit, the result is the number that the next start gives. This is a load of the fibers' claim word, by which
+    /// the pass sees the whole history up to that moment. The load isn't a call of the fiber.
     pub fn born(&self, pass: &mut Pass) -> u16
         requires own { IsOf self.now pass.old }
         ensures same { OnlySees pass.old pass.new }
@@ -266,9 +262,9 @@ impl Registry {
         found as u16
     }
 
-    /// The word of a fiber when no thread shares the registry any more: it is what one legal history
-    /// leaves that begins with all that the pass had seen and has no further call of the pass's
-    /// fibers. The number is below the limit of fibers.
+    /// Returns the word of a fiber once no thread shares the registry any longer. Some legal history leaves this word,
+    /// begins with all that the pass had seen and has no further call by the pass's fibers. The number is below the
+    /// limit of fibers.
     pub fn last_word(self, pass: Pass, fiber: u16) -> u64
         requires own { IsOf self pass }
         requires within { fiber < self.limits.fibers }
@@ -290,9 +286,9 @@ impl Registry {
         word
     }
 
-    /// The registry for one thread that this one is when no thread shares it any more: it is what one
-    /// legal history leaves that begins with all that the pass had seen and has no further call of the
-    /// pass's fibers. Answers `AllocError` where there is no memory for it; the registry is dropped.
+    /// Turns this registry into one for one thread, once no thread shares it any longer. Some legal history leaves it,
+    /// begins with all that the pass had seen and has no further call by the pass's fibers. Returns `AllocError` if
+    /// there is no memory for it; this registry is dropped.
     pub fn into_plain(self, alloc: Global, pass: Pass) -> Result<PlainRegistry, AllocError>
         requires own { IsOf self pass }
         ensures left { IfOk result (λ r. IsLeftPlain self.limits pass.fibers pass.seen r) }

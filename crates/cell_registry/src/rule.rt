@@ -1,4 +1,4 @@
-//! What holds of the table between any two steps, and what each step tells.
+//! What holds of the table between any two steps, and what each step shows.
 ghost use Rattle.std.specs.Prelude.{◌≡◌, []};
 ghost use Rattle.cell_registry.specs.Rule.{WordsAreAHistory, first_knowledge};
 ghost use Rattle.cell_registry.specs.Steps.{AtBand, AtCell, Cancelled, Completed, Finished, FoundValue, Got, Joined};
@@ -9,10 +9,9 @@ use crate::knowledge::Knowledge;
 use crate::limits::Limits;
 use atomic_table::{Join, Play, Split, TableRule};
 
-/// The rule of a registry's table: some legal history leaves exactly its words, and each pass knows
-/// how that history begins and all calls of its own fibers in it. Of the words of a fiber that
-/// hasn't ended, the history doesn't tell the value word: that is what the fiber's pass stored last,
-/// and 0 as long as it has stored nothing.
+/// The rule of a registry's table: some legal history leaves exactly its words, and each pass knows a beginning of that
+/// history and all calls of its own fibers in it. The history doesn't determine the value word of a fiber that hasn't
+/// ended: it is what the fiber's pass stored last, or 0 if it has stored nothing.
 pub struct Rule;
 
 impl TableRule<u8, Knowledge, Limits> for Rule {
@@ -121,7 +120,7 @@ impl Play<u8, Knowledge> for Claims {
         AtBand step.word (λ b. Tried b step.first before.0 found now.0) };
 }
 
-/// A new fiber's number goes to a seat of its own.
+/// The move of a new fiber's number to a seat of its own.
 pub(crate) struct Child;
 
 impl Split<Knowledge> for Child {
@@ -130,7 +129,7 @@ impl Split<Knowledge> for Child {
     ghost right = { child };
 }
 
-/// One pass takes in another.
+/// The merging of one pass into another.
 pub(crate) struct Host;
 
 impl Join<Knowledge> for Host {
@@ -139,7 +138,7 @@ impl Join<Knowledge> for Host {
     ghost spent = { nothing };
 }
 
-/// The load after that, by which the pass sees the calls of both.
+/// The load after a merging, by which the pass sees the calls of both.
 pub(crate) struct Meets;
 
 impl Play<u8, Knowledge> for Meets {

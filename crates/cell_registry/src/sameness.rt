@@ -1,18 +1,18 @@
-//! Whether two values are one, and numbers by which values are looked up.
+//! Whether two values are equal, and hashes by which values are looked up.
 
 ghost use Rattle.std.specs.Prelude.{◌≡◌, ◌≢◌, false, true};
 
 use control_word::value_word;
 use effect_term::Value;
 
-/// Values of which two can be told to be one.
+/// Values that can be compared.
 pub(crate) trait Same {
-    /// Whether the two are one.
+    /// Whether the two are equal.
     fn same(&self, other: &Self) -> bool
         ensures same { result ≡ true → self.now ≡ other.now }
         ensures other { result ≡ false → self.now ≢ other.now };
 
-    /// A digest, and then this value in it.
+    /// A digest, extended by this value.
     fn mixed_into(&self, digest: u64) -> u64;
 }
 
@@ -43,7 +43,7 @@ impl Same for Option<Value> {
     }
 }
 
-/// Whether two lists have the same items.
+/// Whether two lists have equal items.
 pub(crate) fn same_items<T: Same>(one: &[T], other: &[T]) -> bool
     ensures same { result ≡ true → one.now ≡ other.now }
     ensures other { result ≡ false → one.now ≢ other.now }
@@ -59,7 +59,7 @@ pub(crate) fn same_items<T: Same>(one: &[T], other: &[T]) -> bool
     true
 }
 
-/// A digest, and then the first of these items in it, so many at most.
+/// A digest, extended by the first `most` of these items, or by all if there are fewer.
 pub(crate) fn mixed_items<T: Same>(digest: u64, items: &[T], most: usize) -> u64 {
     let mut digest = digest;
     for item in items.iter().take(most) {
@@ -68,7 +68,8 @@ pub(crate) fn mixed_items<T: Same>(digest: u64, items: &[T], most: usize) -> u64
     digest
 }
 
-/// A digest, and then this word in it: a step of FNV-1a over a word, whose high bits are brought down.
+/// A digest, extended by this word: a step of FNV-1a over a word, after which the high bits are mixed into the low
+/// ones.
 pub(crate) fn mixed(digest: u64, word: u64) -> u64 {
     let product = (digest ^ word).wrapping_mul(0x9e37_79b9_7f4a_7c15);
     product ^ (product >> 32)

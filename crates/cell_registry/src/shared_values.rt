@@ -1,7 +1,7 @@
 //! Refs and deferreds: values that fibers share, as in Cats Effect 3's `GenConcurrent`.
 //!
-//! The cells of all numbers below the limits exist from the start, a ref's with 0 and a deferred's
-//! empty. So each of these calls may name a number that no call has given yet.
+//! The cells of all numbers below the limits exist from the start: a ref holds 0, and a deferred is empty. So each of
+//! these calls can name a number that no call has given yet.
 ghost use Rattle.std.specs.Prelude.{◌≡◌, ◌<◌};
 ghost use Rattle.effect_term.specs.declared.reply.Reply.TheVariants as reply;
 ghost use Rattle.cell_registry.specs.declared.call.Call.TheVariants as call;
@@ -15,8 +15,8 @@ use control_word::{value_word, word_value};
 use effect_term::Value;
 
 impl Registry {
-    /// The value of a ref, as `Ref::get` gives it. The number is below the limit of refs; the cell of
-    /// each such number exists from the start, and holds 0.
+    /// Returns the value of a ref, as `Ref::get` does. The number is below the limit of refs; the cell of each such
+    /// number exists from the start, and holds 0.
     pub fn get(&self, pass: &mut Pass, number: u16) -> Value
         requires own { IsOf self.now pass.old }
         requires within { number < self.now.limits.refs }
@@ -45,8 +45,8 @@ impl Registry {
             .store::<rule::Sets>(&mut pass.seat, place, bits);
     }
 
-    /// Adds to a ref modulo 2^63, and gives its old value, as `Ref::getAndUpdate` with a sum does. The
-    /// number is below the limit of refs; the cell of each such number exists from the start.
+    /// Adds to a ref modulo 2^63, and returns its old value, as `Ref::getAndUpdate` with a sum does. The number is
+    /// below the limit of refs; the cell of each such number exists from the start.
     pub fn modify(&self, pass: &mut Pass, number: u16, value: Value) -> Value
         requires own { IsOf self.now pass.old }
         requires within { number < self.now.limits.refs }
@@ -63,9 +63,9 @@ impl Registry {
         word_value(found)
     }
 
-    /// Completes a deferred, as `Deferred::complete` does. Answers whether this call did it: a
-    /// deferred is completed at most once. The number is below the limit of deferreds; the cell of
-    /// each such number exists from the start, and is empty.
+    /// Completes a deferred, as `Deferred::complete` does. Returns whether this call completed it: a deferred is
+    /// completed at most once. The number is below the limit of deferreds; the cell of each such number exists from the
+    /// start, and is empty.
     pub fn complete(&self, pass: &mut Pass, number: u16, value: Value) -> bool
         requires own { IsOf self.now pass.old }
         requires within { number < self.now.limits.deferreds }
@@ -82,8 +82,8 @@ impl Registry {
         found == 0
     }
 
-    /// The value of a deferred, if it was completed, as `Deferred::tryGet` gives it. The number is
-    /// below the limit of deferreds; the cell of each such number exists from the start.
+    /// Returns the value of a deferred if it was completed, as `Deferred::tryGet` does. The number is below the limit
+    /// of deferreds; the cell of each such number exists from the start.
     pub fn read(&self, pass: &mut Pass, number: u16) -> Option<Value>
         requires own { IsOf self.now pass.old }
         requires within { number < self.now.limits.deferreds }

@@ -1,4 +1,4 @@
-//! What the words of a closed table show.
+//! The registry that the words of a closed table show.
 ghost use Rattle.std.specs.Prelude.{◌≡◌, ◌+◌, ◌≤◌, length, IfOk};
 ghost use Rattle.std.specs.Slots.{IsFull, slots_items, slots_len};
 ghost use Rattle.cell_registry.specs.Cells.{AreLimits, Cells};
@@ -14,7 +14,7 @@ use control_word::{unpack, word_value};
 use effect_term::Value;
 use std::alloc::{AllocError, Global};
 
-/// The words of a closed table that has so many.
+/// A copy of the words of a closed table.
 pub(crate) fn copied(
     alloc: Global,
     closed: &Closed<u8, Global>,
@@ -31,7 +31,7 @@ pub(crate) fn copied(
     Ok(words)
 }
 
-// The cell whose word and value word these are.
+// The cell with this word and this value word.
 fn cell(word: u64, value: u64) -> KeptCell
     ensures { ShowsCell word value result }
 {

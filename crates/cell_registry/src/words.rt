@@ -1,4 +1,4 @@
-//! Where the words of the table lie, and what the word of a fiber answers.
+//! The places of words in the table, and the replies that a word gives.
 ghost use Rattle.std.specs.Prelude.{◌≡◌, ◌+◌};
 ghost use Rattle.effect_term.specs.Values.{value_bits};
 ghost use Rattle.control_word.specs.Word.{value_of};
@@ -9,22 +9,22 @@ use crate::limits::{Band, Limits};
 use control_word::{unpack, value_word, word_value};
 use effect_term::{CancelReply, Outcome, Value};
 
-/// How many claim words stand before the fibers' words.
+/// The number of claim words, which come before the fibers' words.
 pub(crate) const CLAIM_WORDS: usize = 3;
 
-/// The bit by which a cancellation is requested.
+/// The bit that is set when a cancellation is requested.
 pub(crate) const CANCEL: u64 = 1 << 52;
 
-/// The bit by which a joiner says that it waits.
+/// The bit that a join sets.
 pub(crate) const WAITED: u64 = 1 << 53;
 
 /// The bit that the word of a completed deferred has above its value.
 pub(crate) const FILLED: u64 = 1 << 63;
 
-// The phase of a fiber that has ended, as its word has it.
+// The phase of a fiber that has ended, as in its word.
 const ENDED: u8 = 2;
 
-// How a fiber ended, as its word has it.
+// How a fiber ended, as in its word.
 const SUCCEEDED: u8 = 1;
 
 const ERRORED: u8 = 2;
@@ -82,7 +82,7 @@ pub(crate) fn outcome_word(outcome: &Outcome) -> u64
     }
 }
 
-/// What a read is answered by the word of a deferred.
+/// The reply to a read, from the word of a deferred.
 pub(crate) fn read_answer(word: u64) -> Option<Value>
     ensures { TellsRead word result }
 {
@@ -93,7 +93,7 @@ pub(crate) fn read_answer(word: u64) -> Option<Value>
     }
 }
 
-/// What a request for cancellation is answered by the word that it found.
+/// The reply to a request for cancellation, from the word that it found.
 pub(crate) fn cancel_answer(word: u64) -> CancelReply
     ensures { TellsCancel word result }
 {
@@ -107,14 +107,14 @@ pub(crate) fn cancel_answer(word: u64) -> CancelReply
     }
 }
 
-/// Whether the fiber whose word was found has ended.
+/// Whether the fiber with this word has ended.
 pub(crate) fn has_ended(word: u64) -> bool
     ensures { TellsEnd word result }
 {
     unpack(word).phase == ENDED
 }
 
-/// How the fiber ended whose word was found, and whose value word is `value`.
+/// How the fiber with this word ended; `value` is its value word.
 pub(crate) fn outcome_answer(word: u64, value: u64) -> Outcome
     ensures { TellsOutcome word value result }
 {
@@ -128,7 +128,7 @@ pub(crate) fn outcome_answer(word: u64, value: u64) -> Outcome
     }
 }
 
-/// Whether the word has the request.
+/// Whether the request is set in the word.
 pub(crate) fn look_answer(word: u64) -> bool
     ensures { TellsLook word result }
 {

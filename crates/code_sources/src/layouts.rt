@@ -1,6 +1,5 @@
-//! What the words of a form are in a code: words of its own, and those of its parts, in the order of the code.
-//!
-//! They are those that `expand` of `derived_ops` writes.
+//! The words of a form in a code: words of its own, and those of its parts, in the order of the code. `expand` of
+//! `derived_ops` writes the same words.
 
 use crate::sources::StartRole;
 use crate::task::{Task, put_first};
@@ -95,13 +94,13 @@ pub(crate) fn bracket(
     )
 }
 
-// How many words of a race follow those that cancel both sides: the two waits there, and the outcome of the winner.
+// The number of words of a race behind those that cancel both sides: two waits, and the outcome of the winner.
 const RACE_REST: usize = 9 + 45;
 
-// The same of `both`, and then the ref's value and its binder.
+// The same for `both`, with the ref's value and its binder.
 const BOTH_REST: usize = 9 + 55 + 2;
 
-// The words that run both sides of a race, and cancel them where the wait is cut. This many words follow them.
+// The words that run both sides of a race, and cancel them if the wait is cut. `rest` words follow them.
 fn sides(
     tasks: &mut Vec<Task>,
     place: usize,

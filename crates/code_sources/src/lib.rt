@@ -1,11 +1,11 @@
-//! The words of a code, and the forms of a term's text that they were made of.
+//! The words of a code, and the forms of a term's text that they come from.
 //!
-//! It stands on the forms of a text (`model_forms`), on the words of the language (`term_parse`) and on codes
-//! (`derived_ops`). A word of a code is mostly a form of the term's text. A form like `race`, `both`, `guarantee` or a
-//! bracket is many words of the code, and where one of these goes wrong, the place to show is that form. [`code_sources`]
-//! tells for each word of a code where its form begins, and of a fiber's start what the fiber is: one that the text
-//! starts, a side of a race, or a fiber that a race starts for itself. It promises that it tells this of as many words as
-//! the code has.
+//! The crate uses the forms of a text (`model_forms`), the words of the language (`term_parse`) and codes
+//! (`derived_ops`). Most words of a code come from one form of the term's text each. A form such as `race`, `both`,
+//! `guarantee` or a bracket gives many words of the code, and a message about one of these words shows that form.
+//! [`code_sources`] returns for each word of a code where its form begins, and for a start the role of the fiber: one
+//! that the text starts, a side of a race, or a fiber that a race starts for itself. The function promises one entry
+//! for each word of the code.
 //!
 //! ```
 //! let text = b"(let x (pure 1) (say x))";

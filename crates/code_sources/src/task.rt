@@ -1,19 +1,19 @@
-//! What is left to tell of a text.
+//! The rest of the walk through a text.
 
 use crate::sources::StartRole;
 use model_forms::Block;
 use std::alloc::AllocError;
 
-/// Something that is left to tell.
+/// A task of the walk.
 #[derive(Clone, Copy)]
 pub(crate) enum Task {
     /// The words of the form of this number.
     Form(usize),
     /// This number of words of the form at this place.
     Words(usize, usize),
-    /// A word of the form at this place that starts such a fiber.
+    /// A word of the form at this place, which starts a fiber of this role.
     Start(StartRole, usize),
-    /// What is left of a sequence at this place: the lists of a block.
+    /// The rest of a sequence at this place: the lists of a block.
     Sequence(Block, usize),
 }
 

@@ -2,13 +2,13 @@
 
 use model_forms::{Block, Form, FormKind, behind_first, first_form};
 
-// No form has more terms as parts than this.
+// The greatest number of terms among the parts of a form.
 const MOST: usize = 5;
 
-/// The terms that are the parts of a form, in the order of the text: the numbers of their forms.
+/// The numbers of the forms that are the terms among a form's parts, in the order of the text.
 #[derive(Clone, Copy)]
 pub(crate) struct TermParts {
-    /// The first part, or a number past all forms where there is none.
+    /// The first part, or a number past all forms if there is none.
     pub first: usize,
     /// The second part.
     pub second: usize,
@@ -20,7 +20,7 @@ pub(crate) struct TermParts {
     pub fifth: usize,
 }
 
-/// The block of what stands inside the form of this number.
+/// The forms inside the form of this number.
 pub(crate) fn inside(forms: &[Form], number: usize) -> Block {
     let first = number.saturating_add(1);
     let many = match forms.get(number) {
@@ -33,10 +33,10 @@ pub(crate) fn inside(forms: &[Form], number: usize) -> Block {
     }
 }
 
-/// The first list of a block with what stands before it left out, or an empty block.
+/// The rest of a block from its first list on, or an empty block.
 pub(crate) fn first_list(forms: &[Form], block: Block) -> Block {
     let mut rest = block;
-    // No form has as many parts before a term, but a text that is no term can.
+    // No form has as many parts before a term, but a text that isn't a term can.
     for _ in 0..forms.len() {
         match first_form(forms, rest) {
             None => return rest,

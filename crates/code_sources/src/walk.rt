@@ -10,10 +10,10 @@ use model_forms::{Block, Form, behind_first, first_form, form_bytes};
 use std::alloc::{AllocError, Global};
 use term_parse::{Word, word_of};
 
-// More steps than the walk through a code has: a code has fewer than 2,000,000 words, and no form more than 20 tasks.
+// More steps than the walk through a code takes: a code has fewer than 2,000,000 words, and no form more than 20 tasks.
 const STEPS: u64 = 100_000_000;
 
-/// Where this number of words of a code comes from.
+/// The sources of this number of words of a code.
 pub(crate) fn walk(
     alloc: Global,
     text: &[u8],
@@ -34,17 +34,17 @@ pub(crate) fn walk(
             Some(task) => obey(text, forms, many, &mut sources, &mut tasks, task)?,
         }
     }
-    // The words that the walk doesn't reach come from the whole term.
+    // The source of a word that the walk doesn't reach is the whole term.
     sources.resize(many, source(0, StartRole::Own))?;
     Ok(sources)
 }
 
-// A word of the form at this place.
+// The source of a word of the form at this place.
 fn source(place: usize, role: StartRole) -> WordSource {
     WordSource { place, role }
 }
 
-// This number of words more of the form at this place, up to the number of words of the code.
+// Adds the source of this many words of the form at this place, up to the number of words of the code.
 fn add(
     sources: &mut Vec<WordSource>,
     many: usize,
@@ -56,7 +56,7 @@ fn add(
     sources.resize(wanted, source(place, role))
 }
 
-// What one task tells, and what it leaves.
+// Does one task, which can leave others.
 fn obey(
     text: &[u8],
     forms: &[Form],
@@ -73,7 +73,7 @@ fn obey(
     }
 }
 
-// The parts of a sequence from the first of a block on: before each but the last stands a word of the sequence.
+// The parts of a sequence from the first of a block on. Before each part, except the last, is a word of the sequence.
 fn spread_sequence(
     forms: &[Form],
     tasks: &mut Vec<Task>,
@@ -117,7 +117,7 @@ fn spread_form(
     }
 }
 
-// The words of a form that is no sequence, with these parts.
+// The words of a form with these parts that isn't a sequence.
 fn spread_parts(
     tasks: &mut Vec<Task>,
     place: usize,

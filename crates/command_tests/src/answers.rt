@@ -10,10 +10,10 @@ use std::sync::Wait;
 use std::thread::Threads;
 use std::time::Clock;
 
-/// The words of a replay under which short programs end.
+/// A replay that is long enough for short programs to end.
 pub const LONG: &[&str] = &["fiber_cli", "replay", "--schedule", "0*99"];
 
-/// What a command line wrote, and its status.
+/// The output of a command line, and its status.
 #[derive(Drop)]
 pub struct Answer {
     pub out: Vec<u8>,
@@ -21,7 +21,7 @@ pub struct Answer {
     pub status: u8,
 }
 
-/// Runs a command line whose output goes there. Gives what it tells, and its status.
+/// Runs a command line with this output. Returns what it writes to standard error, and its status.
 pub fn told<
     R: AllocGlobal + Clock + Files + Threads + Wait + Sync,
     S: Read + Drop,
@@ -49,8 +49,7 @@ pub fn answered<R: AllocGlobal + Clock + Files + Threads + Wait + Sync, S: Read 
     Answer { out, err, status }
 }
 
-/// Runs a command line, and compares all that it writes and its status. Where that isn't what is
-/// wanted, the rule is printed.
+/// Runs a command line, and compares all that it writes and its status. On a difference it prints the rule.
 pub fn expect<R: Abort + AllocGlobal + Clock + Files + Threads + Wait + Sync>(
     rt: &R,
     rule: &str,
@@ -68,7 +67,7 @@ pub fn expect<R: Abort + AllocGlobal + Clock + Files + Threads + Wait + Sync>(
     );
 }
 
-/// A text that goes so deep.
+/// A text with `depth` nested forms.
 pub fn nested(
     alloc: Global,
     front: &str,

@@ -1,4 +1,4 @@
-//! Command lines over devices that give little at a time, and that fail.
+//! Command lines with devices that give or take little at a time, and that fail.
 
 use crate::answers::{LONG, answered, told};
 use command_line::command;
@@ -24,7 +24,7 @@ const RUN_WHY: &[&str] = &["fiber_cli", "run", "--explain"];
 // The words of a replay whose schedule is the first line of the input.
 const FROM_INPUT: &[&str] = &["fiber_cli", "replay", "--schedule", "-"];
 
-// Gives one byte for a read, and fails once it has given so many.
+// A reader that gives one byte for each read, and fails after a number of bytes.
 #[derive(Drop)]
 struct Drops<'a> {
     left: &'a [u8],
@@ -48,7 +48,7 @@ impl Read for Drops<'_> {
     }
 }
 
-// Is interrupted at each read.
+// A reader that is interrupted at each read.
 #[derive(Drop)]
 struct Restless;
 
@@ -58,7 +58,7 @@ impl Read for Restless {
     }
 }
 
-// Takes one byte for a write until it is full, and then fails, or takes nothing.
+// A writer that takes one byte for each write until it is full, and then fails, or takes nothing.
 #[derive(Drop)]
 struct Narrow {
     room: usize,
@@ -87,7 +87,7 @@ impl Write for Narrow {
 
 const PROGRAM: &str = "(uncancelable p (let a (canceled) (let b (say 1) (poll p (say 2)))))";
 
-// Where the words of `PROGRAM` begin and end.
+// The beginnings and ends of the words of `PROGRAM`.
 const WORDS: [(usize, usize); 7] = [
     (1, 13),
     (17, 20),
@@ -98,8 +98,8 @@ const WORDS: [(usize, usize); 7] = [
     (58, 61),
 ];
 
-// The refusal of the front of `PROGRAM` of so many bytes: a word that was cut isn't one of the
-// words, unless it is `cancel`, and else the text is over.
+// The refusal of the first `bytes` bytes of `PROGRAM`: a word that is cut isn't a word, except `cancel`; otherwise the
+// text ends too early.
 fn cut_at(alloc: Global, bytes: usize) -> Result<String, AllocError> {
     for (begin, end) in WORDS {
         if begin < bytes && bytes < end && (begin, bytes) != (24, 30) {
@@ -109,7 +109,7 @@ fn cut_at(alloc: Global, bytes: usize) -> Result<String, AllocError> {
     format!(in alloc; "refused 5 End at {bytes}\n")
 }
 
-// Runs a command line over a reader, and compares all that it writes and its status.
+// Runs a command line with a reader, and compares all that it writes and its status.
 fn expect_of<R: Abort + AllocGlobal + Clock + Files + Threads + Wait + Sync, S: Read + Drop>(
     rt: &R,
     words: &[&str],
@@ -160,7 +160,7 @@ fn tells_failed_readers(rt: HostRuntime) {
     expect_of(&rt, FROM_INPUT, Restless, 70, "", "fault 25 TurnBound\n");
 }
 
-// Runs a command line whose output is full after so many bytes, and asks that this be told.
+// Runs a command line whose output is full after this many bytes, and checks the report of that.
 fn expect_write_fault<R: Abort + AllocGlobal + Clock + Files + Threads + Wait + Sync>(
     rt: &R,
     words: &[&str],
@@ -173,7 +173,7 @@ fn expect_write_fault<R: Abort + AllocGlobal + Clock + Files + Threads + Wait + 
     Ok(())
 }
 
-// Words, and how many bytes they write.
+// Words, and the number of bytes that they write.
 const WRITING: &[(&[&str], usize)] = &[
     (CHECK, "ok size 1 nest 1 masks 0\n".len()),
     (SHOW, "(pure 7)\n".len()),

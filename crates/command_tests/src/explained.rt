@@ -1,8 +1,8 @@
-//! Reasons, which are told on standard error, and change nothing else.
+//! Reasons: they are written to standard error, and change nothing else.
 
 use crate::answers::expect;
 
-// What comes of words with `--explain`: the rule, the words, the input, the status, what is written, and what is told.
+// Words with `--explain`: the rule, the words, the input, the status, the output, and the text on standard error.
 const EXPLAINED: &[(&str, &[&str], &str, u8, &str, &str)] = &[
     (
         "why a text is no program",
@@ -78,7 +78,7 @@ const EXPLAINED: &[(&str, &[&str], &str, u8, &str, &str)] = &[
     ),
 ];
 
-// The same of runs.
+// The same for runs.
 const RUN: &[(&str, &[&str], &str, u8, &str, &str)] = &[
     (
         "why a fiber of a run hasn't ended",

@@ -1,8 +1,8 @@
-//! Other forms than a report, which are asked for by a flag.
+//! Forms other than a report, which a flag chooses.
 
 use crate::answers::expect;
 
-// What comes of words with such a flag: the rule, the words, the input, the status, what is written, and what is told.
+// Words with such a flag: the rule, the words, the input, the status, the output, and the text on standard error.
 const FORMED: &[(&str, &[&str], &str, u8, &str, &str)] = &[
     (
         "a timeline stands behind the report",
@@ -78,7 +78,7 @@ const FORMED: &[(&str, &[&str], &str, u8, &str, &str)] = &[
     ),
 ];
 
-// The same of runs and of explorations.
+// The same for runs and explorations.
 const FOUND: &[(&str, &[&str], &str, u8, &str, &str)] = &[
     (
         "the report of a run as JSON",

@@ -4,10 +4,10 @@ use crate::answers::{answered, expect};
 use std::alloc::{AllocError, Global};
 use std::test::Fail;
 
-// The words of such a replay.
+// A replay whose schedule is the first line of the input.
 const FROM_INPUT: &[&str] = &["fiber_cli", "replay", "--schedule", "-"];
 
-// What comes of inputs: the rule, the input, the status, what is written, and what is told.
+// Inputs: the rule, the input, the status, the output, and the text on standard error.
 const INPUTS: &[(&str, &str, u8, &str, &str)] = &[
     (
         "the first line is the schedule",
@@ -101,7 +101,7 @@ fn a_schedule_that_is_no_text_is_a_usage_fault(rt: HostRuntime) {
     );
 }
 
-// An input with so many entries, each an item of its own, and a text behind them.
+// An input with this many entries, each an item of its own, and a text behind them.
 fn long_input(alloc: Global, entries: usize) -> Result<String, AllocError> {
     let mut input = String::new(alloc);
     for _ in 1..entries {

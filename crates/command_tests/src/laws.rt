@@ -1,5 +1,5 @@
-//! The laws of `cats-effect-laws`, as programs: the two sides of a law end in the same way, and say the
-//! same, whatever the order in which the fibers take turns, and whenever a cancellation comes.
+//! The laws of `cats-effect-laws`, as programs: the two sides of a law have the same outcome, and say the same, in
+//! every order in which the fibers take turns, and after a cancellation at any moment.
 //!
 //! `forceR(fa)(fb)` is written as `(seq (handle fa e (pure 0)) fb)`, and `attempt` as such a `handle`.
 
@@ -13,7 +13,7 @@ use std::test::Fail;
 use std::thread::Threads;
 use std::time::Clock;
 
-// Two programs that can't be told apart.
+// Two programs that have the same ends.
 struct Law<'a> {
     // The law's name in `cats-effect-laws`, or in `cats-laws` where `MonadCancel` inherits it.
     source: &'a str,
@@ -120,7 +120,7 @@ const ALONE: &[Law<'static>] = &[
     },
 ];
 
-// Laws on several fibers, and one that holds only of a fiber that nobody cancels from outside.
+// Laws on several fibers, and one that holds only of a fiber that no other fiber cancels.
 const TOGETHER: &[Law<'static>] = &[
     Law {
         source: "MonadCancelLaws.canceledSequencesOnCancelInOrder",
@@ -205,7 +205,7 @@ const TOGETHER: &[Law<'static>] = &[
     },
 ];
 
-// In which order up to three fibers take turns, and for how many moves.
+// The order in which up to three fibers take turns, and the number of moves of each turn.
 const ROUNDS: &[&str] = &[
     "0 1 2",
     "2 1 0",
@@ -217,14 +217,13 @@ const ROUNDS: &[&str] = &[
     "2*40 1*40 0*40",
 ];
 
-// After so many rounds each of these programs has ended, or waits without end.
+// After this many rounds each of these programs has ended, or waits without end.
 const TIMES: usize = 40;
 
-// After so many moves each program of one fiber above has ended, or waits without end, also behind a
-// `cede`.
+// After this many moves each program of one fiber above has ended, or waits without end, also if it follows a `cede`.
 const MOMENTS: usize = 36;
 
-// What a replay of the program reports.
+// The report of a replay of the program.
 fn replayed<R: Abort + AllocGlobal + Clock + Files + Threads + Wait + Sync>(
     rt: &R,
     program: &str,
@@ -239,7 +238,7 @@ fn replayed<R: Abort + AllocGlobal + Clock + Files + Threads + Wait + Sync>(
     answer.out
 }
 
-// Puts what a fiber said at the end.
+// Appends what a fiber said.
 fn push_said(ending: &mut String, marks: &str) -> Result<(), AllocError> {
     for mark in marks.split(", ") {
         if mark.starts_with("say ") {
@@ -250,7 +249,7 @@ fn push_said(ending: &mut String, marks: &str) -> Result<(), AllocError> {
     Ok(())
 }
 
-// How fiber 0 ended, and what was said, in the order of the fibers.
+// The outcome of fiber 0, and what was said, in the order of the fibers.
 fn ending_in(alloc: Global, report: &str) -> Result<String, AllocError> {
     let mut ending = String::new(alloc);
     for line in report.lines() {
@@ -263,7 +262,7 @@ fn ending_in(alloc: Global, report: &str) -> Result<String, AllocError> {
     Ok(ending)
 }
 
-// How a program ends under a schedule.
+// The ending of a program under a schedule.
 fn ending<R: Abort + AllocGlobal + Clock + Files + Threads + Wait + Sync>(
     rt: &R,
     program: &str,
@@ -276,7 +275,7 @@ fn ending<R: Abort + AllocGlobal + Clock + Files + Threads + Wait + Sync>(
     )
 }
 
-// So many rounds.
+// A schedule of this many rounds.
 fn schedule(alloc: Global, round: &str, times: usize) -> Result<String, AllocError> {
     let mut schedule = String::from_str(alloc, round)?;
     for _ in 1..times {
@@ -286,7 +285,7 @@ fn schedule(alloc: Global, round: &str, times: usize) -> Result<String, AllocErr
     Ok(schedule)
 }
 
-// Compares how the two sides of a law end under a schedule.
+// Compares the endings of the two sides of a law under a schedule.
 fn expect_same<R: Abort + AllocGlobal + Clock + Files + Threads + Wait + Sync>(
     rt: &R,
     law: &Law<'_>,
@@ -302,7 +301,7 @@ fn expect_same<R: Abort + AllocGlobal + Clock + Files + Threads + Wait + Sync>(
     Ok(())
 }
 
-// Compares how the two sides of each law end under these rounds.
+// Compares the endings of the two sides of each law under these rounds.
 fn expect_laws<R: Abort + AllocGlobal + Clock + Files + Threads + Wait + Sync>(
     rt: &R,
     round: &str,
@@ -325,8 +324,8 @@ fn the_sides_of_a_law_end_alike_in_every_order(rt: HostRuntime) -> Result<(), Fa
     Ok(())
 }
 
-// How a program ends in a fiber that is canceled after so many of its moves. The first of them are
-// those of a `cede`, so the request comes before the program's own first look, too.
+// The ending of a program in a fiber that is canceled after `moment` of its moves. The first moves are those of a
+// `cede`, so that some requests come before the program's own first look.
 fn canceled_ending<R: Abort + AllocGlobal + Clock + Files + Threads + Wait + Sync>(
     rt: &R,
     whole: &str,
@@ -336,7 +335,7 @@ fn canceled_ending<R: Abort + AllocGlobal + Clock + Files + Threads + Wait + Syn
     ending(rt, whole, schedule.as_str())
 }
 
-// The same after each number of its moves in turn.
+// The endings after each number of moves in turn.
 fn endings<R: Abort + AllocGlobal + Clock + Files + Threads + Wait + Sync>(
     rt: &R,
     program: &str,
@@ -351,7 +350,7 @@ fn endings<R: Abort + AllocGlobal + Clock + Files + Threads + Wait + Sync>(
     Ok(endings)
 }
 
-// Whether each ending of the one side is among those of the other.
+// Whether each ending of one side is an ending of the other.
 fn are_among(some: &[String], others: &[String]) -> bool {
     for ending in some {
         if !others.contains(ending) {
@@ -361,7 +360,7 @@ fn are_among(some: &[String], others: &[String]) -> bool {
     true
 }
 
-// The sides of a law have the same endings.
+// Checks that the sides of a law have the same endings.
 fn expect_same_endings<R: Abort + AllocGlobal + Clock + Files + Threads + Wait + Sync>(
     rt: &R,
     law: &Law<'_>,

@@ -1,8 +1,7 @@
-//! Tests of the public calls of `command_line`, over texts in memory and devices that fail, with
-//! answers worked by hand.
+//! Tests of the public calls of `command_line`, with texts in memory and devices that fail. The expected answers are
+//! worked out by hand.
 //!
-//! The crate has nothing but its tests. They stand apart from the library so that it is proved without
-//! them.
+//! The crate has only tests, so that the library is proved without them.
 #![tactic(auto)]
 
 #[cfg(test)]

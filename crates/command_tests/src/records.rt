@@ -1,5 +1,4 @@
-//! Runs that are recorded: what a run writes, and the line of a schedule behind it, under which a replay gives
-//! the same.
+//! Recorded runs: the output of a run, and the line of a schedule behind it, under which a replay has the same result.
 
 use crate::answers::{answered, expect};
 use std::process::Abort;
@@ -8,9 +7,9 @@ use std::sync::Wait;
 use std::thread::Threads;
 use std::time::Clock;
 
-// A run on one worker that is recorded, and what comes of it.
+// A recorded run on one worker, and its result.
 struct Recorded<'a> {
-    // What the run shows.
+    // The rule that the run shows.
     rule: &'a str,
     option: &'a str,
     program: &'a str,
@@ -18,7 +17,7 @@ struct Recorded<'a> {
     out: &'a str,
 }
 
-// Runs whose schedule has no moves but those that their report or their fault needs.
+// Runs whose schedule has only the moves that their report or their fault needs.
 const RECORDED: &[Recorded<'static>] = &[
     Recorded {
         rule: "a value takes two moves",
@@ -138,7 +137,7 @@ const REPLAYED: &[&str] = &[
     "(uncancelable p (canceled))",
 ];
 
-// Runs a program on so many workers, and compares what a replay under its schedule gives with its report.
+// Runs a program on this many workers, and compares the result of a replay under its schedule with its report.
 fn expect_replayed<R: Abort + AllocGlobal + Clock + Files + Threads + Wait + Sync>(
     rt: &R,
     workers: &str,

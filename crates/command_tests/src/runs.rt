@@ -1,4 +1,4 @@
-//! Programs on workers, rule by rule: what is reported of each fiber, however many workers there are.
+//! Programs on workers, rule by rule: the report of each fiber on each number of workers.
 
 use crate::answers::expect;
 use std::process::Abort;
@@ -11,13 +11,13 @@ mod limits;
 mod reports;
 mod schedules;
 
-// How many workers each program is run on.
+// The numbers of workers that each program is run on.
 const WORKERS: &[&str] = &["1", "2", "3", "4", "16"];
 
-// A run whose report is the same under all schedules, and what comes of it.
+// A run whose report is the same under all schedules, and its result.
 #[derive(Clone, Copy)]
 struct Run<'a> {
-    // What the run shows.
+    // The rule that the run shows.
     rule: &'a str,
     program: &'a str,
     status: u8,

@@ -1,8 +1,8 @@
-//! Samples whose text is known whatever is drawn.
+//! Samples whose text doesn't depend on what is drawn.
 
 use crate::answers::expect;
 
-// What comes of samples: the rule, the words, the text, the status, and what is written.
+// Samples: the rule, the words, the text, the status, and the output.
 const SAMPLES: &[(&str, &[&str], &str, u8, &str)] = &[
     (
         "one fiber has one schedule",

@@ -1,4 +1,4 @@
-//! What is answered to texts, rule by rule.
+//! The answers to texts, rule by rule.
 
 use crate::answers::{LONG, expect, nested};
 use std::alloc::AllocError;
@@ -9,10 +9,10 @@ use std::test::Fail;
 use std::thread::Threads;
 use std::time::Clock;
 
-// The rule that a text shows, the text, and what is answered to it.
+// The rule that a text shows, the text, and its answer.
 type Case<'a> = (&'a str, &'a str, &'a str);
 
-// Texts that a command line answers with one status.
+// Texts whose answers have the same status.
 struct Answers<'a> {
     words: &'a [&'a str],
     status: u8,
@@ -260,7 +260,7 @@ const ANSWERS: &[Answers<'static>] = &[
     },
 ];
 
-// Answers these texts.
+// Checks the answers to these texts.
 fn expect_answers<R: Abort + AllocGlobal + Clock + Files + Threads + Wait + Sync>(
     rt: &R,
     answers: &Answers<'_>,
@@ -283,7 +283,7 @@ const BRACKETCASE: &str = "(bracketcase x (pure 0) (pure 0) y (pure 0) z (pure 0
 
 const GUARANTEE: &str = "(guarantee (pure 0) ";
 
-// A text that goes so deep, and what `check` answers to it.
+// A text with `depth` nested forms, and its answer by `check`.
 #[derive(Clone, Copy)]
 struct Deep<'a> {
     rule: &'a str,
@@ -314,7 +314,7 @@ const DEEP: &[Deep<'static>] = &[
         status: 65,
         answer: "refused 11 TooDeep at 900\n",
     },
-    // With 100 brackets open only one that is wanted goes too deep.
+    // With 100 brackets open, a further bracket is too deep only if a term is expected there.
     Deep {
         rule: "a name in a term's place",
         front: FOREVER,
@@ -416,7 +416,7 @@ const DEEP: &[Deep<'static>] = &[
     },
 ];
 
-// Checks a text that goes so deep.
+// Checks the answer to a deep text.
 fn expect_deep<R: Abort + AllocGlobal + Clock + Files + Threads + Wait + Sync>(
     rt: &R,
     deep: &Deep<'_>,

@@ -1,4 +1,4 @@
-//! What comes of the words of a command line.
+//! The results of the words of a command line.
 
 use crate::answers::expect;
 use command_line::refuse_words;
@@ -11,7 +11,7 @@ use std::test::Fail;
 use std::thread::Threads;
 use std::time::Clock;
 
-// What stands behind a reason why words give no request.
+// The text behind the reason why words give no request.
 const BEHIND_REASON: &str = "\n\nUsage: fiber_cli <COMMAND>\
     \n\nFor more information, try '--help'.\
     \n";
@@ -106,15 +106,14 @@ const APART: &[(&[&str], &str, &str)] = &[
     ),
 ];
 
-// Words with a timeline of a run that is not recorded.
+// Words with a timeline of a run that isn't recorded.
 const UNRECORDED: &[&[&str]] = &[
     &["fiber_cli", "run", "--timeline"],
     &["fiber_cli", "run", "--json", "--timeline"],
     &["fiber_cli", "run", "--explain", "--timeline"],
 ];
 
-// Words that are refused with status 64, before the text is read: the rule, the words, and what is
-// told.
+// Words that are refused with status 64, before the text is read: the rule, the words, and the text on standard error.
 const WRONG: &[(&str, &[&str], &str)] = &[
     (
         "the place of the first bad item",
@@ -292,8 +291,8 @@ const WRONG: &[(&str, &[&str], &str)] = &[
     ),
 ];
 
-// An option that takes a number: texts of numbers that it takes, and of numbers that it doesn't, with
-// its range as it is told of those.
+// An option that takes a number: texts that it accepts, texts of numbers that it refuses, and its range as the refusal
+// states it.
 struct Numbers {
     name: &'static str,
     taken: &'static [&'static str],
@@ -301,8 +300,8 @@ struct Numbers {
     range: &'static str,
 }
 
-// The limits, which `replay` and `run` both have. A narrow number would take the last one that is
-// refused for 1, or for the least number.
+// The limits, which both `replay` and `run` have. A number of too few bits would take the last refused text for 1, or
+// for the least number.
 const LIMITS: &[Numbers] = &[
     Numbers {
         name: "fibers",
@@ -330,7 +329,7 @@ const LIMITS: &[Numbers] = &[
     },
 ];
 
-// What `run` has besides. `(pure 7)` takes two moves.
+// The further options of `run`. `(pure 7)` needs two moves.
 const RUNNING: &[Numbers] = &[
     Numbers {
         name: "workers",
@@ -352,7 +351,7 @@ const RUNNING: &[Numbers] = &[
     },
 ];
 
-// What `explore` has besides. `(pure 7)` has three worlds, and none of its schedules needs more than two entries.
+// The further options of `explore`. `(pure 7)` has three worlds, and none of its schedules needs more than two entries.
 const EXPLORING: &[Numbers] = &[
     Numbers {
         name: "worlds",
@@ -368,7 +367,7 @@ const EXPLORING: &[Numbers] = &[
     },
 ];
 
-// What `sample` has besides. Each schedule of `(pure 7)` has two entries, whatever is drawn.
+// The further options of `sample`. Each schedule of `(pure 7)` has two entries, whatever is drawn.
 const SAMPLING: &[Numbers] = &[
     Numbers {
         name: "seed",
@@ -398,7 +397,7 @@ const EXPLORE: &[&str] = &["fiber_cli", "explore"];
 
 const SAMPLE: &[&str] = &["fiber_cli", "sample"];
 
-// What each of them answers to `(pure 7)`.
+// The answer of each of them to `(pure 7)`.
 const REPORTED: &str = "fiber 0 succeeded 7\n";
 
 const EXPLORED: &str =
@@ -407,7 +406,7 @@ const EXPLORED: &str =
 const SAMPLED: &str = "sampled 1000 schedules: 1 report, 0 faults\n\n\
     came 1000 times, first under \"0*2\"\nfiber 0 succeeded 7\n";
 
-// Each command that takes numbers, with its options that do, and its answer.
+// Each command that takes numbers, with its options for them, and its answer.
 const COMMANDS: &[(&[&str], &[Numbers], &str)] = &[
     (REPLAY, LIMITS, REPORTED),
     (EXPLORE, LIMITS, EXPLORED),
@@ -418,7 +417,7 @@ const COMMANDS: &[(&[&str], &[Numbers], &str)] = &[
     (SAMPLE, SAMPLING, SAMPLED),
 ];
 
-// Texts that say how many bytes an exploration may keep, and texts that don't.
+// Texts for the number of bytes that an exploration can keep, and texts that aren't.
 const MEMORY: &[&str] = &[
     "100000",
     "0100000",
@@ -449,8 +448,9 @@ const NO_MEMORY: &[&str] = &[
     "1.5G",
 ];
 
-// Before any entry, a world takes 13 bytes, and in the store its row 96 and 4 for its fiber's number, the state of this
-// fiber 480, and the registry 160, 32 for each of 16 fibers, 8 for each of 16 refs and 16 for each of 16 deferreds.
+// Before any entry, a world takes 13 bytes. In the store it takes 96 bytes for its row, 4 for its fiber's number, 480
+// for the state of this fiber, and for the registry 160, 32 for each of 16 fibers, 8 for each of 16 refs and 16 for
+// each of 16 deferreds.
 const STOPPED: &str = "stopped at 1 world: 0 reports, 0 faults, 1649 bytes\n";
 
 #[test]
@@ -500,7 +500,7 @@ fn refusal<R: AllocGlobal>(rt: &R, reason: &str) -> Result<String, AllocError> {
     format!(in rt.alloc(); "error: {reason}{BEHIND_REASON}")
 }
 
-// Runs a command with an option that takes a number, and compares what comes of it.
+// Runs a command with an option that takes a number, and compares the result.
 fn expect_number<R: Abort + AllocGlobal + Clock + Files + Threads + Wait + Sync>(
     rt: &R,
     command: &[&str],
@@ -526,7 +526,7 @@ fn expect_number<R: Abort + AllocGlobal + Clock + Files + Threads + Wait + Sync>
     Ok(())
 }
 
-// The same of a number that is refused, for this reason.
+// The same for a number that is refused for this reason.
 fn refuses<R: Abort + AllocGlobal + Clock + Files + Threads + Wait + Sync>(
     rt: &R,
     command: &[&str],
@@ -540,7 +540,7 @@ fn refuses<R: Abort + AllocGlobal + Clock + Files + Threads + Wait + Sync>(
     expect_number(rt, command, option, 64, "", err.as_str())
 }
 
-// The same of one that isn't in this range.
+// The same for a number outside this range.
 fn refuses_beyond<R: Abort + AllocGlobal + Clock + Files + Threads + Wait + Sync>(
     rt: &R,
     command: &[&str],
@@ -552,7 +552,7 @@ fn refuses_beyond<R: Abort + AllocGlobal + Clock + Files + Threads + Wait + Sync
     refuses(rt, command, option, why.as_str())
 }
 
-// Texts that are no numbers, and why.
+// Texts that aren't numbers, and the reasons.
 const NO_NUMBERS: &[(&str, &str)] = &[
     ("", "cannot parse integer from empty string"),
     ("x", "invalid digit found in string"),
@@ -564,7 +564,7 @@ const NO_NUMBERS: &[(&str, &str)] = &[
     ),
 ];
 
-// A command takes the numbers of an option's range, with this answer, and nothing else.
+// Checks that a command takes the numbers of an option's range, with this answer, and nothing else.
 fn expect_range<R: Abort + AllocGlobal + Clock + Files + Threads + Wait + Sync>(
     rt: &R,
     command: &[&str],

@@ -17,7 +17,7 @@ use Rattle.compared_ends.specs.declared.comparison.Extra.{Extra}
 use Rattle.compared_ends.specs.declared.comparison.Extra.TheVariants as extra
 use Rattle.compared_ends.specs.Views.{View, viewed}
 
--- what a schedule has led to is this end: a settled world whose report is seen so, or this fault
+-- a schedule that led to x has this end: the view of a settled world's report, or this fault
 pub record IsEnd (basis : Basis) (k : Limits) (x : Result World RunError) (end : Result View RunError) : Type 0 where
   pub settled : IfOk x (IsSettled k)
   pub seen : viewed basis (reported x) ≡ end
@@ -27,7 +27,7 @@ pub record CanEnd (basis : Basis) (code : Tree) (k : Limits) (end : Result View 
   pub schedule : List ℕ
   pub ends : IsEnd basis k (core code k schedule) end
 
--- each end of the one program is one of the other
+-- each end of the first program is one of the second
 abbrev pub EndsWithin : Basis → Tree → Tree → Limits → Type 0
 EndsWithin basis c d k = (end : Result View RunError) → CanEnd basis c k end → CanEnd basis d k end
 
@@ -35,29 +35,29 @@ EndsWithin basis c d k = (end : Result View RunError) → CanEnd basis c k end �
 abbrev pub SameEnds : Basis → Tree → Tree → Limits → Type 0
 SameEnds basis c d k = (end : Result View RunError) → CanEnd basis c k end ↔ CanEnd basis d k end
 
--- the answer's schedule leads the one program to its end, and no schedule leads the other program to an end that is
--- seen so
+-- the answer's schedule leads the first program to its end, and no schedule leads the second program to an end with the
+-- same view
 pub record IsOnly (basis : Basis) (c d : Tree) (k : Limits) (a : Answer) : Type 0 where
   pub reached : IsReached c k a
   pub never : CanEnd basis d k (viewed basis a.end) → ⊥
 
--- one of the answers ends in a way that is seen so
+-- one of the answers has an end with this view
 abbrev pub IsSeenIn : Basis → List Answer → Result View RunError → Type 0
 IsSeenIn basis answers end = (i : ℕ) × (a : Answer) × (slice_get answers i ≡ Some a) × (viewed basis a.end ≡ end)
 
--- each of the answers ends as one of the others does
+-- each of the answers has an end with the view of one of the others
 abbrev pub AreSeenIn : Basis → List Answer → List Answer → Type 0
 AreSeenIn basis ones others =
     (i : ℕ) (a : Answer) → slice_get ones i ≡ Some a → IsSeenIn basis others (viewed basis a.end)
 
--- An exploration met a bound, and the ends that were found don't decide: those of a complete exploration aren't all
--- among the others, and all were found where the other exploration is complete
+-- An exploration met a bound, and the ends that were found don't decide: if the exploration of `one` is complete, some
+-- of its ends aren't among the others; if the exploration of `other` is complete, all of the ends of `one` are
 pub record IsUndecided (basis : Basis) (one other : Exploration) : Type 0 where
   pub bound : (one.complete ≡ false) ⊎ (other.complete ≡ false)
   pub some : one.complete ≡ true → AreSeenIn basis one.answers other.answers → ⊥
   pub none : other.complete ≡ true → AreSeenIn basis one.answers other.answers
 
--- which ends the one program has that the other hasn't, by their explorations
+-- which ends the first program has that the second hasn't, by their explorations
 abbrev pub IsExtra : Basis → Tree → Tree → Limits → Exploration → Exploration → Extra → Type 0
 IsExtra basis c d k one other (extra.Answer i) =
     (a : Answer) × (slice_get one.answers i ≡ Some a) × IsOnly basis c d k a

@@ -1,4 +1,4 @@
--- What is seen of an end where two programs are compared.
+-- The view of an end when two programs are compared.
 use Rattle.std.specs.Prelude.{ℤ, List, [], ◌∷◌, Option, Some, None, Result, Ok, Err, map}
 use Rattle.std.specs.List.{filter_map}
 use Rattle.effect_term.specs.declared.reply.Outcome.{Outcome}
@@ -10,12 +10,12 @@ use Rattle.scheduled_core.specs.declared.report.Report.{Report}
 use Rattle.compared_ends.specs.declared.basis.Basis.{Basis}
 use Rattle.compared_ends.specs.declared.basis.Basis.TheVariants.{FirstFiber, AllFibers}
 
--- what is seen of a report: outcomes of fibers, none of one that hasn't ended, and values that were said, in order
+-- the view of a report: outcomes of fibers, `None` for one that hasn't ended, and values that were said, in order
 pub record View : Type 0 where
   pub outcomes : List (Option Outcome)
   pub said : List ℤ
 
--- of a fiber's marks, the values that it said
+-- the values that a fiber said, from its marks
 abbrev pub value_said : Mark → Option ℤ
 value_said (Say v) = Some v
 value_said _ = None
@@ -23,7 +23,7 @@ value_said _ = None
 abbrev pub said : List Mark → List ℤ
 said marks = filter_map value_said marks
 
--- how a fiber ended, and what it said
+-- the outcome of a fiber, and what it said
 abbrev pub fiber_view : FiberReport → View
 fiber_view f = record { outcomes = f.outcome ∷ []; said = said f.marks }
 
@@ -32,7 +32,7 @@ abbrev pub first_view : List FiberReport → View
 first_view [] = record { outcomes = []; said = [] }
 first_view (f ∷ fibers) = fiber_view f
 
--- how each fiber ended
+-- the outcome of each fiber
 abbrev pub outcome_seen : FiberReport → Option Outcome
 outcome_seen f = f.outcome
 
@@ -43,7 +43,7 @@ abbrev pub view : Basis → List FiberReport → View
 view FirstFiber fibers = first_view fibers
 view AllFibers fibers = outcomes_view fibers
 
--- what is seen of an end: of a report its view, and of a fault all
+-- the view of an end: of a report its view by the basis, of a fault the whole fault
 abbrev pub viewed : Basis → Result Report RunError → Result View RunError
 viewed basis (Ok r) = Ok (view basis r.fibers)
 viewed basis (Err e) = Err e

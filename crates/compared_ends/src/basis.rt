@@ -1,10 +1,10 @@
-//! By what the ends of two programs are compared.
+//! What the ends of two programs are compared by.
 
-/// By what the ends of two programs are compared. A fault is an end by its own, and the same only as the same fault.
+/// What the ends of two programs are compared by. A fault is an end of its own, and equal only to the same fault.
 #[derive(Clone, Copy, PartialEq, Eq, Debug)]
 pub enum Basis {
-    /// How fiber 0 ended, if it did, and the values that it said, in their order.
+    /// The outcome of fiber 0, if it has ended, and the values that it said, in their order.
     FirstFiber,
-    /// How each fiber ended, if it did, in the order of their numbers. What they said is left out.
+    /// The outcome of each fiber, if it has ended, in the order of their numbers. What the fibers said doesn't count.
     AllFibers,
 }

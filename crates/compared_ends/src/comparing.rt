@@ -14,14 +14,15 @@ use effect_term::Program;
 use every_schedule::{Bounds, Exploration, explore};
 use std::alloc::Global;
 
-/// Compares two programs by the ends that they can come to under every schedule: how each of them ends where no further
-/// entry changes its report, as far as the basis looks at it, and by which faults.
+/// Compares two programs by the ends that they can have under every schedule: the reports that no further entry
+/// changes, as far as the basis looks at them, and the faults.
 ///
 /// Both are explored under the same limits, each within the bounds. An end that only one of them has is the end of one
-/// of its answers, whose schedule leads there; no schedule leads the other program to an end that is the same by the
-/// basis. Where neither has such an end, the two have the same ends. An exploration that met a bound may leave either
-/// question undecided: whether the one program has more than the other is known where the other's exploration is
-/// complete and an end is missing there, or the one's own is complete and none is missing.
+/// of its answers, whose schedule leads there; no schedule leads the other program to an end that is equal by the
+/// basis. If neither has such an end, the two have the same ends. An exploration that met a bound can leave either
+/// question undecided. Whether the first program has more ends than the second is known in two cases: the exploration
+/// of the second is complete and one of these ends is missing in it, or that of the first is complete and none is
+/// missing.
 ///
 /// The limits are in their ranges ([`Limits`]). [`RunError::NoMemory`] is the only error.
 pub fn compare_ends(
@@ -55,7 +56,7 @@ pub fn compare_ends(
     })
 }
 
-// What can come of a program.
+// The exploration of a program.
 fn explored(
     alloc: Global,
     program: &Program,

@@ -24,7 +24,7 @@ pub(crate) fn extra(basis: Basis, one: &Exploration, other: &Exploration) -> Ext
     }
 }
 
-// The first answer that ends as none of the others does.
+// The first answer whose end none of the others has.
 fn first_unseen(basis: Basis, ones: &[Answer], others: &[Answer]) -> Option<usize>
     ensures some { IfSome result (λ i. (a : TheAnswer) × (slice_get ones.now i ≡ Some a) ×
         (IsSeenIn basis others.now (viewed basis a.end) → ⊥)) }
@@ -38,7 +38,7 @@ fn first_unseen(basis: Basis, ones: &[Answer], others: &[Answer]) -> Option<usiz
     None
 }
 
-// Whether one of the answers ends so.
+// Whether one of the answers has this end.
 fn is_seen(basis: Basis, end: &Result<Report, RunError>, answers: &[Answer]) -> bool
     ensures seen { result ≡ true → IsSeenIn basis answers.now (viewed basis end.now) }
     ensures other { result ≡ false → IsSeenIn basis answers.now (viewed basis end.now) → ⊥ }

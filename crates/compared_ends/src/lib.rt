@@ -1,12 +1,13 @@
-//! Two programs, compared by the ends that they can come to under every schedule.
+//! Two programs, compared by the ends that they can have under every schedule.
 //!
-//! It stands on the exploration of a program (`every_schedule`). Two programs are explored under the same limits, and
-//! their ends are compared by how fiber 0 ends and what it says, or by how each fiber ends. It promises that programs
-//! which are reported to have the same ends have them under every schedule, and that an end which only one program is
-//! reported to have is reached there by the schedule that is given, and by no schedule of the other program.
+//! The crate uses the exploration of a program (`every_schedule`). Two programs are explored under the same limits, and
+//! their ends are compared by the outcome of fiber 0 and what it says, or by the outcomes of all fibers. The crate
+//! promises that programs which are reported to have the same ends have them under every schedule, and that an end
+//! which only one program is reported to have is reached by the reported schedule there, and by no schedule of the
+//! other program.
 //!
-//! A race against what never ends is the other side, by how fiber 0 ends. By how all fibers end it isn't, since only the
-//! race starts some:
+//! By the outcome of fiber 0, a race against a side that never ends has the same ends as the other side alone. By the
+//! outcomes of all fibers the ends differ, since only the race starts fibers:
 //!
 //! ```
 //! let race = Program::check(alloc, parse(alloc, b"(race (pure 4) (never))")?)?;

@@ -1,4 +1,4 @@
-//! Whether two ends are the same where they are compared.
+//! Whether two ends are equal in a comparison.
 ghost use Rattle.std.specs.Prelude.{◌≡◌, ◌≢◌, ◌≤◌, Some, None, false, length, take, true};
 ghost use Rattle.std.specs.List.{slice_get};
 ghost use Rattle.fiber_frames.specs.declared.mark.Mark.{Mark as TheMark};
@@ -10,7 +10,7 @@ use effect_term::Value;
 use fiber_frames::Mark;
 use scheduled_core::{FiberReport, Report};
 
-/// Whether two ends are the same by this basis.
+/// Whether two ends are equal by this basis.
 pub(crate) fn are_alike(
     basis: Basis,
     one: &Result<Report, RunError>,
@@ -31,7 +31,7 @@ pub(crate) fn are_alike(
     }
 }
 
-// Whether the fibers of two reports have come to the same by this basis.
+// Whether the fibers of two reports are equal by this basis.
 fn same_fibers(basis: Basis, one: &[FiberReport], other: &[FiberReport]) -> bool
     ensures same { result ≡ true → view basis one.now ≡ view basis other.now }
     ensures other { result ≡ false → view basis one.now ≢ view basis other.now }
@@ -42,7 +42,7 @@ fn same_fibers(basis: Basis, one: &[FiberReport], other: &[FiberReport]) -> bool
     }
 }
 
-// Whether fiber 0 has ended alike, and said the same.
+// Whether fiber 0 has the same outcome, and said the same.
 fn same_first(one: &[FiberReport], other: &[FiberReport]) -> bool
     ensures same { result ≡ true → first_view one.now ≡ first_view other.now }
     ensures other { result ≡ false → first_view one.now ≢ first_view other.now }
@@ -56,7 +56,7 @@ fn same_first(one: &[FiberReport], other: &[FiberReport]) -> bool
     }
 }
 
-// Whether two fibers have ended alike, or neither has, and said the same.
+// Whether two fibers have the same outcome, or none, and said the same.
 fn same_fiber(one: &FiberReport, other: &FiberReport) -> bool
     ensures same { result ≡ true → fiber_view one.now ≡ fiber_view other.now }
     ensures other { result ≡ false → fiber_view one.now ≢ fiber_view other.now }
@@ -64,7 +64,7 @@ fn same_fiber(one: &FiberReport, other: &FiberReport) -> bool
     one.outcome == other.outcome && same_said(one.marks.as_slice(), other.marks.as_slice())
 }
 
-// Whether as many fibers have ended alike.
+// Whether the fibers are equally many, with the same outcomes.
 fn same_outcomes(one: &[FiberReport], other: &[FiberReport]) -> bool
     ensures same { result ≡ true → outcomes_view one.now ≡ outcomes_view other.now }
     ensures other { result ≡ false → outcomes_view one.now ≢ outcomes_view other.now }
@@ -98,7 +98,7 @@ fn same_said(one: &[Mark], other: &[Mark]) -> bool
     next_said(other, place) == other.len()
 }
 
-// The value that the mark is a `say` of, if it is one.
+// The value of the mark if it is a `say`.
 fn value_said(mark: &Mark) -> Option<Value>
     ensures { result ≡ value_said mark.now }
 {
@@ -119,7 +119,7 @@ fn says(mark: &Mark, value: Value) -> bool
     }
 }
 
-// The index of the first `say` from this place on, or how many marks there are.
+// The index of the first `say` from this place on, or the number of marks if there is none.
 fn next_said(marks: &[Mark], place: usize) -> usize
     requires { place ≤ length marks.now }
     ensures within { result ≤ length marks.now }

@@ -1,4 +1,4 @@
--- Comparisons as JSON. The members of an object stand in the order of their keys.
+-- Comparisons as JSON. The members of an object are in the order of their keys.
 use Rattle.std.specs.Prelude.{◌≡◌, ℕ, List, codes, Some, Result, Ok, Err}
 use Rattle.std.specs.List.{slice_get}
 use Rattle.cell_registry.specs.declared.limits.RunError.{RunError}
@@ -20,14 +20,14 @@ end_data schedule (Ok r) = object (member (codes "report") (report_data r.fibers
 end_data schedule (Err e) = object (member (codes "fault") (fault_data e)
     (member (codes "schedule") (string schedule) no_members))
 
--- which ends one program has alone: an answer that shows one, or a word
+-- the ends that only one program has: an answer that shows one, or a word
 abbrev pub IsExtraData : List Answer → Extra → Data → Type 0
 IsExtraData answers (extra.Answer i) d = (a : Answer) × (schedule : List ℕ) × (slice_get answers i ≡ Some a) ×
     SpellsEntries schedule a.schedule × (d ≡ end_data schedule a.end)
 IsExtraData answers extra.Nothing d = d ≡ string (codes "nothing")
 IsExtraData answers extra.Undecided d = d ≡ string (codes "undecided")
 
--- whether all of a program was explored, the ends that it has alone, and how many worlds were found
+-- whether all of a program was explored, the ends that only it has, and the number of worlds found
 abbrev pub side_data : Exploration → Data → Data
 side_data e alone = object (member (codes "alone") alone (member (codes "complete") (boolean e.complete)
     (member (codes "worlds") (count e.worlds) no_members)))

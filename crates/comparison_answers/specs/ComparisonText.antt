@@ -1,4 +1,4 @@
--- The text of a comparison, and how the program ends behind it.
+-- The text of a comparison, and its exit status.
 use Rattle.std.specs.Prelude.{◌≡◌, ℕ, false, List, [], ◌∷◌, ◌++◌, codes, Some}
 use Rattle.std.specs.List.{slice_get}
 use Rattle.every_schedule.specs.declared.exploration.Answer.{Answer}
@@ -9,7 +9,7 @@ use Rattle.compared_ends.specs.declared.comparison.Comparison.{Comparison}
 use Rattle.compared_ends.specs.declared.comparison.Extra.{Extra}
 use Rattle.compared_ends.specs.declared.comparison.Extra.TheVariants as extra
 
--- what the comparison has found, by which ends the first program has alone, and which the second
+-- the verdict, by the ends that only the first program has, and those that only the second has
 abbrev pub verdict : Extra → Extra → List ℕ
 verdict extra.Nothing extra.Nothing = codes "the same ends"
 verdict (extra.Answer i) extra.Nothing = codes "the first can do more"
@@ -21,7 +21,7 @@ verdict extra.Nothing extra.Undecided = codes "undecided whether the second can 
 verdict extra.Undecided extra.Nothing = codes "undecided whether the first can do more"
 verdict extra.Undecided extra.Undecided = codes "undecided"
 
--- an answer that shows an end of one program alone, headed so; nothing where there is none
+-- this heading and an answer that shows an end of only one program; empty if there is none
 abbrev pub IsExtraText : List ℕ → List Answer → Extra → List ℕ → Type 0
 IsExtraText heading answers (extra.Answer i) text = (a : Answer) × (part : List ℕ) × (slice_get answers i ≡ Some a) ×
     IsAnswerText false a part × (text ≡ heading ++ part)
@@ -33,7 +33,7 @@ abbrev pub heads : Comparison → List ℕ
 heads it = verdict it.first_extra it.second_extra ++
     (10 ∷ codes "first: " ++ (first_line it.first ++ (codes "second: " ++ first_line it.second)))
 
--- these lines, and an answer for each program that has an end alone
+-- these lines, and an answer for each program that has an end of its own
 pub record IsComparisonText (it : Comparison) (text : List ℕ) : Type 0 where
   pub first : List ℕ
   pub second : List ℕ
@@ -41,8 +41,8 @@ pub record IsComparisonText (it : Comparison) (text : List ℕ) : Type 0 where
   pub first_is : IsExtraText (10 ∷ codes "only the first:") it.first.answers it.first_extra first
   pub second_is : IsExtraText (10 ∷ codes "only the second:") it.second.answers it.second_extra second
 
--- as where fiber 0 succeeded, where the programs have the same ends; as where it errored, where one has an end alone;
--- and as where it hasn't ended, where that is undecided
+-- the status of a success if the programs have the same ends, that of an error if one has an end that the other lacks,
+-- and that of an unended run if this is undecided
 abbrev pub extras_status : Extra → Extra → Status
 extras_status (extra.Answer i) second = ends.Errored
 extras_status extra.Nothing (extra.Answer j) = ends.Errored

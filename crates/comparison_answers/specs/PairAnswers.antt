@@ -1,4 +1,4 @@
--- What is answered to two texts whose programs are compared.
+-- The answers to two texts whose programs are compared.
 use Rattle.std.specs.Prelude.{◌≡◌, ℕ, Bool, true, false, List, ◌++◌, codes, Ok}
 use Rattle.cell_registry.specs.declared.limits.Limits.{Limits}
 use Rattle.derived_ops.specs.Expansion.{code_of}
@@ -41,8 +41,8 @@ pub record IsComparedAnswer (json : Bool) (t u : Term) (limits : Limits) (bounds
     pub shows : Shows json comparison answer
     pub status_is : status ≡ comparison_status comparison
 
--- what is answered to a program and a text behind it: the refusal of the text, or the comparison of the program with
--- the one that the text spells
+-- the answer to a program and a second text: the refusal of the text, or the comparison of the program with the one
+-- that the text spells
 pub data IsSecondAnswer (json : Bool) (limits : Limits) (bounds : Bounds) (basis : Basis) (t : Term) (second : List ℕ)
     (answer : List ℕ) (status : Status) : Type 0
   where
@@ -52,8 +52,8 @@ pub data IsSecondAnswer (json : Bool) (limits : Limits) (bounds : Bounds) (basis
         IsComparedAnswer json t u limits bounds basis answer status →
         IsSecondAnswer json limits bounds basis t second answer status
 
--- what `compare` answers to two texts: the refusal of the first of them that is refused, or the comparison of the
--- programs that they spell
+-- the answer of `compare` to two texts: the refusal of the first refused text, or the comparison of the programs that
+-- they spell
 pub data IsPairAnswer (json : Bool) (limits : Limits) (bounds : Bounds) (basis : Basis) (first second : List ℕ)
     (answer : List ℕ) (status : Status) : Type 0
   where

@@ -1,8 +1,8 @@
 //! From two texts that spell programs to the answer to their comparison, in words or as JSON.
 //!
-//! It stands on comparisons (`compared_ends`) and on texts and their answers (`outcome_trace`, `exploration_text`,
-//! `json_answers`). It promises that what goes out is exactly the text of a comparison of the two programs that the
-//! texts spell, with its status, or the refusal of the first text that spells none.
+//! The crate uses comparisons (`compared_ends`), and texts and their answers (`outcome_trace`, `exploration_text`,
+//! `json_answers`). The crate promises that what is written is exactly the text of a comparison of the two programs
+//! that the texts spell, with its status, or the refusal of the first text that spells none.
 #![tactic(auto)]
 
 mod pairs;

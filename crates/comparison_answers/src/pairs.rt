@@ -1,4 +1,4 @@
-//! What is answered to two texts whose programs are compared.
+//! The answer to two texts whose programs are compared.
 ghost use Rattle.std.specs.Prelude.{◌≡◌, ◌≤◌, ◌++◌, IfOk, codes};
 ghost use Rattle.cell_registry.specs.Cells.{AreLimits};
 ghost use Rattle.outcome_trace.specs.Answers.{IsRefused};
@@ -17,23 +17,23 @@ use std::alloc::{AllocError, Global};
 /// How two programs are compared.
 #[derive(Clone, Copy)]
 pub struct CompareOrder {
-    /// How many fibers, refs and deferreds there may be (each 1 to 1000), and how often a fiber may change its own
-    /// state (1 to 1,099,511,627,775), in either program.
+    /// The numbers of fibers, refs and deferreds (each 1 to 1000), and how often a fiber can change its own cell (1 to
+    /// 1,099,511,627,775), in both programs.
     pub limits: Limits,
-    /// How many worlds are kept at most, how many entries a schedule has at most (0 to 1,000,000), and at how many
-    /// bytes the search stops, of each program.
+    /// For each program, the greatest numbers of kept worlds and of entries of a schedule (0 to 1,000,000), and the
+    /// number of bytes at which the search stops.
     pub bounds: Bounds,
-    /// By what the ends are compared.
+    /// What the ends are compared by.
     pub basis: Basis,
-    /// Whether it is answered as JSON.
+    /// Whether the answer is JSON.
     pub json: bool,
     pub ghost ranges: { AreLimits limits },
     pub ghost entries: { bounds.entries ≤ 1000000 },
 }
 
 /// The answer to two texts: the text of the comparison of the programs that they spell ([`text_of_comparison`]), with
-/// the status of [`comparison_status`], or the refusal of the first text that is refused, with `Status::Refused`, both
-/// in words or as JSON. `AllocError` where memory ran out.
+/// the status of [`comparison_status`], or the refusal of the first refused text, with `Status::Refused`, both in words
+/// or as JSON. Returns `AllocError` if memory ran out.
 pub fn answer_pair(
     alloc: Global,
     order: &CompareOrder,
@@ -49,7 +49,7 @@ pub fn answer_pair(
     }
 }
 
-// The answer where the first text spells a program.
+// The answer if the first text spells a program.
 fn second_answer(
     alloc: Global,
     order: &CompareOrder,
@@ -65,7 +65,7 @@ fn second_answer(
     }
 }
 
-// The answer where the first text is refused.
+// The answer if the first text is refused.
 fn first_refusal(
     alloc: Global,
     json: bool,
@@ -84,7 +84,7 @@ fn first_refusal(
     }
 }
 
-// The answer where the second text is refused.
+// The answer if the second text is refused.
 fn second_refusal(
     alloc: Global,
     json: bool,
@@ -117,7 +117,7 @@ fn sided(alloc: Global, side: &[u8], answer: Answer) -> Result<Answer, AllocErro
     })
 }
 
-// The answer where both texts spell programs.
+// The answer if both texts spell programs.
 fn compared_answer(
     alloc: Global,
     order: &CompareOrder,

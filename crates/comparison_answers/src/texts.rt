@@ -1,4 +1,4 @@
-//! The text of a comparison, and how the program ends behind it.
+//! The text of a comparison, and its exit status.
 ghost use Rattle.std.specs.Prelude.{◌≡◌, ◌∷◌, ◌++◌, ◌<◌, ℕ, IfOk, codes, length, string_bytes};
 ghost use Rattle.std.specs.List.{All};
 ghost use Rattle.exploration_text.specs.ExplorationText.{IsSpellable};
@@ -12,11 +12,11 @@ use exploration_text::{first_line, text_of_answer};
 use outcome_trace::Status;
 use std::alloc::{AllocError, Global};
 
-/// The text of a comparison: the verdict, how far both explorations came, and for each program that has an end alone an
-/// answer that shows it, as in the text of an exploration.
+/// The text of a comparison: the verdict, how far both explorations came, and for each program that has an end of its
+/// own an answer that shows it, as in the text of an exploration.
 ///
 /// An extra end is that of one of the answers. The entries of each schedule are at most 999, and it has at most
-/// 1,000,000. `AllocError` where memory is refused.
+/// 1,000,000. Returns `AllocError` if memory is refused.
 pub fn text_of_comparison(alloc: Global, it: &Comparison) -> Result<Vec<u8>, AllocError>
     requires first { All IsSpellable it.now.first.answers }
     requires second { All IsSpellable it.now.second.answers }
@@ -56,7 +56,7 @@ fn heads(alloc: Global, it: &Comparison) -> Result<String, AllocError>
     Ok(text)
 }
 
-// The answer that shows an end of one program alone, behind this heading, or nothing.
+// This heading and the answer that shows an end of only one program, or nothing.
 fn extra_text(
     alloc: Global,
     heading: &[u8],
@@ -79,7 +79,7 @@ fn extra_text(
     }
 }
 
-/// The verdict of a comparison in words, by the ends that each program has alone.
+/// The verdict of a comparison in words, by the ends that only one of the programs has.
 pub(crate) fn verdict(first: Extra, second: Extra) -> &'static str
     ensures { result.now ≡ verdict first second }
 {
@@ -96,8 +96,8 @@ pub(crate) fn verdict(first: Extra, second: Extra) -> &'static str
     }
 }
 
-/// How the program ends behind the text: `Status::Succeeded` where the programs have the same ends, `Status::Errored`
-/// where one of them has an end alone, and `Status::Unended` where that is undecided.
+/// The exit status of a comparison: `Status::Succeeded` if the programs have the same ends, `Status::Errored` if one of
+/// them has an end that the other lacks, and `Status::Unended` if that is undecided.
 pub fn comparison_status(it: &Comparison) -> Status
     ensures { result ≡ comparison_status it.now }
 {

@@ -16,11 +16,11 @@ use outcome_trace::{Report, schedule_text};
 use serde_json::{Value, json};
 use std::alloc::{AllocError, Global};
 
-/// A comparison: the verdict, and of each program whether all of it was explored, the ends that it has alone, and how
-/// many worlds were found.
+/// A comparison as JSON: the verdict, and for each program whether all of it was explored, the ends that only it has,
+/// and the number of worlds found.
 ///
 /// An extra end is that of one of the answers. The entries of each schedule are at most 999, and it has at most
-/// 1,000,000. `AllocError` where memory ran out.
+/// 1,000,000. Returns `AllocError` if memory ran out.
 pub fn comparison_json(alloc: Global, it: &Comparison) -> Result<Value, AllocError>
     requires first { All IsSpellable it.now.first.answers }
     requires second { All IsSpellable it.now.second.answers }
@@ -36,7 +36,7 @@ pub fn comparison_json(alloc: Global, it: &Comparison) -> Result<Value, AllocErr
     json!(in alloc; {"answer": "comparison", "first": first, "second": second, "verdict": verdict})
 }
 
-// One of the programs, with the ends that it has alone.
+// One of the programs, with the ends that only it has.
 fn side_value(alloc: Global, exploration: &Exploration, alone: Value) -> Result<Value, AllocError>
     ensures { IfOk result (λ value. view value ≡ side_data exploration.now (view alone)) }
 {
@@ -45,7 +45,7 @@ fn side_value(alloc: Global, exploration: &Exploration, alone: Value) -> Result<
     json!(in alloc; {"alone": alone, "complete": complete, "worlds": worlds})
 }
 
-// The ends that a program has alone.
+// The ends that only one program has.
 fn extra_value(alloc: Global, answers: &[Answer], extra: Extra) -> Result<Value, AllocError>
     requires spellable { All IsSpellable answers.now }
     requires within { (i : ℕ) → extra ≡ TheAnswer i → i < length answers.now }

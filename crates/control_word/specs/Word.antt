@@ -9,7 +9,7 @@ abbrev pub bit : Bool → ℕ
 bit true = 1
 bit false = 0
 
--- each field fits its place
+-- each field is in its range
 pub record InRange (c : Control) : Type 0 where
   pub count : c.count < 2 ^ 40
   pub depth : c.depth < 2 ^ 8
@@ -21,7 +21,7 @@ unfoldable pub word_of : Control → ℕ
 word_of c = c.count + 2 ^ 40 * c.depth + 2 ^ 48 * c.phase + 2 ^ 50 * c.kind + 2 ^ 52 * bit c.cancel +
     2 ^ 53 * bit c.waited
 
--- the digits of a number at the places of the fields
+-- the fields of a number, read as digits at their places
 unfoldable pub control_of : ℕ → Control
 control_of n = record {
   count = n / 2 ^ 0 % 2 ^ 40;
@@ -40,7 +40,7 @@ IsPackedFrom n r = (c : Control) → InRange c → word_of c ≡ n → r ≡ c
 pub record HasNoOutcome (c : Control) : Type 0 where
   pub kind : c.kind ≡ 0
 
--- the greatest limit of a fiber's changes
+-- the greatest limit of the number of a fiber's changes
 abbrev pub greatest_count : ℕ
 greatest_count = 1099511627775
 
@@ -69,7 +69,7 @@ kind_of (Succeeded v) = 1
 kind_of (Errored v) = 2
 kind_of Canceled = 3
 
--- the number of an outcome, which stands in a word of its own
+-- the number of an outcome, which has a word of its own
 abbrev pub value_of : Outcome → ℤ
 value_of (Succeeded v) = v
 value_of (Errored v) = v
@@ -78,8 +78,9 @@ value_of Canceled = pos 0
 abbrev pub finished : Outcome → Control → Control
 finished o c = record c { count = c.count + 1; phase = ended; kind = kind_of o }
 
--- ---- the amounts: whatever the cancel and the waited bit are, the word plus (for a mask that is left, minus) the
--- amount is the word with the fields changed
+-- ---- the amounts:
+-- whatever the cancel and waited bits are, the word plus the amount (minus it, when a mask is left) is the word with
+-- the fields changed
 abbrev pub Masks : ℕ → Type 0
 Masks k = (c : Control) → InRange c → HasNoOutcome c → c.count < greatest_count → c.depth < 255 →
     (word_of c + k) % 2 ^ 64 ≡ word_of (masked c)
@@ -96,7 +97,7 @@ abbrev pub Finishes : Bool → Outcome → ℕ → Type 0
 Finishes b o k = (c : Control) → InRange c → HasNoOutcome c → c.count < greatest_count → c.phase ≡ bit b →
     (word_of c + k) % 2 ^ 64 ≡ word_of (finished o c)
 
--- the amount of an end, as a sum: one change, the step to the phase ended, and the outcome's kind
+-- the amount of an end, as a sum: one change, the step to the phase ended, and the kind of the outcome
 abbrev pub finish_sum : Bool → Outcome → ℕ
 finish_sum b o = 1 + 2 ^ 48 * (ended - bit b) + 2 ^ 50 * kind_of o
 

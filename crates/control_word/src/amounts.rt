@@ -1,5 +1,5 @@
-//! What a fiber's owner adds to its word. Each sum changes the fields that the call changes, and
-//! leaves the request and the waited bit as they stand, so one `fetch_add` is the whole call.
+//! The amounts that a fiber's owner adds to its word. Each sum changes the fields that the call changes, and keeps the
+//! request and waited bits as they are, so one `fetch_add` is the whole call.
 
 ghost use Rattle.std.specs.Prelude.{◌≡◌};
 ghost use Rattle.control_word.specs.Word.{Cuts, Finishes, Masks, Unmasks, finish_sum, kind_of};
@@ -7,35 +7,33 @@ ghost use Rattle.control_word.specs.Word.{Cuts, Finishes, Masks, Unmasks, finish
 use crate::control::{bit_of, joined};
 use effect_term::Outcome;
 
-/// The amount whose sum with a word is the word one mask deeper, with one change more. It holds of
-/// a fiber that hasn't ended, at a depth below 255 and a count below the greatest.
+/// The amount that, added to a word, makes the depth greater by 1 and adds one change. The fiber hasn't ended, its
+/// depth is below 255 and its count below the greatest.
 pub fn mask_amount() -> u64
     ensures law { Masks result }
 {
     1_099_511_627_777
 }
 
-/// The amount whose difference from a word is the word one mask less deep, with one change more. It
-/// holds of a fiber that hasn't ended, at a depth above 0 and a count below the greatest.
+/// The amount that, subtracted from a word, makes the depth less by 1 and adds one change. The fiber hasn't ended, its
+/// depth is above 0 and its count below the greatest.
 pub fn unmask_amount() -> u64
     ensures law { Unmasks result }
 {
     1_099_511_627_775
 }
 
-/// The amount whose sum with a word is the word of the fiber as it begins to finalize: one mask
-/// deep, with one change more. It holds of a running fiber without a mask, at a count below the
-/// greatest.
+/// The amount that, added to a word, makes the fiber finalizing, at depth 1, and adds one change. The fiber is running
+/// without a mask, and its count is below the greatest.
 pub fn cut_amount() -> u64
     ensures law { Cuts result }
 {
     282_574_488_338_433
 }
 
-/// The amount whose sum with a word is the word of the fiber ended with this outcome, with one
-/// change more. It holds of a fiber that is finalizing or not, as `finalizing` says, and hasn't
-/// ended, at a count below the greatest. It is `1 + 2^48 (2 - phase) + 2^50 kind`: the outcome's
-/// value stands in a word of its own, which no amount changes.
+/// The amount that, added to a word, ends the fiber with this outcome and adds one change. The fiber hasn't ended,
+/// `finalizing` is whether it is finalizing, and its count is below the greatest. The amount is `1 + 2^48 (2 - phase) +
+/// 2^50 kind`: the value of the outcome has a word of its own, which no amount changes.
 pub fn finish_amount(finalizing: bool, outcome: Outcome) -> u64
     ensures law { Finishes finalizing outcome result }
     ensures sum { result ≡ finish_sum finalizing outcome }

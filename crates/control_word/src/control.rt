@@ -6,23 +6,22 @@ ghost use Rattle.control_word.specs.Word.{InRange, IsPackedFrom, bit, control_of
 /// The fields of a control word, from the lowest bits up.
 #[derive(Clone, Copy, PartialEq, Eq, Debug)]
 pub struct Control {
-    /// How often the owner changed its cell, below 2^40.
+    /// The number of changes that the owner made to its cell, below 2^40.
     pub count: u64,
-    /// How many masks the fiber is under.
+    /// The number of masks that the fiber is in.
     pub depth: u8,
     /// 0 running, 1 finalizing, 2 ended.
     pub phase: u8,
-    /// How the fiber ended: 0 not at all, 1 succeeded, 2 errored, 3 canceled.
+    /// How the fiber ended: 0 not yet, 1 succeeded, 2 errored, 3 canceled.
     pub kind: u8,
     /// Whether its cancellation was requested.
     pub cancel: bool,
-    /// Whether somebody waits for its end.
+    /// Whether another fiber waits for its end.
     pub waited: bool,
 }
 
-/// The word with these fields:
-/// `count + 2^40 depth + 2^48 phase + 2^50 kind + 2^52 cancel + 2^53 waited`. Each field has to fit
-/// its place.
+/// The word with these fields: `count + 2^40 depth + 2^48 phase + 2^50 kind + 2^52 cancel + 2^53 waited`. Each field is
+/// in its range.
 pub fn pack(control: Control) -> u64
     requires in_range { InRange control }
     ensures sum { result ≡ word_of control }
@@ -34,7 +33,7 @@ pub fn pack(control: Control) -> u64
     joined(word, 40, control.count)
 }
 
-/// The fields of the word. They are those that the word was packed from, if it was.
+/// The fields of the word: the inverse of `pack` for every packed word.
 pub fn unpack(word: u64) -> Control
     ensures fields { result ≡ control_of word }
     ensures inverse { IsPackedFrom word result }
@@ -49,7 +48,7 @@ pub fn unpack(word: u64) -> Control
     }
 }
 
-/// The bits of `low` below those of `high`.
+/// The word with `low` in its lowest `width` bits and `high` above them.
 pub(crate) fn joined(high: u64, width: u32, low: u64) -> u64
     requires width { width < 64 }
     requires fits { high * 2 ^ width < 2 ^ 64 }
@@ -59,7 +58,7 @@ pub(crate) fn joined(high: u64, width: u32, low: u64) -> u64
     (high << width) | low
 }
 
-// The bits of a word from one place on.
+// The field of `width` bits at the bit `place`.
 fn field(word: u64, place: u32, width: u32) -> u64
     requires place { place < 64 }
     requires width { width < 64 }

@@ -1,4 +1,4 @@
-//! Values in words: the word of a value has its 63 bits, and the highest bit is left over.
+//! Values in words: the word of a value has its 63 bits, and its highest bit is free.
 
 ghost use Rattle.std.specs.Prelude.{◌≡◌, ◌%◌, ◌^◌};
 ghost use Rattle.effect_term.specs.Values.{bits_value, value_bits};
@@ -17,8 +17,7 @@ pub fn value_word(value: Value) -> u64
     value.get().cast_unsigned() & LOW
 }
 
-/// The value of this word: the one that differs from the word by a multiple of 2^63. It is the value
-/// that the word was made of, if it is the word of a value.
+/// The value that differs from this word by a multiple of 2^63: the inverse of [`value_word`].
 pub fn word_value(word: u64) -> Value
     ensures value { result ≡ bits_value (word % 2 ^ 63) }
     ensures inverse { IsWordOf word result }

@@ -1,6 +1,6 @@
 -- The text of a code: one space between parts, none inside the brackets, and each name as a letter of its kind and its
--- slot. What only a running fiber has is spelled in ways that no text has: a number in the place of a name, and
--- words that aren't words of a program.
+-- slot. The forms that only a running fiber has are spelled in ways that no program's text has: with a number in place
+-- of a name, and with words that aren't words of a program.
 use Rattle.std.specs.Prelude.{ℕ, List, [], ◌∷◌, ◌++◌, codes}
 use Rattle.std.specs.Fmt.{decimal, signed_decimal}
 use Rattle.derived_ops.specs.Tree.{Operand, Number, Slot, Handle, Known, Open_slot, Mask, Named, Pair, Action, Add, Say}
@@ -60,12 +60,12 @@ mark_text Acquired = codes "acquired"
 mark_text Releasing = codes "releasing"
 mark_text Released = codes "released"
 
--- the parts of a sequence: a form of their own, or further parts of the sequence around it
+-- the parts of a sequence: a form of their own, or further parts of the sequence around them
 abbrev pub sequence_text : Rest → List ℕ → List ℕ
 sequence_text Last parts = form (codes "seq" ∷ parts ∷ [])
 sequence_text More parts = parts
 
--- a term, and behind `More` what is left of the sequence in which it stands
+-- the text of a term; behind `More`, of the rest of the sequence that contains it
 abbrev pub text_in : Rest → Tree → List ℕ
 text_in w (Pure v) = form (codes "pure" ∷ value_text v ∷ [])
 text_in w (Raise v) = form (codes "raise" ∷ value_text v ∷ [])

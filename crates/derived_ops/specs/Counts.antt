@@ -1,9 +1,9 @@
--- How many words and marks a term has, and how many masks may be active at once in it.
+-- The number of words and marks of a term, and the greatest number of masks active at once in it.
 use Rattle.std.specs.Prelude.{ℕ, ◌+◌, max}
 use Rattle.derived_ops.specs.Tree.{Last, More, Tree, Cancel, Let, Seq, Handled, If0, Join, Make, Start, Loop}
 use Rattle.derived_ops.specs.Tree.{Uncancelable, Poll, On_cancel, Masked, Polled, Guarded}
 
--- the words and marks of a term; a `seq` is one word, whatever parts it has
+-- the words and marks of a term; a `seq` is one word, however many parts it has
 abbrev pub words : Tree → ℕ
 words (Let e x k) = 1 + words e + words k
 words (Seq Last e k) = 1 + words e + words k
@@ -22,8 +22,8 @@ words (Polled q e) = 1 + words e
 words (Guarded e fin) = 1 + words e + words fin
 words _ = 1
 
--- the most masks below one another: `uncancelable` is one, and so is the wait of `cancel` and what stands around a
--- finalizer
+-- the greatest number of nested masks: `uncancelable` is one, the wait of `cancel` is one, and the mask around a
+-- finalizer is one
 abbrev pub masks : Tree → ℕ
 masks (Cancel f) = 1
 masks (Let e x k) = max (masks e) (masks k)

@@ -1,5 +1,5 @@
--- What the words of a program stand for. A derived word takes the slot d of its first new binder; its parts stand above
--- the slots that are bound around them.
+-- The expansions of the words of a program. A derived word takes the slot d of its first new binder; its parts are
+-- above the slots that are bound around them.
 use Rattle.std.specs.Prelude.{ℕ, zero, suc, ◌+◌, pos, List, [], ◌∷◌, ◌++◌}
 use Rattle.derived_ops.specs.Tree.{Operand, Number, Slot, Open_slot, Mask, Named, Add, Say, Cede, Never, Canceled, Get}
 use Rattle.derived_ops.specs.Tree.{Set, Modify, Complete, Await, Acquired, Releasing, Released, New_ref, New_deferred}
@@ -21,7 +21,7 @@ in_three a b c = Seq More a (Seq Last b c)
 abbrev pub in_four : Tree → Tree → Tree → Tree → Tree
 in_four a b c e = Seq More a (Seq More b (Seq Last c e))
 
--- the term, whose error is dropped
+-- the term, with its error dropped
 abbrev pub attempted : Tree → ℕ → Tree
 attempted e w = Handled e w nil
 
@@ -30,22 +30,23 @@ abbrev pub concluded : ℕ → ℕ → (e on_cancel on_error on_value : Tree) �
 concluded d w e on_cancel on_error on_value =
     Uncancelable d (Let (Handled (On_cancel e on_cancel) w on_error) w on_value)
 
--- the finalizer stands three times, at its depth in each place
+-- the finalizer appears three times, at its depth in each place
 abbrev pub guarantee : ℕ → (e on_cancel on_error on_value : Tree) → Tree
 guarantee d e on_cancel on_error on_value =
     let failed = in_order (attempted on_error (d + 2)) (Raise (Slot (d + 1))) in
     let done = in_order on_value (Pure (Slot (d + 1))) in
     concluded d (d + 1) (Poll (Named d) e) on_cancel failed done
 
--- the release e of the bracket p; where it fails, p is released, and the error that w binds goes on
+-- the release e of the bracket p; if it fails, p is noted as released, and the error that w binds is raised again
 abbrev pub released_then_raised : Mask → Tree → ℕ → Tree
 released_then_raised p e w = Handled e w (in_order (Note Released p) (Raise (Slot w)))
 
--- the release e of the bracket p between its marks, and then what goes on
+-- the release e of the bracket p between its marks, and then the next term
 abbrev pub released_then : Mask → (e next : Tree) → Tree
 released_then p e next = in_four (Note Releasing p) e (Note Released p) next
 
--- the release of the bracket p after its body was canceled, and after an error and a value of it, which has the slot w
+-- the release of the bracket p after its body was canceled, raised an error or gave a value; w is the slot of the error
+-- or value
 abbrev pub released_on_cancel : Mask → Tree → ℕ → Tree
 released_on_cancel p rc w = in_three (Note Releasing p) (released_then_raised p rc w) (Note Released p)
 
@@ -64,27 +65,27 @@ bracket_case d acq body rs re rc =
     let used = concluded (d + 2) (d + 3) (Poll (Named (d + 2)) (Poll p body)) canceled failed done in
     Uncancelable d (Let acq (d + 1) (in_order (Note Acquired p) used))
 
--- waits for the end of f, whatever it is
+-- waits for the end of f, whatever its outcome
 abbrev pub ended : ℕ → ℕ → Tree
 ended c f = Join (Open_slot f) c nil c nil nil
 
--- both sides were canceled: observes a request for the own cancellation, and else waits without end
+-- both sides were canceled: observes a request for its own cancellation, or waits without end
 abbrev pub gives_up : ℕ → Tree
 gives_up p = in_order (Poll (Named p) (Act Canceled)) (Act Never)
 
--- completes its side of the race, after every outcome
+-- runs a side of the race, and after every outcome completes the deferred with its number
 abbrev pub runs_side : ℕ → ℕ → ℕ → Tree → Tree
 runs_side c d z e =
     let done = Act (Complete (Open_slot d) (Number (pos z))) in
     guarantee c e done done done
 
--- cancels both sides at once, and waits for them
+-- cancels both sides at once, each from a fiber of its own, and waits for both
 abbrev pub cancels_both : ℕ → Tree
 cancels_both p =
     Start (p + 4) (Cancel (Open_slot (p + 2))) (Start (p + 5) (Cancel (Open_slot (p + 3)))
     (in_order (ended (p + 6) (p + 4)) (ended (p + 6) (p + 5))))
 
--- waits below the poll for the side that ends first, and cancels both where the wait is cut
+-- waits inside the poll for the side that ends first, and cancels both sides if the wait is cut
 abbrev pub race_winner : ℕ → Tree
 race_winner p = On_cancel (Poll (Named p) (Act (Await (Open_slot (p + 1))))) (cancels_both p)
 
@@ -92,17 +93,17 @@ race_winner p = On_cancel (Poll (Named p) (Act (Await (Open_slot (p + 1))))) (ca
 abbrev pub starts_side : (c d z : ℕ) → (e k : Tree) → Tree
 starts_side c d z e k = Start c (runs_side c d z e) k
 
--- the pair race of the poll p: the deferred p + 1, the fibers p + 2 and p + 3, and in s the winner p + 4
+-- the race of the two sides in the poll p: the deferred p + 1, the fibers p + 2 and p + 3, and in s the winner p + 4
 abbrev pub pair_race : ℕ → (a b s : Tree) → Tree
 pair_race p a b s =
     Make New_deferred (p + 1)
     (starts_side (p + 2) (p + 1) 0 a (starts_side (p + 3) (p + 1) 1 b (Let (race_winner p) (p + 4) s)))
 
--- waits for g below the poll, and cancels it where the wait is cut
+-- waits for g inside the poll, and cancels it if the wait is cut
 abbrev pub awaits : ℕ → ℕ → ℕ → Tree
 awaits p c g = On_cancel (Poll (Named p) (ended c g)) (Cancel (Open_slot g))
 
--- f has ended first, g is the other one
+-- f has ended first, and g is the other fiber
 abbrev pub race_side : ℕ → ℕ → ℕ → ℕ → Tree
 race_side p c f g =
     let loser = Open_slot g in
@@ -110,21 +111,21 @@ race_side p c f g =
     Join (Open_slot f) c (in_order (Cancel loser) (Pure (Slot c))) c (in_order (Cancel loser) (Raise (Slot c)))
     (in_order (awaits p c g) other)
 
--- what a race gives, by the winner d + 4
+-- the result of a race, by the winner d + 4
 abbrev pub race_outcome : ℕ → Tree
 race_outcome d = If0 (Slot (d + 4)) (race_side d (d + 5) (d + 2) (d + 3)) (race_side d (d + 5) (d + 3) (d + 2))
 
 abbrev pub race : ℕ → (a b : Tree) → Tree
 race d a b = Uncancelable d (pair_race d a b (race_outcome d))
 
--- the other fiber of `both` has to give its value too, which has the slot c; first and second are the slots of the
+-- the other fiber of `both` must give its value, too, which has the slot c; first and second are the slots of the
 -- values
 abbrev pub both_values : (p r c g second first : ℕ) → Tree
 both_values p r c g second first =
     let values = in_order (Act (Set (Open_slot r) (Slot second))) (Pure (Slot first)) in
     in_order (awaits p c g) (Join (Open_slot g) c values c (Raise (Slot c)) (gives_up p))
 
--- f has ended first, g is the other one; first and second are the slots of the values of the two sides
+-- f has ended first, and g is the other fiber; first and second are the slots of the values of the two sides
 abbrev pub both_side : (p r c f g second first : ℕ) → Tree
 both_side p r c f g second first =
     let other = Open_slot g in
@@ -132,13 +133,13 @@ both_side p r c f g second first =
     c (in_order (Cancel other) (Raise (Slot c)))
     (in_order (Cancel other) (gives_up p))
 
--- the value of the first side by the winner p + 4, with the second side's value in the ref r
+-- the value of the first side, by the winner p + 4; the second side's value is in the ref r
 abbrev pub both_outcome : (p r : ℕ) → Tree
 both_outcome p r =
     If0 (Slot (p + 4)) (both_side p r (p + 5) (p + 2) (p + 3) (p + 6) (p + 5))
     (both_side p r (p + 5) (p + 3) (p + 2) (p + 5) (p + 6))
 
--- the ref d holds the second value, below the poll d + 1
+-- the ref d holds the second value; the race is inside the poll d + 1
 abbrev pub both : ℕ → (a b k : Tree) → Tree
 both d a b k =
     let p = d + 1 in
@@ -157,7 +158,7 @@ abbrev pub value_in : List ℕ → Operand → Operand
 value_in m (Number z) = Number z
 value_in m (Slot v) = Slot (slot_at m v)
 
--- The expansion below d binders; m gives the new slot of each binder of the program that is around, outermost first.
+-- the expansion inside d binders; m has the new slot of each enclosing binder of the program, outermost first
 abbrev pub expansion : List ℕ → ℕ → Source → Tree
 expansion m d (word.Pure v) = Pure (value_in m v)
 expansion m d (word.Raise v) = Raise (value_in m v)

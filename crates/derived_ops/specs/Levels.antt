@@ -1,9 +1,9 @@
--- Where binders stand.
+-- The slots of binders.
 use Rattle.std.specs.Prelude.{◌≡◌, ℕ, ◌+◌}
 use Rattle.derived_ops.specs.Tree.{Tree, Let, Seq, Handled, If0, Join, Make, Start, Loop, Uncancelable, Poll}
 use Rattle.derived_ops.specs.Tree.{On_cancel, Masked, Polled, Guarded}
 
--- below so many binders, the slot of each binder is the number of binders around it
+-- inside n binders, the slot of each binder is the number of binders around it
 abbrev pub Levelled : ℕ → Tree → Type 0
 Levelled n (Let e x k) = (x ≡ n) × (Levelled n e × Levelled (n + 1) k)
 Levelled n (Seq w e k) = Levelled n e × Levelled n k

@@ -5,13 +5,13 @@ use Rattle.derived_ops.specs.Tree.{Await, Maker, New_ref, New_deferred, Tree, Pu
 use Rattle.derived_ops.specs.Tree.{Seq, Handled, If0, Join, Make, Start, Loop, Uncancelable, Poll, On_cancel, Masked}
 use Rattle.derived_ops.specs.Tree.{Polled, Guarded}
 
--- how many numbers of each kind were given: those below are in use
+-- the next number of each kind: the numbers below it were given
 pub record Given : Type 0 where
   pub fibers : ℕ
   pub refs : ℕ
   pub deferreds : ℕ
 
--- what a slot is bound to, or what stands in a place
+-- what a slot is bound to, or what a place holds
 pub data Place : Type 0 where
   A_fiber : Place
   A_ref : Place
@@ -24,7 +24,7 @@ given_of b A_ref = b.refs
 given_of b A_deferred = b.deferreds
 given_of b No_handle = 0
 
--- a handle in a place of this kind, below binders of these kinds (outermost first): a number that was given, or the
+-- a handle in a place of this kind, inside binders of these kinds (outermost first): a number that was given, or the
 -- slot of a binder of that kind
 abbrev pub HandleFits : Given → List Place → Place → Handle → Type 0
 HandleFits b g p (Known n) = n < given_of b p
@@ -68,7 +68,7 @@ Named b g (Masked m e) = ⊥
 Named b g (Polled q e) = ⊥
 Named b g (Guarded e fin) = ⊥
 
--- a term that is left to do: no handle is open in it
+-- a term that is still to be run, without open handles
 abbrev pub Closed : Given → Tree → Type 0
 Closed b t = (n : ℕ) × Named b (replicate n No_handle) t
 
@@ -76,7 +76,7 @@ abbrev pub AllClosed : Given → List Tree → Type 0
 AllClosed b [] = Unit {0}
 AllClosed b (g ∷ gs) = Closed b g × AllClosed b gs
 
--- at least as much was given
+-- c has given at least the numbers that b has
 pub record IsMore (b c : Given) : Type 0 where
   pub fibers : b.fibers ≤ c.fibers
   pub refs : b.refs ≤ c.refs

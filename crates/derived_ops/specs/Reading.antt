@@ -49,7 +49,7 @@ abbrev mutual
   source_of (term.Race' _ a _ b) = word.Race (source_of a) (source_of b)
   source_of (term.Both' _ a _ b _ k) = word.Both (source_of a) (source_of b) (source_of k)
 
-  -- a `seq` of these two parts and more; with one part left, it is that part
+  -- a `seq` of these two parts and more; if one part remains, the part itself
   pub seq_of : {m : _} → Source → Source → Row_of-Term m → Source
   seq_of a b end_of-Term = word.Seq Last a b
   seq_of a b (more_of-Term c rest) = word.Seq More a (seq_of b (source_of c) rest)

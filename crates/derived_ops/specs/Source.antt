@@ -1,5 +1,5 @@
 -- The terms of a program, in all 32 words, without pointers. A name is the slot of its binder, which is the number of
--- binders around that one. The parts stand in the order in which they are written.
+-- binders around it. The parts are in the order in which they are written.
 use Rattle.std.specs.Prelude.{ℕ}
 use Rattle.derived_ops.specs.Tree.{Operand, Rest}
 

@@ -1,4 +1,4 @@
--- How a term is stored, which a type that contracts see as a term asks for: as its pieces, the parts before their word.
+-- How a term is stored, as the type of its model needs it: as a list of pieces, the parts before their word.
 use Rattle.std.specs.Prelude.{ℕ, zero, suc, ℤ, ◌⊎◌, refl, List, [], ◌∷◌}
 use Rattle.std.specs.Coded.{Coded, code_by, coded_ℕ, coded_ℤ, coded_list, coded×, coded⊎}
 use Rattle.std.proofs.Common.{◌≡◌, ap, ◌∙◌, inl, inr}
@@ -53,7 +53,7 @@ mask_again (Pair f m) = refl
 abbrev pub mask_code : Coded Mask
 mask_code = code_by (ℕ ⊎ (ℕ × ℕ)) (coded⊎ coded_ℕ (coded× coded_ℕ coded_ℕ)) mask_stored mask_read mask_again
 
--- a piece of a term: which word, with its operands and the slots that it binds
+-- a piece of a term: a word, with its operands and the slots that it binds
 pub record Piece : Type 0 where
   pub word : ℕ
   pub value : Operand
@@ -129,7 +129,7 @@ pieces (Masked m e) rest = pieces e (bare 32 m ∷ rest)
 pieces (Polled q e) rest = pieces e (with_mask 33 q ∷ rest)
 pieces (Guarded e fin) rest = pieces e (pieces fin (bare 34 0 ∷ rest))
 
--- a term of the last parts that were read
+-- a term made of the last parts that were read
 abbrev one : (Tree → Tree) → List Tree → List Tree
 one f (a ∷ ts) = f a ∷ ts
 one f [] = []
@@ -142,7 +142,7 @@ abbrev three : (Tree → Tree → Tree → Tree) → List Tree → List Tree
 three f (c ∷ b ∷ a ∷ ts) = f a b c ∷ ts
 three f ts = ts
 
--- the words by their numbers, each with what it makes of the terms before it
+-- the words by their numbers, each with the term that it makes of the terms before it
 abbrev pick : ℕ → List (List Tree → List Tree) → List Tree → List Tree
 pick zero (f ∷ fs) ts = f ts
 pick (suc n) (f ∷ fs) ts = pick n fs ts

@@ -1,6 +1,6 @@
-//! What the words that release stand for, `guarantee` and the brackets, apart from their parts.
+//! The expansions of the words that release, `guarantee` and the brackets, apart from their parts.
 //!
-//! The words of a term are put from the last one to the first. No function of them is inlined, so that what they hold
+//! The words of a term are written from the last to the first. None of these functions is inlined, so what they hold
 //! takes no room on the stack below the parts.
 
 ghost use Rattle.std.specs.Prelude.{◌≡◌, ◌+◌, ◌<◌, ◌^◌, ◌∷◌, List, OnOk};
@@ -17,7 +17,7 @@ use crate::core_word::{CoreWord, Rest};
 use crate::writer::Writer;
 use std::alloc::AllocError;
 
-/// What stands in a word after each outcome of its body, with the slot of the word's outer mask.
+/// What a word does after each outcome of its body, with the slot of the word's outer mask.
 #[derive(Clone, Copy)]
 pub(crate) enum Closing {
     /// The finalizer of a `guarantee`.
@@ -27,7 +27,7 @@ pub(crate) enum Closing {
 }
 
 impl Writer {
-    /// Undoes the masks around a body for what stands.
+    /// Undoes the masks around a body for the words written so far.
     #[inline(never)]
     pub(crate) fn opened(&mut self, closing: Closing) -> Result<(), AllocError>
         requires { last_of_closing closing < 2 ^ 32 }
@@ -54,8 +54,8 @@ impl Writer {
         ])
     }
 
-    /// Notes that the release of the bracket of this mask begins, and goes on with the release, which has so many words
-    /// and behind which the rest stands.
+    /// Notes that the release of the bracket of this mask begins, and goes on with the release, which has `release`
+    /// words, and with what follows it.
     #[inline(never)]
     pub(crate) fn begun(&mut self, poll: u32, left: Rest, release: u32) -> Result<(), AllocError>
         ensures { OnOk result (self.new ≡ word.Seq rest.More 1 ∷ word.Note mark.Releasing poll ∷
@@ -68,7 +68,7 @@ impl Writer {
         ])
     }
 
-    /// Notes that the bracket of this mask has acquired its resource, and goes on with what stands.
+    /// Notes that the bracket of this mask has acquired its resource, and goes on with the words written so far.
     #[inline(never)]
     pub(crate) fn acquired(&mut self, poll: u32) -> Result<(), AllocError>
         ensures { OnOk result (self.new ≡ word.Seq rest.Last 1 ∷ word.Note mark.Acquired poll ∷ self.old) }
@@ -79,7 +79,7 @@ impl Writer {
         ])
     }
 
-    /// Masks what stands, whose first term has so many words and is bound in the second.
+    /// Masks the words written so far: a first term of `first` words, and a second one that binds its value.
     #[inline(never)]
     pub(crate) fn masked_let(&mut self, first: u32) -> Result<(), AllocError>
         ensures { OnOk result (self.new ≡ word.Uncancelable ∷ word.Let first ∷ self.old) }

@@ -18,9 +18,8 @@ use std::alloc::{AllocError, Global};
 use std::marker::Model;
 use std::sync::Arc;
 
-/// The code of a program: a term of core words that is the expansion of a program, word by word.
-///
-/// In contracts a code is that term.
+/// The code of a program: a term of core words that is the expansion of a program, stored word by word. Contracts see
+/// it as that term.
 #[derive(Drop)]
 pub struct Code {
     words: Arc<Vec<CoreWord>>,
@@ -44,8 +43,8 @@ impl Model for Code {
 
 impl Code {
     /// The words of this code, fewer than 2,000,000. The slot of each binder in its term is the number of binders
-    /// around that one, and the term has at most 1,000,000 words and marks, where a sequence is one. It names a
-    /// fiber, a ref or a deferred by the slot of a binder of that kind alone, whatever numbers are given.
+    /// around it. The term has at most 1,000,000 words and marks, where a sequence counts as one. The term names a
+    /// fiber, a ref or a deferred only by the slot of a binder of that kind.
     #[tactic(auto, using(crate::proofs::Levels::levelled_code, crate::proofs::Coded::named_code, crate::proofs::Counts::small_code))]
     pub fn words(&self) -> &[CoreWord]
         ensures term { tree_of result.now ≡ self.now }
@@ -58,8 +57,8 @@ impl Code {
         self.words.as_slice()
     }
 
-    /// The same words for somebody who keeps them beside this code, so that they are held once. Takes no memory;
-    /// `AllocError` comes where they are held too often.
+    /// The same words, shared with this code, so that they are in memory once. Allocates nothing; returns `AllocError`
+    /// if they are shared too often.
     pub fn shared_words(&self) -> Result<Arc<Vec<CoreWord>>, AllocError>
         ensures term { IfOk result (λ words. tree_of words.value.items ≡ self.now) }
         ensures code { IfOk result (λ _. IsCode self.now) }
@@ -69,11 +68,10 @@ impl Code {
     }
 }
 
-/// The code of a program, or `AllocError` where memory is refused.
+/// The code of a program, or `AllocError` if memory is refused.
 ///
-/// Core words are expanded part by part, and a word that isn't one of them is expanded to what it
-/// stands for. A binder's slot is the number of binders around it. The code has as many words and
-/// masks as were counted on the program.
+/// A core word keeps its place, with its parts expanded; any other word is replaced by its expansion. A binder's slot
+/// is the number of binders around it. The code has as many words and masks as were counted on the program.
 #[tactic(auto, using(crate::proofs::Counts::words_code, crate::proofs::Counts::masks_code))]
 pub fn expand(alloc: Global, program: &Program) -> Result<Code, AllocError>
     ensures code { IfOk result (λ code. code ≡ code_of (source_of program.now)) }

@@ -1,4 +1,4 @@
-//! What stands in the words of a code.
+//! The operands and actions in the words of a code.
 
 use effect_term::Value;
 
@@ -15,7 +15,7 @@ pub enum Operand {
 /// A word without parts. A fiber, a ref or a deferred is named by the slot of its binder.
 #[derive(Clone, Copy)]
 pub enum Action {
-    /// The sum, or raises 1001 where it is out of range.
+    /// Gives the sum; raises 1001 if it is out of range.
     Add(Operand, Operand),
     /// Notes the value, and gives 0.
     Say(Operand),
@@ -31,13 +31,13 @@ pub enum Action {
     Set(u32, Operand),
     /// Adds to the ref modulo 2^63, and gives the old value.
     Modify(u32, Operand),
-    /// Completes the deferred. Gives 1 if this did it, else 0.
+    /// Completes the deferred. Gives 1 if this call did it, else 0.
     Complete(u32, Operand),
     /// Waits until the deferred is completed, and gives its value.
     Await(u32),
 }
 
-/// What a bracket notes of its resource.
+/// The notes of a bracket about its resource.
 #[derive(Clone, Copy)]
 pub enum BracketMark {
     /// The resource is acquired.
@@ -48,7 +48,7 @@ pub enum BracketMark {
     Released,
 }
 
-/// What makes a shared cell.
+/// Makes a shared cell.
 #[derive(Clone, Copy)]
 pub enum Maker {
     /// A ref that holds the value.
@@ -57,11 +57,11 @@ pub enum Maker {
     Deferred,
 }
 
-/// How many turns a loop has.
+/// The number of turns of a loop.
 #[derive(Clone, Copy)]
 pub enum Turns {
-    /// So many, none where the number is below 1.
+    /// This number, none if it is below 1.
     Times(Operand),
-    /// No end of them.
+    /// Turns without end.
     Always,
 }

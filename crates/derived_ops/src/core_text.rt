@@ -68,7 +68,7 @@ fn close(text: &mut Vec<u8>) -> Result<(), AllocError>
     Ok(())
 }
 
-// Writes a form that has a slot behind its text, and no parts.
+// Writes a form that has a slot behind its word, and no parts.
 fn push_named_word(text: &mut Vec<u8>, front: &[u8], slot: u32) -> Result<(), AllocError>
     ensures { OnOk result (text.new.items ≡ text.old.items ++ (front.now ++ (decimal slot ++ codes ")"))) }
 {
@@ -76,7 +76,7 @@ fn push_named_word(text: &mut Vec<u8>, front: &[u8], slot: u32) -> Result<(), Al
     close(text)
 }
 
-// Writes a form that has a value behind its text, and no parts.
+// Writes a form that has a value behind its word, and no parts.
 fn push_valued_word(text: &mut Vec<u8>, front: &[u8], value: &Operand) -> Result<(), AllocError>
     ensures { OnOk result (text.new.items ≡ text.old.items ++
         (front.now ++ (value_text (value_in_core value.now) ++ codes ")"))) }
@@ -85,7 +85,7 @@ fn push_valued_word(text: &mut Vec<u8>, front: &[u8], value: &Operand) -> Result
     close(text)
 }
 
-// Writes a form that has a slot and a value behind its text, and no parts.
+// Writes a form that has a slot and a value behind its word, and no parts.
 fn push_both(text: &mut Vec<u8>, front: &[u8], slot: u32, value: &Operand) -> Result<(), AllocError>
     ensures { OnOk result (text.new.items ≡ text.old.items ++
         (front.now ++ (decimal slot ++ (codes " " ++ (value_text (value_in_core value.now) ++ codes ")"))))) }
@@ -127,7 +127,7 @@ fn push_mark(text: &mut Vec<u8>, mark: BracketMark, poll: u32) -> Result<(), All
     }
 }
 
-// Writes what stands before the part of a term that makes a cell.
+// Writes the beginning of a term that makes a cell, up to its part.
 #[inline(never)]
 fn push_maker(text: &mut Vec<u8>, maker: &Maker, slot: usize) -> Result<(), AllocError>
     ensures { OnOk result (text.new.items ≡ text.old.items ++ maker_text (maker_in_core maker.now) slot) }
@@ -141,7 +141,7 @@ fn push_maker(text: &mut Vec<u8>, maker: &Maker, slot: usize) -> Result<(), Allo
     }
 }
 
-// Writes what stands before the part of a loop.
+// Writes the beginning of a loop, up to its part.
 #[inline(never)]
 fn push_turns(text: &mut Vec<u8>, turns: &Turns) -> Result<(), AllocError>
     ensures { OnOk result (text.new.items ≡ text.old.items ++ turns_text (turns_in_core turns.now)) }
@@ -152,8 +152,8 @@ fn push_turns(text: &mut Vec<u8>, turns: &Turns) -> Result<(), AllocError>
     }
 }
 
-// What is left behind the first part of a sequence that is left of another one, and how far behind it that stands;
-// nothing where the last part is left.
+// What remains behind the first part of a sequence if the word continues it, and the distance from that part to it;
+// `None` if only the last part remains.
 fn further(left: Rest, word: &CoreWord) -> Option<(Rest, u32)>
     ensures { result ≡ further (rest_of left) word.now }
 {
@@ -182,7 +182,7 @@ fn further(left: Rest, word: &CoreWord) -> Option<(Rest, u32)>
     }
 }
 
-// The same of the word at a place.
+// The same for the word at a place.
 fn further_at(words: &[CoreWord], left: Rest, index: usize) -> Option<(Rest, u32)>
     ensures word { result ≡ further (rest_of left) (word_at words.now index) }
     ensures inside { IfSome result (λ _. index < length words.now) }
@@ -193,10 +193,11 @@ fn further_at(words: &[CoreWord], left: Rest, index: usize) -> Option<(Rest, u32
     further(left, &words[index])
 }
 
-// Writes the term at a place among the words of a code, below so many binders. Past the end nothing goes on.
+// Writes the term at a place among the words of a code, inside `depth` binders. Past the end it is a term that waits
+// without end.
 //
-// A term of a text may have hundreds of terms below one another in its code. So what is written apart from these is not
-// inlined here, and none of it takes room on the stack below them.
+// A code can have hundreds of nested terms. So the functions that this one calls, other than itself, aren't inlined
+// here, and take no room on the stack below them.
 #[cycle(printing)]
 fn push_term(
     text: &mut Vec<u8>,
@@ -213,7 +214,7 @@ fn push_term(
     push_word_at(text, words, index, depth, &words[index])
 }
 
-// Writes the term of a word at a place, whose parts stand behind it.
+// Writes the term of the word at a place; its parts follow it.
 #[cycle(printing)]
 #[tactic(auto, using(crate::proofs::Texts::looped_written))]
 fn push_word_at(
@@ -229,7 +230,7 @@ fn push_word_at(
         (tree_at words.now (index + 1)) (tree_at words.now (index + 1 + second word.now))
         (tree_at words.now (index + 1 + third word.now)))) }
 {
-    // So many words have a next place.
+    // With that many words, the next place is in range.
     facts_of(words.len());
     let part = index + 1;
     match word {
@@ -294,7 +295,7 @@ fn push_word_at(
     }
 }
 
-// Writes a sequence, of whose first part and of what is left behind it the places are given.
+// Writes a sequence, given the places of its first part and of what remains behind it.
 #[cycle(printing)]
 #[inline(never)]
 fn push_sequence(
@@ -322,7 +323,7 @@ fn push_sequence(
     push_last(text, words, index, depth)
 }
 
-// Writes a part of a form behind what stands.
+// Writes a part of a form behind what is written.
 #[cycle(printing)]
 fn push_part(
     text: &mut Vec<u8>,
@@ -354,11 +355,11 @@ fn push_last(
     close(text)
 }
 
-/// The text of a code, or `AllocError` where memory is refused.
+/// The text of a code, or `AllocError` if memory is refused.
 ///
-/// One space stands between parts and none inside the brackets. A name is the letter of its kind
-/// (`v`, `p`, `f`, `r` or `d`) followed by its slot, a mark is written as `(acquired p0)`,
-/// `(releasing p0)` or `(released p0)`, and a sequence is one word with all its parts.
+/// Parts have one space between them, and brackets none inside. A name is the letter of its kind (`v`, `p`, `f`, `r` or
+/// `d`) followed by its slot, a mark is written as `(acquired p0)`, `(releasing p0)` or `(released p0)`, and a sequence
+/// is one word with all its parts.
 pub fn print_core(alloc: Global, code: &Code) -> Result<Vec<u8>, AllocError>
     ensures { IfOk result (λ text. text.items ≡ core_text code.now) }
 {

@@ -26,15 +26,15 @@ use crate::writer::Writer;
 use effect_term::{Term, Value};
 use std::alloc::{AllocError, Global};
 
-/// The words of an expansion so far, and the binders of the program that are around the next part: the new slot of
-/// each, outermost first.
+/// The words of an expansion so far, and the new slot of each binder of the program around the next part, outermost
+/// first.
 #[derive(Drop)]
 pub(crate) struct Expansion {
     slots: Vec<u32>,
     words: Writer,
 }
 
-// What stands after the first of two parts and these.
+// What comes behind the first of two parts and these.
 fn rest_before(more: &[Term]) -> Rest
     ensures { (f : Term → Tree) → result ≡ stored_rest (rest_before (map f more.now)) }
 {
@@ -64,7 +64,7 @@ impl Expansion {
         words.into_words()
     }
 
-    /// Writes the expansion of a term below so many binders, or answers `AllocError` where memory is refused.
+    /// Writes the expansion of a term inside `depth` binders, or returns `AllocError` if memory is refused.
     #[cycle(expansion)]
     pub(crate) fn part(&mut self, term: &Term, depth: u32) -> Result<(), AllocError>
         requires { depth + expansion_size_of term.now < 2 ^ 32 }
@@ -90,7 +90,7 @@ impl Expansion {
         }
     }
 
-    // Writes a part of a word below so many binders.
+    // Writes a part of a word inside `depth` binders.
     #[cycle(expansion)]
     #[tactic(auto, using(crate::proofs::Slots::slots_before))]
     fn placed(&mut self, part: Part<'_>, depth: u32) -> Result<(), AllocError>
@@ -130,7 +130,7 @@ impl Expansion {
         self.words.put(word_of_two(word, first))
     }
 
-    // Writes what waits for a fiber, and goes on by its outcome.
+    // Writes a `join`: the wait for a fiber, and a term for each outcome.
     #[cycle(expansion)]
     #[tactic(auto, using(crate::proofs::Written::length_before))]
     fn join(
@@ -160,7 +160,7 @@ impl Expansion {
         self.words.put(CoreWord::Join(fiber, first, both))
     }
 
-    // Writes a part of a sequence before the parts that stand, and the word that tells where these begin.
+    // Writes a part of a sequence before the parts written so far, and the word with the distance to these.
     #[cycle(expansion)]
     #[tactic(auto, using(crate::proofs::Written::length_before))]
     fn in_front(&mut self, term: &Term, rest: Rest, depth: u32) -> Result<(), AllocError>
@@ -198,7 +198,7 @@ impl Expansion {
         self.in_front(first, rest_before(more), depth)
     }
 
-    // Writes what stands behind the first part of a sequence: a part, and these.
+    // Writes what comes behind the first part of a sequence: a part, and these.
     #[cycle(expansion)]
     fn behind(&mut self, second: &Term, more: &[Term], depth: u32) -> Result<(), AllocError>
         requires { depth + expansion_size_of second.now + total_expansion_size more.now < 2 ^ 32 }
@@ -219,7 +219,7 @@ impl Expansion {
         self.in_front(second, rest, depth)
     }
 
-    // Writes what stands after an outcome.
+    // Writes the part for an outcome.
     #[cycle(expansion)]
     fn end(&mut self, end: End<'_>, depth: u32) -> Result<(), AllocError>
         requires { EndFits depth end }
@@ -237,7 +237,7 @@ impl Expansion {
         }
     }
 
-    // Writes what stands after an outcome, whose error is dropped.
+    // Writes the part for an outcome, with its error dropped.
     #[cycle(expansion)]
     #[tactic(auto, using(crate::proofs::Written::length_before))]
     fn attempted(&mut self, end: End<'_>, depth: u32) -> Result<(), AllocError>
@@ -254,8 +254,8 @@ impl Expansion {
         self.words.put(CoreWord::Handle(first))
     }
 
-    // Writes the release of the bracket of this mask. Where it fails, it is noted as ended, and its error, which has
-    // this slot, goes on.
+    // Writes the release of the bracket of this mask. If it fails, the mask is noted as released, and its error, which
+    // has this slot, is raised again.
     #[cycle(expansion)]
     #[tactic(auto, using(crate::proofs::Written::length_before))]
     fn released_then_raised(
@@ -278,7 +278,7 @@ impl Expansion {
         self.words.put(CoreWord::Handle(first))
     }
 
-    // Writes what is done where the body was canceled.
+    // Writes what is done if the body was canceled.
     #[cycle(expansion)]
     #[tactic(auto, using(crate::proofs::Written::length_before))]
     fn on_cancel(&mut self, closing: Closing, end: End<'_>, depth: u32) -> Result<(), AllocError>
@@ -300,7 +300,7 @@ impl Expansion {
         }
     }
 
-    // Writes what is done after the body's error.
+    // Writes what is done if the body raised an error.
     #[cycle(expansion)]
     #[tactic(auto, using(crate::proofs::Written::length_before))]
     fn on_error(&mut self, closing: Closing, end: End<'_>, depth: u32) -> Result<(), AllocError>
@@ -329,7 +329,7 @@ impl Expansion {
         }
     }
 
-    // Writes what is done after the body's value.
+    // Writes what is done if the body gave a value.
     #[cycle(expansion)]
     #[tactic(auto, using(crate::proofs::Written::length_before))]
     fn on_value(&mut self, closing: Closing, end: End<'_>, depth: u32) -> Result<(), AllocError>
@@ -358,7 +358,7 @@ impl Expansion {
         }
     }
 
-    // Writes a body with what is done where it is canceled.
+    // Writes a body with its case of cancellation.
     #[cycle(expansion)]
     #[tactic(auto, using(crate::proofs::Written::length_before))]
     fn guarded(
@@ -384,7 +384,7 @@ impl Expansion {
         self.words.put(CoreWord::OnCancel(first))
     }
 
-    // Writes a body with what is done where it is canceled, and after its error.
+    // Writes a body with its cases of cancellation and of an error.
     #[cycle(expansion)]
     #[tactic(auto, using(crate::proofs::Written::length_before))]
     fn handled(
@@ -437,7 +437,7 @@ impl Expansion {
         self.words.masked_let(first)
     }
 
-    // Writes what is acquired, used by the body, and released by the outcome's case.
+    // Writes a bracket: a term that acquires, the body that uses the resource, and its release by the outcome.
     #[cycle(expansion)]
     #[tactic(auto, using(crate::proofs::Written::length_before))]
     fn bracket(
@@ -467,8 +467,8 @@ impl Expansion {
         self.words.masked_let(first)
     }
 
-    // Writes the start of a side of a race in a fiber of its own, which completes the deferred with its number after
-    // every outcome.
+    // Writes the start of a side of a race in a fiber of its own, which after every outcome completes the deferred with
+    // its number.
     #[cycle(expansion)]
     #[tactic(auto, using(crate::proofs::Written::length_before))]
     fn starts_side(
@@ -500,7 +500,7 @@ impl Expansion {
     }
 
     // Writes a race of the poll before what follows it: the slots after the poll's are those of the deferred, the two
-    // fibers, and in what follows the winner.
+    // fibers, and, in what follows, the winner.
     #[cycle(expansion)]
     fn pair_race(
         &mut self,
@@ -523,7 +523,7 @@ impl Expansion {
         self.words.put(CoreWord::Make(Maker::Deferred))
     }
 
-    // Writes a race: the outcome of the side that ends first, and of the other one where that was canceled.
+    // Writes a race: the outcome of the side that ends first, or of the other side if that was canceled.
     #[cycle(expansion)]
     fn race(&mut self, first: Part<'_>, second: Part<'_>, depth: u32) -> Result<(), AllocError>
         requires first { Fits depth first }

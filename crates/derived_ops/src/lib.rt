@@ -1,12 +1,11 @@
-//! The core words that the words of a program stand for.
+//! The expansion of programs into core words.
 //!
-//! A program is run as its expansion: [`expand`] makes a program's [`Code`], a term of core words,
-//! and [`print_core`] gives its text. The crate stands on `effect_term`. Its definitions are
-//! the terms that a running fiber has, substitution in them, what each word of a program stands for,
-//! the term that stands in a list of words, and the text of a code; it promises that a `Code` is the
-//! expansion of a program, with the words and masks that were counted on it, that the slot of each
-//! binder in it is the number of binders around that one, and that a term is refused by the counts of
-//! its expansion ([`program_of`]).
+//! A fiber runs the expansion of a program: [`expand`] makes a program's [`Code`], a term of core words, and
+//! [`print_core`] its text. The crate uses `effect_term`. Its definitions are the terms of a running fiber,
+//! substitution in them, the expansion of each word of a program, the term that a list of words stores, and the text of
+//! a code. The crate promises that a `Code` is the expansion of a program, with the words and masks that were counted
+//! on the program, that the slot of each binder in it is the number of binders around it, and that a term is refused by
+//! the counts of its expansion ([`program_of`]).
 #![tactic(auto)]
 
 mod closing;

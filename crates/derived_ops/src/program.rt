@@ -12,11 +12,10 @@ ghost use Rattle.derived_ops.specs.Reading.{source_of};
 use effect_term::{Program, Term, TermError};
 use std::alloc::Global;
 
-/// The program of a term, or why it has none, as [`Program::check`] answers it.
+/// The program of a term, or why the term isn't one, as [`Program::check`] returns it.
 ///
-/// A term is refused where its expansion has more than 250 masks below one another, or more than
-/// 1,000,000 words and marks: what is counted on the term for this is what its expansion has, also
-/// where it is refused.
+/// A term is refused if its expansion has more than 250 nested masks, or more than 1,000,000 words and marks. What is
+/// counted on the term for this is what its expansion has, whether or not the term is refused.
 #[tactic(auto, using(crate::proofs::Counts::words_code, crate::proofs::Counts::masks_code))]
 pub fn program_of(alloc: Global, term: Term) -> Result<Program, TermError>
     ensures kept { IfOk result (λ program. program ≡ term) }
@@ -25,7 +24,7 @@ pub fn program_of(alloc: Global, term: Term) -> Result<Program, TermError>
     ensures refused { IfErr result (IsRefusal term) }
     ensures limits { WellKinded [] term → IfErr result (IsPastLimit term) }
 
-    // Whatever the answer is, the counts that it goes by are those of the expansion.
+    // Whatever the result is, the counts that decide it are those of the expansion.
     ensures masks { masks_of term ≡ masks (code_of (source_of term)) }
     ensures words { expansion_size_of term ≡ words (code_of (source_of term)) }
 {

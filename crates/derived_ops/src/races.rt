@@ -1,7 +1,7 @@
-//! What the words that run two fibers stand for, `race` and `both`, apart from the parts of the program in them.
+//! The expansions of the words that run two fibers, `race` and `both`, apart from their parts.
 //!
-//! The words of a term are put from the last one to the first. What is written between parts is not inlined, so that
-//! what it holds takes no room on the stack below them.
+//! The words of a term are written from the last to the first. What is written between parts is not inlined, so what it
+//! holds takes no room on the stack below them.
 
 ghost use Rattle.std.specs.Prelude.{◌≡◌, ◌+◌, ◌<◌, ◌^◌, ◌∷◌, pos, OnOk};
 ghost use Rattle.derived_ops.specs.Expansion.{awaits, both_outcome, both_side, both_values, cancels_both, ended};
@@ -20,7 +20,7 @@ use effect_term::Value;
 use std::alloc::AllocError;
 
 impl Writer {
-    // Waits for the end of the fiber, whatever it is.
+    // Waits for the end of the fiber, whatever its outcome.
     fn ended(&mut self, fiber: u32) -> Result<(), AllocError>
         ensures { OnOk result (self.new ≡ before (ended 0 fiber) self.old) }
     {
@@ -32,7 +32,7 @@ impl Writer {
         ])
     }
 
-    // Both sides were canceled: observes a request for the own cancellation, and else waits without end.
+    // Both sides were canceled: observes a request for its own cancellation, or waits without end.
     fn gives_up(&mut self, poll: u32) -> Result<(), AllocError>
         ensures { OnOk result (self.new ≡ before (gives_up poll) self.old) }
     {
@@ -44,7 +44,7 @@ impl Writer {
         ])
     }
 
-    // Cancels both sides at once, and waits for them.
+    // Cancels both sides at once, each from a fiber of its own, and waits for both.
     fn cancels_both(&mut self, poll: u32) -> Result<(), AllocError>
         requires { poll + 6 < 2 ^ 32 }
         ensures { OnOk result (self.new ≡ before (cancels_both poll) self.old) }
@@ -60,7 +60,7 @@ impl Writer {
         ])
     }
 
-    // Waits below the poll for the side that ends first, and cancels both where the wait is cut.
+    // Waits inside the poll for the side that ends first, and cancels both if the wait is cut.
     fn race_winner(&mut self, poll: u32) -> Result<(), AllocError>
         requires { poll + 6 < 2 ^ 32 }
         ensures { OnOk result (self.new ≡ before (race_winner poll) self.old) }
@@ -73,7 +73,7 @@ impl Writer {
         ])
     }
 
-    /// Binds the winner of the race below the poll in what stands.
+    /// Binds the winner of the race in the words written so far; the race is inside the poll.
     #[inline(never)]
     pub(crate) fn decided(&mut self, poll: u32) -> Result<(), AllocError>
         requires { poll + 6 < 2 ^ 32 }
@@ -86,7 +86,7 @@ impl Writer {
         self.put(CoreWord::Let(winner))
     }
 
-    // Waits for the fiber below the poll, and cancels it where the wait is cut; goes on with what stands.
+    // Waits for the fiber inside the poll, cancels it if the wait is cut, and goes on with the words written so far.
     fn awaits(&mut self, poll: u32, fiber: u32) -> Result<(), AllocError>
         ensures { OnOk result (self.new ≡ word.Seq rest.Last (distance (size (awaits poll 0 fiber))) ∷
             before (awaits poll 0 fiber) self.old) }
@@ -100,14 +100,14 @@ impl Writer {
         ])
     }
 
-    // Cancels the fiber, and goes on with what stands.
+    // Cancels the fiber, and goes on with the words written so far.
     fn canceled_first(&mut self, fiber: u32) -> Result<(), AllocError>
         ensures { OnOk result (self.new ≡ word.Seq rest.Last 1 ∷ word.Cancel fiber ∷ self.old) }
     {
         self.put_all(&[CoreWord::Cancel(fiber), CoreWord::Seq(Rest::Last, 1)])
     }
 
-    // What a race gives where `winner` has ended first.
+    // The result of a race if `winner` has ended first.
     fn race_side(&mut self, poll: u32, slot: u32, winner: u32, loser: u32) -> Result<(), AllocError>
         ensures { OnOk result (self.new ≡ before (race_side poll slot winner loser) self.old) }
     {
@@ -125,7 +125,7 @@ impl Writer {
         self.put(CoreWord::Join(winner, 3, 6))
     }
 
-    /// What a race gives, by its winner.
+    /// The result of a race, by its winner.
     #[inline(never)]
     pub(crate) fn race_outcome(&mut self, poll: u32) -> Result<(), AllocError>
         requires { poll + 6 < 2 ^ 32 }
@@ -161,7 +161,7 @@ impl Writer {
         self.awaits(poll, other)
     }
 
-    // What `both` gives where `early` has ended first: the value in the slot `first`, once the value in the slot
+    // The result of `both` if `early` has ended first: the value in the slot `first`, once the value in the slot
     // `second` is in the ref.
     fn both_side(
         &mut self,
@@ -184,7 +184,7 @@ impl Writer {
         self.put(CoreWord::Join(early, 17, 20))
     }
 
-    /// What `both` gives, by its winner.
+    /// The result of `both`, by its winner.
     #[inline(never)]
     pub(crate) fn both_outcome(&mut self, poll: u32, kept: u32) -> Result<(), AllocError>
         requires { poll + 6 < 2 ^ 32 }
@@ -199,7 +199,7 @@ impl Writer {
         self.put(CoreWord::If0(Operand::Slot(poll + 4), first))
     }
 
-    /// Binds the value of the ref in what stands.
+    /// Binds the value of the ref in the words written so far.
     #[inline(never)]
     pub(crate) fn get_bound(&mut self, slot: u32) -> Result<(), AllocError>
         ensures { OnOk result (self.new ≡ word.Let 1 ∷ word.Act (action.Get slot) ∷ self.old) }
@@ -207,7 +207,8 @@ impl Writer {
         self.put_all(&[CoreWord::Act(Action::Get(slot)), CoreWord::Let(1)])
     }
 
-    /// Makes a ref that holds 0 for what stands, whose first term has so many words and is bound in the second.
+    /// Makes a ref that holds 0 for the words written so far: a first term of `first` words, and a second one that
+    /// binds its value.
     #[inline(never)]
     pub(crate) fn made_let(&mut self, first: u32) -> Result<(), AllocError>
         ensures { OnOk result (self.new ≡ word.Make (maker.Ref (operand.Number (pos 0))) ∷ word.Let first ∷ self.old) }

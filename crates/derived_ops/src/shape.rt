@@ -1,4 +1,4 @@
-//! A term as a word and its parts, and the words of a code that the words of a program are.
+//! A term as a word and its parts, and the core words that stand for a program's words.
 
 ghost use Rattle.std.specs.Prelude.{◌≡◌, ◌+◌, ◌<◌, ◌^◌, ◌∷◌, ℕ, List, IfOk, OnOk};
 ghost use Rattle.effect_term.specs.ExpansionSize.{expansion_size_of};
@@ -26,7 +26,7 @@ macro_rules! part {
     };
 }
 
-// What stands after an outcome: a part at this place.
+// What runs after an outcome: a part at this place.
 macro_rules! end {
     ($place:ident, $term:expr) => {
         End::Part(Part { place: Place::$place, term: $term })
@@ -36,23 +36,23 @@ macro_rules! end {
     };
 }
 
-/// Where a part of a word stands: how many binders of the word's expansion are around it, and which
-/// of them its program knows.
+/// The place of a part of a word: how many binders of the word's expansion are around it, and which of them its program
+/// knows.
 #[derive(Clone, Copy)]
 pub(crate) enum Place {
     /// No binder.
     Here,
-    /// So many binders, none of which is known.
+    /// That many binders, none of them known.
     Above(u8),
     /// One binder, which is known.
     Bound,
-    /// The three around a bracket's body, of which the resource is known.
+    /// The three binders around a bracket's body; the resource's is known.
     Used,
-    /// The four around a release, of which the resource is known.
+    /// The four binders around a release; the resource's is known.
     Released,
-    /// The four around a release, of which the resource and the outcome are known.
+    /// The four binders around a release; the resource's and the outcome's are known.
     Chosen,
-    /// The three around what follows `both`, of which the values are known.
+    /// The three binders around what follows `both`; those of the values are known.
     Values,
 }
 
@@ -63,7 +63,7 @@ pub(crate) struct Part<'a> {
     pub(crate) term: &'a Term,
 }
 
-/// What stands after an outcome of a body.
+/// What runs after an outcome of a body.
 #[derive(Clone, Copy)]
 pub(crate) enum End<'a> {
     /// A part of the word.
@@ -72,7 +72,7 @@ pub(crate) enum End<'a> {
     Done(u32, u8),
 }
 
-/// What stands for each outcome of a body.
+/// What runs after each outcome of a body.
 #[derive(Clone, Copy)]
 pub(crate) struct Ends<'a> {
     pub(crate) on_cancel: End<'a>,
@@ -125,7 +125,7 @@ pub(crate) enum Shape<'a> {
     Both(Part<'a>, Part<'a>, Part<'a>),
 }
 
-/// The word that a word without parts is.
+/// The core word of a word without parts.
 #[tactic(auto, using(crate::proofs::StoredParts::stored_value_of, crate::proofs::StoredParts::stored_action_of))]
 pub(crate) fn word_of_bare(bare: Bare) -> CoreWord
     ensures { (ws : List CoreWord) → before (tree_of_bare bare) ws ≡ result ∷ ws }
@@ -138,7 +138,7 @@ pub(crate) fn word_of_bare(bare: Bare) -> CoreWord
     }
 }
 
-/// The word that stands before its one part.
+/// The core word of a word of one part.
 #[tactic(auto, using(crate::proofs::StoredParts::stored_maker_of, crate::proofs::StoredParts::stored_turns_of))]
 pub(crate) fn word_of_one(one: One) -> CoreWord
     ensures { (slot : ℕ) (e : Tree) (ws : List CoreWord) →
@@ -152,7 +152,7 @@ pub(crate) fn word_of_one(one: One) -> CoreWord
     }
 }
 
-/// The word that stands before its two parts, of which the first has so many words.
+/// The core word of a word of two parts; the first part has `first` words.
 #[tactic(auto, using(crate::proofs::StoredParts::stored_value_of))]
 pub(crate) fn word_of_two(two: Two, first: u32) -> CoreWord
     ensures { (slot : ℕ) (e k : Tree) (ws : List CoreWord) → first ≡ distance (size e) →
@@ -188,7 +188,7 @@ fn value(slots: &[u32], operand: effect_term::Operand) -> Operand
     }
 }
 
-/// The word of a term below so many binders, and its parts. These are the slots of the binders around it.
+/// The word of a term inside `depth` binders, and its parts; `slots` has the slots of the program's binders around it.
 pub(crate) fn shape_of<'a>(slots: &[u32], term: &'a Term, depth: u32) -> Shape<'a>
     requires { depth + expansion_size_of term.now < 2 ^ 32 }
     ensures tree { expansion slots.now depth (source_of term.now)
@@ -283,7 +283,7 @@ pub(crate) fn shape_of<'a>(slots: &[u32], term: &'a Term, depth: u32) -> Shape<'
     }
 }
 
-/// Binds what a part at this place knows of its word's binders. Gives how many are around it.
+/// Binds those of its word's binders that a part at this place knows. Returns the number of binders around the part.
 pub(crate) fn bind(slots: &mut Vec<u32>, place: Place, depth: u32) -> Result<u32, AllocError>
     requires { depth_at place depth < 2 ^ 32 }
     ensures depth { IfOk result (λ below. below ≡ depth_at place depth) }

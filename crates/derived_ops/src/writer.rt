@@ -7,10 +7,10 @@ use crate::core_word::CoreWord;
 use std::alloc::{AllocError, Global};
 use std::marker::Model;
 
-/// The words of a code, which are written from the last one to the first: so how many words the parts of a word
-/// have is known where the word is written.
+/// The words of a code. They are written from the last to the first, so the number of words in each part is known when
+/// its word is written.
 ///
-/// In contracts it is the list of these words, the first one first.
+/// Contracts see it as the list of these words, the first word first.
 #[derive(Drop)]
 pub(crate) struct Writer {
     reversed: Vec<CoreWord>,
@@ -44,7 +44,7 @@ impl Writer {
         self.reversed.extend_from_slice(&[word])
     }
 
-    /// Writes these words before the others, one after another: so the last of them comes first.
+    /// Writes these words before the others, one after another, so the last of them comes first.
     #[tactic(auto, using(crate::proofs::Written::reverse_more))]
     pub(crate) fn put_all(&mut self, words: &[CoreWord]) -> Result<(), AllocError>
         ensures { OnOk result (self.new ≡ reverse words.now ++ self.old) }
@@ -52,7 +52,7 @@ impl Writer {
         self.reversed.extend_from_slice(words)
     }
 
-    /// How many words there are.
+    /// The number of words.
     #[tactic(auto, using(crate::proofs::Written::length_reversed))]
     #[inline(always)]
     pub(crate) fn len(&self) -> usize
@@ -61,8 +61,8 @@ impl Writer {
         self.reversed.len()
     }
 
-    /// How far the last words, of which there are so many, stand behind the first one. A distance has 32 bits, and
-    /// those of a longer one are cut.
+    /// The distance from the first word to the last `last` words. A distance has 32 bits; a longer one loses its higher
+    /// bits.
     #[inline(always)]
     pub(crate) fn distance(&self, last: usize) -> u32
         requires { last ≤ length self.now }

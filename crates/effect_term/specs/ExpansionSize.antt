@@ -7,8 +7,8 @@ use Rattle.effect_term.specs.declared.term.Term.TheVariants.{Join', Cancel, Ref'
 use Rattle.effect_term.specs.declared.term.Term.TheVariants.{Complete, Await, Repeat', Forever', Guarantee', Bracket'}
 use Rattle.effect_term.specs.declared.term.Term.TheVariants.{BracketCase', BracketFull', Race', Both'}
 
--- A core word is one word, and its parts are expanded in place. A finalizer of `guarantee` and a release of
--- `bracket` are written three times.
+-- A core word counts as one, and its parts are expanded in place. The finalizer of a `guarantee` and the release of a
+-- `bracket` appear three times in the expansion.
 abbrev mutual
   pub expansion_size_of : Term → ℕ
   expansion_size_of (Pure v) = 1

@@ -12,8 +12,8 @@ use Rattle.effect_term.specs.declared.term.Term.TheVariants.{Join', Cancel, Ref'
 use Rattle.effect_term.specs.declared.term.Term.TheVariants.{Complete, Await, Repeat', Forever', Guarantee', Bracket'}
 use Rattle.effect_term.specs.declared.term.Term.TheVariants.{BracketCase', BracketFull', Race', Both'}
 
--- A name's slot is the number of binders that enclose its binder, so its binder's kind is the one at that index of the
--- kinds of the binders around, outermost first. The kinds of the binder, of the name and of the place are one.
+-- A name's slot is the number of binders that enclose its binder: the index of that binder's kind in the list of kinds,
+-- outermost first. The binder, the name and the place have the same kind.
 abbrev pub Fits : List Kind → Kind → Name → Type 0
 Fits around place name = (slice_get around name.slot ≡ Some place) × (name.kind ≡ place)
 
@@ -22,7 +22,7 @@ abbrev pub ValueFits : List Kind → Operand → Type 0
 ValueFits around (Number n) = Unit {0}
 ValueFits around (Named name) = Fits around Value name
 
--- each use of a name, under the binders of these kinds, names a binder of its place's kind
+-- each use of a name, under binders of these kinds, names a binder of the kind that its place needs
 abbrev mutual
   pub WellKinded : List Kind → Term → Type 0
   WellKinded around (Pure v) = ValueFits around v

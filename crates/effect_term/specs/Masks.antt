@@ -1,4 +1,4 @@
--- How many masks may be active at once in a term's expansion.
+-- The greatest number of masks active at once in a term's expansion.
 use Rattle.std.specs.Prelude.{ℕ, ◌+◌, max, List, [], ◌∷◌}
 use Rattle.effect_term.specs.declared.term.Term.{Term, Row_of-Term, end_of-Term, more_of-Term}
 use Rattle.effect_term.specs.declared.term.Term.TheVariants.{Pure, Raise, Let', Seq', Handle', If0', Add, Say, Cede}
@@ -7,8 +7,8 @@ use Rattle.effect_term.specs.declared.term.Term.TheVariants.{Join', Cancel, Ref'
 use Rattle.effect_term.specs.declared.term.Term.TheVariants.{Complete, Await, Repeat', Forever', Guarantee', Bracket'}
 use Rattle.effect_term.specs.declared.term.Term.TheVariants.{BracketCase', BracketFull', Race', Both'}
 
--- The greatest number of masks below one another. A mask stands around the term of `uncancelable`, around a finalizer
--- and around the wait of `cancel`. The words from `guarantee` on count what they expand to.
+-- The greatest number of nested masks. A mask is around the term of `uncancelable`, around a finalizer and around the
+-- wait of `cancel`. The words from `guarantee` on count the masks of their expansions.
 abbrev mutual
   pub masks_of : Term → ℕ
   masks_of (Pure v) = 0
@@ -50,7 +50,7 @@ abbrev mutual
   most_masks_of end_of-Term = 0
   most_masks_of (more_of-Term t rest) = max (masks_of t) (most_masks_of rest)
 
--- the greatest number of masks of these terms, 0 where there is none
+-- the greatest number of nested masks in any of these terms, 0 for an empty list
 abbrev pub most_masks : List Term → ℕ
 most_masks [] = 0
 most_masks (t ∷ ts) = max (masks_of t) (most_masks ts)

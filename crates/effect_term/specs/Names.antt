@@ -1,4 +1,4 @@
--- The uses of names in a term, in reading order, and the first that is at fault.
+-- The uses of names in a term, in reading order, and the first faulty one.
 use Rattle.std.specs.Prelude.{◌≡◌, ◌++◌, ◌⊎◌, Bool, true, false, ◌&&◌, List, [], ◌∷◌, Option, Some, None, slice_get}
 use Rattle.std.specs.Prelude.{if◌then◌else◌}
 use Rattle.std.specs.Option.{option_or}
@@ -16,14 +16,14 @@ use Rattle.effect_term.specs.declared.term.Term.TheVariants.{Join', Cancel, Ref'
 use Rattle.effect_term.specs.declared.term.Term.TheVariants.{Complete, Await, Repeat', Forever', Guarantee', Bracket'}
 use Rattle.effect_term.specs.declared.term.Term.TheVariants.{BracketCase', BracketFull', Race', Both'}
 
--- A name in a place of a kind, and the kinds of the binders around it, outermost first: a name's slot is the number of
--- binders that enclose its binder, and so the index of its binder's kind.
+-- A name, the kind that its place needs, and the kinds of the enclosing binders, outermost first. A name's slot is the
+-- number of binders that enclose its binder, and so the index of that binder's kind.
 pub record Use : Type 0 where
   pub around : List Kind
   pub place : Kind
   pub name : Name
 
--- whether two kinds are one
+-- whether the two kinds are equal
 abbrev pub same_kind : Kind → Kind → Bool
 same_kind Value Value = true
 same_kind Poll Poll = true
@@ -32,7 +32,7 @@ same_kind Ref Ref = true
 same_kind Deferred Deferred = true
 same_kind _ _ = false
 
--- the fault of a name whose slot's binder has this kind, if there is one
+-- the fault of a name, given the kind of the binder with its slot, if there is such a binder
 abbrev pub fault_with : Option Kind → Kind → Name → Option TermError
 fault_with None place name = Some (Unbound name.slot)
 fault_with (Some binder) place name =
@@ -47,7 +47,7 @@ abbrev pub first_fault : List Use → Option TermError
 first_fault [] = None
 first_fault (u ∷ us) = option_or (fault_of u) (first_fault us)
 
--- the error is the first fault of these uses, or memory was wanting
+-- the error is the first fault of these uses, or memory ran out
 abbrev pub IsFault : List Use → TermError → Type 0
 IsFault uses e = (e ≡ NoMemory) ⊎ (first_fault uses ≡ Some e)
 
@@ -55,7 +55,7 @@ IsFault uses e = (e ≡ NoMemory) ⊎ (first_fault uses ≡ Some e)
 abbrev pub use_of : List Kind → Kind → Name → List Use
 use_of around place name = record { around = around; place = place; name = name } ∷ []
 
--- a value is a number, or a use of a name in a value's place
+-- the uses in an operand: none if it is a number, else one, in a value's place
 abbrev pub value_uses : List Kind → Operand → List Use
 value_uses around (Number n) = []
 value_uses around (Named name) = use_of around Value name

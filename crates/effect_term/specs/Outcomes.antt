@@ -1,4 +1,4 @@
--- The numbers of outcomes.
+-- The range of the value or error code of an outcome.
 use Rattle.effect_term.specs.declared.reply.Outcome.{Outcome}
 use Rattle.effect_term.specs.declared.reply.Outcome.TheVariants.{Succeeded, Errored, Canceled}
 use Rattle.effect_term.specs.Values.{IsValue}

@@ -1,4 +1,4 @@
--- Which terms are programs, and why another is refused.
+-- Which terms are programs, and why another term is refused.
 use Rattle.std.specs.Prelude.{◌≡◌, ◌-◌, ◌^◌, ◌≤◌, ◌⊎◌, min, nat_lt, [], Option, Some, None, if◌then◌else◌}
 use Rattle.std.specs.Option.{option_or}
 use Rattle.effect_term.specs.declared.term.Term.{Term}
@@ -15,20 +15,20 @@ pub record IsProgram (t : Term) : Type 0 where
   pub masks : masks_of t ≤ 250
   pub expansion : expansion_size_of t ≤ 1000000
 
--- the refusal of a term whose names are good, if there is one
+-- the refusal of a term whose names have no fault, if it passes a limit
 abbrev pub limit_passed : Term → Option TermError
 limit_passed t =
     if nat_lt 250 (masks_of t) then Some (DeepMasks (min (masks_of t) (2 ^ 64 - 1)))
     else (if nat_lt 1000000 (expansion_size_of t) then Some Large else None)
 
--- the first fault of a name in reading order, and then a limit that is passed
+-- the first fault of a name in reading order, or else the limit that is passed
 abbrev pub refusal_of : Term → Option TermError
 refusal_of t = option_or (first_fault (uses_of [] t)) (limit_passed t)
 
--- the refusal is the term's, or memory was wanting
+-- the error is the term's refusal, or memory ran out
 abbrev pub IsRefusal : Term → TermError → Type 0
 IsRefusal t e = (e ≡ NoMemory) ⊎ (refusal_of t ≡ Some e)
 
--- the refusal is that of a limit, or memory was wanting
+-- the error is that of the limit that is passed, or memory ran out
 abbrev pub IsPastLimit : Term → TermError → Type 0
 IsPastLimit t e = (e ≡ NoMemory) ⊎ (limit_passed t ≡ Some e)

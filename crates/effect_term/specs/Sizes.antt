@@ -7,7 +7,7 @@ use Rattle.effect_term.specs.declared.term.Term.TheVariants.{Join', Cancel, Ref'
 use Rattle.effect_term.specs.declared.term.Term.TheVariants.{Complete, Await, Repeat', Forever', Guarantee', Bracket'}
 use Rattle.effect_term.specs.declared.term.Term.TheVariants.{BracketCase', BracketFull', Race', Both'}
 
--- a term's words, its own among them
+-- the number of words in a term, its own word included
 abbrev mutual
   pub size_of : Term → ℕ
   size_of (Pure v) = 1
@@ -49,7 +49,7 @@ abbrev mutual
   sizes_of end_of-Term = 0
   sizes_of (more_of-Term t rest) = size_of t + sizes_of rest
 
--- the words of these terms together
+-- the number of words in all of these terms
 abbrev pub total_size : List Term → ℕ
 total_size [] = 0
 total_size (t ∷ ts) = size_of t + total_size ts
@@ -96,7 +96,7 @@ abbrev mutual
   nests_of end_of-Term = 0
   nests_of (more_of-Term t rest) = max (nest_of t) (nests_of rest)
 
--- the depth of the deepest of these terms, 0 where there is none
+-- the depth of the deepest of these terms, 0 for an empty list
 abbrev pub deepest : List Term → ℕ
 deepest [] = 0
 deepest (t ∷ ts) = max (nest_of t) (deepest ts)

@@ -7,7 +7,7 @@ use Rattle.effect_term.specs.declared.term.Term.TheVariants.{Join', Cancel, Ref'
 use Rattle.effect_term.specs.declared.term.Term.TheVariants.{Complete, Await, Repeat', Forever', Guarantee', Bracket'}
 use Rattle.effect_term.specs.declared.term.Term.TheVariants.{BracketCase', BracketFull', Race', Both'}
 
--- whether a word `start`, `race` or `both` stands in the term
+-- whether the term contains a word `start`, `race` or `both`
 abbrev mutual
   pub starts_fiber : Term → Bool
   starts_fiber (Pure v) = false
@@ -49,7 +49,7 @@ abbrev mutual
   any_starts_fiber end_of-Term = false
   any_starts_fiber (more_of-Term t rest) = starts_fiber t || any_starts_fiber rest
 
--- whether such a word stands in one of these terms
+-- whether one of these terms contains such a word
 abbrev pub some_starts_fiber : List Term → Bool
 some_starts_fiber [] = false
 some_starts_fiber (t ∷ ts) = starts_fiber t || some_starts_fiber ts

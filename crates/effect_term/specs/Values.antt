@@ -1,4 +1,4 @@
--- Values: whole numbers of 63 bits with sign, and what is left of a number in 63 bits.
+-- Values: whole numbers of 63 bits with sign, and how a number wraps into 63 bits.
 use Rattle.std.specs.Prelude.{ℕ, ◌-◌, ◌%◌, ◌^◌, ◌<◌, ℤ, pos, negsuc, cond, nat_lt}
 
 -- a whole number of 63 bits: from -2 ^ 62 to 2 ^ 62 - 1
@@ -16,6 +16,6 @@ value_bits (negsuc n) = 2 ^ 63 - 1 - n % 2 ^ 63
 abbrev pub bits_value : ℕ → ℤ
 bits_value n = cond (nat_lt n (2 ^ 62)) (pos n) (negsuc (2 ^ 63 - 1 - n))
 
--- what is left of a number in 63 bits: the value that differs from it by a multiple of 2 ^ 63
+-- a number wrapped into 63 bits: the value that differs from it by a multiple of 2 ^ 63
 unfoldable pub wrapped : ℤ → ℤ
 wrapped z = bits_value (value_bits z)

@@ -8,11 +8,11 @@ ghost use Rattle.effect_term.specs.Starts.{starts_fiber};
 
 use crate::term::Term;
 
-// Where the count of an expansion stops: one past the greatest expansion of a program.
+// The largest count of an expansion: one past the largest expansion of a program.
 const EXPANSION_STOP: u64 = 1_000_001;
 
 impl Term {
-    /// The number of the term's words, or the greatest `u64` where it is above that.
+    /// The number of the term's words, at most the greatest `u64`.
     pub fn size(&self) -> u64
         ensures { result ≡ min (size_of self.now) (2 ^ 64 - 1) }
     {
@@ -43,8 +43,7 @@ impl Term {
         }
     }
 
-    /// The depth of the tree, 1 for a word without parts, or the greatest `u64` where it is above
-    /// that.
+    /// The depth of the term's tree, 1 for a word without parts, at most the greatest `u64`.
     pub fn nest(&self) -> u64
         ensures { result ≡ min (nest_of self.now) (2 ^ 64 - 1) }
     {
@@ -74,8 +73,8 @@ impl Term {
         }
     }
 
-    /// The greatest number of masks below one another in the term's expansion, or the greatest
-    /// `u64` where it is above that. Each `uncancelable`, each finalizer and each `cancel` masks.
+    /// The greatest number of nested masks in the term's expansion, at most the greatest `u64`. Each `uncancelable`,
+    /// each finalizer and each `cancel` masks.
     pub fn masks(&self) -> u64
         ensures { result ≡ min (masks_of self.now) (2 ^ 64 - 1) }
     {
@@ -114,7 +113,7 @@ impl Term {
         }
     }
 
-    /// The number of words and marks of the term's expansion, or 1,000,001 where it is above that.
+    /// The number of words and marks of the term's expansion, at most 1,000,001.
     pub(crate) fn expansion_size(&self) -> u64
         ensures { result ≡ min (expansion_size_of self.now) EXPANSION_STOP }
     {
@@ -168,7 +167,7 @@ impl Term {
         }
     }
 
-    /// Whether a word `start`, `race` or `both` stands in the term.
+    /// Whether the term contains a word `start`, `race` or `both`.
     pub(crate) fn starts_fiber(&self) -> bool
         ensures { result ≡ starts_fiber self.now }
     {
@@ -205,28 +204,28 @@ impl Term {
     }
 }
 
-// A word over two parts of these sizes.
+// The size of a word over two parts of sizes `a` and `b`.
 fn above(a: u64, b: u64) -> u64
     ensures { result ≡ min (1 + a + b) (2 ^ 64 - 1) }
 {
     a.saturating_add(b).saturating_add(1)
 }
 
-// The depth of a word over two parts of these depths.
+// The depth of a word over two parts of depths `a` and `b`.
 fn on_top(a: u64, b: u64) -> u64
     ensures { result ≡ min (1 + max a b) (2 ^ 64 - 1) }
 {
     a.max(b).saturating_add(1)
 }
 
-// So many masks around a part with this many.
+// The number of masks of a part with `part` masks, under `around` more.
 fn within(part: u64, around: u64) -> u64
     ensures { result ≡ min (around + part) (2 ^ 64 - 1) }
 {
     part.saturating_add(around)
 }
 
-// So many words and marks over two parts, or where the count of an expansion stops.
+// `own` words and marks and those of two parts, `a` and `b`; at most 1,000,001.
 fn over(own: u64, a: u64, b: u64) -> u64
     requires { own + a + b < 2 ^ 64 }
     ensures { result ≡ min (own + a + b) EXPANSION_STOP }
@@ -234,7 +233,7 @@ fn over(own: u64, a: u64, b: u64) -> u64
     (own + a + b).min(EXPANSION_STOP)
 }
 
-// The sum, or where the count of an expansion stops.
+// The sum, at most 1,000,001.
 fn stopping(a: u64, b: u64) -> u64
     requires { a + b < 2 ^ 64 }
     ensures { result ≡ min (a + b) EXPANSION_STOP }

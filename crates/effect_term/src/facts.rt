@@ -1,5 +1,5 @@
-//! Calls that are made for what their contracts tell.
+//! Calls that are made for what their contracts state.
 
-/// A call is made for the facts that its contract tells alone: what it answered isn't looked at.
+/// Takes the result of a call that was made only for the facts in its contract, and ignores it.
 #[inline(always)]
 pub fn facts_of<T: Copy>(_answer: T) {}

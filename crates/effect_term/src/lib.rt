@@ -1,9 +1,9 @@
-//! The terms of effect programs, and the words in which fibers and their registry speak.
+//! The terms of effect programs, and the outcomes and replies of fibers and their registry.
 //!
-//! This is the lowest crate: it stands on nothing. It has the terms that a program is written in
-//! ([`Term`]), what makes one a [`Program`], how a fiber ends ([`Outcome`]), and what a shared call
-//! answers ([`Reply`]). It promises that a `Program` is closed, well kinded and within the limits
-//! of masks and of its expansion, and that a term is refused exactly where it isn't.
+//! The crate uses no other crate of the project. It has the terms that a program is written in ([`Term`]), what makes a
+//! term a [`Program`], how a fiber ends ([`Outcome`]), and the reply of a shared call ([`Reply`]). The crate promises
+//! that a `Program` is closed, well kinded and within the limits of masks and of its expansion, and that every other
+//! term is refused.
 #![tactic(auto)]
 
 mod counts;

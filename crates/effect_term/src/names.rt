@@ -1,4 +1,4 @@
-//! The check of names: whether each has a binder, of its own kind and of its place's.
+//! The check of names: each has a binder, and the binder, the name and its place have the same kind.
 
 ghost use Rattle.std.specs.Prelude.{◌≡◌, ◌++◌, [], ◌∷◌, None, OnOk, IfErr};
 ghost use Rattle.effect_term.specs.declared.term.Kind.TheVariants.{Value};
@@ -8,7 +8,7 @@ ghost use Rattle.effect_term.specs.Private.Uses.{own_uses, part_uses};
 use crate::refusal::TermError;
 use crate::term::{Kind, Name, Operand, Term};
 
-/// The first fault of the term's names, under binders of these kinds, outermost first.
+/// Returns the first fault of the term's names. `kinds` has the kinds of the enclosing binders, outermost first.
 #[cycle(names)]
 #[tactic(auto, using(crate::proofs::Faults::faults, crate::proofs::UsesLaws::own_before_parts))]
 pub(crate) fn check_names(kinds: &mut Vec<Kind>, term: &Term) -> Result<(), TermError>
@@ -20,7 +20,7 @@ pub(crate) fn check_names(kinds: &mut Vec<Kind>, term: &Term) -> Result<(), Term
     check_parts(kinds, term)
 }
 
-// The same of the names in a term's parts.
+// The first fault of the names in a term's parts.
 #[cycle(names)]
 #[tactic(auto, using(crate::proofs::Faults::faults))]
 fn check_parts(kinds: &mut Vec<Kind>, term: &Term) -> Result<(), TermError>
@@ -62,7 +62,7 @@ fn check_parts(kinds: &mut Vec<Kind>, term: &Term) -> Result<(), TermError>
     }
 }
 
-// The same of a part that stands under more binders, of these kinds.
+// The first fault in a part under further binders, of the kinds `bound`.
 #[cycle(names)]
 #[tactic(auto, using(crate::proofs::Faults::faults))]
 fn check_under(kinds: &mut Vec<Kind>, bound: &[Kind], part: &Term) -> Result<(), TermError>
@@ -77,7 +77,7 @@ fn check_under(kinds: &mut Vec<Kind>, bound: &[Kind], part: &Term) -> Result<(),
     found
 }
 
-// The same of two parts.
+// The first fault in two parts.
 #[cycle(names)]
 #[tactic(auto, using(crate::proofs::Faults::faults))]
 fn check_both(kinds: &mut Vec<Kind>, first: &Term, second: &Term) -> Result<(), TermError>
@@ -90,7 +90,7 @@ fn check_both(kinds: &mut Vec<Kind>, first: &Term, second: &Term) -> Result<(), 
     check_names(kinds, second)
 }
 
-// The same of a part, and of one under more binders.
+// The first fault in a part, or in a second one under further binders.
 #[cycle(names)]
 #[tactic(auto, using(crate::proofs::Faults::faults))]
 fn check_then_under(
@@ -109,7 +109,7 @@ fn check_then_under(
     check_under(kinds, bound, next)
 }
 
-// The same of two parts, each under more binders.
+// The first fault in two parts, each under further binders.
 #[cycle(names)]
 #[tactic(auto, using(crate::proofs::Faults::faults))]
 fn check_both_under(
@@ -128,7 +128,7 @@ fn check_both_under(
     check_under(kinds, bound, second)
 }
 
-// The same of the parts of a `seq`.
+// The first fault in the parts of a `seq`.
 #[cycle(names)]
 #[tactic(auto, using(crate::proofs::Faults::faults))]
 fn check_in_order(
@@ -148,7 +148,7 @@ fn check_in_order(
     check_all(kinds, more)
 }
 
-// The same of these terms, one after another.
+// The first fault in these terms, one after another.
 #[cycle(names)]
 #[tactic(auto, using(crate::proofs::Faults::faults))]
 fn check_all(kinds: &mut Vec<Kind>, terms: &[Term]) -> Result<(), TermError>
@@ -162,7 +162,7 @@ fn check_all(kinds: &mut Vec<Kind>, terms: &[Term]) -> Result<(), TermError>
     Ok(())
 }
 
-// The same of the parts of a `join`, one for each outcome.
+// The first fault in the parts of a `join`, one for each outcome.
 #[cycle(names)]
 #[tactic(auto, using(crate::proofs::Faults::faults))]
 fn check_outcomes(
@@ -182,7 +182,7 @@ fn check_outcomes(
     check_names(kinds, canceled)
 }
 
-// The same of the body of a bracket, and of its releases on success, error and cancellation.
+// The first fault in the body of a bracket, or in its releases on success, error and cancellation.
 #[cycle(names)]
 #[tactic(auto, using(crate::proofs::Faults::faults))]
 fn check_cases(
@@ -208,7 +208,7 @@ fn check_cases(
     check_under(kinds, &[Kind::Value], on_cancel)
 }
 
-// The first fault of a term's own operands.
+// The first fault in a term's own operands.
 fn check_operands(kinds: &[Kind], term: &Term) -> Result<(), TermError>
     ensures good { OnOk result (first_fault (own_uses kinds.now term.now) ≡ None) }
     ensures fault { IfErr result (IsFault (own_uses kinds.now term.now)) }
@@ -232,7 +232,7 @@ fn check_operands(kinds: &[Kind], term: &Term) -> Result<(), TermError>
     }
 }
 
-// The first fault of two values.
+// The first fault in two values.
 #[tactic(auto, using(crate::proofs::Faults::faults))]
 fn check_values(kinds: &[Kind], first: Operand, second: Operand) -> Result<(), TermError>
     ensures good { OnOk result (first_fault (value_uses kinds.now first ++ value_uses kinds.now second) ≡ None) }
@@ -242,7 +242,7 @@ fn check_values(kinds: &[Kind], first: Operand, second: Operand) -> Result<(), T
     check_value(kinds, second)
 }
 
-// The first fault of a name in a place of this kind, and of a value behind it.
+// The first fault of a name in a place of this kind, or of the value behind it.
 #[tactic(auto, using(crate::proofs::Faults::faults))]
 fn check_cell(kinds: &[Kind], place: Kind, name: Name, value: Operand) -> Result<(), TermError>
     ensures good { OnOk result (first_fault (use_of kinds.now place name ++ value_uses kinds.now value) ≡ None) }
@@ -252,7 +252,7 @@ fn check_cell(kinds: &[Kind], place: Kind, name: Name, value: Operand) -> Result
     check_value(kinds, value)
 }
 
-// A number has no fault. A name stands in a value's place.
+// A number has no fault. A name is in a value's place.
 fn check_value(kinds: &[Kind], operand: Operand) -> Result<(), TermError>
     ensures good { OnOk result (first_fault (value_uses kinds.now operand) ≡ None) }
     ensures fault { IfErr result (IsFault (value_uses kinds.now operand)) }

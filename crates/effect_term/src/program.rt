@@ -1,4 +1,4 @@
-//! Programs: the terms that a fiber may run.
+//! Programs: the terms that a fiber can run.
 
 ghost use Rattle.std.specs.Prelude.{◌≡◌, [], None, IfOk, OnOk, IfErr, IsOkUnless, IsTrue, ◌↔◌};
 ghost use Rattle.effect_term.specs.Kinds.{WellKinded};
@@ -11,14 +11,13 @@ use crate::term::Term;
 use std::alloc::Global;
 use std::marker::Model;
 
-// The most masks of a program.
+// The greatest number of masks of a program.
 const MASKS_LIMIT: u64 = 250;
 
-// The most words and marks of a program's expansion.
+// The greatest number of words and marks of a program's expansion.
 const EXPANSION_LIMIT: u64 = 1_000_000;
 
-/// A closed, well-kinded term with at most 250 masks, whose expansion has at most 1,000,000 words
-/// and marks.
+/// A closed, well-kinded term with at most 250 masks, whose expansion has at most 1,000,000 words and marks.
 #[derive(Drop)]
 pub struct Program {
     term: Term,
@@ -40,14 +39,13 @@ impl Model for Program {
 }
 
 impl Program {
-    /// The program of a term, or why it has none. The term is dropped on a refusal. A closed,
+    /// Returns the program of a term, or why the term isn't one. On a refusal the term is dropped. A closed,
     /// well-kinded term is refused only for a limit.
     ///
-    /// Refusals, in this order: the first name in reading order that has no binder
-    /// ([`TermError::Unbound`]) or one of another kind ([`TermError::WrongKind`]); more than 250
-    /// masks ([`TermError::DeepMasks`]); an expansion of more than 1,000,000 words and marks
-    /// ([`TermError::Large`]). Where the table of the binders' kinds finds no memory,
-    /// [`TermError::NoMemory`] comes in place of these.
+    /// Refusals, in this order: the first name in reading order that has no binder ([`TermError::Unbound`]) or one of
+    /// another kind ([`TermError::WrongKind`]); more than 250 masks ([`TermError::DeepMasks`]); an expansion of more
+    /// than 1,000,000 words and marks ([`TermError::Large`]). If there is no memory for the table of the binders'
+    /// kinds, [`TermError::NoMemory`] takes the place of these.
     pub fn check(alloc: Global, term: Term) -> Result<Program, TermError>
         ensures kept { IfOk result (λ program. program ≡ term) }
         ensures found { OnOk result (IsProgram term) }
@@ -76,8 +74,7 @@ impl Program {
         &self.term
     }
 
-    /// Whether a word `start`, `race` or `both` stands in the program, so that it may run more than
-    /// one fiber.
+    /// Whether the program contains a word `start`, `race` or `both`, and so can run more than one fiber.
     pub fn starts(&self) -> bool
         ensures { result ≡ starts_fiber self.now }
     {

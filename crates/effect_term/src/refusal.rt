@@ -12,10 +12,9 @@ pub enum TermError {
     NoMemory,
     /// No binder with this slot encloses the name.
     Unbound(u32),
-    /// The kinds of the binder with this slot, of the name and of its place aren't one.
+    /// The binder with this slot, the name and its place don't have the same kind.
     WrongKind(u32),
-    /// The bound on the masks that a fiber can have active at once is this, above 250. It is the
-    /// greatest `u64` where the bound is above that.
+    /// The bound on the masks that can be active at once, above 250; at most the greatest `u64`.
     DeepMasks(u64),
     /// The expansion has more than 1,000,000 words and marks.
     Large,

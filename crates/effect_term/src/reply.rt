@@ -1,47 +1,47 @@
-//! How a fiber ends, and what the calls that fibers share answer.
+//! How a fiber ends, and the replies of the calls that fibers share.
 use crate::value::Value;
 
 /// How a fiber ended.
 #[derive(Clone, Copy, PartialEq, Eq, Debug)]
 pub enum Outcome {
-    /// It gave this value.
+    /// The fiber gave this value.
     Succeeded(Value),
-    /// It raised this error code.
+    /// The fiber raised this error code.
     Errored(Value),
-    /// It observed a request for its cancellation, and its finalizers have run.
+    /// A request for its cancellation was observed, and its finalizers have run.
     Canceled,
 }
 
-/// What a request for a fiber's cancellation found.
+/// The reply to a request for a fiber's cancellation.
 #[derive(Clone, Copy, PartialEq, Eq, Debug)]
 pub enum CancelReply {
     /// This request is the first.
     Asked,
-    /// The fiber had been asked before.
+    /// The fiber's cancellation had been requested before.
     Already,
     /// The fiber had ended.
     Ended,
 }
 
-/// What a join of a fiber found.
+/// The reply to a join of a fiber.
 #[derive(Clone, Copy, PartialEq, Eq, Debug)]
 pub enum JoinReply {
     /// The fiber hasn't ended.
     Waits,
-    /// The fiber had ended so.
+    /// The fiber had ended, with this outcome.
     Ended(Outcome),
 }
 
-/// The answer of a shared call.
+/// The reply of a shared call.
 #[derive(Clone, Copy, PartialEq, Eq, Debug)]
 pub enum Reply {
-    /// The call is made, and has no value.
+    /// The call took effect, and has no value.
     Done,
-    /// Whether the fiber was asked to cancel.
+    /// Whether the fiber's cancellation was requested.
     Seen(bool),
-    /// What a request for cancellation found.
+    /// The reply to a request for cancellation.
     Cancel(CancelReply),
-    /// What a join found.
+    /// The reply to a join.
     Join(JoinReply),
     /// The number of the new fiber, ref or deferred.
     Number(u16),

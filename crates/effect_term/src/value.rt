@@ -4,9 +4,8 @@ ghost use Rattle.effect_term.specs.Values.{IsValue};
 
 use std::marker::Model;
 
-/// A value or an error code: a whole number of 63 bits with sign, from -4611686018427387904 to
-/// 4611686018427387903. One bit less than a word lets a deferred's word tell an empty one from any
-/// value.
+/// A value or an error code: a whole number of 63 bits with sign, from -4611686018427387904 to 4611686018427387903. The
+/// bit that is left in a word of 64 distinguishes an empty deferred from a completed one.
 #[derive(Clone, Copy, PartialEq, Eq, Debug)]
 pub struct Value {
     number: i64,
@@ -36,10 +35,10 @@ impl Value {
         number: 4_611_686_018_427_387_903,
     };
 
-    /// The value 0, which stands for unit, too.
+    /// The value 0, which is also the unit value.
     pub const ZERO: Value = Value { number: 0 };
 
-    /// The value that is this number; `None` exactly where the number is out of range.
+    /// Returns the value of a number, or `None` exactly if the number is out of range.
     pub fn of(number: i64) -> Option<Value>
         ensures some { IfSome result (λ v. v ≡ number) }
         ensures none { IfNone result (IsValue number → ⊥) }
@@ -51,7 +50,7 @@ impl Value {
         }
     }
 
-    /// The value that is this number. Each number of 32 bits is one.
+    /// Returns the value of a number. Each number of 32 bits is in range.
     pub const fn from_i32(number: i32) -> Value
         ensures value { result ≡ number }
     {
@@ -60,7 +59,7 @@ impl Value {
         }
     }
 
-    /// Its number.
+    /// Returns its number.
     pub const fn get(self) -> i64
         ensures number { result ≡ self }
         ensures range { IsValue self }

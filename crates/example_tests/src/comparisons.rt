@@ -1,4 +1,4 @@
-//! Two programs that are compared, as in the example of `compared_ends`.
+//! A comparison of two programs, as in the example of `compared_ends`.
 
 ghost use Rattle.cell_registry.specs.Cells.{AreLimits};
 
@@ -23,7 +23,7 @@ fn few() -> Limits
     }
 }
 
-// A race against what never ends, and the other side.
+// A race against a side that never ends, and the other side alone.
 fn compared(alloc: Global, basis: Basis) -> Result<Comparison, Fail> {
     let race = Program::check(alloc, parse(alloc, b"(race (pure 4) (never))")?)?;
     let side = Program::check(alloc, parse(alloc, b"(pure 4)")?)?;
@@ -35,7 +35,7 @@ fn compared(alloc: Global, basis: Basis) -> Result<Comparison, Fail> {
     Ok(compare_ends(alloc, &race, &side, few(), bounds, basis)?)
 }
 
-// Fiber 0 ends with 4 in either program.
+// Fiber 0 ends with 4 in both programs.
 #[test]
 fn programs_are_compared_by_fiber_0(rt: HostRuntime) -> Result<(), Fail> {
     let found = compared(rt.alloc(), Basis::FirstFiber)?;
@@ -45,7 +45,7 @@ fn programs_are_compared_by_fiber_0(rt: HostRuntime) -> Result<(), Fail> {
     Ok(())
 }
 
-// The race has three fibers, and the side has one.
+// The race has three fibers, and the side alone has one.
 #[test]
 fn programs_are_compared_by_all_fibers(rt: HostRuntime) -> Result<(), Fail> {
     let found = compared(rt.alloc(), Basis::AllFibers)?;

@@ -1,6 +1,6 @@
-//! How the public calls are used, each in a few lines: the examples with which crates of the library begin, as tests.
+//! Uses of the public calls, in a few lines each: the examples in the comments of the libraries, as tests.
 //!
-//! The crate has nothing but its tests. It stands apart from the libraries so that they are proved without it.
+//! The crate has only tests, so that the libraries are proved without them.
 #![tactic(auto)]
 
 #[cfg(test)]

@@ -43,7 +43,7 @@ fn few() -> Limits
     }
 }
 
-// Names are told by how many binders stand around their own.
+// The number in a name is that of the binders around its own.
 #[test]
 fn a_text_is_read_and_printed(rt: HostRuntime) -> Result<(), Fail> {
     let alloc = rt.alloc();
@@ -60,7 +60,7 @@ fn a_text_is_read_and_printed(rt: HostRuntime) -> Result<(), Fail> {
     Ok(())
 }
 
-// It looks for a request before each of its three moves: the mark, the next part, and its end.
+// The fiber looks for a request before each of its three moves: the mark, the next part, and its end.
 #[test]
 fn a_fiber_is_moved_by_hand(rt: HostRuntime) -> Result<(), Fail> {
     let alloc = rt.alloc();
@@ -93,8 +93,8 @@ fn a_program_is_replayed(rt: HostRuntime) -> Result<(), Fail> {
     Ok(())
 }
 
-// Two reports can come of a race whose other side never ends: that one is cut where it has entered its mask and is in
-// its poll, or before its first move.
+// A race whose other side never ends has two reports: that side is cut after it has entered its mask and its poll, or
+// before its first move.
 #[test]
 fn a_program_is_explored(rt: HostRuntime) -> Result<(), Fail> {
     let alloc = rt.alloc();
@@ -110,7 +110,7 @@ fn a_program_is_explored(rt: HostRuntime) -> Result<(), Fail> {
     Ok(())
 }
 
-// Fibers that share nothing end alike on any number of workers.
+// Fibers that share nothing have the same ends on any number of workers.
 #[test]
 fn a_program_is_run(rt: HostRuntime) -> Result<(), Fail> {
     let alloc = rt.alloc();

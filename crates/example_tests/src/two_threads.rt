@@ -11,7 +11,7 @@ use std::test::Fail;
 use std::thread;
 use std::thread::Threads;
 
-// One thread requests the cancellation of the child, and the other looks whether it is requested.
+// One thread requests the cancellation of the child, and the other looks for the request.
 fn request_and_look<R: Threads + Sync>(
     rt: &R,
     registry: &Registry,
@@ -35,7 +35,7 @@ fn request_and_look<R: Threads + Sync>(
     )
 }
 
-// Whoever comes first, the request is the first one.
+// Whichever thread comes first, the request is the first one.
 #[test]
 fn two_threads_share_a_registry(rt: HostRuntime) -> Result<(), Fail> {
     let (registry, mut parent) = Registry::new(rt.alloc(), 2, 1, 1, 10)?;

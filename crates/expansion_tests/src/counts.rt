@@ -1,4 +1,4 @@
-//! The counts of programs, and the terms that are past a limit, worked from the rules.
+//! The counts of programs, and the terms that pass a limit, worked out from the rules.
 
 use crate::pieces::{Piece, text_of};
 use effect_term::{Program, Term, TermError};
@@ -6,7 +6,7 @@ use std::alloc::Global;
 use std::test::Fail;
 use term_parse::parse;
 
-// What is told of a program: its size, its nest, its masks, and whether it starts fibers.
+// The counts of a program: its size, its nest, its masks, and whether it starts fibers.
 type Told = (u64, u64, u64, bool);
 
 fn told(alloc: Global, text: &[u8]) -> Result<Told, Fail> {
@@ -15,7 +15,7 @@ fn told(alloc: Global, text: &[u8]) -> Result<Told, Fail> {
     Ok((term.size(), term.nest(), term.masks(), program.starts()))
 }
 
-// Programs of core words, first those without parts, and what is told of each.
+// Programs of core words, first those without parts, and their counts.
 const CORE_WORDS: &[(&[u8], Told)] = &[
     (b"(pure 0)", (1, 1, 0, false)),
     (b"(raise 0)", (1, 1, 0, false)),
@@ -48,7 +48,7 @@ const CORE_WORDS: &[(&[u8], Told)] = &[
     ),
 ];
 
-// Programs of derived words, and what is told of each.
+// Programs of derived words, and their counts.
 const DERIVED_WORDS: &[(&[u8], Told)] = &[
     (b"(guarantee (never) (cede))", (3, 2, 2, false)),
     (b"(bracket x (cede) (say x) (say x))", (4, 2, 3, false)),
@@ -92,13 +92,12 @@ fn derived_words(rt: HostRuntime) -> Result<(), Fail> {
     Ok(())
 }
 
-// What stands before the last part of each nested form.
+// The text before the last part of each nested form.
 const GUARANTEE: &str = "(guarantee (pure 0) ";
 
 const BRACKET_CASE: &str = "(bracketcase x (pure 0) (pure 0) y (pure 0) z (pure 0) ";
 
-// As many nested forms as may be, for the size of the expansion and for its masks, and what is told
-// of each program.
+// The greatest numbers of nested forms, by the size of the expansion and by its masks, and the counts of each program.
 const WITHIN: &[(&[Piece], Told)] = &[
     (
         &[(GUARANTEE, 10), ("(pure 0)", 1), (")", 10)],
@@ -110,7 +109,7 @@ const WITHIN: &[(&[Piece], Told)] = &[
     ),
 ];
 
-// More than may be, and the refusal: that of the masks comes before that of the expansion.
+// More nested forms than that, and the refusal: that of the masks comes before that of the expansion.
 const PAST: &[(&[Piece], TermError)] = &[
     (
         &[(GUARANTEE, 11), ("(pure 0)", 1), (")", 11)],
@@ -144,7 +143,7 @@ fn terms_at_a_limit(rt: HostRuntime) -> Result<(), Fail> {
     Ok(())
 }
 
-// The refusal of the term of a text, or `None` where it is a program.
+// The refusal of the term of a text, or `None` if it is a program.
 fn refusal(alloc: Global, text: &[u8]) -> Result<Option<TermError>, Fail> {
     match Program::check(alloc, parse(alloc, text)?) {
         Ok(_) => Ok(None),
@@ -161,13 +160,13 @@ fn terms_past_a_limit(rt: HostRuntime) -> Result<(), Fail> {
     Ok(())
 }
 
-// The size of the term where it is a program's.
+// The size of the term if it is a program's.
 fn checked_size(alloc: Global, term: Term) -> Result<u64, TermError> {
     let program = Program::check(alloc, term)?;
     Ok(program.term().size())
 }
 
-// Holds whichever request for memory is refused.
+// Holds with every request for memory refused in turn.
 #[test]
 fn a_term_is_checked_or_memory_ran_out(rt: HostRuntime) {
     if let Ok(term) = parse(rt.alloc(), b"(let x (cede) (pure x))") {

@@ -1,4 +1,4 @@
-//! Expansions of whole programs, worked from the rules.
+//! Expansions of whole programs, worked out from the rules.
 
 use derived_ops::{Code, expand, print_core};
 use effect_term::{Program, Term, TermError};
@@ -10,7 +10,7 @@ fn is_printed(alloc: Global, code: &Code, text: &[u8]) -> Result<bool, AllocErro
     Ok(print_core(alloc, code)?.as_slice() == text)
 }
 
-// Whether the text of a program's code is this one, or that memory ran out.
+// Whether the text of a program's code is this one; `AllocError` if memory ran out.
 fn is_shown(alloc: Global, program: &Program, text: &[u8]) -> Result<bool, AllocError> {
     let code = expand(alloc, program)?;
     is_printed(alloc, &code, text)
@@ -150,7 +150,7 @@ fn is_whole(alloc: Global, program: &[u8], text: &[u8]) -> bool {
     }
 }
 
-// Holds whichever request for memory is refused.
+// Holds with every request for memory refused in turn.
 #[test]
 fn a_text_is_whole_or_memory_ran_out(rt: HostRuntime) {
     for (program, text) in DERIVED_WORDS {

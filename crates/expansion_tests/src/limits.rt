@@ -1,11 +1,11 @@
-//! Whole expansions of programs at the limits, each made another way: as a pattern of its level.
+//! Whole expansions of programs at the limits, each made in a second way: as a pattern by its level.
 
 use crate::expansions::is_expanded;
 use crate::pieces::{Piece, push_at, push_pieces, text_of};
 use std::alloc::AllocError;
 use std::test::Fail;
 
-// A `bracketcase` before its last part, what it stands for before that part, and behind it.
+// A `bracketcase` before its last part, its expansion before that part, and its expansion behind it.
 const BRACKET_CASE: &str = "(bracketcase x (pure 1) (pure 2) y (pure 3) z (pure 4) ";
 
 const BEFORE_ITS_LAST_RELEASE: &str = "(uncancelable pA (let vB (pure 1) (seq (acquired pA) \
@@ -16,7 +16,7 @@ const BEHIND_ITS_LAST_RELEASE: &str = " vD (seq (released pA) (raise vD))) (rele
     (seq (releasing pA) (handle (pure 4) vE (pure 0)) (released pA) (raise vD))) (seq (releasing \
     pA) (handle (pure 3) vE (seq (released pA) (raise vE))) (released pA) (pure vD)))))))";
 
-// A program with as many masks as may be, and the writing of what it stands for.
+// A program with the greatest number of masks, and its expansion.
 const MASKS: &[Piece] = &[(BRACKET_CASE, 83), ("(pure 5)", 1), (")", 83)];
 
 fn push_masks(text: &mut String) -> Result<(), AllocError> {
@@ -41,7 +41,7 @@ fn as_many_masks_as_may_be(rt: HostRuntime) -> Result<(), Fail> {
 
 const GUARANTEE: &str = "(guarantee (pure 1) ";
 
-// Writes what so many nested forms `guarantee` stand for, below so many binders.
+// Writes the expansion of `forms` nested forms `guarantee`, inside `depth` binders.
 fn push_guarantees(text: &mut String, forms: u8, depth: u32) -> Result<(), AllocError> {
     if forms == 0 {
         return text.push_str("(pure 2)");
@@ -60,7 +60,7 @@ fn push_guarantees(text: &mut String, forms: u8, depth: u32) -> Result<(), Alloc
     push_at(text, depth, " (pure vB))))")
 }
 
-// Finalizers that stand in finalizers, as deep as may be.
+// Finalizers in finalizers, as deep as is allowed.
 const FINALIZERS: &[Piece] = &[(GUARANTEE, 10), ("(pure 2)", 1), (")", 10)];
 
 #[test]
@@ -72,7 +72,7 @@ fn a_finalizer_in_a_finalizer(rt: HostRuntime) -> Result<(), Fail> {
     Ok(())
 }
 
-// How deep the parts of a sequence nest, whose expansion has 1,000,000 words.
+// The depths of the parts of a sequence whose expansion has 1,000,000 words.
 const DEPTHS: &[u8] = &[
     10, 10, 9, 7, 7, 5, 5, 4, 4, 3, 3, 2, 0, 0, 0, 0, 0, 0, 0, 0, 0,
 ];
@@ -88,7 +88,7 @@ fn push_words(text: &mut String) -> Result<(), AllocError> {
     text.push_str(")")
 }
 
-// Writes what it stands for.
+// Writes the expansion of that sequence.
 fn push_expanded_words(text: &mut String) -> Result<(), AllocError> {
     text.push_str("(seq")?;
     for forms in DEPTHS {
@@ -108,7 +108,7 @@ fn as_many_words_as_may_be(rt: HostRuntime) -> Result<(), Fail> {
     Ok(())
 }
 
-// A sequence of as many parts as a text has room for, and what it stands for.
+// A sequence of as many parts as a text has room for, and its expansion.
 const PARTS: &[Piece] = &[("(seq", 1), ("(cede)", 10_921), (")", 1)];
 
 const EXPANDED_PARTS: &[Piece] = &[("(seq", 1), (" (cede)", 10_921), (")", 1)];

@@ -1,4 +1,4 @@
-//! The names of terms that no text gives, and the first one at fault.
+//! The names of terms that no text spells, and the first faulty one.
 
 use effect_term::{Kind, Name, Operand, Program, Term, TermError};
 use std::alloc::{AllocError, Global};
@@ -104,7 +104,7 @@ fn the_first_fault_in_reading_order(rt: HostRuntime) -> Result<(), AllocError> {
     Ok(())
 }
 
-// The term below 251 masks.
+// The term inside 251 masks.
 fn deep(alloc: Global, mut term: Term) -> Result<Term, AllocError> {
     for _ in 0..251 {
         term = masked(alloc, term)?;

@@ -1,8 +1,8 @@
-//! Texts made of pieces, each of which stands a number of times in a row.
+//! Texts made of pieces, each of which is repeated a number of times.
 
 use std::alloc::{AllocError, Global};
 
-/// A piece, and how many times it stands there.
+/// A piece, and the number of times that it is repeated.
 pub(crate) type Piece = (&'static str, usize);
 
 fn push_repeated(text: &mut String, piece: &str, times: usize) -> Result<(), AllocError> {
@@ -27,8 +27,8 @@ pub(crate) fn text_of(alloc: Global, pieces: &[Piece]) -> Result<String, AllocEr
     Ok(text)
 }
 
-/// Writes a text that stands below so many binders: the letters from `A` to `E` are the slot of the
-/// next binder and of those after it.
+/// Writes a text inside `depth` binders: the letters from `A` to `E` are the slot of the next binder and of those after
+/// it.
 pub(crate) fn push_at(text: &mut String, depth: u32, form: &str) -> Result<(), AllocError> {
     for letter in form.chars() {
         match letter {

@@ -1,2 +1,2 @@
--- What the contracts of private functions cite.
+-- Definitions that only contracts of private functions cite.
 pub mod Telling

@@ -1,4 +1,4 @@
-//! What an entry of a schedule was.
+//! What an entry of a schedule did.
 
 ghost use Rattle.std.specs.Prelude.{◌≡◌};
 
@@ -10,24 +10,24 @@ use std::marker::Model;
 /// What the move of an entry did.
 #[derive(Clone, Copy, PartialEq, Eq, Debug)]
 pub enum Deed {
-    /// It made this shared call, and was answered so.
+    /// The move made this shared call, and got this reply.
     Called(Call, Reply),
-    /// It was the fiber's own: it made no shared call.
+    /// The move made no shared call.
     Alone,
-    /// It was the fiber's own, and waits for nothing that could come (`never`). The same move comes again.
+    /// The move made no shared call, and waits for what can't come (`never`). The next move is the same one.
     Rested,
 }
 
-/// What an entry of a schedule was: one move of a fiber.
+/// What an entry of a schedule did: one move of a fiber.
 #[derive(Clone, Copy, PartialEq, Eq, Debug)]
 pub struct Event {
     /// The entry's number in the schedule, from 1 on.
     pub entry: usize,
     /// The fiber that moved.
     pub fiber: u16,
-    /// What its move did.
+    /// What the move did.
     pub deed: Deed,
-    /// What it noted, if it did.
+    /// The mark that the fiber added, if it did.
     pub mark: Option<Mark>,
 }
 

@@ -1,9 +1,9 @@
-//! What happens in a replay: the events of its entries, in their order.
+//! The events of a replay, in the order of its entries.
 //!
-//! It stands on the core under a schedule (`scheduled_core`), whose moves it makes by `enter`, and beside which it
-//! keeps a second registry. It promises that each event is what its entry was in the core: the fiber of the entry, the
-//! shared call that its move made and the reply of the registry, and the mark that the fiber added. No event is left
-//! out, and none is made up.
+//! The crate uses the core under a schedule (`scheduled_core`), whose moves it makes with `enter`, and keeps a second
+//! registry beside the core's. The crate promises that each event is what its entry did in the core: the fiber of the
+//! entry, the shared call that its move made, the reply of the registry, and the mark that the fiber added. The list
+//! has all events, and no others.
 #![tactic(auto)]
 
 mod event;

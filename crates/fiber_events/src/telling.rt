@@ -1,4 +1,4 @@
-//! A replay that tells its events.
+//! A replay that returns its events.
 ghost use Rattle.std.specs.Prelude.{◌≡◌, ◌≢◌, ◌⊎◌, ◌++◌, IfErr, IfOk, OnOk, Some as Somebody};
 ghost use Rattle.std.specs.Prelude.{Ok as GoesWell, Err as Fails};
 ghost use Rattle.std.specs.List.{slice_get};
@@ -21,22 +21,22 @@ use fiber_frames::{Config, Mark};
 use scheduled_core::{Report, Wish, answer, enter, fault, first_fibers, report_of_fibers};
 use std::alloc::{AllocError, Global};
 
-/// What is told of a replay.
+/// The result of a replay, with its events.
 #[derive(Drop)]
 pub struct Told {
-    /// What each entry was that moved a fiber.
+    /// The events, one for each entry that moved a fiber.
     pub events: Events,
-    /// How many entries were made: all of them, or those before the one that ended the run by a fault.
+    /// The number of entries that were made: all of them, or those before the one that ended the run with a fault.
     pub made: usize,
     /// The report, or the fault that ended the run.
     pub end: Result<Report, RunError>,
 }
 
-/// Replays a program under a schedule, and tells the events of its entries beside the report.
+/// Replays a program under a schedule, and returns the events of its entries with the report.
 ///
 /// The events are those of the core, one for each entry that moved a fiber, in their order. The report or the fault is
-/// that of `replay` of `scheduled_core`. Where a call is refused, the events end before that entry. The limits are in
-/// their ranges ([`Limits`]). `AllocError` where memory runs out.
+/// that of `replay` of `scheduled_core`. If a call is refused, the events end before that entry. The limits are in
+/// their ranges ([`Limits`]). Returns `AllocError` if memory runs out.
 pub fn replay_events(
     alloc: Global,
     program: &Program,
@@ -57,7 +57,7 @@ pub fn replay_events(
     })
 }
 
-// A registry without calls.
+// A new registry.
 fn opened(alloc: Global, limits: Limits) -> Result<PlainRegistry, AllocError>
     requires { AreLimits limits }
     ensures opening { IfOk result (λ r. r ≡ new_plain limits) }
@@ -71,7 +71,7 @@ fn opened(alloc: Global, limits: Limits) -> Result<PlainRegistry, AllocError>
     )
 }
 
-// The report of the fibers, unless a fault ended the run.
+// The report of the fibers, or the fault that ended the run.
 fn end_of(
     alloc: Global,
     fibers: Vec<Config>,
@@ -85,18 +85,18 @@ fn end_of(
     }
 }
 
-/// The way of a schedule, as it is told.
+/// The course of a schedule.
 #[derive(Drop)]
 pub(crate) struct Course {
     /// The events of the entries that were made.
     pub(crate) events: Vec<Event>,
-    /// How many these are.
+    /// The number of these entries.
     pub(crate) made: usize,
-    /// The fault of the next entry, where not all were made.
+    /// The fault of the next entry, if not all were made.
     pub(crate) fault: Option<RunError>,
 }
 
-// All entries of a schedule, up to one that is refused.
+// Makes all entries of a schedule, up to a refused one.
 fn tell_entries(
     alloc: Global,
     fibers: &mut Vec<Config>,
@@ -123,7 +123,7 @@ fn tell_entries(
     })
 }
 
-// One more item behind others, if there is one.
+// Appends an item, if there is one.
 fn keep<T: Copy>(kept: &mut Vec<T>, item: Option<T>) -> Result<(), AllocError>
     ensures { OnOk result (kept.new.items ≡ kept.old.items ++ option_to_list item) }
 {
@@ -133,7 +133,7 @@ fn keep<T: Copy>(kept: &mut Vec<T>, item: Option<T>) -> Result<(), AllocError>
     Ok(())
 }
 
-// A way that ends with this fault. Want of memory is none.
+// A course that ends with this fault; `AllocError` if memory ran out.
 fn stopped(events: Vec<Event>, made: usize, fault: RunError) -> Result<Course, AllocError>
     ensures course { IfOk result (λ it. it ≡ record { events = events; made = made; fault = Somebody fault }) }
     ensures memory { OnOk result (fault ≢ RunError.NoMemory) }
@@ -148,7 +148,8 @@ fn stopped(events: Vec<Event>, made: usize, fault: RunError) -> Result<Course, A
     }
 }
 
-// An entry of a schedule, and its event, if it moves somebody. The second registry has had the same calls as the first.
+// Makes an entry of a schedule, and returns its event, if it moves a fiber. The second registry has had the same calls
+// as the first.
 fn tell_entry(
     fibers: &mut Vec<Config>,
     registry: &mut PlainRegistry,
@@ -188,14 +189,14 @@ fn tell_entry(
     }
 }
 
-// The mark of a fiber behind so many, if it has one.
+// The mark of a fiber after the first `noted` ones, if it has one.
 fn mark_behind(fibers: &[Config], place: usize, noted: usize) -> Option<Mark>
     ensures { (g : Fiber) → slice_get fibers.now place ≡ Somebody g → result ≡ slice_get g.marks noted }
 {
     fibers.get(place)?.trace().get(noted).copied()
 }
 
-// What the next move of a fiber does, if it has one. The call that it makes is made of this registry.
+// What the next move of a fiber does, if it has one. Makes the call of the move at this registry.
 fn foresee(fiber: &Config, beside: &mut PlainRegistry) -> Result<Option<Deed>, RunError>
     requires { Fits (cell_registered beside.old.state fiber.now.number) fiber.now }
     ensures deed { IfOk result (λ deed. IsForeseen beside.old fiber.now.number fiber.now beside.new deed) }
@@ -217,7 +218,7 @@ fn foresee(fiber: &Config, beside: &mut PlainRegistry) -> Result<Option<Deed>, R
     }
 }
 
-// What a move of the fiber's own is.
+// What a move without a shared call does.
 fn own_deed(fiber: &Config) -> Deed
     ensures { IsOwn fiber.now result }
 {

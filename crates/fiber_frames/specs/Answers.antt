@@ -25,7 +25,7 @@ abbrev pub IsNumber : Reply → Type 0
 IsNumber (reply.Number n) = Unit {0}
 IsNumber _ = ⊥
 
--- a number above i
+-- the reply is a number above i
 abbrev pub IsNumberAbove : ℕ → Reply → Type 0
 IsNumberAbove i (reply.Number n) = i < n
 IsNumberAbove i _ = ⊥
@@ -42,8 +42,8 @@ abbrev pub IsRead : Reply → Type 0
 IsRead (reply.Read o) = Unit {0}
 IsRead _ = ⊥
 
--- The reply is of the kind that the ask of fiber i wants: to a start a number above its own. Where it wants nothing, no
--- reply fits.
+-- the reply is of the kind that the ask of fiber i wants; a start gets a number above i, and a move without a call gets
+-- `Done`. A fiber that has ended or is broken gets no reply
 abbrev pub Answers : ℕ → Ask → Reply → Type 0
 Answers i ask.Look r = IsSeen r
 Answers i ask.Cut r = IsDone r

@@ -18,7 +18,7 @@ abbrev pub hit : ℕ → Handle → ℕ
 hit n (Known m) = if nat_eq m n then 1 else 0
 hit n (Open_slot s) = 0
 
--- how far after its first part the last part of a word stands
+-- the distance from the first part of a word to its last part
 abbrev pub last_of : CoreWord → ℕ
 last_of (word.Join f j l) = l
 last_of w = second w
@@ -59,7 +59,7 @@ module _ (u : Use) (n : ℕ) where
   all_hits [] = 0
   all_hits (g ∷ gs) = tree_hits g + all_hits gs
 
-  -- in what a step of the focus path goes on to
+  -- the uses in what a step of the focus path runs next
   abbrev pub step_hits : PathStep → ℕ
   step_hits (In_let x k) = tree_hits k
   step_hits (In_seq w k) = tree_hits k
@@ -78,10 +78,10 @@ module _ (u : Use) (n : ℕ) where
   hits_in (Over o) = 0
   hits_in Broken = 0
 
-  -- in a word alone, without its parts
+  -- the uses in a word itself, without its parts
   abbrev pub own_hits : List EnvEntry → ℕ → CoreWord → ℕ
   own_hits es level w = tree_hits (close (env_of es level) (word_tree w 0 (λ _. Act Never) (λ _. Act Never) (λ _. Act Never)))
 
-  -- in the term at a word, below so many binders
+  -- the uses in the term at a word, inside this many binders
   abbrev pub term_hits : List CoreWord → List EnvEntry → ℕ → ℕ → ℕ → ℕ
   term_hits ws es level i m = tree_hits (close (env_of es level) (tree_at ws i m))

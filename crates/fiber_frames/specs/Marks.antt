@@ -1,4 +1,4 @@
--- What the marks of a fiber say of its brackets, of its masks and of its cut.
+-- What the marks of a fiber say about its brackets, its masks and its cut.
 use Rattle.std.specs.Prelude.{◌≡◌, ◌⊎◌, ◌↔◌, ◌≤◌, ℕ, ◌+◌, nat_eq, if◌then◌else◌, List, [], ◌∷◌, ◌++◌, Option, Some}
 use Rattle.std.specs.Prelude.{None}
 use Rattle.effect_term.specs.declared.reply.Outcome.{Outcome}
@@ -7,13 +7,13 @@ use Rattle.fiber_frames.specs.declared.mark.Mark.{Mark}
 use Rattle.fiber_frames.specs.declared.mark.Mark.TheVariants as mark
 
 -- ---- brackets
--- A bracket, which has the number of its mask, has acquired, begins its release, or has released.
+-- the bracket with the number of its mask has acquired, begins its release, or has released
 pub data Bracket_step : Type 0 where
   Acquired : ℕ → Bracket_step
   Releasing : ℕ → Bracket_step
   Released : ℕ → Bracket_step
 
--- of the marks, `acquired`, `releasing` and `released` alone are kept
+-- of the marks, only `acquired`, `releasing` and `released`
 abbrev pub bracket_steps : List Mark → List Bracket_step
 bracket_steps [] = []
 bracket_steps (mark.Acquired i ∷ ms) = Acquired i ∷ bracket_steps ms
@@ -28,14 +28,14 @@ pub data Nested : List Bracket_step → Type 0 where
   bracket : {a b : List Bracket_step} → (i : ℕ) → Nested a → Nested b →
       Nested (Acquired i ∷ (a ++ Releasing i ∷ (b ++ Released i ∷ [])))
 
--- how often i is acquired
+-- the number of times that i is acquired
 abbrev pub times_acquired : ℕ → List Bracket_step → ℕ
 times_acquired i [] = 0
 times_acquired i (Acquired j ∷ w) = (if nat_eq j i then 1 else 0) + times_acquired i w
 times_acquired i (Releasing j ∷ w) = times_acquired i w
 times_acquired i (Released j ∷ w) = times_acquired i w
 
--- *balanced*: each bracket that has acquired releases once, the innermost first, and none acquires twice
+-- *balanced*: each bracket that has acquired releases once, the innermost first, and no number is acquired twice
 abbrev pub IsBalanced : List Bracket_step → Type 0
 IsBalanced w = Nested w × ((i : ℕ) → times_acquired i w ≤ 1)
 
@@ -55,7 +55,7 @@ NoCut ms = Has mark.Cut ms → ⊥
 abbrev pub IsPolled : ℕ → List Mark → Type 0
 IsPolled m ms = (before after : List Mark) × (ms ≡ before ++ mark.PollIn m ∷ after) × (Has (mark.PollOut m) after → ⊥)
 
--- one cut, where each mask that was entered and not left is polled
+-- at most one cut, at which each mask that was entered and not left is polled
 abbrev pub IsCutOnce : List Mark → Type 0
 IsCutOnce ms =
     (before after : List Mark) × (ms ≡ before ++ mark.Cut ∷ after) × NoCut before × NoCut after
@@ -65,12 +65,12 @@ IsCutOnce ms =
 abbrev pub UncutRegions : List Mark → Type 0
 UncutRegions ms = NoCut ms ⊎ IsCutOnce ms
 
--- an ended fiber's brackets are balanced, and it is canceled exactly where it was cut
+-- an ended fiber's brackets are balanced, and its outcome is canceled exactly if it was cut
 abbrev pub EndsLawfully : List Mark → Option Outcome → Type 0
 EndsLawfully ms None = Unit {0}
 EndsLawfully ms (Some o) = IsBalanced (bracket_steps ms) × (o ≡ outcome.Canceled ↔ Has mark.Cut ms)
 
--- the marks of a fiber, and its outcome where it has ended
+-- the marks of a fiber, and its outcome if it has ended
 pub record AreLawful (marks : List Mark) (ended : Option Outcome) : Type 0 where
   pub brackets : IsOpenBalanced (bracket_steps marks)
   pub regions : UncutRegions marks

@@ -10,7 +10,7 @@ use Rattle.fiber_frames.specs.Rows.{number_in}
 use Rattle.fiber_frames.specs.Fiber.{Fiber}
 use Rattle.fiber_frames.specs.Leading.{depth_of}
 
--- a term that runs: what is left to do behind its focus path is closed
+-- a running term: the terms off its focus path are closed
 abbrev pub NamedLive : Given → Tree → Type 0
 NamedLive b (Let e x k) = NamedLive b e × Closed b k
 NamedLive b (Seq w e k) = NamedLive b e × Closed b k
@@ -20,7 +20,7 @@ NamedLive b (Masked m e) = NamedLive b e
 NamedLive b (Polled q e) = NamedLive b e
 NamedLive b t = Closed b t
 
--- what a fiber is at names only fibers, refs and deferreds that were given
+-- what a fiber runs names only fibers, refs and deferreds that were given
 abbrev pub NamedRun : Given → Running → Type 0
 NamedRun b (Runs t) = NamedLive b t
 NamedRun b (Final m []) = Unit {0}
@@ -28,7 +28,7 @@ NamedRun b (Final m (g ∷ gs)) = NamedLive b g × AllClosed b gs
 NamedRun b (Over o) = Unit {0}
 NamedRun b Broken = Unit {0}
 
--- an ask of fiber i names itself, or what was given
+-- an ask of fiber i names i itself, or a number that was given
 abbrev pub AskNamed : Given → ℕ → Ask → Type 0
 AskNamed b i (ask.Cancel f) = (f ≡ i) ⊎ (f < b.fibers)
 AskNamed b i (ask.Join f) = f < b.fibers
@@ -39,7 +39,7 @@ AskNamed b i (ask.Complete d v) = d < b.deferreds
 AskNamed b i (ask.Read d) = d < b.deferreds
 AskNamed b i _ = Unit {0}
 
--- a number that the ask is answered was given
+-- if the reply to the ask is a number, it was given
 abbrev pub NumberGiven : Given → Ask → Reply → Type 0
 NumberGiven b ask.Start r = number_in r < b.fibers
 NumberGiven b ask.NewRef r = number_in r < b.refs

@@ -1,4 +1,4 @@
--- How often what is left of a fiber uses a fiber, a ref or a deferred in one way.
+-- How often the rest of a fiber uses a fiber, a ref or a deferred in one way.
 use Rattle.std.specs.Prelude.{◌≡◌, ◌≢◌, ◌⊎◌, ℕ, zero, suc, ◌+◌, Bool, true, false, nat_eq, if◌then◌else◌, List, [], ◌∷◌}
 use Rattle.effect_term.specs.declared.reply.Reply.{Reply}
 use Rattle.derived_ops.specs.Tree.{Handle, Known, Open_slot, Action, Request, Ending, Get, Set, Modify, Complete}
@@ -12,7 +12,7 @@ use Rattle.fiber_frames.specs.declared.uses.Use.{Use}
 use Rattle.fiber_frames.specs.declared.uses.Use.TheVariants as use_of
 use Rattle.fiber_frames.specs.Path.{Running, Runs, Final, Over, Broken}
 
--- what is used so
+-- the kind of what is used
 abbrev pub used_place : Use → Place
 used_place use_of.Cancels = A_fiber
 used_place use_of.Joins = A_fiber
@@ -21,7 +21,7 @@ used_place use_of.Stores = A_ref
 used_place use_of.Completes = A_deferred
 used_place use_of.Awaits = A_deferred
 
--- what a slot stands for: no binder around it binds it, one that binds what is used so, or another one
+-- what binds a slot: no binder around it, a binder of the kind that is used, or another binder
 pub data Bound : Type 0 where
   By_none : Bound
   By_its : Bound
@@ -33,7 +33,7 @@ Scope = ℕ → Bound
 abbrev pub all_open : Scope
 all_open s = By_none
 
--- a slot that is bound once more
+-- a slot that is bound once more, by a binder of the kind that is used
 abbrev pub by_its : Bound → Bound
 by_its By_none = By_its
 by_its By_its = By_its
@@ -48,7 +48,7 @@ bound_by _ _ b = By_other
 abbrev pub under : Use → Place → ℕ → Scope → Scope
 under u c x scope s = if nat_eq x s then bound_by (used_place u) c (scope s) else scope s
 
--- the number itself counts, and a slot that isn't surely bound to another one
+-- an open handle counts unless its slot is surely bound to another number
 abbrev pub open_count : Bound → ℕ
 open_count By_none = 1
 open_count By_its = 0
@@ -58,7 +58,7 @@ abbrev pub handle_count : ℕ → Scope → Handle → ℕ
 handle_count n scope (Known m) = if nat_eq m n then 1 else 0
 handle_count n scope (Open_slot s) = open_count (scope s)
 
--- of such a use alone
+-- the use counts if it is the one that is looked for
 abbrev pub of_use : Use → Use → ℕ → ℕ
 of_use use_of.Cancels use_of.Cancels x = x
 of_use use_of.Joins use_of.Joins x = x
@@ -69,7 +69,7 @@ of_use use_of.Awaits use_of.Awaits x = x
 of_use _ _ x = 0
 
 module _ (u : Use) (n : ℕ) where
-  -- by an act; who has requested a cancellation waits for the end
+  -- the uses by an act; after the request of a `cancel` only its wait is left
   abbrev pub action_uses : Scope → Action → ℕ
   action_uses b (Request f) = of_use u use_of.Cancels (handle_count n b f) + of_use u use_of.Joins (handle_count n b f)
   action_uses b (Ending f) = of_use u use_of.Joins (handle_count n b f)
@@ -80,7 +80,7 @@ module _ (u : Use) (n : ℕ) where
   action_uses b (Await d) = of_use u use_of.Awaits (handle_count n b d)
   action_uses b _ = 0
 
-  -- in a term, whose slots are bound so
+  -- the uses in a term whose slots are bound in this way
   abbrev pub tree_uses : Scope → Tree → ℕ
   tree_uses b (Pure v) = 0
   tree_uses b (Raise v) = 0
@@ -107,18 +107,18 @@ module _ (u : Use) (n : ℕ) where
   all_uses [] = 0
   all_uses (g ∷ gs) = tree_uses all_open g + all_uses gs
 
-  -- in what a fiber is at
+  -- the uses in what a fiber runs
   abbrev pub uses_in : Running → ℕ
   uses_in (Runs t) = tree_uses all_open t
   uses_in (Final m gs) = all_uses gs
   uses_in (Over o) = 0
   uses_in Broken = 0
 
-  -- the number isn't one of this kind that is used so
+  -- the number isn't the one of this kind whose use is looked for
   abbrev pub Apart : Place → ℕ → Type 0
   Apart c m = used_place u ≡ c → m ≢ n
 
-  -- an ask of fiber i uses another number so, or itself
+  -- an ask of fiber i uses another number in this way, or i itself
   abbrev pub AskApart : ℕ → Ask → Type 0
   AskApart i (ask.Cancel f) = u ≡ use_of.Cancels → (f ≡ i) ⊎ (f ≢ n)
   AskApart i (ask.Join f) = u ≡ use_of.Joins → f ≢ n
@@ -129,14 +129,14 @@ module _ (u : Use) (n : ℕ) where
   AskApart i (ask.Read d) = u ≡ use_of.Awaits → d ≢ n
   AskApart i _ = Unit {0}
 
-  -- a number that the ask is answered is another one
+  -- if the reply to the ask is a number, it is another one
   abbrev pub NumberApart : Ask → Reply → Type 0
   NumberApart ask.Start r = Apart A_fiber (number_in r)
   NumberApart ask.NewRef r = Apart A_ref (number_in r)
   NumberApart ask.NewDeferred r = Apart A_deferred (number_in r)
   NumberApart _ r = Unit {0}
 
-  -- the fiber is at nothing that uses the number so
+  -- what the fiber runs doesn't use the number in this way
   abbrev pub Spares : Running → Type 0
   Spares w = uses_in w ≡ 0
 

@@ -53,7 +53,7 @@ impl Machine {
         }
     }
 
-    // The frame around the leaf takes a result without a call.
+    // Whether the frame around the leaf takes a result without a call.
     #[inline(always)]
     fn is_inside(&self) -> bool
         ensures { result ≡ is_inside (state_of self.now).frames }
@@ -66,7 +66,7 @@ impl Machine {
         }
     }
 
-    // How the result at the leaf would end the fiber.
+    // The outcome of the fiber if the result at the leaf ends it.
     #[inline(always)]
     fn outcome(&self) -> Outcome
         ensures value { self.now.place.kind ≡ kinds.Value →
@@ -81,7 +81,7 @@ impl Machine {
         }
     }
 
-    // The call of the result at the leaf. Its number is read only where it ends the fiber.
+    // The call of the result at the leaf. The fiber's number is read only if the result ends the fiber.
     #[tactic(auto, using(crate::proofs::CallsAndKinds::inside_silent))]
     #[inline(always)]
     fn result_ask(&self) -> Ask
@@ -110,7 +110,7 @@ impl Machine {
         }
     }
 
-    // The kind of the leaf, which is no result, tells that the move calls nothing.
+    // Whether the kind of the leaf, which isn't a result, shows that the move makes no call.
     #[inline(always)]
     fn is_quiet(&self) -> bool
         requires leaf { IsLeafAt self.now.words.value (leaf_in self.now.place) }
@@ -127,13 +127,13 @@ impl Machine {
             | WordKind::If0
             | WordKind::OnCancel
             | WordKind::Turns => true,
-            // These don't come here. With them it is one compare.
+            // These kinds don't occur here. With them the test is one comparison.
             WordKind::Value | WordKind::Error | WordKind::Form => true,
             _ => false,
         }
     }
 
-    // The call of the leaf. Where its kind tells it, no word is read.
+    // The call of the leaf. If its kind determines the call, no word is read.
     #[inline(always)]
     fn leaf_ask(&self) -> Ask
         requires { IsLeafAt self.now.words.value (leaf_in self.now.place) }

@@ -1,4 +1,4 @@
-//! A fiber once more, and whether two are one.
+//! Copies of a fiber, and whether two fibers are equal.
 
 ghost use Rattle.std.specs.Prelude.{◌≡◌, List, true, IfOk};
 ghost use Rattle.fiber_frames.specs.declared.env.EnvEntry.{EnvEntry};
@@ -16,7 +16,7 @@ use std::alloc::{AllocError, Global};
 use std::sync::Arc;
 
 impl Machine {
-    /// The same fiber once more, or `AllocError` where memory is refused.
+    /// A copy of the fiber, or `AllocError` if memory is refused.
     pub(crate) fn copy(&self, alloc: Global) -> Result<Machine, AllocError>
         requires { Sound (state_of self.now) }
         ensures fiber { IfOk result (λ it. fiber_in it ≡ fiber_in self.now) }
@@ -37,15 +37,15 @@ impl Machine {
         })
     }
 
-    // The fiber has ended.
+    // Whether the fiber has ended.
     fn is_over(&self) -> bool
         ensures { result ≡ true → IsOver self.now.stage }
     {
         matches!(self.stage, RunStage::Over(_))
     }
 
-    /// Whether two fibers are one, as far as can be told by what they hold. What is bound at a slot that they can't
-    /// name any more may differ.
+    /// Whether two fibers are equal, as far as their stored parts show. Entries at slots that they can't name any more
+    /// can differ.
     #[tactic(auto, using(crate::proofs::SameFibers::same_over, crate::proofs::SameFibers::same_parts))]
     pub(crate) fn same(&self, other: &Machine) -> bool
         ensures { result ≡ true → fiber_in self.now ≡ fiber_in other.now }
@@ -67,7 +67,7 @@ impl Machine {
             && same_items(self.marks.as_slice(), other.marks.as_slice())
     }
 
-    // Whether what the fibers are at is the same. The words are compared last, since they are most.
+    // Whether the fibers run the same. The words are compared last, since they are the largest part.
     fn has_same_parts(&self, other: &Machine) -> bool
         ensures { result ≡ true → SameParts self.now other.now }
     {
@@ -78,7 +78,7 @@ impl Machine {
             && same_items(self.words.as_slice(), other.words.as_slice())
     }
 
-    /// A number that is the same for fibers that [`same`](Machine::same) takes for one.
+    /// A hash, equal for fibers that are the [`same`](Machine::same).
     pub(crate) fn digest(&self) -> u64 {
         let digest = mixed(u64::from(self.own), self.next);
         let digest = self.stage.mixed_into(self.look.mixed_into(digest));
@@ -144,7 +144,7 @@ impl Machine {
 }
 
 impl Place {
-    // Whether the two are one leaf. What their kind has nothing of may differ.
+    // Whether the two are the same leaf. Fields that their kind doesn't use can differ.
     fn is_same_leaf(&self, other: &Place) -> bool
         ensures { result ≡ true → leaf_in self.now ≡ leaf_in other.now }
     {

@@ -1,4 +1,4 @@
-//! The environment of a fiber: what each level holds.
+//! The environment of a fiber: the entry of each level.
 
 ghost use Rattle.std.specs.Prelude.{◌≡◌, ◌<◌, ◌≤◌, take, length, vec_len, IfOk, OnOk, OnErr};
 ghost use Rattle.fiber_frames.specs.Env.{env_of, bound};
@@ -7,7 +7,7 @@ use crate::stack::push;
 use effect_term::Value;
 use std::alloc::{AllocError, Global};
 
-/// What a level of the environment holds.
+/// The entry of a level of the environment.
 #[derive(Clone, Copy)]
 pub(crate) enum EnvEntry {
     /// A value or a code.
@@ -18,7 +18,7 @@ pub(crate) enum EnvEntry {
     Mask(u16, u64),
 }
 
-/// Binds at a level, over what stands there.
+/// Binds at a level, over the entry there.
 #[tactic(auto, using(crate::proofs::Closing::set_bound))]
 #[inline(always)]
 pub(crate) fn rebind(env: &mut Vec<EnvEntry>, level: usize, entry: EnvEntry)
@@ -28,7 +28,7 @@ pub(crate) fn rebind(env: &mut Vec<EnvEntry>, level: usize, entry: EnvEntry)
     env[level] = entry;
 }
 
-/// Binds at a level, over what stands there if anything does, or `AllocError` where memory is refused.
+/// Binds at a level, over the entry there if there is one; `AllocError` if memory is refused.
 #[tactic(auto, using(crate::proofs::Closing::push_bound))]
 #[inline(always)]
 pub(crate) fn bind(env: &mut Vec<EnvEntry>, level: usize, entry: EnvEntry) -> Result<(), AllocError>
@@ -44,7 +44,7 @@ pub(crate) fn bind(env: &mut Vec<EnvEntry>, level: usize, entry: EnvEntry) -> Re
     Ok(())
 }
 
-/// What a slot below the level holds.
+/// The entry of a slot below the level.
 #[inline(always)]
 pub(crate) fn entry(env: &[EnvEntry], level: usize, slot: u32) -> Option<EnvEntry>
     ensures { result ≡ env_of env.now level slot }
@@ -56,7 +56,7 @@ pub(crate) fn entry(env: &[EnvEntry], level: usize, slot: u32) -> Option<EnvEntr
     }
 }
 
-/// A copy of the entries below a level, or `AllocError` where memory is refused.
+/// A copy of the entries below a level, or `AllocError` if memory is refused.
 pub(crate) fn front(
     alloc: Global,
     env: &[EnvEntry],

@@ -1,4 +1,4 @@
-//! What a fiber is at: frames, the leaf, the finalizers that wait.
+//! The parts of a running fiber: frames, the leaf, the waiting finalizers.
 
 ghost use Rattle.std.specs.Prelude.{◌≡◌};
 ghost use Rattle.derived_ops.specs.Cores.{value_in_core};
@@ -12,50 +12,50 @@ use derived_ops::{Operand, Rest};
 use effect_term::{Outcome, Value};
 use std::mem::size_of;
 
-/// What is left to do with the result of what stands inside. A place in the table comes with its level,
-/// the number of binders around it; of `let` and `handle` it is the level of the form.
+/// What is done with the result of what runs inside the frame. A place in the table comes with its level, the number of
+/// binders around it; for `let` and `handle` it is the level of the form.
 #[derive(Clone, Copy)]
 pub(crate) enum Frame {
-    /// The word that a value goes on to, which binds it.
+    /// The word that runs after a value, which it binds.
     Let(usize, usize),
     /// The next part of a sequence.
     Seq(Rest, usize, usize),
-    /// The body of a loop that has so many turns left.
+    /// The body of a loop with this many turns left.
     Again(u32, usize, usize),
-    /// The next turn of a loop without end, which is this word.
+    /// The next turn of an endless loop, which is this word.
     Forever(usize, usize),
-    /// The word that an error goes on to, which binds its code.
+    /// The word that runs after an error, whose code it binds.
     Handle(usize, usize),
-    /// The finalizer of what stands inside.
+    /// The finalizer of what runs inside.
     Guarded(usize, usize),
-    /// A poll that undid nothing.
+    /// A poll that undid no mask.
     Idle(Mask),
     /// The mask of this number.
     Masked(u64),
-    /// A poll that undid the own mask of this number.
+    /// A poll that undid the fiber's own mask of this number.
     Polled(u64),
 }
 
 const _: () = prove!(size_of::<Frame>() == 24);
 
-/// A finalizer that waits: its word and its level.
+/// A waiting finalizer: its word and its level.
 #[derive(Clone, Copy)]
 pub(crate) struct Pending {
     pub index: usize,
     pub level: usize,
 }
 
-/// Where the next move happens: what stands there, and what its kind has of these.
+/// The place of the next move: its kind, and the fields, as far as the kind uses them.
 #[derive(Clone, Copy)]
 pub(crate) struct Place {
     pub kind: WordKind,
-    /// Nothing is bound to the value, or to the fiber: the slot of its binder is there instead.
+    /// Whether the value, or the fiber, is unbound: `part` is then the slot of its binder.
     pub open: bool,
     /// The ref, or the fiber of the `cancel`.
     pub handle: u16,
     /// The body of the loop, or the slot.
     pub part: u32,
-    /// The word, or the turns that are left.
+    /// The word, or the number of turns left.
     pub index: usize,
     /// The level of the word, or of the body.
     pub level: usize,
@@ -64,7 +64,7 @@ pub(crate) struct Place {
 }
 
 impl Place {
-    /// The value is this one.
+    /// Makes this the value.
     #[inline(always)]
     pub(crate) fn put_value(&mut self, value: Operand)
         ensures value { value_held self.new ≡ value }
@@ -83,7 +83,7 @@ impl Place {
         }
     }
 
-    /// The fiber is this one.
+    /// Makes this the fiber.
     #[inline(always)]
     pub(crate) fn put_fiber(&mut self, fiber: Handle)
         ensures fiber { handle_held self.new ≡ fiber }
@@ -101,7 +101,7 @@ impl Place {
         }
     }
 
-    /// The number of the value, which a closed term has.
+    /// The number of the value, for a closed term.
     #[inline(always)]
     pub(crate) fn number(&self) -> Value
         ensures { result ≡ number_of (value_in_core (value_held self.now)) }
@@ -109,7 +109,7 @@ impl Place {
         if self.open { Value::ZERO } else { self.number }
     }
 
-    /// The number of the fiber, which a closed term has.
+    /// The number of the fiber, for a closed term.
     #[inline(always)]
     pub(crate) fn fiber(&self) -> u16
         ensures { result ≡ handle_number (handle_of (handle_held self.now)) }
@@ -118,22 +118,22 @@ impl Place {
     }
 }
 
-/// How far a fiber is.
+/// How far a fiber has come.
 #[derive(Clone, Copy)]
 pub(crate) enum RunStage {
     /// At the program's term.
     Runs,
-    /// After a cut, in a finalizer, below the mask of this number.
+    /// After a cut, in a finalizer, in the mask of this number.
     Final(u64),
-    /// After a cut, below the mask of this number, with no finalizer left.
+    /// After a cut, in the mask of this number, with no finalizer left.
     Drained(u64),
-    /// Ended so.
+    /// Ended, with this outcome.
     Over(Outcome),
-    /// Broken: the memory for a move was refused.
+    /// Broken: memory for a move was refused.
     Broken,
 }
 
-/// What a row was to the runner of the fiber.
+/// What the runner of the fiber learns of a row.
 #[derive(Clone, Copy)]
 pub(crate) enum RowEnd {
     Plain,

@@ -1,15 +1,14 @@
 //! One fiber's own state, and its moves.
 //!
-//! A [`Config`] is one fiber. It says which shared call its next move wants ([`Config::ask`]) and
-//! makes the move under the reply ([`Config::resume`]), so whoever holds the shared state decides
-//! what is answered, and when. The crate stands on `derived_ops`. Its definitions are the focus path of
-//! a running term, the active masks and pending finalizers along it, the table of rows, and the move.
-//! Inside, a fiber has a place in a table of its code's words, a stack of frames and an environment,
-//! and never substitutes. The crate promises that asks and moves are those of the model, and that the
-//! marks of every fiber are lawful, whatever it is answered: no masked region is cut outside its own
-//! poll, and a fiber that has ended released each acquired bracket exactly once, innermost first.
+//! A [`Config`] is one fiber. The fiber says which shared call its next move wants ([`Config::ask`]) and makes the move
+//! under the reply ([`Config::resume`]), so the holder of the shared state decides the reply, and when the move
+//! happens. The crate uses `derived_ops`. Its definitions are the focus path of a running term, the active masks and
+//! pending finalizers along it, the table of rows, and the move. Inside, a fiber has a place in a table of its code's
+//! words, a stack of frames and an environment, and never substitutes. The crate promises that asks and moves are those
+//! of the model, and that the marks of every fiber are lawful under any replies: no masked region is cut outside its
+//! own poll, and a fiber that has ended released each acquired bracket exactly once, innermost first.
 //!
-//! A fiber is moved by hand so, where the code is that of `(seq (say 1) (pure 7))`:
+//! This moves a fiber by hand; its code is that of `(seq (say 1) (pure 7))`:
 //!
 //! ```
 //! let mut fiber = Config::new(alloc, &code)?;

@@ -1,14 +1,14 @@
 //! Which of its moves a fiber makes next.
 
-/// What the next move is.
+/// The kind of the next move.
 #[derive(Clone, Copy)]
 pub(crate) enum MoveCase {
-    /// No mask is active, and the fiber looks at the request.
+    /// A look at the request: no mask is active.
     Looks,
-    /// No mask is active, and the fiber observes the request that it saw.
+    /// A cut, after a look that saw the request: no mask is active.
     Cuts,
     /// The row of the leaf.
     Reduces,
-    /// None: the fiber has ended or is broken.
+    /// No move: the fiber has ended or is broken.
     Rests,
 }

@@ -8,15 +8,14 @@ ghost use Rattle.fiber_frames.specs.Frames.{handle_of, mask_of};
 use derived_ops::Operand;
 use effect_term::Value;
 
-/// A fiber, a ref or a deferred: its number, or the slot of its binder where nothing is bound there.
+/// A fiber, a ref or a deferred: its number, or the slot of its binder if nothing is bound there.
 #[derive(Clone, Copy)]
 pub(crate) enum Handle {
     Known(u16),
     Slot(u32),
 }
 
-/// A mask: the numbers of its fiber and of itself, or the slot of its poll's binder where nothing is
-/// bound there.
+/// A mask: the numbers of its fiber and of itself, or the slot of its poll's binder if nothing is bound there.
 #[derive(Clone, Copy)]
 pub(crate) enum Mask {
     Named(u32),
@@ -24,7 +23,7 @@ pub(crate) enum Mask {
 }
 
 impl Handle {
-    /// The number, which a closed term has.
+    /// The number, for a closed term.
     #[inline(always)]
     pub(crate) fn number(self) -> u16
         ensures { result ≡ handle_number (handle_of self) }
@@ -37,7 +36,7 @@ impl Handle {
 }
 
 impl Mask {
-    /// The mask's number, which a closed term has.
+    /// The mask's number, for a closed term.
     #[inline(always)]
     pub(crate) fn number(self) -> u64
         ensures { result ≡ mask_number (mask_of self) }
@@ -49,7 +48,7 @@ impl Mask {
     }
 }
 
-/// The number of a value, which a closed term has.
+/// The number of a value, for a closed term.
 #[inline(always)]
 pub(crate) fn number(value: Operand) -> Value
     ensures { result ≡ number_of (value_in_core value) }
@@ -60,7 +59,7 @@ pub(crate) fn number(value: Operand) -> Value
     }
 }
 
-/// The value is the number 0.
+/// Whether the value is the number 0.
 #[inline(always)]
 pub(crate) fn is_zero(value: Operand) -> bool
     ensures { result ≡ is_zero (value_in_core value) }

@@ -22,8 +22,8 @@ use effect_term::Outcome;
 use std::alloc::AllocError;
 
 impl Machine {
-    /// The fiber has ended so. The memory of its stacks is given back at once, so that fibers which begin later have
-    /// it; its marks stay.
+    /// Ends the fiber with this outcome. The memory of its stacks is freed at once, for fibers that begin later; its
+    /// marks stay.
     #[inline(never)]
     pub(crate) fn end(&mut self, outcome: Outcome)
         ensures { state_of self.new ≡ over (state_of self.old) outcome }
@@ -36,7 +36,7 @@ impl Machine {
         self.finalizers = Vec::new(alloc);
     }
 
-    // The result leaves the mask of this number, whose frame is taken off.
+    // The result leaves the mask of this number; its frame is removed.
     #[tactic(auto, using(crate::proofs::Reversing::reverse_push))]
     #[inline(never)]
     fn leave_mask(&mut self, number: u64) -> Result<(), AllocError>
@@ -48,7 +48,7 @@ impl Machine {
         self.note(Mark::Leave(number))
     }
 
-    // The result leaves the poll that undid the mask of this number, whose frame is taken off.
+    // The result leaves the poll that undid the mask of this number; its frame is removed.
     #[tactic(auto, using(crate::proofs::Reversing::reverse_push))]
     #[inline(never)]
     fn leave_poll(&mut self, number: u64) -> Result<(), AllocError>
@@ -60,7 +60,7 @@ impl Machine {
         self.note(Mark::PollOut(number))
     }
 
-    /// The value at the leaf goes on under this frame, which is taken off: at a word, which this gives, or where it is.
+    /// Gives the value at the leaf to this frame, which is removed. Returns the word that runs next, if there is one.
     #[inline(always)]
     pub(crate) fn give_under(&mut self, frame: Frame) -> Result<Option<(usize, usize)>, AllocError>
         requires value { self.old.place.kind ≡ kinds.Value }
@@ -74,7 +74,7 @@ impl Machine {
             Frame::Seq(_, next, level) => return Ok(Some((next, level))),
             Frame::Let(next, level) => {
                 let value = self.place.number();
-                // But for the first time, something is bound at the level.
+                // Except for the first time, something is bound at the level.
                 if level < self.env.len() {
                     rebind(&mut self.env, level, EnvEntry::Value(value));
                     return Ok(Some((next, level + 1)));
@@ -95,7 +95,7 @@ impl Machine {
         Ok(None)
     }
 
-    // The error at the leaf goes on under this frame, which is taken off.
+    // Gives the error at the leaf to this frame, which is removed.
     #[inline(always)]
     fn throw_under(&mut self, frame: Frame) -> Result<(), AllocError>
         requires error { self.old.place.kind ≡ kinds.Error }
@@ -113,7 +113,7 @@ impl Machine {
         }
     }
 
-    /// The row of a value at the leaf, below no frame.
+    /// The row of a value at the leaf, with no frame around it.
     #[inline(always)]
     pub(crate) fn value_at_root(&mut self) -> Result<RowEnd, AllocError>
         ensures state { OnOk result (state_of self.new ≡ value_at_root (state_of self.old) (value_held self.old.place)
@@ -131,7 +131,7 @@ impl Machine {
         Ok(RowEnd::Ended(Outcome::Succeeded(number)))
     }
 
-    // What the row of this result is to the runner.
+    // What the runner learns of the row of this result.
     #[tactic(auto, using(crate::proofs::Reversing::reverse_push))]
     #[inline(always)]
     fn result_row_end(&self, outcome: Outcome) -> RowEnd

@@ -1,4 +1,4 @@
-//! Whether two values are one, and numbers by which values are looked up.
+//! Whether two values are equal, and hashes by which values are looked up.
 
 ghost use Rattle.std.specs.Prelude.{◌≡◌, true};
 
@@ -10,20 +10,20 @@ use crate::operand::Mask;
 use derived_ops::{Action, BracketMark, CoreWord, Maker, Operand, Rest, Turns};
 use effect_term::{Outcome, Value};
 
-/// Values of which two can be told to be one.
+/// Values that can be compared.
 pub(crate) trait Same {
-    /// Whether the two are one.
+    /// Whether the two are equal.
     fn same(&self, other: &Self) -> bool
         ensures { result ≡ true → self.now ≡ other.now };
 }
 
-/// Values that can be mixed into a digest. Two that are the same are mixed in alike.
+/// Values that can be mixed into a digest. Equal values are mixed in alike.
 pub(crate) trait Digest {
-    /// A digest, and then this value in it.
+    /// A digest, extended by this value.
     fn mixed_into(&self, digest: u64) -> u64;
 }
 
-/// Whether two lists have the same items.
+/// Whether two lists have equal items.
 pub(crate) fn same_items<T: Same>(one: &[T], other: &[T]) -> bool
     ensures { result ≡ true → one.now ≡ other.now }
 {
@@ -38,7 +38,7 @@ pub(crate) fn same_items<T: Same>(one: &[T], other: &[T]) -> bool
     true
 }
 
-/// A digest, and then these items in it.
+/// A digest, extended by these items.
 pub(crate) fn mixed_items<T: Digest>(digest: u64, items: &[T]) -> u64 {
     let mut digest = mixed(digest, items.len() as u64);
     for item in items {
@@ -47,13 +47,14 @@ pub(crate) fn mixed_items<T: Digest>(digest: u64, items: &[T]) -> u64 {
     digest
 }
 
-/// A digest, and then this word in it: a step of FNV-1a over a word, whose high bits are brought down.
+/// A digest, extended by this word: a step of FNV-1a over a word, after which the high bits are mixed into the low
+/// ones.
 pub(crate) fn mixed(digest: u64, word: u64) -> u64 {
     let product = (digest ^ word).wrapping_mul(0x9e37_79b9_7f4a_7c15);
     product ^ (product >> 32)
 }
 
-// A digest, and then these in it: which variant a value is, and two places of it.
+// A digest, extended by the variant of a value and two of its places.
 fn mixed_places(digest: u64, variant: u64, one: usize, other: usize) -> u64 {
     mixed(mixed(mixed(digest, variant), one as u64), other as u64)
 }

@@ -1,6 +1,6 @@
-//! Which slots a word and its parts name, so that what is bound at others needn't be compared.
+//! Which slots a word and its parts name. Entries at other slots needn't be compared.
 //!
-//! A set of slots is a word of 64 bits. Slots from 64 on have no bit, and count as named everywhere.
+//! A set of slots is a word of 64 bits. Slots from 64 on have no bit, and every set has them.
 
 ghost use Rattle.std.specs.Prelude.{◌≡◌, ◌<◌, ◌≤◌, ◌^◌, ℕ, List, length, slice_index, true, IfOk, Some, None, Option};
 ghost use Rattle.std.specs.List.{slice_get};
@@ -24,7 +24,7 @@ fn of_slot(slot: u32) -> u64
     if slot < 64 { 1u64 << slot } else { 0 }
 }
 
-// The slots that a value is.
+// The slot of a value, if it is one.
 fn of_value(value: Operand) -> u64
     ensures { Needs result (λ (g : Env). close_value g (value_in_core value)) }
 {
@@ -68,7 +68,7 @@ fn of_word(word: &CoreWord) -> u64
     }
 }
 
-/// How many parts a word has.
+/// The number of parts of a word.
 pub(crate) fn parts_of(word: &CoreWord) -> u8
     ensures { result ≡ many_parts word.now }
 {
@@ -82,7 +82,7 @@ pub(crate) fn parts_of(word: &CoreWord) -> u8
     }
 }
 
-/// How far after its first part the second part of a word stands.
+/// The distance from the first part of a word to its second part.
 pub(crate) fn second(word: &CoreWord) -> u32
     ensures { result ≡ second_of word.now }
 {
@@ -98,7 +98,7 @@ pub(crate) fn second(word: &CoreWord) -> u32
     }
 }
 
-/// The same of its third part.
+/// The distance from the first part of a word to its third part.
 pub(crate) fn third(word: &CoreWord) -> u32
     ensures { result ≡ third_of word.now }
 {
@@ -108,7 +108,7 @@ pub(crate) fn third(word: &CoreWord) -> u32
     }
 }
 
-// The slots that the word at a place and its parts name, by those of the words behind it.
+// The slots that the word at a place and its parts name; `slots` has those of the words behind it.
 fn of_term(words: &[CoreWord], slots: &[u64], index: usize) -> u64
     requires index { index < length words.now }
     requires few { length words.now < 2 ^ 32 }
@@ -131,7 +131,7 @@ fn part_slots(slots: &[u64], has: bool, index: usize) -> u64
     if has { slots_at(slots, index) } else { 0 }
 }
 
-/// The slots of the word at a place. Past the end there are none.
+/// The slots of the word at a place, none past the end.
 pub(crate) fn slots_at(slots: &[u64], index: usize) -> u64
     ensures { result ≡ slice_index slots.now index }
 {
@@ -141,7 +141,7 @@ pub(crate) fn slots_at(slots: &[u64], index: usize) -> u64
     }
 }
 
-/// Those of these slots that are below a level.
+/// The slots of the set below a level.
 pub(crate) fn below(slots: u64, level: usize) -> u64
     ensures { (one other : List TheEntry) → AreSameAt result one other →
         Agree slots (env_of one level) (env_of other level) }
@@ -166,14 +166,14 @@ pub(crate) fn slots_of(alloc: Global, words: &[CoreWord]) -> Result<Vec<u64>, Al
     Ok(slots)
 }
 
-// Whether a slot is one of these.
+// Whether the set has a slot.
 fn has(slots: u64, slot: usize) -> bool
     ensures { Has slots slot → result ≡ true }
 {
     slot >= 64 || (slots >> slot) & 1 == 1
 }
 
-/// Whether the two hold the same at each of these slots.
+/// Whether the two environments have the same entry at each of these slots.
 pub(crate) fn same_at(slots: u64, one: &[EnvEntry], other: &[EnvEntry]) -> bool
     ensures { result ≡ true → AreSameAt slots one.now other.now }
 {
@@ -185,7 +185,7 @@ pub(crate) fn same_at(slots: u64, one: &[EnvEntry], other: &[EnvEntry]) -> bool
     true
 }
 
-// Whether both hold the same at a slot, or neither holds anything.
+// Whether both have the same entry at a slot, or neither has one.
 fn same_entry(one: &[EnvEntry], other: &[EnvEntry], slot: usize) -> bool
     ensures { result ≡ true → slice_get one.now slot ≡ slice_get other.now slot }
 {
@@ -196,7 +196,7 @@ fn same_entry(one: &[EnvEntry], other: &[EnvEntry], slot: usize) -> bool
     }
 }
 
-/// A digest, and then what these slots hold in it.
+/// A digest, extended by the entries at these slots.
 pub(crate) fn mixed_at(digest: u64, slots: u64, env: &[EnvEntry]) -> u64 {
     let mut digest = digest;
     for (slot, entry) in env.iter().enumerate() {

@@ -1,10 +1,10 @@
-//! Pushes that look for room first, so that one with room is short.
+//! Pushes that check for room first, so that the usual case is short.
 
 ghost use Rattle.std.specs.Prelude.{◌≡◌, ◌<◌, ◌++◌, ◌∷◌, [], vec_len, vec_capacity, OnOk, OnErr};
 
 use std::alloc::AllocError;
 
-/// Puts a value on a stack, or `AllocError` where memory is refused.
+/// Puts a value on a stack; `AllocError` if memory is refused.
 #[inline(always)]
 pub(crate) fn push<T: Drop>(stack: &mut Vec<T>, value: T) -> Result<(), AllocError>
     ensures items { OnOk result (stack.new.items ≡ stack.old.items ++ value ∷ []) }
@@ -15,7 +15,7 @@ pub(crate) fn push<T: Drop>(stack: &mut Vec<T>, value: T) -> Result<(), AllocErr
     Ok(())
 }
 
-/// Makes sure of room for one more value, or `AllocError` where memory is refused.
+/// Makes sure of room for one more value; `AllocError` if memory is refused.
 #[inline(always)]
 pub(crate) fn make_room<T: Drop>(stack: &mut Vec<T>) -> Result<(), AllocError>
     ensures items { stack.new.items ≡ stack.old.items }

@@ -1,4 +1,4 @@
-//! Whether what is left of a fiber uses a fiber, a ref or a deferred.
+//! Whether the rest of a fiber uses a fiber, a ref or a deferred.
 
 ghost use Rattle.std.specs.Prelude.{◌≡◌, ◌<◌, ◌^◌, ℕ, length, true, false};
 ghost use Rattle.derived_ops.specs.Cores.{action_in_core};
@@ -19,12 +19,12 @@ use crate::machine::Machine;
 use crate::slots::{parts_of, second};
 use derived_ops::{Action, CoreWord};
 
-/// What can be done with a fiber, a ref or a deferred.
+/// A way to use a fiber, a ref or a deferred.
 #[derive(Clone, Copy, PartialEq, Eq)]
 pub enum Use {
     /// The cancellation of a fiber is requested.
     Cancels,
-    /// The end of a fiber is waited for.
+    /// A fiber's end is waited for.
     Joins,
     /// The value of a ref is read.
     Gets,
@@ -32,11 +32,11 @@ pub enum Use {
     Stores,
     /// A deferred is completed.
     Completes,
-    /// The value of a deferred is waited for.
+    /// A deferred's value is waited for.
     Awaits,
 }
 
-/// A use that is looked for, and the number of what is used.
+/// A use that is looked for: the way, and the number that is used.
 #[derive(Clone, Copy)]
 pub(crate) struct Sought {
     pub what: Use,
@@ -64,7 +64,7 @@ fn slot_uses(what: Use, slot: u32, env: &[EnvEntry], level: usize, sought: Sough
     is_use(sought.what, what) && holds(env, level, slot, sought.number)
 }
 
-// Whether two uses are one.
+// Whether two ways of use are equal.
 fn is_use(one: Use, other: Use) -> bool
     ensures yes { result ≡ true → (x : ℕ) → of_use one other x ≡ x }
     ensures no { result ≡ false → (x : ℕ) → of_use one other x ≡ 0 }
@@ -77,7 +77,7 @@ fn is_use(one: Use, other: Use) -> bool
     }
 }
 
-// Whether an act uses the number so.
+// Whether an act uses the number in this way.
 fn action_uses(action: &Action, env: &[EnvEntry], level: usize, sought: Sought) -> bool
     ensures yes { result ≡ true → 0 < action_hits sought.what sought.number
         (close_action (env_of env.now level) (action_in_core action.now)) }
@@ -95,7 +95,7 @@ fn action_uses(action: &Action, env: &[EnvEntry], level: usize, sought: Sought) 
     }
 }
 
-// Whether a word itself uses the number so, without its parts.
+// Whether a word itself, without its parts, uses the number in this way.
 fn word_uses(word: &CoreWord, env: &[EnvEntry], level: usize, sought: Sought) -> bool
     ensures yes { result ≡ true → 0 < own_hits sought.what sought.number env.now level word.now }
     ensures no { result ≡ false → own_hits sought.what sought.number env.now level word.now ≡ 0 }
@@ -114,7 +114,7 @@ fn word_uses(word: &CoreWord, env: &[EnvEntry], level: usize, sought: Sought) ->
     }
 }
 
-// How far after its first part the last part of a word stands.
+// The distance from the first part of a word to its last part.
 fn last(word: &CoreWord) -> u32
     ensures { result ≡ last_of word.now }
 {
@@ -124,7 +124,7 @@ fn last(word: &CoreWord) -> u32
     }
 }
 
-/// Whether the term at a word uses the number so. Its last parts are gone through one by one.
+/// Whether the term at a word uses the number in this way. Its last parts are visited in a loop.
 pub(crate) fn term_uses(
     words: &[CoreWord],
     index: usize,
@@ -178,7 +178,7 @@ impl Place {
 }
 
 impl Machine {
-    /// Whether what is left of the fiber uses the number so.
+    /// Whether the rest of the fiber uses the number in this way.
     pub(crate) fn uses(&self, sought: Sought) -> bool
         ensures yes { result ≡ true → 0 < hits_in sought.what sought.number (fiber_in self.now).running }
         ensures no { result ≡ false → hits_in sought.what sought.number (fiber_in self.now).running ≡ 0 }
@@ -190,7 +190,7 @@ impl Machine {
         }
     }
 
-    // Whether the term of the fiber, or the finalizer that it is in, uses the number so.
+    // Whether the term of the fiber, or the finalizer that it runs, uses the number in this way.
     fn path_uses(&self, sought: Sought) -> bool
         ensures yes { result ≡ true → 0 < tree_hits sought.what sought.number
             (whole (steps_of (state_of self.now)) (leaf_tree (state_of self.now))) }
@@ -208,7 +208,7 @@ impl Machine {
         false
     }
 
-    // Whether a finalizer that waits uses the number so.
+    // Whether a waiting finalizer uses the number in this way.
     fn finalizers_use(&self, sought: Sought) -> bool
         ensures yes { result ≡ true → 0 < all_hits sought.what sought.number (finalizers_of (state_of self.now)) }
         ensures no { result ≡ false → all_hits sought.what sought.number (finalizers_of (state_of self.now)) ≡ 0 }
@@ -221,7 +221,7 @@ impl Machine {
         false
     }
 
-    // Whether the term at a word below a level uses the number so.
+    // Whether the term at a word below a level uses the number in this way.
     fn word_uses(&self, index: usize, level: usize, sought: Sought) -> bool
         ensures yes { result ≡ true → (m : ℕ) →
             0 < term_hits sought.what sought.number self.now.words.value self.now.env.items level index m }
@@ -231,7 +231,7 @@ impl Machine {
         self.words.uses(index, self.env.as_slice(), level, sought)
     }
 
-    // Whether the leaf uses the number so.
+    // Whether the leaf uses the number in this way.
     fn leaf_uses(&self, sought: Sought) -> bool
         ensures yes { result ≡ true → 0 < tree_hits sought.what sought.number
             (leaf_of self.now.words.value self.now.env.items (leaf_in self.now.place)) }
@@ -257,7 +257,7 @@ impl Machine {
         }
     }
 
-    // Whether what a frame goes on to uses the number so.
+    // Whether what a frame runs next uses the number in this way.
     fn frame_uses(&self, frame: Frame, sought: Sought) -> bool
         ensures yes { result ≡ true → 0 < step_hits sought.what sought.number
             (step_of self.now.words.value self.now.env.items self.now.own frame) }

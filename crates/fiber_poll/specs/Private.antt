@@ -1,3 +1,3 @@
--- What the contracts of private functions cite.
+-- Definitions that only contracts of private functions cite.
 pub mod Making
 pub mod Told

@@ -1,4 +1,4 @@
--- A move that starts a fiber, and one that isn't made.
+-- A move that starts a fiber, and a move that isn't made.
 use Rattle.std.specs.Prelude.{◌≡◌, ◌⊎◌, List, [], ◌∷◌, ◌++◌}
 use mathlib.Core.List.{IsPrefix}
 use Rattle.effect_term.specs.declared.reply.Reply.{Reply}
@@ -18,9 +18,9 @@ use Rattle.scheduled_core.specs.Core.{wish_of}
 use Rattle.scheduled_core.specs.Permits.{IsChange}
 use Rattle.fiber_poll.specs.Tasks.{TaskView}
 
--- The task c is that of the fiber that was started by the next move of the task old, which was answered r, and
--- which is new since. It is the child that the move gives, with the pass of that call, and may make the moves that
--- are then left. The call is the last that was seen, and the fiber's first since the task was old
+-- c is the task of the fiber that the next move of the task old started with the reply r; old became new. The fiber is
+-- the child of that move, has the pass of that call, and as many moves as are then left. The call is the last entry
+-- that c has seen, and the only call by the fiber of old since old
 pub record IsChild (old : TaskView) (r : Reply) (new c : TaskView) : Type 0 where
   pub number : r ≡ reply.Number c.pass.number
   pub wants : wish_of (ask_of old.state) ≡ Shared call.Start
@@ -33,9 +33,9 @@ pub record IsChild (old : TaskView) (r : Reply) (new c : TaskView) : Type 0 wher
   pub later : IsPrefix old.pass.seen before
   pub still : calls_by old.pass.number before ≡ calls_by old.pass.number old.pass.seen
 
--- Why the next move of the task old wasn't made. All numbers of the band that it wanted one of are given, and the
--- pass may have seen more. The count of the fiber's changes is used up. Or memory was refused: the fiber has lost
--- its term, and the registry may have answered the call that it asked
+-- Why the next move of the task old wasn't made. Either all numbers of the band that it needed are given, and the pass
+-- has possibly seen more. Or the limit of the fiber's changes is reached. Or memory was refused: the fiber has lost its
+-- term, and the registry has possibly made the call that it asked for
 abbrev pub Failed : TaskView → RunError → TaskView → Type 0
 Failed old (run.Full b n) new =
     (wish_of (ask_of old.state) ≡ Shared (claim_of b)) × (n ≡ limit_of b old.home.limits) ×

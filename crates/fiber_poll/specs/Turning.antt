@@ -13,8 +13,8 @@ use Rattle.fiber_poll.specs.Turns.{Yields, event_of}
 use Rattle.fiber_poll.specs.Tasks.{IsBroken, IsTask, IsTaskOf, TaskView, Went}
 use Rattle.fiber_poll.specs.Stepping.{Failed, IsChild}
 
--- the last of these moves, which had no event before it, started the fiber of the task c: the parent was so before
--- that move
+-- the last of these moves started the fiber of the task c, and the moves before it had no event; `parent` is the task
+-- before the last move
 pub record Starts (old : TaskView) (rs : List Reply) (new c : TaskView) : Type 0 where
   pub before : List Reply
   pub last : Reply
@@ -25,8 +25,8 @@ pub record Starts (old : TaskView) (rs : List Reply) (new c : TaskView) : Type 0
   pub event : event_of parent.state last ≡ Some Starts_child
   pub child : IsChild parent last new c
 
--- what an answer tells of the moves that the task old made, by a budget of so many: their last event, or that there
--- was none
+-- what the result of a turn says about the moves that the task old made, within a budget: their last event, or that
+-- they had none
 abbrev pub Answered : TaskView → List Reply → ℕ → TaskView → Turn → Type 0
 Answered old rs budget new (turn.Ended o) =
     (outcome_of new.state ≡ Some o) × ((rs ≡ []) ⊎ TellsLast old.state rs (Ends o))
@@ -38,15 +38,15 @@ Answered old rs budget new (turn.WakeTopic t) = TellsLast old.state rs (Wakes_to
 Answered old rs budget new turn.OutOfMoves =
     AreQuiet old.state rs × (length rs < budget) × (new.moves ≡ 0) × (outcome_of new.state ≡ None)
 
--- a turn of at most so many moves: these were made, with these replies, and the first event of them is the answer
+-- a turn within a budget: these moves were made, with these replies, and the result is their first event
 pub record Turned (old : TaskView) (budget : ℕ) (answer : Turn) (new : TaskView) : Type 0 where
   pub replies : List Reply
   pub went : Went old replies new
   pub most : length replies ≤ budget
   pub answered : Answered old replies budget new answer
 
--- a turn that met a fault: these moves were made, without an event, and the next one, which the task might still
--- make, wasn't; or the fiber is broken
+-- a turn that met a fault: these moves were made, without an event, and the next one wasn't, though the task had moves
+-- left or the fiber is broken
 pub record Stopped (old : TaskView) (budget : ℕ) (e : RunError) (new : TaskView) : Type 0 where
   pub replies : List Reply
   pub before : TaskView
@@ -62,8 +62,8 @@ abbrev pub ChildIsOf : RegistryView → Tree → ℕ → Turn → Type 0
 ChildIsOf r code most (turn.Started c) = IsTaskOf r code most c
 ChildIsOf r code most _ = Unit {0}
 
--- the task is still one of this registry and this code, within these moves, unless memory was refused, and so is the
--- one that it started
+-- the task still belongs to this registry and this code, with these moves, unless memory was refused; so does the task
+-- that it started
 abbrev pub StaysOf : RegistryView → Tree → ℕ → Result Turn RunError → TaskView → Type 0
 StaysOf r code most (Ok answer) new = IsTaskOf r code most new × ChildIsOf r code most answer
 StaysOf r code most (Err run.NoMemory) new = Unit {0}

@@ -1,4 +1,4 @@
--- Moves of a fiber under replies: the calls that they made, and what they are to whoever runs the fiber.
+-- Moves of a fiber under replies: the calls that they make, and their events.
 use Rattle.std.specs.Prelude.{◌≡◌, ℕ, ◌==◌, List, [], ◌∷◌, ◌++◌, true, Option, Some, None, cond}
 use Rattle.effect_term.specs.declared.reply.Outcome.{Outcome}
 use Rattle.effect_term.specs.declared.reply.Reply.{Reply}
@@ -17,18 +17,18 @@ use Rattle.scheduled_core.specs.Core.{wish_of}
 use Rattle.fiber_poll.specs.declared.topic.Topic.{Topic}
 use Rattle.fiber_poll.specs.declared.topic.Topic.TheVariants as topic
 
--- the state after moves that were answered so
+-- the state after moves with these replies
 abbrev pub moves : Fiber → List Reply → Fiber
 moves g [] = g
 moves g (r ∷ rs) = moves (move g r) rs
 
--- each move could be answered so
+-- each move can have its reply
 abbrev pub AreAnswers : Fiber → List Reply → Type 0
 AreAnswers g [] = Unit {0}
 AreAnswers g (r ∷ rs) = Answers g.number (ask_of g) r × AreAnswers (move g r) rs
 
 -- ---- the calls
--- the entry of a move that was answered so, if it wanted a shared call
+-- the entry of a move with this reply, if it wanted a shared call
 abbrev pub wished : ℕ → Wish → Reply → List Entry
 wished i (Shared c) r = entry i c r ∷ []
 wished i Alone r = []
@@ -43,7 +43,7 @@ calls_of g [] = []
 calls_of g (r ∷ rs) = call_of g r ++ calls_of (move g r) rs
 
 -- ---- the events
--- what a move is to whoever runs the fiber, beside that it was made
+-- what the runner of the fiber learns of a move, other than that it was made
 pub data Event : Type 0 where
   Ends : Outcome → Event
   Waits_for : Topic → Event
@@ -52,7 +52,7 @@ pub data Event : Type 0 where
   Wakes_fiber : ℕ → Event
   Wakes_topic : Topic → Event
 
--- what a move that asks so waits for, if it waits
+-- what a move with this ask waits for, if it waits
 abbrev pub awaited : Ask → Topic
 awaited (ask.Join f) = topic.Fiber f
 awaited (ask.Read d) = topic.Deferred d
@@ -73,7 +73,7 @@ awaited ask.Silent = topic.Never
 awaited (ask.Over o) = topic.Never
 awaited ask.Broken = topic.Never
 
--- whom a plain move of fiber i may wake: another fiber whose cancellation it was the first to request, or those
+-- what a plain move of fiber i can wake: another fiber whose cancellation it was the first to request, or the fibers
 -- that wait for the deferred that it completed
 abbrev pub woken : ℕ → Ask → Reply → Option Event
 woken i (ask.Cancel f) (reply.Cancel canceled.Asked) = cond (f == i) None (Some (Wakes_fiber f))
@@ -113,7 +113,7 @@ abbrev pub AreQuiet : Fiber → List Reply → Type 0
 AreQuiet g [] = Unit {0}
 AreQuiet g (r ∷ rs) = (event_of g r ≡ None) × AreQuiet (move g r) rs
 
--- moves without an event, and then a last one with this event
+-- moves without an event, and then a last move with this event
 pub record TellsLast (g : Fiber) (rs : List Reply) (e : Event) : Type 0 where
   pub before : List Reply
   pub last : Reply

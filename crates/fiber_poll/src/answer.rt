@@ -1,4 +1,4 @@
-//! The registry's answer to what a fiber asks.
+//! The registry's reply to what a fiber asks.
 ghost use Rattle.std.specs.Prelude.{◌≡◌, IfOk, IfErr};
 ghost use Rattle.cell_registry.specs.Passes.{IsOf, IsPass};
 ghost use Rattle.effect_term.specs.Outcomes.{OutcomeFits};
@@ -11,9 +11,8 @@ use cell_registry::{Call, CellError, Outcome, Pass, Registry, Reply};
 use effect_term::facts_of;
 use fiber_frames::Ask;
 
-/// The reply under which a fiber makes the move that asks so, and that starts nobody: the registry's,
-/// or `Done` where the move needs no shared call. Or the registry's refusal. That a value is in range is known of
-/// what is read of it.
+/// The reply to the move with this ask, which starts no fiber: the registry's, or `Done` if the move needs no shared
+/// call. Returns the registry's refusal if the call is refused. Values that are read are in range.
 #[inline(always)]
 pub(crate) fn answer(registry: &Registry, pass: &mut Pass, ask: &Ask) -> Result<Reply, CellError>
     requires own { IsOf registry.now pass.old }
@@ -65,7 +64,7 @@ pub(crate) fn answer(registry: &Registry, pass: &mut Pass, ask: &Ask) -> Result<
     }
 }
 
-// The end of the fiber, whose number is in range.
+// Ends the fiber. The number of its outcome is in range.
 fn finish(registry: &Registry, pass: &mut Pass, outcome: &Outcome) -> Result<Reply, CellError>
     requires own { IsOf registry.now pass.old }
     requires may { OutcomeFits outcome.now → MayMake pass.old (Call.Finish outcome.now) }

@@ -1,17 +1,16 @@
-//! Who is told of the calls that turns make.
+//! The log of the calls that turns make.
 
 use effect_term::Reply;
 use fiber_frames::Ask;
 
-/// Is told of the moves of turns, one after another. What it does with them is its own: no clause of a turn
-/// speaks of it.
+/// Receives the moves of turns, one after another. What a log does with them is not part of any contract of a turn.
 pub trait CallLog {
-    /// A move that asks so, and that starts nobody, is about to be made. What this answers, as a reading of a
-    /// clock, is handed to [`CallLog::made`] once its call is made.
+    /// A move with this ask, which starts no fiber, begins. The result, for example a reading of a clock, is passed to
+    /// [`CallLog::made`] after the call.
     fn before(&mut self, ask: &Ask) -> u64;
 
-    /// The call of a move of the fiber of this number has been answered so. The fiber might make `left` moves
-    /// before it. A call that was refused isn't told.
+    /// The call of a move of the fiber `by` was made with this reply. The fiber had `left` moves left before it. A
+    /// refused call isn't reported.
     fn made(&mut self, by: u16, left: u32, ask: &Ask, reply: &Reply, before: u64);
 }
 

@@ -12,15 +12,13 @@ use futures::Future;
 use futures::task::{Context, Poll};
 use std::mem::drop;
 
-/// A fiber as a future, for code that starts nobody.
-///
-/// It gives how the fiber has ended, or none where the fiber may make no more moves, or the fault that
-/// a turn met.
+/// A fiber as a future, for code that starts no fiber. Its result is the outcome of the fiber, or `None` if the fiber
+/// has no moves left, or the fault of a turn.
 #[derive(Drop)]
 pub struct FiberFuture<'a> {
     /// The fiber.
     pub task: FiberTask<'a>,
-    /// The most moves of a poll, at least 2.
+    /// The greatest number of moves of a poll, at least 2.
     pub budget: u32,
     ghost enough: { 1 < budget },
 }
@@ -30,9 +28,9 @@ impl Future for FiberFuture<'_> {
 
     ghost gives = { λ f r. Comes f.task r };
 
-    /// Makes one turn. It is ready where the turn tells that the fiber has ended or may make no more
-    /// moves, and at a fault; otherwise it has yielded. A poll of a future that was ready makes a turn
-    /// again, and so gives the same where the fiber has ended or may make no more moves.
+    /// Makes one turn. The future is ready if the fiber has ended or has no moves left, and at a fault; otherwise it
+    /// has yielded. A poll after the future was ready makes another turn, with the same result if the fiber has ended
+    /// or has no moves left.
     fn poll(&mut self, cx: &mut Context<'_>) -> Poll<Result<Option<Outcome>, RunError>>
         ensures turn { Polled self.old.task self.old.budget result self.new.task }
         ensures budget { self.new.budget ≡ self.old.budget }

@@ -1,14 +1,13 @@
-//! A fiber that anybody can move: its state with its pass at a registry, and turns of moves.
+//! Tasks: a fiber's state with its pass at a registry, and turns of moves.
 //!
-//! A [`FiberTask`] is one fiber of a registry that many threads may share. A turn makes its moves, one
-//! after another, each under the registry's reply, until whoever runs the fiber is to be told
-//! something: that it ended, waits, yields, started another, or may have woken one. The crate stands
-//! on `fiber_frames` (a fiber's moves), `cell_registry` (the shared calls), `scheduled_core` (which
-//! call an ask wants, and the core) and `futures`. It promises that the calls which a fiber's pass
-//! makes in a turn are those of its moves, in order and with their replies, that a turn tells the
-//! first event of them, that a child begins as the model's child, and that the marks of every task are
-//! lawful at any moment. Turns start no thread and wait for nobody. A [`FiberFuture`] is a task as a
-//! future, and [`alone`] runs a program that starts nobody by itself, as the core does.
+//! A [`FiberTask`] is one fiber of a registry that many threads can share. A turn makes its moves, one after another,
+//! each under the registry's reply, up to the first event: the fiber ended, waits, yields, started another fiber, or
+//! possibly woke one. The crate uses `fiber_frames` (a fiber's moves), `cell_registry` (the shared calls),
+//! `scheduled_core` (the call that an ask wants, and the core) and `futures`. The crate promises that the calls which a
+//! fiber's pass makes in a turn are those of its moves, in order and with their replies, that a turn returns their
+//! first event, that a child begins as the model's child, and that the marks of every task are lawful at any moment.
+//! Turns start no thread and wait for none. A [`FiberFuture`] is a task as a future, and [`alone`] runs a program that
+//! starts no fiber, as the core does.
 #![tactic(auto)]
 
 mod answer;

@@ -1,4 +1,4 @@
-//! What one move of a turn was, as the loop over moves sees it.
+//! The kind of one move of a turn, as the loop over moves sees it.
 ghost use Rattle.std.specs.Prelude.{◌≡◌, ◌≢◌, ℕ, if◌then◌else◌};
 ghost use Rattle.fiber_poll.specs.Turns.{awaited, woken};
 ghost use Rattle.fiber_poll.specs.Private.Told.{Follows, IsLast, Tells, event_at, event_in, event_told};
@@ -8,15 +8,15 @@ use crate::turn::Turn;
 use effect_term::{CancelReply, Reply};
 use fiber_frames::{Ask, Moved};
 
-/// What a move that starts nobody was. With the ask that it answered it says what is to be told; it has
-/// no fields, so that a move answers it in a register.
+/// The kind of a move that starts no fiber. The kind and the move's ask determine the event. A `MoveEnd` has no fields,
+/// so that it is returned in a register.
 #[derive(Clone, Copy)]
 pub(crate) enum MoveEnd {
-    /// Nothing is to be told.
+    /// The move has no event.
     Plain,
-    /// Somebody may have been woken.
+    /// The move possibly woke fibers.
     Woke,
-    /// The move waited, and comes again.
+    /// The move waited. The next move is the same one.
     Waited,
     /// The fiber yielded.
     Ceded,
@@ -24,7 +24,7 @@ pub(crate) enum MoveEnd {
     Ended,
 }
 
-/// What a move was that asked so. Where it was plain, it woke somebody or not, as `woke` says.
+/// The kind of a move with this ask. `woke` is whether a plain move woke fibers.
 #[inline(always)]
 pub(crate) fn move_end_of(ask: &Ask, woke: bool, moved: &Moved) -> MoveEnd
     requires follows { Follows ask.now moved.now }
@@ -43,8 +43,7 @@ pub(crate) fn move_end_of(ask: &Ask, woke: bool, moved: &Moved) -> MoveEnd
     }
 }
 
-/// Whether a plain move of the fiber of this number, which asked so and was answered so, may have woken
-/// somebody.
+/// Whether a plain move of the fiber of this number, with this ask and this reply, possibly woke fibers.
 #[inline(always)]
 pub(crate) fn wakes(number: u16, ask: &Ask, reply: &Reply) -> bool
     ensures event { event_at ask.now (if result then MoveEnd.Woke else MoveEnd.Plain) ≡ woken number ask.now reply.now }
@@ -65,7 +64,7 @@ pub(crate) fn wakes(number: u16, ask: &Ask, reply: &Reply) -> bool
     }
 }
 
-/// What a turn answers after a move that is to be told.
+/// The result of a turn whose last move is of this kind.
 pub(crate) fn told<'a>(ask: Ask, end: MoveEnd) -> Turn<'a>
     requires tells { Tells ask end }
     requires told { end ≢ MoveEnd.Plain }
@@ -81,7 +80,7 @@ pub(crate) fn told<'a>(ask: Ask, end: MoveEnd) -> Turn<'a>
     }
 }
 
-// Whom a move may have woken.
+// The result of a move that possibly woke fibers.
 fn wakened<'a>(ask: Ask) -> Turn<'a>
     requires { Tells ask MoveEnd.Woke }
     ensures event { event_told result ≡ event_at ask MoveEnd.Woke }
@@ -94,7 +93,7 @@ fn wakened<'a>(ask: Ask) -> Turn<'a>
     }
 }
 
-// How a fiber has ended by its last move.
+// The result of a fiber's last move.
 fn ended<'a>(ask: Ask) -> Turn<'a>
     requires { Tells ask MoveEnd.Ended }
     ensures event { event_told result ≡ event_at ask MoveEnd.Ended }
@@ -106,7 +105,7 @@ fn ended<'a>(ask: Ask) -> Turn<'a>
     }
 }
 
-// What a move waits for.
+// The topic that a move waits for.
 fn topic_of(ask: Ask) -> Topic
     ensures { result ≡ awaited ask }
 {

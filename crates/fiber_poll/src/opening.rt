@@ -10,9 +10,8 @@ use derived_ops::Code;
 use fiber_frames::Config;
 use std::alloc::{AllocError, Global};
 
-/// Fiber 0 of a code, before its first move, at a registry in which no call was made yet: the pass is
-/// the one that the registry was made with. It may make so many moves. `AllocError` where memory is
-/// refused.
+/// Fiber 0 of a code, before its first move, at a registry in which no call was made yet. The pass is the one that the
+/// registry was made with. The task has `moves` moves. Returns `AllocError` if memory is refused.
 pub fn first<'a>(
     alloc: Global,
     registry: &'a Registry,

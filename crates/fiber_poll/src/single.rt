@@ -1,4 +1,4 @@
-//! A program that starts nobody, run by itself.
+//! Runs a program that starts no fiber.
 ghost use Rattle.std.specs.Prelude.{◌≡◌, ◌⊎◌, false, replicate, Err as Fails};
 ghost use Rattle.cell_registry.specs.Passes.{first_pass};
 ghost use Rattle.derived_ops.specs.Expansion.{code_of};
@@ -18,21 +18,21 @@ use std::alloc::AllocGlobal;
 use std::random::RandomSource;
 use std::sync::Wait;
 
-// The most fibers, refs and deferreds that a registry is for.
+// The numbers of fibers, refs and deferreds of the registry.
 const NUMBERS: u16 = 1000;
 
-// The most changes of its cell that a fiber may make.
+// The greatest number of changes that a fiber can make to its cell.
 const COUNT: u64 = 1_099_511_627_775;
 
-// The moves that a poll makes at most.
+// The greatest number of moves of a poll.
 const BUDGET: u32 = 64;
 
-/// Runs a program in which no word starts a fiber ([`Program::starts`]) for at most so many moves, at
-/// a registry of the greatest limits.
+/// Runs a program in which no word starts a fiber ([`Program::starts`]) for at most `moves` moves, at a registry of the
+/// greatest limits.
 ///
-/// The answer is how the core's fiber 0 has ended after as many entries of 0, or none where it hasn't,
-/// or the fault of the core. Beside these it is [`RunError::NoMemory`] where memory is refused, and
-/// [`RunError::NoWorker`] where the thread can't wait for the fiber's future.
+/// Returns the outcome of the core's fiber 0 after as many entries of 0, or `None` if it hasn't ended, or the fault of
+/// the core. Other than these, it returns [`RunError::NoMemory`] if memory is refused, and [`RunError::NoWorker`] if
+/// the thread can't wait for the fiber's future.
 pub fn alone<R: Wait + RandomSource + AllocGlobal>(
     rt: &R,
     program: Program,
@@ -48,7 +48,7 @@ pub fn alone<R: Wait + RandomSource + AllocGlobal>(
     run_first(rt, &registry, pass, &code, moves)
 }
 
-// Runs fiber 0 of a code for at most so many moves, at a registry in which no call was made yet.
+// Runs fiber 0 of a code for at most `moves` moves, at a registry in which no call was made yet.
 fn run_first<R: Wait + RandomSource + AllocGlobal>(
     rt: &R,
     registry: &Registry,

@@ -1,4 +1,4 @@
-//! A fiber that anybody can move.
+//! A fiber that any thread can move.
 ghost use Rattle.std.specs.Prelude.{ℕ, ◌≡◌, ◌≢◌, ◌<◌, [], true, IfOk, IfErr, Ok as GoesWell, Err as Fails};
 ghost use Rattle.cell_registry.specs.Passes.{IsOf, RegistryView};
 ghost use Rattle.derived_ops.specs.Tree.{Tree};
@@ -20,12 +20,10 @@ use fiber_frames::{Ask, Config, Mark, Moved};
 use scheduled_core::{fault, outcome};
 use std::marker::Model;
 
-/// A fiber that anybody can move: its pass at a registry, its own state, and the moves that it may
-/// still make.
+/// A fiber that any thread can move: its pass at a registry, its own state, and the number of moves left.
 ///
-/// Whoever holds the task alone makes its moves, on any thread, and many tasks of one registry can be
-/// moved at once. Unless memory was refused in a move, what the pass knows of the fiber and the
-/// fiber's state fit together.
+/// The owner of the task makes its moves, on any thread, and many tasks of one registry can be moved at once. Unless
+/// memory was refused in a move, the fiber's state agrees with what the pass knows of it.
 #[derive(Drop)]
 pub struct FiberTask<'a> {
     registry: &'a Registry,
@@ -54,8 +52,7 @@ impl<'a> Model for FiberTask<'a> {
 impl<'a> FiberTask<'a> {
     ghost use Rattle.fiber_poll.specs.Tasks.{IsTask, IsTaskOf};
 
-    /// A task of this fiber, which may make so many moves. Its pass is one of the registry, and fits
-    /// its state.
+    /// A task of this fiber with `moves` moves. Its pass belongs to the registry, and agrees with its state.
     pub fn new(registry: &'a Registry, pass: Pass, config: Config, moves: u32) -> FiberTask<'a>
         requires own { IsOf registry.now pass }
         requires fits { Fits (pass_registered pass) config }
@@ -80,9 +77,9 @@ impl<'a> FiberTask<'a> {
 
     /// The marks so far.
     ///
-    /// At most one of them is a cut, and no masked region is cut outside its own poll. Each bracket
-    /// that has acquired releases at most once, the innermost first, and exactly once where the fiber
-    /// has ended; it has ended canceled exactly where it was cut.
+    /// At most one of them is a cut, and no masked region is cut outside its own poll. Each bracket that has acquired
+    /// releases at most once, the innermost first, and exactly once if the fiber has ended. Its outcome is canceled
+    /// exactly if it was cut.
     pub fn trace(&self) -> &[Mark]
         ensures marks { result.now ≡ self.now.state.marks }
         ensures lawful { AreLawful self.now.state.marks (outcome_of self.now.state) }
@@ -90,22 +87,22 @@ impl<'a> FiberTask<'a> {
         self.config.trace()
     }
 
-    /// How the fiber has ended, or none where it hasn't.
+    /// The outcome of the fiber, if it has ended.
     pub fn outcome(&self) -> Option<Outcome>
         ensures { result ≡ outcome_of self.now.state }
     {
         outcome(&self.config)
     }
 
-    /// How many moves the task may still make.
+    /// The number of moves left.
     pub fn moves(&self) -> u32
         ensures { result ≡ self.now.moves }
     {
         self.moves
     }
 
-    /// Whether a mask is active, so that the fiber doesn't look for a request before its next move. One that has run
-    /// all its finalizers may answer `false`.
+    /// Whether a mask is active, so that the fiber doesn't look for a request before its next move. A fiber that has
+    /// run all its finalizers can return `false`.
     pub fn is_masked(&self) -> bool
         ensures { result ≡ true → active_of self.now.state ≢ [] }
     {
@@ -121,23 +118,21 @@ impl<'a> FiberTask<'a> {
         (self.pass, self.config)
     }
 
-    /// Makes moves, one after another, at most `budget` of them, until there is something to tell.
+    /// Makes moves, one after another, at most `budget` of them, up to the first event.
     ///
-    /// It stops before a move where the task has no moves left ([`Turn::OutOfMoves`]), and after a move
-    /// that ended the fiber, waited, yielded, started a fiber, was the first to request the
-    /// cancellation of another one, or completed a deferred. It also yields once `budget` moves are
-    /// made. Each move takes one from those that the task may make, and a started fiber begins with
-    /// those that are left then. A fiber that has ended answers its outcome again, without a move. The
-    /// budget is at least 2.
+    /// The turn stops before a move if the task has no moves left ([`Turn::OutOfMoves`]), and after a move that ended
+    /// the fiber, waited, yielded, started a fiber, was the first to request the cancellation of another fiber, or
+    /// completed a deferred. The turn also yields after `budget` moves. Each move takes one of the task's moves, and a
+    /// started fiber begins with as many as are then left. A fiber that has ended returns its outcome again, without a
+    /// move. The budget is at least 2.
     ///
-    /// Where the registry refuses the next move's call, the answer is [`RunError::Full`] or
-    /// [`RunError::Spent`], and the task is as it was before that move, but that its pass may have seen
-    /// more. Where memory is refused, the answer is [`RunError::NoMemory`], now and in each later turn:
-    /// the fiber has lost its term, and has the marks of the moves that were made; the registry may
-    /// have taken the call of the move that wasn't.
+    /// If the registry refuses the next move's call, returns [`RunError::Full`] or [`RunError::Spent`]; the task is as
+    /// it was before that move, except that its pass has possibly seen more. If memory is refused, returns
+    /// [`RunError::NoMemory`], now and in each later turn: the fiber has lost its term, and has the marks of the moves
+    /// that were made; the registry has possibly made the call of the move that wasn't.
     ///
-    /// Unless memory was refused, a task of one registry and one code stays one, and so is the task of
-    /// a fiber that it starts.
+    /// Unless memory was refused, a task of one registry and one code stays one, and so is the task of a fiber that it
+    /// starts.
     pub fn turn(&mut self, budget: u32) -> Result<Turn<'a>, RunError>
         requires budget { 1 < budget }
         ensures turned { IfOk result (λ answer. Turned self.old budget answer self.new) }
@@ -152,8 +147,8 @@ impl<'a> FiberTask<'a> {
         self.turn_noted(budget, &mut NoLog)
     }
 
-    /// Makes a turn as [`FiberTask::turn`] does, and tells this log of the calls of its moves. What the log
-    /// does changes nothing of the turn.
+    /// Makes a turn as [`FiberTask::turn`] does, and reports the calls of its moves to this log. The log has no
+    /// influence on the turn.
     pub fn turn_noted<L: CallLog>(&mut self, budget: u32, log: &mut L) -> Result<Turn<'a>, RunError>
         requires budget { 1 < budget }
         ensures turned { IfOk result (λ answer. Turned self.old budget answer self.new) }
@@ -172,8 +167,8 @@ impl<'a> FiberTask<'a> {
         }
     }
 
-    // The moves of a fiber that goes on. A move without a shared call, and a look, are most of them. They
-    // stand apart, since what is known of the ask saves the tests of its reply.
+    // The moves of a fiber that goes on. Most of them are moves without a shared call, and looks. These have branches
+    // of their own, where the kind of the reply is known and needn't be tested.
     #[inline(always)]
     fn go<L: CallLog>(&mut self, budget: u32, log: &mut L) -> Result<Turn<'a>, RunError>
         requires going { IsGoing (way_of self.old.state.running) }
@@ -203,7 +198,7 @@ impl<'a> FiberTask<'a> {
         Ok(Turn::Cedes)
     }
 
-    // A move that asks so, and that starts nobody.
+    // Makes a move with this ask, which starts no fiber.
     #[inline(always)]
     fn step<L: CallLog>(&mut self, ask: &Ask, log: &mut L) -> Result<MoveEnd, RunError>
         requires ask { ask.now ≡ ask_of self.old.state }
@@ -223,7 +218,7 @@ impl<'a> FiberTask<'a> {
         };
         log.made(number, self.moves, ask, &reply, before);
         let woke = wakes(number, ask, &reply);
-        // The result is large, since a child stands in it: it is looked at where it is.
+        // The result is large, since it can hold a child. So the match borrows it in its place.
         let resumed = self.config.resume(reply);
         match &resumed {
             Ok(moved) => {
@@ -234,7 +229,7 @@ impl<'a> FiberTask<'a> {
         }
     }
 
-    // A move that starts a fiber, whose task it gives.
+    // Makes a move that starts a fiber. Returns the fiber's task.
     fn start<L: CallLog>(&mut self, log: &mut L) -> Result<FiberTask<'a>, RunError>
         requires wish { ask_of self.old.state ≡ Ask.Start }
         requires left { 0 < self.old.moves }

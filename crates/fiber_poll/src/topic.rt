@@ -7,6 +7,6 @@ pub enum Topic {
     Fiber(u16),
     /// The completion of the deferred of this number.
     Deferred(u16),
-    /// Nothing that could come: the fiber goes on only where its cancellation is requested.
+    /// Nothing that can come: the fiber goes on only if its cancellation is requested.
     Never,
 }

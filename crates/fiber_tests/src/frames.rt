@@ -1,4 +1,4 @@
-//! Fibers that are alone, answered as their registry would. Asks and marks are worked from the rules.
+//! Single fibers, with the replies that their registry would give. Asks and marks are worked out from the rules.
 
 ghost use Rattle.std.specs.Prelude.{◌≡◌, ◌<◌, ◌≤◌, ◌+◌, ◌^◌, IfOk, IfSome};
 ghost use Rattle.fiber_frames.specs.Answers.{Answers};
@@ -23,8 +23,8 @@ const fn succeeded(number: i32) -> Outcome {
     Outcome::Succeeded(Value::from_i32(number))
 }
 
-// What a registry answers to a fiber that was asked to cancel or not. A started fiber has the next
-// number, and has succeeded with 3; refs hold 5 and deferreds 7. Nothing where the fiber is over.
+// The reply of a registry to a fiber with or without a request. A started fiber has the next number, and has succeeded
+// with 3; refs hold 5 and deferreds 7. `None` if the fiber is over.
 fn reply(fiber: u16, ask: &Ask, requested: bool) -> Option<Reply>
     ensures { IfSome result (λ it. Answers fiber ask.now it) }
 {
@@ -46,8 +46,8 @@ fn reply(fiber: u16, ask: &Ask, requested: bool) -> Option<Reply>
     }
 }
 
-// The asks of a fiber until it is over, its marks, how its last move told that it ended, and the
-// child that it started last.
+// The asks of a fiber until it is over, its marks, the outcome that its last move returned, and the child that it
+// started last.
 #[derive(Drop)]
 struct Run {
     asks: Vec<Ask>,
@@ -56,7 +56,7 @@ struct Run {
     child: Option<Config>,
 }
 
-// Makes a move. Gives how it ended the fiber, if it did, and the child that it started, if it did.
+// Makes a move. Returns the outcome of the fiber, if the move ended it, and the child, if the move started one.
 fn stepped(
     config: &mut Config,
     reply: Reply,
@@ -105,7 +105,7 @@ fn run_to_end(alloc: Global, config: Config) -> Result<Run, Fail>
     })
 }
 
-// The fiber of a text's program before its first move; nothing where memory ran out or the text is no program.
+// The fiber of a text's program before its first move; `None` if memory ran out or the text isn't a program.
 fn begun(alloc: Global, program: &[u8]) -> Option<Config>
     ensures { IfSome result (λ config. config.next ≡ 0) }
 {
@@ -137,7 +137,7 @@ fn has_run(run: &Run, marks: &[Mark], ended: Option<Outcome>) -> bool {
     run.marks.as_slice() == marks && run.ended == ended
 }
 
-// Whether the fiber of the text's program makes these marks and ends so.
+// Whether the fiber of the text's program makes these marks and has this outcome.
 fn is_run(
     alloc: Global,
     program: &[u8],
@@ -148,13 +148,13 @@ fn is_run(
     Ok(has_run(&run, marks, ended))
 }
 
-// Whether it asks so until it is over.
+// Whether these are its asks until it is over.
 fn are_asks(alloc: Global, program: &[u8], asks: &[Ask]) -> Result<bool, Fail> {
     let run = run_alone(alloc, program)?;
     Ok(run.asks.as_slice() == asks)
 }
 
-// Whether these asks are the others, but for looks and silent ones.
+// Whether the asks without looks and silent ones are the others.
 fn are_shared(asks: &[Ask], shared: &[Ask]) -> bool {
     let mut left = shared.iter();
     for ask in asks {
@@ -319,7 +319,7 @@ fn loops_take_their_turns(rt: HostRuntime) -> Result<(), Fail> {
     Ok(())
 }
 
-// A parent whose child says what it took from it, in a poll.
+// A parent whose child says what it got from the parent, in a poll.
 const PARENT: &[u8] =
     b"(let x (pure 9) (uncancelable p (start f (poll p (say x)) (join f y (say y) e (pure 0) (pure 0)))))";
 
@@ -368,8 +368,8 @@ fn cells_are_asked_for_by_their_numbers(rt: HostRuntime) -> Result<(), Fail> {
     Ok(())
 }
 
-// Makes a move of a fiber that notes these marks and succeeds with 0. Where the fiber was over
-// already, or breaks, tells whether it is so with the marks that it had.
+// Makes a move of a fiber that notes these marks and succeeds with 0. If the fiber was over already, or breaks, the
+// error is whether it has the marks that it should have.
 fn moved(config: &mut Config, marks: &[Mark]) -> Result<(), bool>
     requires { config.old.next < 2 ^ 63 }
     ensures { IfOk result (λ _. config.new.next ≤ config.old.next + 1) }
@@ -390,7 +390,7 @@ fn moved(config: &mut Config, marks: &[Mark]) -> Result<(), bool>
     }
 }
 
-// Holds whichever allocation is refused: the fiber then is broken, and its marks are as they were.
+// Holds with every allocation refused in turn: the fiber then is broken, and its marks are as they were.
 #[test]
 fn a_move_is_made_or_the_fiber_breaks(rt: HostRuntime) {
     let Some(mut config) = begun(rt.alloc(), b"(uncancelable p (say 1))") else {
@@ -409,7 +409,7 @@ fn are_one(one: &Config, other: &Config) -> bool {
     one.same(other) && other.same(one)
 }
 
-// Makes a move of a fiber, if it isn't over. Whether a copy was one with it before, and isn't since.
+// Makes a move of a fiber, if it isn't over. Whether a copy was equal to it before, and isn't after.
 fn leaves_its_copy(alloc: Global, config: &mut Config) -> Result<bool, AllocError>
     requires { config.old.next < 2 ^ 63 }
     ensures { IfOk result (λ _. config.new.next ≤ config.old.next + 1) }
@@ -424,12 +424,12 @@ fn leaves_its_copy(alloc: Global, config: &mut Config) -> Result<bool, AllocErro
     Ok(is_one && !are_one(config, &copy))
 }
 
-// A program of which no move leads to where its fiber was: with a child, cells, masks, handlers and loops.
+// A program in which every move changes the fiber: with a child, cells, masks, handlers and loops.
 const EACH_MOVE: &[u8] =
     b"(ref r 2 (let x (get r) (uncancelable p (start f (say x) (seq (poll p (oncancel (say 1) (say 2))) \
       (handle (raise 3) e (say e)) (repeat 2 (cede)) (join f y (say y) e (pure 0) (pure 0)))))))";
 
-// Holds whichever allocation is refused.
+// Holds with every allocation refused in turn.
 #[test]
 fn copies_are_one_with_their_fiber_until_it_moves(rt: HostRuntime) {
     let Some(mut config) = begun(rt.alloc(), EACH_MOVE) else {
@@ -452,7 +452,7 @@ fn fibers_of_two_programs_are_two(rt: HostRuntime) {
     assert!(rt; are_one(&one, &one) && !are_one(&one, &other));
 }
 
-// The fiber of a text's program after some moves, 99 at most, of which each look sees no request.
+// The fiber of a text's program after at most 99 moves, in which each look sees no request.
 fn moved_on(alloc: Global, program: &[u8], moves: u32) -> Result<Config, Fail> {
     let Some(begun) = begun(alloc, program) else {
         return Err(Fail::new("no fiber began"));
@@ -468,9 +468,9 @@ fn moved_on(alloc: Global, program: &[u8], moves: u32) -> Result<Config, Fail> {
     Ok(config)
 }
 
-// How many moves a fiber has made, a number, and which uses of it are left, in the order of `USES`. Its moves are a
-// look and the start of fiber 1; a look, a mask, the request, the wait for the end, and the end of the mask; a look, and
-// on to the `never`.
+// The number of moves that a fiber has made, a number, and which uses of that number are left, in the order of `USES`.
+// Its moves are a look and the start of fiber 1; a look, a mask, the request, the wait for the end, and the end of the
+// mask; a look, and the way to the `never`.
 const LEFT: &[(u32, u16, [bool; 6])] = &[
     (0, 1, [false, false, false, false, false, false]),
     (2, 1, [true, true, false, false, false, false]),
@@ -522,7 +522,7 @@ fn a_use_of_each_kind_is_told(rt: HostRuntime) -> Result<(), Fail> {
 #[test]
 fn a_never_waits_alone(rt: HostRuntime) -> Result<(), Fail> {
     let program = b"(seq (pure 1) (never))";
-    // A look, and on to the `never`.
+    // A look, and the way to the `never`.
     let before = moved_on(rt.alloc(), program.as_slice(), 1)?;
     assert!(rt; !before.waits_alone());
     let there = moved_on(rt.alloc(), program.as_slice(), 2)?;

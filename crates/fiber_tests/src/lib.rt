@@ -1,8 +1,8 @@
-//! Tests of the public calls of `fiber_frames` and `outcome_trace`, with answers worked by hand.
+//! Tests of the public calls of `fiber_frames` and `outcome_trace`. The expected answers are worked out by hand.
 //!
-//! Both crates promise what their calls answer, so these tests show what no proof does: that the
-//! calls succeed where memory is ample, and how texts look. The crate has nothing but its tests. They
-//! stand apart from the libraries so that a library is proved without them.
+//! The contracts of both crates pin the results of their calls. These tests show what no proof does: that the calls
+//! succeed with ample memory, and what texts look like. The crate has only tests, so that the libraries are proved
+//! without them.
 #![tactic(auto)]
 
 #[cfg(test)]

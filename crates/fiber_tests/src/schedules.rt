@@ -1,4 +1,4 @@
-//! Programs under schedules, with reports worked by hand.
+//! Programs under schedules. Their reports are worked out by hand.
 ghost use Rattle.std.specs.Prelude.{◌<◌};
 ghost use Rattle.cell_registry.specs.Cells.{AreLimits};
 
@@ -78,7 +78,7 @@ const RUNS: &[Row] = &[
     // A value is the outcome after its end.
     (VALUE, "0*2", 10, Ok("fiber 0 succeeded 7\n")),
     (VALUE, "0*1", 10, Ok("fiber 0 unended\n")),
-    // A masked request is respected at the end.
+    // A masked request has its effect at the end of the mask.
     (
         MASKED_REQUEST,
         "0*7",
@@ -98,14 +98,14 @@ const RUNS: &[Row] = &[
         10,
         Ok("fiber 0 canceled: enter 0, say 1, in 0, cut\n"),
     ),
-    // Entries of unborn fibers change nothing.
+    // Entries of fibers that weren't started change nothing.
     (
         b"(say 1)",
         "5 0 1 0 999 0 0",
         10,
         Ok("fiber 0 succeeded 0: say 1\n"),
     ),
-    // A used up count ends the run.
+    // A call past the limit of changes ends the run.
     (MASKED_REQUEST, "0*7", 1, Err(RunError::Spent(0))),
     (MASKED_REQUEST, "0*7", 2, Err(RunError::Spent(0))),
     (MASKED_REQUEST, "0*7", 3, Err(RunError::Spent(0))),
@@ -121,7 +121,7 @@ fn runs_give_their_report_or_their_fault(rt: HostRuntime) -> Result<(), Fail> {
     Ok(())
 }
 
-// The fibers of a program after a schedule, entered here.
+// The fibers of a program after the entries of a schedule.
 fn fibers_after(
     alloc: Global,
     program: &Program,
@@ -141,7 +141,7 @@ fn fibers_after(
     Ok(fibers)
 }
 
-// Whether a program comes to the same report under two schedules. Each is that of its replay.
+// Whether a program has the same report under two schedules. Each report is also that of its replay.
 fn is_one_report(alloc: Global, program: &Program, one: &str, other: &str) -> Result<bool, Fail> {
     let one = read_schedule(alloc, one)?;
     let other = read_schedule(alloc, other)?;
@@ -161,18 +161,18 @@ fn is_one_report(alloc: Global, program: &Program, one: &str, other: &str) -> Re
     }
 }
 
-// A program, two schedules, and whether they lead to one report.
+// A program, two schedules, and whether they lead to the same report.
 const REPORTS: &[(&[u8], &str, &str, bool)] = &[
-    // A look tells nothing.
+    // A look isn't in the report.
     (b"(say 1)", "", "0", true),
-    // A mark does, and so does an end.
+    // A mark is, and so is an end.
     (b"(say 1)", "0", "0*2", false),
     (b"(say 1)", "0*2", "0*3", true),
     (b"(say 1)", "0*3", "0*4", false),
     (b"(say 1)", "0*4", "0*5", true),
-    // A fiber that is born is told.
+    // A started fiber is in the report.
     (b"(start f (pure 1) (pure 2))", "0", "0*2", false),
-    // Which of two moves comes first isn't.
+    // The order of two moves isn't.
     (b"(start f (say 1) (say 2))", "0*4 1*2", "0*2 1*2 0*2", true),
     (b"(start f (say 1) (say 2))", "0*4 1*2", "0*2 1*3 0", false),
 ];

@@ -14,7 +14,7 @@ use std::io::{ErrorKind, Read, Write};
 use std::test::Fail;
 use term_parse::ParseError;
 
-// Gives one byte for a read, and fails or is interrupted at one read.
+// A reader that gives one byte for each read, and fails or is interrupted at one read.
 #[derive(Drop)]
 struct Drops<'a> {
     left: &'a [u8],
@@ -41,7 +41,7 @@ impl Read for Drops<'_> {
     }
 }
 
-// Is interrupted at each read.
+// A reader that is interrupted at each read.
 #[derive(Drop)]
 struct Restless;
 
@@ -51,7 +51,7 @@ impl Read for Restless {
     }
 }
 
-// Takes one byte for a write, and then fails, or takes nothing.
+// A writer that takes one byte for each write, and then fails, or takes nothing.
 #[derive(Drop)]
 struct Narrow {
     taken: Vec<u8>,
@@ -81,7 +81,7 @@ impl Write for Narrow {
     }
 }
 
-// What is read of a text in drops, one read of which stops so.
+// What is read of a text byte by byte, if one read stops in this way.
 fn read_in_drops(
     alloc: Global,
     text: &[u8],
@@ -127,7 +127,7 @@ fn length_read(alloc: Global, text: &[u8], stops_at: u64) -> Result<usize, TextF
     Ok(read_in_drops(alloc, text, stops_at, ErrorKind::Interrupted)?.len())
 }
 
-// How long a text is, which read of it is interrupted, and how much of it is read.
+// The length of a text, the read that is interrupted, and how much of the text is read.
 const LENGTHS: &[(usize, u64, Result<usize, TextFault>)] = &[
     (TEXT_BOUND - 1, 0, Ok(TEXT_BOUND - 1)),
     (TEXT_BOUND, 0, Ok(TEXT_BOUND)),
@@ -151,7 +151,7 @@ fn bounds_its_turns(rt: HostRuntime) -> Result<(), Fail> {
     Ok(())
 }
 
-// Whether what went to it, of a text that was written to it so, is as much as it has room for.
+// Whether the writer has as much of the text as it has room for.
 fn has_its_part(narrow: &Narrow, text: &[u8], written: Result<(), TextFault>) -> bool {
     let taken = narrow.taken.as_slice();
     if narrow.room < text.len() {
@@ -190,7 +190,7 @@ fn count_of_entries(alloc: Global, text: &str) -> Result<usize, ScheduleError> {
     Ok(read_schedule(alloc, text)?.len())
 }
 
-// Schedules, and how many entries each has.
+// Schedules, and the number of entries of each.
 const SCHEDULES: &[(&str, usize)] = &[
     ("", 0),
     ("0*7", 7),
@@ -202,7 +202,7 @@ const SCHEDULES: &[(&str, usize)] = &[
     ),
 ];
 
-// Texts that are no schedules, and the place of the first bad item of each.
+// Texts that aren't schedules, and the place of the first bad item of each.
 const BAD_SCHEDULES: &[(&str, usize)] = &[
     (" ", 0),
     ("0 x", 2),
@@ -240,7 +240,7 @@ fn reads_schedules(rt: HostRuntime) -> Result<(), Fail> {
     Ok(())
 }
 
-// Whether the text of these entries is this one, and is read back as them.
+// Whether the text of these entries is this one, and spells them.
 fn is_spelled(alloc: Global, entries: &[u16], text: &str) -> Result<bool, Fail> {
     if entries.len() > MOST_ENTRIES || !entries.iter().all(|fiber| *fiber < 1000) {
         return Ok(false);
@@ -305,7 +305,7 @@ fn push_fibers(fibers: &mut Vec<FiberReport>, alloc: Global) -> Result<(), Alloc
     Ok(())
 }
 
-// A fiber that made each kind of mark, and fibers with none that ended in each way.
+// A fiber that made each kind of mark, and fibers without marks, one with each outcome.
 fn some_report(alloc: Global) -> Result<Report, AllocError> {
     let mut fibers = Vec::new(alloc);
     push_fibers(&mut fibers, alloc)?;
@@ -328,7 +328,7 @@ fn is_printed(alloc: Global, report: &Report) -> Result<bool, TextFault> {
     Ok(out.as_slice() == REPORT.as_bytes())
 }
 
-// Whether as much of the report's text goes out as there is room for.
+// Whether as much of the report's text is written as there is room for.
 fn is_printed_in(alloc: Global, report: &Report, room: usize) -> bool {
     let mut narrow = Narrow {
         taken: Vec::new(alloc),
@@ -349,7 +349,7 @@ fn prints_reports(rt: HostRuntime) -> Result<(), Fail> {
     Ok(())
 }
 
-// Counts what it takes, and needs no memory.
+// A writer that counts bytes, and needs no memory.
 #[derive(Drop)]
 struct Counts {
     taken: usize,
@@ -366,7 +366,7 @@ impl Write for Counts {
     }
 }
 
-// How the printing of the report went, and how many bytes went out.
+// The result of printing the report, and the number of bytes written.
 fn print_and_count(alloc: Global) -> Result<(Result<(), TextFault>, usize), AllocError> {
     let report = some_report(alloc)?;
     let mut counts = Counts { taken: 0 };
@@ -374,7 +374,7 @@ fn print_and_count(alloc: Global) -> Result<(Result<(), TextFault>, usize), Allo
     Ok((printed, counts.taken))
 }
 
-// Holds whichever request for memory is refused: then nothing goes out.
+// Holds with every request for memory refused in turn: then nothing is written.
 #[test]
 fn a_report_is_printed_or_memory_ran_out(rt: HostRuntime) {
     match print_and_count(rt.alloc()) {
@@ -384,7 +384,7 @@ fn a_report_is_printed_or_memory_ran_out(rt: HostRuntime) {
     }
 }
 
-// Holds whichever request for memory is refused.
+// Holds with every request for memory refused in turn.
 #[test]
 fn a_line_is_told_or_memory_ran_out(rt: HostRuntime) {
     let refused = Refused::Run(RunError::Full(Band::Deferreds, 1000));
@@ -396,7 +396,7 @@ fn a_line_is_told_or_memory_ran_out(rt: HostRuntime) {
     }
 }
 
-// A text, what `show` answers to it, and the status.
+// A text, the answer of `show` to it, and the status.
 const SHOWN: [(&str, &str, Status); 2] = [
     (
         "(guarantee (say 1) (say 2))",
@@ -429,7 +429,7 @@ fn shows_the_code_of_a_program(rt: HostRuntime) {
     }
 }
 
-// Holds whichever request for memory is refused: then nothing goes out.
+// Holds with every request for memory refused in turn: then nothing is written.
 #[test]
 fn a_code_is_shown_or_memory_ran_out(rt: HostRuntime) {
     for (text, want, status) in SHOWN {

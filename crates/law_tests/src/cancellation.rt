@@ -117,7 +117,7 @@ fn laws_of_cancellation_hold(rt: HostRuntime) -> Result<(), Fail> {
     Ok(())
 }
 
-// Terms that differ, so that the tests show something.
+// Terms that aren't equal, so that the tests can fail.
 const OTHERWISE: &[Law<'static>] = &[
     Law {
         law: "a mask is seen by whoever cancels",

@@ -1,4 +1,4 @@
-//! The laws of what `GenConcurrent` makes: refs and deferreds.
+//! The laws of refs and deferreds, which `GenConcurrent` makes.
 
 use crate::sides::{BY_ITSELF, EVERYWHERE, Law, UNCANCELED, holds};
 use std::test::Fail;

@@ -1,5 +1,5 @@
-//! Programs in which this profile answers otherwise than the library's own fibers, or could be thought to: the ways in
-//! which fiber 0 ends, under every schedule.
+//! Programs that end otherwise here than on the library's own fibers, or could be thought to: the outcomes of fiber 0
+//! under every schedule.
 
 use crate::sides::{explored, first};
 use effect_term::Outcome;
@@ -7,7 +7,7 @@ use every_schedule::Exploration;
 use outcome_trace::FiberReport;
 use std::test::Fail;
 
-// How fiber 0 ends.
+// The outcome of fiber 0.
 #[derive(Clone, Copy, PartialEq, Eq, Debug)]
 enum End {
     Succeeded(i64),
@@ -16,7 +16,7 @@ enum End {
     Unended,
 }
 
-// A program, and all ways in which its fiber 0 can end.
+// A program, and all possible outcomes of its fiber 0.
 struct Difference<'a> {
     rule: &'a str,
     program: &'a str,
@@ -100,7 +100,7 @@ const DIFFERENCES: &[Difference<'static>] = &[
     },
 ];
 
-// How a fiber ended.
+// The outcome of a fiber.
 fn end_of(fiber: &FiberReport) -> End {
     match fiber.outcome {
         Some(Outcome::Succeeded(value)) => End::Succeeded(value.get()),
@@ -110,7 +110,7 @@ fn end_of(fiber: &FiberReport) -> End {
     }
 }
 
-// Whether each answer of an exploration ends in one of these ways.
+// Whether each answer of an exploration has one of these outcomes.
 fn ends_so(exploration: &Exploration, ends: &[End]) -> bool {
     for answer in exploration.answers.as_slice() {
         match first(answer) {
@@ -121,7 +121,7 @@ fn ends_so(exploration: &Exploration, ends: &[End]) -> bool {
     true
 }
 
-// Whether an answer of an exploration ends so.
+// Whether an answer of an exploration has this outcome.
 fn comes(exploration: &Exploration, end: End) -> bool {
     for answer in exploration.answers.as_slice() {
         if let Some(fiber) = first(answer) {

@@ -1,9 +1,9 @@
-//! The laws of the library over every schedule: of each law that the language can say, instances whose two sides are
-//! explored and have the same outcomes.
+//! The laws of the library over every schedule: for each law that the language can express, instances whose two sides
+//! are explored and have the same outcomes.
 //!
 //! No theorem says that two programs are equal. These tests show it of small ones, each over all of its schedules,
-//! since `every_schedule` promises that it has missed none. Which law is said how, and which can't be said, stands in
-//! `docs/LAWS.md`. The crate has nothing but its tests.
+//! since `every_schedule` promises that it misses none. `docs/LAWS.md` lists how each law is expressed, and the laws
+//! that can't be. The crate has only tests.
 #![tactic(auto)]
 
 #[cfg(test)]

@@ -1,4 +1,4 @@
-//! The laws of `Monad` and `MonadError`, which `MonadCancel` has too, and of `forceR`.
+//! The laws of `Monad` and `MonadError`, which `MonadCancel` inherits, and of `forceR`.
 
 use crate::sides::{EVERYWHERE, Law, holds};
 use std::test::Fail;

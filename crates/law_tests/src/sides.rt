@@ -1,4 +1,4 @@
-//! Two terms that come to the same wherever they stand.
+//! Two terms with the same ends in each program around them.
 
 ghost use Rattle.cell_registry.specs.Cells.{AreLimits};
 
@@ -14,28 +14,28 @@ pub struct Law<'a> {
     pub law: &'a str,
     pub left: &'a str,
     pub right: &'a str,
-    /// Programs, each with `@` where the terms are put.
+    /// Programs, each with `@` in the place of the term.
     pub within: &'a [&'a str],
 }
 
-/// The term is fiber 0's.
+/// The term is run by fiber 0.
 pub const ALONE: &str = "(ref r 0 @)";
 
-/// The term is that of a fiber which is joined: fiber 0 tells how it ended, and what it made of the ref.
+/// The term is run by a fiber that is joined: fiber 0 reports its outcome, and the value that it left in the ref.
 pub const JOINED: &str =
     "(ref r 0 (start f @ (seq (join f x (say x) e (seq (say -1) (say e)) (say -2)) (get r))))";
 
-/// The fiber is canceled besides, at any moment.
+/// The fiber is also canceled, at any moment.
 pub const CANCELED: &str = "(ref r 0 (start f @ \
     (seq (cancel f) (join f x (say x) e (seq (say -1) (say e)) (say -2)) (get r))))";
 
-/// Laws that hold whoever cancels.
+/// Programs for laws that hold whoever cancels.
 pub const EVERYWHERE: &[&str] = &[ALONE, JOINED, CANCELED];
 
-/// Laws of terms that nobody else cancels.
+/// Programs for laws of terms that no other fiber cancels.
 pub const UNCANCELED: &[&str] = &[ALONE, JOINED];
 
-/// Laws of terms that start several fibers, by themselves.
+/// The program for laws of terms that start several fibers.
 pub const BY_ITSELF: &[&str] = &[ALONE];
 
 // Limits that small programs keep.
@@ -50,7 +50,7 @@ fn limits() -> Limits
     }
 }
 
-/// The program in which the term stands, explored.
+/// The exploration of the program with this term.
 pub fn explored(alloc: Global, within: &str, term: &str) -> Result<Exploration, Fail> {
     let Some((before, behind)) = within.split_once("@") else {
         return Err(Fail::new("there is no place for the term"));
@@ -83,14 +83,14 @@ fn said(alloc: Global, marks: &[Mark]) -> Result<Vec<Value>, AllocError> {
     Ok(said)
 }
 
-// Whether two fibers ended alike, and said the same.
+// Whether two fibers have the same outcome, and said the same.
 fn are_alike(alloc: Global, one: &FiberReport, other: &FiberReport) -> Result<bool, AllocError> {
     let left = said(alloc, one.marks.as_slice())?;
     let right = said(alloc, other.marks.as_slice())?;
     Ok(one.outcome == other.outcome && left.as_slice() == right.as_slice())
 }
 
-/// What fiber 0 came to.
+/// The report of fiber 0.
 pub fn first(answer: &Answer) -> Option<&FiberReport> {
     match &answer.end {
         Ok(report) => report.fibers.as_slice().first(),
@@ -98,7 +98,7 @@ pub fn first(answer: &Answer) -> Option<&FiberReport> {
     }
 }
 
-// Whether fiber 0 comes to the same in one of these.
+// Whether fiber 0 has the same end in one of these.
 fn is_among(alloc: Global, one: &Answer, others: &[Answer]) -> Result<bool, AllocError> {
     let Some(fiber) = first(one) else {
         return Ok(false);
@@ -113,7 +113,7 @@ fn is_among(alloc: Global, one: &Answer, others: &[Answer]) -> Result<bool, Allo
     Ok(false)
 }
 
-// Whether each of these is among the others.
+// Whether each of these ends is among the others.
 fn are_among(alloc: Global, ones: &[Answer], others: &[Answer]) -> Result<bool, AllocError> {
     for one in ones {
         if !is_among(alloc, one, others)? {
@@ -123,8 +123,8 @@ fn are_among(alloc: Global, ones: &[Answer], others: &[Answer]) -> Result<bool, 
     Ok(true)
 }
 
-/// Whether the two sides of a law come to the same in this program, under every schedule: fiber 0 ends in the same
-/// ways, and says the same.
+/// Whether the two sides of a law have the same ends in this program, under every schedule: fiber 0 has the same
+/// outcomes, and says the same.
 pub fn holds(alloc: Global, law: &Law<'_>, within: &str) -> Result<bool, Fail> {
     let left = explored(alloc, within, law.left)?;
     let right = explored(alloc, within, law.right)?;

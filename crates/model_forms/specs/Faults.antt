@@ -1,4 +1,4 @@
--- The first fault of a text's brackets and strings. Before it stands what could still begin a row.
+-- The first fault of a text's brackets and strings. The tokens before it can begin a row.
 use Rattle.std.specs.Prelude.{◌≡◌, ℕ, List, [], ◌∷◌, ◌++◌, length}
 use Rattle.model_forms.specs.Lexemes.{opens, closes, unclosed, Placed, lexemes_at}
 use Rattle.model_forms.specs.Rows.{Row, tokens_of}
@@ -10,30 +10,30 @@ pub record Opening : Type 0 where
   pub before : Row
   pub place : ℕ
 
--- the tokens up to these open brackets, of which the innermost stands first
+-- the tokens up to these open brackets, the innermost of which is the first in the list
 abbrev pub tokens_up_to : List ℕ → List Opening → List Placed
 tokens_up_to text [] = []
 tokens_up_to text (o ∷ os) =
     tokens_up_to text os ++ (tokens_of text o.before ++ (record { lexeme = opens; place = o.place } ∷ []))
 
--- these brackets are open, the row stands inside the innermost, and these tokens follow
+-- these brackets are open, the row is inside the innermost, and these tokens follow
 abbrev pub AreOpen : List ℕ → List Opening → Row → List Placed → Type 0
 AreOpen text os row rest = lexemes_at 0 text ≡ (tokens_up_to text os ++ tokens_of text row) ++ rest
 
--- where every bracket is closed, another closing one comes
+-- every bracket is closed, and another closing one comes
 pub record IsUnopened (text : List ℕ) (place : ℕ) : Type 0 where
   pub row : Row
   pub rest : List Placed
   pub balanced : AreOpen text [] row (record { lexeme = closes; place = place } ∷ rest)
 
--- a quote with no other on its line comes
+-- a quote comes that has no other on its line
 pub record IsUnclosedText (text : List ℕ) (place : ℕ) : Type 0 where
   pub open_ones : List Opening
   pub row : Row
   pub rest : List Placed
   pub open_so : AreOpen text open_ones row (record { lexeme = unclosed; place = place } ∷ rest)
 
--- the text is over where this number of brackets is open, the innermost of them at this place
+-- the text ends with this number of open brackets, the innermost of them at this place
 pub record IsUnclosed (text : List ℕ) (count place : ℕ) : Type 0 where
   pub innermost : Opening
   pub around : List Opening

@@ -4,7 +4,7 @@ use Rattle.std.specs.Prelude.{if◌then◌else◌}
 use Rattle.model_forms.specs.declared.token.Class.{Class}
 use Rattle.model_forms.specs.declared.token.Class.TheVariants.{Space, Comment, Open, Close, Quote, Plain}
 
--- a token: a bracket, a word, what stands between two quotes of one line, or a quote with no other on its line
+-- a token: a bracket, a word, the bytes between two quotes of one line, or a quote with no other on its line
 pub data Lexeme : Type 0 where
   opens : Lexeme
   closes : Lexeme
@@ -17,7 +17,7 @@ pub record Placed : Type 0 where
   pub lexeme : Lexeme
   pub place : ℕ
 
--- where a byte stands: between tokens, or inside one or inside a comment
+-- the place of a byte: between tokens, or inside a word, a string or a comment
 pub data Within : Type 0 where
   between : Within
   in_word : Within
@@ -34,7 +34,7 @@ class_of b =
     else if b == 34 then Quote
     else Plain
 
--- a word goes on with these bytes
+-- these bytes continue a word
 abbrev pub is_plain : Class → Bool
 is_plain Plain = true
 is_plain Space = false
@@ -47,7 +47,7 @@ is_plain Quote = false
 abbrev pub ends_string : ℕ → Bool
 ends_string b = (b == 34) || (b == 10)
 
--- the bytes up to the first that a word doesn't go on with
+-- the bytes up to the first that doesn't continue a word
 abbrev pub word_of : List ℕ → List ℕ
 word_of [] = []
 word_of (b ∷ bs) = if is_plain (class_of b) then b ∷ word_of bs else []
@@ -56,7 +56,7 @@ abbrev pub before_all : ℕ → Option (List ℕ) → Option (List ℕ)
 before_all b None = None
 before_all b (Some bs) = Some (b ∷ bs)
 
--- the bytes up to the next quote, if one stands on this line
+-- the bytes up to the next quote, if there is one on this line
 abbrev pub string_of : List ℕ → Option (List ℕ)
 string_of [] = None
 string_of (b ∷ bs) = if b == 34 then Some [] else if b == 10 then None else before_all b (string_of bs)
@@ -65,7 +65,7 @@ abbrev pub string_lexeme : Option (List ℕ) → Lexeme
 string_lexeme (Some bs) = quoted bs
 string_lexeme None = unclosed
 
--- the token that begins with a byte of this class, if one does, before these bytes
+-- the token that begins with a byte of this class, if one does; these bytes follow it
 abbrev pub token_of : Class → ℕ → ℕ → List ℕ → List Placed
 token_of Space at b bs = []
 token_of Comment at b bs = []
@@ -81,7 +81,7 @@ begun in_word at b bs = if is_plain (class_of b) then [] else token_of (class_of
 begun in_string at b bs = []
 begun in_comment at b bs = []
 
--- where the next byte stands, behind one of this class
+-- the place of the byte behind one of this class
 abbrev pub behind : Class → Within
 behind Space = between
 behind Comment = in_comment
@@ -96,7 +96,7 @@ after in_word b = behind (class_of b)
 after in_string b = if ends_string b then between else in_string
 after in_comment b = if b == 10 then between else in_comment
 
--- the tokens that begin in these bytes, of which the first has this place and stands there
+-- the tokens that begin in these bytes, given the place of the first byte and what it is within
 unfoldable pub lexemes : Within → ℕ → List ℕ → List Placed
 lexemes w at [] = []
 lexemes w at (b ∷ bs) = begun w at b bs ++ lexemes (after w b) (suc at) bs

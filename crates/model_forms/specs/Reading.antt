@@ -1,4 +1,4 @@
--- What the reader has of a text whose lists aren't all closed yet.
+-- What the reader has read of a text, with lists that are still open.
 use Rattle.std.specs.Prelude.{◌≡◌, ◌+◌, ℕ, List, [], ◌∷◌, ◌++◌, length, Bool, true, false, Option, Some, None}
 use Rattle.model_forms.specs.Lexemes.{lexemes_at}
 use Rattle.model_forms.specs.Rows.{Row, nothing, a_word, a_text, a_list, tokens_of, flat}
@@ -13,24 +13,24 @@ use Rattle.model_forms.specs.declared.reader.Read.{Read}
 abbrev pub list_opening : ℕ → Form
 list_opening place = record { kind = kinds.List; start = place; end = 0; inside = 0 }
 
--- one row behind another
+-- one row, followed by another
 abbrev pub joined : Row → Row → Row
 joined nothing r = r
 joined (a_word start end q) r = a_word start end (joined q r)
 joined (a_text start end q) r = a_text start end (joined q r)
 joined (a_list opening inner closing q) r = a_list opening inner closing (joined q r)
 
--- the forms up to these open lists, of which the innermost stands first
+-- the forms up to these open lists, the innermost of which is the first
 abbrev pub flat_up_to : List Opening → List Form
 flat_up_to [] = []
 flat_up_to (o ∷ os) = flat_up_to os ++ (flat o.before ++ (list_opening o.place ∷ []))
 
--- where these open lists stand among the forms
+-- the places of these open lists among the forms
 abbrev pub places_of : List Opening → List ℕ
 places_of [] = []
 places_of (o ∷ os) = places_of os ++ (length (flat_up_to os ++ flat o.before) ∷ [])
 
--- these lists are open, and the row stands inside the innermost
+-- these lists are open, and the row is inside the innermost
 pub record Shaped (read : Read) (os : List Opening) (row : Row) : Type 0 where
   pub forms : read.forms.items ≡ flat_up_to os ++ flat row
   pub open_ones : read.open_lists.items ≡ places_of os
@@ -54,7 +54,7 @@ Closed [] row end closed read = closed ≡ false
 Closed (o ∷ os) row end closed read = (closed ≡ true) ×
     ((closing : ℕ) → end ≡ closing + 1 → Shaped read os (joined o.before (a_list o.place row closing nothing)))
 
--- the fault of a text that is over where these lists are open
+-- the fault of a text that ends with these lists open
 abbrev pub fault_at_end : List Opening → Option FormFault
 fault_at_end [] = None
 fault_at_end (o ∷ os) = Some (faults.Unclosed (length (o ∷ os)) o.place)

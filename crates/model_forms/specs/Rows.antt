@@ -1,12 +1,12 @@
--- The forms of a text, one behind another and inside one another, and the tokens that spell them.
+-- The forms of a text, side by side and nested, and the tokens that spell them.
 use Rattle.std.specs.Prelude.{◌≡◌, ◌+◌, ◌-◌, ℕ, List, [], ◌∷◌, ◌++◌, length, slice_range, Option, Some, None}
 use Rattle.model_forms.specs.declared.block.Block.{Block}
 use Rattle.model_forms.specs.Lexemes.{opens, closes, word, quoted, Placed, lexemes_at}
 use Rattle.model_forms.specs.declared.form.Form.{Form}
 use Rattle.model_forms.specs.declared.form.FormKind.TheVariants as kinds
 
--- A row of forms. A word and a quoted text stand between two places. Of a list the places of both brackets are given,
--- and the row between them.
+-- A row of forms. A word and a quoted text are between two places. A list has the places of both brackets, and the row
+-- between them.
 pub data Row : Type 0 where
   nothing : Row
   a_word : ℕ → ℕ → Row → Row
@@ -23,7 +23,7 @@ tokens_of text (a_list opening inner closing r) =
     record { lexeme = opens; place = opening } ∷ (tokens_of text inner ++
     (record { lexeme = closes; place = closing } ∷ tokens_of text r))
 
--- a row as the list that the code keeps: a list's forms follow it, and it knows their number
+-- a row as the list that the code keeps: the forms inside a list follow it, and it has their number
 abbrev pub flat : Row → List Form
 flat nothing = []
 flat (a_word start end r) = record { kind = kinds.Word; start = start; end = end; inside = 0 } ∷ flat r
@@ -65,7 +65,7 @@ first_of (a_list opening inner closing r) = Some (record {
 abbrev pub IsBlock : List Form → Block → Row → Type 0
 IsBlock forms block row = slice_range forms block.first block.end ≡ flat row
 
--- the text is spelled by this row: its tokens are those of the row, no more and no fewer
+-- the row spells the text: its tokens are exactly those of the text
 abbrev pub Spells : List ℕ → Row → Type 0
 Spells text row = lexemes_at 0 text ≡ tokens_of text row
 

@@ -1,11 +1,11 @@
--- What a token of the code stands for.
+-- The meaning of the code's tokens.
 use Rattle.std.specs.Prelude.{◌≡◌, ◌≢◌, ◌≤◌, ◌<◌, ◌+◌, ◌-◌, ℕ, List, ◌∷◌, length, slice_range, slice_index, drop, Some, None}
 use Rattle.model_forms.specs.Lexemes.{Lexeme, opens, closes, word, quoted, unclosed, in_string, string_of, lexemes, lexemes_at}
 use Rattle.model_forms.specs.declared.token.Token.{Token}
 use Rattle.model_forms.specs.declared.token.TokenKind.{TokenKind}
 use Rattle.model_forms.specs.declared.token.TokenKind.TheVariants as tokens
 
--- the token that has this kind and stands between these places
+-- the token of this kind between these places
 abbrev pub seen : List ℕ → TokenKind → ℕ → ℕ → Lexeme
 seen text tokens.Open start end = opens
 seen text tokens.Close start end = closes
@@ -21,7 +21,7 @@ EndsBehind tokens.Word start end = Unit {0}
 EndsBehind tokens.Text start end = Unit {0}
 EndsBehind tokens.Unclosed start end = Unit {0}
 
--- the next token from this place on, and where the tokens go on
+-- the next token from this place on, and where the tokens after it begin
 pub record IsNext (text : List ℕ) (at : ℕ) (t : Token) : Type 0 where
   pub tokens : lexemes_at at text ≡ record { lexeme = seen text t.kind t.start t.end; place = t.start } ∷ lexemes_at t.end text
   pub within : t.end ≤ length text
@@ -29,7 +29,7 @@ pub record IsNext (text : List ℕ) (at : ℕ) (t : Token) : Type 0 where
   pub some : t.start < t.end
   pub bracket : EndsBehind t.kind t.start t.end
 
--- a string that goes on at one place ends at the other
+-- a string that continues at one place ends at the other
 pub record EndsString (text : List ℕ) (from end : ℕ) : Type 0 where
   pub low : from ≤ end
   pub high : end ≤ length text

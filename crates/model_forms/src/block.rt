@@ -8,9 +8,9 @@ use crate::form::Form;
 /// Some of a text's forms: those from one place in the list of all forms up to another.
 #[derive(Clone, Copy, PartialEq, Eq, Debug)]
 pub struct Block {
-    /// The place of the first one.
+    /// The place of its first form.
     pub first: usize,
-    /// The place behind the last one, and behind what stands inside it.
+    /// The place behind its last form and all forms inside that.
     pub end: usize,
 }
 
@@ -37,7 +37,7 @@ pub fn first_form(forms: &[Form], block: Block) -> Option<Form>
     }
 }
 
-/// The forms inside the first form of a block: none where it has no form, or where the first is a word or a text.
+/// The forms inside the first form of a block: none if the block is empty, or if that form is a word or a text.
 pub fn inside_first(forms: &[Form], block: Block) -> Block
     ensures { (row : Row) → IsBlock forms.now block row → IsBlock forms.now result (inside_of row) }
 {
@@ -56,7 +56,7 @@ pub fn inside_first(forms: &[Form], block: Block) -> Block
     }
 }
 
-/// The forms of a block behind its first one, and behind what stands inside that.
+/// The forms of a block behind its first form and all forms inside that.
 pub fn behind_first(forms: &[Form], block: Block) -> Block
     ensures behind { (row : Row) → IsBlock forms.now block row → IsBlock forms.now result (behind_of row) }
     ensures fewer { block.first < block.end → result.end - result.first < block.end - block.first }

@@ -2,10 +2,10 @@
 
 ghost use Rattle.std.specs.Prelude.{◌≡◌, slice_range};
 
-/// What a form is.
+/// The kind of a form.
 #[derive(Clone, Copy, PartialEq, Eq, Debug)]
 pub enum FormKind {
-    /// A word: any bytes but space, brackets, quotes and semicolons.
+    /// A word: any bytes other than space, brackets, quotes and semicolons.
     Word,
     /// A text between two quotes on one line.
     Text,
@@ -13,22 +13,22 @@ pub enum FormKind {
     List,
 }
 
-/// A form, and where its bytes stand in the text. Of a text they begin and end with a quote, of a list with a
-/// bracket.
+/// A form, and the place of its bytes in the text. The bytes of a text begin and end with a quote, those of a list with
+/// a bracket.
 #[derive(Clone, Copy, PartialEq, Eq, Debug)]
 pub struct Form {
-    /// What it is.
+    /// Its kind.
     pub kind: FormKind,
     /// The number of bytes before its first one.
     pub start: usize,
     /// The number of bytes up to its last one.
     pub end: usize,
-    /// How many forms stand inside a list, at any depth. They follow it in the list of all forms. A word and a text
-    /// have none.
+    /// The number of forms inside a list, at any depth. These forms follow the list in the list of all forms. The
+    /// number is 0 for a word and a text.
     pub inside: usize,
 }
 
-/// The bytes of a form in its text; of a form of a longer text, those that the text has of it.
+/// The bytes of a form in its text. If the text is shorter than the form's own, only the bytes that it has.
 pub fn form_bytes(text: &[u8], form: Form) -> &[u8]
     ensures { result.now ≡ slice_range text.now form.start form.end }
 {

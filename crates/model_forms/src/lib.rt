@@ -1,14 +1,14 @@
 //! The forms of a model file: words, texts in quotes, and lists of forms in brackets, with comments between them.
 //!
-//! It stands on no other crate of the project. [`read_forms`] turns the bytes of a file into its forms, each with the
-//! place of its bytes, or returns the first fault: a closing bracket that no opening one belongs to, a quote with no
-//! other on its line, or opening brackets that are never closed. It promises that the forms spell exactly the tokens
-//! of the text, that a fault is the first one, and that no forms at all spell a text that is refused. Brackets may
-//! nest to any depth: nothing here calls itself.
+//! The crate uses no other crate of the project. [`read_forms`] turns the bytes of a file into its forms, each with the
+//! place of its bytes, or returns the first fault: a closing bracket without an opening one, a quote with no other on
+//! its line, or opening brackets that are never closed. The function promises that the forms spell exactly the tokens
+//! of the text, that a fault is the first one, and that no forms spell a refused text. Brackets can nest to any depth:
+//! no function here is recursive.
 //!
 //! The forms of a file are one list, in which the forms of a list follow it ([`Form::inside`]). A [`Block`] is some of
-//! them, one behind another; [`inside_first`] and [`behind_first`] lead from its first form to those inside that one
-//! and to the next ones. So:
+//! them, one behind another. [`inside_first`] leads from a block to the forms inside its first form, and
+//! [`behind_first`] to the forms behind it:
 //!
 //! ```
 //! let forms = read_forms(alloc, b"(want 42) ; the answer")?;

@@ -1,4 +1,4 @@
-//! Reads the forms of a text from left to right, with the places of the lists that are open on a stack.
+//! Reads the forms of a text from left to right, with the places of open lists on a stack.
 
 ghost use Rattle.std.specs.Prelude.{◌≡◌, ◌≢◌, ◌≤◌, ◌+◌, ◌++◌, ◌∷◌, ℕ, List, [], IfOk, IfErr, OnOk, length};
 ghost use Rattle.model_forms.specs.Rows.{AreForms, Row, Spells};
@@ -15,13 +15,13 @@ use std::alloc::{AllocError, Global};
 /// What has been read of a text.
 #[derive(Drop)]
 pub(crate) struct Read {
-    /// Its forms so far. Of a list that is open the end and the number of its forms are 0.
+    /// Its forms so far. The end and the number of forms of an open list are 0.
     pub forms: Vec<Form>,
     /// The place of each open list among the forms, the innermost last.
     pub open_lists: Vec<usize>,
 }
 
-// A list opens.
+// Opens a list.
 fn open_list(read: &mut Read, start: usize) -> Result<(), AllocError>
     ensures forms { OnOk result (read.new.forms.items ≡ read.old.forms.items ++ (list_opening start ∷ [])) }
     ensures open_ones { OnOk result (read.new.open_lists.items ≡ read.old.open_lists.items ++ (length read.old.forms.items ∷ [])) }
@@ -36,7 +36,7 @@ fn open_list(read: &mut Read, start: usize) -> Result<(), AllocError>
     Ok(())
 }
 
-// The innermost list closes, if one is open. Its bytes end here.
+// Closes the innermost list, if one is open. Its bytes end here.
 fn close_list(read: &mut Read, end: usize) -> bool
     requires { IsShaped read.old }
     ensures { (os : List Opening) (row : Row) → Shaped read.old os row → Closed os row end result read.new }
@@ -55,7 +55,7 @@ fn close_list(read: &mut Read, end: usize) -> bool
     true
 }
 
-// A form that isn't a list.
+// Adds a form that isn't a list.
 fn plain_form(read: &mut Read, kind: FormKind, token: Token) -> Result<(), AllocError>
     ensures forms { OnOk result (read.new.forms.items ≡ read.old.forms.items ++
         (record { kind = kind; start = token.start; end = token.end; inside = 0 } ∷ [])) }
@@ -70,7 +70,7 @@ fn plain_form(read: &mut Read, kind: FormKind, token: Token) -> Result<(), Alloc
     Ok(())
 }
 
-// The next token.
+// Reads a token.
 fn take_token(read: &mut Read, token: Token) -> Result<(), FormFault>
     requires { IsShaped read.old }
     ensures more { (text : List ℕ) (at : ℕ) → HasRead text at read.old → IsNext text at token →
@@ -92,7 +92,7 @@ fn take_token(read: &mut Read, token: Token) -> Result<(), FormFault>
     Ok(())
 }
 
-// The fault of a text that is over, if a list is open.
+// The fault of the end of the text, if a list is open.
 fn fault_at_end(read: &mut Read) -> Option<FormFault>
     requires { IsShaped read.old }
     ensures fault { (os : List Opening) (row : Row) → Shaped read.old os row → result ≡ fault_at_end os }

@@ -7,7 +7,7 @@ ghost use Rattle.model_forms.specs.Lexemes.{in_comment, word_of};
 ghost use Rattle.model_forms.specs.Seen.{EndsString, IsNext};
 ghost use Rattle.model_forms.specs.declared.token.Class.TheVariants.{Quote, Plain};
 
-/// What begins or goes on with a byte.
+/// The class of a byte: what it begins or continues.
 #[derive(Clone, Copy)]
 pub(crate) enum Class {
     Space,
@@ -18,7 +18,7 @@ pub(crate) enum Class {
     Plain,
 }
 
-/// What a token is.
+/// The kind of a token.
 #[derive(Clone, Copy)]
 pub(crate) enum TokenKind {
     Open,
@@ -28,7 +28,7 @@ pub(crate) enum TokenKind {
     Unclosed,
 }
 
-/// A token, and where its bytes stand in the text.
+/// A token, and the place of its bytes in the text.
 #[derive(Clone, Copy)]
 pub(crate) struct Token {
     pub kind: TokenKind,
@@ -76,7 +76,7 @@ fn ends_string(byte: u8) -> bool
     byte == b'"' || byte == b'\n'
 }
 
-// Where the line ends that goes on here.
+// The end of the line that continues here.
 #[tactic(auto, using(crate::proofs::Lexing::comment_stops, crate::proofs::Lexing::over))]
 fn comment_end(text: &[u8], from: usize) -> usize
     requires { from ≤ length text.now }
@@ -93,7 +93,7 @@ fn comment_end(text: &[u8], from: usize) -> usize
     at
 }
 
-// Where the word ends that goes on here.
+// The end of the word that continues here.
 #[tactic(auto, using(crate::proofs::Lexing::word_stops, crate::proofs::Lexing::word_is_over))]
 fn word_end(text: &[u8], from: usize) -> usize
     requires { from ≤ length text.now }
@@ -111,7 +111,7 @@ fn word_end(text: &[u8], from: usize) -> usize
     at
 }
 
-// Where the string ends that goes on here: at a quote, at the end of its line, or where the text is over.
+// The end of the string that continues here: at a quote, at the end of its line, or at the end of the text.
 fn string_end(text: &[u8], from: usize) -> usize
     requires { from ≤ length text.now }
     ensures { EndsString text.now from result }

@@ -1,6 +1,6 @@
-//! The names of a term, and where its words come from.
+//! The names of a term, and the places in the file that its words come from.
 
-/// What a name of a model stands for.
+/// The kind of a name of a model.
 #[derive(Clone, Copy, PartialEq, Eq, Debug)]
 pub enum NameKind {
     /// A value.
@@ -15,12 +15,12 @@ pub enum NameKind {
     Poll,
 }
 
-/// What a binder of a term is in the file.
+/// The name in the file of a binder of a term.
 #[derive(Clone, Copy, PartialEq, Eq, Debug)]
 pub enum BinderName {
-    /// The name that a word of the file spells: the number of its form.
+    /// A word of the file: the number of its form.
     Word(usize),
-    /// One of a row, as `w.1`: the number of the form that spells the row's name, and its own number in the row.
+    /// A name of a row, such as `w.1`: the number of the form that spells the row's name, and the number in the row.
     Row(usize, usize),
     /// No name of the file: `_`, or a name that the translation made.
     Hidden,
@@ -31,21 +31,21 @@ pub enum BinderName {
 /// A binder of a term.
 #[derive(Clone, Copy, PartialEq, Eq, Debug)]
 pub struct Binder {
-    /// What it binds.
+    /// Its kind.
     pub kind: NameKind,
     /// The number of bytes of the term's text before its name.
     pub start: usize,
     /// The number of bytes of the term's text up to the end of its name.
     pub end: usize,
-    /// What it is in the file.
+    /// Its name in the file.
     pub name: BinderName,
 }
 
-/// Where a form of a term comes from.
+/// The place in the file that a form of a term comes from.
 #[derive(Clone, Copy, PartialEq, Eq, Debug)]
 pub struct WordPlace {
     /// The number of bytes of the term's text before the opening bracket of the form.
     pub term: usize,
-    /// The number of the form of the file that it was made for.
+    /// The number of the form of the file that it was written for.
     pub form: usize,
 }

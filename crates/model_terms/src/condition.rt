@@ -20,7 +20,7 @@ pub(crate) enum ConditionWord {
     Unless,
 }
 
-/// The word of conditions that is spelled so, if one is.
+/// The word of conditions with this spelling, if there is one.
 pub(crate) fn condition_word(spelled: &[u8]) -> Option<ConditionWord> {
     match spelled {
         b"if" => Some(ConditionWord::If),
@@ -30,7 +30,7 @@ pub(crate) fn condition_word(spelled: &[u8]) -> Option<ConditionWord> {
     }
 }
 
-/// The condition with this number.
+/// Writes the condition with this number.
 pub(crate) fn condition(
     read: Reading,
     out: &mut Writing,
@@ -84,14 +84,14 @@ fn last_of(read: Reading, parts: Block, wanted: usize, given: usize) -> Follow {
     }
 }
 
-/// Leaves `(pure 0)` to write.
+/// Plans `(pure 0)`.
 pub(crate) fn then_zero(out: &mut Writing, at: usize) -> Result<(), Stop> {
     out.then(Task::Open(Word::Pure, at))?;
     out.then(Task::Operand(Operand::Number(0)))?;
     out.then(Task::Close(1))
 }
 
-// The value that is 0 where a condition holds.
+// A value that is 0 if and only if the condition holds.
 fn tested_value(read: Reading, out: &mut Writing, at: usize, here: Here) -> Result<Operand, Stop> {
     let fault = wrong_at(read, Wrong::Condition, at, here.view);
     let parts = read.parts(at);
@@ -118,7 +118,7 @@ fn tested_value(read: Reading, out: &mut Writing, at: usize, here: Here) -> Resu
     difference(out, at, operand, less)
 }
 
-// A value more another, which is bound by a `let`.
+// The sum of a value and `more`, bound by a `let`.
 fn difference(out: &mut Writing, at: usize, operand: Operand, more: i64) -> Result<Operand, Stop> {
     let name = out.fresh(b"t")?;
     out.then(Task::Open(Word::Let, at))?;

@@ -1,4 +1,4 @@
-//! What is wrong with a file before any of its models is translated, in words.
+//! The messages for a fault of a file that is found before its models are translated.
 
 use crate::reading::bytes_of;
 use crate::refused::{Refused, SourceFault};
@@ -10,7 +10,7 @@ use model_forms::{FormFault, read_forms};
 use model_text::{FileFault, ItemFault};
 use std::alloc::{AllocError, Global};
 
-// Adds what is wrong with the brackets and strings of a file.
+// Appends the fault of the brackets and strings of a file.
 fn tell_form(told: &mut Vec<u8>, fault: FormFault) -> Result<(), AllocError> {
     match fault {
         FormFault::NoMemory => tell(told, "no memory"),
@@ -24,7 +24,7 @@ fn tell_form(told: &mut Vec<u8>, fault: FormFault) -> Result<(), AllocError> {
     }
 }
 
-// What is wrong with the items of a file, where that says all.
+// The words for the fault of an item, if they need no more.
 fn item_words(fault: ItemFault) -> &'static str {
     match fault {
         ItemFault::NoMemory => "no memory",
@@ -53,7 +53,7 @@ fn item_words(fault: ItemFault) -> &'static str {
     }
 }
 
-// Adds what is wrong with the items of a file, of which these bytes are at fault.
+// Appends the fault of an item; `spelled` is its bytes.
 fn tell_item(told: &mut Vec<u8>, fault: ItemFault, spelled: &[u8]) -> Result<(), AllocError> {
     match fault {
         ItemFault::NotANumber(_) => tell_no_number(told, spelled),
@@ -76,7 +76,7 @@ fn tell_item(told: &mut Vec<u8>, fault: ItemFault, spelled: &[u8]) -> Result<(),
     }
 }
 
-// Where the token or form ends that begins here: at the next byte where none does.
+// The end of the token or form that begins here, or the next byte if none does.
 fn end_of(alloc: Global, text: &[u8], place: usize) -> usize {
     let next = place.saturating_add(1).min(text.len());
     match read_forms(alloc, text) {
@@ -92,7 +92,7 @@ fn end_of(alloc: Global, text: &[u8], place: usize) -> usize {
     }
 }
 
-// The fault of a file, which begins here.
+// The fault of a file that begins here.
 fn file_fault(
     alloc: Global,
     text: &[u8],
@@ -116,7 +116,7 @@ fn file_fault(
     })
 }
 
-/// Why a file is refused that has no items.
+/// Why a file without items is refused.
 pub(crate) fn file_refused(alloc: Global, text: &[u8], fault: FileFault) -> Refused {
     let Some(start) = fault.place() else {
         return Refused::NoMemory;
@@ -127,7 +127,7 @@ pub(crate) fn file_refused(alloc: Global, text: &[u8], fault: FileFault) -> Refu
     }
 }
 
-// Adds what is wrong with a name.
+// Appends the fault of a name.
 fn tell_name_fault(told: &mut Vec<u8>, spelled: &[u8], fault: NameFault) -> Result<(), AllocError> {
     match fault {
         NameFault::Word => {
@@ -145,7 +145,7 @@ fn tell_name_fault(told: &mut Vec<u8>, spelled: &[u8], fault: NameFault) -> Resu
     }
 }
 
-// The fault that a name of a file is.
+// The fault of a file for a name.
 fn twice_fault(
     alloc: Global,
     text: &[u8],
@@ -171,7 +171,7 @@ fn twice_fault(
     })
 }
 
-/// Why a file is refused in which a name is one too many.
+/// Why a file is refused because of a name.
 pub(crate) fn twice_refused(
     alloc: Global,
     text: &[u8],

@@ -15,8 +15,8 @@ use effect_term::Kind;
 use model_forms::{Block, FormKind, behind_first};
 use term_parse::{Part, Word, parts_of};
 
-/// A form of the language that is written: the number of the form, its word, where it stands, the name that its first
-/// part was picked to be, and the block that is its last part, if it is one.
+/// A form of the language that is written: its number, its word, its surroundings, the name that replaces its first
+/// part, if one was picked, and the block that is its last part, if it is one.
 #[derive(Clone, Copy)]
 pub(crate) struct FormWork {
     pub(crate) at: usize,
@@ -37,17 +37,17 @@ pub(crate) fn kind_of(kind: Kind) -> NameKind {
     }
 }
 
-/// How many parts a form of this word has.
+/// The number of parts of a form of this word.
 pub(crate) fn parts_wanted(word: Word) -> usize {
     parts_of(word).len().saturating_sub(1)
 }
 
-/// Whether a form of this word binds a name in what follows it, where its last part is left out.
+/// Whether a form of this word without its last part binds a name in the statements behind it.
 pub(crate) fn is_binder(word: Word) -> bool {
     matches!(word, Word::Start | Word::Ref | Word::Let | Word::Deferred)
 }
 
-// Whether the last part of a form of this word may be several terms.
+// Whether the last part of a form of this word can be several terms.
 fn takes_several(word: Word) -> bool {
     matches!(
         word,
@@ -55,7 +55,7 @@ fn takes_several(word: Word) -> bool {
     )
 }
 
-/// What follows a form that binds names.
+/// Plans what follows a form that binds names.
 pub(crate) fn then_follow(out: &mut Writing, follow: Follow, here: Here) -> Result<(), Stop> {
     match follow {
         Follow::Part(at) => out.then(Task::Term(at, here)),
@@ -63,7 +63,7 @@ pub(crate) fn then_follow(out: &mut Writing, follow: Follow, here: Here) -> Resu
     }
 }
 
-// The fault of a form with another number of parts.
+// The fault of a form with a wrong number of parts.
 fn parts_fault(read: Reading, at: usize, word: Word, given: usize, here: Here) -> Stop {
     let wanted = parts_wanted(word);
     let head = read.span(at.saturating_add(1));
@@ -75,7 +75,7 @@ fn parts_fault(read: Reading, at: usize, word: Word, given: usize, here: Here) -
     wrong_at(read, wrong, at, here.view)
 }
 
-/// The form of the language with this number, of this word.
+/// Writes the form of the language with this number and this word.
 pub(crate) fn form(
     read: Reading,
     out: &mut Writing,
@@ -104,7 +104,7 @@ pub(crate) fn form(
     whole_form(read, out, work, parts)
 }
 
-// A form with as many parts as it has to have.
+// Writes a form with the right number of parts.
 fn whole_form(read: Reading, out: &mut Writing, work: FormWork, parts: Block) -> Result<(), Stop> {
     let Some(first) = first_of(read.forms, parts) else {
         return plan_form(read, out, work, parts);
@@ -138,7 +138,7 @@ fn uses_name(word: Word) -> bool {
     }
 }
 
-/// A row, of which a value says which one is meant.
+/// A row, and a value that selects one of its names.
 #[derive(Clone, Copy)]
 struct PickedRow {
     value: usize,
@@ -146,7 +146,7 @@ struct PickedRow {
     count: usize,
 }
 
-// The row and the value that a word spells with a dot between them.
+// The row and the value of a word that spells them with a dot between.
 fn picked_row(
     read: Reading,
     out: &mut Writing,
@@ -176,7 +176,7 @@ fn picked_row(
     }
 }
 
-// The form for each of a row, of which a value says which one is meant.
+// Plans the form once for each name of a row; the value selects which one runs.
 fn pick(out: &mut Writing, at: usize, row: PickedRow, here: Here) -> Result<(), Stop> {
     let mut open: usize = 0;
     for number in 0..row.count {
@@ -201,7 +201,7 @@ fn pick(out: &mut Writing, at: usize, row: PickedRow, here: Here) -> Result<(), 
     out.then(Task::Close(open.saturating_add(1)))
 }
 
-// The number below zero that is as far from it.
+// The negative of a number.
 fn below_zero(number: usize) -> i64 {
     match i64::try_from(number) {
         Ok(number) => number.saturating_neg(),
@@ -209,7 +209,7 @@ fn below_zero(number: usize) -> i64 {
     }
 }
 
-/// The form with this number, whose first part is picked to be this name.
+/// Writes the form with this number, with this name as its first part.
 pub(crate) fn one_form(
     read: Reading,
     out: &mut Writing,
@@ -234,7 +234,7 @@ pub(crate) fn one_form(
     plan_form(read, out, work, parts)
 }
 
-// The first of a row of fibers, and how many they are, where a whole row is canceled.
+// The first name of a row of fibers, and their number, if the form cancels a whole row.
 fn whole_row(
     read: Reading,
     out: &mut Writing,
@@ -250,7 +250,7 @@ fn whole_row(
     }
 }
 
-// Cancels each fiber of a row.
+// Plans the cancellation of each fiber of a row.
 fn cancel_each(out: &mut Writing, at: usize, first: usize, count: usize) -> Result<(), Stop> {
     if count > 1 {
         out.then(Task::Open(Word::Seq, at))?;
@@ -266,7 +266,7 @@ fn cancel_each(out: &mut Writing, at: usize, first: usize, count: usize) -> Resu
     Ok(())
 }
 
-/// What a form of the language is written by, with these parts.
+/// Plans a form of the language with these parts.
 pub(crate) fn plan_form(
     read: Reading,
     out: &mut Writing,
@@ -287,7 +287,7 @@ pub(crate) fn plan_form(
     out.then(Task::Close(open))
 }
 
-// The values of a form.
+// Plans the values of a form.
 fn plan_values(read: Reading, out: &mut Writing, work: FormWork, parts: Block) -> Result<(), Stop> {
     let mut rest = parts;
     for part in parts_of(work.word) {
@@ -302,7 +302,7 @@ fn plan_values(read: Reading, out: &mut Writing, work: FormWork, parts: Block) -
     Ok(())
 }
 
-// A ref is set to a value that is bound before: whether that reads the ref.
+// Plans a note if a ref is set to a value that reads the same ref.
 fn plan_torn(
     read: Reading,
     out: &mut Writing,
@@ -322,7 +322,7 @@ fn plan_torn(
     out.then(Task::Torn(start, name, work.at))
 }
 
-// The parts of a form.
+// Plans the parts of a form.
 fn plan_parts(read: Reading, out: &mut Writing, work: FormWork, parts: Block) -> Result<(), Stop> {
     let mut rest = parts;
     for (number, part) in parts_of(work.word).iter().enumerate() {
@@ -336,7 +336,7 @@ fn plan_parts(read: Reading, out: &mut Writing, work: FormWork, parts: Block) ->
     Ok(())
 }
 
-// A part of a form, which is the form with this number.
+// Plans a part of a form, which is the form with this number.
 fn plan_part(
     read: Reading,
     out: &mut Writing,
@@ -358,7 +358,7 @@ fn plan_part(
     }
 }
 
-// The last part of a form, where it has no form of its own.
+// Plans the last part of a form, if it has no form of its own.
 fn plan_rest(
     read: Reading,
     out: &mut Writing,
@@ -374,7 +374,7 @@ fn plan_rest(
     }
 }
 
-// A part that is a term: this form, or the block that the form's last part is.
+// A part that is a term: this form, or the block that is the form's last part.
 fn follow_of(work: FormWork, number: usize, at: usize) -> Follow {
     match work.last {
         Some(block) => {
@@ -388,7 +388,7 @@ fn follow_of(work: FormWork, number: usize, at: usize) -> Follow {
     }
 }
 
-// Where a part that is a term stands, but for the names that its form binds.
+// The surroundings of a part that is a term, without the names that its form binds.
 fn here_in(read: Reading, work: FormWork, number: usize) -> Here {
     let fiber = match work.word {
         Word::Start => {
@@ -419,7 +419,7 @@ fn started(read: Reading, at: usize) -> FiberName {
     }
 }
 
-// A binder of a form.
+// Plans a binder of a form.
 fn plan_binder(
     read: Reading,
     out: &mut Writing,
@@ -434,7 +434,7 @@ fn plan_binder(
     out.then(Task::Bind(name, kind, binder))
 }
 
-/// What the binder that the form with this number spells is in the file.
+/// The name in the file of the binder that the form with this number spells.
 pub(crate) fn binder_name(read: Reading, at: usize) -> BinderName {
     if is_hidden(read, at) {
         BinderName::Hidden
@@ -443,7 +443,7 @@ pub(crate) fn binder_name(read: Reading, at: usize) -> BinderName {
     }
 }
 
-// The use of a name.
+// Plans the use of a name.
 fn plan_use(
     read: Reading,
     out: &mut Writing,
@@ -458,7 +458,7 @@ fn plan_use(
     out.then(Task::Operand(Operand::Name(name)))
 }
 
-// A value of a form, which is its part with this number.
+// Plans a value of a form, its part with this number.
 fn plan_value(out: &mut Writing, work: FormWork, number: usize) -> Result<(), Stop> {
     let index = match work.word {
         Word::Add => number,
@@ -470,7 +470,7 @@ fn plan_value(out: &mut Writing, work: FormWork, number: usize) -> Result<(), St
     }
 }
 
-// A part that is a term, under the binders of its form.
+// Plans a part that is a term, inside the binders of its form.
 fn plan_term(
     read: Reading,
     out: &mut Writing,
@@ -507,7 +507,7 @@ fn enter_made(
     }
 }
 
-// A fiber that watches the ref that a form makes, where it is wanted.
+// Plans a fiber that watches the ref that a form makes, if it is wanted.
 fn plan_watch(read: Reading, out: &mut Writing, work: FormWork) -> Result<(), Stop> {
     let Some(at) = nth_of(read.forms, read.parts(work.at), 0) else {
         return Ok(());

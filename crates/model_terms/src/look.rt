@@ -1,4 +1,4 @@
-//! What the words of a model mean where they stand.
+//! The meanings of the words of a model at their places.
 
 use crate::binder::{BinderName, NameKind};
 use crate::named::NamedItem;
@@ -11,12 +11,12 @@ use model_forms::FormKind;
 use model_text::read_number;
 use term_parse::Word;
 
-/// Something wrong at the form with this number.
+/// The fault of the form with this number.
 pub(crate) fn wrong_at(read: Reading, wrong: Wrong, at: usize, view: View) -> Stop {
     Stop::Wrong(wrong, read.span(at), view)
 }
 
-/// What a meaning is.
+/// The sort of a meaning.
 pub(crate) fn sort_of(meaning: Meaning) -> Sort {
     match meaning {
         Meaning::Number(_) => Sort::Name(NameKind::Value),
@@ -26,7 +26,7 @@ pub(crate) fn sort_of(meaning: Meaning) -> Sort {
     }
 }
 
-/// The number that a constant stands for, if one of this spelling stands above.
+/// The number of the constant with this spelling, if there is one above.
 pub(crate) fn constant(read: Reading, spelled: &[u8], view: View) -> Option<Meaning> {
     let found = read.named.find(read.text, spelled, false)?;
     if found.name.start < view.limit {
@@ -39,7 +39,7 @@ pub(crate) fn constant(read: Reading, spelled: &[u8], view: View) -> Option<Mean
     }
 }
 
-/// What a spelling means, as a binder or a constant.
+/// The meaning of a spelling, as a binder or a constant.
 pub(crate) fn meaning_of(
     read: Reading,
     out: &mut Writing,
@@ -52,7 +52,7 @@ pub(crate) fn meaning_of(
     }
 }
 
-// The number that a spelling is, or that its meaning is.
+// The number of a spelling, if it is a number or means one.
 fn number_of(
     read: Reading,
     out: &mut Writing,
@@ -68,7 +68,7 @@ fn number_of(
     }
 }
 
-// Where the last sign of an index stands.
+// The place of the last sign of an index.
 fn sign_at(index: &[u8]) -> Option<usize> {
     let mut found = None;
     for (at, byte) in index.iter().enumerate() {
@@ -79,7 +79,7 @@ fn sign_at(index: &[u8]) -> Option<usize> {
     found
 }
 
-// The number that stands behind a dot: a number or a constant, or the sum or difference of one and a number.
+// The number behind a dot: a number or a constant, or the sum or difference of such a one and a number.
 fn index_of(
     read: Reading,
     out: &mut Writing,
@@ -107,7 +107,7 @@ fn index_of(
     }
 }
 
-/// Where the first dot of a spelling is.
+/// The place of the first dot of a spelling.
 pub(crate) fn dot_at(spelled: &[u8]) -> Option<usize> {
     spelled.iter().position(|byte| *byte == b'.')
 }
@@ -128,7 +128,7 @@ pub(crate) fn behind_of(span: Span, dot: usize) -> Span {
     }
 }
 
-// The name of one of a row: of the row with this number of names, the first of which this is.
+// The name of a row with this number; the row has `count` names from `first` on.
 fn one_of(first: usize, count: usize, number: i64) -> Option<usize> {
     let Ok(number) = usize::try_from(number) else {
         return None;
@@ -140,7 +140,7 @@ fn one_of(first: usize, count: usize, number: i64) -> Option<usize> {
     }
 }
 
-// What a spelling with a dot means.
+// The meaning of a spelling with a dot.
 fn element(
     read: Reading,
     out: &mut Writing,
@@ -168,7 +168,7 @@ fn element(
     }
 }
 
-/// What the word with this number means.
+/// The meaning of the word with this number.
 pub(crate) fn named(
     read: Reading,
     out: &mut Writing,
@@ -184,7 +184,7 @@ pub(crate) fn named(
     }
 }
 
-/// The name of the term of a kind, but a value, that the form with this number spells.
+/// The term's name that the form with this number spells, of a kind other than a value.
 pub(crate) fn name_at(
     read: Reading,
     out: &mut Writing,
@@ -207,7 +207,7 @@ pub(crate) fn name_at(
     }
 }
 
-// The name of the term that a meaning of a kind is.
+// The term's name of a meaning of this kind.
 fn name_in(meaning: Meaning, kind: NameKind) -> Result<usize, Wrong> {
     let other = Wrong::OtherKind(sort_of(meaning), Sort::Name(kind));
     match meaning {
@@ -223,7 +223,7 @@ fn name_in(meaning: Meaning, kind: NameKind) -> Result<usize, Wrong> {
     }
 }
 
-// Whether a spelling begins as a number.
+// Whether a spelling begins like a number.
 fn is_numeric(spelled: &[u8]) -> bool {
     match spelled.first() {
         Some(byte) => *byte == b'-' || byte.is_ascii_digit(),
@@ -231,7 +231,7 @@ fn is_numeric(spelled: &[u8]) -> bool {
     }
 }
 
-// The value that a word is.
+// The value of a word.
 fn value_word(read: Reading, out: &mut Writing, at: usize, view: View) -> Result<Operand, Stop> {
     if is_numeric(read.word(at)) {
         return match read_number(read.word(at)) {
@@ -249,7 +249,7 @@ fn value_word(read: Reading, out: &mut Writing, at: usize, view: View) -> Result
     }
 }
 
-/// The value that the form with this number is. That of a list is bound before, by a `let`.
+/// The value of the form with this number. The value of a list is bound before, by a `let`.
 pub(crate) fn value(
     read: Reading,
     out: &mut Writing,
@@ -270,7 +270,7 @@ pub(crate) fn value(
     }
 }
 
-/// The number that the form with this number is, or that the constant is which it spells.
+/// The number that the form with this number is, or that it names as a constant.
 pub(crate) fn known_number(
     read: Reading,
     out: &mut Writing,
@@ -299,7 +299,7 @@ fn is_name(bytes: &[u8]) -> bool {
     true
 }
 
-/// Tests that the form with this number is a name or `_`.
+/// Checks that the form with this number is a name or `_`.
 pub(crate) fn want_name(read: Reading, at: usize, view: View) -> Result<(), Stop> {
     let spelled = match read.kind(at) {
         FormKind::Word => read.word(at),
@@ -317,7 +317,7 @@ pub(crate) fn is_hidden(read: Reading, at: usize) -> bool {
     read.word(at) == b"_".as_slice()
 }
 
-/// A new name of the term, for the binder that the form with this number is.
+/// A new name of the term, for the binder that the form with this number spells.
 pub(crate) fn fresh_at(
     read: Reading,
     out: &mut Writing,
@@ -332,7 +332,7 @@ pub(crate) fn fresh_at(
     }
 }
 
-/// A binder of the form with this number, which isn't in a scope so far.
+/// A binder for the form with this number, outside of any scope so far.
 pub(crate) fn bound_at(read: Reading, at: usize, meaning: Meaning) -> Bound {
     let name = read.span(at);
     Bound {
@@ -342,7 +342,7 @@ pub(crate) fn bound_at(read: Reading, at: usize, meaning: Meaning) -> Bound {
     }
 }
 
-/// A scope with one more binder, but for `_`.
+/// A scope with one more binder; the same scope for `_`.
 pub(crate) fn enter(
     read: Reading,
     out: &mut Writing,
@@ -356,7 +356,7 @@ pub(crate) fn enter(
     }
 }
 
-/// The same place with another scope.
+/// The same surroundings with another scope.
 pub(crate) fn under(here: Here, scope: usize) -> Here {
     let view = View {
         scope,

@@ -6,10 +6,10 @@ use crate::wrong::Span;
 use model_text::{Definition, Item};
 use std::alloc::{AllocError, Global};
 
-// How many lists of names there are.
+// The number of lists of names.
 const LISTS: usize = 1024;
 
-/// What a name of a source stands for.
+/// What a name of a source names.
 #[derive(Clone, Copy)]
 pub(crate) enum NamedItem {
     Number(i64),
@@ -25,14 +25,14 @@ pub(crate) struct ItemName {
     next: usize,
 }
 
-/// The names of a source, in lists by a number that their bytes give.
+/// The names of a source, in lists by a hash of their bytes.
 #[derive(Drop)]
 pub(crate) struct ItemNames {
     names: Vec<ItemName>,
     lists: Vec<usize>,
 }
 
-/// The number of the list in which a spelling stands, of so many.
+/// The number of the list for a spelling, below `lists`.
 pub(crate) fn list_of(spelled: &[u8], lists: usize) -> usize {
     let mut sum: usize = 5381;
     for byte in spelled {
@@ -42,12 +42,12 @@ pub(crate) fn list_of(spelled: &[u8], lists: usize) -> usize {
 }
 
 impl ItemName {
-    /// Whether it is that of a definition.
+    /// Whether the name is that of a definition.
     pub(crate) fn is_definition(&self) -> bool {
         matches!(self.item, NamedItem::Definition(_))
     }
 
-    /// Whether it is that of a model.
+    /// Whether the name is that of a model.
     pub(crate) fn is_model(&self) -> bool {
         is_model(self.item)
     }
@@ -62,7 +62,7 @@ fn is_model(item: NamedItem) -> bool {
 }
 
 impl ItemNames {
-    /// No names.
+    /// Without names.
     pub(crate) fn new(alloc: Global) -> Result<ItemNames, AllocError> {
         let mut lists = Vec::with_capacity(alloc, LISTS)?;
         for _ in 0..LISTS {
@@ -72,7 +72,7 @@ impl ItemNames {
         Ok(ItemNames { names, lists })
     }
 
-    /// What this spelling stands for, as the name of a model or as another one.
+    /// The item with this spelling, among the models if `model` is set, else among the others.
     pub(crate) fn find(&self, text: &[u8], spelled: &[u8], model: bool) -> Option<ItemName> {
         let mut at = self.list(spelled);
         for _ in 0..self.names.len() {
@@ -90,7 +90,7 @@ impl ItemNames {
         self.names.as_slice()
     }
 
-    // The first of the list in which a spelling stands.
+    // The first name of the list for a spelling.
     fn list(&self, spelled: &[u8]) -> usize {
         self.lists
             .get(list_of(spelled, LISTS))
@@ -116,7 +116,7 @@ impl ItemNames {
     }
 }
 
-/// The name of an item, and what it stands for, if it has one.
+/// The name of an item, and the item that it names, if it has one.
 pub(crate) fn name_of(item: &Item) -> Option<(Span, NamedItem)> {
     match item {
         Item::Constant(constant) => {

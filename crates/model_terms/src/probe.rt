@@ -1,4 +1,4 @@
-//! What is put into a term so that its reports show more.
+//! Additions to a term, by which its reports show more.
 
 use crate::binder::{BinderName, NameKind};
 use crate::look::value;
@@ -11,7 +11,8 @@ use crate::wrong::Stop;
 use itoa::Buffer;
 use term_parse::Word;
 
-/// A fiber that reads the ref with this name once, if this binder's refs are watched. It is one more open bracket.
+/// Plans a fiber that reads the ref with this name once, if this binder's refs are watched. The fiber takes one more
+/// open bracket.
 pub(crate) fn watch(
     out: &mut Writing,
     at: usize,
@@ -31,7 +32,7 @@ pub(crate) fn watch(
     Ok(())
 }
 
-// Whether a spelling is that of one of a row: the row's name, a dot and a number.
+// Whether a spelling is that of a name of a row: the row's name, a dot and a number.
 fn is_one_of(spelled: &[u8], row: &[u8], number: usize) -> bool {
     let mut buffer = Buffer::new();
     let behind = buffer.format(number).as_bytes();
@@ -40,7 +41,7 @@ fn is_one_of(spelled: &[u8], row: &[u8], number: usize) -> bool {
         && spelled.get(row.len().saturating_add(1)..) == Some(behind)
 }
 
-// Whether a fiber is called so.
+// Whether a fiber has this name.
 fn is_called(read: Reading, fiber: FiberName, spelled: &[u8]) -> bool {
     match fiber {
         FiberName::Main => spelled == b"main".as_slice(),
@@ -54,7 +55,7 @@ fn is_called(read: Reading, fiber: FiberName, spelled: &[u8]) -> bool {
     }
 }
 
-// Whether a fiber that says a value says this.
+// Whether a `say` of this fiber and this value is the given one.
 fn is_said(read: Reading, said: SaidBy, fiber: FiberName, operand: Operand) -> bool {
     match operand {
         Operand::Number(number) => {
@@ -64,7 +65,7 @@ fn is_said(read: Reading, said: SaidBy, fiber: FiberName, operand: Operand) -> b
     }
 }
 
-// Which of two is said: the first, the second or neither.
+// Which of the two compared `say`s this is: the first, the second or neither.
 #[derive(Clone, Copy)]
 enum Turn {
     First,
@@ -72,7 +73,7 @@ enum Turn {
     Neither,
 }
 
-// Which of the two whose order is looked at a fiber says, with this value.
+// Which of the two compared `say`s a fiber makes with this value.
 fn turn_of(
     read: Reading,
     said: Option<(SaidBy, SaidBy)>,
@@ -93,7 +94,7 @@ fn turn_of(
     }
 }
 
-/// The `say` with this number, whose value is the form with that number.
+/// Writes the `say` with the number `at`; its value is the form with the number `first`.
 pub(crate) fn say(
     read: Reading,
     out: &mut Writing,
@@ -115,7 +116,7 @@ pub(crate) fn say(
     out.then(Task::Close(open))
 }
 
-// Opens what is around the first of two that are said: it sets the hidden ref.
+// Opens what is around the first of the two `say`s: it sets the hidden ref.
 fn say_first(out: &mut Writing, at: usize) -> Result<(), Stop> {
     let order = out.order;
     open_mask(out, at)?;
@@ -135,7 +136,7 @@ fn open_mask(out: &mut Writing, at: usize) -> Result<(), Stop> {
     out.then(Task::Bind(poll, NameKind::Poll, BinderName::Hidden))
 }
 
-// Opens what is around the second of two that are said: it says first where the hidden ref isn't set.
+// Opens what is around the second of the two `say`s: it says `LATE` first if the hidden ref isn't set.
 fn say_second(out: &mut Writing, at: usize) -> Result<(), Stop> {
     let order = out.order;
     open_mask(out, at)?;
@@ -151,7 +152,7 @@ fn say_second(out: &mut Writing, at: usize) -> Result<(), Stop> {
     Ok(())
 }
 
-// Says that it is too late, if a value is 0.
+// Says `LATE` if a value is 0.
 fn say_late(out: &mut Writing, at: usize, was: usize) -> Result<(), Stop> {
     out.then(Task::Open(Word::If0, at))?;
     out.then(Task::Operand(Operand::Name(was)))?;
@@ -163,7 +164,7 @@ fn say_late(out: &mut Writing, at: usize, was: usize) -> Result<(), Stop> {
     out.then(Task::Close(2))
 }
 
-/// Notes the form with this number, if the bytes of the term from here on read the ref with this name.
+/// Notes the form with this number if the bytes of the term from here on read the ref with this name.
 pub(crate) fn note_torn(
     out: &mut Writing,
     start: usize,

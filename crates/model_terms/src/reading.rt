@@ -1,4 +1,4 @@
-//! The forms that are translated.
+//! The forms of a source, as a translation reads them.
 
 use crate::named::ItemNames;
 use crate::wrong::Span;
@@ -25,7 +25,7 @@ pub(crate) fn span_of(form: Form) -> Span {
     }
 }
 
-/// The form with this number, and the bytes before the text's first one where there is none.
+/// The form with this number, or an empty form at the beginning of the text if there is none.
 pub(crate) fn form_at(forms: &[Form], at: usize) -> Form {
     forms.get(at).copied().unwrap_or(Form {
         kind: FormKind::Word,
@@ -57,7 +57,7 @@ pub(crate) fn first_of(forms: &[Form], block: Block) -> Option<usize> {
     }
 }
 
-/// The forms of a block behind so many others.
+/// The forms of a block behind the first `n`.
 pub(crate) fn behind_nth(forms: &[Form], block: Block, n: usize) -> Block {
     let mut rest = block;
     for _ in 0..n {
@@ -66,12 +66,12 @@ pub(crate) fn behind_nth(forms: &[Form], block: Block, n: usize) -> Block {
     rest
 }
 
-/// The number of the form of a block behind so many others, if there is one.
+/// The number of the form of a block behind the first `n`, if there is one.
 pub(crate) fn nth_of(forms: &[Form], block: Block, n: usize) -> Option<usize> {
     first_of(forms, behind_nth(forms, block, n))
 }
 
-/// How many forms a block has.
+/// The number of forms of a block.
 pub(crate) fn count_of(forms: &[Form], block: Block) -> usize {
     let mut rest = block;
     for count in 0..forms.len() {
@@ -89,17 +89,17 @@ impl<'a> Reading<'a> {
         form_bytes(self.text, form_at(self.forms, at))
     }
 
-    /// Where the form with this number stands.
+    /// The place of the form with this number.
     pub(crate) fn span(self, at: usize) -> Span {
         span_of(form_at(self.forms, at))
     }
 
-    /// What the form with this number is.
+    /// The kind of the form with this number.
     pub(crate) fn kind(self, at: usize) -> FormKind {
         form_at(self.forms, at).kind
     }
 
-    /// The word at the head of the list with this number; nothing where there is none.
+    /// The word at the head of the list with this number, empty if there is none.
     pub(crate) fn head(self, at: usize) -> &'a [u8] {
         match first_of(self.forms, inside_at(self.forms, at)) {
             Some(first) => match self.kind(first) {

@@ -2,18 +2,18 @@
 
 use std::alloc::{AllocError, AllocFailed};
 
-/// A fault of a file, in words.
+/// A fault of a file, as a message.
 #[derive(Drop)]
 pub struct SourceFault {
-    /// A short name of the kind of fault, as `E10`.
+    /// A short name of the kind of fault, such as `E10`.
     pub code: &'static str,
-    /// What is wrong, in one line.
+    /// The message, in one line.
     pub message: Vec<u8>,
-    /// The number of bytes of the source before what is at fault.
+    /// The number of bytes of the source before the fault.
     pub start: usize,
-    /// The number of bytes of the source up to the end of what is at fault.
+    /// The number of bytes of the source up to the end of the fault.
     pub end: usize,
-    /// What may help, a line each.
+    /// Notes, one line each.
     pub notes: Vec<Vec<u8>>,
 }
 

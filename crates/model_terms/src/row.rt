@@ -11,7 +11,7 @@ use crate::wrong::{Stop, Wrong};
 use model_forms::FormKind;
 use term_parse::Word;
 
-// How many names a row may have.
+// The greatest number of names of a row.
 const MOST_NAMES: i64 = 16;
 
 /// The words that make rows.
@@ -22,7 +22,7 @@ pub(crate) enum RowWord {
     Refs,
 }
 
-/// The word of rows that is spelled so, if one is.
+/// The word of rows with this spelling, if there is one.
 pub(crate) fn row_word(spelled: &[u8]) -> Option<RowWord> {
     match spelled {
         b"starts" => Some(RowWord::Starts),
@@ -32,7 +32,7 @@ pub(crate) fn row_word(spelled: &[u8]) -> Option<RowWord> {
     }
 }
 
-/// How many parts a row has beside what follows it.
+/// The number of parts of a row, without what follows it.
 pub(crate) fn row_parts(word: RowWord) -> usize {
     match word {
         RowWord::Starts | RowWord::Refs => 3,
@@ -48,8 +48,8 @@ fn row_kind(word: RowWord) -> NameKind {
     }
 }
 
-// A row that is written: its form, its word, the forms of its name and of its index, if it has one, how many names it
-// has, and the first of them.
+// A row that is written: the numbers of its form, its word, the forms of its name and of its index, if it has one, the
+// number of its names, and the first of them.
 #[derive(Clone, Copy)]
 struct RowWork {
     at: usize,
@@ -61,7 +61,7 @@ struct RowWork {
     here: Here,
 }
 
-/// The row with this number, with its last part.
+/// Writes the row with this number, which has its last part.
 pub(crate) fn row_form(
     read: Reading,
     out: &mut Writing,
@@ -84,7 +84,7 @@ pub(crate) fn row_form(
     Err(wrong_at(read, Wrong::RowParts(head), at, here.view))
 }
 
-/// The row with this number, and what follows it.
+/// Writes the row with this number, and what follows it.
 pub(crate) fn row(
     read: Reading,
     out: &mut Writing,
@@ -145,7 +145,7 @@ fn name_and_index(
     Err(wrong_at(read, Wrong::NoIndex, front, here.view))
 }
 
-// How many names a row has.
+// The number of names of a row.
 fn how_many(read: Reading, out: &mut Writing, at: usize, here: Here) -> Result<usize, Stop> {
     if let Some(number) = known_number(read, out, at, here.view)?
         && 1 <= number
@@ -157,7 +157,7 @@ fn how_many(read: Reading, out: &mut Writing, at: usize, here: Here) -> Result<u
     Err(wrong_at(read, Wrong::HowMany, at, here.view))
 }
 
-// The first of the new names of a row.
+// Makes the names of a row, and returns the first.
 fn names(read: Reading, out: &mut Writing, name: usize, count: usize) -> Result<usize, Stop> {
     let spelled: &[u8] = if is_hidden(read, name) {
         b"u"
@@ -171,7 +171,7 @@ fn names(read: Reading, out: &mut Writing, name: usize, count: usize) -> Result<
     Ok(first)
 }
 
-// What a row is written by: its value or body is the form with this number.
+// Plans a row; its value or body is the form with this number.
 fn plan_row(
     read: Reading,
     out: &mut Writing,
@@ -206,7 +206,7 @@ fn plan_row(
     out.then(Task::Close(open))
 }
 
-// What the name of a row with this number is in the file.
+// The name in the file of the row's name with this number.
 fn row_name(read: Reading, work: RowWork, number: usize) -> BinderName {
     if is_hidden(read, work.name) {
         BinderName::Hidden
@@ -215,7 +215,7 @@ fn row_name(read: Reading, work: RowWork, number: usize) -> BinderName {
     }
 }
 
-// Opens the form of one of a row, and binds its name.
+// Opens the form of one of a row's names, and binds it.
 fn plan_named(
     read: Reading,
     out: &mut Writing,
@@ -229,7 +229,7 @@ fn plan_named(
     out.then(Task::Bind(name, row_kind(work.word), binder))
 }
 
-// One of a row of fibers.
+// Plans one of a row of fibers.
 fn plan_start(
     read: Reading,
     out: &mut Writing,
@@ -247,7 +247,7 @@ fn plan_start(
     out.then(Task::Term(body, here))
 }
 
-// The scope of one of a row of fibers, in which the index is its number.
+// The scope of one of a row of fibers, in which the index is the fiber's number.
 fn index_scope(
     read: Reading,
     out: &mut Writing,
@@ -263,7 +263,7 @@ fn index_scope(
     enter(read, out, scope, bound)
 }
 
-// One of a row of refs.
+// Plans one of a row of refs.
 fn plan_ref(
     read: Reading,
     out: &mut Writing,

@@ -1,4 +1,4 @@
-//! What names mean at a place of a model.
+//! The meanings of names at a place of a model.
 
 use crate::binder::NameKind;
 use crate::wrong::Span;
@@ -7,8 +7,8 @@ use model_forms::Block;
 /// The end of a list of binders, or of uses.
 pub(crate) const NONE: usize = usize::MAX;
 
-/// What is seen at a place: the innermost binder, the innermost use of a definition around it, and the number of bytes
-/// of the source before which a definition or a constant stands to be seen.
+/// What a place sees: the innermost binder, the innermost use of a definition around it, and a limit. The place sees
+/// the definitions and constants that begin before this number of bytes of the source.
 #[derive(Clone, Copy)]
 pub(crate) struct View {
     pub(crate) scope: usize,
@@ -16,7 +16,7 @@ pub(crate) struct View {
     pub(crate) limit: usize,
 }
 
-/// The fiber that a term belongs to.
+/// The fiber that runs a term.
 #[derive(Clone, Copy)]
 pub(crate) enum FiberName {
     Main,
@@ -28,27 +28,27 @@ pub(crate) enum FiberName {
     Row(usize, usize),
 }
 
-/// Where a term stands: what is seen there, and the fiber that it belongs to.
+/// The surroundings of a term: what it sees, and the fiber that runs it.
 #[derive(Clone, Copy)]
 pub(crate) struct Here {
     pub(crate) view: View,
     pub(crate) fiber: FiberName,
 }
 
-/// What a name means.
+/// The meaning of a name.
 #[derive(Clone, Copy)]
 pub(crate) enum Meaning {
     /// A number.
     Number(i64),
     /// The name of the term with this number.
     Name(NameKind, usize),
-    /// The names of the term from this number on, and how many.
+    /// The names of the term from this number on, and their number.
     Row(NameKind, usize, usize),
-    /// A term that was handed in, with this number.
+    /// A term that was passed to a definition, with this number.
     Term(usize),
 }
 
-/// A binder: the bytes that spell its name, what it means, and the next one around it.
+/// A binder: the bytes of its name, its meaning, and the next one around it.
 #[derive(Clone, Copy)]
 pub(crate) struct Bound {
     pub(crate) name: Span,
@@ -56,16 +56,16 @@ pub(crate) struct Bound {
     pub(crate) next: usize,
 }
 
-/// A term that was handed to a definition.
+/// A term that was passed to a definition.
 #[derive(Clone, Copy)]
 pub(crate) struct Handed {
     /// The number of its form.
     pub(crate) form: usize,
     /// The forms of its names.
     pub(crate) names: Block,
-    /// What is seen where it was handed in.
+    /// What the place sees where the term was passed.
     pub(crate) view: View,
-    /// Whether it stands for any term, where a definition is tried.
+    /// Whether it means any term, as in the trial of a definition.
     pub(crate) any: bool,
 }
 

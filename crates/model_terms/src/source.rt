@@ -1,4 +1,4 @@
-//! A model file behind the definitions that every file has.
+//! A model file, preceded by the definitions that every file has.
 
 ghost use Rattle.std.specs.Prelude.{◌≡◌, IfOk, drop};
 ghost use Rattle.model_text.specs.Files.{IsFile};
@@ -26,12 +26,12 @@ pub fn prelude() -> &'static str {
     PRELUDE
 }
 
-/// A model file behind the definitions that every file has. Places and forms count from the first of these.
+/// A model file, preceded by the definitions that every file has. Places and forms count from the first of these.
 #[derive(Drop)]
 pub struct Source {
-    /// The definitions that every file has, and behind them the file.
+    /// The definitions that every file has, and then the file.
     pub text: Vec<u8>,
-    /// How many bytes of the text are the definitions that every file has.
+    /// The number of bytes of the definitions that every file has.
     pub prelude: usize,
     /// The forms and items of the text.
     pub file: ModelFile,
@@ -39,7 +39,7 @@ pub struct Source {
     names: ItemNames,
 }
 
-/// What of a source is read by a translation.
+/// The parts of a source that a translation reads.
 pub(crate) fn reading_of(source: &Source) -> Reading<'_> {
     Reading {
         text: source.text.as_slice(),
@@ -51,11 +51,11 @@ pub(crate) fn reading_of(source: &Source) -> Reading<'_> {
 /// Why a name is refused.
 #[derive(Clone, Copy)]
 pub(crate) enum NameFault {
-    /// It is a word of the language.
+    /// The name is a word of the language.
     Word,
-    /// Another definition or constant has it: where that begins.
+    /// Another definition or constant, which begins here, has it.
     Twice(usize),
-    /// Another model has it: where that begins.
+    /// Another model, which begins here, has it.
     TwoModels(usize),
 }
 
@@ -67,12 +67,12 @@ fn is_word(spelled: &[u8]) -> bool {
     }
 }
 
-// Whether a name stands for a model.
+// Whether a name is that of a model.
 fn is_model(item: NamedItem) -> bool {
     matches!(item, NamedItem::Model)
 }
 
-// Why a name is refused beside those above it, if it is.
+// Why a name is refused after those above it, if it is.
 fn name_fault(names: &ItemNames, text: &[u8], name: Span, item: NamedItem) -> Option<NameFault> {
     let spelled = bytes_of(text, name);
     let model = is_model(item);
@@ -87,7 +87,7 @@ fn name_fault(names: &ItemNames, text: &[u8], name: Span, item: NamedItem) -> Op
     }
 }
 
-// The names of the items, or the first one that is refused.
+// The names of the items, or the first refused one.
 fn names_of(
     names: &mut ItemNames,
     text: &[u8],
@@ -104,11 +104,11 @@ fn names_of(
     Ok(None)
 }
 
-/// Reads a file behind the definitions that every file has, and tries each of its definitions.
+/// Reads a file, preceded by the definitions that every file has, and tries each of its definitions.
 ///
 /// # Errors
-/// [`Refused::Fault`] with the first fault: one of the brackets and strings of the file, or else of its items, or else
-/// of their names, or else of a definition. [`Refused::NoMemory`] where memory ran out.
+/// Returns [`Refused::Fault`] with the first fault: of the brackets and strings of the file, or else of its items, or
+/// else of their names, or else of a definition. Returns [`Refused::NoMemory`] if memory ran out.
 pub fn read_source(alloc: Global, bytes: &[u8]) -> Result<Source, Refused>
     ensures behind { IfOk result (λ s. drop s.prelude s.text.items ≡ bytes.now) }
     ensures file { IfOk result (λ s. IsFile s.text.items s.file) }

@@ -1,14 +1,15 @@
-//! The names of a term: no two are spelled alike.
+//! The names of a term, no two of which have the same spelling.
 
 use crate::named::list_of;
 use crate::scope::NONE;
 use itoa::Buffer;
 use std::alloc::{AllocError, Global};
 
-// How many lists of spellings there are.
+// The number of lists of spellings.
 const LISTS: usize = 1024;
 
-// A name: its bytes among all, the next number to try behind it where it is wanted again, and the next one of its list.
+// A name: the range of its bytes, the next number to try behind it if it is wanted again, and the next name of its
+// list.
 #[derive(Clone, Copy)]
 struct Spelling {
     start: usize,
@@ -26,7 +27,7 @@ pub(crate) struct Spellings {
 }
 
 impl Spellings {
-    /// No names.
+    /// Without names.
     pub(crate) fn new(alloc: Global) -> Result<Spellings, AllocError> {
         let mut lists = Vec::with_capacity(alloc, LISTS)?;
         for _ in 0..LISTS {
@@ -54,7 +55,7 @@ impl Spellings {
         self.bytes.as_slice().get(start..end).unwrap_or(&[])
     }
 
-    // The number of the name that is spelled as the bytes from this one on are.
+    // The number of the name whose spelling is the bytes from this one on.
     fn find(&self, start: usize) -> Option<usize> {
         let wanted = self.range(start, self.bytes.len());
         let mut at = self
@@ -72,7 +73,7 @@ impl Spellings {
         None
     }
 
-    // Takes the bytes from this one on for a name.
+    // Makes a name of the bytes from this one on.
     fn take(&mut self, start: usize) -> Result<usize, AllocError> {
         let end = self.bytes.len();
         let list = list_of(self.range(start, end), LISTS);
@@ -90,7 +91,7 @@ impl Spellings {
         Ok(number)
     }
 
-    // Adds the small letters and digits of a name, and an `x` before them where the first is a digit.
+    // Appends the small letters and digits of a name, with an `x` before them if the first is a digit.
     fn write_base(&mut self, name: &[u8]) -> Result<(), AllocError> {
         let start = self.bytes.len();
         for byte in name {
@@ -107,7 +108,7 @@ impl Spellings {
         Ok(())
     }
 
-    // Adds what stands behind a name that is taken.
+    // Appends the number behind a name that is taken.
     fn write_number(&mut self, number: usize) -> Result<(), AllocError> {
         let ends_in_digit = match self.bytes.as_slice().last() {
             Some(byte) => byte.is_ascii_digit(),
@@ -121,7 +122,7 @@ impl Spellings {
             .extend_from_slice(buffer.format(number).as_bytes())
     }
 
-    // The number from which on to try, behind the name with this number.
+    // The first number to try behind the name with this number.
     fn number_behind(&self, number: usize) -> usize {
         match self.spellings.get(number) {
             Some(spelling) => spelling.number,
@@ -129,14 +130,14 @@ impl Spellings {
         }
     }
 
-    // Keeps where to go on.
+    // Stores the next number to try.
     fn keep_number(&mut self, number: usize, behind: usize) {
         if let Some(spelling) = self.spellings.get_mut(number) {
             spelling.number = behind;
         }
     }
 
-    /// The number of a new name, spelled nearly as this one.
+    /// The number of a new name, with a spelling near this one.
     pub(crate) fn fresh(&mut self, name: &[u8]) -> Result<usize, AllocError> {
         let start = self.bytes.len();
         self.write_base(name)?;
@@ -146,7 +147,7 @@ impl Spellings {
         }
     }
 
-    // A new name, with a number behind the bytes from this one on, which are taken.
+    // A new name: the bytes from `start` on, which are taken, with a number behind them.
     fn numbered(&mut self, start: usize, taken: usize) -> Result<usize, AllocError> {
         let end = self.bytes.len();
         let mut number = self.number_behind(taken);

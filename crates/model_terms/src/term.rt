@@ -16,10 +16,10 @@ use model_forms::{Block, FormKind, behind_first};
 use model_text::Definition;
 use term_parse::{Word, word_of};
 
-// How many steps a translation may take.
+// The greatest number of steps of a translation.
 const MOST_STEPS: usize = 4_000_000;
 
-/// Writes what is left to write.
+/// Writes the rest of a term.
 pub(crate) fn write_all(read: Reading, out: &mut Writing) -> Result<(), Stop> {
     for _ in 0..MOST_STEPS {
         out.settle()?;
@@ -48,7 +48,7 @@ fn step(read: Reading, out: &mut Writing, task: Task) -> Result<(), Stop> {
     }
 }
 
-// The form of the language with this number, whose first part was picked from a row.
+// Writes the form of the language with this number, whose first part is a name of a row.
 fn one(read: Reading, out: &mut Writing, at: usize, name: usize, here: Here) -> Result<(), Stop> {
     match word_of(read.head(at)) {
         Some(word) => one_form(read, out, at, word, name, here),
@@ -56,7 +56,7 @@ fn one(read: Reading, out: &mut Writing, at: usize, name: usize, here: Here) -> 
     }
 }
 
-// The term that the form with this number means.
+// Writes the term that the form with this number means.
 fn term(read: Reading, out: &mut Writing, at: usize, here: Here) -> Result<(), Stop> {
     match read.kind(at) {
         FormKind::Word | FormKind::Text => {
@@ -69,7 +69,7 @@ fn term(read: Reading, out: &mut Writing, at: usize, here: Here) -> Result<(), S
     }
 }
 
-// The term that a list means.
+// Writes the term that a list means.
 fn list(read: Reading, out: &mut Writing, at: usize, here: Here) -> Result<(), Stop> {
     let inside = inside_at(read.forms, at);
     let Some(head) = first_of(read.forms, inside) else {
@@ -91,7 +91,7 @@ fn list(read: Reading, out: &mut Writing, at: usize, here: Here) -> Result<(), S
     worded(read, out, at, head, here)
 }
 
-// The definition of this name, if one stands above.
+// The definition of this name, if there is one above.
 fn definition_of(read: Reading, spelled: &[u8], here: Here) -> Option<Definition> {
     let found = read.named.find(read.text, spelled, false)?;
     if found.name.start < here.view.limit {
@@ -104,7 +104,7 @@ fn definition_of(read: Reading, spelled: &[u8], here: Here) -> Option<Definition
     }
 }
 
-// The term that a list means, by its word.
+// Writes the term that a list means by its word.
 fn worded(
     read: Reading,
     out: &mut Writing,
@@ -132,7 +132,7 @@ fn worded(
     }
 }
 
-// The statements of a block, one of which binds a name for those behind it, or none.
+// Plans the statements of a block. The first can bind a name for those behind it.
 fn statements(
     read: Reading,
     out: &mut Writing,
@@ -165,7 +165,7 @@ fn statements(
     Ok(())
 }
 
-// The word of the language at the head of a list, where no definition has its name.
+// The word of the language at the head of a list, if no definition has its name.
 fn short_word(read: Reading, at: usize, here: Here) -> Option<Word> {
     let spelled = read.head(at);
     if definition_of(read, spelled, here).is_some() {
@@ -186,7 +186,7 @@ fn binds_below(read: Reading, at: usize, here: Here) -> bool {
     }
 }
 
-// A statement that binds a name for these, which stand behind it.
+// Writes a statement that binds a name for these, which follow it.
 fn binding(
     read: Reading,
     out: &mut Writing,

@@ -5,7 +5,7 @@ use crate::wrong::Sort;
 use itoa::Buffer;
 use std::alloc::AllocError;
 
-// How many bytes of a name are shown.
+// The greatest number of bytes of a name that are shown.
 const MOST_SHOWN: usize = 40;
 
 /// Adds text.
@@ -19,7 +19,7 @@ pub(crate) fn tell_count(told: &mut Vec<u8>, number: usize) -> Result<(), AllocE
     told.extend_from_slice(buffer.format(number).as_bytes())
 }
 
-/// Adds a number that may be below zero.
+/// Adds a number, with its sign.
 pub(crate) fn tell_number(told: &mut Vec<u8>, number: i64) -> Result<(), AllocError> {
     let mut buffer = Buffer::new();
     told.extend_from_slice(buffer.format(number).as_bytes())
@@ -33,7 +33,7 @@ fn digit(number: u8) -> u8 {
     }
 }
 
-// Adds a byte: itself where it is printable ASCII, and else its two hexadecimal digits.
+// Adds a byte: itself if it is printable ASCII, otherwise its two hexadecimal digits.
 fn tell_byte(told: &mut Vec<u8>, byte: u8) -> Result<(), AllocError> {
     if byte < b' ' || b'~' < byte {
         told.extend_from_slice(&[b'\\', b'x', digit(byte / 16), digit(byte % 16)])
@@ -43,7 +43,7 @@ fn tell_byte(told: &mut Vec<u8>, byte: u8) -> Result<(), AllocError> {
     }
 }
 
-/// Adds a name, of which the front is shown where it is long.
+/// Adds a name; only the beginning of a long one is shown.
 pub(crate) fn tell_name(told: &mut Vec<u8>, spelled: &[u8]) -> Result<(), AllocError> {
     for byte in spelled.iter().take(MOST_SHOWN) {
         tell_byte(told, *byte)?;
@@ -73,7 +73,7 @@ pub(crate) fn kind_word(kind: NameKind) -> &'static str {
     }
 }
 
-/// The word for what a use stands for.
+/// The word for the sort of a use.
 pub(crate) fn sort_word(sort: Sort) -> &'static str {
     match sort {
         Sort::Name(kind) => kind_word(kind),
@@ -81,7 +81,7 @@ pub(crate) fn sort_word(sort: Sort) -> &'static str {
     }
 }
 
-/// Adds what a use stands for: `a value`, `a term`, or `the name of a` and its kind.
+/// Adds the sort of a use: `a value`, `a term`, or `the name of a` and its kind.
 pub(crate) fn tell_sort(told: &mut Vec<u8>, sort: Sort) -> Result<(), AllocError> {
     match sort {
         Sort::Name(NameKind::Value) | Sort::Term => tell(told, "a ")?,

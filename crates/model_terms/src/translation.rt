@@ -20,25 +20,25 @@ use term_parse::Word;
 /// A fiber's name in a file, and a value that it says.
 #[derive(Clone, Copy)]
 pub struct Said {
-    /// The number of the form that spells the fiber's name, as the claim spells it: `w`, `w.1`, `main`.
+    /// The number of the form that spells the fiber's name, as in the claim: `w`, `w.1`, `main`.
     pub fiber: usize,
     /// The value.
     pub value: Value,
 }
 
-/// What is put into a term so that its reports show more.
+/// An addition to a term, by which its reports show more.
 #[derive(Clone, Copy)]
 pub enum Probe {
     /// Nothing.
     Nothing,
-    /// Beside each ref that this binder makes, a fiber reads it once, at any moment, and ends with what it held.
+    /// Beside each ref that this binder makes, a fiber that reads it once, at any moment, and ends with its value.
     Watch(BinderName),
-    /// A hidden ref tells whether the first was said before the second: where it wasn't, the fiber that says the
-    /// second says [`LATE`] before it.
+    /// A hidden ref that records whether the first `say` came before the second. If it didn't, the fiber says [`LATE`]
+    /// before the second.
     Order(Said, Said),
 }
 
-/// What is said before the second of two, where the first wasn't said before it.
+/// The value that is said before the second of two `say`s if the first didn't come before it.
 pub const LATE: i64 = 4611686018427387901;
 
 /// The term of a model, as text.
@@ -48,13 +48,13 @@ pub struct ModelTerm {
     pub text: Vec<u8>,
     /// Its binders, in the order of the text.
     pub binders: Vec<Binder>,
-    /// Where its forms come from, in the order of the text.
+    /// The places in the file that its forms come from, in the order of the text.
     pub places: Vec<WordPlace>,
-    /// The forms of the file that read a ref, add to it and set it, as two moves, between which another fiber may come.
+    /// The forms of the file that read a ref, add to it and set it, as two moves; another fiber can move between them.
     pub torn: Vec<usize>,
 }
 
-// What is seen at the statements of what has a name that begins here.
+// What the statements of a definition or a model see, if its name begins here.
 fn top(limit: usize) -> Here {
     let view = View {
         scope: NONE,
@@ -67,7 +67,7 @@ fn top(limit: usize) -> Here {
     }
 }
 
-// Leaves the statements of a model to write.
+// Plans the statements of a model.
 fn plan_model(read: Reading, out: &mut Writing, model: &Model) -> Result<(), Stop> {
     let here = top(model.name.start);
     match out.said {
@@ -85,7 +85,7 @@ fn plan_model(read: Reading, out: &mut Writing, model: &Model) -> Result<(), Sto
     }
 }
 
-// A fiber that says a value.
+// The `say` of a fiber and a value.
 fn said_by(said: &Said) -> SaidBy {
     SaidBy {
         fiber: said.fiber,
@@ -93,7 +93,7 @@ fn said_by(said: &Said) -> SaidBy {
     }
 }
 
-// Keeps what a probe puts into a term.
+// Stores what a probe adds to a term.
 fn keep_probe(out: &mut Writing, probe: &Probe) {
     match probe {
         Probe::Nothing => {}
@@ -112,11 +112,11 @@ fn write_model(read: Reading, out: &mut Writing, model: &Model) -> Result<(), St
     write_all(read, out)
 }
 
-/// The term of a model of a source, with what a probe puts into it.
+/// The term of a model of a source, with the additions of a probe.
 ///
 /// # Errors
-/// [`Refused::Fault`] where the model has a fault: the first one of its forms, in the order in which the term is
-/// written. [`Refused::NoMemory`] where memory ran out.
+/// Returns [`Refused::Fault`] if the model has a fault: the first one of its forms, in the order in which the term is
+/// written. Returns [`Refused::NoMemory`] if memory ran out.
 pub fn translate(
     alloc: Global,
     source: &Source,
@@ -139,7 +139,7 @@ pub fn translate(
     }
 }
 
-// Whether all binders lie within so many bytes.
+// Whether all binders are within the first `count` bytes.
 fn are_within(binders: &[Binder], count: usize) -> bool
     ensures { IsTrue result ↔ All (λ b. (b.start ≤ b.end) × (b.end ≤ count)) binders.now }
 {
@@ -148,14 +148,14 @@ fn are_within(binders: &[Binder], count: usize) -> bool
         .all(|binder| binder.start <= binder.end && binder.end <= count)
 }
 
-// Whether all places lie within so many bytes.
+// Whether all places are within the first `count` bytes.
 fn are_places_within(places: &[WordPlace], count: usize) -> bool
     ensures { IsTrue result ↔ All (λ p. p.term < count) places.now }
 {
     places.iter().all(|place| place.term < count)
 }
 
-// The term that is written, where it is as long as a term may be at most, and its binders and places lie within it.
+// The written term, if it is within its limit, and its binders and places are within it.
 fn finished(alloc: Global, read: Reading, out: Writing, model: &Model) -> Result<ModelTerm, Refused>
     ensures short { IfOk result (λ t. vec_len t.text ≤ 65536) }
     ensures binders { IfOk result (λ t. All (λ b. (b.start ≤ b.end) × (b.end ≤ vec_len t.text)) t.binders.items) }
@@ -172,7 +172,7 @@ fn finished(alloc: Global, read: Reading, out: Writing, model: &Model) -> Result
     Ok(term_of(out))
 }
 
-// The term that is written.
+// The written term.
 fn term_of(out: Writing) -> ModelTerm
     ensures text { result.text ≡ out.text }
     ensures binders { result.binders ≡ out.binders }

@@ -1,4 +1,4 @@
-//! Definitions are tried where they stand, so that their faults are told there.
+//! Trials of definitions, so that their faults are reported at their own places.
 
 use crate::named::{ItemName, NamedItem};
 use crate::reading::{Reading, bytes_of, first_of};
@@ -13,10 +13,10 @@ use model_forms::behind_first;
 use model_text::Definition;
 use std::alloc::Global;
 
-// How much work the trials of all definitions of a file may be.
+// The greatest amount of work for the trials of all definitions of a file.
 const MOST_WORK: usize = 1_000_000;
 
-// What a part of a definition means while that is tried: 0, a new name, or any term.
+// The meaning of a part of a definition in its trial: 0, a new name, or any term.
 fn tried_meaning(
     read: Reading,
     out: &mut Writing,
@@ -42,7 +42,7 @@ fn tried_meaning(
     }
 }
 
-// Writes the term of a definition, whose parts are anything of their kinds.
+// Writes the term of a definition, with any meanings of their kinds for its parts.
 fn write_definition(read: Reading, out: &mut Writing, definition: Definition) -> Result<(), Stop> {
     let limit = definition.name.start;
     let mut scope = NONE;
@@ -74,7 +74,7 @@ fn write_definition(read: Reading, out: &mut Writing, definition: Definition) ->
     write_all(read, out)
 }
 
-// Tries one definition with so much work at most, and returns how much of it is left.
+// Tries one definition with at most `work` steps, and returns how many are left.
 fn try_definition(
     alloc: Global,
     read: Reading,
@@ -95,7 +95,7 @@ fn try_definition(
     }
 }
 
-/// Tries each definition of a file, while the work for all isn't used up.
+/// Tries the definitions of a file, one after another, until the work for all is used up.
 pub(crate) fn try_definitions(alloc: Global, read: Reading, prelude: usize) -> Result<(), Refused> {
     let mut work = MOST_WORK;
     for name in read.named.names() {

@@ -1,4 +1,4 @@
-//! Uses of definitions, and of the terms that are handed to them.
+//! Uses of definitions, and of the terms that are passed to them.
 
 use crate::binder::NameKind;
 use crate::condition::then_zero;
@@ -23,7 +23,7 @@ pub(crate) enum PartKind {
     Term,
 }
 
-/// A part of a definition: its name, its kind, and the forms of its names, where it is a term.
+/// A part of a definition: its name, its kind, and, if it is a term, the forms of its names.
 #[derive(Clone, Copy)]
 pub(crate) struct DefinedPart {
     pub(crate) name: Span,
@@ -31,7 +31,7 @@ pub(crate) struct DefinedPart {
     pub(crate) names: Block,
 }
 
-// The kind that is spelled so.
+// The kind with this spelling.
 fn kind_spelled(spelled: &[u8]) -> PartKind {
     match spelled {
         b"ref" => PartKind::Name(NameKind::Ref),
@@ -42,7 +42,7 @@ fn kind_spelled(spelled: &[u8]) -> PartKind {
     }
 }
 
-// No forms.
+// An empty block.
 fn no_forms() -> Block {
     Block { first: 0, end: 0 }
 }
@@ -87,15 +87,15 @@ fn word_part(read: Reading, at: usize) -> DefinedPart {
     }
 }
 
-// What the parts of a use lead to: the scope of the definition's body, and a row that is handed in, each of which is
-// to be taken in turn.
+// The parts of a use: the scope of the definition's body, and a row, if one is passed. The body is written once for
+// each name of the row.
 #[derive(Clone, Copy)]
 struct Parts {
     scope: usize,
     row: Option<Bound>,
 }
 
-/// The use of a definition by the form with this number.
+/// Writes the use of a definition by the form with this number.
 pub(crate) fn use_definition(
     read: Reading,
     out: &mut Writing,
@@ -135,7 +135,7 @@ pub(crate) fn use_definition(
     out.then(Task::Close(open))
 }
 
-// The parts of a use, one after another.
+// Binds the parts of a use, one after another.
 fn use_parts(
     read: Reading,
     out: &mut Writing,
@@ -163,7 +163,7 @@ fn use_parts(
     Ok(parts)
 }
 
-// One part of a use, which is the form with this number.
+// Binds one part of a use, which is the form with this number.
 fn use_part(
     read: Reading,
     out: &mut Writing,
@@ -200,7 +200,7 @@ fn bind_part(
     })
 }
 
-// What a value means.
+// The meaning of a value.
 fn meaning_from(operand: Operand) -> Meaning {
     match operand {
         Operand::Number(number) => Meaning::Number(number),
@@ -208,7 +208,7 @@ fn meaning_from(operand: Operand) -> Meaning {
     }
 }
 
-// A part that is a name of a kind, or of each of a row.
+// Binds a part that is a name of a kind, or keeps a row of such names.
 fn use_name(
     read: Reading,
     out: &mut Writing,
@@ -239,7 +239,7 @@ fn use_name(
     }
 }
 
-// The row of a kind that a form is.
+// The row of this kind that a form names, if it does.
 fn row_at(
     read: Reading,
     out: &mut Writing,
@@ -263,7 +263,7 @@ fn row_at(
     }
 }
 
-// A part that is a term.
+// Binds a part that is a term.
 fn hand_in(
     read: Reading,
     out: &mut Writing,
@@ -301,7 +301,7 @@ fn hand_in(
     Ok(Meaning::Term(number))
 }
 
-// Tests that the forms of a block are names.
+// Checks that the forms of a block are names.
 fn want_names(read: Reading, names: Block, here: Here) -> Result<(), Stop> {
     let mut rest = names;
     for _ in 0..read.forms.len() {
@@ -314,7 +314,7 @@ fn want_names(read: Reading, names: Block, here: Here) -> Result<(), Stop> {
     Ok(())
 }
 
-// The body of a definition, for each of a row where one was handed in.
+// Plans the body of a definition, once for each name of a row if one was passed.
 fn plan_bodies(
     read: Reading,
     out: &mut Writing,
@@ -343,7 +343,7 @@ fn plan_bodies(
     Ok(())
 }
 
-/// The statements of a definition: one is a term by itself.
+/// Plans the statements of a definition. A single statement is a term, without a `seq`.
 pub(crate) fn plan_body(
     read: Reading,
     out: &mut Writing,
@@ -357,7 +357,7 @@ pub(crate) fn plan_body(
     }
 }
 
-/// The use of a term that was handed in, by the form with this number.
+/// Writes the use of a term that was passed, by the form with this number.
 pub(crate) fn use_handed(
     read: Reading,
     out: &mut Writing,
@@ -395,7 +395,7 @@ pub(crate) fn use_handed(
     out.then(Task::Close(open))
 }
 
-// The scope of a term that was handed in, with its names.
+// The scope of a term that was passed, with its names.
 fn handed_scope(
     read: Reading,
     out: &mut Writing,
@@ -422,7 +422,7 @@ fn handed_scope(
     Ok(scope)
 }
 
-// What is given for a name of a term that was handed in: anything but a term, and a whole row too.
+// The meaning of what is given for a name of a term that was passed: anything other than a term, also a whole row.
 fn handed_meaning(
     read: Reading,
     out: &mut Writing,
@@ -439,7 +439,7 @@ fn handed_meaning(
     Ok(meaning_from(operand))
 }
 
-// Whether a form is a word that names something here, or one of a row.
+// Whether a form is a word that names something here, or an element of it.
 fn names_thing(read: Reading, out: &mut Writing, arg: usize, here: Here) -> Result<bool, Stop> {
     match read.kind(arg) {
         FormKind::Word => {}

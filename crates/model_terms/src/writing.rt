@@ -1,4 +1,4 @@
-//! The term as far as it is written, and what is left to write.
+//! The term as far as it is written, and the rest that is planned.
 
 use crate::binder::{Binder, BinderName, NameKind, WordPlace};
 use crate::reading::bytes_of;
@@ -10,16 +10,16 @@ use itoa::Buffer;
 use std::alloc::{AllocError, Global};
 use term_parse::{Word, spelling_of};
 
-/// How many bytes a term may have.
+/// The greatest number of bytes of a term.
 pub(crate) const MOST_BYTES: usize = 65536;
 
-// How many brackets of a term may be open.
+// The greatest number of open brackets of a term.
 const MOST_OPEN: usize = 100;
 
-// How many names may be looked at, and steps be made.
+// The greatest number of looks at names and of steps together.
 const MOST_WORK: usize = 5_000_000;
 
-/// A fiber that says a value: the number of the form that spells the fiber's name, and the value.
+/// A `say` of a fiber: the number of the form that spells the fiber's name, and the value.
 #[derive(Clone, Copy)]
 pub(crate) struct SaidBy {
     pub(crate) fiber: usize,
@@ -35,30 +35,30 @@ pub(crate) struct Writing {
     pub(crate) torn: Vec<usize>,
     /// The binder whose refs are watched.
     pub(crate) watched: Option<BinderName>,
-    /// The two whose order is looked at.
+    /// The two `say`s whose order is compared.
     pub(crate) said: Option<(SaidBy, SaidBy)>,
-    /// The name of the hidden ref that an order is kept in.
+    /// The name of the hidden ref for the order.
     pub(crate) order: usize,
     pub(crate) spellings: Spellings,
     pub(crate) bounds: Vec<Bound>,
     pub(crate) handed: Vec<Handed>,
     pub(crate) uses: Vec<Use>,
-    /// What the step under way leaves to write, first what comes first.
+    /// What the present step plans, the next task first.
     pub(crate) plan: Vec<Task>,
-    /// What is left to write, last what comes first.
+    /// The rest that is planned, the next task last.
     pub(crate) stack: Vec<Task>,
     /// The values of the form under way.
     pub(crate) values: Vec<Operand>,
     /// The binders of the form under way.
     pub(crate) made: Vec<Bound>,
-    /// How many `let`s are open around the form under way.
+    /// The number of open `let`s around the form under way.
     pub(crate) lets: usize,
     open: usize,
     work: usize,
 }
 
 impl Writing {
-    /// Nothing is written yet.
+    /// A term of which nothing is written.
     pub(crate) fn new(alloc: Global) -> Result<Writing, AllocError> {
         let spellings = Spellings::new(alloc)?;
         Ok(Writing {
@@ -83,7 +83,7 @@ impl Writing {
         })
     }
 
-    /// Pays for so many looks at names, or steps.
+    /// Counts this many looks at names, or steps.
     pub(crate) fn pay(&mut self, count: usize) -> Result<(), Stop> {
         match self.work.checked_sub(count) {
             Some(left) => {
@@ -94,17 +94,17 @@ impl Writing {
         }
     }
 
-    /// The limit on steps of a definition that is tried.
+    /// Limits the work, for a definition that is tried.
     pub(crate) fn limit_work(&mut self, most: usize) {
         self.work = self.work.min(most);
     }
 
-    /// How much work is left.
+    /// The amount of work that is left.
     pub(crate) fn work_left(&self) -> usize {
         self.work
     }
 
-    /// Puts what the step left onto what is left to write.
+    /// Moves what the step planned onto the stack.
     pub(crate) fn settle(&mut self) -> Result<(), Stop> {
         let mut left = self.plan.len();
         for _ in 0..self.plan.len() {
@@ -117,7 +117,7 @@ impl Writing {
         Ok(())
     }
 
-    /// Leaves a task.
+    /// Plans a task.
     pub(crate) fn then(&mut self, task: Task) -> Result<(), Stop> {
         self.plan.push(task)?;
         Ok(())
@@ -146,7 +146,7 @@ impl Writing {
         Ok(number)
     }
 
-    /// What this spelling means in a scope, if it has a binder there.
+    /// The meaning of this spelling in a scope, if it has a binder there.
     pub(crate) fn innermost(
         &mut self,
         text: &[u8],
@@ -171,7 +171,7 @@ impl Writing {
         Ok(found)
     }
 
-    // Writes bytes, where the term may have so many.
+    // Writes bytes, unless the term becomes too long.
     fn write(&mut self, bytes: &[u8]) -> Result<(), Stop> {
         if MOST_BYTES < self.text.len().saturating_add(bytes.len()) {
             return Err(Stop::Limit(Limit::TooLong));
@@ -180,7 +180,7 @@ impl Writing {
         Ok(())
     }
 
-    // Writes a space, but at the beginning.
+    // Writes a space, except at the beginning.
     fn write_space(&mut self) -> Result<(), Stop> {
         if self.text.is_empty() {
             return Ok(());

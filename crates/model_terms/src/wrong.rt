@@ -1,4 +1,4 @@
-//! What is wrong with a model, before it is put into words.
+//! The faults of a model, before they are put into words.
 
 use crate::binder::NameKind;
 use crate::scope::View;
@@ -11,14 +11,14 @@ pub(crate) struct Span {
     pub(crate) end: usize,
 }
 
-/// What a use stands for, in a message.
+/// The sort of a use, in a message.
 #[derive(Clone, Copy)]
 pub(crate) enum Sort {
     Name(NameKind),
     Term,
 }
 
-/// What is wrong at a place.
+/// The fault at a place.
 #[derive(Clone, Copy)]
 pub(crate) enum Wrong {
     /// A list is empty.
@@ -27,60 +27,60 @@ pub(crate) enum Wrong {
     NoWord,
     /// The word at the head of a list is unknown.
     UnknownWord,
-    /// A form has another number of parts: its word, the number wanted and the number given.
+    /// A form has a wrong number of parts: its word, the number expected and the number given.
     Parts(Span, usize, usize),
-    /// The same, of a form that binds a name in what follows: it is the last of its block.
+    /// The same for a form that binds a name in the statements behind it, and is the last of its block.
     LastBinder(Span, usize, usize),
-    /// The same, of a use of a definition, whose name is here.
+    /// The same for a use of a definition, which has this name.
     UseParts(Span, usize, usize),
     /// A row lacks what follows: its word.
     RowParts(Span),
-    /// Neither a name nor a name and an index stands where one is wanted.
+    /// A name, or a name and an index, is expected.
     NoIndex,
     /// A block is empty.
     EmptyBlock,
-    /// Nothing follows a form that binds a name for it: its word.
+    /// Nothing follows a form that binds a name for what follows: its word.
     NothingFollows(Span),
-    /// A condition is none.
+    /// A condition is expected.
     Condition,
-    /// A term with names is wanted: the part, the definition, and the forms of its names.
+    /// A term with names is expected: the part, the definition, and the forms of its names.
     Names(Span, Span, usize, usize),
     /// A name has no binder around it.
     Unbound,
-    /// A name is of another kind: what it is, and what was wanted.
+    /// A name is of another kind: its sort, and the expected one.
     OtherKind(Sort, Sort),
-    /// A number stands where a name is wanted.
+    /// A name is expected, and this is a number.
     NumberForName(NameKind),
-    /// A bracket stands where a name is wanted.
+    /// A name is expected, and this is a bracket.
     BracketForName(NameKind),
-    /// No name stands where one is bound.
+    /// A name to bind is expected.
     NoName,
-    /// A string stands in a term.
+    /// A term contains a string.
     StrayText,
-    /// No number, or one that is out of range.
+    /// A number is expected, or the number is out of range.
     NoNumber,
-    /// How many is wanted.
+    /// The size of a row is expected.
     HowMany,
-    /// A row has no such number: the row's name, how many it has, and the number.
+    /// A row has no such number: the row's name, its size, and the number.
     NoSuch(Span, usize, i64),
-    /// A name is no row.
+    /// A name isn't that of a row.
     NoRow(Span, Sort),
-    /// The number in a row isn't known.
+    /// The number in a row isn't known before the run.
     UnknownIndex(Span),
-    /// A whole row stands where one of it is wanted: how many it has.
+    /// A name is expected, and this is a whole row: its size.
     WholeRow(usize),
-    /// A second row is handed to one definition.
+    /// A second row is passed to one definition.
     SecondRow,
 }
 
-/// What a term goes past.
+/// The limit that a term passes.
 #[derive(Clone, Copy)]
 pub(crate) enum Limit {
-    /// It has too many bytes.
+    /// The term has too many bytes.
     TooLong,
     /// Too many brackets of it are open.
     TooDeep,
-    /// There is too much to do for it.
+    /// The translation takes too many steps.
     TooMuchWork,
 }
 
@@ -89,9 +89,9 @@ pub(crate) enum Limit {
 pub(crate) enum Stop {
     /// Memory ran out.
     NoMemory,
-    /// The term goes past this limit.
+    /// The term passes this limit.
     Limit(Limit),
-    /// This is wrong at these bytes, and so its names are seen there.
+    /// This is wrong at these bytes; the view has the names that they see.
     Wrong(Wrong, Span, View),
 }
 

@@ -1,11 +1,11 @@
-//! The first faults of brackets and strings, each with its place and its wording.
+//! The first faults of brackets and strings, each with its place and its message.
 
 use model_forms::{FormFault, read_forms};
 use reasons::position_at;
 use std::alloc::Global;
 use std::test::Fail;
 
-// A text, its first fault, and the line and column of that.
+// A text, its first fault, and the line and column of the fault.
 struct Row {
     text: &'static [u8],
     fault: FormFault,
@@ -99,7 +99,7 @@ fn a_text_has_this_first_fault(rt: HostRuntime) {
     }
 }
 
-// A fault, and its wording.
+// A fault, and its message.
 const WORDINGS: &[(FormFault, &str)] = &[
     (FormFault::NoMemory, "no memory"),
     (

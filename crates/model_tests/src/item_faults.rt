@@ -1,4 +1,4 @@
-//! The first faults of items, each with its place and its wording.
+//! The first faults of items, each with its place and its message.
 
 use model_forms::read_forms;
 use model_text::{ItemFault, read_items};
@@ -64,7 +64,8 @@ const MODELS: &[Row] = &[
     (b"(model m (run 1) (want 1))", ItemFault::BehindRun(17)),
 ];
 
-// Each list of a statement and of a claim begins with a word, no text stands there, and what begins as a number is one.
+// Each list of a statement and of a claim begins with a word, contains no text, and a word that begins like a number is
+// one.
 const STATEMENTS: &[Row] = &[
     (b"(define (f) ())", ItemFault::EmptyList(12)),
     (b"(define (f) (say ()))", ItemFault::EmptyList(17)),
@@ -124,7 +125,7 @@ fn a_place_is_a_line_and_a_column(rt: HostRuntime) {
     assert_eq!(rt; position.column, 3);
 }
 
-// A fault, and its wording.
+// A fault, and its message.
 const WORDINGS: &[(ItemFault, &str)] = &[
     (ItemFault::NoMemory, "no memory"),
     (

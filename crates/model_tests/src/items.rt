@@ -10,7 +10,7 @@ const FILE: &[u8] = b"(define N -2)
 (defaults (worlds 1) (seed 0))
 (model m \"t\" (want N) (count 3) (run (f N) 0))";
 
-// An item: the bytes of its name, its number, and how many forms its two blocks have.
+// An item: the bytes of its name, its number, and the number of forms in each of its two blocks.
 struct Wanted {
     name: &'static [u8],
     number: i64,
@@ -18,8 +18,8 @@ struct Wanted {
     second: usize,
 }
 
-// The parts `x`, `r:ref` and `(b y)` are 5 forms, `(say x)` and `(b x)` are 6, the bounds are 6; the model has 3 forms
-// in `(want N)`, 3 in `(count 3)` and 6 in its `run`, of which 4 are statements.
+// The parts `x`, `r:ref` and `(b y)` are 5 forms, `(say x)` and `(b x)` are 6, and the bounds are 6. The model has 3
+// forms in `(want N)`, 3 in `(count 3)` and 6 in its `run`, 4 of them in its statements.
 const WANTED: &[Wanted] = &[
     Wanted {
         name: b"N",
@@ -47,7 +47,7 @@ const WANTED: &[Wanted] = &[
     },
 ];
 
-// How many forms a block has, at any depth.
+// The number of forms in a block, at any depth.
 fn length(block: Block) -> usize {
     block.end.saturating_sub(block.first)
 }
@@ -75,7 +75,7 @@ fn is_so(item: &Item, wanted: &Wanted) -> bool {
     }
 }
 
-// How many items are those that are wanted, before the first that isn't.
+// The number of items that are as expected, before the first that isn't.
 fn right(items: &[Item]) -> usize {
     let mut right: usize = 0;
     for (item, wanted) in items.iter().zip(WANTED) {
@@ -112,7 +112,7 @@ fn count(alloc: Global, text: &[u8]) -> Result<usize, bool> {
     }
 }
 
-// Holds whichever request for memory is refused.
+// Holds with every request for memory refused in turn.
 #[test]
 fn items_are_read_or_memory_ran_out(rt: HostRuntime) {
     match count(rt.alloc(), FILE) {

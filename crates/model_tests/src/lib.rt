@@ -1,8 +1,8 @@
-//! Tests of the public calls that read model files, with answers worked by hand.
+//! Tests of the public calls that read model files. The expected answers are worked out by hand.
 //!
-//! The libraries promise what their calls answer, so these tests show what no proof does: that the calls succeed where
-//! memory is ample, and what their answers look like, each fault with its line, its column and its wording. The crate
-//! has nothing but its tests.
+//! The contracts of the libraries pin the results of their calls. These tests show what no proof does: that the calls
+//! succeed with ample memory, and what the messages look like, each fault with its line, its column and its message.
+//! The crate has only tests.
 #![tactic(auto)]
 
 #[cfg(test)]

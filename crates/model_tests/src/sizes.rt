@@ -4,7 +4,7 @@ use model_forms::{FormFault, read_forms};
 use std::alloc::{AllocError, Global};
 use std::test::Fail;
 
-// How many brackets a text of 1 MB has.
+// The number of brackets of a text of 1 MB.
 const MOST: usize = 1_000_000;
 
 fn fault_of_brackets(alloc: Global) -> Result<Option<FormFault>, AllocError> {
@@ -36,7 +36,7 @@ fn count(alloc: Global, text: &[u8]) -> Result<usize, FormFault> {
     Ok(forms.len())
 }
 
-// Holds whichever request for memory is refused.
+// Holds with every request for memory refused in turn.
 #[test]
 fn forms_are_read_or_memory_ran_out(rt: HostRuntime) {
     match count(rt.alloc(), b"(model m (want 1) (run (pure 1)))") {

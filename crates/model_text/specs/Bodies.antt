@@ -1,4 +1,4 @@
--- The first fault of statements, as far as their forms are looked at.
+-- The first fault of statements, as far as their forms are checked.
 use Rattle.std.specs.Prelude.{◌==◌, ◌&&◌, ◌||◌, ℕ, ℤ, Bool, true, false, List, [], ◌∷◌, Option, Some, None, slice_range, if◌then◌else◌}
 use Rattle.model_forms.specs.Rows.{Row, nothing, a_word, a_text, a_list}
 use Rattle.model_forms.specs.declared.form.Form.{Form}
@@ -12,7 +12,7 @@ abbrev pub is_no_number : Option ℤ → Bool
 is_no_number None = true
 is_no_number (Some n) = false
 
--- begins as a number and is none
+-- the bytes begin like a number and aren't one
 abbrev pub is_bad_number : List ℕ → Bool
 is_bad_number [] = false
 is_bad_number (b ∷ bs) = ((b == 45) || is_digit b) && is_no_number (number_of (b ∷ bs))
@@ -24,7 +24,7 @@ or_else None o = o
 abbrev pub number_fault : List ℕ → ℕ → Option ItemFault
 number_fault bs place = if is_bad_number bs then Some (faults.NotANumber place) else None
 
--- what stands at the head of a list has to be a word
+-- the head of a list must be a word
 abbrev pub list_fault : ℕ → Row → Option ItemFault
 list_fault place nothing = Some (faults.EmptyList place)
 list_fault place (a_word start end r) = None

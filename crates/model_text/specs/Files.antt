@@ -12,20 +12,20 @@ use Rattle.model_text.specs.declared.file.FileFault.{FileFault}
 use Rattle.model_text.specs.declared.file.FileFault.TheVariants.{Form, Item}
 use Rattle.model_text.specs.declared.file.ModelFile.{ModelFile}
 
--- a row spells the text, the file has its forms, and its items are those of that row
+-- a row spells the text, the file has its forms, and the items are those of the row
 pub record IsFile (text : List ℕ) (file : ModelFile) : Type 0 where
   pub row : Row
   pub spelled : Spells text row
   pub forms_are : file.forms.items ≡ flat row
   pub items_are : AreItems file.forms.items file.items.items (items_of text row)
 
--- a row spells the text, and this is the first fault of its items
+-- a row spells the text, and this is the first fault of the row's items
 pub record IsItemFault (text : List ℕ) (fault : ItemFault) : Type 0 where
   pub row : Row
   pub spelled : Spells text row
   pub fails : items_of text row ≡ Err fault
 
--- the first fault of a text: one of its brackets and strings, or else one of its items
+-- the first fault of a text: of its brackets and strings, or else of its items
 abbrev pub IsFileFault : List ℕ → FileFault → Type 0
 IsFileFault text (Form e) = IsFaultOf text e
 IsFileFault text (Item e) = e ≢ items.NoMemory → IsItemFault text e

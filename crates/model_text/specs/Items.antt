@@ -1,4 +1,4 @@
--- What the forms of a model file are, item by item, or the first fault.
+-- The items that the forms of a model file make, or the first fault.
 use Rattle.std.specs.Prelude.{◌&&◌, ℕ, ℤ, pos, negsuc, Bool, true, false, List, [], ◌∷◌, Option, Some, None, Result, Ok, Err, slice_range}
 use Rattle.std.specs.Prelude.{if◌then◌else◌}
 use Rattle.model_forms.specs.Rows.{Row, nothing, a_word, a_text, a_list, first_of, inside_of, behind_of}
@@ -40,11 +40,11 @@ keyword_as kinds.Word bs = keyword_of bs
 keyword_as kinds.Text bs = None
 keyword_as kinds.List bs = None
 
--- a word that is a name
+-- the word is a name
 abbrev pub is_name_form : List ℕ → Form → Bool
 is_name_form text f = is_name_as f.kind (bytes_of text f)
 
--- the number that a word is
+-- the number of a word, if it is one
 abbrev pub number_form : List ℕ → Form → Option ℤ
 number_form text f = number_as f.kind (bytes_of text f)
 
@@ -52,7 +52,7 @@ abbrev pub keyword_in : List ℕ → Option Form → Option Keyword
 keyword_in text None = None
 keyword_in text (Some f) = keyword_as f.kind (bytes_of text f)
 
--- what the first form of a row means at the head of a list
+-- the meaning of the first form of a row, as the head of a list
 unfoldable pub head_of : List ℕ → Row → Option Keyword
 head_of text row = keyword_in text (first_of row)
 
@@ -67,7 +67,7 @@ are_names text (a_word start end r) = is_name (slice_range text start end) && ar
 are_names text (a_text start end r) = false
 are_names text (a_list opening inner closing r) = false
 
--- a part that is a term: its name, and the names that it takes
+-- the part is a term: its name, and the names that it takes
 abbrev pub is_term_part : List ℕ → Row → Bool
 is_term_part text nothing = false
 is_term_part text (a_word start end r) = are_names text (a_word start end r)
@@ -81,7 +81,7 @@ fits_part text (a_word start end r) = is_part (slice_range text start end)
 fits_part text (a_text start end r) = false
 fits_part text (a_list opening inner closing r) = is_term_part text inner
 
--- the place of the first form that is no part
+-- the place of the first form that isn't a part
 unfoldable pub bad_part : List ℕ → Row → Option ℕ
 bad_part text nothing = None
 bad_part text (a_word start end r) = if is_part (slice_range text start end) then bad_part text r else Some start
@@ -107,7 +107,7 @@ is_bound_word (Some keywords.Run) = false
 is_bound_word (Some keywords.Claim) = false
 is_bound_word None = false
 
--- a word for a bound, a number that isn't negative, and no more
+-- a word for a bound, a number that isn't negative, and nothing else
 unfoldable pub is_bound_list : List ℕ → Row → Bool
 is_bound_list text row = is_bound_word (head_of text row) && is_amount text (first_of (behind_of row)) &&
     is_nothing (first_of (behind_of (behind_of row)))
@@ -119,7 +119,7 @@ fits_bound text (a_word start end r) = false
 fits_bound text (a_text start end r) = false
 fits_bound text (a_list opening inner closing r) = is_bound_list text inner
 
--- the place of the first form that is no bound
+-- the place of the first form that isn't a bound
 unfoldable pub bad_bound : List ℕ → Row → Option ℕ
 bad_bound text nothing = None
 bad_bound text (a_word start end r) = Some start
@@ -137,7 +137,7 @@ constant_from text place name row None = Err (faults.NotADefinition place)
 constant_from text place name row (Some second) =
     constant_with name second (number_form text second) (first_of (behind_of row))
 
--- behind the name of a constant stands its number, and no more
+-- a constant: its number follows its name, and nothing follows the number
 unfoldable pub constant_of : List ℕ → ℕ → Form → Row → Result ItemTree ItemFault
 constant_of text place name row =
     if is_name_form text name then constant_from text place name row (first_of row) else Err (faults.NotAName name.start)
@@ -156,7 +156,7 @@ definition_from text place list inside body (Some name) =
     (row_fault text body)
     else Err (faults.NotAName name.start)
 
--- inside the list stand the name and the parts, and behind it the statements
+-- a definition: the list has the name and the parts, and the statements follow it
 unfoldable pub definition_of : List ℕ → ℕ → Form → Row → Row → Result ItemTree ItemFault
 definition_of text place list inside body = definition_from text place list inside body (first_of inside)
 
@@ -169,12 +169,12 @@ abbrev pub define_from : List ℕ → ℕ → Row → Option Form → Result Ite
 define_from text place row None = Err (faults.NotADefinition place)
 define_from text place row (Some f) = define_as f.kind text place f row
 
--- what stands behind `define`
+-- the item of a list that begins with `define`
 unfoldable pub define_of : List ℕ → ℕ → Row → Result ItemTree ItemFault
 define_of text place row = define_from text place row (first_of row)
 
 -- ---- models
--- what a list of a model leads to: on to the next, to the model's statements, or to a fault
+-- the result of a list of a model: on to the next, the model's statements, or a fault
 pub data ClaimTree : Type 0 where
   more : ClaimTree
   done : Row → ClaimTree
@@ -201,11 +201,11 @@ claim_as (Some keywords.Defaults) text place inside rest = bad (faults.NotAClaim
 claim_as (Some keywords.Model) text place inside rest = bad (faults.NotAClaim place)
 claim_as None text place inside rest = bad (faults.NotAClaim place)
 
--- a list of a model, at this place, before these forms
+-- the result of a list of a model, at this place, before these forms
 unfoldable pub claim_of : List ℕ → ℕ → Row → Row → ClaimTree
 claim_of text place inside rest = claim_as (head_of text inside) text place inside rest
 
--- what the first form of a row leads to
+-- the result of the first form of a row
 abbrev pub claim_first : List ℕ → Row → ClaimTree
 claim_first text nothing = more
 claim_first text (a_word start end r) = bad (faults.NotAClaim start)
@@ -245,7 +245,7 @@ model_from text place row (Some name) =
     if is_name_form text name then model_named text name (behind_of row) (first_of (behind_of row))
     else Err (faults.NotAName name.start)
 
--- what stands behind `model`
+-- the item of a list that begins with `model`
 unfoldable pub model_of : List ℕ → ℕ → Row → Result ItemTree ItemFault
 model_of text place row = model_from text place row (first_of row)
 
@@ -263,11 +263,11 @@ item_as (Some keywords.Claim) text place row = Err (faults.NotAnItem place)
 item_as (Some keywords.Bound) text place row = Err (faults.NotAnItem place)
 item_as None text place row = Err (faults.NotAnItem place)
 
--- the item that a list at this place is, with this inside
+-- the item of a list at this place, with these forms inside
 unfoldable pub item_of : List ℕ → ℕ → Row → Result ItemTree ItemFault
 item_of text place inside = item_as (head_of text inside) text place (behind_of inside)
 
--- the item that the first form of a row is
+-- the item of the first form of a row
 abbrev pub item_first : List ℕ → Row → Result ItemTree ItemFault
 item_first text nothing = Err faults.NoMemory
 item_first text (a_word start end r) = Err (faults.NotAnItem start)

@@ -1,4 +1,4 @@
--- What the code's items stand for.
+-- The meaning of the code's items.
 use Rattle.std.specs.Prelude.{◌≡◌, ℕ, List, [], ◌∷◌, Option, Some, None, Result, Ok, Err}
 use Rattle.model_forms.specs.Rows.{Row, IsBlock}
 use Rattle.model_forms.specs.declared.block.Block.{Block}
@@ -10,7 +10,7 @@ use Rattle.model_text.specs.declared.item.Item.TheVariants as items
 use Rattle.model_text.specs.declared.model.ClaimStep.{ClaimStep}
 use Rattle.model_text.specs.declared.model.ClaimStep.TheVariants as steps
 
--- an item of the code stands for this one: its blocks are those rows
+-- the item of the code means this item: its blocks are the item's rows
 abbrev pub Stands : List Form → Item → ItemTree → Type 0
 Stands forms (items.Constant c) (a_constant name n) = (c.name ≡ name) × (c.number ≡ n)
 Stands forms (items.Definition d) (a_definition name parts body) =
@@ -27,12 +27,12 @@ AllStand forms (i ∷ is) (t ∷ ts) = Stands forms i t × AllStand forms is ts
 AllStand forms [] (t ∷ ts) = ⊥
 AllStand forms (i ∷ is) [] = ⊥
 
--- the code's items stand for these
+-- the code's items mean these
 abbrev pub AreItems : List Form → List Item → Result (List ItemTree) ItemFault → Type 0
 AreItems forms is (Ok ts) = AllStand forms is ts
 AreItems forms is (Err e) = ⊥
 
--- the code answers what the grammar does
+-- the code's result is that of the grammar
 abbrev pub Reads : List Form → Result Item ItemFault → Result ItemTree ItemFault → Type 0
 Reads forms (Ok i) (Ok t) = Stands forms i t
 Reads forms (Err e) (Err f) = e ≡ f

@@ -1,4 +1,4 @@
--- What single words mean.
+-- The meanings of single words.
 use Rattle.std.specs.Prelude.{◌==◌, ◌&&◌, ◌||◌, ◌+◌, ℕ, Bool, true, false, nat_le, List, [], ◌∷◌, Option, Some, None, codes, take, drop}
 use Rattle.std.specs.Prelude.{if◌then◌else◌, position}
 use Rattle.std.specs.Str.{bytes_eq}
@@ -9,7 +9,7 @@ use Rattle.model_text.specs.declared.word.Keyword.TheVariants as keywords
 abbrev pub is_letter : ℕ → Bool
 is_letter b = (nat_le 97 b && nat_le b 122) || (nat_le 65 b && nat_le b 90)
 
--- a name goes on with letters, digits, `-` and `_`
+-- letters, digits, `-` and `_` continue a name
 abbrev pub goes_on : ℕ → Bool
 goes_on b = is_letter b || is_digit b || (b == 45) || (b == 95)
 
@@ -22,7 +22,7 @@ abbrev pub is_name : List ℕ → Bool
 is_name [] = false
 is_name (b ∷ bs) = is_letter b && all_go_on bs
 
--- a part that is the name of something is of one of these kinds
+-- the kinds of a part that is a name of something
 abbrev pub is_kind : List ℕ → Bool
 is_kind bs =
     bytes_eq bs (codes "ref") || bytes_eq bs (codes "deferred") || bytes_eq bs (codes "fiber") || bytes_eq bs (codes "poll")
@@ -31,7 +31,7 @@ abbrev pub is_part_split : List ℕ → Option ℕ → Bool
 is_part_split bs (Some i) = is_name (take i bs) && is_kind (drop (i + 1) bs)
 is_part_split bs None = is_name bs
 
--- a part of a definition: a name that stands for a value, or a name, a colon and a kind
+-- a part of a definition: a name, for a value, or a name, a colon and a kind
 unfoldable pub is_part : List ℕ → Bool
 is_part bs = is_part_split bs (position (λ b. b == 58) bs)
 
@@ -46,7 +46,7 @@ is_bound bs =
     bytes_eq bs (codes "worlds") || bytes_eq bs (codes "entries") || bytes_eq bs (codes "fibers") || bytes_eq bs (codes "refs") ||
     bytes_eq bs (codes "deferreds") || bytes_eq bs (codes "count") || bytes_eq bs (codes "times") || bytes_eq bs (codes "seed")
 
--- what a word means at the head of a list
+-- the meaning of a word at the head of a list
 abbrev pub keyword_of : List ℕ → Option Keyword
 keyword_of bs =
     if bytes_eq bs (codes "define") then Some keywords.Define

@@ -1,5 +1,5 @@
-//! The forms of statements, as far as they are looked at: each list begins with a word, no text stands among them, and
-//! what begins as a number is one.
+//! The forms of statements, as far as they are checked: each list begins with a word, there is no text among them, and
+//! what begins like a number is one.
 
 ghost use Rattle.std.specs.Prelude.{◌≡◌, slice_range};
 ghost use Rattle.model_forms.specs.Rows.{Row, IsBlock};
@@ -9,7 +9,7 @@ use crate::fault::ItemFault;
 use crate::number::{is_digit, read_number};
 use model_forms::{Block, Form, FormKind, form_bytes};
 
-// Whether these bytes begin as a number and are none.
+// Whether these bytes begin like a number and aren't one.
 fn is_bad_number(bytes: &[u8]) -> bool
     ensures { result ≡ is_bad_number bytes.now }
 {
@@ -19,7 +19,7 @@ fn is_bad_number(bytes: &[u8]) -> bool
     }
 }
 
-// The fault of the first of these forms, which stands at the head of a list.
+// The fault of the first of these forms as the head of a list.
 fn head_fault(forms: &[Form]) -> Option<ItemFault>
     ensures { result ≡ head_fault forms.now }
 {
@@ -43,7 +43,7 @@ fn word_fault(text: &[u8], word: Form) -> Option<ItemFault>
     }
 }
 
-// The fault of the first of these forms by itself, and of what stands at its head, where it is a list.
+// The fault of the first of these forms alone, and of its head, if it is a list.
 fn first_fault(text: &[u8], forms: &[Form]) -> Option<ItemFault>
     ensures { result ≡ first_fault text.now forms.now }
 {

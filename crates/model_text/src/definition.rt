@@ -11,7 +11,7 @@ use crate::item::{Constant, Definition, Item};
 use crate::part::{bad_part, is_name_form, number_form};
 use model_forms::{Block, Form, FormKind, behind_first, first_form, inside_first};
 
-// A constant, where this is its name and the block stands behind it.
+// A constant with this name; the block follows the name.
 #[tactic(auto, unfolding(crate::specs::Items::constant_of))]
 fn constant(
     text: &[u8],
@@ -38,7 +38,7 @@ fn constant(
     }
 }
 
-// A definition, whose name and parts stand inside a list, and whose statements stand behind it.
+// A definition, with its name and parts in a list, which its statements follow.
 #[tactic(auto, unfolding(crate::specs::Items::definition_of))]
 fn definition(
     text: &[u8],
@@ -70,7 +70,7 @@ fn definition(
     }
 }
 
-/// What stands behind `define`, in a list at this place.
+/// The item of a list at this place that begins with `define`, from these forms behind the word.
 #[tactic(auto, unfolding(crate::specs::Items::define_of))]
 pub(crate) fn define(
     text: &[u8],

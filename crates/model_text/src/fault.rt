@@ -1,4 +1,4 @@
-//! Why forms are no items.
+//! Why forms aren't items.
 
 ghost use Rattle.std.specs.Prelude.{◌≡◌};
 ghost use Rattle.model_text.specs.Files.{item_code, item_place};
@@ -7,34 +7,34 @@ ghost use Rattle.model_text.specs.declared.fault.ItemFault.TheVariants.{NoMemory
 use std::alloc::{AllocError, AllocFailed};
 use thiserror::Error;
 
-/// Why forms are no items, and where. A place is the number of bytes before the form that is at fault.
+/// Why forms aren't items, and where. A place is the number of bytes before the faulty form.
 #[derive(Clone, Copy, PartialEq, Eq, Debug, Error)]
 pub enum ItemFault {
     /// There was no memory for the items.
     #[error("no memory")]
     NoMemory,
-    /// A form of the file is no list that begins with one of the three words.
+    /// A form of the file isn't a list that begins with one of the three words.
     #[error("`define`, `defaults` or `model` was wanted")]
     NotAnItem(usize),
     /// A definition lacks a part, or has one too many.
     #[error("`(define (name part ..) term ..)` or `(define name number)` was wanted")]
     NotADefinition(usize),
-    /// No name stands where one is wanted.
+    /// A name is expected.
     #[error("a name was wanted here: letters, digits, `-` and `_`, beginning with a letter")]
     NotAName(usize),
-    /// No number stands where one is wanted, or one that is out of range.
+    /// A number is expected, or the number is out of range.
     #[error("a number from -4611686018427387904 to 4611686018427387903 was wanted")]
     NotANumber(usize),
-    /// A definition has a part that is none.
+    /// This isn't a part of a definition.
     #[error("a part was wanted: `x`, `r:ref`, `d:deferred`, `f:fiber`, `p:poll`, or `(body x ..)`")]
     NotAPart(usize),
-    /// No bound stands where one is wanted.
+    /// A bound is expected.
     #[error("a bound was wanted, as `(worlds 200000)`")]
     NotABound(usize),
     /// A model has no name.
     #[error("`(model name claim .. (run term ..))` was wanted")]
     NotAModel(usize),
-    /// Behind a model's name stands something else.
+    /// A claim or a bound is expected behind a model's name.
     #[error("a claim, a bound or `run` was wanted")]
     NotAClaim(usize),
     /// A model has no `run`. The place is that of its name.
@@ -43,13 +43,13 @@ pub enum ItemFault {
     /// A list is empty.
     #[error("an empty bracket")]
     EmptyList(usize),
-    /// Behind an opening bracket stands no word.
+    /// A word is expected behind an opening bracket.
     #[error("behind an opening bracket a word was wanted")]
     NotAWord(usize),
-    /// A text stands elsewhere than behind the name of a model.
+    /// A text has a place only behind the name of a model.
     #[error("a string stands behind the name of a model alone")]
     StrayText(usize),
-    /// There is nothing behind `run`.
+    /// Nothing follows `run`.
     #[error("an empty block: at least one term was wanted")]
     EmptyRun(usize),
     /// A form follows the `run` of a model.
@@ -74,7 +74,7 @@ impl<T: Drop> From<AllocFailed<T>> for ItemFault {
 }
 
 impl ItemFault {
-    /// The number of bytes before what is at fault; none where memory ran out.
+    /// The number of bytes before the fault; `None` if memory ran out.
     pub fn place(self) -> Option<usize>
         ensures { result ≡ item_place self }
     {
@@ -97,7 +97,7 @@ impl ItemFault {
         }
     }
 
-    /// A short name of the kind of fault, as `E13`.
+    /// A short name of the kind of fault, such as `E13`.
     pub fn code(self) -> &'static str
         ensures { result.now ≡ item_code self }
     {

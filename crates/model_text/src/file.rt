@@ -19,19 +19,19 @@ pub struct ModelFile {
     pub items: Vec<Item>,
 }
 
-/// Why the bytes of a file are no model file.
+/// Why the bytes of a file aren't a model file.
 #[derive(Clone, Copy, PartialEq, Eq, Debug, Error)]
 pub enum FileFault {
-    /// They have no forms.
+    /// The bytes have no forms.
     #[error("{0}")]
     Form(FormFault),
-    /// Its forms are no items.
+    /// Its forms aren't items.
     #[error("{0}")]
     Item(ItemFault),
 }
 
 impl FileFault {
-    /// The number of bytes before what is at fault; none where memory ran out.
+    /// The number of bytes before the fault; `None` if memory ran out.
     pub fn place(self) -> Option<usize>
         ensures { result ≡ place_of self }
     {
@@ -41,7 +41,7 @@ impl FileFault {
         }
     }
 
-    /// A short name of the kind of fault, as `E01`.
+    /// A short name of the kind of fault, such as `E01`.
     pub fn code(self) -> &'static str
         ensures { result.now ≡ code_of self }
     {
@@ -74,7 +74,7 @@ fn form_code(fault: FormFault) -> &'static str
     }
 }
 
-/// The model file that these bytes are, or its first fault: one of its brackets and strings, or else one of its items.
+/// The model file with these bytes, or its first fault: of its brackets and strings, or else of its items.
 pub fn read_file(alloc: Global, text: &[u8]) -> Result<ModelFile, FileFault>
     ensures file { IfOk result (IsFile text.now) }
     ensures fault { IfErr result (IsFileFault text.now) }

@@ -8,7 +8,7 @@ use model_forms::{Block, Form};
 pub struct Constant {
     /// Its name.
     pub name: Form,
-    /// The number that it stands for.
+    /// Its number.
     pub number: Value,
 }
 
@@ -23,12 +23,12 @@ pub struct Definition {
     pub body: Block,
 }
 
-/// What is claimed of a term: `(model NAME "text" claim .. (run statement ..))`.
+/// A term with claims about it: `(model NAME "text" claim .. (run statement ..))`.
 #[derive(Clone, Copy)]
 pub struct Model {
     /// Its name.
     pub name: Form,
-    /// What it says of itself, if anything.
+    /// Its description, if it has one.
     pub text: Option<Form>,
     /// Its claims and bounds and, last, its `run`.
     pub claims: Block,

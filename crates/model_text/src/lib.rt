@@ -1,10 +1,10 @@
 //! The items of a model file: constants, definitions, defaults and models.
 //!
-//! It stands on `model_forms`, whose forms it reads, on `term_parse` for what a number is, and on `effect_term` for its
-//! value. [`read_file`] turns the bytes of a file into its forms and its items, in the order of the file, or returns
-//! the first fault with its place, and [`read_items`] does so from forms. They promise that the items are those that
-//! the grammar gives the forms, and that the fault is the grammar's. What stands in a definition, in a claim and behind
-//! `run` stays forms: an item names them by a [`Block`](model_forms::Block).
+//! The crate uses `model_forms`, whose forms it reads, `term_parse` for the spelling of numbers, and `effect_term` for
+//! their values. [`read_file`] turns the bytes of a file into its forms and its items, in the order of the file, or
+//! returns the first fault with its place; [`read_items`] does so from forms. Both promise that the items are those
+//! that the grammar makes of the forms, and that the fault is the grammar's. The contents of a definition, of a claim
+//! and of `run` stay forms: an item refers to them by a [`Block`](model_forms::Block).
 //!
 //! ```
 //! let text = b"(define N 2) (model m (want 42) (run (pure 42)))";

@@ -1,4 +1,4 @@
-//! Numbers, as they are spelled in terms.
+//! Numbers, spelled as in terms.
 
 ghost use Rattle.std.specs.Prelude.{◌≡◌, ◌≤◌, ◌^◌, neg_ℤ, pos};
 ghost use Rattle.term_parse.specs.Lexemes.{is_digit, number_of};
@@ -6,7 +6,7 @@ ghost use Rattle.term_parse.specs.Seen.{plain_value};
 
 use effect_term::Value;
 
-// The greatest number that may stand behind a minus sign.
+// The greatest number behind a minus sign.
 const LARGEST: u64 = 4_611_686_018_427_387_904;
 
 /// Whether this byte is a digit.
@@ -16,7 +16,7 @@ pub(crate) fn is_digit(byte: u8) -> bool
     b'0' <= byte && byte <= b'9'
 }
 
-// The value of digits that don't begin with 0, where it is at most [`LARGEST`].
+// The value of digits that don't begin with 0, if it is at most [`LARGEST`].
 #[tactic(auto, unfolding(term_parse::specs::Seen::plain_value))]
 fn plain_value(digits: &[u8]) -> Option<u64>
     ensures { result ≡ plain_value digits.now }
@@ -54,7 +54,7 @@ fn negated(value: u64) -> Value
     value
 }
 
-/// The number that these bytes are, if they are one.
+/// The number with these bytes, if they are one.
 #[tactic(auto, unfolding(term_parse::specs::Seen::plain_value, term_parse::specs::Lexemes::number_of))]
 pub fn read_number(run: &[u8]) -> Option<Value>
     ensures { result ≡ number_of run.now }

@@ -1,4 +1,4 @@
-//! Forms that definitions and models are made of.
+//! The forms in definitions and models.
 
 ghost use Rattle.std.specs.Prelude.{◌≡◌, Some};
 ghost use Rattle.model_forms.specs.Rows.{Row, IsBlock, first_of};
@@ -20,7 +20,7 @@ pub(crate) fn is_name_form(text: &[u8], form: Form) -> bool
     }
 }
 
-/// The number that a form is, if it is one.
+/// The number of a form, if it is one.
 pub(crate) fn number_form(text: &[u8], form: Form) -> Option<Value>
     ensures { result ≡ number_form text.now form }
 {
@@ -30,7 +30,7 @@ pub(crate) fn number_form(text: &[u8], form: Form) -> Option<Value>
     }
 }
 
-/// What the first form of a block means at the head of a list.
+/// The meaning of the first form of a block, as the head of a list.
 #[tactic(auto, unfolding(crate::specs::Items::head_of))]
 pub(crate) fn head_of(text: &[u8], forms: &[Form], block: Block) -> Option<Keyword>
     ensures { (row : Row) → IsBlock forms.now block row → result ≡ head_of text.now row }
@@ -56,14 +56,14 @@ fn are_names(text: &[u8], forms: &[Form], block: Block) -> bool
     true
 }
 
-// Whether a block is a part that is a term: names, and at least one.
+// Whether a block is a part that is a term: one name or more.
 fn is_term_part(text: &[u8], forms: &[Form], block: Block) -> bool
     ensures { (row : Row) → IsBlock forms.now block row → result ≡ is_term_part text.now row }
 {
     first_form(forms, block).is_some() && are_names(text, forms, block)
 }
 
-// Whether the first form of a block is a part, which form this is.
+// Whether the first form of a block, which is `form`, is a part.
 fn fits_part(text: &[u8], forms: &[Form], block: Block, form: Form) -> bool
     ensures { (row : Row) → IsBlock forms.now block row → Some form ≡ first_of row → result ≡ fits_part text.now row }
 {
@@ -74,7 +74,7 @@ fn fits_part(text: &[u8], forms: &[Form], block: Block, form: Form) -> bool
     }
 }
 
-/// The place of the first form of a block that is no part.
+/// The place of the first form of a block that isn't a part.
 pub(crate) fn bad_part(text: &[u8], forms: &[Form], block: Block) -> Option<usize>
     ensures { (row : Row) → IsBlock forms.now block row → result ≡ bad_part text.now row }
 {
@@ -111,7 +111,7 @@ fn is_bound_head(text: &[u8], forms: &[Form], block: Block) -> bool
     }
 }
 
-/// Whether a block is a bound: its word, a number that isn't negative, and no more.
+/// Whether a block is a bound: its word, a number that isn't negative, and nothing else.
 #[tactic(auto, unfolding(crate::specs::Items::is_bound_list))]
 pub(crate) fn is_bound_list(text: &[u8], forms: &[Form], block: Block) -> bool
     ensures { (row : Row) → IsBlock forms.now block row → result ≡ is_bound_list text.now row }
@@ -123,7 +123,7 @@ pub(crate) fn is_bound_list(text: &[u8], forms: &[Form], block: Block) -> bool
         && first_form(forms, third).is_none()
 }
 
-// Whether the first form of a block is a bound, which form this is.
+// Whether the first form of a block, which is `form`, is a bound.
 fn fits_bound(text: &[u8], forms: &[Form], block: Block, form: Form) -> bool
     ensures { (row : Row) → IsBlock forms.now block row → Some form ≡ first_of row → result ≡ fits_bound text.now row }
 {
@@ -133,7 +133,7 @@ fn fits_bound(text: &[u8], forms: &[Form], block: Block, form: Form) -> bool
     }
 }
 
-/// The place of the first form of a block that is no bound.
+/// The place of the first form of a block that isn't a bound.
 pub(crate) fn bad_bound(text: &[u8], forms: &[Form], block: Block) -> Option<usize>
     ensures { (row : Row) → IsBlock forms.now block row → result ≡ bad_bound text.now row }
 {

@@ -1,11 +1,11 @@
-//! What single words mean.
+//! The meanings of single words.
 
 ghost use Rattle.std.specs.Prelude.{◌≡◌, ◌<◌, ◌||◌, ◌==◌, IfSome, codes, length, position};
 ghost use Rattle.std.specs.Str.{bytes_eq};
 ghost use Rattle.term_parse.specs.Lexemes.{is_digit};
 ghost use Rattle.model_text.specs.Words.{is_letter, goes_on, is_name, is_part, is_claim, is_bound, is_kind, keyword_of};
 
-/// What the first word of a list means.
+/// The meaning of the first word of a list.
 #[derive(Clone, Copy)]
 pub enum Keyword {
     /// `define`.
@@ -78,7 +78,7 @@ fn is_kind(bytes: &[u8]) -> bool
         || is_same(bytes, b"poll")
 }
 
-// Where the first colon is.
+// The place of the first colon.
 fn colon_at(bytes: &[u8]) -> Option<usize>
     ensures place { result ≡ position (λ b. b == 58) bytes.now }
     ensures within { IfSome result (λ i. i < length bytes.now) }
@@ -125,7 +125,7 @@ fn is_bound(bytes: &[u8]) -> bool
         || is_same(bytes, b"seed")
 }
 
-/// What these bytes mean as the first word of a list, if anything.
+/// The meaning of these bytes as the first word of a list, if they have one.
 pub(crate) fn keyword_of(bytes: &[u8]) -> Option<Keyword>
     ensures { result ≡ keyword_of bytes.now }
 {

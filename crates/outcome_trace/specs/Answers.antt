@@ -1,4 +1,4 @@
--- What is answered to a text.
+-- The answers to a text.
 use Rattle.std.specs.Prelude.{◌≡◌, ◌≢◌, ◌-◌, ◌^◌, ℕ, min, List, [], ◌∷◌, ◌++◌, codes, Ok, Err, Some}
 use Rattle.std.specs.Fmt.{decimal}
 use Rattle.derived_ops.specs.CoreText.{core_text}
@@ -20,7 +20,7 @@ use Rattle.text_io.specs.declared.status.Status.{Status}
 use Rattle.text_io.specs.declared.status.Status.TheVariants as ends
 use Rattle.outcome_trace.specs.Lines.{parse_line, term_line}
 
--- a count as it is told, which is the greatest of 64 bits where it is above that
+-- a count as it is printed: at most the greatest number of 64 bits
 abbrev pub count_text : ℕ → List ℕ
 count_text n = decimal (min n (2 ^ 64 - 1))
 
@@ -34,14 +34,13 @@ ok_line t =
 abbrev pub code_line : Term → List ℕ
 code_line t = core_text (code_of (source_of t)) ++ 10 ∷ []
 
--- What is answered where there is no program, with its status: the text's first fault, or the limit that the term which
--- it spells goes past.
+-- the answer to a text that has no program, with its status: the text's first fault, or the limit that its term passes
 pub data IsRefusalAnswer : List ℕ → List ℕ → Status → Type 0 where
   no_term : (text : List ℕ) (e : ParseError) → reading text ≡ Err e → IsRefusalAnswer text (parse_line e) ends.Refused
   no_program : (text : List ℕ) (t : Term) (e : TermError) → reading text ≡ Ok (atoms_of t) → limit_passed t ≡ Some e →
       IsRefusalAnswer text (term_line e) ends.Refused
 
--- what is answered to a text, with its status: a refusal, or what comes of the program that the text spells
+-- the answer to a text, with its status: a refusal, or the answer to the program that the text spells
 pub data IsProgramAnswer (Refuses : List ℕ → List ℕ → Status → Type 0) (Comes : Term → List ℕ → Status → Type 0) :
     List ℕ → List ℕ → Status → Type 0 where
   refuses : (text answer : List ℕ) (status : Status) → Refuses text answer status →
@@ -53,7 +52,7 @@ pub data IsProgramAnswer (Refuses : List ℕ → List ℕ → Status → Type 0)
 abbrev pub IsCounts : Term → List ℕ → Status → Type 0
 IsCounts t answer status = (answer ≡ ok_line t) × (status ≡ ends.Succeeded)
 
--- what `check` answers, with its status: a refusal, or the counts of the program that the text spells
+-- the answer of `check`, with its status: a refusal, or the counts of the program that the text spells
 abbrev pub IsCheckAnswer : List ℕ → List ℕ → Status → Type 0
 IsCheckAnswer = IsProgramAnswer IsRefusalAnswer IsCounts
 
@@ -61,17 +60,17 @@ IsCheckAnswer = IsProgramAnswer IsRefusalAnswer IsCounts
 abbrev pub IsCode : Term → List ℕ → Status → Type 0
 IsCode t answer status = (answer ≡ code_line t) × (status ≡ ends.Succeeded)
 
--- what `show` answers, with its status: a refusal, or the code of the program that the text spells
+-- the answer of `show`, with its status: a refusal, or the code of the program that the text spells
 abbrev pub IsShowAnswer : List ℕ → List ℕ → Status → Type 0
 IsShowAnswer = IsProgramAnswer IsRefusalAnswer IsCode
 
--- why a text is refused, unless memory was wanting: its first fault, or a limit that its term goes past
+-- why a text is refused, unless memory ran out: its first fault, or a limit that its term passes
 abbrev pub IsRefused : List ℕ → Refused → Type 0
 IsRefused text (Parse e) = e ≢ parse.NoMemory → reading text ≡ Err e
 IsRefused text (refusals.Term e) = (t : Term) × (reading text ≡ Ok (atoms_of t)) × IsPastLimit t e
 IsRefused text (Run e) = ⊥
 
--- there is a text that is refused so
+-- some text is refused for this reason
 pub record IsOfText (refused : Refused) : Type 0 where
   pub text : List ℕ
   pub is : IsRefused text refused

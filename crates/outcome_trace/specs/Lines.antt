@@ -1,4 +1,4 @@
--- The lines that tell a refusal or a fault of a run.
+-- The lines that report a refusal or a fault of a run.
 use Rattle.std.specs.Prelude.{ℕ, Bool, true, false, List, [], ◌∷◌, ◌++◌, codes}
 use Rattle.term_parse.specs.declared.error.ParseError.{ParseError}
 use Rattle.term_parse.specs.declared.error.ParseError.TheVariants as parse
@@ -12,7 +12,7 @@ use Rattle.outcome_trace.specs.declared.lines.Refused.{Refused}
 use Rattle.outcome_trace.specs.declared.lines.Refused.TheVariants.{Parse, Term, Run}
 use Rattle.text_io.specs.FaultLines.{told}
 
--- of a text that isn't one of the grammar: the fault's number and name, and its place
+-- the line of a text that the grammar doesn't accept: the fault's number and name, and its place
 abbrev pub parse_line : ParseError → List ℕ
 parse_line parse.NoMemory = []
 parse_line (parse.BadByte p) = told (codes "refused 4 BadByte at ") p
@@ -26,7 +26,7 @@ parse_line (parse.TooDeep p) = told (codes "refused 11 TooDeep at ") p
 parse_line (parse.TooLong p) = told (codes "refused 12 TooLong at ") p
 parse_line (parse.Trailing p) = told (codes "refused 13 Trailing at ") p
 
--- of a text's term that is no program: too many masks, or too large an expansion
+-- the line of a term that isn't a program: too many masks, or too large an expansion
 abbrev pub term_line : TermError → List ℕ
 term_line term.NoMemory = []
 term_line (term.Unbound slot) = []
@@ -39,7 +39,7 @@ band_text Fibers = codes "fibers "
 band_text Refs = codes "refs "
 band_text Deferreds = codes "deferreds "
 
--- of a run without a report
+-- the line of a run without a report
 abbrev pub run_line : RunError → List ℕ
 run_line (run.Full band n) = codes "fault 18 Full " ++ told (band_text band) n
 run_line (run.Spent f) = told (codes "fault 19 Spent ") f
@@ -52,7 +52,8 @@ line_of (Parse e) = parse_line e
 line_of (Term e) = term_line e
 line_of (Run e) = run_line e
 
--- Whether a line tells it. Want of memory is told as a run's alone, and the names of a text's term are never at fault.
+-- Whether there is a line for this. Running out of memory is reported only as a fault of a run, and the names in a
+-- text's term never have a fault.
 abbrev pub has_line : Refused → Bool
 has_line (Parse parse.NoMemory) = false
 has_line (Term term.NoMemory) = false

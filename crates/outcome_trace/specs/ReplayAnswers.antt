@@ -1,4 +1,4 @@
--- What is answered to a text under a schedule.
+-- The answers to a text under a schedule.
 use Rattle.std.specs.Prelude.{◌≡◌, ℕ, List, [], ◌∷◌, Ok, Err, Option, Some, None, Result}
 use Rattle.cell_registry.specs.declared.limits.Limits.{Limits}
 use Rattle.cell_registry.specs.declared.limits.RunError.{RunError}
@@ -20,7 +20,7 @@ use Rattle.outcome_trace.specs.ReportText.{text_of_fibers}
 abbrev pub replayed : Term → Limits → List ℕ → Result Report RunError
 replayed t limits schedule = reported (core (code_of (source_of t)) limits schedule)
 
--- how the program ends after a report: as fiber 0 did
+-- the exit status after a report, by the end of fiber 0
 abbrev pub outcome_status : Option Outcome → Status
 outcome_status (Some (Succeeded v)) = ends.Succeeded
 outcome_status (Some (Errored c)) = ends.Errored
@@ -31,13 +31,13 @@ abbrev pub report_status : List FiberReport → Status
 report_status [] = ends.Unended
 report_status (f ∷ fibers) = outcome_status f.outcome
 
--- what comes of a program under a schedule and limits, with its status: the report or the fault of the core
+-- the answer to a program under a schedule and limits, with its status: the report or the fault of the core
 pub data IsRunAnswer (t : Term) (schedule : List ℕ) (limits : Limits) : List ℕ → Status → Type 0 where
   reports : (r : Report) → replayed t limits schedule ≡ Ok r → IsRunAnswer t schedule limits (text_of_fibers r.fibers)
       (report_status r.fibers)
   faults : (e : RunError) → replayed t limits schedule ≡ Err e → IsRunAnswer t schedule limits (run_line e) ends.Fault
 
--- what `replay` answers under a schedule and limits, with its status: a refusal, or what comes of the program that the
+-- the answer of `replay` under a schedule and limits, with its status: a refusal, or the answer to the program that the
 -- text spells
 abbrev pub IsReplayAnswer : List ℕ → Limits → List ℕ → List ℕ → Status → Type 0
 IsReplayAnswer schedule limits = IsProgramAnswer IsRefusalAnswer (λ t. IsRunAnswer t schedule limits)

@@ -21,17 +21,17 @@ mark_text (Releasing m) = codes "releasing " ++ decimal m
 mark_text (Released m) = codes "released " ++ decimal m
 mark_text (Dropped c) = codes "dropped " ++ signed_decimal c
 
--- marks behind another one, each with its comma
+-- the marks behind the first one, each with its comma
 abbrev pub later_marks_text : List Mark → List ℕ
 later_marks_text [] = []
 later_marks_text (m ∷ marks) = codes ", " ++ (mark_text m ++ later_marks_text marks)
 
--- nothing where there are no marks, else a colon and the marks with commas between
+-- empty if there are no marks, else a colon and the marks with commas between
 abbrev pub marks_text : List Mark → List ℕ
 marks_text [] = []
 marks_text (m ∷ marks) = codes ": " ++ (mark_text m ++ later_marks_text marks)
 
--- how a fiber ended, or that it didn't
+-- the outcome of a fiber, or `unended`
 abbrev pub outcome_text : Option Outcome → List ℕ
 outcome_text (Some (Succeeded v)) = codes "succeeded " ++ signed_decimal v
 outcome_text (Some (Errored c)) = codes "errored " ++ signed_decimal c
@@ -43,7 +43,7 @@ abbrev pub fiber_line : ℕ → FiberReport → List ℕ
 fiber_line n f = codes "fiber " ++
     (decimal n ++ (codes " " ++ (outcome_text f.outcome ++ (marks_text f.marks ++ 10 ∷ []))))
 
--- the lines of fibers whose numbers go up from this one
+-- the lines of fibers whose numbers count up from this one
 abbrev pub lines_from : ℕ → List FiberReport → List ℕ
 lines_from n [] = []
 lines_from n (f ∷ fibers) = fiber_line n f ++ lines_from (n + 1) fibers

@@ -1,4 +1,4 @@
-//! What is answered to a text: why it is refused, or what its program is.
+//! The answer to a text: why it is refused, or what its program is.
 
 ghost use Rattle.std.specs.Prelude.{◌≡◌, IfOk, IfErr, OnOk, IsTrue};
 ghost use Rattle.effect_term.specs.Programs.{IsProgram};
@@ -16,8 +16,8 @@ use std::alloc::{AllocError, Global};
 use term_parse::{ParseError, parse};
 use text_io::Status;
 
-/// The program that a text spells, or why there is none: the first fault of the text, or the first limit
-/// that its term goes past.
+/// The program that a text spells, or why there is none: the first fault of the text, or the first limit that its term
+/// passes.
 pub fn read_program(alloc: Global, text: &[u8]) -> Result<Program, Refused>
     ensures program { IfOk result (λ t. reading text.now ≡ Ok (atoms_of t)) }
     ensures limits { IfOk result IsProgram }
@@ -33,8 +33,8 @@ pub fn read_program(alloc: Global, text: &[u8]) -> Result<Program, Refused>
     }
 }
 
-/// The answer to a text that is refused: its line, with `Status::Refused`. `AllocError` where memory ran
-/// out, also where that is why there is no program.
+/// The answer to a refused text: its line, with `Status::Refused`. Returns `AllocError` if memory ran out, also if that
+/// is the reason why there is no program.
 #[tactic(auto, using(crate::proofs::AnswerLemmas::text_told))]
 pub fn refusal(alloc: Global, refused: Refused) -> Result<Answer, AllocError>
     requires { IsOfText refused }
@@ -53,8 +53,8 @@ pub fn refusal(alloc: Global, refused: Refused) -> Result<Answer, AllocError>
     }
 }
 
-/// Tells whether the text spells a program: the line of its counts, with `Status::Succeeded`, or of
-/// its refusal, with `Status::Refused`, which is its first fault or a limit that its term goes past.
+/// Answers whether the text spells a program: the line of its counts, with `Status::Succeeded`, or the line of its
+/// refusal, with `Status::Refused`, for its first fault or the limit that its term passes.
 #[derive(Clone, Copy, Debug)]
 pub struct CheckOrder;
 
@@ -76,8 +76,8 @@ impl ProgramOrder for CheckOrder {
     }
 }
 
-/// Tells the code of the program that the text spells and a line feed, with `Status::Succeeded`, or
-/// the line of its refusal, with `Status::Refused`.
+/// Answers the code of the program that the text spells, and a line feed, with `Status::Succeeded`, or the line of its
+/// refusal, with `Status::Refused`.
 #[derive(Clone, Copy, Debug)]
 pub struct ShowOrder;
 

@@ -1,5 +1,5 @@
-//! Text that is written from its end to its front, into a buffer that has room for it. So a number needs
-//! no count of its digits, and nothing is moved.
+//! Writes text from its end to its beginning, into a buffer that has room for it. So the digits of a number needn't be
+//! counted first, and nothing is moved.
 
 ghost use Rattle.std.specs.Prelude.{◌≡◌, ◌+◌, ◌≤◌, ◌<◌, ◌++◌, length, drop};
 ghost use Rattle.std.specs.Fmt.{decimal, signed_decimal};
@@ -8,10 +8,9 @@ ghost use Rattle.std.specs.Str.{IsAscii};
 use effect_term::Value;
 use itoa::write_digits;
 
-// Each of these writes a text that ends at `end`, and gives where it starts. What stands from `end` on
-// stays.
+// Each of these functions writes a text that ends at `end`, and returns where it starts. The bytes from `end` on stay.
 
-// These words.
+// Writes these words.
 #[inline(always)]
 pub(crate) fn put(room: &mut [u8], end: usize, words: &[u8]) -> usize
     requires start { length words.now ≤ end }
@@ -29,7 +28,7 @@ pub(crate) fn put(room: &mut [u8], end: usize, words: &[u8]) -> usize
     start
 }
 
-// The digit of a number below 10.
+// Writes the digit of a number below 10.
 #[inline(always)]
 fn put_digit(room: &mut [u8], end: usize, number: u64) -> usize
     requires digit { number < 10 }
@@ -44,7 +43,7 @@ fn put_digit(room: &mut [u8], end: usize, number: u64) -> usize
     digit
 }
 
-// The digits of a number. Most numbers of a report have one, and none has more than 20.
+// Writes the digits of a number. Most numbers of a report have one digit, and none has more than 20.
 #[inline(always)]
 fn put_digits(room: &mut [u8], end: usize, number: u64) -> usize
     requires start { 20 ≤ end }
@@ -58,7 +57,7 @@ fn put_digits(room: &mut [u8], end: usize, number: u64) -> usize
     write_digits(number, room, end)
 }
 
-/// What stands before, and then these words.
+/// Writes the text `before`, and then these words.
 #[inline(always)]
 pub(crate) fn put_behind(room: &mut [u8], end: usize, before: &[u8], words: &[u8]) -> usize
     requires start { length before.now + length words.now ≤ end }
@@ -70,7 +69,7 @@ pub(crate) fn put_behind(room: &mut [u8], end: usize, before: &[u8], words: &[u8
     put(room, start, before)
 }
 
-/// What stands before, these words, and then the number of one digit: so all of it stands at known distances.
+/// Writes the text `before`, these words, and then a number of one digit, so that all places are known.
 #[inline(always)]
 pub(crate) fn put_short(
     room: &mut [u8],
@@ -90,7 +89,7 @@ pub(crate) fn put_short(
     put_behind(room, digit, before, words)
 }
 
-/// What stands before, these words, and then the number.
+/// Writes the text `before`, these words, and then the number.
 #[inline(always)]
 pub(crate) fn put_number(
     room: &mut [u8],
@@ -110,7 +109,7 @@ pub(crate) fn put_number(
     put_behind(room, digits, before, words)
 }
 
-/// What stands before, these words, and then the value with its sign.
+/// Writes the text `before`, these words, and then the value with its sign.
 #[inline(always)]
 pub(crate) fn put_signed(
     room: &mut [u8],

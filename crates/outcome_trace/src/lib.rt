@@ -1,11 +1,11 @@
 //! From a text that spells a program to its answer: the texts of reports, refusals and faults of a run.
 //!
-//! It stands on texts and devices (`text_io`), the parser (`term_parse`), the programs (`effect_term`), their code
-//! (`derived_ops`) and the core under a schedule (`scheduled_core`). It promises that what goes out is exactly the text
-//! of the core's report or of the line that answers the text. What `scheduled_core` and `text_io` have for their
-//! callers is also here.
+//! The crate uses texts and devices (`text_io`), the parser (`term_parse`), the programs (`effect_term`), their code
+//! (`derived_ops`) and the core under a schedule (`scheduled_core`). The crate promises that what is written is exactly
+//! the text of the core's report or the line that answers the text. The crate re-exports what callers need of
+//! `scheduled_core` and `text_io`.
 //!
-//! A program is replayed so, within limits for 3 fibers, a ref, a deferred and 1000 changes of each fiber:
+//! This replays a program within limits for 3 fibers, a ref, a deferred and 1000 changes of each fiber:
 //!
 //! ```
 //! let program = Program::check(alloc, parse(alloc, b"(race (pure 4) (never))")?)?;

@@ -1,4 +1,4 @@
-//! The lines that tell a refusal or a fault of a run.
+//! The lines that report a refusal or a fault of a run.
 
 ghost use Rattle.std.specs.Prelude.{IsTrue, IfOk, ◌≡◌, string_bytes};
 ghost use Rattle.outcome_trace.specs.Lines.{has_line, line_of, parse_line, term_line, run_line};
@@ -11,9 +11,9 @@ use term_parse::ParseError;
 /// Why there is no report.
 #[derive(Clone, Copy, PartialEq, Eq, Debug)]
 pub enum Refused {
-    /// The text isn't one of the grammar.
+    /// The grammar doesn't accept the text.
     Parse(ParseError),
-    /// The term is no program.
+    /// The term isn't a program.
     Term(TermError),
     /// The run ended with a fault.
     Run(RunError),
@@ -67,9 +67,8 @@ fn run_fault(alloc: Global, error: RunError) -> Result<String, AllocError>
     }
 }
 
-/// The line that tells why there is no report. Want of memory has one as a fault of a run alone, and
-/// a refusal of a name has none, since no text brings it about: a text that is read is closed and
-/// well kinded.
+/// The line that reports why there is no report. Running out of memory has a line only as a fault of a run. A refusal
+/// of a name has none, since no text leads to it: the term of a parsed text is closed and well kinded.
 pub fn line(alloc: Global, refused: &Refused) -> Result<Vec<u8>, AllocError>
     requires { IsTrue (has_line refused.now) }
     ensures { IfOk result (λ line. line.items ≡ line_of refused.now) }

@@ -11,18 +11,19 @@ use crate::text_order::{Answer, TextOrder};
 use effect_term::Program;
 use std::alloc::{AllocError, Global};
 
-/// How a text that is refused is answered.
+/// The form of the answer to a refused text.
 pub trait RefusalForm {
-    // What may be answered to such a text, with its status.
+    // The possible answers to such a text, with their statuses.
     ghost refuses: { List ℕ → List ℕ → Status → Type 0 };
 
-    /// The answer to a text that is refused so. `AllocError` where memory ran out, also where that is why.
+    /// The answer to a text that is refused for this reason. Returns `AllocError` if memory ran out, also if that is
+    /// the reason.
     fn refused_answer(alloc: Global, text: &[u8], refused: Refused) -> Result<Answer, AllocError>
         requires { IsRefused text.now refused }
         ensures { IfOk result (λ a. refuses text.now a.text.items a.status) };
 }
 
-/// By the line of its refusal.
+/// Answers with the line of the refusal.
 #[derive(Clone, Copy, Debug)]
 pub struct InWords;
 
@@ -34,15 +35,15 @@ impl RefusalForm for InWords {
     }
 }
 
-/// What is to be answered to a program. So it is an order of texts, too.
+/// The order that a program is answered by. Such an order is an order of texts, too.
 pub trait ProgramOrder {
-    /// How a text is answered that spells no program.
+    /// The form of the answer to a text that spells no program.
     type Refusals: RefusalForm;
 
-    // What may be answered to a program, with its status.
+    // The possible answers to a program, with their statuses.
     ghost comes: { Self → Term → List ℕ → Status → Type 0 };
 
-    /// The answer to a program. `AllocError` where memory ran out.
+    /// The answer to a program. Returns `AllocError` if memory ran out.
     fn answer_program(&self, alloc: Global, program: &Program) -> Result<Answer, AllocError>
         ensures { IfOk result (λ a. comes self.now program.now a.text.items a.status) };
 }

@@ -1,4 +1,4 @@
-//! What comes of a text under a schedule: its report, or why there is none.
+//! The result of a text under a schedule: the report of its program, or why there is none.
 
 ghost use Rattle.std.specs.Prelude.{◌≡◌, ◌≢◌, ◌<◌, ◌^◌, false, IfOk, OnOk};
 ghost use Rattle.cell_registry.specs.Cells.{AreLimits};
@@ -17,8 +17,7 @@ use scheduled_core::{Report, replay};
 use std::alloc::{AllocError, Global};
 use text_io::{Status, TextFault, TextIn, TextOut};
 
-/// The status of a program that writes this report: that of fiber 0's end, which is `Status::Unended` where it has
-/// none.
+/// The exit status after this report: that of fiber 0's outcome, or `Status::Unended` if it has none.
 pub fn report_status(report: &Report) -> Status
     ensures { result ≡ report_status report.now.fibers }
 {
@@ -33,8 +32,8 @@ pub fn report_status(report: &Report) -> Status
     }
 }
 
-/// The answer where a run came to a report: its text, with the status of fiber 0's end. `AllocError`
-/// where memory ran out.
+/// The answer to a run with a report: the report's text, with the status of fiber 0's outcome. Returns `AllocError` if
+/// memory ran out.
 pub fn report_answer(alloc: Global, report: &Report) -> Result<Answer, AllocError>
     ensures line { IfOk result (λ a. a.text.items ≡ text_of_fibers report.now.fibers) }
     ensures status { IfOk result (λ a. a.status ≡ report_status report.now.fibers) }
@@ -46,7 +45,7 @@ pub fn report_answer(alloc: Global, report: &Report) -> Result<Answer, AllocErro
     })
 }
 
-// The answer where the run ended with a fault. Want of memory is no answer.
+// The answer to a run with a fault. Running out of memory has no answer.
 fn fault_answer(alloc: Global, error: RunError) -> Result<Answer, AllocError>
     ensures line { IfOk result (λ a. a.text.items ≡ run_line error) }
     ensures status { IfOk result (λ a. a.status ≡ Status.Fault) }
@@ -61,15 +60,14 @@ fn fault_answer(alloc: Global, error: RunError) -> Result<Answer, AllocError>
     }
 }
 
-/// Tells what the program that the text spells comes to under a schedule: its report, with the status
-/// of fiber 0's end, or the line of the text's refusal, with `Status::Refused`, or of the run's fault,
-/// with `Status::Fault`.
+/// Answers a text under a schedule: the report of the program that it spells, with the status of fiber 0's outcome, or
+/// the line of the text's refusal, with `Status::Refused`, or of the run's fault, with `Status::Fault`.
 #[derive(Clone, Copy, Debug)]
 pub struct ReplayOrder<'a> {
-    /// Whose move is next, from the first entry on.
+    /// The fiber that moves next, from the first entry on.
     pub schedule: &'a [u16],
-    /// How many fibers, refs and deferreds there may be (each 1 to 1000), and how often a fiber may
-    /// change its own state (1 to 1,099,511,627,775).
+    /// The numbers of fibers, refs and deferreds (each 1 to 1000), and how often a fiber can change its own cell (1 to
+    /// 1,099,511,627,775).
     pub limits: Limits,
     pub ghost ranges: { AreLimits limits },
 }
@@ -87,8 +85,7 @@ impl ProgramOrder for ReplayOrder<'_> {
     }
 }
 
-/// Reads a text, and writes what its program comes to under the schedule ([`ReplayOrder`]), as
-/// [`answer_text`] does.
+/// Reads a text, and writes the result of its program under the schedule ([`ReplayOrder`]), as [`answer_text`] does.
 pub fn replay_text<I: TextIn, O: TextOut>(
     alloc: Global,
     input: &mut I,

@@ -17,23 +17,23 @@ use std::alloc::{AllocError, Global};
 use std::str;
 use text_io::{TextFault, TextOut, write_text};
 
-// How many bytes a mark may have: the longest word, a space, and the 20 digits of the greatest number.
+// The greatest length of a mark: the longest word, a space, and the 20 digits of the greatest number.
 const LONGEST_MARK: usize = 30;
 
-// How many marks are written at once.
+// The number of marks that are written at once.
 const MARKS_AT_ONCE: usize = 32;
 
-// How many bytes they may have, each with the comma before it.
+// Their greatest length, each with the comma before it.
 const ROOM: usize = MARKS_AT_ONCE * (LONGEST_MARK + 2);
 
-// How many bytes an outcome may have behind its space: the longest word with a space, and the 20 bytes of a value.
+// The greatest length of an outcome behind its space: the longest word with a space, and the 20 bytes of a value.
 const LONGEST_OUTCOME: usize = 32;
 
-// For how many bytes a line of the text gets room at first: that of a fiber of three digits with an outcome of one
+// The number of bytes for which a line gets room at first. The line of a fiber with three digits, an outcome with one
 // digit and no mark has 22.
 const USUAL_LINE: usize = 24;
 
-// A mark behind a comma or a colon with its space, written so that it ends at `end`. Gives where they start.
+// Writes a mark behind a comma or a colon with its space, so that it ends at `end`. Returns where they start.
 #[inline(always)]
 fn put_mark(room: &mut [u8], end: usize, before: &[u8; 2], mark: Mark) -> usize
     requires start { LONGEST_MARK + 2 ≤ end }
@@ -46,7 +46,8 @@ fn put_mark(room: &mut [u8], end: usize, before: &[u8; 2], mark: Mark) -> usize
     let Mark::Say(value) = mark else {
         return put_other_mark(room, end, before, mark);
     };
-    // Most marks say a digit. The code of the others stands apart, so that the loop over marks is short.
+    // Most marks are a `say` of one digit. The code for others is in another function, to keep the loop over marks
+    // short.
     let number = value.get();
     if 0 <= number && number < 10 {
         return put_short(room, end, before, b"say ", number.unsigned_abs());
@@ -54,7 +55,7 @@ fn put_mark(room: &mut [u8], end: usize, before: &[u8; 2], mark: Mark) -> usize
     put_long_say(room, end, before, value)
 }
 
-// A `say` of a number that has more digits or a sign, put as [`put_mark`] does.
+// A `say` of a number with more digits or a sign, written as [`put_mark`] does.
 #[inline(never)]
 fn put_long_say(room: &mut [u8], end: usize, before: &[u8; 2], value: Value) -> usize
     requires start { LONGEST_MARK + 2 ≤ end }
@@ -67,7 +68,7 @@ fn put_long_say(room: &mut [u8], end: usize, before: &[u8; 2], value: Value) -> 
     put_signed(room, end, before, b"say ", value)
 }
 
-// A mark that says nothing, put as [`put_mark`] does.
+// A mark other than `say`, written as [`put_mark`] does.
 #[inline(never)]
 fn put_other_mark(room: &mut [u8], end: usize, before: &[u8; 2], mark: Mark) -> usize
     requires other { (value : ℤ) → mark ≡ marks.Say value → ⊥ }
@@ -92,8 +93,8 @@ fn put_other_mark(room: &mut [u8], end: usize, before: &[u8; 2], mark: Mark) -> 
     }
 }
 
-// Marks that stand behind another one, written from the last one to the first so that they end where
-// the room ends. Gives where they start.
+// Writes the marks behind the first one, from the last to the first, so that they end at the end of `room`. Returns
+// where they start.
 fn put_later_marks(room: &mut [u8], marks: &[Mark]) -> usize
     requires { length marks.now * (LONGEST_MARK + 2) ≤ length room.old }
     ensures text { drop result room.new ≡ later_marks_text marks.now }
@@ -109,7 +110,7 @@ fn put_later_marks(room: &mut [u8], marks: &[Mark]) -> usize
     start
 }
 
-// Bytes that are text. They are proved to be, so nobody looks.
+// Appends bytes that are proved to be text, and so aren't checked.
 fn push_ascii(text: &mut String, bytes: &[u8]) -> Result<(), AllocError>
     requires { IsAscii bytes.now }
     ensures { OnOk result (string_bytes text.new ≡ string_bytes text.old ++ bytes.now) }
@@ -117,7 +118,7 @@ fn push_ascii(text: &mut String, bytes: &[u8]) -> Result<(), AllocError>
     text.push_str(unsafe { str::from_utf8_unchecked(bytes) })
 }
 
-// Marks that stand behind another one, some at a time.
+// Appends the marks behind the first one, some at a time.
 fn push_later_marks(
     text: &mut String,
     room: &mut [u8; ROOM],
@@ -130,7 +131,7 @@ fn push_later_marks(
         let (now, later) = left.split_at(left.len().min(MARKS_AT_ONCE));
         let start = put_later_marks(room, now);
         let bytes = &room[start..];
-        // Room for all that come, if they are as long as these: a text that grows is moved, which costs
+        // Reserves room for all remaining marks, if they are as long as these. A text that grows is moved, which costs
         // more than to write it.
         text.reserve(bytes.len().saturating_mul(left.len() / MARKS_AT_ONCE + 1))?;
         push_ascii(text, bytes)?;
@@ -139,7 +140,7 @@ fn push_later_marks(
     Ok(())
 }
 
-// A mark behind its colon.
+// Appends the first mark, behind a colon.
 fn push_first_mark(text: &mut String, room: &mut [u8; ROOM], mark: Mark) -> Result<(), AllocError>
     ensures { OnOk result (string_bytes text.new ≡ string_bytes text.old ++ (codes ": " ++ mark_text mark)) }
 {
@@ -157,7 +158,7 @@ fn push_marks(text: &mut String, room: &mut [u8; ROOM], marks: &[Mark]) -> Resul
     push_later_marks(text, room, later)
 }
 
-// How a fiber ended, behind a space, written so that it ends at `end`. Gives where the space stands.
+// Writes the outcome of a fiber behind a space, so that it ends at `end`. Returns the place of the space.
 #[inline(always)]
 fn put_outcome(room: &mut [u8], end: usize, outcome: Option<Outcome>) -> usize
     requires start { LONGEST_OUTCOME ≤ end }
@@ -177,7 +178,7 @@ fn put_outcome(room: &mut [u8], end: usize, outcome: Option<Outcome>) -> usize
     }
 }
 
-// The number of a fiber, how it ended, and what stands behind that, which has a byte at most.
+// Appends the number of a fiber, its outcome, and `behind`, which has at most one byte.
 #[inline(always)]
 fn push_head(
     text: &mut String,
@@ -214,8 +215,7 @@ fn push_fiber(
     text.push_str("\n")
 }
 
-/// The text of a report: a line for each fiber, in the order of their numbers. `AllocError` where
-/// memory ran out.
+/// The text of a report: a line for each fiber, in the order of their numbers. Returns `AllocError` if memory ran out.
 pub fn text_of_report(alloc: Global, report: &Report) -> Result<String, AllocError>
     ensures { IfOk result (λ text. string_bytes text ≡ text_of_fibers report.now.fibers) }
 {
@@ -228,7 +228,7 @@ pub fn text_of_report(alloc: Global, report: &Report) -> Result<String, AllocErr
     Ok(text)
 }
 
-/// Writes the text of a report. Where memory runs out, nothing is written.
+/// Writes the text of a report. If memory runs out, nothing is written.
 pub fn print_report<T: TextOut>(
     alloc: Global,
     report: &Report,
@@ -236,7 +236,7 @@ pub fn print_report<T: TextOut>(
 ) -> Result<(), TextFault>
     requires { (T.seen out.old).failed ≡ false }
 
-    // All of it goes out, or as much of its front as the fault tells.
+    // All of it is written, or as many of its first bytes as the fault says.
     ensures text { GoesOut (T.seen out.old).contents (T.seen out.new).contents (text_of_fibers report.now.fibers)
         result }
     ensures memory { IsErrOf result TextFault.NoMemory → out.new ≡ out.old }

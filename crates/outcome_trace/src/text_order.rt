@@ -1,4 +1,4 @@
-//! A text that is read whole, and its answer, which is written whole: one way for all orders.
+//! Reads a whole text and writes a whole answer, in the same way for all orders.
 
 ghost use Rattle.std.specs.Prelude.{◌≡◌, ◌<◌, ◌^◌, ℕ, List, false, IfOk};
 ghost use Rattle.text_io.specs.declared.status.Status.{Status};
@@ -9,29 +9,29 @@ ghost use Rattle.text_io.specs.Telling.{Answered};
 use std::alloc::{AllocError, Global};
 use text_io::{Status, TextFault, TextIn, TextOut, read_text, status_of, write_text};
 
-/// What goes out for a text that came in, and the status that goes with it.
+/// The bytes that are written for a text, and their status.
 #[derive(Drop)]
 pub struct Answer {
-    /// The bytes that go out.
+    /// The bytes.
     pub text: Vec<u8>,
-    /// How the program ends.
+    /// The exit status of the program.
     pub status: Status,
 }
 
-/// What is to be answered to a text.
+/// The order that a text is answered by.
 pub trait TextOrder {
-    // What may be answered to a text, with its status.
+    // The possible answers to a text, with their statuses.
     ghost answers: { Self → List ℕ → List ℕ → Status → Type 0 };
 
-    /// The answer to a text. `AllocError` where memory ran out.
+    /// The answer to a text. Returns `AllocError` if memory ran out.
     fn answer(&self, alloc: Global, text: &[u8]) -> Result<Answer, AllocError>
         ensures { IfOk result (λ a. answers self.now text.now a.text.items a.status) };
 }
 
-/// Reads a text ([`read_text`]), and writes its answer ([`write_text`]). Gives the answer's status.
+/// Reads a text ([`read_text`]), and writes its answer ([`write_text`]). Returns the answer's status.
 ///
-/// Where memory runs out, the reader fails, or the input doesn't end within
-/// [`TEXT_BOUND`](text_io::TEXT_BOUND) reads, nothing is written.
+/// If memory runs out, the reader fails, or the input doesn't end within [`TEXT_BOUND`](text_io::TEXT_BOUND) reads,
+/// nothing is written.
 pub fn answer_text<A: TextOrder, I: TextIn, O: TextOut>(
     alloc: Global,
     order: &A,
@@ -50,9 +50,9 @@ pub fn answer_text<A: TextOrder, I: TextIn, O: TextOut>(
     Ok(answer.status)
 }
 
-/// Reads a text and writes its answer ([`answer_text`]). Gives the answer's status, or
-/// `Status::Fault` where a device failed, the input didn't end within `TEXT_BOUND` reads, or memory
-/// ran out, which is told on the last device.
+/// Reads a text and writes its answer ([`answer_text`]). Returns the answer's status. If a device failed, the input
+/// didn't end within `TEXT_BOUND` reads, or memory ran out, writes the line of the fault to the last device and returns
+/// `Status::Fault`.
 pub fn obey_text<A: TextOrder, I: TextIn, O: TextOut, E: TextOut>(
     alloc: Global,
     order: &A,

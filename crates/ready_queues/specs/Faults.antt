@@ -5,12 +5,12 @@ use Rattle.cell_registry.specs.declared.limits.Limits.{Limits}
 use Rattle.cell_registry.specs.declared.limits.RunError.{RunError}
 use Rattle.cell_registry.specs.declared.limits.RunError.TheVariants as fault
 
--- where the fault tells how many numbers a band has, so many it has
+-- if the fault reports the size of a band, it is the size under these limits
 abbrev pub IsFaultWithin : Limits → RunError → Type 0
 IsFaultWithin k (fault.Full band n) = n ≡ limit_of band k
 IsFaultWithin k _ = Unit {0}
 
--- the fault, with the number that its band has where it tells one
+-- the fault, with the size of its band under these limits if it reports one
 abbrev pub fault_within : Limits → RunError → RunError
 fault_within k (fault.Full band n) = fault.Full band (limit_of band k)
 fault_within k (fault.Spent fiber) = fault.Spent fiber

@@ -15,7 +15,7 @@ type Queue = Worker<u16, Global, Traffic, Ledgered>;
 
 type QueueStealer = Stealer<u16, Global, Traffic, Ledgered>;
 
-/// A worker's own end of its queue, which is first in, first out.
+/// A worker's own end of its queue. The queue is first in, first out.
 #[derive(Drop)]
 pub struct ReadyDeque {
     deque: Queue,
@@ -35,8 +35,8 @@ impl Model for ReadyDeque {
 }
 
 impl ReadyDeque {
-    /// An empty queue with room for so many numbers, a power of two, which grows beyond. Answers
-    /// `AllocError` where there is no memory for it.
+    /// An empty queue with room for `capacity` numbers, a power of two; it grows beyond. Returns `AllocError` if there
+    /// is no memory for it.
     pub fn new(alloc: Global, capacity: usize) -> Result<ReadyDeque, AllocError>
         ensures { IfOk result (λ d. d ≡ traffic [] []) }
     {
@@ -44,8 +44,8 @@ impl ReadyDeque {
         Ok(ReadyDeque { deque })
     }
 
-    /// Puts a number last. Where the queue can't grow, for want of memory or beyond a limit of the
-    /// deque, the number comes back and nothing has changed.
+    /// Puts a number last. If the queue can't grow, because of memory or of a limit of the deque, returns the number
+    /// and changes nothing.
     #[inline(always)]
     pub fn push(&mut self, number: u16) -> Result<(), u16>
         ensures ok { OnOk result (PutLast self.old (number ∷ []) self.new) }
@@ -55,8 +55,7 @@ impl ReadyDeque {
         self.deque.push_as::<Puts>(number)
     }
 
-    /// Takes the first number. Answers `None` only where the queue was empty at a moment of the
-    /// call.
+    /// Takes the first number. Returns `None` only if the queue was empty at a moment of the call.
     #[inline(always)]
     pub fn take(&mut self) -> Option<u16>
         ensures { MatchOption result ((self.new ≡ self.old) × WasEmpty self.old)
@@ -65,7 +64,7 @@ impl ReadyDeque {
         self.deque.pop_as::<Takes>()
     }
 
-    /// Another worker's end of this queue. Answers `AllocError` where the queue has too many.
+    /// Another worker's end of this queue. Returns `AllocError` if the queue has too many ends.
     pub fn victim(&self) -> Result<Victim, AllocError>
         ensures { IfOk result (λ v. v ≡ traffic [] []) }
     {
@@ -74,7 +73,7 @@ impl ReadyDeque {
     }
 }
 
-// Another end of this queue: a stealer of it, and a pass of its own there.
+// Another end of this queue: a stealer, and its own pass there.
 fn end_of(queue: &Queue) -> Result<(QueueStealer, Pass<u16, Traffic>), AllocError>
     ensures queue { IfOk result (λ end. stealer_deque end.0 ≡ worker_deque queue.now) }
     ensures flavor { IfOk result (λ end. stealer_flavor end.0 ≡ worker_flavor queue.now) }
@@ -86,7 +85,7 @@ fn end_of(queue: &Queue) -> Result<(QueueStealer, Pass<u16, Traffic>), AllocErro
     Ok((stealer, pass))
 }
 
-/// A worker's end of another's queue: the stealer, and this worker's own pass at the deque.
+/// A worker's end of another worker's queue: the stealer, and this worker's own pass at the deque.
 #[derive(Drop)]
 pub struct Victim {
     stealer: QueueStealer,
@@ -107,8 +106,8 @@ impl Model for Victim {
 }
 
 impl Victim {
-    /// Takes the first number. Answers `Empty` only where the queue was empty at a moment of the
-    /// call, and `Retry` where somebody else took a number first.
+    /// Takes the first number. Returns `Empty` only if the queue was empty at a moment of the call, and `Retry` if
+    /// another worker took a number first.
     pub fn steal(&mut self) -> Steal<u16>
         ensures { TellsOf result self.old self.new }
     {

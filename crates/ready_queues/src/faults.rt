@@ -1,4 +1,4 @@
-//! The first fault of a run, and how what its workers know of it comes back to who answers.
+//! The first fault of a run, and how the workers' knowledge of it is collected.
 ghost use Rattle.std.specs.Prelude.{◌≡◌, ◌≢◌, ℕ, All, List, None, Some};
 ghost use Rattle.std.specs.Iterator.{Drains, IsFinite};
 ghost use Rattle.once_cell.specs.Once.{cell_name};
@@ -8,7 +8,7 @@ use cell_registry::{Band, Limits, RunError};
 use once_cell::race::{Note, OnceBox};
 use std::marker::{Brand, PhantomData};
 
-/// Names the cell of a run's first fault, so that a type can say that a note is of it.
+/// Names the cell of a run's first fault, so that a type can say which cell a note belongs to.
 pub trait FaultCell {
     ghost name: { ℕ };
 }
@@ -38,12 +38,12 @@ impl<'r, C: FaultCell> FirstFault<'r, C> {
         }
     }
 
-    /// Whether a worker met a fault.
+    /// Whether a worker has met a fault.
     pub fn is_known(&self) -> bool {
         self.cell.get().is_some()
     }
 
-    /// What a worker knows that has met this fault, or `None` where it met none.
+    /// What a worker knows after it met this fault, or none if `met` is `None`.
     pub fn learned(&self, met: Option<Box<RunError>>) -> Learned<C>
         ensures { met ≢ None → result.note.known ≢ None }
     {
@@ -58,7 +58,7 @@ impl<'r, C: FaultCell> FirstFault<'r, C> {
         }
     }
 
-    /// The first fault that one of these workers knows, or that the cell shows by then.
+    /// The first fault that one of these workers knows, or that the cell has by then.
     pub fn known_to_one<I: Iterator<Item = Learned<C>> + Drop>(
         &self,
         workers: I,
@@ -85,7 +85,7 @@ pub struct Learned<C: FaultCell> {
     ghost of_cell: { note.cell ≡ C.name },
 }
 
-/// Takes in what a joined worker knows of the first fault.
+/// Adds what a joined worker knows of the first fault.
 pub fn learn(cell: &OnceBox<RunError>, mine: &mut Note<RunError>, theirs: Note<RunError>)
     requires mine { mine.old.cell ≡ cell_name cell.now }
     requires theirs { theirs.cell ≡ cell_name cell.now }
@@ -103,7 +103,7 @@ pub fn learn(cell: &OnceBox<RunError>, mine: &mut Note<RunError>, theirs: Note<R
     }
 }
 
-/// The first fault, if there was one. It is the one that the note knows.
+/// The first fault, if there was one: the one that the note knows.
 pub fn first_fault(cell: &OnceBox<RunError>, mine: &mut Note<RunError>) -> Option<RunError>
     requires { mine.old.cell ≡ cell_name cell.now }
     ensures known { (e : _) → mine.old.known ≡ Some e → result ≡ Some e }

@@ -10,7 +10,7 @@ use std::alloc::{AllocError, Global};
 use std::marker::Model;
 use std::sync::Wait;
 
-/// A queue that all workers push to and take from alike.
+/// A queue that every worker pushes to and takes from.
 pub type ReadyInjector = Injector<u16, Global, Traffic, Ledgered>;
 
 /// One worker's end of an injector.
@@ -32,7 +32,7 @@ impl<'q> Model for InjectorEnd<'q> {
     ghost invariant = { λ e. IsInjectorPassOf e.injector.now e.pass };
 }
 
-/// An empty injector. Answers `AllocError` where there is no memory for it.
+/// An empty injector. Returns `AllocError` if there is no memory for it.
 pub fn empty_injector(alloc: Global) -> Result<ReadyInjector, AllocError> {
     let (injector, _pass) = Injector::new_as(alloc)?;
     Ok(injector)
@@ -47,8 +47,7 @@ impl<'q> InjectorEnd<'q> {
         InjectorEnd { injector, pass }
     }
 
-    /// Puts a number last. Where there is no memory for it, the number comes back and nothing has
-    /// changed.
+    /// Puts a number last. If there is no memory for it, returns the number and changes nothing.
     pub fn push<R: Wait>(&mut self, rt: &R, number: u16) -> Result<(), u16>
         ensures ok { OnOk result (PutLast self.old (number ∷ []) self.new) }
         ensures back { IfErr result (λ n. n ≡ number) }
@@ -57,8 +56,8 @@ impl<'q> InjectorEnd<'q> {
         self.injector.push_as::<Puts, R>(rt, &mut self.pass, number)
     }
 
-    /// Takes the first number. Answers `Empty` only where the injector was empty at a moment of the
-    /// call. `Retry` asks to be tried again.
+    /// Takes the first number. Returns `Empty` only if the injector was empty at a moment of the call, and `Retry` if
+    /// it should be tried again.
     pub fn take<R: Wait>(&mut self, rt: &R) -> Steal<u16>
         ensures { TellsOf result self.old self.new }
     {

@@ -1,15 +1,15 @@
-//! The rule of the pool's queues, and what each step on them tells.
+//! The rule of the queues, and what each step on them shows.
 use crossbeam_deque::protocol::{Outcome, Protocol};
 use std::collections::LinkedList;
 
-/// What one end of a queue has pushed and taken, first to last. No value of it is made.
+/// What one end of a queue has pushed and taken, first to last. No program makes such a value.
 pub struct Traffic {
     pub pushed: LinkedList<u16>,
     pub taken: LinkedList<u16>,
 }
 
-/// The rule of a queue of ready numbers: those pushed are those taken, in order, and then those
-/// left, and each end knows its own part of both.
+/// The rule of a queue of ready numbers: the numbers pushed are, in order, those taken and then those left, and each
+/// end knows its own part of both.
 pub struct Ledgered;
 
 impl Protocol<u16, Traffic> for Ledgered {
@@ -23,7 +23,7 @@ impl Protocol<u16, Traffic> for Ledgered {
     ghost guest = { traffic [] [] };
 }
 
-/// A number goes to the end of the list.
+/// A number is added to the end of the list.
 pub(crate) struct Puts;
 
 impl Outcome<u16, Traffic> for Puts {
@@ -32,7 +32,7 @@ impl Outcome<u16, Traffic> for Puts {
     ghost then = { PutLast };
 }
 
-/// The first number leaves the list, or the list is empty.
+/// The first number is removed from the list, or the list is empty.
 pub(crate) struct Takes;
 
 impl Outcome<u16, Traffic> for Takes {

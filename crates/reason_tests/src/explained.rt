@@ -1,4 +1,4 @@
-//! Texts that are answered with reasons, over devices that hold and that fail.
+//! Texts that are answered with reasons, on devices that work and that fail.
 
 use crate::limits::limits;
 use outcome_trace::{CheckOrder, FromRead, ReplayOrder, Status, ToWrite};
@@ -7,7 +7,7 @@ use std::alloc::Global;
 use std::io;
 use std::io::{ErrorKind, Read, Write};
 
-// Takes so many bytes, and then fails.
+// A writer that takes a number of bytes, and then fails.
 #[derive(Drop)]
 struct Narrow {
     room: usize,
@@ -30,7 +30,7 @@ impl Write for Narrow {
     }
 }
 
-// Fails at each read.
+// A reader that fails at each read.
 #[derive(Drop)]
 struct Broken;
 
@@ -40,7 +40,7 @@ impl Read for Broken {
     }
 }
 
-// A text, its answer by `check`, its status, and what is told.
+// A text, its answer by `check`, its status, and its reasons.
 const CHECKED: &[(&str, &str, Status, &str)] = &[
     (
         "(pure 1)",
@@ -79,7 +79,7 @@ fn answers_are_as_without_reasons(rt: HostRuntime) {
     }
 }
 
-// What is told on the last device where the others fail so, and the status.
+// What is written to the last device if another device fails, and the status.
 fn told_of(alloc: Global, room: usize) -> (Vec<u8>, Status) {
     let mut err = Vec::new(alloc);
     let status = obey_explained(
@@ -117,7 +117,7 @@ fn a_failed_read_is_told_alone(rt: HostRuntime) {
     assert_eq!(rt; status, Status::Fault);
 }
 
-// Whether the answer with reasons, whose last device fails after so many bytes, is the answer without.
+// Whether the answer with reasons is the answer without, if the last device fails after `room` bytes.
 fn is_answered(alloc: Global, room: usize) -> bool {
     let mut out = Vec::new(alloc);
     let status = obey_explained(
@@ -138,7 +138,7 @@ fn a_last_device_that_fails_changes_nothing(rt: HostRuntime) {
     }
 }
 
-// What a replay answers, and what is told.
+// The answer of a replay, and its reasons.
 fn replayed(alloc: Global, text: &str) -> (Vec<u8>, Vec<u8>, Status) {
     let order = ReplayOrder {
         schedule: &[0, 0, 0, 0],
@@ -161,8 +161,8 @@ fn replayed(alloc: Global, text: &str) -> (Vec<u8>, Vec<u8>, Status) {
     (out, err, status)
 }
 
-// Holds whichever request for memory is refused: where one of the answer's is, that is told; where one of the
-// reasons' is, the answer is the same, and they are left out.
+// Holds with every request for memory refused in turn: a refused request of the answer is reported; after a refused
+// request of the reasons, the answer is the same, without reasons.
 #[test]
 fn reasons_are_left_out_where_memory_runs_out(rt: HostRuntime) {
     let (out, err, status) = replayed(rt.alloc(), "(deferred d (await d))");

@@ -8,7 +8,7 @@ use std::alloc::{AllocError, Global};
 use std::str;
 use std::test::Fail;
 
-// A text, what `check` answers to it in JSON, and its status.
+// A text, the answer of `check` to it in JSON, and its status.
 const CHECKED: &[(&str, &str, Status)] = &[
     (
         "(uncancelable p (poll p (say 1)))",
@@ -27,7 +27,7 @@ const CHECKED: &[(&str, &str, Status)] = &[
     ),
 ];
 
-// A program, what a replay of it answers in JSON, and its status.
+// A program, the answer of a replay in JSON, and its status.
 const REPLAYED: &[(&str, &str, Status)] = &[
     (
         "(pure 4)",
@@ -86,8 +86,8 @@ const REPLAYED: &[(&str, &str, Status)] = &[
     ),
 ];
 
-// A program, how many worlds are kept, an outcome that is wanted if any is, what an exploration of it answers in JSON,
-// and its status.
+// A program, the number of worlds that are kept, an outcome that is wanted if any is, the answer of an exploration in
+// JSON, and its status.
 const EXPLORED: &[(&str, usize, &[&str], &str, Status)] = &[
     (
         "(pure 1)",
@@ -102,8 +102,9 @@ const EXPLORED: &[(&str, usize, &[&str], &str, Status)] = &[
         "(pure 1)",
         1,
         &[],
-        // A world of 13 bytes with a row of 96 and 4, three states of the fiber of 480, as the end is made, and two of
-        // the cells, each of 160, 32 for each of 16 fibers, 8 for the ref and 16 for each of 16 deferreds.
+        // A world of 13 bytes with a row of 96 and 4. There are three states of the fiber, of 480 bytes each, while the
+        // end is made, and two of the cells, each of 160, 32 for each of 16 fibers, 8 for the ref and 16 for each of 16
+        // deferreds.
         "{\"answer\":\"exploration\",\"answers\":[],\"bytes\":3425,\"complete\":false,\"worlds\":1}\n",
         Status::Unended,
     ),
@@ -152,7 +153,7 @@ const EXPLORED: &[(&str, usize, &[&str], &str, Status)] = &[
     ),
 ];
 
-// A program, a seed, how many schedules are drawn, what a sample of them answers in JSON, and its status.
+// A program, a seed, the number of schedules that are drawn, the answer of a sample in JSON, and its status.
 const SAMPLED: &[(&str, u64, u32, &str, Status)] = &[
     (
         "(pure 1)",
@@ -206,7 +207,7 @@ fn checks_are_told_in_json(rt: HostRuntime) -> Result<(), Fail> {
     Ok(())
 }
 
-// What a replay answers, in which fiber 0 alone moves.
+// The answer of a replay in which only fiber 0 moves.
 fn replayed(alloc: Global, program: &str) -> Result<Answer, AllocError> {
     let schedule = [0; 99];
     let order = ReplayJson {
@@ -238,7 +239,7 @@ fn push_wants(wants: &mut Vec<Want>, words: &[&str]) -> Result<(), Fail> {
     Ok(())
 }
 
-// What an exploration answers, where these outcomes are wanted.
+// The answer of an exploration with these wanted outcomes.
 fn explored(alloc: Global, program: &str, worlds: usize, words: &[&str]) -> Result<Answer, Fail> {
     let mut wants = Vec::new(alloc);
     push_wants(&mut wants, words)?;
@@ -266,7 +267,7 @@ fn explorations_are_told_in_json(rt: HostRuntime) -> Result<(), Fail> {
     Ok(())
 }
 
-// What a sample answers.
+// The answer of a sample.
 fn sampled(alloc: Global, program: &str, seed: u64, times: u32) -> Result<Answer, AllocError> {
     let order = SampleJson {
         order: SampleOrder {
@@ -290,7 +291,7 @@ fn samples_are_told_in_json(rt: HostRuntime) -> Result<(), Fail> {
     Ok(())
 }
 
-// Holds whichever request for memory is refused: what is told is whole.
+// Holds with every request for memory refused in turn: an answer is whole.
 #[test]
 fn json_is_told_whole_or_memory_ran_out(rt: HostRuntime) {
     if let Ok(answer) = replayed(rt.alloc(), "(seq (say 1) (pure 2))") {

@@ -1,9 +1,8 @@
-//! Tests of the public calls of `reasons` and `json_answers`, with texts written by hand.
+//! Tests of the public calls of `reasons` and `json_answers`. The expected texts are written by hand.
 //!
-//! The libraries promise what goes out beside reasons, where a fault is told, why a fiber hasn't ended, and of which
-//! value a text of JSON is. These tests show what no proof does: what reasons look like, and that all is told where
-//! memory is ample. The crate has nothing but its tests. They stand apart from the libraries so that these are
-//! proved without them.
+//! The contracts of the libraries pin what is written beside reasons, where a fault is reported, why a fiber hasn't
+//! ended, and the value of each JSON text. These tests show what no proof does: what reasons look like, and that they
+//! are written in full with ample memory. The crate has only tests, so that the libraries are proved without them.
 #![tactic(auto)]
 
 #[cfg(test)]

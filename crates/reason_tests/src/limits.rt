@@ -1,10 +1,10 @@
-//! Limits that small programs keep.
+//! Limits for small programs.
 
 ghost use Rattle.cell_registry.specs.Cells.{AreLimits};
 
 use outcome_trace::Limits;
 
-/// Limits with so many refs (1 to 16).
+/// Limits with this number of refs (1 to 16).
 pub fn limits(refs: u16) -> Limits
     ensures { AreLimits result }
 {

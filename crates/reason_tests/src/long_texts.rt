@@ -1,11 +1,11 @@
-//! The reasons of texts that go past a limit, or are shown in part.
+//! The reasons of texts that pass a limit, or are shown in part.
 
 use reasons::{Reasons, TextReasons};
 use std::alloc::{AllocError, Global};
 use std::str;
 use std::test::Fail;
 
-// A text of one front, so many times, a middle, and one back, as often; and what is told of it.
+// A text of a front, repeated a number of times, a middle, and a back, repeated as often; and its reasons.
 struct Long<'a> {
     front: &'a str,
     times: u32,
@@ -63,7 +63,7 @@ fn text_of(alloc: Global, it: &Long<'_>) -> Result<String, AllocError> {
     Ok(text)
 }
 
-// What is told of it.
+// Its reasons.
 fn told(alloc: Global, it: &Long<'_>) -> Result<Vec<u8>, AllocError> {
     let text = text_of(alloc, it)?;
     TextReasons.reasons(alloc, text.as_bytes())

@@ -1,11 +1,11 @@
-//! The reasons of texts that are refused.
+//! The reasons of refused texts.
 
 use reasons::{Reasons, TextReasons};
 use std::alloc::{AllocError, Global};
 use std::str;
 use std::test::Fail;
 
-// A text, and what is told of it.
+// A text, and its reasons.
 struct Refused<'a> {
     text: &'a [u8],
     told: &'a str,
@@ -185,7 +185,7 @@ const REFUSED: &[Refused<'static>] = &[
     },
 ];
 
-// What is told of a text.
+// The reasons of a text.
 fn told(alloc: Global, text: &[u8]) -> Result<Vec<u8>, AllocError> {
     TextReasons.reasons(alloc, text)
 }
@@ -199,7 +199,7 @@ fn reasons_are_told(rt: HostRuntime) -> Result<(), Fail> {
     Ok(())
 }
 
-// Holds whichever request for memory is refused: what is told is whole.
+// Holds with every request for memory refused in turn: reasons are whole.
 #[test]
 fn reasons_are_whole_or_memory_ran_out(rt: HostRuntime) {
     let text = b"(let total (pure 5) (start f (cede) (say totl)))";

@@ -1,4 +1,4 @@
-//! What is told of schedules' texts that are bad.
+//! The reasons of bad schedules.
 
 use outcome_trace::{Status, ToWrite, read_schedule};
 use reasons::explain_schedule;
@@ -6,7 +6,7 @@ use std::alloc::Global;
 use std::str;
 use std::test::Fail;
 
-// A schedule's text, and what is told of it.
+// A schedule's text, and its reasons.
 const SCHEDULES: &[(&str, &str)] = &[
     (
         "0*11 1* 0*8",
@@ -71,7 +71,7 @@ const SCHEDULES: &[(&str, &str)] = &[
     ),
 ];
 
-// What is told of a schedule, and its status.
+// The reasons of a schedule, and its status.
 fn told(alloc: Global, schedule: &str) -> Option<(Vec<u8>, Status)> {
     let error = read_schedule(alloc, schedule).err()?;
     let mut err = Vec::new(alloc);

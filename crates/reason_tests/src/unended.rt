@@ -7,9 +7,9 @@ use std::alloc::Global;
 use std::str;
 use std::test::Fail;
 
-// A program under a schedule, and what is told of it.
+// A program under a schedule, and its reasons.
 struct Unended<'a> {
-    // What it shows.
+    // The rule that it shows.
     rule: &'a str,
     program: &'a str,
     schedule: &'a str,
@@ -96,7 +96,7 @@ const UNENDED: &[Unended<'static>] = &[
     },
 ];
 
-// What is told.
+// The reasons.
 fn told(alloc: Global, it: &Unended<'_>) -> Result<Vec<u8>, Fail> {
     let entries = read_schedule(alloc, it.schedule)?;
     let reasons = ReplayReasons {

@@ -1,4 +1,4 @@
--- What becomes of a text that is answered with reasons.
+-- The answer to a text, with its reasons.
 use Rattle.std.specs.Prelude.{◌≡◌, ◌⊎◌, ℕ, List, Result, Ok, Err}
 use Rattle.text_io.specs.declared.fault.TextFault.{TextFault}
 use Rattle.text_io.specs.declared.status.Status.{Status}
@@ -7,18 +7,20 @@ use Rattle.text_io.specs.Exchange.{IsAnswered, IsRead}
 use Rattle.text_io.specs.FaultLines.{fault_line}
 use Rattle.text_io.specs.Telling.{Told, status_of}
 
--- Some of what may be told went out, or as much of its front as the device took until it failed; or nothing is told.
+-- Some of the possible reasons were written, or as much of their beginning as the device took before it failed; or
+-- nothing was written.
 abbrev pub TellsReasons : (List ℕ → Type 0) → Writer → Writer → Type 0
 TellsReasons Tells before after = ((told : List ℕ) × Tells told × Told told before after) ⊎ (after ≡ before)
 
--- reasons of the text that was read, where it is answered; else the fault, and nothing but it
+-- reasons of the text that was read, if it is answered; otherwise only the fault
 abbrev pub TellsResult : (List ℕ → List ℕ → Type 0) → Result Status TextFault → Reader → Reader → Writer → Writer →
     Type 0
 TellsResult Tells (Ok s) input left before after =
     (text : List ℕ) × IsRead input left text × TellsReasons (Tells text) before after
 TellsResult Tells (Err fault) input left before after = Told (fault_line fault) before after
 
--- The text is answered as it is without reasons, and these are told, or there is a fault, which is told alone.
+-- The text is answered as it is without reasons, and these are written, or there is a fault, and only the fault is
+-- written.
 pub record Explained (Answers : List ℕ → List ℕ → Status → Type 0) (Tells : List ℕ → List ℕ → Type 0)
     (before after : Devices) (status : Status) : Type 0 where
   pub result : Result Status TextFault
@@ -28,7 +30,7 @@ pub record Explained (Answers : List ℕ → List ℕ → Status → Type 0) (Te
 
 -- ---- for private clauses
 
--- this text was read and is answered with this status, and all of the answer went out
+-- this text was read and answered with this status, and all of the answer was written
 pub record IsKept (Answers : List ℕ → List ℕ → Status → Type 0) (before after : Reader) (old new : Writer)
     (text : List ℕ) (status : Status) : Type 0 where
   pub answered : IsAnswered Answers before after old new (Ok status)

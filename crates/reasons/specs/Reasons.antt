@@ -1,4 +1,4 @@
--- What is told of a text under a schedule.
+-- The reasons of a text under a schedule.
 use Rattle.std.specs.Prelude.{◌≡◌, ℕ, List, Ok}
 use Rattle.cell_registry.specs.declared.limits.Limits.{Limits}
 use Rattle.derived_ops.specs.Expansion.{code_of}

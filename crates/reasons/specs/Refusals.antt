@@ -1,4 +1,4 @@
--- What is told of a text that is refused.
+-- The reasons of a refused text.
 use Rattle.std.specs.Prelude.{◌≡◌, ℕ, List, [], ◌∷◌, ◌++◌, codes, Ok, Err, Option, Some, None, take}
 use Rattle.std.specs.Fmt.{decimal}
 use Rattle.effect_term.specs.declared.term.Term.{Term}
@@ -26,11 +26,11 @@ place_of (parse.TooDeep p) = Some p
 place_of (parse.TooLong p) = Some p
 place_of (parse.Trailing p) = Some p
 
--- how the reasons of a fault at a place begin
+-- the first line of the reasons of a fault at a place
 abbrev pub place_heading : Position → List ℕ
 place_heading at = codes "line " ++ (decimal at.line ++ (codes ", column " ++ (decimal at.column ++ codes ": ")))
 
--- the reasons where a term goes past a limit
+-- the reasons of a term that passes a limit
 abbrev pub limit_text : TermError → List ℕ
 limit_text term.NoMemory = []
 limit_text (term.Unbound slot) = []
@@ -39,7 +39,7 @@ limit_text (term.DeepMasks n) =
     codes "the program has " ++ (decimal n ++ (codes " masks below one another, and may have 250" ++ 10 ∷ []))
 limit_text term.Large = codes "the program's expansion has more than 1000000 words and marks" ++ 10 ∷ []
 
--- What is told of a text: where its first fault is, or the limit that its term goes past; of a program's text nothing.
+-- The reasons of a text: where its first fault is, or the limit that its term passes; the text of a program has none.
 pub data IsTextReasons : List ℕ → List ℕ → Type 0 where
   at_fault : (text : List ℕ) (e : ParseError) (p : ℕ) (rest : List ℕ) → reading text ≡ Err e → place_of e ≡ Some p →
       IsTextReasons text (place_heading (position_of (take p text)) ++ rest)

@@ -1,4 +1,4 @@
--- What is told of a schedule's text that is bad.
+-- The reasons of a bad schedule's text.
 use Rattle.std.specs.Prelude.{◌≡◌, ◌⊎◌, ℕ, List, ◌++◌}
 use Rattle.text_io.specs.declared.schedule.ScheduleError.{ScheduleError}
 use Rattle.text_io.specs.declared.schedule.ScheduleError.TheVariants.{BadSchedule}
@@ -16,7 +16,7 @@ pub record TellsWhy (error : ScheduleError) (before after : Writer) (status : St
   pub told : Told (schedule_line place ++ rest) before after
   pub status_is : status ≡ Usage
 
--- as it is without reasons, or with them
+-- the result without reasons, or with them
 abbrev pub ExplainsSchedule : ScheduleError → Writer → Writer → Status → Type 0
 ExplainsSchedule error before after status =
     RefusesSchedule error before after status ⊎ TellsWhy error before after status

@@ -5,7 +5,7 @@ use Rattle.std.specs.Prelude.{◌==◌, ◌+◌, ◌/◌, ◌%◌, ◌||◌, ℕ
 abbrev pub digit : ℕ → ℕ
 digit n = if nat_lt n 10 then n + 48 else n + 87
 
--- a printable character of ASCII itself, a space for a tab or a carriage return, else `\x` and two digits
+-- a printable ASCII character as it is, a space for a tab or a carriage return, otherwise `\x` and two digits
 abbrev pub shown_byte : ℕ → List ℕ
 shown_byte b =
     if b == 9 || b == 13 then 32 ∷ []

@@ -8,22 +8,22 @@ use term_parse::{Part, Word, parts_of, word_of};
 /// A name that a form binds.
 #[derive(Clone, Copy)]
 pub(crate) struct Binder {
-    /// Where the name begins.
+    /// The place where the name begins.
     pub start: usize,
-    /// Where it ends.
+    /// The place behind the name.
     pub end: usize,
-    /// What it stands for.
+    /// Its kind.
     pub kind: Kind,
 }
 
-/// A form whose closing bracket hasn't come.
+/// A form whose closing bracket hasn't been read.
 #[derive(Clone, Copy)]
 pub(crate) struct OpenForm {
-    /// Its word, if it has come.
+    /// Its word, if it has been read.
     pub word: Option<Word>,
-    /// How many of its parts have come.
+    /// The number of its parts that have been read.
     pub next: usize,
-    /// How many binders stand before its own.
+    /// The number of binders before its own.
     pub first: usize,
 }
 
@@ -33,7 +33,7 @@ impl OpenForm {
         parts_of(self.word?).get(self.next).copied()
     }
 
-    // One more part has come. Where any number of terms may stand, they still may.
+    // Counts one more part. `More` remains the wanted part.
     fn count(&mut self) {
         match self.part() {
             Some(Part::More) => {}
@@ -42,16 +42,16 @@ impl OpenForm {
     }
 }
 
-/// What is around a place of a text.
+/// The surroundings of a place in a text.
 #[derive(Drop)]
 pub(crate) struct Around {
-    /// The forms that are open, the innermost last.
+    /// The open forms, the innermost last.
     pub forms: Vec<OpenForm>,
     /// The binders of these forms, the innermost last.
     pub binders: Vec<Binder>,
 }
 
-/// What is around the end of a text that has no fault, as far as it goes.
+/// The surroundings of the end of a text that has no fault up to there.
 pub(crate) fn around_end(alloc: Global, front: &[u8]) -> Result<Around, AllocError> {
     let mut around = Around {
         forms: Vec::new(alloc),
@@ -70,7 +70,7 @@ pub(crate) fn around_end(alloc: Global, front: &[u8]) -> Result<Around, AllocErr
     Ok(around)
 }
 
-// The token that begins with this byte, if it is no bracket and no space.
+// The place of a token that begins with this byte, if it is neither a bracket nor space.
 fn start_at(byte: u8, at: usize) -> Option<usize> {
     if is_name_byte(byte) || byte == b'-' {
         Some(at)
@@ -79,13 +79,13 @@ fn start_at(byte: u8, at: usize) -> Option<usize> {
     }
 }
 
-// Whether a name or a number goes on with this byte.
+// Whether this byte continues a name or a number.
 fn is_name_byte(byte: u8) -> bool {
     (b'a' <= byte && byte <= b'z') || (b'0' <= byte && byte <= b'9')
 }
 
 impl Around {
-    // A name or a number, where one has begun.
+    // Ends a name or a number, if one has begun.
     fn end_token(
         &mut self,
         front: &[u8],
@@ -111,7 +111,7 @@ impl Around {
         Ok(())
     }
 
-    // A name, where the form binds one.
+    // Binds a name, if the form binds one here.
     fn bind(&mut self, form: &OpenForm, start: usize, end: usize) -> Result<(), AllocError> {
         if let Some(Part::Bind(kind)) = form.part() {
             self.binders.push(Binder { start, end, kind })?;
@@ -119,7 +119,7 @@ impl Around {
         Ok(())
     }
 
-    // A bracket, where this is one.
+    // Handles a bracket, if this byte is one.
     fn bracket(&mut self, byte: u8) -> Result<(), AllocError> {
         match byte {
             b'(' => self.forms.push(OpenForm {
@@ -133,7 +133,7 @@ impl Around {
         Ok(())
     }
 
-    // The closing bracket of the innermost form.
+    // Closes the innermost form.
     fn close(&mut self) {
         let Some(form) = self.forms.pop() else {
             return;
@@ -144,12 +144,12 @@ impl Around {
         }
     }
 
-    /// The innermost form that is open.
+    /// The innermost open form.
     pub fn innermost(&self) -> Option<OpenForm> {
         self.forms.as_slice().last().copied()
     }
 
-    /// The binders in whose parts the place is, the innermost last.
+    /// The binders whose scope contains the place, the innermost last.
     pub fn in_scope(&self, alloc: Global) -> Result<Vec<Binder>, AllocError> {
         let mut seen = Vec::new(alloc);
         for (at, form) in self.forms.iter().enumerate() {
@@ -164,7 +164,7 @@ impl Around {
         Ok(seen)
     }
 
-    // Those of a form's binders that stand around this part of it.
+    // Adds those of a form's binders that are around this part of it.
     fn add_those(
         &self,
         seen: &mut Vec<Binder>,

@@ -1,16 +1,16 @@
-//! The line of a text in which a place is, with a mark under the place.
+//! The line of a text that contains a place, with a mark under the place.
 
 use crate::shown::push_shown;
 use std::alloc::{AllocError, Global};
 
-// How many bytes of a line are shown on either side of the place.
+// The number of bytes of a line that are shown on either side of the place.
 const SIDE: usize = 48;
 
-// What stands for bytes of a line that are left out.
+// Replaces bytes of a line that are left out.
 const CUT: &[u8] = b"...";
 
-/// The line of a text in which a place is, two bytes to the right, and a mark under the place. Of a long line what is
-/// near the place.
+/// The line of a text that contains a place, indented by two, and a mark under the place. A long line is cut to the
+/// bytes near the place.
 pub(crate) fn push_excerpt(
     alloc: Global,
     told: &mut Vec<u8>,
@@ -26,7 +26,7 @@ pub(crate) fn push_excerpt(
     told.extend_from_slice(b"^\n")
 }
 
-// What stands in the line before the place, as it is shown.
+// The bytes of the line before the place, as they are shown.
 fn shown_before(alloc: Global, text: &[u8], place: usize) -> Result<Vec<u8>, AllocError> {
     let line = line_before(text, place);
     let mut shown = Vec::from_slice(alloc, b"  ")?;
@@ -40,7 +40,7 @@ fn shown_before(alloc: Global, text: &[u8], place: usize) -> Result<Vec<u8>, All
     Ok(shown)
 }
 
-// What stands in the line from the place on, and a line feed.
+// Appends the bytes of the line from the place on, and a line feed.
 fn push_behind(told: &mut Vec<u8>, text: &[u8], place: usize) -> Result<(), AllocError> {
     let line = line_behind(text, place);
     match line.get(..SIDE) {

@@ -1,4 +1,4 @@
-//! A text that is answered, and the reasons for its answer.
+//! Answers a text, and writes the reasons for the answer.
 
 ghost use Rattle.std.specs.Prelude.{◌≡◌, ◌<◌, ◌^◌, ℕ, List, false, Err as Fails, Ok as GoesWell, IfErr, IfOk};
 ghost use Rattle.text_io.specs.declared.status.Status.{Status};
@@ -10,13 +10,12 @@ use outcome_trace::TextOrder;
 use std::alloc::{AllocError, Global};
 use text_io::{Status, TextFault, TextIn, TextOut, read_text, tell_fault, write_text};
 
-/// What is told of a text, beside its answer.
+/// The reasons of a text, beside its answer.
 pub trait Reasons {
-    // What may be told of a text.
+    // The possible reasons of a text.
     ghost tells: { Self → List ℕ → List ℕ → Type 0 };
 
-    /// What is told of a text, which is nothing where there is nothing to tell. `AllocError` where
-    /// memory ran out.
+    /// The reasons of a text, empty if there are none. Returns `AllocError` if memory ran out.
     fn reasons(&self, alloc: Global, text: &[u8]) -> Result<Vec<u8>, AllocError>
         ensures { IfOk result (λ told. tells self.now text.now told.items) };
 }
@@ -30,12 +29,12 @@ struct Kept {
     status: Status,
 }
 
-/// Reads a text and writes its answer, as [`obey_text`](outcome_trace::obey_text) does for this order, and then
-/// tells the text's reasons on the last device.
+/// Reads a text and writes its answer, as [`obey_text`](outcome_trace::obey_text) does for this order, and then writes
+/// the text's reasons to the last device.
 ///
-/// What is read, what goes out and the status are those of `obey_text`. Where there is a fault, it is told
-/// as ever, and no reasons are. Where memory runs out for the reasons, they are left out, and where the last
-/// device fails, nothing more is said.
+/// What is read, the answer and the status are those of `obey_text`. If there is a fault, only its line is written, and
+/// no reasons. If memory runs out for the reasons, they are left out. If the last device fails, nothing more is
+/// written.
 pub fn obey_explained<A: TextOrder, X: Reasons, I: TextIn, O: TextOut, E: TextOut>(
     alloc: Global,
     order: &A,
@@ -85,8 +84,8 @@ fn keep_answered<A: TextOrder, I: TextIn, O: TextOut>(
     })
 }
 
-/// Tells the reasons of a text on a device. Where memory runs out for them, they are left out, and where the device
-/// fails, nothing more is said.
+/// Writes the reasons of a text to a device. If memory runs out for them, they are left out. If the device fails,
+/// nothing more is written.
 pub fn tell_reasons<X: Reasons, E: TextOut>(alloc: Global, reasons: &X, text: &[u8], err: &mut E)
     requires { (E.seen err.old).failed ≡ false }
     ensures { TellsReasons (X.tells reasons.now text.now) (E.seen err.old) (E.seen err.new) }

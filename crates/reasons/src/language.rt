@@ -1,4 +1,4 @@
-//! The words of the language and their parts, as reasons speak of them.
+//! The words of the language and their parts, in the words of the reasons.
 
 use effect_term::Kind;
 use term_parse::{Part, Word};
@@ -41,7 +41,7 @@ pub(crate) fn form_of(word: Word) -> &'static str {
     }
 }
 
-/// What a part of a form wants.
+/// The description of a part of a form.
 pub(crate) fn wanted(part: Part) -> &'static str {
     match part {
         Part::Bind(kind) => match kind {
@@ -76,7 +76,7 @@ pub(crate) fn kind_word(kind: Kind) -> &'static str {
     }
 }
 
-/// Whether a term that is this part stands under the binder of this number of its form.
+/// Whether a term in this part is in the scope of the form's binder of this number.
 pub(crate) fn is_under(part: Part, binder: usize) -> bool {
     match part {
         Part::Under(one) => one == binder,

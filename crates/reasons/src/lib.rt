@@ -1,9 +1,9 @@
-//! Reasons: what is told on the last device beside an answer, to whoever wants to know why.
+//! Reasons: explanations of an answer that are written to the last device for users who ask why.
 //!
-//! It stands on texts and devices (`text_io`), the language (`term_parse`, `effect_term`), the core under a schedule
-//! (`scheduled_core`, `fiber_frames`, `cell_registry`) and its texts (`outcome_trace`). It promises that what is read,
-//! what goes out as the answer and the status are what they are without reasons, and that where there is a fault it is
-//! told as ever, with no reasons.
+//! The crate uses texts and devices (`text_io`), the language (`term_parse`, `effect_term`), the core under a schedule
+//! (`scheduled_core`, `fiber_frames`, `cell_registry`) and its texts (`outcome_trace`). The crate promises that what is
+//! read, the answer and the status are what they are without reasons, and that a fault is reported by its line only,
+//! without reasons.
 #![tactic(auto)]
 
 mod around;

@@ -1,18 +1,18 @@
-//! Where a byte stands in a text.
+//! The position of a byte in a text.
 
 ghost use Rattle.std.specs.Prelude.{◌≡◌, take};
 ghost use Rattle.reasons.specs.Place.{position_of};
 
-/// Where a byte stands in a text.
+/// The position of a byte in a text.
 #[derive(Clone, Copy)]
 pub struct Position {
     /// The number of its line, from 1.
     pub line: usize,
-    /// How many bytes of the line stand before it, and 1.
+    /// The number of bytes of the line before it, plus 1.
     pub column: usize,
 }
 
-/// The position of the byte before which so many stand, or of the text's end where it has no more.
+/// The position of the byte behind the first `place` bytes, or of the text's end if it has no more.
 pub fn position_at(text: &[u8], place: usize) -> Position
     ensures { result ≡ position_of (take place text.now) }
 {

@@ -15,7 +15,7 @@ use std::alloc::{AllocError, Global};
 use term_parse::ParseError;
 
 /// Why a text is refused at a place: the line and the column, what is wrong there, the line with a mark under the
-/// place, what was wanted by the grammar, and the names around it.
+/// place, what the grammar expected, and the names around it.
 pub(crate) fn place_reasons(
     alloc: Global,
     text: &[u8],
@@ -41,8 +41,8 @@ pub(crate) fn place_heading(alloc: Global, at: Position) -> Result<Vec<u8>, Allo
     Ok(heading.into_bytes())
 }
 
-/// Why a term is refused, though its text spells it: the limit that it goes past. `AllocError` where memory ran out,
-/// also where that is why.
+/// Why a term is refused that a text spells: the limit that it passes. Returns `AllocError` if memory ran out, also if
+/// that is the reason.
 pub(crate) fn limit_reasons(alloc: Global, error: TermError) -> Result<Vec<u8>, AllocError>
     ensures told { IfOk result (λ told. told.items ≡ limit_text error) }
     ensures memory { OnOk result (error ≢ TermError.NoMemory) }
@@ -63,7 +63,7 @@ pub(crate) fn limit_reasons(alloc: Global, error: TermError) -> Result<Vec<u8>, 
     }
 }
 
-// What is wrong at the place, and all that is told of it.
+// What is wrong at the place, and all further lines.
 fn fault_text(
     alloc: Global,
     text: &[u8],
@@ -73,7 +73,7 @@ fn fault_text(
     let mut told = Vec::new(alloc);
     push_fault(&mut told, error, meant_at(text, place))?;
     push_excerpt(alloc, &mut told, text, place)?;
-    // A text that is too long wasn't looked at.
+    // A text that is too long wasn't parsed.
     if !matches!(error, ParseError::TooLong(_)) {
         let around = around_end(alloc, text.get(..place).unwrap_or(text))?;
         push_grammar(alloc, &mut told, text, error, place, &around)?;
@@ -107,7 +107,7 @@ fn push_fault(told: &mut Vec<u8>, error: ParseError, spelled: &[u8]) -> Result<(
     told.extend_from_slice(words)
 }
 
-// What the grammar says of the place.
+// What the grammar expected at the place.
 fn push_grammar(
     alloc: Global,
     told: &mut Vec<u8>,
@@ -162,7 +162,7 @@ fn push_grammar(
     }
 }
 
-// Whether the word of a form is wanted: its bracket is open, and nothing else has come.
+// Whether the word of a form is expected: only its bracket has been read.
 fn is_word_wanted(around: &Around) -> bool {
     match around.innermost() {
         Some(form) => form.word.is_none(),
@@ -170,7 +170,7 @@ fn is_word_wanted(around: &Around) -> bool {
     }
 }
 
-// How many brackets are open.
+// The number of open brackets.
 fn push_open(told: &mut Vec<u8>, open: usize) -> Result<(), AllocError> {
     let mut digits = Buffer::new();
     told.extend_from_slice(b"brackets that are open: ")?;
@@ -190,7 +190,7 @@ fn push_names(
     push_binders(told, text, binders.as_slice())
 }
 
-// The name that may have been meant.
+// The name that was possibly meant.
 fn push_near(
     alloc: Global,
     told: &mut Vec<u8>,

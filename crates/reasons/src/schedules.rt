@@ -11,9 +11,9 @@ use crate::refusals::place_heading;
 use std::alloc::{AllocError, Global};
 use text_io::{ScheduleError, Status, TextOut, refuse_schedule, write_text};
 
-/// Tells that a schedule's text is bad, or that there was no memory for its entries, as
-/// [`refuse_schedule`] does; and of a bad text behind its line the line and the column of the first bad item, the
-/// schedule with a mark under it, and what is wrong with it. Where memory runs out for that, it is left out.
+/// Reports that a schedule's text is bad, or that there was no memory for its entries, as [`refuse_schedule`] does.
+/// Behind the line of a bad text it writes the line and the column of the first bad item, the schedule with a mark
+/// under it, and what is wrong with it. If memory runs out for that, it is left out.
 pub fn explain_schedule<E: TextOut>(
     alloc: Global,
     schedule: &str,
@@ -43,7 +43,7 @@ fn schedule_reasons(alloc: Global, schedule: &[u8], place: usize) -> Result<Vec<
     Ok(told)
 }
 
-// The line that is told without reasons, too.
+// The line that is also written without reasons.
 fn bad_line(alloc: Global, place: usize) -> Result<String, AllocError>
     ensures { IfOk result (λ line. string_bytes line ≡ schedule_line place) }
 {
@@ -61,7 +61,7 @@ fn item_text(alloc: Global, schedule: &[u8], place: usize) -> Result<Vec<u8>, Al
     Ok(told)
 }
 
-// That it can't be the next item. Where a space stands in front of the end, or of one more space, there is none.
+// Says that this can't be the next item. Before the end of the text, or before a second space, there is no item.
 fn push_item(told: &mut Vec<u8>, item: &[u8]) -> Result<(), AllocError> {
     if item.is_empty() {
         return told.extend_from_slice(b"an item is missing\n");
@@ -78,7 +78,7 @@ fn item_at(schedule: &[u8], place: usize) -> &[u8] {
     front_of(rest, b' ')
 }
 
-// What stands before the first of these bytes.
+// The bytes before the first `end`.
 fn front_of(bytes: &[u8], end: u8) -> &[u8] {
     for (at, byte) in bytes.iter().enumerate() {
         if *byte == end {
@@ -105,7 +105,7 @@ fn item_fault(item: &[u8]) -> &'static [u8] {
     }
 }
 
-// Whether these are the digits of a number in a range, without zeros in front.
+// Whether these are the digits of a number in a range, without leading zeros.
 fn is_number(digits: &[u8], least: u32, most: u32) -> bool {
     let Some(first) = digits.first() else {
         return false;

@@ -1,12 +1,12 @@
-//! Bytes as they are shown: what isn't a printable character of ASCII is told by its number.
+//! Bytes as they are shown: a byte that isn't printable ASCII is shown as its number.
 
 ghost use Rattle.std.specs.Prelude.{◌≡◌, ◌++◌, ◌<◌, OnOk};
 ghost use Rattle.reasons.specs.Shown.{digit, shown, shown_byte};
 
 use std::alloc::AllocError;
 
-/// A byte as it is shown: itself where it is printable ASCII, a space for a tab or a carriage return, and else
-/// `\x` with its two hexadecimal digits.
+/// A byte as it is shown: itself if it is printable ASCII, a space for a tab or a carriage return, otherwise `\x` with
+/// its two hexadecimal digits.
 pub(crate) fn push_byte(told: &mut Vec<u8>, byte: u8) -> Result<(), AllocError>
     ensures { OnOk result (told.new.items ≡ told.old.items ++ shown_byte byte) }
 {

@@ -16,8 +16,8 @@ use std::alloc::{AllocError, Global};
 use term_parse::ParseError;
 
 /// Why a text is refused: the line and the column of its first fault, what is wrong there, the line of the text with a
-/// mark under the place, what was wanted there by the grammar, the names around it and one that may have been meant; or
-/// the limit that its term goes past. Of a program's text nothing is told.
+/// mark under the place, what the grammar expected there, the names around it, and one that was possibly meant; or the
+/// limit that its term passes. The text of a program has no reasons.
 #[derive(Clone, Copy)]
 pub struct TextReasons;
 
@@ -32,15 +32,15 @@ impl Reasons for TextReasons {
     }
 }
 
-/// Why a text is refused, as [`TextReasons`] tells it; of a program's text why each fiber hasn't ended under the
-/// schedule: what it waits for, or that it could still go on. Where the schedule ends in a fault, its line tells it,
-/// and nothing more is told.
+/// Why a text is refused, as [`TextReasons`] has it. For the text of a program, why each fiber hasn't ended under the
+/// schedule: what it waits for, or that it could still go on. If the schedule ends in a fault, its line reports it, and
+/// there are no reasons.
 #[derive(Clone, Copy)]
 pub struct ReplayReasons<'a> {
-    /// Whose move is next, from the first entry on.
+    /// The fiber that moves next, from the first entry on.
     pub schedule: &'a [u16],
-    /// How many fibers, refs and deferreds there may be (each 1 to 1000), and how often a fiber may
-    /// change its own state (1 to 1,099,511,627,775).
+    /// The numbers of fibers, refs and deferreds (each 1 to 1000), and how often a fiber can change its own cell (1 to
+    /// 1,099,511,627,775).
     pub limits: Limits,
     pub ghost ranges: { AreLimits limits },
 }
@@ -56,7 +56,7 @@ impl Reasons for ReplayReasons<'_> {
     }
 }
 
-// Of a program's text nothing is told.
+// The text of a program has no reasons.
 fn program_reasons(alloc: Global, _program: &Program) -> Result<Vec<u8>, AllocError>
     ensures { IfOk result (λ told. told.items ≡ []) }
 {
@@ -78,7 +78,7 @@ fn refused_reasons(alloc: Global, text: &[u8], refused: Refused) -> Result<Vec<u
     }
 }
 
-// The place of a text's fault. Want of memory has none.
+// The place of a text's fault. Running out of memory has none.
 fn place_of(error: ParseError) -> Option<usize>
     ensures { result ≡ place_of error }
 {

@@ -15,8 +15,8 @@ use itoa::Buffer;
 use outcome_trace::{Why, enter_all, first_fibers, is_done, why_of};
 use std::alloc::{AllocError, Global};
 
-/// A line for each fiber of a program that hasn't ended under a schedule, which says why. Nothing where the schedule
-/// ends in a fault.
+/// A line for each fiber of a program that hasn't ended under a schedule, with the reason. Empty if the schedule ends
+/// in a fault.
 pub(crate) fn unended_reasons(
     alloc: Global,
     program: &Program,
@@ -40,7 +40,7 @@ pub(crate) fn unended_reasons(
     }
 }
 
-// Of a fault nothing is told. Want of memory is none.
+// A fault has no reasons. Returns `AllocError` if memory ran out.
 fn fault_reasons(alloc: Global, error: RunError) -> Result<Vec<u8>, AllocError>
     ensures none { IfOk result (λ told. told.items ≡ []) }
     ensures memory { OnOk result (error ≢ RunError.NoMemory) }
@@ -69,7 +69,7 @@ fn why_lines(
     Ok(told)
 }
 
-// Whether each fiber has ended or waits for what can't come.
+// Whether each fiber has ended, or waits for something that can't come.
 fn is_final(fibers: &[Config], registry: &PlainRegistry) -> bool
     requires { AllFit (world_of fibers.now registry.now.state) }
     ensures { result ≡ true → IsFinal (world_of fibers.now registry.now.state) }
@@ -82,7 +82,7 @@ fn is_final(fibers: &[Config], registry: &PlainRegistry) -> bool
     true
 }
 
-// What is told of a fiber.
+// Appends the line of a fiber.
 fn push_why(told: &mut Vec<u8>, last: bool, fiber: u16, why: Why) -> Result<(), AllocError>
     ensures { OnOk result (told.new.items ≡ told.old.items ++ why_line last fiber why) }
 {
@@ -109,7 +109,7 @@ fn push_why(told: &mut Vec<u8>, last: bool, fiber: u16, why: Why) -> Result<(), 
     }
 }
 
-// What is said of a deferred that is waited for.
+// The words about a deferred that a fiber waits for.
 fn uncompleted(last: bool) -> &'static [u8]
     ensures { result.now ≡ uncompleted last }
 {
@@ -120,7 +120,7 @@ fn uncompleted(last: bool) -> &'static [u8]
     }
 }
 
-// A fiber, words, a number and an end.
+// Appends a fiber, words, a number and an end.
 fn push_wait(
     told: &mut Vec<u8>,
     fiber: u16,
@@ -135,7 +135,7 @@ fn push_wait(
     push_line(told, b"", number, end)
 }
 
-// Words, a number and an end.
+// Appends words, a number and an end.
 fn push_line(told: &mut Vec<u8>, words: &[u8], number: u16, end: &[u8]) -> Result<(), AllocError>
     ensures { OnOk result (told.new.items ≡ told.old.items ++ (words.now ++ (decimal number ++ end.now))) }
 {

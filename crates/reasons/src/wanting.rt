@@ -1,4 +1,4 @@
-//! What the grammar wanted at a place.
+//! What the grammar expected at a place.
 
 use crate::around::{Around, OpenForm};
 use crate::language::{form_of, wanted};
@@ -6,7 +6,7 @@ use crate::names::push_quoted;
 use std::alloc::AllocError;
 use term_parse::{Part, Word};
 
-/// A line that says what the innermost form wanted next.
+/// A line that says what the innermost form expected next.
 pub(crate) fn push_wanted(told: &mut Vec<u8>, around: &Around) -> Result<(), AllocError> {
     let Some(form) = around.innermost() else {
         return told.extend_from_slice(b"a program is one term, as `(pure 1)`\n");
@@ -17,7 +17,7 @@ pub(crate) fn push_wanted(told: &mut Vec<u8>, around: &Around) -> Result<(), All
     push_part(told, word, form)
 }
 
-// The part of a form that was wanted.
+// The part of a form that was expected.
 fn push_part(told: &mut Vec<u8>, word: Word, form: OpenForm) -> Result<(), AllocError> {
     let Some(part) = form.part() else {
         return Ok(());
@@ -43,7 +43,7 @@ fn push_part(told: &mut Vec<u8>, word: Word, form: OpenForm) -> Result<(), Alloc
     }
 }
 
-// The letter or short name of a part, as the form of its word has it.
+// The letter or short name of a part, as in the form of its word.
 fn letter_of(word: Word, part: usize) -> &'static [u8] {
     let mut rest = form_of(word);
     for _ in 0..part {
@@ -57,7 +57,7 @@ fn letter_of(word: Word, part: usize) -> &'static [u8] {
     letter.trim_end_matches(')').as_bytes()
 }
 
-// What stands behind the first space.
+// The text behind the first space.
 fn behind_space(text: &'static str) -> &'static str {
     match text.split_once(' ') {
         Some((_, rest)) => rest,

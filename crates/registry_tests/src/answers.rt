@@ -1,4 +1,4 @@
-//! Answers of calls, as rows have them.
+//! The results of calls, as in rows.
 
 use cell_registry::{CellError, Reply};
 

@@ -9,8 +9,7 @@ fn are_one(one: &PlainRegistry, other: &PlainRegistry) -> bool {
     one.same(other) && other.same(one)
 }
 
-// Whether a copy is one with its registry, and is still after this call of fiber 0 exactly where that
-// changes nothing.
+// Whether a copy is equal to its registry, and after this call of fiber 0 still is exactly if the call changes nothing.
 fn is_copied(alloc: Global, call: &Call, changes: bool) -> Result<bool, AllocError> {
     let registry = two_fibers(alloc, 10)?;
     let mut copy = registry.copy(alloc)?;
@@ -19,8 +18,8 @@ fn is_copied(alloc: Global, call: &Call, changes: bool) -> Result<bool, AllocErr
     Ok(is_one && is_answered && are_one(&registry, &copy) != changes)
 }
 
-// Calls of fiber 0 in a new registry of two fibers, one ref and one deferred, and whether each changes it.
-// A request and a wait are noted in the cell of the fiber, whether it was born or not.
+// Calls of fiber 0 in a new registry of two fibers, one ref and one deferred, and whether each changes it. The cell of
+// a fiber notes a request and a wait, whether or not the fiber was started.
 fn calls() -> [(Call, bool); 11] {
     let one = Value::from_i32(1);
     [
@@ -46,7 +45,7 @@ fn are_copied(alloc: Global) -> Result<bool, AllocError> {
     Ok(are)
 }
 
-// Holds whichever allocation is refused.
+// Holds with every allocation refused in turn.
 #[test]
 fn want_of_memory_or_a_copy_until_it_changes(rt: HostRuntime) {
     match are_copied(rt.alloc()) {

@@ -12,20 +12,21 @@ use std::alloc::{AllocError, Global};
 use std::thread;
 use std::thread::Threads;
 
-// The fibers whose ends are joined: 500 in each of 20 registries, behind those of the four threads.
+// The first of the fibers whose ends are joined: 500 in each of 20 registries, numbered behind those of the four
+// threads.
 const FIRST: u16 = 4;
 
 const FIBERS: u16 = 504;
 
-// What a fiber of this number ends with. Both halves of the value word are the number, so the words
-// of two fibers differ in both, and each in both from the 0 that it was.
+// The value that a fiber of this number ends with. Both halves of the value word are the number. So the words of two
+// fibers differ in both halves, and both halves of each word differ from the 0 before.
 fn value_of(fiber: u16) -> Value
     ensures range { IsValue result }
 {
     numbered(i64::from(fiber) * 4_294_967_297)
 }
 
-// Starts the fibers and ends each at once. Whether no call was refused.
+// Starts the fibers and ends each at once. Returns whether no call was refused.
 fn end_all(registry: &Registry, pass: Pass) -> (Pass, bool)
     requires own { IsOf registry.now pass }
     requires open { IsOpen pass.stage }
@@ -44,8 +45,7 @@ fn end_all(registry: &Registry, pass: Pass) -> (Pass, bool)
     (pass, true)
 }
 
-// Joins the fiber until it has ended, at most so often. Whether no join told another end than its
-// own.
+// Joins the fiber until it has ended, at most `times` times. Whether each join that found an end found the fiber's own.
 fn join_often(registry: &Registry, pass: &mut Pass, fiber: u16, times: u32) -> bool
     requires own { IsOf registry.now pass.old }
     requires within { fiber < registry.now.limits.fibers }
@@ -74,7 +74,7 @@ fn join_all(registry: &Registry, pass: Pass) -> (Pass, bool)
     (pass, true)
 }
 
-// Whether a join of each fiber tells its end.
+// Whether a join of each fiber finds its end.
 fn have_ended(registry: &Registry, pass: Pass) -> bool
     requires own { IsOf registry.now pass }
     requires fibers { registry.now.limits.fibers ≡ 504 }
@@ -138,8 +138,8 @@ fn join_twice<R: Threads + Sync>(
     )
 }
 
-// Ends 500 fibers beside three threads that join them. Whether no call was refused, each join told
-// the fiber's own end, and so does one more of each.
+// Ends 500 fibers while three threads join them. Whether no call was refused, each join found the fiber's own end, and
+// one more join of each does.
 fn joins_agree<R: Threads + Sync>(rt: &R, alloc: Global) -> Result<bool, AllocError> {
     let (registry, mut pass) = Registry::new(alloc, FIBERS, 1, 1, 1)?;
     let Ok(first) = registry.start(&mut pass) else {

@@ -10,10 +10,10 @@ use cell_registry::{
 use effect_term::Value;
 use std::alloc::{AllocError, Global};
 
-// A call of fiber 0, and its answer.
+// A call of fiber 0, and its result.
 type Row = (Call, Result<Reply, CellError>);
 
-/// The answer to a call of fiber 0 that it may make however far it has come. `None` to another.
+/// The result of a call that fiber 0 can make in any stage; `None` for any other call.
 #[tactic(auto, unfolding(cell_registry::specs::Cells::after, cell_registry::specs::Cells::reply_of, cell_registry::specs::Cells::refusal, cell_registry::specs::Cells::IsAllowed))]
 pub(crate) fn answer(
     registry: &mut PlainRegistry,
@@ -44,7 +44,7 @@ pub(crate) fn answer(
     }
 }
 
-// The answer to a call of fiber 0 on ref 0 or deferred 0. `None` to another.
+// The result of a call of fiber 0 on ref 0 or deferred 0; `None` for any other call.
 #[tactic(auto, unfolding(cell_registry::specs::Cells::after, cell_registry::specs::Cells::reply_of, cell_registry::specs::Cells::refusal, cell_registry::specs::Cells::IsAllowed))]
 fn value_answer(registry: &mut PlainRegistry, call: &Call) -> Option<Result<Reply, CellError>> {
     let _ = registry.limits();
@@ -68,7 +68,7 @@ fn value_answer(registry: &mut PlainRegistry, call: &Call) -> Option<Result<Repl
     }
 }
 
-// Whether each of these calls has its row's answer.
+// Whether each of these calls has its row's result.
 fn are_answered(registry: &mut PlainRegistry, rows: &[Row]) -> bool {
     for (call, wanted) in rows {
         if answer(registry, call) != Some(*wanted) {
@@ -78,7 +78,7 @@ fn are_answered(registry: &mut PlainRegistry, rows: &[Row]) -> bool {
     true
 }
 
-/// A new registry of two fibers, one ref and one deferred, in which each fiber has so many changes.
+/// A new registry of two fibers, one ref and one deferred, in which each fiber can make `count` changes.
 pub(crate) fn two_fibers(alloc: Global, count: u64) -> Result<PlainRegistry, AllocError>
     requires some { 0 < count }
     requires most { count < 2 ^ 40 }
@@ -121,7 +121,7 @@ fn is_fresh(alloc: Global) -> Result<bool, AllocError> {
     Ok(has_limits && !seen && started && are_answered(&mut registry, &fresh()))
 }
 
-// Holds whichever allocation is refused.
+// Holds with every allocation refused in turn.
 #[test]
 fn want_of_memory_or_a_fresh_plain_registry(rt: HostRuntime) {
     match is_fresh(rt.alloc()) {
@@ -130,7 +130,7 @@ fn want_of_memory_or_a_fresh_plain_registry(rt: HostRuntime) {
     }
 }
 
-// Starts fiber 1, asks it to cancel, and ends it. Whether each answer is the right one.
+// Starts fiber 1, requests its cancellation, and ends it. Whether each result is right.
 #[tactic(auto, unfolding(cell_registry::specs::Cells::after, cell_registry::specs::Cells::reply_of, cell_registry::specs::Cells::refusal, cell_registry::specs::Cells::IsAllowed))]
 fn cancel_child(registry: &mut PlainRegistry) -> bool
     requires { registry.old ≡ new_plain record { fibers = 2; refs = 1; deferreds = 1; count = 10 } }
@@ -200,7 +200,7 @@ fn refs_wrap_and_deferreds_fill_once(rt: HostRuntime) -> Result<(), AllocError> 
     Ok(())
 }
 
-// Uses up the changes of fiber 0, and ends fiber 1. Whether each answer is the right one.
+// Makes as many changes of fiber 0 as are allowed, and ends fiber 1. Whether each result is right.
 #[tactic(auto, unfolding(cell_registry::specs::Cells::after, cell_registry::specs::Cells::reply_of, cell_registry::specs::Cells::refusal, cell_registry::specs::Cells::IsAllowed))]
 fn change_often(registry: &mut PlainRegistry) -> bool
     requires { registry.old ≡ new_plain record { fibers = 2; refs = 1; deferreds = 1; count = 3 } }

@@ -1,4 +1,4 @@
-//! Rows of calls at the lock-free registry, each with its answer.
+//! Rows of calls at the lock-free registry, each with its result.
 
 ghost use Rattle.std.specs.Prelude.{◌≡◌, ◌<◌, ◌^◌, IfOk, IfSome};
 ghost use Rattle.cell_registry.specs.declared.cell.Stage.TheVariants.{Running};
@@ -9,12 +9,10 @@ use crate::answers::{done, numbered};
 use cell_registry::{Call, CellError, Outcome, Pass, Registry, Reply, Stage};
 use std::alloc::{AllocError, Global};
 
-/// The fiber that calls, 0 or 1, the call, and the answer. The only ref and the only deferred have the
-/// number 0.
+/// The fiber that calls, 0 or 1, the call, and the result. The only ref and the only deferred have the number 0.
 pub(crate) type Row = (u16, Call, Result<Reply, CellError>);
 
-/// A new registry of two fibers, one ref and one deferred, the pass of fiber 0, and that of fiber 1,
-/// which was started.
+/// A new registry of two fibers, one ref and one deferred, the pass of fiber 0, and that of fiber 1, which was started.
 pub(crate) fn two_fibers(
     alloc: Global,
     count: u64,
@@ -31,7 +29,7 @@ pub(crate) fn two_fibers(
     }
 }
 
-// The number of a started fiber, whose pass is let go.
+// The number of a started fiber, whose pass is dropped.
 fn start(registry: &Registry, pass: &mut Pass) -> Result<u16, CellError>
     requires own { IsOf registry.now pass.old }
     requires open { IsOpen pass.old.stage }
@@ -41,7 +39,7 @@ fn start(registry: &Registry, pass: &mut Pass) -> Result<u16, CellError>
     Ok(child.number())
 }
 
-// The answer to the end of a running fiber under no mask. `None` to an end as canceled.
+// The result of ending a running, unmasked fiber; `None` for an end as canceled.
 fn finish(
     registry: &Registry,
     pass: &mut Pass,
@@ -65,7 +63,7 @@ fn finish(
     }
 }
 
-// The answer to a call of a running fiber that is under no mask. `None` to a call of another kind.
+// The result of a call of a running, unmasked fiber; `None` for a call of another kind.
 fn unmasked_answer(
     registry: &Registry,
     pass: &mut Pass,
@@ -92,8 +90,8 @@ fn unmasked_answer(
     }
 }
 
-// The answer to a call that only some fibers may make: one that runs under no mask, the end of a mask of
-// one that runs, and the end of one that has run its finalizers.
+// The result of a call that only some fibers can make: a call of a running, unmasked one, the end of a mask of a
+// running one, and the end of one that has run its finalizers.
 fn own_answer(registry: &Registry, pass: &mut Pass, call: &Call) -> Option<Result<Reply, CellError>>
     requires own { IsOf registry.now pass.old }
     ensures own { IsOf registry.now pass.new }
@@ -126,7 +124,7 @@ fn own_answer(registry: &Registry, pass: &mut Pass, call: &Call) -> Option<Resul
     }
 }
 
-// The answer to a call on ref 0 or deferred 0. `None` to another call.
+// The result of a call on ref 0 or deferred 0; `None` for any other call.
 fn value_answer(
     registry: &Registry,
     pass: &mut Pass,
@@ -149,7 +147,7 @@ fn value_answer(
     }
 }
 
-// The answer to a call. `None` where the caller may not make it.
+// The result of a call; `None` if the caller can't make it.
 fn answer(registry: &Registry, pass: &mut Pass, call: &Call) -> Option<Result<Reply, CellError>>
     requires own { IsOf registry.now pass.old }
     requires fibers { registry.now.limits.fibers ≡ 2 }
@@ -180,7 +178,7 @@ fn answer(registry: &Registry, pass: &mut Pass, call: &Call) -> Option<Result<Re
     }
 }
 
-/// Whether the two fibers may make these calls, one after another, and each has its row's answer.
+/// Whether the two fibers can make these calls, one after another, and each has its row's result.
 pub(crate) fn are_answered(
     registry: &Registry,
     first: &mut Pass,
@@ -205,8 +203,7 @@ pub(crate) fn are_answered(
     true
 }
 
-/// The word that a fiber, 0 or 1, is left with by these calls at a new registry. `None` where a call has
-/// another answer than its row's.
+/// The word of fiber 0 or 1 after these calls at a new registry; `None` if a call has another result than its row's.
 pub(crate) fn word_after(
     alloc: Global,
     count: u64,

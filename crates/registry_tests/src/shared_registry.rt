@@ -7,7 +7,7 @@ use cell_registry::{
 use effect_term::Value;
 use std::alloc::{AllocError, Global};
 
-// What a new pass tells of its fiber.
+// Whether the pass is that of a new fiber with this number.
 fn is_new(pass: &Pass, number: u16) -> bool {
     pass.number() == number
         && matches!(pass.phase(), Stage::Running)
@@ -21,7 +21,7 @@ fn is_fresh(alloc: Global) -> Result<bool, AllocError> {
     Ok(is_new(&pass, 0) && registry.last_word(pass, 0) == 0)
 }
 
-// Holds whichever allocation is refused.
+// Holds with every allocation refused in turn.
 #[test]
 fn want_of_memory_or_a_fresh_registry(rt: HostRuntime) {
     match is_fresh(rt.alloc()) {
@@ -106,7 +106,7 @@ fn canceled() -> [Row; 4] {
     ]
 }
 
-// The pass of a canceled fiber tells its end, the mask of its cut, and two changes.
+// The pass of a canceled fiber has its end, the mask of its cut, and two changes.
 fn pass_tells_the_end(alloc: Global) -> Result<bool, AllocError> {
     let Some((registry, mut pass, mut child)) = two_fibers(alloc, 10)? else {
         return Ok(false);
@@ -147,7 +147,7 @@ fn told() -> [Row; 7] {
     ]
 }
 
-// A pass that has met the canceled fiber's is fiber 0's, and its join is told the end.
+// A pass that has met the canceled fiber's pass is that of fiber 0, and its join finds the end.
 fn met_is_told_the_end(alloc: Global) -> Result<bool, AllocError> {
     let Some((registry, mut pass, mut child)) = two_fibers(alloc, 10)? else {
         return Ok(false);
@@ -161,7 +161,7 @@ fn met_is_told_the_end(alloc: Global) -> Result<bool, AllocError> {
 #[test]
 fn the_end_of_a_canceled_fiber_is_told_to_all(rt: HostRuntime) -> Result<(), AllocError> {
     assert!(rt; met_is_told_the_end(rt.alloc())?);
-    // The joins have noted that somebody waits.
+    // The joins have noted that a fiber waits.
     let word = word_after(rt.alloc(), 10, &told(), 1)?;
     assert_eq!(rt; word, Some(8_445_348_812_947_458 + (1 << 53)));
     Ok(())
@@ -207,8 +207,7 @@ fn refs_wrap_and_deferreds_fill_once(rt: HostRuntime) -> Result<(), AllocError> 
     Ok(())
 }
 
-// The sum of -1 and 1 carries into the highest bit of a ref's word, and the word of a completed deferred
-// has that bit.
+// The sum of -1 and 1 carries into the highest bit of a ref's word, and the word of a completed deferred has that bit.
 fn highest_bits() -> [Row; 6] {
     let minus_one = Value::from_i32(-1);
     let five = Value::from_i32(5);
@@ -265,7 +264,7 @@ fn an_end_with_either_extreme_is_told_to_joins(rt: HostRuntime) -> Result<(), Al
     Ok(())
 }
 
-// The end of fiber 0 with -1, and what fiber 1 is told then.
+// The end of fiber 0 with -1, and what fiber 1 then finds.
 fn own_value() -> [Row; 3] {
     let minus_one = Value::from_i32(-1);
     [
@@ -283,7 +282,7 @@ fn own_value() -> [Row; 3] {
     ]
 }
 
-// The value stands in no fiber's word, and a join tells it.
+// No fiber's word contains the value, and a join finds it.
 #[test]
 fn the_value_of_an_end_has_a_word_of_its_own(rt: HostRuntime) -> Result<(), AllocError> {
     let ended = word_after(rt.alloc(), 1, &own_value()[..1], 0)?;

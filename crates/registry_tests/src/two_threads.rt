@@ -10,7 +10,7 @@ use std::alloc::{AllocError, Global};
 use std::thread;
 use std::thread::Threads;
 
-// Starts a fiber and cancels it. Gives its number.
+// Starts a fiber and cancels it. Returns its number.
 fn start_and_cancel(registry: &Registry, pass: &mut Pass) -> Option<u16>
     requires own { IsOf registry.now pass.old }
     requires open { IsOpen pass.old.stage }
@@ -90,7 +90,7 @@ fn two_threads_start_and_cancel_at_once(rt: HostRuntime) -> Result<(), AllocErro
     Ok(())
 }
 
-// Adds 1 to ref 0 a thousand times. Gives the old values.
+// Adds 1 to ref 0 a thousand times. Returns the old values.
 fn add_often(alloc: Global, registry: &Registry, pass: Pass) -> Result<(Pass, Vec<i64>), AllocError>
     requires own { IsOf registry.now pass }
     requires some_ref { 0 < registry.now.limits.refs }
@@ -104,7 +104,7 @@ fn add_often(alloc: Global, registry: &Registry, pass: Pass) -> Result<(Pass, Ve
     Ok((pass, olds))
 }
 
-// Two threads add to ref 0 at once. Gives the pass that has met both, and their old values.
+// Two threads add to ref 0 at once. Returns the pass that has met both, and their old values.
 fn add_at_once<R: Threads + Sync>(
     rt: &R,
     alloc: Global,

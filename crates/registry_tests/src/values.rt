@@ -5,7 +5,7 @@ ghost use Rattle.effect_term.specs.Values.{IsValue};
 
 use effect_term::Value;
 
-/// The value that is this number.
+/// The value of this number.
 pub(crate) fn numbered(number: i64) -> Value
     requires fits { IsValue number }
     ensures value { result ≡ number }

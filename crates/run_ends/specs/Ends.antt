@@ -1,4 +1,4 @@
--- How a run ends.
+-- The end of a run.
 use Rattle.std.specs.Prelude.{◌≡◌, ℕ, List, None, Some, Result, Ok, Err}
 use Rattle.std.specs.List.{slice_get}
 use Rattle.derived_ops.specs.Tree.{Tree}
@@ -23,9 +23,9 @@ pub record TellsUnended (report : Report) (f : ℕ) : Type 0 where
 abbrev pub HasUnended : Report → Type 0
 HasUnended report = (f : ℕ) × TellsUnended report f
 
--- The end of a run in which fiber 0 may make `most` moves: its report is that of a schedule of moves within these, in
--- which each unended fiber rests or has used its own. A fiber that is told to have stopped is unended. Where none is,
--- the report is a final one
+-- The end of a run whose fiber 0 has `most` moves: its report is that of a schedule of moves within these, in which
+-- each unended fiber rests or has used up its own. A fiber that is reported to have stopped is unended. If none is, the
+-- report is a final one
 pub record IsEnd (code : Tree) (k : Limits) (most : ℕ) (it : RunEnd) : Type 0 where
   pub schedule : IsOfSomeSchedule code k it.report
   pub spent : IsSpentReport code k most it.report

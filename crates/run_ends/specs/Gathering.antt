@@ -1,4 +1,4 @@
--- What a report that is gathered from tasks promises, and when none can be.
+-- What a report that is gathered from tasks promises, and when there is none.
 use Rattle.std.specs.Prelude.{◌≡◌, ◌≢◌, ◌⊎◌, ℕ, ◌<◌, List, Some}
 use Rattle.std.specs.List.{slice_get}
 use mathlib.Core.List.{IsPrefix}
@@ -15,7 +15,7 @@ use Rattle.fiber_poll.specs.Tasks.{TaskView}
 abbrev pub IsLawful : FiberReport → Type 0
 IsLawful line = AreLawful line.marks line.outcome
 
--- each of these tasks has its line in the report, at the number of its fiber
+-- the report has the line of each of these tasks, at the number of its fiber
 abbrev pub TellsEach : List TaskView → Report → Type 0
 TellsEach tasks report =
     (i : ℕ) (t : TaskView) → slice_get tasks i ≡ Some t → slice_get report.fibers t.state.number ≡
@@ -27,8 +27,8 @@ TellsNoOther tasks report =
     (f : ℕ) (line : FiberReport) → slice_get report.fibers f ≡ Some line → (i : ℕ) × (t : TaskView) ×
     (slice_get tasks i ≡ Some t) × (t.state.number ≡ f)
 
--- the fiber f was born in some legal history that begins with all that these tasks had seen, and has no further call
--- of their fibers
+-- the fiber f was started in some legal history that begins with all that these tasks had seen, and has no further call
+-- by their fibers
 pub record IsBorn (k : Limits) (tasks : List TaskView) (f : ℕ) : Type 0 where
   pub history : List Entry
   pub legal : IsLegal k history
@@ -37,7 +37,7 @@ pub record IsBorn (k : Limits) (tasks : List TaskView) (f : ℕ) : Type 0 where
       calls_by t.state.number t.pass.seen
   pub below : f < (left k history).next_fiber
 
--- the fiber f, which is the first one or was born since, has no task among these, and each one below it has
+-- the fiber f, which is fiber 0 or was started, has no task among these, and each fiber below it has one
 pub record IsMissing (k : Limits) (tasks : List TaskView) (f : ℕ) : Type 0 where
   pub none : (i : ℕ) (t : TaskView) → slice_get tasks i ≡ Some t → t.state.number ≢ f
   pub before : (g : ℕ) → g < f → (i : ℕ) × (t : TaskView) × (slice_get tasks i ≡ Some t) × (t.state.number ≡ g)

@@ -1,5 +1,5 @@
--- What the workers of a run leave: one pass that has met those of all tasks, the states of their fibers, and how many
--- moves each may still make; and how they go on from there.
+-- What the workers of a run leave: one pass that has met those of all tasks, the states of their fibers, and the
+-- numbers of moves that they have left; and how they go on from there.
 use Rattle.std.specs.Prelude.{◌≡◌, ◌⊎◌, ℕ, List, Ok, Some}
 use Rattle.std.specs.List.{slice_get}
 use mathlib.Core.List.{IsPrefix}
@@ -17,14 +17,14 @@ use Rattle.scheduled_core.specs.Stands.{Stands}
 use Rattle.fiber_poll.specs.Tasks.{IsBroken}
 use Rattle.run_ends.specs.declared.finishing.RunEnd.{RunEnd}
 
--- the state, to which so many moves are left, is one of a code under what the pass has seen, which is of this fiber
--- too; unless the fiber is broken, it fits what its calls there leave
+-- the state, with this number of moves left, is that of a fiber of the code under what the pass has seen, and the fiber
+-- is one of the pass's. Unless the fiber is broken, the state agrees with what the fiber's calls in that history leave
 pub record IsMet (code : Tree) (most : ℕ) (met : PassView) (rest : ℕ) (s : Fiber) : Type 0 where
   pub own : Has met.fibers s.number
   pub stands : Stands code most met.seen s.number s rest
   pub fits : IsBroken s ⊎ Fits (cell_registered (left met.registry.limits met.seen) s.number) s
 
--- the pass has met the passes of these states' tasks, and each fiber has as many moves left as stand at its number
+-- the pass has met the passes of these states' tasks, and each fiber has the number of moves left that is at its number
 pub record Gathered (r : RegistryView) (code : Tree) (most : ℕ) (met : PassView) (configs : List Fiber) (rests : List ℕ) :
     Type 0 where
   pub home : IsOf r met
@@ -32,7 +32,7 @@ pub record Gathered (r : RegistryView) (code : Tree) (most : ℕ) (met : PassVie
   pub at : (i : ℕ) (s : Fiber) → slice_get configs i ≡ Some s → (rest : ℕ) × (slice_get rests s.number ≡ Some rest) ×
       IsMet code most met rest s
 
--- the world that is left: each fiber in its state, beside the cells that a legal history leaves which begins with all
+-- the world that is left: each fiber in its state, with the cells that some legal history leaves which begins with all
 -- that the pass has seen
 pub record IsLeftWorld (k : Limits) (met : PassView) (configs : List Fiber) (w : World) : Type 0 where
   pub states : (f : ℕ) (s : Fiber) → slice_get w.fibers f ≡ Some s → (s.number ≡ f) ×
@@ -42,7 +42,7 @@ pub record IsLeftWorld (k : Limits) (met : PassView) (configs : List Fiber) (w :
   pub begins : IsPrefix met.seen history
   pub cells_are : w.cells ≡ left k history
 
--- as many moves as are told lead on from what is left, and the report is that of where they lead
+-- the reported number of moves leads on from what is left, and the report is that of the world after them
 pub record FinishesLeft (k : Limits) (met : PassView) (configs : List Fiber) (rests : List ℕ) (it : RunEnd) : Type 0 where
   pub before : World
   pub is_left : IsLeftWorld k met configs before

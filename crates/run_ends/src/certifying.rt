@@ -13,20 +13,20 @@ use run_recording::NoSchedule;
 use scheduled_core::{Report, replay, same_end};
 use std::alloc::Global;
 
-/// How a recorded run has ended, and under which schedule.
+/// The end of a recorded run, and its schedule.
 #[derive(Drop)]
 pub struct Recorded {
     /// The end, as `run_told` of `steal_pool` reports it.
     pub end: Result<RunEnd, RunError>,
-    /// The entries of a schedule under which a replay comes to that end, or why there is none.
+    /// The entries of a schedule whose replay has that end, or why there is none.
     pub schedule: Result<Vec<u16>, NoSchedule>,
 }
 
-/// This end of a run of the program within these limits, with the entries that were found, where a replay under
-/// them comes to it.
+/// Certifies the schedule `found` for a run of the program within these limits: returns the run's end, and the entries
+/// if their replay has that end.
 ///
-/// The replay decides, and nothing is asked of how they were found. `NotFound` where the replay ends otherwise, and
-/// `NoMemory` where there is no memory for it.
+/// Only the replay decides; how the entries were found doesn't matter. The schedule is `NotFound` if the replay ends
+/// otherwise, and `NoMemory` if there is no memory for it.
 pub fn certify(
     alloc: Global,
     program: &Program,
@@ -67,7 +67,8 @@ pub fn certify(
     }
 }
 
-// These entries, where a replay under them comes to this report, which is given back.
+// Certifies the schedule `found` by replaying it to this report. Returns its entries, or why there are none, and the
+// report.
 fn of_report(
     alloc: Global,
     program: &Program,
@@ -88,7 +89,7 @@ fn of_report(
     }
 }
 
-// These entries, where a replay under them comes to this end.
+// Certifies the schedule `found` by replaying it to this end. Returns its entries, or why there are none.
 fn leading_to(
     alloc: Global,
     program: &Program,
@@ -105,7 +106,8 @@ fn leading_to(
     Ok(entries)
 }
 
-// A replay under these entries, and its end.
+// Checks that a replay under the entries has this end. Returns `NotFound` if it hasn't, and `NoMemory` if memory runs
+// out.
 #[tactic(auto, using(crate::proofs::Recording::replayed_comes))]
 fn comes(
     alloc: Global,

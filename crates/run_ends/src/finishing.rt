@@ -15,16 +15,15 @@ use fiber_poll::FiberTask;
 use scheduled_core::{EntryLog, Report, enter_all, report_of_fibers, settle_noted};
 use std::alloc::{AllocError, Global};
 
-/// How a run has ended.
+/// The end of a run.
 #[derive(Drop)]
 pub struct RunEnd {
-    /// What each fiber has come to.
+    /// The report of each fiber.
     pub report: Report,
-    /// A fiber that hasn't ended and has used its moves. Where there is none, the report is complete:
-    /// each fiber has ended, or rests at a wait that nothing serves.
+    /// A fiber that hasn't ended and has used up its moves. If there is none, the report is complete: each fiber has
+    /// ended, or rests at a wait that nothing ends.
     pub stopped: Option<u16>,
-    /// How many moves were made after the workers had ended, of fibers that they left where they could go
-    /// on: 0 where each wake arrived.
+    /// The number of moves after the workers had ended, by fibers that could still move: 0 if each wake arrived.
     pub finished: u64,
 }
 
@@ -33,16 +32,15 @@ pub struct RunEnd {
 pub struct Leavings {
     /// A pass that has met those of all tasks.
     pub met: Pass,
-    /// The states of their fibers, that of the last one first.
+    /// The states of their fibers, the last one first.
     pub configs: Vec<Config>,
-    /// How many moves each may still make, from the first one on.
+    /// The number of moves that each has left, from the first one on.
     pub rests: Vec<u32>,
 }
 
 impl Leavings {
-    /// What is left of a run whose tasks are these, in the order of their numbers. Answers `Lost` with the number of
-    /// the first task that is missing among these, `Lost(0)` where there is none, and `NoMemory` where memory is
-    /// refused.
+    /// What is left of a run with these tasks, which are in the order of their numbers. Returns `Lost` with the first
+    /// number whose task is missing, `Lost(0)` if there is no task, and `NoMemory` if memory is refused.
     pub fn of<'a>(
         alloc: Global,
         registry: &Registry,
@@ -63,10 +61,10 @@ impl Leavings {
         })
     }
 
-    /// The end of the run, whose registry is this one: the fibers go on by one thread until none can, and
-    /// their report is read off them, and `finished` is the number of their moves. `NoMemory` where memory is or was refused, `Full` and `Spent` as a
-    /// turn answers them, and `Lost` with the least number of a born fiber that has no task. This log is told of the
-    /// moves.
+    /// The end of the run with this registry: one thread moves the fibers on until none can move, and reads their
+    /// report; `finished` is the number of these moves. Returns `NoMemory` if memory is or was refused, `Full` and
+    /// `Spent` as a turn does, and `Lost` with the least number of a started fiber that has no task. Each move is
+    /// reported to this log.
     pub fn finish<L: EntryLog>(
         self,
         alloc: Global,
@@ -107,10 +105,10 @@ impl Leavings {
         })
     }
 
-    /// The fault of the run, whose registry is this one, where a worker's call was refused: the fibers make one entry
-    /// each by one thread, in the order of their numbers, and the first refused call is the fault, `Full` or `Spent`.
-    /// `NoMemory` where memory is or was refused, and `Lost` with the least number of a born fiber that has no task, or
-    /// with how many fibers are born where no call is refused.
+    /// The fault of the run with this registry after a worker's call was refused: one thread makes one entry of each
+    /// fiber, in the order of their numbers, and the first refused call is the fault, `Full` or `Spent`. Returns
+    /// `NoMemory` if memory is or was refused, and `Lost` with the least number of a started fiber that has no task, or
+    /// with the number of started fibers if no call is refused.
     pub fn refused(self, alloc: Global, registry: Registry) -> RunError
         requires met { (code : Tree) × (most : ℕ) ×
             Gathered registry code most self.met self.configs.items self.rests.items }
@@ -124,7 +122,7 @@ impl Leavings {
         }
     }
 
-    // One entry more of each fiber. Returns how many fibers there were, where no call is refused.
+    // Makes one more entry of each fiber. Returns the number of fibers if no call is refused.
     fn enter_each(self, alloc: Global, registry: Registry) -> Result<u16, RunError>
         requires met { (code : Tree) × (most : ℕ) ×
             Gathered registry code most self.met self.configs.items self.rests.items }
@@ -160,7 +158,7 @@ fn numbers_below(alloc: Global, end: u16) -> Result<Vec<u16>, AllocError> {
     Ok(numbers)
 }
 
-// How many moves these tasks may still make, where each one stands at its number.
+// The numbers of moves that these tasks have left, if each is at the place of its number.
 fn rests<'a>(alloc: Global, tasks: &[FiberTask<'a>]) -> Result<Vec<u32>, RunError>
     ensures rests { IfOk result (λ it. AreRests tasks.now it.items) }
     ensures none { IfErr result IsNoRefusal }
@@ -175,7 +173,7 @@ fn rests<'a>(alloc: Global, tasks: &[FiberTask<'a>]) -> Result<Vec<u32>, RunErro
     Ok(rests)
 }
 
-// The moves that one task more may still make.
+// Adds the number of moves that a task has left.
 fn add(rests: &mut Vec<u32>, moves: u32) -> Result<(), AllocError>
     ensures { OnOk result (rests.new.items ≡ rests.old.items ++ moves ∷ []) }
 {
@@ -183,7 +181,7 @@ fn add(rests: &mut Vec<u32>, moves: u32) -> Result<(), AllocError>
     Ok(())
 }
 
-// The fault where no task stands at this place.
+// The fault if this place has no task.
 fn missing(place: usize) -> RunError
     ensures { IsNoRefusal result }
 {
@@ -193,8 +191,8 @@ fn missing(place: usize) -> RunError
     }
 }
 
-// The states of the fibers below a number, in order, where each one comes before those of lower numbers
-// and none is missing or broken.
+// The states of the fibers below a number, in order. In `configs` each comes before those of lower numbers, and none is
+// missing or broken.
 fn in_order(alloc: Global, configs: Vec<Config>, born: u16) -> Result<Vec<Config>, RunError>
     ensures order { IfOk result (λ it. AreInOrder configs.items born it.items) }
     ensures none { IfErr result IsNoRefusal }

@@ -16,15 +16,13 @@ use fiber_poll::FiberTask;
 use scheduled_core::{FiberReport, FiberReports, Marks, Report};
 use std::alloc::{AllocError, Global};
 
-/// The report of tasks of one registry and one code: all of them are at home at this registry, and
-/// each one's state is one that moves of this code led to, where each fiber began with as many moves as its parent had
-/// left.
+/// The report of tasks of one registry and one code: all of them belong to this registry, and moves of this code led to
+/// each one's state, where each fiber began with as many moves as its parent had left.
 ///
-/// It doesn't matter who moved them, in whatever order: the report is that of the core under some
-/// schedule. It has a line for each task, at the number of its fiber, and no other. The answer is
-/// [`RunError::Lost`] with the least number of a born fiber that has no task among these, which is 0
-/// where there is no task, and [`RunError::NoMemory`] where memory is refused.
-/// The tasks are dropped.
+/// It doesn't matter who moved them, or in which order: the report is that of the core under some schedule. The report
+/// has a line for each task, at the number of its fiber, and no other. Returns [`RunError::Lost`] with the least number
+/// of a started fiber that has no task among these, which is 0 if there is no task, and [`RunError::NoMemory`] if
+/// memory is refused. The tasks are dropped.
 pub fn gather<'a>(
     alloc: Global,
     registry: &Registry,
@@ -48,8 +46,7 @@ pub fn gather<'a>(
     })
 }
 
-/// One pass that has met those of all tasks, and the states of their fibers, of which that of the last task
-/// comes first.
+/// One pass that has met those of all tasks, and the states of their fibers, that of the last task first.
 pub(crate) fn meet<'a>(
     alloc: Global,
     registry: &Registry,
@@ -84,7 +81,7 @@ pub(crate) fn meet<'a>(
     Ok((met, configs))
 }
 
-/// One state more.
+/// Adds a state.
 pub(crate) fn push(configs: &mut Vec<Config>, config: Config) -> Result<(), RunError>
     ensures pushed { OnOk result (configs.new.items ≡ configs.old.items ++ config ∷ []) }
     ensures refused { IfErr result (λ error. error ≡ RunError.NoMemory) }
@@ -95,7 +92,7 @@ pub(crate) fn push(configs: &mut Vec<Config>, config: Config) -> Result<(), RunE
     }
 }
 
-// What the fibers below a number have come to, or the least one whose state isn't there.
+// The reports of the fibers below a number, or the least number whose state is missing.
 fn lines(alloc: Global, configs: &[Config], born: u16) -> Result<Vec<FiberReport>, RunError>
     ensures lines { IfOk result (λ it. AreLines configs.now born it.items) }
     ensures lawful { IfOk result (λ it. All IsLawful it.items) }
@@ -116,8 +113,8 @@ fn lines(alloc: Global, configs: &[Config], born: u16) -> Result<Vec<FiberReport
     Ok(lines)
 }
 
-// The state of a fiber, where it is one of these. The tasks of a bay come in the order of their numbers,
-// and the last one was taken first: so fiber f mostly stands f places before the end.
+// The state of a fiber, if it is one of these. The tasks of a bay come in the order of their numbers, and the last one
+// was taken first, so fiber f usually is f places before the end.
 fn find(configs: &[Config], number: u16) -> Option<&Config>
     ensures found { IfSome result (λ it. IsIn it.now configs.now number) }
     ensures nowhere { IfNone result (IsNowhere configs.now number) }
@@ -137,7 +134,7 @@ fn find(configs: &[Config], number: u16) -> Option<&Config>
     None
 }
 
-// What one fiber has come to.
+// The report of one fiber.
 fn line(alloc: Global, config: &Config) -> Result<FiberReport, AllocError>
     ensures line { IfOk result (λ it. it ≡ fiber_report config.now) }
     ensures lawful { IfOk result (λ it. IsLawful it) }

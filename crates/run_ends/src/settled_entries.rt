@@ -1,4 +1,4 @@
-//! What one thread does once the workers of a recorded run have ended.
+//! The entries that one thread makes once the workers of a recorded run have ended.
 
 use run_recording::{MOST_ENTRIES, NoSchedule};
 use scheduled_core::EntryLog;
@@ -12,7 +12,7 @@ pub struct SettledEntries {
 }
 
 impl SettledEntries {
-    /// None yet.
+    /// Without entries.
     pub fn new(alloc: Global) -> SettledEntries {
         SettledEntries {
             entries: Vec::new(alloc),

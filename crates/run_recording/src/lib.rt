@@ -1,13 +1,13 @@
-//! From what workers noted of their calls to a schedule in which each call is answered as it was.
+//! From the workers' notes of their calls to a schedule in which each call has the same reply.
 //!
-//! A [`WorkerLog`] is the log that one worker's turns are told to (`fiber_poll`). Most calls tell by their
-//! replies what came before them: a number that was given, an end that was found, a request that was the
-//! first. Calls on refs don't, so they are noted with what they found and left, and with the readings of a
-//! clock that all workers share. From the notes of all workers [`Gathered`] puts a schedule together: each
-//! fiber's moves in their own order, merged so that each call finds what it found.
+//! A [`WorkerLog`] receives the turns of one worker (`fiber_poll`). Most replies show what came before their call: a
+//! number that was given, an end that was found, a request that was the first. Replies to calls on refs don't, so these
+//! calls are noted with the value that they found and left, and with the readings of a clock that all workers share.
+//! From the notes of all workers [`Gathered`] makes a schedule: each fiber's moves in their own order, merged so that
+//! each call finds what it found.
 //!
-//! The crate promises nothing of that schedule, and whoever wants one replays it. What it does is safe and
-//! ends, a log never fails the turns that it is told of, and what is too long, or has no memory, is dropped.
+//! The crate promises nothing about that schedule: a user of it replays it. The crate is safe and its calls end. A log
+//! never fails the turns that it receives. Notes that are too long, or have no memory, are dropped.
 #![tactic(auto)]
 
 mod merging;

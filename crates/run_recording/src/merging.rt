@@ -5,30 +5,30 @@ use crate::own_moves::{NeededCall, Own};
 use crate::schedules::NoSchedule;
 use std::alloc::{AllocError, Global};
 
-/// How many entries a schedule may have.
+/// The greatest number of entries of a schedule.
 pub const MOST_ENTRIES: usize = 1_000_000;
 
-// The most numbers of refs, and of deferreds.
+// The greatest numbers of refs and of deferreds.
 const MOST_NUMBERS: usize = 1000;
 
 // How far a fiber has come.
 #[derive(Clone, Copy)]
 struct Course {
     own: Own,
-    // The next call, and how many moves are made.
+    // The next call, and the number of moves made.
     next: usize,
     made: u32,
-    // How many requests for its cancellation are still to be made, and whether one was.
+    // The number of requests for its cancellation that are still to come, and whether one was made.
     asks: u32,
     asked: bool,
     ended: bool,
 }
 
-/// A schedule that is put together: the fibers, what is known of what they share, and the entries so far.
+/// A schedule in the making: the fibers, what is known of what they share, and the entries so far.
 #[derive(Drop)]
 pub(crate) struct Merge<'a> {
     calls: &'a [NeededCall],
-    // By the places of the calls on refs: how many on the same ref come before.
+    // For each call on a ref, the number of earlier calls on the same ref.
     ranks: &'a [u32],
     courses: Vec<Course>,
     born: u16,
@@ -40,7 +40,7 @@ pub(crate) struct Merge<'a> {
 }
 
 impl<'a> Merge<'a> {
-    /// Before the first move.
+    /// The state before the first move.
     pub(crate) fn new(
         alloc: Global,
         owns: &[Own],
@@ -70,7 +70,8 @@ impl<'a> Merge<'a> {
         Ok(merge)
     }
 
-    /// The born fibers in turn, each as far as it can go, until none can. `NotFound` where moves are left.
+    /// Moves each started fiber as far as it can go, again and again until none can. Returns `NotFound` if moves are
+    /// left.
     pub(crate) fn sweep(&mut self) -> Result<(), NoSchedule> {
         let mut fiber = 0u16;
         let mut idle = 0u16;
@@ -91,7 +92,7 @@ impl<'a> Merge<'a> {
         Ok(())
     }
 
-    /// An entry of a fiber, so many times.
+    /// Adds `times` entries of a fiber.
     pub(crate) fn enter(&mut self, fiber: u16, times: u32) -> Result<(), NoSchedule> {
         let len = self.entries.len().saturating_add(times as usize);
         if len > MOST_ENTRIES {
@@ -101,7 +102,7 @@ impl<'a> Merge<'a> {
         Ok(())
     }
 
-    // Goes on with a fiber as far as it can go. Whether it made a move.
+    // Moves a fiber as far as it can go. Returns whether it made a move.
     fn go(&mut self, fiber: u16) -> Result<bool, NoSchedule> {
         let place = usize::from(fiber);
         let Some(mut course) = self.courses.get(place).copied() else {
@@ -130,7 +131,7 @@ impl<'a> Merge<'a> {
         Ok(made > 0)
     }
 
-    // How far the fiber has come now. What others asked of it stays.
+    // Stores how far the fiber has come. The requests that others made of it stay.
     fn keep(&mut self, place: usize, course: Course) {
         if let Some(slot) = self.courses.get_mut(place) {
             slot.next = course.next;
@@ -147,7 +148,7 @@ impl<'a> Merge<'a> {
         self.calls.get(course.next).copied()
     }
 
-    // Whether all has come that is to come before this call.
+    // Whether all that has to come before this call has come.
     fn may(&self, call: NeededCall) -> bool {
         let named = usize::from(call.named);
         match call.kind {
@@ -166,7 +167,7 @@ impl<'a> Merge<'a> {
         }
     }
 
-    // Whether the fiber of this number has made all looks that see no request.
+    // Whether the fiber of this number has made all of its looks that see no request.
     fn may_ask(&self, named: usize) -> bool {
         match self.courses.get(named) {
             Some(course) => course.made >= course.own.before_request,
@@ -195,7 +196,7 @@ impl<'a> Merge<'a> {
         }
     }
 
-    // What a call of a fiber changes.
+    // Applies the effect of a fiber's call.
     fn does(&mut self, course: &mut Course, call: NeededCall) {
         let named = usize::from(call.named);
         match call.kind {
@@ -223,7 +224,7 @@ impl<'a> Merge<'a> {
         }
     }
 
-    // A request for the cancellation of a fiber is made.
+    // Applies a request for the cancellation of a fiber.
     fn asks(&mut self, named: usize, first: bool) {
         if let Some(course) = self.courses.get_mut(named) {
             course.asks = course.asks.saturating_sub(1);
@@ -232,7 +233,7 @@ impl<'a> Merge<'a> {
     }
 }
 
-// The fibers of these moves before their first.
+// The fibers with these moves, before their first.
 fn courses(alloc: Global, owns: &[Own]) -> Result<Vec<Course>, AllocError> {
     let mut courses = Vec::with_capacity(alloc, owns.len())?;
     for own in owns {

@@ -1,36 +1,36 @@
-//! What one worker noted.
+//! The notes of one worker.
 
 use cell_registry::RunError;
 use std::alloc::{AllocError, Global};
 
-// The most calls that a worker notes.
+// The greatest number of calls that a worker notes.
 const MOST_CALLS: usize = 1_000_000;
 
-/// What a call was, and what came of it.
+/// The kind of a call, and its reply.
 #[derive(Clone, Copy, PartialEq, Eq)]
 pub(crate) enum CallKind {
-    // A fiber, a ref or a deferred was given the number.
+    // The number was given to a new fiber, ref or deferred.
     Start,
     NewRef,
     NewDeferred,
-    // The first request for the cancellation of the fiber of this number; one more; one behind its end.
+    // A request for the cancellation of the fiber of this number: the first, a later one, one after the fiber's end.
     Asked,
     Already,
     CancelEnded,
-    // The fiber saw the request for its own cancellation.
+    // A look that saw the request for the fiber's own cancellation.
     SawRequest,
-    // The end of the fiber of this number was found.
+    // A join that found the end of the fiber of this number.
     JoinEnded,
     // The fiber ended.
     Finish,
-    // The deferred of this number was completed, or was found full.
+    // A completion of the deferred of this number, or an attempt that found it completed.
     Complete,
     Filled,
     // The ref of this number was read, set or added to.
     Get,
     Set,
     Modify,
-    // The move waited; where the number is 1, it came behind a look.
+    // A move that waited; the number is 1 if it came after a look.
     Wait,
 }
 
@@ -43,7 +43,7 @@ impl CallKind {
         }
     }
 
-    /// Whether the call changes nothing that others see.
+    /// Whether the call changes nothing that other fibers can see.
     pub(crate) fn is_unseen(self) -> bool {
         match self {
             CallKind::Already
@@ -57,7 +57,7 @@ impl CallKind {
     }
 }
 
-/// A call of a fiber that might make `left` moves before it, and what it named.
+/// A call of a fiber that had `left` moves left before it, and the number that the call named.
 #[derive(Clone, Copy)]
 pub(crate) struct Noted {
     pub left: u32,
@@ -66,7 +66,7 @@ pub(crate) struct Noted {
     pub kind: CallKind,
 }
 
-/// A call on a ref: what it found, if that is known, what it left, and the clock before it and behind it.
+/// A call on a ref: the value that it found, if known, the value that it left, and the clock before and after it.
 #[derive(Clone, Copy)]
 pub(crate) struct RefCall {
     pub found: Option<i64>,
@@ -75,8 +75,8 @@ pub(crate) struct RefCall {
     pub ended: u64,
 }
 
-/// How many moves a fiber might still make behind its last look without a request, behind its last turn, and
-/// behind its last turn with a mark, as far as one worker moved it.
+/// The numbers of moves that a fiber had left after its last look without a request, after its last turn, and after its
+/// last turn with a mark, as far as this worker moved it.
 #[derive(Clone, Copy)]
 pub(crate) struct Seen {
     pub look: u32,
@@ -84,31 +84,31 @@ pub(crate) struct Seen {
     pub marked: u32,
 }
 
-/// Nothing of a fiber was seen.
+/// The value for a fiber that this worker didn't move.
 pub(crate) const UNSEEN: Seen = Seen {
     look: u32::MAX,
     made: u32::MAX,
     marked: u32::MAX,
 };
 
-/// Whether a log has all that it was told.
+/// Whether a log is complete.
 #[derive(Clone, Copy, PartialEq, Eq, Debug)]
 pub enum Whole {
-    /// It has.
+    /// The log is complete.
     Yes,
-    /// It was told of more calls than it keeps.
+    /// The log received more calls than it keeps.
     TooLong,
-    /// It lacked memory.
+    /// The log lacked memory.
     NoMemory,
 }
 
-/// What one worker noted.
+/// The notes of one worker.
 #[derive(Drop)]
 pub struct Notes {
     pub(crate) calls: Vec<Noted>,
-    /// Of those calls that are on refs, in their order.
+    /// The calls on refs among them, in their order.
     pub(crate) refs: Vec<RefCall>,
-    /// By the fibers' numbers.
+    /// For each fiber, by its number.
     pub(crate) fibers: Vec<Seen>,
     /// The fiber whose call was refused, and the fault.
     pub(crate) refused: Option<(u16, RunError)>,
@@ -116,7 +116,7 @@ pub struct Notes {
 }
 
 impl Notes {
-    /// No notes yet of so many fibers. Where there is no memory for them, the notes lack it.
+    /// Empty notes for `fibers` fibers. If there is no memory for them, the notes are marked so.
     pub fn new(alloc: Global, fibers: u16) -> Notes {
         let mut notes = Notes {
             calls: Vec::new(alloc),
@@ -131,12 +131,12 @@ impl Notes {
         notes
     }
 
-    /// Whether they are all that there was to note.
+    /// Whether the notes are complete.
     pub fn whole(&self) -> Whole {
         self.whole
     }
 
-    /// Notes a call, and what it did with a ref if it is on one.
+    /// Notes a call, and its effect on a ref if it is on one.
     pub(crate) fn note(&mut self, alloc: Global, call: Noted, on_ref: Option<RefCall>) {
         if self.whole != Whole::Yes {
             return;
@@ -156,7 +156,7 @@ impl Notes {
         Ok(())
     }
 
-    // Drops all notes, and why.
+    // Drops all notes, and keeps the reason.
     fn lose(&mut self, alloc: Global, why: Whole) {
         self.calls = Vec::new(alloc);
         self.refs = Vec::new(alloc);

@@ -1,10 +1,10 @@
-//! What of a fiber's moves a schedule needs.
+//! The moves of a fiber that a schedule needs.
 
 use crate::notes::{CallKind, Seen};
 use std::alloc::AllocError;
 
-/// A call that was noted: the fiber that made it, how many moves that might make before it, what the call
-/// named, and where it stands among the calls on refs, if it is one.
+/// A noted call: the fiber that made it, the number of moves that the fiber had left before it, the number that the
+/// call named, and its place among the calls on refs, if it is one.
 #[derive(Clone, Copy)]
 pub(crate) struct Placed {
     pub fiber: u16,
@@ -14,7 +14,7 @@ pub(crate) struct Placed {
     pub place: u32,
 }
 
-/// A call that is needed: how many of its fiber's needed moves come before it.
+/// A needed call, with the number of its fiber's needed moves before it.
 #[derive(Clone, Copy)]
 pub(crate) struct NeededCall {
     pub at: u32,
@@ -23,8 +23,8 @@ pub(crate) struct NeededCall {
     pub kind: CallKind,
 }
 
-/// The needed moves of a fiber: where its needed calls begin and end, how many moves there are, and how many of them
-/// come before the first request for its cancellation.
+/// The needed moves of a fiber: the range of its needed calls, the number of moves, and how many of these come before
+/// the first request for its cancellation.
 #[derive(Clone, Copy)]
 pub(crate) struct Own {
     pub from: usize,
@@ -33,7 +33,7 @@ pub(crate) struct Own {
     pub before_request: u32,
 }
 
-// The first `of` moves of a fiber, and how many of them are left once its waits are gone, if that is known.
+// The first `of` moves of a fiber, and the number of them without its waits, if it is known.
 #[derive(Clone, Copy)]
 struct Front {
     of: u32,
@@ -41,12 +41,12 @@ struct Front {
 }
 
 impl Front {
-    // The first of a fiber's moves, of which none is known yet.
+    // The first `of` moves of a fiber, before any of its calls is known.
     fn first(of: u32) -> Front {
         Front { of, left: None }
     }
 
-    // A call is met, before which `gone` moves are gone. The move that waits goes, with the look before it.
+    // Handles a call; `gone` moves before it were dropped. If the move waits, it and the look before it are dropped.
     fn meets(&mut self, begin: u32, at: u32, waits: bool, gone: u32) {
         if self.left.is_some() {
             return;
@@ -58,7 +58,7 @@ impl Front {
         }
     }
 
-    // How many are left, where `gone` moves are gone in all.
+    // The number of moves without the waits; `gone` moves are dropped in all.
     fn count(&self, gone: u32) -> u32 {
         match self.left {
             Some(left) => left,
@@ -67,9 +67,9 @@ impl Front {
     }
 }
 
-/// The needed moves of a fiber that might make `first` moves, and made these calls in this order: without its
-/// waits, each of which falls away with the look before it, and, unless all of them are needed, without those
-/// behind its last mark and its last call that others may see. The others of its calls are added to the needed ones.
+/// The needed moves of a fiber that had `first` moves and made these calls in this order. Each wait is dropped, with
+/// the look before it. Unless `all` is set, moves after its last mark and its last call that others can see are
+/// dropped, too. The fiber's other calls are added to `needed`.
 pub(crate) fn own_moves(
     calls: &[Placed],
     first: u32,
@@ -122,7 +122,7 @@ pub(crate) fn own_moves(
     })
 }
 
-// Drops the needed calls of a fiber, from this one on, that come behind so many moves.
+// Drops the needed calls at or after move `len`, among those from the place `from` on.
 fn cut(needed: &mut Vec<NeededCall>, from: usize, len: u32) {
     for _ in 0..needed.len() {
         match needed.last() {

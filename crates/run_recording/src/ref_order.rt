@@ -1,19 +1,19 @@
-//! In which order the calls on one ref were made.
+//! The order in which the calls on one ref were made.
 
 use crate::notes::RefCall;
 use crate::schedules::NoSchedule;
 use std::alloc::Global;
 
-// The most workers, and so the most calls that are under way at once.
+// The greatest number of workers, and so of calls under way at once.
 const MOST_WORKERS: usize = 16;
 
-// How often a search may go back.
+// The greatest number of times that a search goes back.
 const MOST_BACK: u32 = 1_000_000;
 
-// How many calls a search looks ahead.
+// The number of calls that a search looks ahead.
 const AHEAD: usize = 64;
 
-// Some calls of those that are under way at once.
+// Some of the calls that are under way at once.
 #[derive(Clone, Copy)]
 struct Few {
     places: [u32; MOST_WORKERS],
@@ -35,7 +35,7 @@ impl Few {
         }
     }
 
-    // One call more. Whether there is room for it.
+    // Adds a call. Returns whether there is room for it.
     fn add(&mut self, place: u32) -> bool {
         match self.places.get_mut(self.many) {
             Some(slot) => {
@@ -47,7 +47,7 @@ impl Few {
         }
     }
 
-    // The others.
+    // These without one.
     fn without(&self, place: u32) -> Few {
         let mut rest = Few::none();
         for other in self.as_slice() {
@@ -59,8 +59,8 @@ impl Few {
     }
 }
 
-// Where a search had a choice: how many calls were placed and how many had begun, the value, the calls under
-// way, and those of them that weren't tried yet.
+// A choice of a search: the numbers of placed and of begun calls, the value, the calls under way, and those of them
+// that weren't tried yet.
 #[derive(Clone, Copy)]
 struct Choice {
     placed: usize,
@@ -70,12 +70,12 @@ struct Choice {
     untried: Few,
 }
 
-// A search for an order of the calls on one ref in which each finds what it found, and none goes before one
-// that had ended when it began. It goes by depth: a call that only reads goes first, and where several fit,
-// the one that seems best; where none fits, it goes back to the last choice.
+// A search for an order of the calls on one ref in which each call finds the value that it found, and comes after every
+// call that had ended when it began. The search is depth-first: a call that only reads goes first; if several fit, it
+// tries the best candidate; if none fits, it goes back to the last choice.
 #[derive(Drop)]
 struct Search<'a> {
-    // By their beginnings.
+    // In the order of their beginnings.
     calls: &'a [u32],
     refs: &'a [RefCall],
     order: Vec<u32>,
@@ -86,7 +86,7 @@ struct Search<'a> {
     back: u32,
 }
 
-// What a place that isn't there is taken for.
+// Used for a place that doesn't exist.
 const NO_CALL: RefCall = RefCall {
     found: None,
     left: 0,
@@ -94,7 +94,7 @@ const NO_CALL: RefCall = RefCall {
     ended: 0,
 };
 
-/// The calls of these places, which are in the order of their beginnings, in an order that is found.
+/// The calls at these places, which are in the order of their beginnings, in an order that the search finds.
 pub(crate) fn ref_order(
     alloc: Global,
     calls: &[u32],
@@ -131,7 +131,7 @@ impl<'a> Search<'a> {
         }
     }
 
-    // The first end of the calls under way.
+    // The earliest end of the calls under way.
     fn first_end(&self) -> u64 {
         let mut end = u64::MAX;
         for place in self.under.as_slice() {
@@ -140,7 +140,7 @@ impl<'a> Search<'a> {
         end
     }
 
-    // Takes in the calls that began before the first end of those that aren't placed. Whether there is room.
+    // Adds the calls that began before the earliest end of the calls that aren't placed. Returns whether there is room.
     fn begin(&mut self) -> bool {
         let mut end = self.first_end();
         for _ in 0..self.calls.len() {
@@ -174,8 +174,8 @@ impl<'a> Search<'a> {
         Ok(())
     }
 
-    // The calls under way that fit the value. Only one where it reads alone. (One that sets the value that is
-    // there may be wanted later.)
+    // The calls under way that fit the value. If one of them only reads, it is the only result; a call that sets the
+    // present value isn't, since it can be needed later.
     fn fitting(&self) -> Few {
         let mut fitting = Few::none();
         for place in self.under.as_slice() {
@@ -193,7 +193,7 @@ impl<'a> Search<'a> {
         fitting
     }
 
-    // The best of these, of which the others are tried later.
+    // Picks the best candidate, and keeps the others for backtracking.
     fn choose(&mut self, fitting: Few) -> Result<u32, NoSchedule> {
         let best = self.best(fitting);
         let untried = fitting.without(best);
@@ -209,7 +209,7 @@ impl<'a> Search<'a> {
         Ok(best)
     }
 
-    // Goes back to the last choice, and answers what is tried next there.
+    // Goes back to the last choice, and returns its next candidate.
     fn go_back(&mut self) -> Result<u32, NoSchedule> {
         self.back = self.back.saturating_add(1);
         if self.back > MOST_BACK {
@@ -225,7 +225,7 @@ impl<'a> Search<'a> {
         self.choose(choice.untried)
     }
 
-    // The one of these that seems best, and of several the one that ended first.
+    // The best candidate: of the least class, and among these the one that ended first.
     fn best(&self, of: Few) -> u32 {
         let mut best = 0u32;
         let mut least = (u32::MAX, u64::MAX);
@@ -240,8 +240,8 @@ impl<'a> Search<'a> {
         best
     }
 
-    // How a call that fits is preferred: one that wants the value that is there before a `set`; of these one
-    // whose value nobody wants, then one that is wanted now, then one that is wanted later.
+    // The class of a call that fits, by preference: 0 for a call that finds the present value; then for a call that
+    // sets the value, 1 if no call needs the new value, 2 if one needs it now, 3 if one needs it later.
     fn class(&self, place: u32) -> u32 {
         let call = self.call(place);
         if call.found.is_some() {
@@ -255,7 +255,7 @@ impl<'a> Search<'a> {
         if self.is_wanted_soon(call.left) { 3 } else { 1 }
     }
 
-    // Whether one of the calls that begin next finds this value.
+    // Whether one of the next calls to begin finds this value.
     fn is_wanted_soon(&self, value: i64) -> bool {
         for ahead in 0..AHEAD {
             match self.calls.get(self.begun.saturating_add(ahead)) {

@@ -10,10 +10,10 @@ use std::alloc::{AllocError, AllocFailed, Global};
 /// Why a recorded run has no schedule.
 #[derive(Clone, Copy, PartialEq, Eq, Debug)]
 pub enum NoSchedule {
-    /// It has more than 1,000,000 entries, or a worker noted more than 1,000,000 calls.
+    /// The schedule has more than 1,000,000 entries, or a worker noted more than 1,000,000 calls.
     TooLong,
-    /// None was found under which a replay comes to the run's end, or the run ended with a fault of its
-    /// workers or its memory, which no schedule has.
+    /// No schedule was found whose replay has the run's end, or the run ended with a fault of its workers or its
+    /// memory, which no schedule has.
     NotFound,
     /// There wasn't memory for the notes, the schedule or its replay.
     NoMemory,
@@ -31,14 +31,14 @@ impl<T: Drop> From<AllocFailed<T>> for NoSchedule {
     }
 }
 
-/// The notes of the workers of a run, gathered.
+/// The notes of all workers of a run.
 #[derive(Drop)]
 pub struct Gathered {
     alloc: Global,
     calls: Vec<Placed>,
     refs: Vec<RefCall>,
-    // By the fibers' numbers: how many moves each might make at first, what was seen of it, and whether all
-    // of its moves are needed.
+    // For each fiber, by its number: how many moves it had at first, what was seen of it, and whether all of its moves
+    // are needed.
     firsts: Vec<u32>,
     seen: Vec<Seen>,
     all: Vec<bool>,
@@ -46,7 +46,7 @@ pub struct Gathered {
 }
 
 impl Gathered {
-    /// No notes yet of a run with so many fibers at most, of which the first might make so many moves.
+    /// Without notes, for a run with at most `fibers` fibers, whose fiber 0 had `moves` moves.
     pub fn new(alloc: Global, fibers: u16, moves: u32) -> Result<Gathered, AllocError> {
         let mut gathered = Gathered {
             alloc,
@@ -64,10 +64,10 @@ impl Gathered {
         Ok(gathered)
     }
 
-    /// Takes in what one worker noted. `TooLong` and `NoMemory` where those notes aren't whole, and
-    /// `NoMemory` where there is no room for them.
+    /// Adds the notes of one worker. Returns `TooLong` or `NoMemory` if those notes aren't complete, and `NoMemory` if
+    /// there is no room for them.
     ///
-    /// A call that was refused is the last entry of the schedule where it was refused with this fault.
+    /// If a call was refused with this fault, it is the last entry of the schedule.
     pub fn add(&mut self, notes: &Notes, fault: Option<RunError>) -> Result<(), NoSchedule> {
         match notes.whole {
             Whole::Yes => {}
@@ -89,7 +89,7 @@ impl Gathered {
         self.add_calls(notes)
     }
 
-    // Takes in the calls of one worker.
+    // Adds the calls of one worker.
     fn add_calls(&mut self, notes: &Notes) -> Result<(), NoSchedule> {
         let mut on_refs = notes.refs.iter();
         for call in notes.calls.iter() {
@@ -115,7 +115,7 @@ impl Gathered {
         Ok(())
     }
 
-    /// A schedule in which each call is answered as it was, and behind it these entries, which one thread
+    /// A schedule in which each call has the reply that it had, followed by the entries `settled`, which one thread
     /// made once the workers had ended.
     pub fn schedule(self, settled: &[u16]) -> Result<Vec<u16>, NoSchedule> {
         let mut gathered = self;
@@ -146,7 +146,7 @@ impl Gathered {
         Ok(entries)
     }
 
-    // All moves of a fiber are needed.
+    // Marks all moves of a fiber as needed.
     fn need_all(&mut self, fiber: u16) {
         if let Some(all) = self.all.get_mut(usize::from(fiber)) {
             *all = true;
@@ -174,7 +174,7 @@ impl Gathered {
     }
 }
 
-// The first so many, or all, and the others.
+// The first `many`, or all, and the rest.
 fn split<T>(all: &[T], many: usize) -> (&[T], &[T]) {
     if many > all.len() {
         return (all, &[]);
@@ -182,7 +182,7 @@ fn split<T>(all: &[T], many: usize) -> (&[T], &[T]) {
     all.split_at(many)
 }
 
-// A place as it is kept.
+// A place in 32 bits.
 fn narrow(place: usize) -> u32 {
     match u32::try_from(place) {
         Ok(place) => place,
@@ -190,7 +190,7 @@ fn narrow(place: usize) -> u32 {
     }
 }
 
-// By the places of the calls on refs: how many of those on the same ref come before.
+// For each call on a ref, the number of earlier calls on the same ref.
 fn ranks(alloc: Global, needed: &[NeededCall], refs: &[RefCall]) -> Result<Vec<u32>, NoSchedule> {
     let mut on_refs = Vec::new(alloc);
     for call in needed {

@@ -8,12 +8,12 @@ use fiber_poll::{CallLog, FiberTask, NoLog, Turn};
 use std::alloc::Global;
 use std::sync::atomic::{AtomicU64, Ordering};
 
-/// Is told of turns as well as of their calls.
+/// Receives turns and their calls.
 pub trait TurnLog: CallLog {
     /// A turn of this task begins.
     fn begins(&mut self, task: &FiberTask<'_>);
 
-    /// A turn of this task was made, and answers so.
+    /// A turn of this task was made, with this result.
     fn turned(&mut self, task: &FiberTask<'_>, answer: &Result<Turn<'_>, RunError>);
 }
 
@@ -25,19 +25,18 @@ impl TurnLog for NoLog {
     fn turned(&mut self, _task: &FiberTask<'_>, _answer: &Result<Turn<'_>, RunError>) {}
 }
 
-/// The log of one worker. All workers of a run share a clock, which counts the calls on refs that have
-/// ended.
+/// The log of one worker. The workers of a run share a clock, which counts the calls on refs that have ended.
 #[derive(Drop)]
 pub struct WorkerLog<'c> {
     alloc: Global,
     clock: &'c AtomicU64,
     notes: Notes,
-    // How many marks the task had when its turn began.
+    // The number of marks of the task at the beginning of its turn.
     marks: usize,
 }
 
 impl<'c> WorkerLog<'c> {
-    /// An empty log of a run with so many fibers at most.
+    /// An empty log of a run with at most `fibers` fibers.
     pub fn new(alloc: Global, clock: &'c AtomicU64, fibers: u16) -> WorkerLog<'c> {
         WorkerLog {
             alloc,
@@ -47,14 +46,13 @@ impl<'c> WorkerLog<'c> {
         }
     }
 
-    /// What was noted.
+    /// The notes of the log.
     pub fn into_notes(self) -> Notes {
         let WorkerLog { notes, .. } = self;
         notes
     }
 
-    /// A turn of the fiber of this number was made, which may still make so many moves. It made a mark or
-    /// none.
+    /// Notes a turn of the fiber `by`, which now has `left` moves left; `marked` is whether the turn made a mark.
     pub fn moved(&mut self, by: u16, left: u32, marked: bool) {
         if let Some(seen) = self.notes.fibers.get_mut(usize::from(by)) {
             seen.made = left;
@@ -64,14 +62,14 @@ impl<'c> WorkerLog<'c> {
         }
     }
 
-    /// The last move of the fiber of this number waited, and came behind a look unless a mask was active. The
-    /// fiber may still make so many moves.
+    /// Notes that the last move of the fiber `by` waited. The move came after a look unless a mask was active. The
+    /// fiber has `left` moves left.
     pub fn waited(&mut self, by: u16, left: u32, masked: bool) {
         let looked = if masked { 0 } else { 1 };
         self.note(by, left.saturating_add(1), CallKind::Wait, looked);
     }
 
-    /// A call of the fiber of this number was refused with this fault.
+    /// Notes that a call of the fiber `by` was refused with this fault.
     pub fn refused(&mut self, by: u16, fault: RunError) {
         self.notes.refused = Some((by, fault));
     }
@@ -99,14 +97,14 @@ impl<'c> WorkerLog<'c> {
         self.notes.note(self.alloc, call, Some(on_ref));
     }
 
-    // The fiber looked, and wasn't asked.
+    // Notes a look that found no request.
     fn saw_none(&mut self, by: u16, left: u32) {
         if let Some(seen) = self.notes.fibers.get_mut(usize::from(by)) {
             seen.look = left.saturating_sub(1);
         }
     }
 
-    // A request was made of a fiber.
+    // Notes a request for the cancellation of a fiber.
     fn canceled(&mut self, by: u16, left: u32, fiber: u16, reply: CancelReply) {
         let kind = match reply {
             CancelReply::Asked => CallKind::Asked,
@@ -116,7 +114,7 @@ impl<'c> WorkerLog<'c> {
         self.note(by, left, kind, fiber);
     }
 
-    // A call on a ref was answered.
+    // Notes a call on a ref.
     fn on_ref(&mut self, by: u16, left: u32, ask: &Ask, reply: &Reply, begun: u64) {
         let (named, kind) = match ask {
             Ask::Get(named) => (*named, CallKind::Get),
@@ -143,7 +141,7 @@ impl<'c> WorkerLog<'c> {
         self.note_ref(call, found, new, begun);
     }
 
-    // A call that isn't on a ref was answered.
+    // Notes a call that isn't on a ref.
     fn shared(&mut self, by: u16, left: u32, ask: &Ask, reply: &Reply) {
         match (ask, reply) {
             (Ask::Start, Reply::Number(number)) => self.note(by, left, CallKind::Start, *number),
@@ -168,7 +166,7 @@ impl<'c> WorkerLog<'c> {
     }
 }
 
-// The sum of two values modulo 2^63, as a ref takes it.
+// The sum of two values modulo 2^63, as a ref keeps it.
 fn sum(old: i64, by: Value) -> i64 {
     (old.wrapping_add(by.get()) << 1) >> 1
 }

@@ -1,4 +1,5 @@
-//! What a run and a replay of a program answer, as texts, and that a recorded run's replay answers the same.
+//! The results of a run and of a replay of a program, as texts, and that the replay of a recorded run has the same
+//! result.
 ghost use Rattle.std.specs.Prelude.{◌≡◌, ◌<◌};
 ghost use Rattle.cell_registry.specs.Cells.{AreLimits};
 ghost use Rattle.steal_pool.specs.Runs.{limits_of};
@@ -15,7 +16,7 @@ use std::thread::Threads;
 use steal_pool::{Gate, NoSchedule, OpenGate, Options, Recorded, RunEnd, run_recorded, run_told};
 use term_parse::parse;
 
-/// The options by default.
+/// The default options.
 pub const USUAL: Options = Options {
     workers: 4,
     fibers: 1000,
@@ -26,8 +27,7 @@ pub const USUAL: Options = Options {
     moves: 100_000,
 };
 
-/// How a text is run: with these options, so many times on each of these numbers of workers with each
-/// of these numbers of moves a turn.
+/// How a text is run: with these options, `times` times on each of these numbers of workers with each of these budgets.
 #[derive(Clone, Copy)]
 pub struct Runs<'a> {
     pub options: Options,
@@ -36,7 +36,7 @@ pub struct Runs<'a> {
     pub times: u32,
 }
 
-/// These options on so many workers with so many moves a turn, each number within its range.
+/// These options with this number of workers and this budget, each within its range.
 pub fn within(options: Options, workers: u8, budget: u32) -> Options
     ensures limits { AreLimits (limits_of result) }
     ensures budget { 1 < result.budget }
@@ -66,8 +66,8 @@ fn spelled(alloc: Global, answer: Result<Report, RunError>) -> Result<String, Fa
     }
 }
 
-// The text of the report of a run, or the line of its fault. Behind a report stands how many moves were
-// made after the workers had ended, if there were any.
+// The text of the report of a run, or the line of its fault. If moves were made after the workers had ended, their
+// number follows the report.
 fn told(alloc: Global, answer: Result<RunEnd, RunError>) -> Result<String, Fail> {
     match answer {
         Ok(end) => {
@@ -82,8 +82,8 @@ fn told(alloc: Global, answer: Result<RunEnd, RunError>) -> Result<String, Fail>
     }
 }
 
-/// What a run of the program that this text spells answers, with this gate. Where the workers left
-/// anything unfinished, the answer tells so.
+/// The result of a run of the program that this text spells, with this gate. The text says whether the workers left
+/// moves to be made.
 pub fn run_past<R: Threads + Wait + Sync, G: Gate>(
     rt: &R,
     alloc: Global,
@@ -98,8 +98,8 @@ pub fn run_past<R: Threads + Wait + Sync, G: Gate>(
     told(alloc, run_told(rt, alloc, program, options, gate))
 }
 
-/// What a recorded run of the program that this text spells answers, with this gate, and what a replay under
-/// its schedule does. Where it hands out none, the second text says why.
+/// The result of a recorded run of the program that this text spells, with this gate, and the result of a replay under
+/// its schedule. If it has no schedule, the second text is the reason.
 pub fn recorded_past<R: Threads + Wait + Sync, G: Gate>(
     rt: &R,
     alloc: Global,
@@ -117,7 +117,7 @@ pub fn recorded_past<R: Threads + Wait + Sync, G: Gate>(
     Ok((run, replay))
 }
 
-// What a replay under this schedule answers, or why there is none.
+// The result of a replay under this schedule, or the reason why there is none.
 fn replayed(
     alloc: Global,
     text: &str,
@@ -135,7 +135,7 @@ fn replayed(
     }
 }
 
-/// Which fiber a run of the program that this text spells is told to have used its moves, if any is.
+/// The fiber that has used up its moves in a run of the program that this text spells, if the run reports one.
 pub fn stopped_in<R: Threads + Wait + Sync>(
     rt: &R,
     alloc: Global,
@@ -152,7 +152,7 @@ pub fn stopped_in<R: Threads + Wait + Sync>(
     }
 }
 
-/// What a replay of a program under a schedule answers, within the greatest limits.
+/// The result of a replay of a program under a schedule, within the greatest limits.
 pub fn replay_of(alloc: Global, program: &Program, schedule: &[u16]) -> Result<String, Fail> {
     let widest = Limits {
         fibers: 1000,
@@ -163,7 +163,7 @@ pub fn replay_of(alloc: Global, program: &Program, schedule: &[u16]) -> Result<S
     replay_within(alloc, program, schedule, widest)
 }
 
-// What a replay of a program under a schedule answers, within these limits.
+// The result of a replay of a program under a schedule, within these limits.
 fn replay_within(
     alloc: Global,
     program: &Program,
@@ -175,7 +175,7 @@ fn replay_within(
     spelled(alloc, replay(alloc, program, schedule, limits))
 }
 
-/// Adds a piece to a text that is made piece by piece.
+/// Appends a piece to a text.
 pub fn push_piece(text: &mut String, piece: Result<String, AllocError>) -> Result<(), AllocError> {
     text.push_str(piece?.as_str())
 }
@@ -190,7 +190,7 @@ fn is_among(text: &str, wanted: &[&str]) -> bool {
     false
 }
 
-// Runs a text once, and asks that its answer be one of these.
+// Runs a text once, and checks that its result is one of these.
 fn expect_run<R: Abort + Threads + Wait + Sync>(
     rt: &R,
     alloc: Global,
@@ -209,7 +209,7 @@ fn expect_run<R: Abort + Threads + Wait + Sync>(
     Ok(())
 }
 
-/// Runs a text once and records it, and asks that a replay under its schedule answer just what the run did.
+/// Runs a text once and records it, and checks that a replay under its schedule has the same result.
 pub fn expect_recorded<R: Abort + Threads + Wait + Sync>(
     rt: &R,
     alloc: Global,
@@ -227,8 +227,8 @@ pub fn expect_recorded<R: Abort + Threads + Wait + Sync>(
     Ok(())
 }
 
-/// Runs a text so often, and asks that each answer be one of these. One more run on each number of workers
-/// with each number of moves a turn is recorded.
+/// Runs a text as often as `Runs` says, and checks that each result is one of these. One more run on each number of
+/// workers with each budget is recorded.
 pub fn expect_runs<R: Abort + Threads + Wait + Sync>(
     rt: &R,
     alloc: Global,

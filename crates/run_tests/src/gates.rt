@@ -1,4 +1,4 @@
-//! Gates, which hold fibers, and show how workers are inside: two at once, and none after a fault.
+//! Gates that hold fibers, and that count how workers make turns: two at once, and none after a fault.
 
 use crate::answers::{USUAL, run_past, within};
 use std::process::Abort;
@@ -11,24 +11,24 @@ use std::thread::Threads;
 use std::time::{Duration, Instant};
 use steal_pool::{Gate, Options};
 
-// How often a worker looks for the other fiber.
+// How often a worker checks for the other fiber.
 const LOOKS: u32 = 200_000_000;
 
-/// A fiber, a turn of it, another fiber and a turn of that one: the turn of the first is held until the other has
-/// come to that of its own, so that it has made the one before. The turns of a fiber are numbered from 1.
+/// A fiber, a turn of it, another fiber and a turn of that one. The turn of the first is held until the other begins
+/// its turn, and so has made the one before. The turns of a fiber are numbered from 1.
 pub type Hold = (u16, u64, u16, u64);
 
-/// Holds turns of fibers 0 to 2, until it gives up.
+/// Holds turns of fibers 0 to 2; gives up after some time.
 #[derive(Drop)]
 pub struct Holding<'a> {
     holds: &'a [Hold],
-    // To which turn each fiber has come.
+    // The last turn that each fiber has begun.
     turns: [AtomicU64; 3],
     gave_up: AtomicBool,
 }
 
 impl<'a> Holding<'a> {
-    /// No fiber has come to a turn.
+    /// A gate before any turn.
     pub fn new(holds: &'a [Hold]) -> Holding<'a> {
         Holding {
             holds,
@@ -37,12 +37,12 @@ impl<'a> Holding<'a> {
         }
     }
 
-    /// Whether a turn was held in vain.
+    /// Whether a turn was held until the gate gave up.
     pub fn gave_up(&self) -> bool {
         self.gave_up.load(Ordering::SeqCst)
     }
 
-    // To which turn a fiber comes now.
+    // Counts a turn of a fiber, and returns its number.
     fn come(&self, fiber: u16) -> u64 {
         match self.turns.get(usize::from(fiber)) {
             Some(turn) => turn.fetch_add(1, Ordering::SeqCst).wrapping_add(1),
@@ -50,7 +50,7 @@ impl<'a> Holding<'a> {
         }
     }
 
-    // To which turn a fiber has come.
+    // The last turn that a fiber has begun.
     fn turn_of(&self, fiber: u16) -> u64 {
         match self.turns.get(usize::from(fiber)) {
             Some(turn) => turn.load(Ordering::SeqCst),
@@ -58,7 +58,7 @@ impl<'a> Holding<'a> {
         }
     }
 
-    // Looks for a fiber to come to a turn.
+    // Waits for a fiber to begin a turn.
     fn wait(&self, fiber: u16, turn: u64) {
         for _ in 0..LOOKS {
             if self.turn_of(fiber) >= turn {
@@ -121,7 +121,7 @@ const BUSY: &str =
     "(start f (forever (uncancelable p (pure 0))) (seq (repeat 500 (start g (forever (cede)) (pure 0))) (forever \
     (cede))))";
 
-// The fault of fiber 1 comes in time.
+// The fault of fiber 1 ends the run in time.
 fn expect_fault_in_time<R: Abort + AllocGlobal + Clock + Threads + Wait + Sync>(
     rt: &R,
     workers: u8,

@@ -1,4 +1,4 @@
-//! What is gathered where no task is left.
+//! The result of gathering when no task is left.
 
 use crate::answers::program;
 use cell_registry::{Registry, RunError};
@@ -7,7 +7,7 @@ use std::alloc::Global;
 use std::test::Fail;
 use steal_pool::gather;
 
-// The fault where no task of a program is left.
+// The fault if no task of a program is left.
 fn fault_without_tasks(alloc: Global) -> Result<Option<RunError>, Fail> {
     let code = expand(alloc, &program(alloc, "(pure 7)")?)?;
     let (registry, _pass) = Registry::new(alloc, 2, 1, 1, 10)?;

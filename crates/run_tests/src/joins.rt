@@ -15,11 +15,11 @@ const RUNS: Runs<'static> = Runs {
     times: 5,
 };
 
-// How deep a chain of joins is: each start stands in the last one.
+// The depth of a chain of joins: each start is inside the one before it.
 const CHAIN: u32 = 90;
 
-// What a program that starts a hundred fibers shows, its text, what fiber 0 comes to, and what each
-// other fiber does.
+// A program that starts a hundred fibers: the rule that it shows, its text, the end of fiber 0, and what each other
+// fiber does.
 const HUNDRED: &[(&str, &str, &str, &str)] = &[
     (
         "each child is joined",
@@ -42,7 +42,7 @@ const HUNDRED: &[(&str, &str, &str, &str)] = &[
     ),
 ];
 
-// A report of fiber 0 that came to this, and of a hundred fibers after it that came to that.
+// A report with this line of fiber 0, and this line of each of a hundred fibers after it.
 fn report(alloc: Global, first: &str, other: &str) -> Result<String, AllocError> {
     let mut text = format!(in alloc; "fiber 0 {first}\n")?;
     for number in 1..=100 {
@@ -71,7 +71,7 @@ fn a_hundred_children_are_joined(rt: HostRuntime) -> Result<(), Fail> {
     Ok(())
 }
 
-// Fibers of which each joins the one before it and adds 1.
+// Fibers each of which joins the one before it and adds 1.
 fn chain(alloc: Global) -> Result<String, AllocError> {
     let mut text = String::from_str(alloc, "(start f1 (seq (cede) (pure 1)) ")?;
     for at in 2..=CHAIN {

@@ -1,9 +1,8 @@
-//! Tests of the public calls of `steal_pool`, with reports worked by hand and those of `replay`.
+//! Tests of the public calls of `steal_pool`. The expected reports are worked out by hand, or are those of `replay`.
 //!
-//! The crate promises that each report is one that the core gives under some schedule. These tests
-//! show what no proof does: that wakes arrive, that workers run at once, that a fault ends all of them,
-//! and that the calls succeed where memory is ample. The crate has nothing but its tests. They stand
-//! apart from the library so that it is proved without them.
+//! The crate promises that each report is one that the core has under some schedule. These tests show what no proof
+//! does: that wakes arrive, that workers run at once, that a fault ends all of them, and that the calls succeed with
+//! ample memory. The crate has only tests, so that the library is proved without them.
 #![tactic(auto)]
 
 #[cfg(test)]

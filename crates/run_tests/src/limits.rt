@@ -1,5 +1,5 @@
-//! Limits at their edges: the first refused call ends a run with its fault, and a fiber that has used
-//! its moves is unended.
+//! Limits at their edges: the first refused call ends a run with its fault, and a fiber that has used up its moves is
+//! unended.
 
 use crate::answers::{Runs, USUAL, expect_runs, push_piece, stopped_in, within};
 use std::alloc::{AllocError, Global};
@@ -9,7 +9,7 @@ use std::test::Fail;
 use std::thread::Threads;
 use steal_pool::Options;
 
-// How each program here is run, but for its options.
+// How each program here is run, apart from its options.
 const RUNS: Runs<'static> = Runs {
     options: USUAL,
     workers: &[1, 2, 4, 16],
@@ -17,8 +17,8 @@ const RUNS: Runs<'static> = Runs {
     times: 1,
 };
 
-// A program, and what comes of it where fiber 0 may make so many moves. Each reduction of an unmasked
-// fiber is a look and the move itself, and so is its end. A child begins with the moves that are left.
+// A program, the number of moves of fiber 0, and the result. Each word of an unmasked fiber takes a look and the move
+// itself, and so does its end. A child begins with the moves that are left.
 const MOVES: &[(&str, u32, &str)] = &[
     ("(pure 7)", 1, "fiber 0 unended\n"),
     ("(pure 7)", 2, "fiber 0 succeeded 7\n"),
@@ -74,7 +74,7 @@ const MOVES: &[(&str, u32, &str)] = &[
     ),
 ];
 
-// A program, and what comes of it where each fiber may change its own state so often.
+// A program, the limit of a fiber's own changes, and the result.
 const COUNTS: &[(&str, u64, &str)] = &[
     ("(uncancelable p (canceled))", 1, "fault 19 Spent 0\n"),
     ("(uncancelable p (canceled))", 2, "fault 19 Spent 0\n"),
@@ -101,7 +101,7 @@ const COUNTS: &[(&str, u64, &str)] = &[
     ),
 ];
 
-// A program, and what comes of it where there may be so many fibers, refs and deferreds.
+// A program, the limits of fibers, refs and deferreds, and the result.
 const NUMBERS: &[(&str, u16, u16, u16, &str)] = &[
     ("(pure 7)", 1, 1000, 1000, "fiber 0 succeeded 7\n"),
     (
@@ -141,15 +141,14 @@ const NUMBERS: &[(&str, u16, u16, u16, &str)] = &[
     ),
 ];
 
-// The same of deferreds, whoever makes the last of them, in turns of two moves.
+// The same for deferreds, whichever fiber makes the last of them, with a budget of two moves.
 const DEFERREDS: &[(u16, &str)] = &[
     (1, "fault 18 Full deferreds 1\n"),
     (2, "fault 18 Full deferreds 2\n"),
     (3, "fiber 0 succeeded 6\nfiber 1 succeeded 5\n"),
 ];
 
-// Programs that loop without end, and what comes of them where each fiber may change its own state so
-// often.
+// Programs that loop without end, the limit of a fiber's own changes, and the result.
 const LOOPS: &[(&str, u64, &str)] = &[
     (
         "(start f (seq (say 1) (forever (cede))) (start g (forever (uncancelable p (pure 0))) (forever (pure 0))))",
@@ -175,7 +174,7 @@ fn moves_are_counted(rt: HostRuntime) -> Result<(), Fail> {
     Ok(())
 }
 
-// A program, how many moves fiber 0 may make, and which fiber has used its moves then. One that waits hasn't.
+// A program, the number of moves of fiber 0, and the fiber that has then used up its moves. A waiting fiber hasn't.
 const STOPPED: &[(&str, u32, Option<u16>)] = &[
     ("(pure 7)", 1, Some(0)),
     ("(pure 7)", 2, None),
@@ -261,7 +260,7 @@ fn a_loop_uses_all_moves(rt: HostRuntime) -> Result<(), Fail> {
     Ok(())
 }
 
-// Fiber 0 and so many others that have succeeded with 1.
+// Fiber 0 and this many others that have succeeded with 1.
 fn succeeded(alloc: Global, fibers: u32) -> Result<String, AllocError> {
     let mut text = String::from_str(alloc, "fiber 0 succeeded 0\n")?;
     for number in 1..fibers {

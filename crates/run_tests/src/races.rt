@@ -1,5 +1,5 @@
-//! Programs whose reports hang on the schedule. All reports that may come are worked by hand: an exploration
-//! finds these and no other, each with a schedule under which a replay gives it, and each run gives one of them.
+//! Programs whose reports depend on the schedule. All possible reports are worked out by hand: an exploration finds
+//! exactly these, each with a schedule whose replay has it, and each run has one of them.
 
 use crate::answers::{Runs, USUAL, expect_runs, program, replay_of};
 use cell_registry::Limits;
@@ -37,7 +37,7 @@ const RUNS: Runs<'static> = Runs {
 
 // A program with several reports.
 struct Race<'a> {
-    // What it shows.
+    // The rule that it shows.
     rule: &'a str,
     text: &'a str,
     // Its reports.
@@ -268,7 +268,7 @@ const NEVER: &[Race<'static>] = &[Race {
     ],
 }];
 
-// Notes the report among those that are wanted, where it is one of them.
+// Marks the report as met, if it is one of the wanted ones.
 fn note(report: &str, wanted: &[&str], met: &mut [bool]) -> bool {
     let mut found = false;
     for (want, seen) in wanted.iter().zip(met.iter_mut()) {
@@ -280,7 +280,7 @@ fn note(report: &str, wanted: &[&str], met: &mut [bool]) -> bool {
     found
 }
 
-// The text of the report of an answer, or nothing where it is a fault.
+// The text of the report of an answer, empty if it is a fault.
 fn spelled(alloc: Global, answer: &Answer) -> Result<String, Fail> {
     match &answer.end {
         Ok(report) => Ok(text_of_report(alloc, report)?),
@@ -288,7 +288,7 @@ fn spelled(alloc: Global, answer: &Answer) -> Result<String, Fail> {
     }
 }
 
-// An answer is one of the reports that are wanted, which is noted, and the replay of its schedule gives it.
+// Checks that an answer is one of the wanted reports, which is marked, and that the replay of its schedule has it.
 fn expect_answer<R: Abort>(
     rt: &R,
     alloc: Global,
@@ -304,7 +304,7 @@ fn expect_answer<R: Abort>(
     Ok(())
 }
 
-// An exploration finds the reports that are wanted, each of them once and no other.
+// An exploration finds exactly the wanted reports, each of them once.
 fn expect_explored<R: Abort>(rt: &R, alloc: Global, race: &Race<'_>) -> Result<(), Fail> {
     let program = program(alloc, race.text)?;
     let Ok(found) = explore(alloc, &program, LIMITS, BOUNDS) else {
@@ -321,7 +321,7 @@ fn expect_explored<R: Abort>(rt: &R, alloc: Global, race: &Race<'_>) -> Result<(
     Ok(())
 }
 
-// An exploration of these programs finds their reports, and each run gives one of them.
+// An exploration of these programs finds their reports, and each run has one of them.
 fn expect_races<R: Abort + Threads + Wait + Sync>(
     rt: &R,
     alloc: Global,

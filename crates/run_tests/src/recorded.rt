@@ -1,5 +1,5 @@
-//! Recorded runs of programs in which many calls may come in many orders, and of a race whose turns are held.
-//! Each hands out its schedule. (So do the programs of the other tests, each of which is recorded, too.)
+//! Recorded runs of programs whose many calls can come in many orders, and of a race whose turns are held. Each run
+//! returns its schedule. (The programs of the other tests are recorded, too, and return theirs.)
 ghost use Rattle.std.specs.Prelude.{◌<◌};
 ghost use Rattle.cell_registry.specs.Cells.{AreLimits};
 ghost use Rattle.steal_pool.specs.Runs.{limits_of};
@@ -13,25 +13,25 @@ use std::test::Fail;
 use std::thread::Threads;
 use steal_pool::{NoSchedule, OpenGate, Options, run_recorded};
 
-// On how many workers, with how many moves a turn, and how often each program here is recorded.
+// The numbers of workers, the budgets, and how often each program here is recorded.
 const WORKERS: &[u8] = &[1, 2, 4, 16];
 
 const BUDGETS: &[u32] = &[2, 3, 64];
 
 const TIMES: u32 = 5;
 
-// A race, which has three reports: its loser is cut before it has begun, before it has registered its
-// finalizer, or behind that.
+// A race, which has three reports: its loser is cut before it has begun, before it has registered its finalizer, or
+// after that.
 const RACE: &str = "(race (pure 4) (oncancel (never) (say 9)))";
 
-// Each of the reports, with how many moves a turn has and the turns that are held, so that it comes.
+// Each of the reports, with the budget of a turn and the turns that are held so that it comes.
 //
-// With 64 moves a turn, fiber 0 starts the others in its first two turns, and looks at the deferred in its third,
-// which is held until fiber 1 has completed that. So it doesn't wait there, but for the end of fiber 1, which is
-// held until then. It requests the cancellation of fiber 2 in its fourth turn or in its fifth, and comes to its
-// sixth, since fiber 2 hasn't ended. Fiber 2 makes all moves up to its wait in its first turn. With 4 moves a turn
-// it has entered its poll then. Fiber 1 completes the deferred in its third turn, fiber 0 begins to wait for its
-// end in its fifth, makes the request in the sixth or the seventh, and comes to its eighth.
+// With a budget of 64 moves, fiber 0 starts the others in its first two turns, and looks at the deferred in its third,
+// which is held until fiber 1 has completed the deferred. So it doesn't wait there, but for the end of fiber 1, which
+// is held until then. Fiber 0 requests the cancellation of fiber 2 in its fourth turn or in its fifth, and begins its
+// sixth, since fiber 2 hasn't ended. Fiber 2 makes all moves up to its wait in its first turn. With a budget of 4 moves
+// it has entered its poll then. Fiber 1 completes the deferred in its third turn. Fiber 0 begins to wait for its end in
+// its fifth, makes the request in the sixth or the seventh, and begins its eighth.
 const HELD: &[(u32, &[Hold], &str)] = &[
     (
         64,
@@ -56,7 +56,7 @@ const HELD: &[(u32, &[Hold], &str)] = &[
     ),
 ];
 
-// Runs the race with these turns held, and asks that this come of it and of its replay.
+// Runs the race with these turns held, and checks the result of the run and of its replay.
 fn expect_held<R: Abort + Threads + Wait + Sync>(
     rt: &R,
     alloc: Global,
@@ -221,7 +221,7 @@ fn a_schedule_tells_who_came_first(rt: HostRuntime) -> Result<(), Fail> {
     expect_all(&rt, rt.alloc(), SHARED)
 }
 
-// Why a run whose marks are made by more than a million moves hands out no schedule.
+// Why a run whose marks take more than a million moves has no schedule.
 fn refusal<R: Threads + Wait + Sync>(rt: &R, alloc: Global) -> Result<Option<NoSchedule>, Fail> {
     let program = program(alloc, "(repeat 11 (start f (forever (say 1)) (pure 0)))")?;
     let recorded = run_recorded(rt, alloc, program, USUAL, &OpenGate);

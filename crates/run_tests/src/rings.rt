@@ -1,4 +1,4 @@
-//! Rings of fibers that wait for one another. A wake that is lost leaves fibers unended.
+//! Rings of fibers that wait for one another. A lost wake leaves fibers unended.
 
 use crate::answers::{Runs, USUAL, expect_runs, push_piece};
 use std::alloc::{AllocError, Global};
@@ -7,11 +7,11 @@ use std::sync::Wait;
 use std::test::Fail;
 use std::thread::Threads;
 
-// How many fibers stand in a ring. They go round three times: each completes a deferred of the fiber
-// before it, yields and awaits its own.
+// The number of fibers of a ring. The values go round three times: each completes a deferred of the fiber before it,
+// yields and awaits its own.
 const RING: u32 = 12;
 
-// How a ring is run alone.
+// How a single ring is run.
 const ALONE: Runs<'static> = Runs {
     options: USUAL,
     workers: &[1, 2, 3, 4],
@@ -19,11 +19,11 @@ const ALONE: Runs<'static> = Runs {
     times: 250,
 };
 
-// How many rings are run one after another in one run.
+// The number of rings that run one after another in one run.
 const MANY: u32 = 27;
 
-// What one more fiber of a ring does. First it hands on its own place, and then what it was handed, so
-// in the end it has the place of the fiber three places on. Then it goes on with this.
+// One more fiber of a ring. The fiber passes on its own place first, and then what it got, so in the end it has the
+// place of the fiber three places on. Then it runs `then`.
 fn member(alloc: Global, at: u32, then: &str) -> Result<String, AllocError> {
     let before = at.wrapping_add(RING - 1) % RING;
     format!(in alloc;
@@ -32,7 +32,7 @@ fn member(alloc: Global, at: u32, then: &str) -> Result<String, AllocError> {
     )
 }
 
-// A fiber that joins the one before it at last, and notes its value.
+// A fiber that finally joins the one before it, and notes its value.
 fn joining_member(alloc: Global, at: u32) -> Result<String, AllocError> {
     let before = at.wrapping_sub(1);
     let then = format!(in alloc;
@@ -41,7 +41,7 @@ fn joining_member(alloc: Global, at: u32) -> Result<String, AllocError> {
     member(alloc, at, then.as_str())
 }
 
-// A ring, of which each fiber but the first joins the one before it.
+// A ring, in which each fiber other than the first joins the one before it.
 fn ring(alloc: Global) -> Result<String, AllocError> {
     let mut text = String::new(alloc);
     for at in 0..RING {
@@ -61,7 +61,7 @@ fn ring(alloc: Global) -> Result<String, AllocError> {
     Ok(text)
 }
 
-// What the fibers of a ring come to, where the first has this number.
+// The lines of the fibers of a ring whose first fiber has this number.
 fn push_lines(alloc: Global, text: &mut String, first: u32) -> Result<(), AllocError> {
     push_piece(text, format!(in alloc; "fiber {first} succeeded 3\n"))?;
     for at in 1..RING {
@@ -76,7 +76,7 @@ fn push_lines(alloc: Global, text: &mut String, first: u32) -> Result<(), AllocE
     Ok(())
 }
 
-// What so many rings come to, behind fiber 0, which has succeeded with this.
+// The report of this many rings, behind fiber 0, which has succeeded with this value.
 fn report(alloc: Global, value: u32, rings: u32) -> Result<String, AllocError> {
     let mut text = format!(in alloc; "fiber 0 succeeded {value}\n")?;
     for at in 0..rings {
@@ -92,7 +92,7 @@ fn no_wake_of_a_ring_is_lost(rt: HostRuntime) -> Result<(), Fail> {
     expect_runs(&rt, rt.alloc(), text.as_str(), &ALONE, &[want.as_str()])
 }
 
-// So many rings, one after another.
+// This number of rings, one after another.
 fn many_rings(alloc: Global) -> Result<String, AllocError> {
     let ring = ring(alloc)?;
     format!(in alloc; "(repeat {MANY} {ring})")

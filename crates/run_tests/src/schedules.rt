@@ -1,11 +1,11 @@
-//! Schedules that are made piece by piece.
+//! Schedules for replays.
 
 use std::alloc::{AllocError, Global};
 
-// How often all fibers come in turn, until none of these tests' programs can go on.
+// The number of rounds, after which none of these tests' programs can go on.
 const ROUNDS: u32 = 400;
 
-// Adds so many rounds in which each fiber below a number has an entry.
+// Adds `rounds` rounds, in which each fiber below a number has one entry.
 fn push_rounds(entries: &mut Vec<u16>, fibers: u16, rounds: u32) -> Result<(), AllocError> {
     for _ in 0..rounds {
         for fiber in 0..fibers {

@@ -1,4 +1,4 @@
-//! Programs whose report hangs on no schedule: each run gives it, and so does the core.
+//! Programs whose report doesn't depend on the schedule: each run has it, and so does the core.
 
 use crate::answers::{Runs, USUAL, expect_runs, program, replay_of};
 use crate::schedules::in_turn;
@@ -11,7 +11,7 @@ use std::thread::Threads;
 // More than the fibers of each program here.
 const FIBERS: u16 = 5;
 
-// What a program shows, its text, and its report.
+// The rule that a program shows, its text, and its report.
 type Settled<'a> = (&'a str, &'a str, &'a str);
 
 const SETTLED: &[Settled<'static>] = &[
@@ -123,7 +123,7 @@ const RUNS: Runs<'static> = Runs {
     times: 5,
 };
 
-// The replay of a text under a long schedule gives this report.
+// The replay of a text under a long schedule has this report.
 fn expect_replay<R: Abort>(rt: &R, alloc: Global, text: &str, want: &str) -> Result<(), Fail> {
     let schedule = in_turn(alloc, FIBERS)?;
     let report = replay_of(alloc, &program(alloc, text)?, schedule.as_slice())?;
@@ -131,7 +131,7 @@ fn expect_replay<R: Abort>(rt: &R, alloc: Global, text: &str, want: &str) -> Res
     Ok(())
 }
 
-// Each program's replay and each of its runs gives its report.
+// Each program's replay and each of its runs has its report.
 fn expect_settled<R: Abort + Threads + Wait + Sync>(
     rt: &R,
     alloc: Global,

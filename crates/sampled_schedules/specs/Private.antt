@@ -1,4 +1,4 @@
--- What the contracts of private functions cite.
+-- Definitions that only contracts of private functions cite.
 pub mod Walking
 pub mod Noting
 pub mod Drawing

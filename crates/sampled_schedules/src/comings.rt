@@ -1,4 +1,4 @@
-//! What a sample has found.
+//! The result of a sample.
 ghost use Rattle.std.specs.Prelude.{◌≡◌};
 
 use every_schedule::Answer;
@@ -7,24 +7,24 @@ use std::marker::Model;
 /// A schedule that was drawn.
 #[derive(Drop)]
 pub struct Drawn {
-    /// The schedule, and the report or the fault that it came to.
+    /// The schedule, and its report or fault.
     pub answer: Answer,
-    /// Whether it was cut short: it has as many entries as it may have, and a fiber could still go on.
+    /// Whether it was cut short: it has the greatest number of entries, and a fiber could still go on.
     pub cut: bool,
 }
 
-/// What some of the schedules came to.
+/// An end that some of the schedules have.
 #[derive(Drop)]
 pub struct Coming {
-    /// The report or the fault, and the schedule that came to it first.
+    /// The report or the fault, and the first schedule that led to it.
     pub answer: Answer,
-    /// How many schedules came to it.
+    /// The number of schedules with this end.
     pub times: u32,
-    /// Whether each of these schedules was cut short. So the report may be another one after more entries.
+    /// Whether each of these schedules was cut short. Then more entries can still change the report.
     pub cut: bool,
 }
 
-/// What the schedules of a sample came to.
+/// The ends of the schedules of a sample.
 #[derive(Drop)]
 pub struct Comings {
     comings: Vec<Coming>,
@@ -47,7 +47,7 @@ impl Comings {
         Comings { comings }
     }
 
-    /// What they came to, in the order in which it came first.
+    /// The ends, in the order in which they came first.
     pub fn as_slice(&self) -> &[Coming]
         ensures { result.now ≡ self.now }
     {
@@ -55,10 +55,10 @@ impl Comings {
     }
 }
 
-/// What a sample has found.
+/// The result of a sample.
 #[derive(Drop)]
 pub struct Sample {
-    /// How many schedules were drawn.
+    /// The number of schedules that were drawn.
     pub schedules: u32,
     /// The different reports and faults, each with one schedule.
     pub comings: Comings,

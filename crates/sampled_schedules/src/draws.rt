@@ -1,4 +1,4 @@
-//! Numbers drawn at random by a seed.
+//! Random numbers from a seed.
 ghost use Rattle.std.specs.Prelude.{◌≡◌, ◌%◌, ◌<◌, ◌≤◌};
 ghost use Rattle.rand_core.specs.Stream.{next_u32};
 ghost use Rattle.sampled_schedules.specs.Private.Drawing.{numbers_behind, numbers_of};
@@ -6,14 +6,14 @@ ghost use Rattle.sampled_schedules.specs.Private.Drawing.{numbers_behind, number
 use rand_core::{Rng, SeedableRng};
 use rand_xoshiro::Xoshiro256PlusPlus;
 
-/// The numbers of xoshiro256++, whose first state SplitMix64 makes of a seed.
+/// The numbers of xoshiro256++; SplitMix64 makes its first state from a seed.
 #[derive(Drop)]
 pub(crate) struct Draws {
     generator: Xoshiro256PlusPlus,
 }
 
 impl Draws {
-    /// Those of this seed.
+    /// The numbers from this seed.
     pub(crate) fn new(seed: u64) -> Draws
         ensures { numbers_behind result.generator ≡ numbers_of seed }
     {
@@ -32,8 +32,8 @@ impl Draws {
         self.generator.next_u32() % bound
     }
 
-    /// How many entries one fiber has in a row. Half of them are single, and some are long: so it also comes that a
-    /// fiber goes far while another stands.
+    /// The number of entries that one fiber has in a row. Half of these are 1, and some are large, so that sometimes
+    /// one fiber goes far while another doesn't move.
     pub(crate) fn row(&mut self) -> u32
         ensures { 1 ≤ result }
     {

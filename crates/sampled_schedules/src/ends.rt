@@ -1,10 +1,10 @@
-//! When two schedules came to the same.
+//! Whether two schedules have the same end.
 ghost use Rattle.std.specs.Prelude.{◌≡◌, ◌≢◌, true, false};
 
 use cell_registry::RunError;
 use scheduled_core::{FiberReport, Report};
 
-/// Whether both are one report or one fault.
+/// Whether the ends are the same report or the same fault.
 pub(crate) fn same_end(one: &Result<Report, RunError>, other: &Result<Report, RunError>) -> bool
     ensures same { result ≡ true → one.now ≡ other.now }
     ensures other { result ≡ false → one.now ≢ other.now }
@@ -21,7 +21,7 @@ pub(crate) fn same_end(one: &Result<Report, RunError>, other: &Result<Report, Ru
     }
 }
 
-// Whether as many fibers came to the same, each as the other of its number.
+// Whether the fibers are equally many, with equal reports.
 fn same_reports(one: &[FiberReport], other: &[FiberReport]) -> bool
     ensures same { result ≡ true → one.now ≡ other.now }
     ensures other { result ≡ false → one.now ≢ other.now }
@@ -37,7 +37,7 @@ fn same_reports(one: &[FiberReport], other: &[FiberReport]) -> bool
     true
 }
 
-// Whether two fibers came to the same.
+// Whether two fibers have equal reports.
 fn ended_alike(one: &FiberReport, other: &FiberReport) -> bool
     ensures same { result ≡ true → one.now ≡ other.now }
     ensures other { result ≡ false → one.now ≢ other.now }

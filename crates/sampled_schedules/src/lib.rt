@@ -1,10 +1,10 @@
-//! Schedules of a program that are drawn at random: what they come to, and how often each comes.
+//! Random schedules of a program: the ends that they lead to, and how often each end comes.
 //!
-//! It stands on the core under a schedule (`scheduled_core`), and tells answers as an exploration of every schedule
-//! does (`every_schedule`). It promises that each answer is what its schedule leads to, that it is marked as cut short
-//! exactly where each of its schedules was, that an answer which isn't marked so is one that no further entry changes,
-//! and that as many came as were drawn. It promises nothing of what wasn't drawn. The numbers are those of
-//! xoshiro256++, so that a seed gives the same answers on every machine.
+//! The crate uses the core under a schedule (`scheduled_core`), and the answers of an exploration of every schedule
+//! (`every_schedule`). The crate promises that each answer is what its schedule leads to, that it is marked as cut
+//! short exactly if each of its schedules was, that no further entry changes an answer without this mark, and that the
+//! counts of all answers add up to the number of schedules that were drawn. The crate promises nothing about schedules
+//! that weren't drawn. The numbers are those of xoshiro256++, so that a seed gives the same answers on every machine.
 #![tactic(auto)]
 
 mod comings;

@@ -1,4 +1,4 @@
-//! What schedules come to that are drawn at random.
+//! The ends of schedules that are drawn at random.
 ghost use Rattle.std.specs.Prelude.{◌≡◌, ◌≢◌, ◌+◌, ◌<◌, ◌≤◌, ◌^◌, ℕ, [], ◌∷◌, length, IfErr, IfNone, IfOk, IfSome};
 ghost use Rattle.std.specs.Prelude.{OnOk, true, false};
 ghost use Rattle.std.specs.Prelude.{Some as There, Err as Fails};
@@ -28,15 +28,15 @@ use fiber_frames::Config;
 use scheduled_core::{Report, first_fibers, report_of_fibers};
 use std::alloc::{AllocError, Global};
 
-/// What so many schedules of a program come to that are drawn at random by a seed: the different reports and faults,
-/// how many schedules came to each, and the first that did, as `replay` takes it.
+/// Draws random schedules of a program from a seed, and returns their ends: the different reports and faults, the
+/// number of schedules with each, and the first of these, as `replay` takes it.
 ///
-/// Each entry is of a fiber that can go on, chosen among all of these; one fiber has some entries in a row, mostly few
-/// and at times many. A schedule ends where every fiber has ended or rests, or with the call that is refused, or where
-/// it has as many entries as there may be. So a report whose schedule is shorter is one that no further entry changes,
-/// and an exploration that is complete lists it. Where each schedule that came to a report was cut short, the report
-/// is marked so, since it may be another one after more entries. The same seed gives the same sample everywhere. The
-/// limits are in their ranges ([`Limits`]). [`RunError::NoMemory`] is the only error.
+/// Each entry is of a fiber that can go on, chosen among all of these. The chosen fiber has a number of entries in a
+/// row, usually few and sometimes many. A schedule ends if every fiber has ended or rests, if a call is refused, or if
+/// it has the greatest number of entries. So no further entry changes the report of a shorter schedule, and a complete
+/// exploration lists this report. A report is marked as cut short if each of its schedules was, since more entries can
+/// still change it. The same seed gives the same sample on every machine. The limits are in their ranges ([`Limits`]).
+/// [`RunError::NoMemory`] is the only error.
 pub fn sample(
     alloc: Global,
     program: &Program,
@@ -80,7 +80,7 @@ pub fn sample(
     })
 }
 
-// What one more schedule comes to.
+// Draws one more schedule.
 fn draw(
     alloc: Global,
     first: &[Config],
@@ -122,7 +122,7 @@ fn was_cut(walked: &Result<bool, RunError>) -> bool
     }
 }
 
-// The same fibers once more.
+// Copies of the fibers.
 fn copies(alloc: Global, fibers: &[Config]) -> Result<Vec<Config>, AllocError>
     ensures { IfOk result (λ copies. copies.items ≡ fibers.now) }
 {
@@ -133,7 +133,7 @@ fn copies(alloc: Global, fibers: &[Config]) -> Result<Vec<Config>, AllocError>
     Ok(copies)
 }
 
-// What the fibers have come to, or the fault that ended their schedule. Want of memory is no end.
+// The report of the fibers, or the fault that ended their schedule. Running out of memory isn't an end.
 fn end(
     alloc: Global,
     walked: Result<bool, RunError>,
@@ -150,7 +150,7 @@ fn end(
     }
 }
 
-// One more schedule came to this.
+// Records the end of one more schedule.
 fn note(comings: &mut Vec<Coming>, drawn: Drawn) -> Result<(), AllocError>
     requires { came_in_all comings.old.items + 1 < 2 ^ 32 }
     ensures { OnOk result (IsNoted comings.old.items drawn comings.new.items) }
@@ -167,7 +167,7 @@ fn note(comings: &mut Vec<Coming>, drawn: Drawn) -> Result<(), AllocError>
     Ok(())
 }
 
-// One more schedule came to it, which was cut short or wasn't.
+// Counts one more schedule with this end, which was cut short or wasn't.
 fn raise(coming: &mut Coming, cut: bool)
     requires { coming.old.times + 1 < 2 ^ 32 }
     ensures { coming.new ≡ raised coming.old cut }
@@ -176,7 +176,7 @@ fn raise(coming: &mut Coming, cut: bool)
     coming.cut = coming.cut && cut;
 }
 
-// Where an answer with the same end stands.
+// The place of an answer with the same end.
 fn place(comings: &[Coming], answer: &Answer) -> Option<usize>
     ensures some { IfSome result (λ i. (c : TheComing) × (slice_get comings.now i ≡ There c) ×
         (c.answer.end ≡ answer.now.end)) }

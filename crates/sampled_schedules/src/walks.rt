@@ -12,8 +12,8 @@ use fiber_frames::Config;
 use scheduled_core::{enter, is_done};
 use std::alloc::AllocError;
 
-/// Entries to the end, where no fiber can go on, or as many as there may be. Whether they were cut short: there are as
-/// many as there may be, and a fiber could still go on.
+/// Draws entries until no fiber can go on, or there are as many as there can be. Returns whether they were cut short:
+/// there are as many as there can be, and a fiber could still go on.
 pub(crate) fn walk(
     fibers: &mut Vec<Config>,
     registry: &mut PlainRegistry,
@@ -54,7 +54,7 @@ fn could_go_on(fibers: &[Config], registry: &PlainRegistry) -> bool
     false
 }
 
-// One of the fibers that can go on, each as likely as another. `None` where none can.
+// One of the fibers that can go on, each with the same probability; `None` if none can.
 fn pick(fibers: &[Config], registry: &PlainRegistry, draws: &mut Draws) -> Option<u16>
     requires { AllFit (world_of fibers.now registry.now.state) }
     ensures none { IfNone result (IsFinal (world_of fibers.now registry.now.state)) }
@@ -75,7 +75,7 @@ fn pick(fibers: &[Config], registry: &PlainRegistry, draws: &mut Draws) -> Optio
     picked
 }
 
-// Entries of one fiber in a row, as many as it can make at once, but at least one.
+// Makes entries of one fiber in a row: `many`, or as many as it can make, and at least one.
 fn make_row(
     fibers: &mut Vec<Config>,
     registry: &mut PlainRegistry,
@@ -103,7 +103,7 @@ fn make_row(
     Ok(())
 }
 
-// Whether the fiber of this number is born and can go on.
+// Whether the fiber of this number was started and can go on.
 fn can_go_on(fibers: &[Config], registry: &PlainRegistry, number: u16) -> bool
     requires { AllFit (world_of fibers.now registry.now.state) }
 {
@@ -111,7 +111,8 @@ fn can_go_on(fibers: &[Config], registry: &PlainRegistry, number: u16) -> bool
     place < fibers.len() && !is_done(&fibers[place], registry)
 }
 
-// One more entry, which stands in the schedule before it is made: so a fault is in its schedule.
+// Makes one more entry. The entry is added to the schedule before it is made, so that a schedule contains the entry of
+// its fault.
 fn make_entry(
     fibers: &mut Vec<Config>,
     registry: &mut PlainRegistry,
@@ -131,7 +132,7 @@ fn make_entry(
     enter(fibers, registry, number)
 }
 
-// The entry, behind the others.
+// Appends the entry.
 fn note(schedule: &mut Vec<u16>, number: u16) -> Result<(), AllocError>
     ensures { OnOk result (schedule.new.items ≡ schedule.old.items ++ number ∷ []) }
 {

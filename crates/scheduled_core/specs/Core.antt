@@ -1,4 +1,4 @@
--- The core: the states of the born fibers beside one registry, and what a schedule makes of them.
+-- The core: the states of the started fibers and one registry, and what a schedule makes of them.
 use Rattle.std.specs.Prelude.{ℕ, List, [], ◌∷◌, ◌++◌, Option, Some, None, Result, Ok, Err, map, slice_set}
 use Rattle.std.specs.List.{fold, slice_get}
 use Rattle.effect_term.specs.declared.reply.Reply.{Reply}
@@ -20,7 +20,7 @@ use Rattle.scheduled_core.specs.declared.wish.Wish.TheVariants.{Shared, Alone, N
 use Rattle.scheduled_core.specs.declared.report.FiberReport.{FiberReport}
 use Rattle.scheduled_core.specs.declared.report.Report.{Report}
 
--- what the next move of a fiber wants: a shared call, or none; or there is no next move
+-- what the next move of a fiber wants: a shared call, or none; or that there is no next move
 abbrev pub wish_of : Ask → Wish
 wish_of ask.Look = Shared call.Look
 wish_of ask.Cut = Shared call.Cut
@@ -41,12 +41,12 @@ wish_of ask.Silent = Alone
 wish_of (ask.Over o) = Nothing
 wish_of ask.Broken = Nothing
 
--- the states of the born fibers, by their numbers, and the registry
+-- the states of the started fibers, by their numbers, and the registry
 pub record World : Type 0 where
   pub fibers : List Fiber
   pub cells : Cells
 
--- the world of a program before the first move: fiber 0 at the root of the code, and no other
+-- the world of a program before the first move: only fiber 0, at the root of the code
 abbrev pub first_world : Tree → Limits → World
 first_world code k = record { fibers = begins 0 code ∷ []; cells = opening k }
 
@@ -64,7 +64,7 @@ born g _ r = []
 abbrev pub called : World → ℕ → Fiber → Call → Reply → World
 called w f g c r = record { fibers = slice_set w.fibers f (move g r) ++ born g c r; cells = after w.cells f c }
 
--- a call that is refused ends the schedule by its fault
+-- a refused call ends the schedule with its fault
 abbrev pub answered : World → ℕ → Fiber → Call → Option CellError → Result World RunError
 answered w f g c None = Ok (called w f g c (reply_of w.cells f c))
 answered w f g c (Some e) = Err (fault_of f e)
@@ -74,17 +74,17 @@ wished k w f g (Shared c) = answered w f g c (refusal k w.cells f c)
 wished k w f g Alone = Ok record w { fibers = slice_set w.fibers f (silent_move g) }
 wished k w f g Nothing = Ok w
 
--- the one move of the fiber of this number; an unborn number changes nothing
+-- the next move of the fiber of this number; the number of a fiber that wasn't started changes nothing
 abbrev pub turned : Limits → World → ℕ → Option Fiber → Result World RunError
 turned k w f None = Ok w
 turned k w f (Some g) = wished k w f g (wish_of (ask_of g))
 
--- an entry of a schedule, where the entries before it have led to a world, or to a fault
+-- an entry of a schedule, after entries that led to a world, or to a fault
 abbrev pub entered : Limits → Result World RunError → ℕ → Result World RunError
 entered k (Err e) f = Err e
 entered k (Ok w) f = turned k w f (slice_get w.fibers f)
 
--- the core of a code under a schedule: the entries in turn
+-- the core of a code under a schedule: one entry after another
 unfoldable pub core : Tree → Limits → List ℕ → Result World RunError
 core code k schedule = fold (entered k) (Ok (first_world code k)) schedule
 

@@ -1,4 +1,4 @@
--- When a world is final: whatever entries follow, its report stays.
+-- When a world is final: no further entry changes its report.
 use Rattle.std.specs.Prelude.{◌≡◌, ◌≢◌, ◌⊎◌, ℕ, List, [], ◌∷◌, Bool, false, get_or, None, Ok, Err, Some}
 use Rattle.std.specs.List.{fold, slice_get}
 use Rattle.effect_term.specs.declared.reply.Outcome.{Outcome}
@@ -17,23 +17,23 @@ use Rattle.scheduled_core.specs.declared.wish.Wish.{Wish}
 use Rattle.scheduled_core.specs.declared.wish.Wish.TheVariants.{Shared, Alone, Nothing}
 use Rattle.scheduled_core.specs.Core.{World, core, entered, reported, wish_of}
 
--- the registry's reply to what fiber f wants
+-- the registry's reply to the wish of fiber f
 abbrev pub reply_to : Cells → ℕ → Wish → Reply
 reply_to s f (Shared c) = reply_of s f c
 reply_to s f Alone = Done
 reply_to s f Nothing = Done
 
--- what the word wants at which a fiber is, whether or not the fiber has to look before
+-- what the fiber's word wants, whether or not the fiber has to look first
 abbrev pub word_wish : Fiber → Wish
 word_wish g = wish_of (row_of g Done).call
 
--- where no mask is active, the fiber's cancellation isn't requested, and it has seen no request
+-- if no mask is active, the fiber's cancellation isn't requested, and it has seen no request
 abbrev pub IsUnasked : List Mask → Look → Bool → Type 0
 IsUnasked [] look request = (look ≢ Seen) × (request ≡ false)
 IsUnasked (m ∷ up) look request = Unit {0}
 
--- Fiber f, which is in state g, rests: it is at a wait for which there is nothing in the registry (a `never`, the
--- end of a fiber that hasn't ended, a deferred that is empty), and no request for its cancellation reaches it there
+-- fiber f, which is in state g, rests: it is at a wait that nothing in the registry ends (a `never`, the end of a fiber
+-- that hasn't ended, an empty deferred), and no request for its cancellation reaches it there
 pub record IsAtRest (s : Cells) (f : ℕ) (g : Fiber) : Type 0 where
   pub waits : (row_of g (reply_to s f (word_wish g))).kind ≡ Waited
   pub unasked : IsUnasked (active_of g) g.look (cell_of s f).request
@@ -41,11 +41,11 @@ pub record IsAtRest (s : Cells) (f : ℕ) (g : Fiber) : Type 0 where
 abbrev pub HasEnded : Fiber → Type 0
 HasEnded g = (o : Outcome) × (outcome_of g ≡ Some o)
 
--- each born fiber has ended, or rests
+-- each started fiber has ended, or rests
 abbrev pub IsFinal : World → Type 0
 IsFinal w = (f : ℕ) (g : Fiber) → slice_get w.fibers f ≡ Some g → HasEnded g ⊎ IsAtRest w.cells f g
 
--- the report is that of a final world, to which some schedule leads
+-- the report is that of a final world that some schedule leads to
 pub record IsFinalReport (code : Tree) (k : Limits) (report : Report) : Type 0 where
   pub schedule : List ℕ
   pub world : World
@@ -53,11 +53,11 @@ pub record IsFinalReport (code : Tree) (k : Limits) (report : Report) : Type 0 w
   pub final : IsFinal world
   pub reports : reported (Ok world) ≡ Ok report
 
--- whatever entries follow, the report of the world stays what it is, and no fault comes
+-- no further entries change the report of the world, and none lead to a fault
 abbrev pub IsSettled : Limits → World → Type 0
 IsSettled k w = (schedule : List ℕ) → reported (fold (entered k) (Ok w) schedule) ≡ reported (Ok w)
 
--- the report is that of a settled world, to which some schedule leads
+-- the report is that of a settled world that some schedule leads to
 pub record IsSettledReport (code : Tree) (k : Limits) (report : Report) : Type 0 where
   pub schedule : List ℕ
   pub world : World
@@ -65,12 +65,12 @@ pub record IsSettledReport (code : Tree) (k : Limits) (report : Report) : Type 0
   pub settled : IsSettled k world
   pub reports : reported (Ok world) ≡ Ok report
 
--- entries lead from the world to this fault
+-- some entries lead from the world to this fault
 pub record StopsAt (k : Limits) (w : World) (e : RunError) : Type 0 where
   pub entries : List ℕ
   pub stops : fold (entered k) (Ok w) entries ≡ Err e
 
--- the fiber f of these hasn't ended, and may make no more moves, where these tell how many are left to each
+-- the fiber f hasn't ended, and has no moves left; `rests` has the number of moves left to each fiber
 pub record IsStopped (fibers : List Fiber) (rests : List ℕ) (f : ℕ) : Type 0 where
   pub fiber : Fiber
   pub here : slice_get fibers f ≡ Some fiber

@@ -1,5 +1,5 @@
--- A fiber's state and what a registry has of it fit together: in a registry for many threads, where a pass knows
--- it, and in one for one thread.
+-- A fiber's state agrees with what a registry has of it: in a registry for many threads, as a pass knows it, or in one
+-- for one thread.
 use Rattle.std.specs.Prelude.{◌≡◌, ℕ, ◌<◌, ◌≤◌, Bool, true, false, List, length, Some}
 use Rattle.std.specs.List.{slice_get}
 use Rattle.fiber_frames.specs.declared.ask.Look.{Look}
@@ -15,9 +15,8 @@ use Rattle.derived_ops.specs.Naming.{Given}
 use Rattle.fiber_frames.specs.Naming.{NamedRun}
 use Rattle.scheduled_core.specs.Core.{World}
 
--- What a registry has of a fiber, as its runner knows it: its number, how far it has come, how many masks it is
--- under, how many changes it made, whether its cancellation is known to be requested, and how many numbers were
--- given
+-- what a registry has of a fiber, as its runner knows it: its number, how far it has come, the number of its active
+-- masks and of its changes, whether its cancellation is known to be requested, and how many numbers were given
 pub record Registered : Type 0 where
   pub number : ℕ
   pub stage : Stage
@@ -26,28 +25,28 @@ pub record Registered : Type 0 where
   pub saw : Bool
   pub given : Given
 
--- the stage, by how far the fiber has come
+-- the stage agrees with how far the fiber has come
 abbrev pub StageFits : Way → Stage → Type 0
 StageFits Runs_term g = g ≡ stage.Running
 StageFits Finalizes g = g ≡ stage.Finalizing
 StageFits (Has_ended o) g = g ≡ stage.Ended o
 StageFits Is_lost g = ⊥
 
--- the depth counts the active masks, until the fiber has ended
+-- the depth is the number of active masks, until the fiber has ended
 abbrev pub DepthFits : Way → ℕ → ℕ → Type 0
 DepthFits Runs_term d e = e ≡ d
 DepthFits Finalizes d e = e ≡ d
 DepthFits (Has_ended o) d e = Unit {0}
 DepthFits Is_lost d e = Unit {0}
 
--- a request that the fiber has seen is one that is known
+-- a request that the fiber has seen is known
 abbrev pub LookFits : Look → Bool → Type 0
 LookFits Due saw = Unit {0}
 LookFits Clear saw = Unit {0}
 LookFits Seen saw = saw ≡ true
 
--- The fiber's state and what is registered of it fit: its next mask number is at most its changes, it names only
--- what was given, and it was born itself
+-- the fiber's state agrees with what is registered of it: its next mask number is at most the number of its changes, it
+-- names only what was given, and it was started itself
 pub record Fits (c : Registered) (g : Fiber) : Type 0 where
   pub number : g.number ≡ c.number
   pub stage : StageFits (way_of g.running) c.stage
@@ -86,7 +85,7 @@ cell_registered s i =
 abbrev pub world_of : List Fiber → Cells → World
 world_of fibers cells = record { fibers = fibers; cells = cells }
 
--- each born fiber fits its cell, and the own parts of the other cells are as they opened
+-- each started fiber agrees with its cell, and the owner's part of every other cell is fresh
 pub record AllFit (w : World) : Type 0 where
   pub many : length w.fibers ≡ w.cells.next_fiber
   pub each : (f : ℕ) (g : Fiber) → slice_get w.fibers f ≡ Some g → Fits (cell_registered w.cells f) g

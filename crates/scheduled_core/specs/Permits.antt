@@ -1,4 +1,5 @@
--- The condition of a call over what is registered of its fiber, what the call changes of that, and the calls of a pass.
+-- The condition of a call in terms of what is registered of its fiber, what the call changes of that, and the calls of
+-- a pass.
 use Rattle.std.specs.Prelude.{◌≡◌, ℕ, ◌+◌, ◌-◌, ◌<◌, Bool, true}
 use Rattle.effect_term.specs.declared.reply.Reply.{Reply}
 use Rattle.effect_term.specs.declared.reply.Reply.TheVariants as reply
@@ -17,7 +18,7 @@ use Rattle.cell_registry.specs.Bands.{claim_of, limit_of}
 use Rattle.scheduled_core.specs.Fitting.{Registered, pass_registered}
 use Rattle.cell_registry.specs.Passes.{PassView, Calls, OnlySees, SeesAllGiven}
 
--- the values of a call are in range, as each value of the code is
+-- the values of a call are in range, as all values of a code are
 abbrev pub IsInRange : Call → Type 0
 IsInRange (call.Finish o) = OutcomeFits o
 IsInRange (call.Set r v) = IsValue v
@@ -25,7 +26,7 @@ IsInRange (call.Modify r v) = IsValue v
 IsInRange (call.Complete d v) = IsValue v
 IsInRange _ = Unit {0}
 
--- the condition of a call by a fiber of which this is registered
+-- the condition of a call by a fiber with this registration
 abbrev pub Permits : Limits → Registered → Call → Type 0
 Permits k p call.Start = IsOpen p.stage
 Permits k p (call.Cancel f) = f < k.fibers
@@ -51,7 +52,7 @@ abbrev pub seen_in : Bool → Reply → Bool
 seen_in saw (reply.Seen b) = b
 seen_in saw _ = saw
 
--- what a call changes of what is registered of its caller
+-- what a call changes in the registration of its caller
 abbrev pub stage_after : Call → Stage → Stage
 stage_after call.Cut g = at.Finalizing
 stage_after (call.Finish o) g = at.Ended o
@@ -84,7 +85,7 @@ registered_after c r b k = record {
   given = b;
 }
 
--- the pass p made the call, was answered r, and is q since
+-- the pass p made the call with the reply r and became q
 pub record Makes (p : PassView) (c : Call) (r : Reply) (q : PassView) : Type 0 where
   pub same : q ≡ record p {
     stage = stage_after c p.stage;
@@ -95,7 +96,7 @@ pub record Makes (p : PassView) (c : Call) (r : Reply) (q : PassView) : Type 0 w
   }
   pub call : Calls p c r q
 
--- an owner's change
+-- the call changes its owner's part of its cell
 abbrev pub IsChange : Call → Type 0
 IsChange call.Mask = Unit {0}
 IsChange call.Unmask = Unit {0}
@@ -103,8 +104,8 @@ IsChange call.Cut = Unit {0}
 IsChange (call.Finish o) = Unit {0}
 IsChange _ = ⊥
 
--- The call c of the pass p was refused, and the pass is q since: all numbers of the band that it wanted one of were
--- given, and it may have seen more; or its count is used up, and it is as before
+-- the call c of the pass p was refused, and p became q: either all numbers of the band that it needed were given, and q
+-- has possibly seen more; or the limit of its changes is reached, and q is as p was
 abbrev pub RefusedBy : PassView → Call → CellError → PassView → Type 0
 RefusedBy p c (error.Full b n) q =
     (c ≡ claim_of b) × (n ≡ limit_of b p.registry.limits) × OnlySees p q × SeesAllGiven b p q

@@ -1,4 +1,4 @@
--- Where a fiber of a code can stand under a history, and which reports are of some schedule.
+-- In which states a fiber of a code can be after a history, and which reports are those of some schedule.
 use Rattle.std.specs.Prelude.{◌≡◌, ◌≢◌, ℕ, suc, List, [], ◌∷◌, ◌++◌, Ok}
 use Rattle.effect_term.specs.declared.reply.Reply.TheVariants.{Done, Number}
 use Rattle.derived_ops.specs.Tree.{Tree}
@@ -15,11 +15,11 @@ use Rattle.scheduled_core.specs.Core.{core, reported, wish_of}
 abbrev pub wish : Fiber → Wish
 wish g = wish_of (ask_of g)
 
--- Each fiber may make a number of moves: fiber 0 `most`, and another one as many as its parent has left just after the
--- move that started it. The fiber f of the code can stand in this state, with `left` moves to go, where the history is
--- h. Fiber 0 stands at the root of the code before any call. A move without a shared call leads on under the same
--- history. A call of the fiber is the next entry, and its move is made under the reply; an entry of another fiber
--- changes nothing. And a fiber that an entry started stands at the beginning of the child that the move gives
+-- Each fiber can make a number of moves: fiber 0 `most`, and any other as many as its parent has left just after the
+-- move that started it. The fiber f of the code can be in this state, with `left` moves to go, after the history h.
+-- Fiber 0 is at the root of the code before any call. A move without a shared call leads on after the same history. A
+-- call of the fiber is the next entry, and its move is made under the reply; an entry of another fiber changes nothing.
+-- A fiber that an entry started is at the beginning of the child of that move
 pub data Stands (code : Tree) (most : ℕ) : List Entry → ℕ → Fiber → ℕ → Type 0 where
   Opens : (h : List Entry) (f : ℕ) (g : Fiber) (left : ℕ) → h ≡ [] → f ≡ 0 → g ≡ begins 0 code → left ≡ most →
       Stands code most h f g left

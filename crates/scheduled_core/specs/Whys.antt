@@ -11,8 +11,9 @@ use Rattle.scheduled_core.specs.declared.why.Why.TheVariants.{Ended, WaitsForEnd
 use Rattle.scheduled_core.specs.declared.why.Why.TheVariants.{CouldGoOn}
 use Rattle.scheduled_core.specs.Finals.{HasEnded, IsAtRest, word_wish}
 
--- It is so of fiber n, which is in state g beside these cells. Who is said to wait rests at that wait: nothing there
--- serves it, and no request for its cancellation reaches it. Who waits without end would wait under any reply.
+-- This is the reason why fiber n, which is in state g, hasn't ended with these cells. A fiber that waits rests at that
+-- wait: nothing in the registry ends it, and no request for its cancellation reaches the fiber. A fiber that waits
+-- without end would wait under any reply.
 abbrev pub IsWhy : Cells → ℕ → Fiber → Why → Type 0
 IsWhy s n g Ended = HasEnded g
 IsWhy s n g (WaitsForEnd f) = IsAtRest s n g × (word_wish g ≡ Shared (call.Join f))

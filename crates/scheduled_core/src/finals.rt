@@ -1,4 +1,4 @@
-//! How the fibers of a run go on until none can.
+//! Runs fibers on until none can move.
 ghost use Rattle.std.specs.Prelude.{IfErr, IfNone, IfOk, IfSome, OnOk, ◌≡◌, ◌⊎◌, ◌<◌, ◌≤◌, ◌++◌, ◌∷◌, ℕ, length};
 ghost use Rattle.std.specs.Prelude.{Err as Fails, None as Nobody, Ok as GoesWell, Some as Somebody};
 ghost use Rattle.std.specs.Prelude.{[], true, false, get_or};
@@ -16,23 +16,22 @@ use effect_term::facts_of;
 use fiber_frames::Config;
 use std::alloc::AllocError;
 
-/// What fibers came to that went on until none could.
+/// The result of running fibers on until none can move.
 #[derive(Clone, Copy, Debug)]
 pub struct Settled {
-    /// How many moves they made. Where it is 0, nothing has changed.
+    /// The number of moves that they made. If it is 0, nothing has changed.
     pub finished: u64,
-    /// A fiber that hasn't ended and may make no more moves. Where there is none, the world is final.
+    /// A fiber that hasn't ended and has used up its moves; if there is none, the world is final.
     pub stopped: Option<u16>,
 }
 
-/// Goes on with the fibers of a run beside their registry, until each of them has ended, rests at a wait
-/// that nothing serves, or has made all moves that it may still make.
+/// Runs the fibers on with their registry, until each of them has ended, rests at a wait that nothing ends, or has used
+/// up its moves.
 ///
-/// `rests` has how many these are, for each fiber; one that is born begins with those that its parent
-/// has then. Of the fibers that could go on, the one with the most goes first, so that none has any left where one is
-/// reported to have stopped. A call that the registry
-/// refuses is answered with [`RunError::Full`] or [`RunError::Spent`], and where memory is refused, the
-/// answer is [`RunError::NoMemory`]. After an error nothing is known of the fibers and the registry.
+/// `rests` has the number of moves left to each fiber; a fiber that is started begins with as many as its parent has
+/// then. Of the fibers that can move, the one with the most moves left goes first, so no fiber has any left when one is
+/// reported in `stopped`. Returns [`RunError::Full`] or [`RunError::Spent`] if the registry refuses a call, and
+/// [`RunError::NoMemory`] if memory is refused. After an error nothing is known of the fibers and the registry.
 pub fn settle(
     fibers: &mut Vec<Config>,
     registry: &mut PlainRegistry,
@@ -56,9 +55,9 @@ pub fn settle(
     settle_noted(fibers, registry, rests, &mut NoEntries)
 }
 
-/// Is told of the entries that [`settle_noted`] makes.
+/// Receives the entries that [`settle_noted`] makes.
 pub trait EntryLog {
-    /// The entry of the fiber of this number is about to be made, and may be refused.
+    /// The fiber of this number makes the next entry, which can still be refused.
     fn enters(&mut self, number: u16);
 }
 
@@ -70,8 +69,8 @@ impl EntryLog for NoEntries {
     fn enters(&mut self, _number: u16) {}
 }
 
-/// Goes on with the fibers of a run as [`settle`] does, and tells this log of the entries, in their order.
-/// What the log does changes nothing of them.
+/// Runs the fibers on as [`settle`] does, and reports each entry to this log, in order. The log has no influence on the
+/// result.
 pub fn settle_noted<L: EntryLog>(
     fibers: &mut Vec<Config>,
     registry: &mut PlainRegistry,
@@ -113,8 +112,8 @@ pub fn settle_noted<L: EntryLog>(
     }
 }
 
-// The first one of the fibers that could go on and have the most moves left of these. `None` where the
-// world is final. It makes no call.
+// The first of the fibers that can move and have the most moves left; `None` if the world is final. Makes no call of
+// the registry.
 fn next(fibers: &[Config], registry: &PlainRegistry, rests: &[u32]) -> Option<u16>
     requires { AllFit (world_of fibers.now registry.now.state) }
     ensures none { IfNone result (IsFinal (world_of fibers.now registry.now.state)) }
@@ -131,7 +130,7 @@ fn next(fibers: &[Config], registry: &PlainRegistry, rests: &[u32]) -> Option<u1
     best
 }
 
-// The one that has more moves left, or else the first one.
+// The fiber with more moves left, or the first if they have the same number.
 fn better(best: Option<u16>, number: u16, rests: &[u32]) -> u16
     ensures one { (result ≡ number) ⊎ (best ≡ Somebody result) }
     ensures number { get_or rests.now number 0 ≤ get_or rests.now result 0 }
@@ -149,7 +148,7 @@ fn better(best: Option<u16>, number: u16, rests: &[u32]) -> u16
     }
 }
 
-// How many moves are left to a fiber.
+// The number of moves left to a fiber.
 fn rest_of(rests: &[u32], number: u16) -> u32
     ensures { result ≡ get_or rests.now number 0 }
 {
@@ -191,7 +190,7 @@ fn go_on(
     Ok(())
 }
 
-// So many moves are left to one fiber more.
+// Adds a fiber with this number of moves left.
 fn add(rests: &mut Vec<u32>, rest: u32) -> Result<(), AllocError>
     ensures { OnOk result (rests.new.items ≡ rests.old.items ++ rest ∷ []) }
 {
@@ -199,8 +198,8 @@ fn add(rests: &mut Vec<u32>, rest: u32) -> Result<(), AllocError>
     Ok(())
 }
 
-/// Whether the fiber has ended, or rests at a wait that nothing in this registry serves, and no request for its
-/// cancellation reaches it there: an entry of it changes nothing. It makes no call.
+/// Whether the fiber has ended, or rests at a wait that nothing in this registry ends, where no request for its
+/// cancellation reaches it. An entry of such a fiber changes nothing. Makes no call of the registry.
 pub fn is_done(config: &Config, registry: &PlainRegistry) -> bool
     requires { Fits (cell_registered registry.now.state config.now.number) config.now }
     ensures done { result ≡ true → HasEnded config.now ⊎ IsAtRest registry.now.state config.now.number config.now }

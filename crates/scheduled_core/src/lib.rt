@@ -1,12 +1,13 @@
-//! The core under a schedule: a program's fibers beside one registry, one move for each entry, and the report of what
-//! they came to.
+//! The core under a schedule: a program's fibers with one registry, one move for each entry, and the report of the
+//! result.
 //!
-//! It stands on the programs (`effect_term`), their code (`derived_ops`), the moves of a fiber (`fiber_frames`) and the
-//! registry for one thread (`cell_registry`), and names no text and no device. It promises that a run under a schedule
-//! is the core's, that a run which goes on until no fiber can is one of some schedule, and why a fiber hasn't ended.
-//! Explorations, samples, events and workers stand on it; the texts of reports stand in `outcome_trace`.
+//! The crate uses the programs (`effect_term`), their code (`derived_ops`), the moves of a fiber (`fiber_frames`) and
+//! the registry for one thread (`cell_registry`), and neither texts nor devices. The crate promises that a run under a
+//! schedule is the core's, that a run which goes on until no fiber can move is that of some schedule, and why a fiber
+//! hasn't ended. Explorations, samples, events and workers are built on this crate; the texts of reports are in
+//! `outcome_trace`.
 //!
-//! A program is replayed so, within limits for 3 fibers, a ref, a deferred and 1000 changes of each fiber:
+//! This replays a program within limits for 3 fibers, a ref, a deferred and 1000 changes of each fiber:
 //!
 //! ```
 //! let limits = Limits { fibers: 3, refs: 1, deferreds: 1, count: 1000 };

@@ -1,4 +1,4 @@
-//! What a run has come to: of each fiber its outcome and its marks.
+//! The report of a run: the outcome and the marks of each fiber.
 
 ghost use Rattle.std.specs.Prelude.{◌≡◌};
 
@@ -36,7 +36,7 @@ impl Marks {
         self.marks.as_slice()
     }
 
-    /// The marks, given back.
+    /// The marks as a vector.
     pub fn into_vec(self) -> Vec<Mark>
         ensures { result.items ≡ self }
     {
@@ -45,16 +45,16 @@ impl Marks {
     }
 }
 
-/// What one fiber has come to.
+/// The report of one fiber.
 #[derive(Drop)]
 pub struct FiberReport {
-    /// How it ended, if it did.
+    /// Its outcome, if it has ended.
     pub outcome: Option<Outcome>,
-    /// What it noted.
+    /// Its marks.
     pub marks: Marks,
 }
 
-/// What each of some fibers has come to, in the order of their numbers.
+/// The reports of some fibers, in the order of their numbers.
 #[derive(Drop)]
 pub struct FiberReports {
     reports: Vec<FiberReport>,
@@ -84,7 +84,7 @@ impl FiberReports {
         self.reports.as_slice()
     }
 
-    /// The reports, given back.
+    /// The reports as a vector.
     pub fn into_vec(self) -> Vec<FiberReport>
         ensures { result.items ≡ self }
     {
@@ -93,9 +93,9 @@ impl FiberReports {
     }
 }
 
-/// What a run has come to.
+/// The report of a run.
 #[derive(Drop)]
 pub struct Report {
-    /// One report for each fiber that was born.
+    /// One report for each fiber that was started.
     pub fibers: FiberReports,
 }

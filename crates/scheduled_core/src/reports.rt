@@ -10,8 +10,8 @@ use effect_term::Outcome;
 use fiber_frames::{Ask, Config};
 use std::alloc::{AllocError, Global};
 
-/// The report of fibers, in the order of their numbers, or `AllocError` where memory is refused. The
-/// fibers are given up for their marks, which are lawful.
+/// The report of fibers, in the order of their numbers, or `AllocError` if memory is refused. The fibers are consumed
+/// for their marks, which are lawful.
 pub fn report_of_fibers(alloc: Global, fibers: Vec<Config>) -> Result<Report, AllocError>
     ensures reports { IfOk result (λ it. it ≡ record { fibers = map report_of fibers.items }) }
     ensures lawful { IfOk result (λ it. All (λ f. AreLawful f.marks f.outcome) it.fibers) }
@@ -25,8 +25,8 @@ pub fn report_of_fibers(alloc: Global, fibers: Vec<Config>) -> Result<Report, Al
     })
 }
 
-/// Whether the report of some fibers is that of the others: as many, and each has ended as the other of
-/// its number, or neither has, with the same marks.
+/// Whether the two lists of fibers have the same report: equally many, and in each place the same outcome, or none, and
+/// the same marks.
 pub fn same_report(one: &[Config], other: &[Config]) -> bool
     ensures same { result ≡ true → map report_of one.now ≡ map report_of other.now }
     ensures other { result ≡ false → map report_of one.now ≢ map report_of other.now }
@@ -42,7 +42,7 @@ pub fn same_report(one: &[Config], other: &[Config]) -> bool
     true
 }
 
-// Whether two fibers have come to the same.
+// Whether two fibers have the same report.
 fn ended_alike(one: &Config, other: &Config) -> bool
     ensures same { result ≡ true → report_of one.now ≡ report_of other.now }
     ensures other { result ≡ false → report_of one.now ≢ report_of other.now }
@@ -50,7 +50,7 @@ fn ended_alike(one: &Config, other: &Config) -> bool
     outcome(one) == outcome(other) && one.trace() == other.trace()
 }
 
-// What a fiber has come to.
+// The report of a fiber.
 #[inline(always)]
 fn fiber_report(fiber: Config) -> FiberReport
     ensures told { result ≡ report_of fiber }
@@ -63,7 +63,7 @@ fn fiber_report(fiber: Config) -> FiberReport
     }
 }
 
-/// How a fiber has ended, or none where it hasn't.
+/// The outcome of a fiber, if it has ended.
 #[inline(always)]
 #[tactic(auto, using(crate::proofs::Reported::outcome_asked))]
 pub fn outcome(fiber: &Config) -> Option<Outcome>

@@ -1,11 +1,11 @@
-//! Whether two runs have come to the same.
+//! Whether two runs have the same end.
 ghost use Rattle.std.specs.Prelude.{◌≡◌, ◌≢◌, false, true};
 
 use crate::report::{FiberReport, Marks, Report};
 use cell_registry::RunError;
 
-/// Whether two runs have ended alike: with the same report, each fiber's outcome and all of its marks, or
-/// with the same fault.
+/// Whether two runs have the same end: the same report, with each fiber's outcome and all of its marks, or the same
+/// fault.
 pub fn same_end(one: &Result<Report, RunError>, other: &Result<Report, RunError>) -> bool
     ensures same { result ≡ true → one.now ≡ other.now }
     ensures other { result ≡ false → one.now ≢ other.now }
@@ -22,7 +22,7 @@ pub fn same_end(one: &Result<Report, RunError>, other: &Result<Report, RunError>
     }
 }
 
-// Whether as many fibers have come to the same.
+// Whether two lists of fibers have the same reports.
 fn same_fibers(one: &[FiberReport], other: &[FiberReport]) -> bool
     ensures same { result ≡ true → one.now ≡ other.now }
     ensures other { result ≡ false → one.now ≢ other.now }
@@ -38,7 +38,7 @@ fn same_fibers(one: &[FiberReport], other: &[FiberReport]) -> bool
     true
 }
 
-// Whether two fibers have ended alike, or neither has, with the same marks.
+// Whether two fibers have the same outcome, or none, and the same marks.
 #[tactic(auto, using(crate::proofs::SameReports::fibers_same))]
 fn same_fiber(one: &FiberReport, other: &FiberReport) -> bool
     ensures same { result ≡ true → one.now ≡ other.now }
@@ -47,7 +47,7 @@ fn same_fiber(one: &FiberReport, other: &FiberReport) -> bool
     one.outcome == other.outcome && same_marks(&one.marks, &other.marks)
 }
 
-// Whether two fibers have noted the same.
+// Whether two fibers have the same marks.
 fn same_marks(one: &Marks, other: &Marks) -> bool
     ensures same { result ≡ true → one.now ≡ other.now }
     ensures other { result ≡ false → one.now ≢ other.now }

@@ -28,13 +28,12 @@ use effect_term::{Outcome, Program, Reply, facts_of};
 use fiber_frames::{Config, Moved};
 use std::alloc::{AllocError, Global};
 
-/// The report of a program under a schedule, in which each entry makes one move of the fiber of
-/// that number. An entry of a fiber that isn't born or has ended changes nothing.
+/// The report of a program under a schedule, in which each entry makes one move of the fiber of that number. An entry
+/// of a fiber that wasn't started or has ended changes nothing.
 ///
-/// The report is that of the core, and the marks of each fiber in it are lawful. The limits are in
-/// their ranges ([`Limits`]). The first call that the registry refuses ends the run, with
-/// [`RunError::Full`] or [`RunError::Spent`]; where memory runs out, the answer is
-/// [`RunError::NoMemory`]. An entry costs the same however many fibers there are.
+/// The report is that of the core, and the marks of each fiber in it are lawful. The limits are in their ranges
+/// ([`Limits`]). The first call that the registry refuses ends the run, with [`RunError::Full`] or [`RunError::Spent`].
+/// Returns [`RunError::NoMemory`] if memory runs out. The cost of an entry doesn't depend on the number of fibers.
 pub fn replay(
     alloc: Global,
     program: &Program,
@@ -59,9 +58,8 @@ pub fn replay(
     Ok(report)
 }
 
-/// Fiber 0 of a program before its first move, or `AllocError` where memory is refused.
-///
-/// It stands at the root of the program's code, and names no fiber, ref or deferred that was given.
+/// Fiber 0 of a program before its first move, or `AllocError` if memory is refused. The fiber is at the root of the
+/// program's code, and names no number of a fiber, ref or deferred.
 pub fn first_fiber(alloc: Global, program: &Program) -> Result<Config, AllocError>
     ensures first { IfOk result (λ fiber. fiber ≡ begins 0 (code_of (source_of program.now))) }
     ensures named { IfOk result (λ fiber. (given : Given) → NamedBeginning given fiber) }
@@ -70,11 +68,11 @@ pub fn first_fiber(alloc: Global, program: &Program) -> Result<Config, AllocErro
     Config::new(alloc, &code)
 }
 
-/// The fibers of a program before the first move, which is fiber 0 alone ([`first_fiber`]), or
-/// `AllocError` where memory is refused.
+/// The fibers of a program before the first move, which is fiber 0 alone ([`first_fiber`]), or `AllocError` if memory
+/// is refused.
 ///
-/// Beside a new registry, whatever its limits, they are the first world of the core, in which the fiber
-/// fits its cell: so [`enter`] may be called on them.
+/// With a new registry of any limits, they are the first world of the core, in which the fiber agrees with its cell. So
+/// [`enter`] can be called on them.
 pub fn first_fibers(alloc: Global, program: &Program) -> Result<Vec<Config>, AllocError>
     ensures first { IfOk result (λ fibers. fibers.items ≡ begins 0 (code_of (source_of program.now)) ∷ []) }
     ensures fits { IfOk result (λ fibers. (limits : Limits) → AreLimits limits →
@@ -86,12 +84,12 @@ pub fn first_fibers(alloc: Global, program: &Program) -> Result<Vec<Config>, All
     Ok(fibers)
 }
 
-/// All entries of a schedule, one after another, each as [`enter`] makes it.
+/// Makes all entries of a schedule, one after another, each as [`enter`] does.
 ///
-/// The fibers and the registry are a world of the core in which each fiber fits its cell, and what the entries lead to
-/// is such a world again. The first call that the registry refuses ends it with [`RunError::Full`] or
-/// [`RunError::Spent`], the fault of the core; where memory runs out, the answer is [`RunError::NoMemory`]. After an
-/// error nothing is known of the fibers and the registry.
+/// The fibers and the registry are a world of the core in which each fiber agrees with its cell, and so is the world
+/// that the entries lead to. The first call that the registry refuses ends the entries with [`RunError::Full`] or
+/// [`RunError::Spent`], the fault of the core. Returns [`RunError::NoMemory`] if memory runs out. After an error
+/// nothing is known of the fibers and the registry.
 #[inline(never)]
 pub fn enter_all(
     fibers: &mut Vec<Config>,
@@ -114,15 +112,14 @@ pub fn enter_all(
     Ok(())
 }
 
-/// An entry of a schedule: the next move of the fiber of this number, if it is born and has a move.
+/// Makes an entry of a schedule: the next move of the fiber of this number, if it was started and has a move.
 ///
-/// The fibers and the registry are a world of the core in which each fiber fits its cell, as
-/// [`first_fibers`] and a new registry are, and what the entry leads to is such a world again. A call
-/// that the registry refuses is answered with [`RunError::Full`] or [`RunError::Spent`], the fault of
-/// the core; where memory runs out, the answer is [`RunError::NoMemory`]. After an error nothing is
-/// known of the fibers and the registry.
-// It goes through the loop over entries, so that what makes a move stands once in a program: where it stands more
-// often, the compiler makes a call of it.
+/// The fibers and the registry are a world of the core in which each fiber agrees with its cell, as [`first_fibers`]
+/// and a new registry are, and so is the world that the entry leads to. Returns [`RunError::Full`] or
+/// [`RunError::Spent`], the fault of the core, if the registry refuses the call, and [`RunError::NoMemory`] if memory
+/// runs out. After an error nothing is known of the fibers and the registry.
+// This call goes through the loop over entries, so that a program has one copy of the code of a move. With more copies
+// the compiler makes a call of it.
 pub fn enter(
     fibers: &mut Vec<Config>,
     registry: &mut PlainRegistry,
@@ -139,8 +136,8 @@ pub fn enter(
     enter_all(fibers, registry, &[number])
 }
 
-// An entry. What most entries call is inlined into the loop over them: a result that holds fields goes through
-// memory where its function isn't. What few call stands apart, so that the loop keeps its registers.
+// An entry. What most entries call is inlined into the loop over them, since a result with fields goes through memory
+// if its function isn't inlined. What few entries call isn't inlined, so that the loop keeps its registers.
 #[inline(always)]
 fn entry(
     fibers: &mut Vec<Config>,
@@ -175,7 +172,7 @@ fn add(fibers: &mut Vec<Config>, child: Config) -> Result<(), AllocError>
     Ok(())
 }
 
-// The next move of a fiber, if it has one; the child that it starts, if it does.
+// The next move of a fiber, if it has one. Returns the child, if the move starts one.
 #[inline(always)]
 fn make_move(config: &mut Config, registry: &mut PlainRegistry) -> Result<Option<Config>, RunError>
     requires { Fits (cell_registered registry.old.state config.old.number) config.old }
@@ -200,8 +197,8 @@ fn make_move(config: &mut Config, registry: &mut PlainRegistry) -> Result<Option
     }
 }
 
-// The move under a reply; the child that it starts, if it does. Silent moves have a call of their own, in
-// which the reply is known.
+// The move under a reply. Returns the child, if the move starts one. Silent moves have a call of their own, in which
+// the reply is known.
 #[inline(always)]
 fn resumed(config: &mut Config, reply: Reply) -> Result<Option<Config>, RunError>
     requires fits { Answers config.old.number (ask_of config.old) reply }
@@ -216,8 +213,8 @@ fn resumed(config: &mut Config, reply: Reply) -> Result<Option<Config>, RunError
     }
 }
 
-/// The answer of the registry for one thread to a call of a fiber, or its refusal: what each call of
-/// [`PlainRegistry`] gives, as one reply. The caller sees to what the registry asks for of that call.
+/// Makes a call of a fiber at the registry for one thread, and returns the reply, or the refusal. The caller ensures
+/// the condition of the call, as the methods of [`PlainRegistry`] state it.
 #[inline(always)]
 pub fn answer(registry: &mut PlainRegistry, by: u16, call: Call) -> Result<Reply, CellError>
     requires { IsInRange call → MayCall registry.old by call }
@@ -258,7 +255,7 @@ pub fn answer(registry: &mut PlainRegistry, by: u16, call: Call) -> Result<Reply
     }
 }
 
-// The registry's answer to the end of a fiber.
+// Ends a fiber at the registry.
 #[cold]
 #[inline(never)]
 fn finish(registry: &mut PlainRegistry, by: u16, outcome: Outcome) -> Result<(), CellError>
@@ -273,8 +270,8 @@ fn finish(registry: &mut PlainRegistry, by: u16, outcome: Outcome) -> Result<(),
     }
 }
 
-/// The fault of a run in which a call of this fiber was refused: [`RunError::Full`] as it is, and
-/// [`RunError::Spent`] with the fiber's number.
+/// The fault of a run in which a call of this fiber was refused: [`RunError::Full`] as it is, and [`RunError::Spent`]
+/// with the fiber's number.
 #[inline(always)]
 pub fn fault(fiber: u16, error: CellError) -> RunError
     ensures { result ≡ fault_of fiber error }

@@ -14,20 +14,20 @@ use fiber_frames::{Ask, Config};
 /// Why a fiber hasn't ended, or that it has.
 #[derive(Clone, Copy)]
 pub enum Why {
-    /// It has ended.
+    /// The fiber has ended.
     Ended,
-    /// It waits for the end of the fiber of this number, which hasn't ended.
+    /// The fiber waits for the end of the fiber of this number, which hasn't ended.
     WaitsForEnd(u16),
-    /// It waits for the deferred of this number, which is empty.
+    /// The fiber waits for the deferred of this number, which is empty.
     WaitsForDeferred(u16),
-    /// It waits without end.
+    /// The fiber waits without end.
     WaitsWithoutEnd,
-    /// It may be able to go on.
+    /// The fiber can go on, as far as is known.
     CouldGoOn,
 }
 
-/// Why a fiber that stands beside this registry hasn't ended. Where it is said to wait, no request for its
-/// cancellation reaches it.
+/// Why a fiber hasn't ended, with this registry. If the result is a wait, no request for the fiber's cancellation
+/// reaches it there.
 pub fn why_of(config: &Config, registry: &PlainRegistry) -> Why
     requires { Fits (cell_registered registry.now.state config.now.number) config.now }
     ensures { IsWhy registry.now.state config.now.number config.now result }
@@ -80,8 +80,8 @@ pub fn why_of(config: &Config, registry: &PlainRegistry) -> Why
     }
 }
 
-// Whether no request for its cancellation reaches the fiber where it is: a mask is active, or none was made. It makes
-// no call.
+// Whether no request for its cancellation reaches the fiber: a mask is active, or there is no request. Makes no call of
+// the registry.
 fn is_unasked(config: &Config, registry: &PlainRegistry) -> bool
     requires { Fits (cell_registered registry.now.state config.now.number) config.now }
     ensures { result ≡ true → (active_of config.now ≢ []) ⊎

@@ -17,7 +17,7 @@ pub enum Wish {
 }
 
 impl Wish {
-    /// What a move that asks so wants.
+    /// The wish of a fiber's ask.
     #[inline(always)]
     pub fn of(ask: Ask) -> Wish
         ensures { result ≡ wish_of ask }

@@ -1,13 +1,13 @@
-//! Who is told of each turn.
+//! The gate: a hook that is called before each turn.
 
-/// Is told of each turn of a worker before it is made. It may hold the worker for a while. The moves that
-/// are made once all workers have ended are no turns, and nobody is told of them.
+/// Is called before each turn of a worker, and can hold the worker for a while. Moves after the end of all workers
+/// aren't turns, and the gate isn't called for them.
 pub trait Gate: Sync {
-    /// This worker is about to make a turn of this fiber. Workers are numbered from 0.
+    /// This worker begins a turn of this fiber. Workers are numbered from 0.
     fn enter(&self, worker: u8, fiber: u16);
 }
 
-/// A gate that lets all pass.
+/// A gate that holds no worker.
 #[derive(Clone, Copy)]
 pub struct OpenGate;
 

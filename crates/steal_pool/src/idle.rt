@@ -1,27 +1,25 @@
 //! Workers that have nothing to do.
 //!
-//! A worker whose queue is empty searches the others' queues for a while and then sleeps. A push
-//! wakes one sleeper, and none while somebody searches: a search that found something wakes the next
-//! sleeper where it was the last one. So a burst of pushes costs few wakes, and yet nobody sleeps
-//! beside a queue for long.
+//! A worker whose queue is empty searches the others' queues for a while and then sleeps. A push wakes one sleeper,
+//! unless a worker is searching. When the last searching worker finds a number, it wakes the next sleeper. So a burst
+//! of pushes costs few wakes, and yet no worker sleeps for long while a queue has numbers.
 //!
-//! No wake is lost. Every step is sequentially consistent. A worker parks, gives up its search,
-//! and only then looks at all queues once more. So a push that comes before that look is seen by it,
-//! and one that comes after it finds the worker parked. And what a worker pushed on its own queue it
-//! serves itself at the latest.
+//! No wake is lost. Every step is sequentially consistent. A worker parks, ends its search, and only then looks at all
+//! queues once more. So this look sees a push that came before it, and a push that comes after it finds the worker
+//! parked. What a worker pushed on its own queue it serves itself at the latest.
 use crossbeam_utils::sync::Unparker;
 use std::sync::atomic::{AtomicBool, AtomicU64, Ordering};
 
-/// Whether one worker sleeps, and how it is woken.
+/// Whether one worker sleeps, and how to wake it.
 #[derive(Drop)]
 pub(crate) struct Sleeper {
-    // Whether the worker is parked, and nobody has called it up yet.
+    // Whether the worker is parked, and no wake for it has come yet.
     parked: AtomicBool,
     unparker: Unparker,
 }
 
 impl Sleeper {
-    /// The worker that this wakes. It is awake.
+    /// The sleeper of a worker that is awake.
     pub(crate) fn new(unparker: Unparker) -> Sleeper {
         Sleeper {
             parked: AtomicBool::new(false),
@@ -30,7 +28,7 @@ impl Sleeper {
     }
 }
 
-/// Who searches and who sleeps.
+/// The number of searching workers, and the sleepers.
 #[derive(Drop)]
 pub(crate) struct Idle {
     searching: AtomicU64,
@@ -39,7 +37,7 @@ pub(crate) struct Idle {
 }
 
 impl Idle {
-    /// Nobody searches or sleeps. The sleepers are in the order of the workers.
+    /// No worker searches or sleeps. The sleepers are in the order of the workers.
     pub(crate) fn new(sleepers: Vec<Sleeper>) -> Idle {
         Idle {
             searching: AtomicU64::new(0),
@@ -48,7 +46,7 @@ impl Idle {
         }
     }
 
-    /// A number was queued. Wakes a worker, where one sleeps and none searches.
+    /// Called after a number was queued. Wakes a worker, if one sleeps and none searches.
     pub(crate) fn wake_one(&self) {
         if self.sleeping.load(Ordering::SeqCst) == 0 || self.searching.load(Ordering::SeqCst) != 0 {
             return;
@@ -61,26 +59,26 @@ impl Idle {
         }
     }
 
-    /// The run is over. Wakes all workers.
+    /// Called at the end of the run. Wakes all workers.
     pub(crate) fn wake_all(&self) {
         for sleeper in self.sleepers.iter() {
             sleeper.unparker.unpark();
         }
     }
 
-    /// A worker searches from now on.
+    /// A worker begins to search.
     pub(crate) fn begin_search(&self) {
         self.searching.fetch_add(1, Ordering::SeqCst);
     }
 
-    /// A worker found something. The last one to search leaves it to another to search on.
+    /// A worker that searched found a number. If it was the last one to search, wakes another to go on searching.
     pub(crate) fn end_search(&self) {
         if self.searching.fetch_sub(1, Ordering::SeqCst) == 1 {
             self.wake_one();
         }
     }
 
-    /// A worker that searched is parked from now on. It is to look at all queues once more before it sleeps.
+    /// A worker that searched is parked from now on. The worker has to look at all queues once more before it sleeps.
     pub(crate) fn park(&self, worker: u8) {
         self.sleeping.fetch_add(1, Ordering::SeqCst);
         if let Some(sleeper) = self.sleepers.get(worker as usize) {
@@ -89,7 +87,7 @@ impl Idle {
         self.searching.fetch_sub(1, Ordering::SeqCst);
     }
 
-    /// A worker that was parked searches again, whether somebody called it up or it woke by itself.
+    /// A worker that was parked searches again, whether it was woken or got up without a wake.
     pub(crate) fn get_up(&self, worker: u8) {
         if let Some(sleeper) = self.sleepers.get(worker as usize) {
             self.call_up(sleeper);

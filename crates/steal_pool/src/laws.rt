@@ -1,4 +1,4 @@
-//! What the queues, the end of a run and its first fault rest on.
+//! The laws of the queues, the end of a run and its first fault.
 ghost use Rattle.std.specs.Prelude.{◌≡◌, ◌↔◌, IsTrue};
 
 pub use ready_queues::{
@@ -6,7 +6,7 @@ pub use ready_queues::{
     learn, within,
 };
 
-/// Whether the number that is given up was the last one, where `before` numbers were queued or held.
+/// Whether the released number was the last one; `before` numbers were queued or held before.
 pub fn was_last(before: u64) -> bool
     ensures { IsTrue result ↔ (before ≡ 1) }
 {

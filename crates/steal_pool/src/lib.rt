@@ -1,17 +1,16 @@
-//! Workers that run the fibers of a program on work-stealing queues, and what those have come to.
+//! Workers that run the fibers of a program on work-stealing queues, and the report of the run.
 //!
-//! The crate stands on tasks (`fiber_poll`), on the bay where they lie (`wait_bay`), on the queues of ready
-//! numbers and the first fault (`ready_queues`), on how a run ends (`run_ends`), on the notes of a recorded
-//! run (`run_recording`), and on the kit's `crossbeam_utils` for parking. [`run`] starts the workers. Each
-//! takes numbers of fibers from its queue, takes their tasks from the bay, makes turns of them and puts them
-//! back, until no fiber can go on. What they left unfinished, which is nothing where each wake arrived, one
-//! thread finishes.
+//! The crate uses tasks (`fiber_poll`), the bay that has them (`wait_bay`), the queues of ready numbers and the first
+//! fault (`ready_queues`), the end of a run (`run_ends`), the notes of a recorded run (`run_recording`), and the kit's
+//! `crossbeam_utils` for parking. [`run`] starts the workers. Each takes numbers of fibers from its queue, takes their
+//! tasks from the bay, makes turns of them and puts them back, until no fiber can go on. One thread finishes what they
+//! left, which is nothing if each wake arrived.
 //!
-//! It promises that every report is one that the core gives under some schedule, and that a run's is
-//! complete ([`run_told`]) unless a fiber has used its moves. That wakes arrive and that workers run at
-//! once is tested only.
+//! The crate promises that every report is one that the core has under some schedule, and that a run's report is
+//! complete ([`run_told`]) unless a fiber has used up its moves. That wakes arrive and that workers run at once is only
+//! tested.
 //!
-//! A program of two fibers runs on two workers so:
+//! This runs a program of two fibers on two workers:
 //!
 //! ```
 //! let program = Program::check(alloc, parse(alloc, b"(start f (say 1) (seq (say 2) (pure 7)))")?)?;

@@ -1,25 +1,25 @@
-//! How a run goes.
+//! The options of a run.
 ghost use Rattle.std.specs.Prelude.{◌≡◌};
 
 use cell_registry::Limits;
 
-/// How a run goes. [`Options::new`] has the values by default.
+/// The options of a run. [`Options::new`] has the default values.
 #[derive(Clone, Copy, Debug)]
 pub struct Options {
-    /// How many workers there are, each on a thread of its own: from 1 to 16, by default 4.
+    /// The number of workers, each on a thread of its own: from 1 to 16, by default 4.
     pub workers: u8,
-    /// How many fibers there may be, with fiber 0: from 1 to 1000, the default.
+    /// The greatest number of fibers, with fiber 0: from 1 to 1000, the default.
     pub fibers: u16,
-    /// How many refs there may be: from 1 to 1000, the default.
+    /// The greatest number of refs: from 1 to 1000, the default.
     pub refs: u16,
-    /// How many deferreds there may be: from 1 to 1000, the default.
+    /// The greatest number of deferreds: from 1 to 1000, the default.
     pub deferreds: u16,
-    /// How often a fiber may change its own cell (mask, unmask, cut and end): from 1 to
+    /// The number of changes that a fiber can make to its own cell (mask, unmask, cut and end): from 1 to
     /// 1,099,511,627,775, the default.
     pub count: u64,
-    /// How many moves a turn has at most: from 2 to 10,000, by default 64.
+    /// The greatest number of moves of a turn: from 2 to 10,000, by default 64.
     pub budget: u32,
-    /// How many moves fiber 0 may make, and each other fiber with its parent's before it: from 1 to
+    /// The number of moves of fiber 0, and of each other fiber counted with its parent's before it: from 1 to
     /// 1,000,000, by default 100,000.
     pub moves: u32,
 }
@@ -27,7 +27,7 @@ pub struct Options {
 impl Options {
     ghost use Rattle.steal_pool.specs.Runs.{limits_of};
 
-    /// The options by default.
+    /// The default options.
     pub fn new() -> Options
         ensures { result ≡ record {
           workers = 4;

@@ -3,8 +3,7 @@ use crossbeam_deque::Steal;
 use ready_queues::{InjectorEnd, ReadyDeque, Victim};
 use std::sync::Wait;
 
-/// A worker's own queue, its ends of the others' queues, of which the next worker's stands first,
-/// and its end of the injector.
+/// A worker's own queue, its ends of the others' queues, beginning with the next worker's, and its end of the injector.
 #[derive(Drop)]
 pub(crate) struct Queues<'q> {
     pub own: ReadyDeque,
@@ -13,8 +12,8 @@ pub(crate) struct Queues<'q> {
 }
 
 impl<'q> Queues<'q> {
-    /// A number of another worker's queue, or of the injector. Answers `None` where it found each of
-    /// them empty, one after the other.
+    /// A number from another worker's queue, or from the injector. Returns `None` if it found each of them empty, one
+    /// after another.
     pub(crate) fn steal<R: Wait>(&mut self, rt: &R) -> Option<u16> {
         for victim in self.victims.iter_mut() {
             if let Some(number) = steal_from(rt, victim) {
@@ -25,7 +24,7 @@ impl<'q> Queues<'q> {
     }
 }
 
-// Steals from one queue, as often as somebody else is faster.
+// Steals from one queue; tries again while another worker is faster.
 fn steal_from<R: Wait>(rt: &R, victim: &mut Victim) -> Option<u16> {
     for _ in rt.forever() {
         match victim.steal() {
@@ -37,7 +36,7 @@ fn steal_from<R: Wait>(rt: &R, victim: &mut Victim) -> Option<u16> {
     unreachable!()
 }
 
-// Takes from the injector, as often as somebody else is faster.
+// Takes from the injector; tries again while another worker is faster.
 fn take_from<R: Wait>(rt: &R, injector: &mut InjectorEnd<'_>) -> Option<u16> {
     for _ in rt.forever() {
         match injector.take(rt) {

@@ -1,4 +1,4 @@
-//! A run whose schedule is handed out.
+//! A run that returns its schedule.
 ghost use Rattle.std.specs.Prelude.{◌≡◌, ◌<◌, ℕ, All, IfErr, IfOk, None as Nobody, Some as Somebody};
 ghost use Rattle.cell_registry.specs.Cells.{AreLimits};
 ghost use Rattle.derived_ops.specs.Expansion.{code_of};
@@ -27,12 +27,11 @@ use std::sync::Wait;
 use std::sync::atomic::AtomicU64;
 use std::thread::Threads;
 
-/// Runs a program as [`run_told`] does, and hands out a schedule under which the core comes to the same end: to this
-/// report, or to this fault, under the limits of the run.
+/// Runs a program as [`run_told`] does, and returns a schedule under which the core has the same end, this report or
+/// this fault, under the limits of the run.
 ///
-/// The workers note their calls, and a schedule is put together of the notes. It is replayed, and handed
-/// out only where the replay came to the end of the run. A run is never failed by its notes. That a
-/// schedule is found isn't promised.
+/// The workers note their calls, and a schedule is made from the notes. The schedule is replayed, and returned only if
+/// the replay has the end of the run. The notes never make a run fail. That a schedule is found isn't promised.
 pub fn run_recorded<R: Threads + Wait + Sync, G: Gate>(
     rt: &R,
     alloc: Global,
@@ -69,7 +68,7 @@ pub fn run_recorded<R: Threads + Wait + Sync, G: Gate>(
     }
 }
 
-// Runs a program with this recorder, and puts its schedule together.
+// Runs a program with this recorder, and makes its schedule.
 fn record_with<'g, 'c, R: Threads + Wait + Sync, G: Gate>(
     rt: &R,
     alloc: Global,
@@ -122,7 +121,7 @@ fn fault_of(end: &Result<RunEnd, RunError>) -> Option<RunError> {
     }
 }
 
-// The entries of a schedule of the run that these notes are of, which ended with this fault or with none.
+// The entries of a schedule from these notes of a run, which ended with this fault or with none.
 fn entries<'g, 'c, G: Gate>(
     alloc: Global,
     options: Options,

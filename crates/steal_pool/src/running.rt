@@ -1,4 +1,4 @@
-//! A run: the registry, the bay and the workers come and go, and what is left goes on by one thread.
+//! A run: makes the registry, the bay and the workers, and finishes on one thread what they left.
 ghost use Rattle.std.specs.Prelude.{◌≡◌, ◌⊎◌, ◌<◌, ℕ, All, IfErr, IfOk, None as Nobody, Some as Somebody};
 ghost use Rattle.once_cell.specs.Once.{cell_name};
 ghost use Rattle.cell_registry.specs.Cells.{AreLimits};
@@ -37,15 +37,15 @@ use std::thread;
 use std::thread::{JoinHandle, Threads};
 use wait_bay::{Bay, BaySeat};
 
-/// Runs a program on worker threads, until no fiber can go on, and tells what each fiber has come
-/// to. A fiber that rests at a wait that nothing serves, or has used its moves, is unended. The report is
-/// one that the core gives under some schedule; [`run_told`] tells whether it is complete. No fiber makes more moves
-/// than the options allow fiber 0, and another one than its parent had left.
+/// Runs a program on worker threads until no fiber can move, and returns the report of each fiber. A fiber that rests
+/// at a wait that nothing ends, or has used up its moves, is unended. The report is one that the core has under some
+/// schedule; [`run_told`] also returns whether it is complete. Fiber 0 makes at most the number of moves of the
+/// options, and each other fiber at most as many as its parent had left.
 ///
-/// The first fault of a worker ends the run. Where a call was refused, the answer is `Full` or `Spent` as the core gives
-/// it under some schedule; `NoMemory` where memory was refused, for a push on a queue too, and `Lost` where a fiber's
-/// task wasn't where it should be. `NoWorker` is answered where no thread could be started; else the run goes on with those
-/// that were. No thread is left when it answers.
+/// The first fault of a worker ends the run. Returns `Full` or `Spent` if a call was refused, as the core refuses it
+/// under some schedule, `NoMemory` if memory was refused, also for a push on a queue, and `Lost` if a fiber's task
+/// wasn't in its place. Returns `NoWorker` if no thread could be started; if only some could, the run goes on with
+/// these. All threads have ended when it returns.
 pub fn run<R: Threads + Wait + Sync, G: Gate>(
     rt: &R,
     alloc: Global,
@@ -71,14 +71,13 @@ pub fn run<R: Threads + Wait + Sync, G: Gate>(
     }
 }
 
-/// Runs a program as [`run`] does, and tells also whether the report is complete.
+/// Runs a program as [`run`] does, and also returns whether the report is complete.
 ///
-/// Unless a fiber is told to have used its moves, the report is a final one: that of a schedule of the
-/// core after which each fiber has ended, or rests at a wait that nothing serves. Whatever entries
-/// follow, no fiber's outcome or marks change and no fault comes. It doesn't matter what the workers
-/// did: once they have ended, the fibers go on by one thread until none can. Where each wake arrived,
-/// that thread finds nothing to do. A list that leaves out nothing to which any schedule leads, as a
-/// complete exploration gives it, has this report.
+/// Unless a fiber is reported to have used up its moves, the report is a final one: that of a schedule of the core
+/// after which each fiber has ended, or rests at a wait that nothing ends. No further entries change the outcome or the
+/// marks of a fiber, and none lead to a fault. What the workers did doesn't matter: once they have ended, one thread
+/// moves the fibers on until none can move. If each wake arrived, that thread finds nothing to do. Each list that
+/// contains all that schedules lead to, such as that of a complete exploration, contains this report.
 pub fn run_told<R: Threads + Wait + Sync, G: Gate>(
     rt: &R,
     alloc: Global,
@@ -116,7 +115,7 @@ pub fn run_told<R: Threads + Wait + Sync, G: Gate>(
     }
 }
 
-/// The registry of a run, and its end. This log is told of what one thread does at the end.
+/// Makes the registry of a run, and returns its end. What one thread does at the end is reported to this log.
 pub(crate) fn attempt<R: Threads + Wait + Sync, W: Watch, L: EntryLog>(
     rt: &R,
     alloc: Global,
@@ -147,7 +146,7 @@ pub(crate) fn attempt<R: Threads + Wait + Sync, W: Watch, L: EntryLog>(
     leavings.finish(alloc, registry, log)
 }
 
-// The bay of a run, and what the workers leave, with whether the registry refused a call of one of them.
+// Makes the bay of a run. Returns what the workers leave, and whether the registry refused a call of one of them.
 fn of_registry<R: Threads + Wait + Sync, W: Watch>(
     rt: &R,
     alloc: Global,
@@ -179,7 +178,7 @@ fn of_registry<R: Threads + Wait + Sync, W: Watch>(
     Ok((leavings, is_refused))
 }
 
-// Has workers run the tasks of a bay from fiber 0 on, and answers the first fault, if there was one.
+// Has workers run the tasks of a bay from fiber 0 on, and returns the first fault, if there was one.
 fn drive<'b, 'a, R: Threads + Wait + Sync, W: Watch>(
     rt: &R,
     alloc: Global,
@@ -202,8 +201,7 @@ fn drive<'b, 'a, R: Threads + Wait + Sync, W: Watch>(
     start::<Brand, R, W>(rt, alloc, workers, &cell, options.budget, watch)
 }
 
-// Has these workers run, with this cell for their first fault, and answers that fault, if
-// there was one.
+// Has these workers run, with this cell for their first fault, and returns that fault, if there was one.
 fn start<'q, 'b, 'a, C: FaultCell + Send + Sync, R: Threads + Wait + Sync, W: Watch>(
     rt: &R,
     alloc: Global,
@@ -231,8 +229,8 @@ fn start<'q, 'b, 'a, C: FaultCell + Send + Sync, R: Threads + Wait + Sync, W: Wa
     }
 }
 
-// Starts a thread for each worker, and returns the first fault, if there was one, once all have
-// ended. There is room for all threads. `None` where no thread could be started.
+// Starts a thread for each worker, and returns the first fault, if there was one, once all have ended. There is room
+// for all threads. Returns `None` if no thread could be started.
 fn start_all<'q, 'b, 'a, C: FaultCell + Send + Sync, R: Threads + Wait + Sync, W: Watch>(
     rt: &R,
     shared: &Shared<'_, '_, W, C>,
@@ -253,7 +251,7 @@ fn start_all<'q, 'b, 'a, C: FaultCell + Send + Sync, R: Threads + Wait + Sync, W
     })
 }
 
-// Waits for the workers to end, and answers the first fault that one of them met.
+// Waits for the workers to end, and returns the first fault that one of them met.
 fn join_all<C: FaultCell, R: Threads>(
     rt: &R,
     first_fault: &FirstFault<'_, C>,

@@ -1,4 +1,4 @@
-//! What a worker does with a number: it takes the task, makes turns of it, and puts it back.
+//! How a worker serves a number: it takes the task, makes turns of it, and puts it back.
 ghost use Rattle.std.specs.Prelude.{◌≡◌, ◌<◌};
 ghost use Rattle.wait_bay.specs.Names.{IsNamed};
 
@@ -12,13 +12,13 @@ use ready_queues::FaultCell;
 use std::sync::Wait;
 
 impl<'g, 'f, W: Watch, C: FaultCell> Shared<'g, 'f, W, C> {
-    /// Makes turns of a fiber's task until it is put back. Answers the number that the worker took
-    /// from its own queue meanwhile, and is to serve next.
+    /// Makes turns of a fiber's task until it is put back. Returns the number that the worker has taken from its own
+    /// queue to serve next, if it has.
     ///
-    /// A fiber that could go on at once is put back only where another number is in the worker's
-    /// queue: that one is taken, and this one is put last. Else the worker goes on with it. Where it has
-    /// started a child, the child would be the other number: so this one is put back and queued, and the
-    /// worker goes on with the child, which has never been in the bay.
+    /// A fiber that could go on at once is put back only if the worker's queue has another number: the worker takes
+    /// that one and puts this one last. Otherwise the worker goes on with it. If it has started a child, the child is
+    /// that other number: the parent is put back and queued, and the worker goes on with the child, which has never
+    /// been in the bay.
     #[inline(never)]
     pub(crate) fn serve<'b, 'a, R: Wait>(
         &self,
@@ -37,7 +37,7 @@ impl<'g, 'f, W: Watch, C: FaultCell> Shared<'g, 'f, W, C> {
         let mut waited = None;
         for _ in rt.forever() {
             if self.first_fault.is_known() {
-                // The run is over. The task goes back, so that the fault can be found again.
+                // The run is over. The task is put back, so that the fault can be found again.
                 seat.put(rt, task, false)?;
                 return Ok(None);
             }
@@ -70,7 +70,7 @@ impl<'g, 'f, W: Watch, C: FaultCell> Shared<'g, 'f, W, C> {
                         self.put_ready(rt, queues, seat, child)?;
                         return self.make_way(rt, queues, seat, task, next);
                     }
-                    // The child is held in its parent's place.
+                    // The worker holds the child in place of its parent.
                     self.put_ready(rt, queues, seat, task)?;
                     task = child;
                     continue;
@@ -87,8 +87,7 @@ impl<'g, 'f, W: Watch, C: FaultCell> Shared<'g, 'f, W, C> {
         unreachable!()
     }
 
-    // Puts back the task of a fiber that could go on, and queues it, since this number is to be served
-    // next.
+    // Puts back the task of a fiber that could go on, and queues it, since the worker serves this number next.
     #[inline(always)]
     fn make_way<'b, 'a, R: Wait>(
         &self,
@@ -107,8 +106,7 @@ impl<'g, 'f, W: Watch, C: FaultCell> Shared<'g, 'f, W, C> {
         Ok(Some(next))
     }
 
-    // Puts back the task of a fiber that can't go on. It is queued again where it was woken
-    // meanwhile.
+    // Puts back the task of a fiber that can't go on. Queues it if it was woken meanwhile.
     fn rest<'b, 'a, R: Wait>(
         &self,
         rt: &R,
@@ -128,8 +126,8 @@ impl<'g, 'f, W: Watch, C: FaultCell> Shared<'g, 'f, W, C> {
         Ok(None)
     }
 
-    // Puts back the task of a fiber that has ended, and wakes all that wait for its end. The number is
-    // held until they are queued.
+    // Puts back the task of a fiber that has ended, and wakes all that wait for its end. The number is held until they
+    // are queued.
     fn end<'b, 'a, R: Wait>(
         &self,
         rt: &R,
@@ -154,7 +152,7 @@ impl<'g, 'f, W: Watch, C: FaultCell> Shared<'g, 'f, W, C> {
         Ok(None)
     }
 
-    // Puts the task of a fiber into its slot, and queues it beside the numbers that are queued or held.
+    // Puts the task of a fiber into its slot, and queues its number, which counts as one more that is queued or held.
     fn put_ready<'b, 'a, R: Wait>(
         &self,
         rt: &R,
@@ -184,7 +182,7 @@ impl<'g, 'f, W: Watch, C: FaultCell> Shared<'g, 'f, W, C> {
         Ok(())
     }
 
-    // Wakes all that wait for a topic of this fiber's turn.
+    // Wakes all that wait for this topic, on which a turn of this fiber acted.
     fn wake_all_of<'b, 'a, R: Wait>(
         &self,
         rt: &R,

@@ -1,4 +1,4 @@
-//! Who is told of the turns of a run, and of what its workers note.
+//! The observer of a run: its gate, and the logs of its workers.
 
 use crate::gate::Gate;
 use fiber_poll::NoLog;
@@ -7,11 +7,11 @@ use run_recording::{Notes, TurnLog, WorkerLog};
 use std::alloc::{AllocError, Global};
 use std::sync::atomic::{AtomicBool, AtomicU64, Ordering};
 
-/// A gate, and who hands out and keeps the logs of workers.
+/// A gate, and the logs of workers.
 pub(crate) trait Watch: Sync {
     type Log: TurnLog + Drop + Send + Sync;
 
-    /// This worker is about to make a turn of this fiber.
+    /// This worker begins a turn of this fiber.
     fn enter(&self, worker: u8, fiber: u16);
 
     /// The log of a worker that begins.
@@ -21,7 +21,7 @@ pub(crate) trait Watch: Sync {
     fn keep(&self, worker: u8, log: Self::Log);
 }
 
-/// A gate alone. Nothing is noted.
+/// Only a gate, without logs.
 #[derive(Clone, Copy)]
 pub(crate) struct Unrecorded<'g, G: Gate> {
     pub gate: &'g G,
@@ -49,13 +49,13 @@ pub(crate) struct Recorder<'g, 'c, G: Gate> {
     gate: &'g G,
     clock: &'c AtomicU64,
     fibers: u16,
-    // By the workers' numbers.
+    // For each worker, by its number.
     notes: Vec<OnceBox<Notes>>,
     lost: AtomicBool,
 }
 
 impl<'g, 'c, G: Gate> Recorder<'g, 'c, G> {
-    /// A recorder of a run on so many workers, with so many fibers at most.
+    /// A recorder of a run on `workers` workers, with at most `fibers` fibers.
     pub(crate) fn new(
         alloc: Global,
         gate: &'g G,
@@ -77,12 +77,12 @@ impl<'g, 'c, G: Gate> Recorder<'g, 'c, G> {
         })
     }
 
-    /// The notes that were kept, by the workers' numbers. A worker that no thread was started for has none.
+    /// The notes of each worker, by its number. A worker for which no thread was started has none.
     pub(crate) fn notes(&self) -> &[OnceBox<Notes>] {
         self.notes.as_slice()
     }
 
-    /// Whether the notes of a worker were lost for want of memory.
+    /// Whether the notes of a worker were lost because memory ran out.
     pub(crate) fn has_lost(&self) -> bool {
         self.lost.load(Ordering::SeqCst)
     }

@@ -1,4 +1,4 @@
-//! One worker: where its numbers come from, and its life.
+//! One worker: the numbers that it serves, and its life.
 ghost use Rattle.std.specs.Prelude.{◌<◌};
 
 use crate::idle::{Idle, Sleeper};
@@ -15,11 +15,10 @@ use std::mem::drop;
 use std::sync::Wait;
 use std::sync::atomic::{AtomicU64, Ordering};
 
-// How often an idle worker looks at all queues before it sleeps, which takes some microseconds.
+// How often an idle worker looks at all queues before it sleeps. The looks take some microseconds.
 const LOOKS: u32 = 10;
 
-/// One worker: its queues, its seat at the bay, how it sleeps, and room for the fault that it may
-/// meet.
+/// One worker: its queues, its seat at the bay, its parker, and room for a fault that it can meet.
 #[derive(Drop)]
 pub(crate) struct Worker<'q, 'b, 'a> {
     number: u8,
@@ -30,7 +29,7 @@ pub(crate) struct Worker<'q, 'b, 'a> {
 }
 
 impl<'q, 'b, 'a> Worker<'q, 'b, 'a> {
-    /// A worker, and what wakes it. Answers `AllocError` where there is no memory for them.
+    /// A worker, and its unparker. Returns `AllocError` if there is no memory for them.
     pub(crate) fn new(
         alloc: Global,
         number: u8,
@@ -51,11 +50,11 @@ impl<'q, 'b, 'a> Worker<'q, 'b, 'a> {
     }
 }
 
-/// What the workers share, beside the bay and the queues.
+/// What the workers share, besides the bay and the queues.
 pub(crate) struct Shared<'g, 'f, W: Watch, C: FaultCell> {
     pub watch: &'g W,
     pub budget: u32,
-    /// How many numbers are queued or held.
+    /// The number of numbers that are queued or held.
     pub active: AtomicU64,
     pub idle: Idle,
     pub first_fault: FirstFault<'f, C>,
@@ -75,7 +74,7 @@ impl<'g, 'f, W: Watch, C: FaultCell> Drop for Shared<'g, 'f, W, C> {
     }
 }
 
-// What a look around tells a worker.
+// The result of a look around.
 #[derive(Clone, Copy)]
 enum Searched {
     Found(u16),
@@ -84,7 +83,7 @@ enum Searched {
 }
 
 impl<'g, 'f, W: Watch, C: FaultCell> Shared<'g, 'f, W, C> {
-    /// Works until the run is over, and answers what is known of the first fault then.
+    /// Works until the run is over, and returns what is then known of the first fault.
     pub(crate) fn work<'q, 'b, 'a, R: Wait>(
         &self,
         rt: &R,
@@ -126,7 +125,7 @@ impl<'g, 'f, W: Watch, C: FaultCell> Shared<'g, 'f, W, C> {
         unreachable!()
     }
 
-    // Tells of a fault, for which there is room, and that the run is over.
+    // Records the fault in `room` and stops all workers.
     fn tell(&self, room: Box<RunError>, fault: RunError) -> Learned<C> {
         let mut room = room;
         *room = fault;
@@ -135,8 +134,8 @@ impl<'g, 'f, W: Watch, C: FaultCell> Shared<'g, 'f, W, C> {
         learned
     }
 
-    // The number to serve next: the one that is in the hand, the first of the worker's own queue, or
-    // one that it searches for. `None` once the run is over.
+    // The number to serve next: the given one, the first of the worker's own queue, or one that it searches for. `None`
+    // once the run is over.
     #[inline(always)]
     fn next<R: Wait>(
         &self,
@@ -155,7 +154,7 @@ impl<'g, 'f, W: Watch, C: FaultCell> Shared<'g, 'f, W, C> {
         }
     }
 
-    // Searches for a number, and sleeps where there is none for a while. `None` once the run is over.
+    // Searches for a number, and sleeps if there is none for a while. `None` once the run is over.
     fn search<R: Wait>(
         &self,
         rt: &R,
@@ -187,7 +186,7 @@ impl<'g, 'f, W: Watch, C: FaultCell> Shared<'g, 'f, W, C> {
         unreachable!()
     }
 
-    // Looks around for a while.
+    // Looks at all queues, several times.
     fn look_on<R: Wait>(&self, rt: &R, queues: &mut Queues<'_>) -> Searched {
         let backoff = Backoff::new();
         for _ in 0..LOOKS {
@@ -230,7 +229,7 @@ impl<'g, 'f, W: Watch, C: FaultCell> Shared<'g, 'f, W, C> {
         }
     }
 
-    /// Gives up a number that was held. The run is over once none is queued or held.
+    /// Releases a number that was held. The run is over once none is queued or held.
     #[inline(always)]
     pub(crate) fn release(&self) {
         if laws::was_last(self.active.fetch_sub(1, Ordering::SeqCst)) {

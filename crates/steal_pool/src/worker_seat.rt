@@ -11,8 +11,8 @@ use std::marker::Model;
 use std::sync::Wait;
 use wait_bay::{Bay, BaySeat};
 
-/// A bay and one worker's seat at it, through which the worker takes tasks, moves them and puts them
-/// back. A fiber or a topic beyond the bay is `Lost`.
+/// A bay and one worker's seat at it, through which the worker takes tasks, moves them and puts them back. For a fiber
+/// or a topic beyond the bay it returns `Lost`.
 #[derive(Drop)]
 pub(crate) struct WorkerSeat<'b, 'a> {
     bay: &'b Bay<'a>,
@@ -57,7 +57,7 @@ impl<'b, 'a> WorkerSeat<'b, 'a> {
         }
     }
 
-    /// Puts a task back. Answers whether its number is to be queued.
+    /// Puts a task back. Returns whether its number has to be queued.
     #[inline(always)]
     pub(crate) fn put(
         &mut self,
@@ -78,8 +78,8 @@ impl<'b, 'a> WorkerSeat<'b, 'a> {
         }
     }
 
-    /// Makes a turn of a task of this bay, of which this log is told. Unless memory was refused, the task is still of
-    /// what the bay names.
+    /// Makes a turn of a task of this bay, and reports it to this log. Unless memory was refused, the task still
+    /// belongs to what the bay names.
     #[inline(always)]
     pub(crate) fn turn<L: TurnLog>(
         &self,
@@ -99,7 +99,7 @@ impl<'b, 'a> WorkerSeat<'b, 'a> {
         answer
     }
 
-    /// Wakes a fiber. Answers whether its number is to be queued.
+    /// Wakes a fiber. Returns whether its number has to be queued.
     #[inline(always)]
     pub(crate) fn wake(&self, rt: &impl Wait, number: u16) -> Result<bool, RunError> {
         if number >= self.bay.fibers() {
@@ -108,7 +108,7 @@ impl<'b, 'a> WorkerSeat<'b, 'a> {
         Ok(self.bay.wake(rt, number))
     }
 
-    /// Notes that a fiber waits for a topic.
+    /// Records that a fiber waits for a topic.
     pub(crate) fn register(
         &self,
         rt: &impl Wait,
@@ -122,7 +122,7 @@ impl<'b, 'a> WorkerSeat<'b, 'a> {
         Ok(())
     }
 
-    /// Whether fibers may wait for a topic of this fiber's turn.
+    /// Whether fibers possibly wait for this topic, on which a turn of this fiber acted.
     #[inline(always)]
     pub(crate) fn is_awaited(&self, topic: Topic, number: u16) -> Result<bool, RunError> {
         if !self.bay.has(topic) {
@@ -131,7 +131,7 @@ impl<'b, 'a> WorkerSeat<'b, 'a> {
         Ok(self.bay.is_awaited(topic))
     }
 
-    /// The fibers that wait for a topic of this fiber's turn. Nobody waits for it from then on.
+    /// Takes the fibers that wait for this topic, on which a turn of this fiber acted; the list is then empty.
     pub(crate) fn drain(
         &self,
         rt: &impl Wait,

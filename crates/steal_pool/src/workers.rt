@@ -10,10 +10,10 @@ use ready_queues::{InjectorEnd, ReadyDeque, ReadyInjector, Victim};
 use std::alloc::{AllocError, Global};
 use wait_bay::{Bay, BaySeat};
 
-// For how many numbers a worker's queue has room at first.
+// The number of numbers that a worker's queue has room for at first.
 const ROOM: usize = 64;
 
-/// The workers before they start, and who of them sleeps.
+/// The workers before they start, and their sleepers.
 #[derive(Drop)]
 pub(crate) struct Workers<'q, 'b, 'a> {
     pub workers: Vec<Worker<'q, 'b, 'a>>,
@@ -21,7 +21,7 @@ pub(crate) struct Workers<'q, 'b, 'a> {
 }
 
 impl<'q, 'b, 'a> Workers<'q, 'b, 'a> {
-    /// So many workers of this bay, with a queue each, and this injector.
+    /// This number of workers of this bay, each with a queue, and this injector.
     pub(crate) fn new(
         alloc: Global,
         bay: &'b Bay<'a>,
@@ -55,7 +55,7 @@ impl<'q, 'b, 'a> Workers<'q, 'b, 'a> {
     }
 }
 
-// A worker of this bay with these queues, and what wakes it.
+// A worker of this bay with these queues, and its unparker.
 fn new_worker<'q, 'b, 'a>(
     alloc: Global,
     bay: &'b Bay<'a>,
@@ -71,7 +71,7 @@ fn new_worker<'q, 'b, 'a>(
     Worker::new(alloc, number, queues, seat)
 }
 
-// One worker more, and what wakes it.
+// Adds a worker and its unparker.
 fn add<'q, 'b, 'a>(
     workers: &mut Vec<Worker<'q, 'b, 'a>>,
     sleepers: &mut Vec<Sleeper>,
@@ -83,7 +83,7 @@ fn add<'q, 'b, 'a>(
     Ok(())
 }
 
-// So many empty queues.
+// This number of empty queues.
 fn deques(alloc: Global, workers: u8) -> Result<Vec<ReadyDeque>, AllocError> {
     let mut deques = Vec::new(alloc);
     for _ in 0..workers {
@@ -92,7 +92,7 @@ fn deques(alloc: Global, workers: u8) -> Result<Vec<ReadyDeque>, AllocError> {
     Ok(deques)
 }
 
-// For each queue the ends of all others.
+// For each queue, the ends of all others.
 fn ends(alloc: Global, deques: &[ReadyDeque]) -> Result<Vec<Vec<Victim>>, AllocError> {
     let mut ends = Vec::new(alloc);
     for own in 0..deques.len() {
@@ -102,7 +102,7 @@ fn ends(alloc: Global, deques: &[ReadyDeque]) -> Result<Vec<Vec<Victim>>, AllocE
     Ok(ends)
 }
 
-// Ends of all queues but the first one of `behind`, from that one on.
+// Ends of all queues other than the first one of `behind`, from the next one on.
 fn victims(
     alloc: Global,
     before: &[ReadyDeque],

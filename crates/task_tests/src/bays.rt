@@ -1,4 +1,4 @@
-//! Bays: slots, wakes, and the lists of those that wait.
+//! Bays: slots, wakes, and the lists of waiting fibers.
 
 ghost use Rattle.std.specs.Prelude.{◌≡◌, ◌<◌};
 ghost use Rattle.cell_registry.specs.Passes.{first_pass};
@@ -31,7 +31,7 @@ fn only_child<'a>(
     child_of(registry, code, 99, &mut parent)
 }
 
-// Tasks of fibers 1 of two registries. The first of them has ended.
+// Tasks of two fibers with the number 1, of two registries. The first of them has ended.
 fn two_children<'a>(
     alloc: Global,
     code: &Code,
@@ -48,7 +48,7 @@ fn two_children<'a>(
     Ok((ended, only_child(alloc, code, elsewhere, its_pass)?))
 }
 
-// Whether the number of fiber 1 is to be queued, whose task goes into its slot; none where it is refused.
+// Puts the task of fiber 1. Whether its number has to be queued; `None` if the task is refused.
 fn puts<'a>(
     rt: &impl Wait,
     bay: &Bay<'a>,
@@ -67,7 +67,7 @@ fn puts<'a>(
     }
 }
 
-// Whether a task of fiber 1 is taken in, and not in another slot.
+// Whether the slot of fiber 1 takes its task, and another slot doesn't.
 fn takes_one<'a>(rt: &impl Wait, bay: &Bay<'a>, seat: &mut BaySeat<'a>, task: FiberTask<'a>) -> bool
     requires here { IsSeatOf bay.now seat.old }
     requires three { 2 < bay.now.fibers }
@@ -83,7 +83,7 @@ fn takes_one<'a>(rt: &impl Wait, bay: &Bay<'a>, seat: &mut BaySeat<'a>, task: Fi
     }
 }
 
-// Whether no second task is taken in.
+// Whether the slot refuses a second task.
 fn takes_no_other<'a>(
     rt: &impl Wait,
     bay: &Bay<'a>,
@@ -103,7 +103,7 @@ fn takes_no_other<'a>(
     }
 }
 
-// How the fiber has ended whose task lies in this slot; none where no task does.
+// The outcome of the fiber whose task is in this slot; `None` if there is no task.
 fn taken_outcome<'a>(
     rt: &impl Wait,
     bay: &Bay<'a>,
@@ -120,7 +120,7 @@ fn taken_outcome<'a>(
     }
 }
 
-// Whether the task of fiber 1, which has ended, is given once.
+// Whether the task of fiber 1, which has ended, can be taken once.
 fn gives_one<'a>(rt: &impl Wait, bay: &Bay<'a>, seat: &mut BaySeat<'a>) -> bool
     requires here { IsSeatOf bay.now seat.old }
     requires three { 2 < bay.now.fibers }
@@ -133,7 +133,7 @@ fn gives_one<'a>(rt: &impl Wait, bay: &Bay<'a>, seat: &mut BaySeat<'a>) -> bool
     (woken, first, second, other) == (true, ended, None, None)
 }
 
-// Whether a bay for three fibers holds the first of these tasks of fiber 1.
+// Whether a bay for three fibers keeps the first of these tasks of fiber 1.
 fn holds_one<'a>(
     alloc: Global,
     rt: &impl Wait,
@@ -156,7 +156,7 @@ fn a_slot_holds_one_task_of_its_own_fiber(rt: HostRuntime) -> Result<(), Fail> {
     Ok(())
 }
 
-// Takes the task of fiber 1 and puts it back: whether its number is to be queued; none where it is lost.
+// Takes the task of fiber 1 and puts it back. Whether its number has to be queued; `None` if the task is lost.
 fn puts_back<'a>(rt: &impl Wait, bay: &Bay<'a>, seat: &mut BaySeat<'a>, ready: bool) -> Option<bool>
     requires here { IsSeatOf bay.now seat.old }
     requires two { 1 < bay.now.fibers }
@@ -169,8 +169,8 @@ fn puts_back<'a>(rt: &impl Wait, bay: &Bay<'a>, seat: &mut BaySeat<'a>, ready: b
     }
 }
 
-// Whether a wake of fiber 1 is told once while its task lies in its slot. Those so far go with a task
-// that is taken.
+// Whether the first of several wakes of fiber 1 has to be queued while its task is in its slot, and the others don't.
+// Taking the task forgets the wakes so far.
 fn tells_once<'a>(alloc: Global, rt: &impl Wait, task: FiberTask<'a>) -> Result<bool, AllocError> {
     let (bay, mut seat) = Bay::new(alloc, 2, 1, None)?;
     let put = puts(rt, &bay, &mut seat, task, false);
@@ -188,7 +188,7 @@ fn a_wake_is_told_once(rt: HostRuntime) -> Result<(), Fail> {
     Ok(())
 }
 
-// Whether a wake of fiber 1 is kept while its task isn't there, and told to nobody while it is queued.
+// Whether a wake of fiber 1 is kept while its task isn't there, and has no effect while it is queued.
 fn keeps_wake<'a>(alloc: Global, rt: &impl Wait, task: FiberTask<'a>) -> Result<bool, AllocError> {
     let (bay, mut seat) = Bay::new(alloc, 2, 1, None)?;
     let before = bay.wake(rt, 1);
@@ -209,7 +209,7 @@ fn a_wake_before_the_put_is_kept(rt: HostRuntime) -> Result<(), Fail> {
 
 const DEFERRED: Topic = Topic::Deferred(0);
 
-// Who comes to wait, and who is then told, topic by topic.
+// The fibers that begin to wait, and those that the list of each topic then has.
 struct Waiting<'a> {
     come: &'a [(Topic, u16)],
     told: &'a [(Topic, &'a [u16])],
@@ -235,7 +235,7 @@ const WAITS: &[Waiting<'static>] = &[
     },
 ];
 
-// Those that wait for one topic are no others, however far apart the numbers of the topics are.
+// The lists of two topics are apart, however far apart the numbers of the topics are.
 const FAR_WAITS: &[Waiting<'static>] = &[
     Waiting {
         come: &[(Topic::Fiber(64), 3)],
@@ -272,7 +272,7 @@ const FAR_WAITS: &[Waiting<'static>] = &[
     },
 ];
 
-// Notes who waits. A bay without a list for the topic notes nobody.
+// Records the waiting fibers, if the bay has a list for the topic.
 fn notes(rt: &impl Wait, bay: &Bay<'_>, come: &[(Topic, u16)]) -> Result<(), AllocError> {
     for (topic, fiber) in come {
         if bay.has(*topic) {
@@ -282,7 +282,7 @@ fn notes(rt: &impl Wait, bay: &Bay<'_>, come: &[(Topic, u16)]) -> Result<(), All
     Ok(())
 }
 
-// Whether these wait for a topic, and nobody does once they were told.
+// Whether these fibers wait for a topic, and none after the list is drained.
 fn is_told(rt: &impl Wait, bay: &Bay<'_>, topic: Topic, fibers: &[u16]) -> bool {
     if !bay.has(topic) || bay.is_awaited(topic) == fibers.is_empty() {
         return false;
@@ -290,7 +290,7 @@ fn is_told(rt: &impl Wait, bay: &Bay<'_>, topic: Topic, fibers: &[u16]) -> bool 
     bay.drain_topic(rt, topic).as_slice() == fibers && !bay.is_awaited(topic)
 }
 
-// Whether these wait, topic by topic.
+// Whether these fibers wait, topic by topic.
 fn are_told(rt: &impl Wait, bay: &Bay<'_>, told: &[(Topic, &[u16])]) -> bool {
     for (topic, fibers) in told {
         if !is_told(rt, bay, *topic, fibers) {
@@ -300,7 +300,7 @@ fn are_told(rt: &impl Wait, bay: &Bay<'_>, told: &[(Topic, &[u16])]) -> bool {
     true
 }
 
-// Whether a bay tells those that wait.
+// Whether the lists of a bay are as expected.
 fn tells_all(rt: &impl Wait, bay: &Bay<'_>, cases: &[Waiting<'_>]) -> Result<bool, AllocError> {
     for case in cases {
         notes(rt, bay, case.come)?;
@@ -329,7 +329,7 @@ const LISTS: &[(Topic, bool)] = &[
     (Topic::Never, true),
 ];
 
-// Whether the bay has a list for each of these topics as it should.
+// Whether the bay has lists for exactly the topics that it should.
 fn has_lists(bay: &Bay<'_>, lists: &[(Topic, bool)]) -> bool {
     for (topic, has) in lists {
         if bay.has(*topic) != *has {
@@ -346,7 +346,7 @@ fn a_bay_has_a_list_for_each_number(rt: HostRuntime) -> Result<(), Fail> {
     Ok(())
 }
 
-// Whether a bay in which this task of fiber 1 alone lies leaves it at the end.
+// Whether a bay that has only this task of fiber 1 still has it at the end.
 fn leaves_one<'a>(alloc: Global, rt: &impl Wait, task: FiberTask<'a>) -> Result<bool, AllocError> {
     let (bay, mut seat) = Bay::new(alloc, 3, 1, None)?;
     let put = puts(rt, &bay, &mut seat, task, false);

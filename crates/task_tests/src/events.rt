@@ -1,4 +1,4 @@
-//! The events that a turn stops at, each told once and at its own move.
+//! The events that end a turn, each returned once and after its own move.
 
 ghost use Rattle.std.specs.Prelude.{◌<◌};
 
@@ -198,7 +198,7 @@ fn used_up_moves_are_told(rt: HostRuntime) -> Result<(), Fail> {
 
 const SAYING: &str = "(start f (seq (say 1) (say 2)) (seq (say 3) (say 4)))";
 
-// Whether both fibers make the moves that are left from the start on, as in the core.
+// Whether both fibers make the moves that are left after the start, as in the core.
 fn shares_moves(alloc: Global, left: u32) -> Result<bool, Fail>
     requires { left < 99 }
 {
@@ -215,7 +215,7 @@ fn shares_moves(alloc: Global, left: u32) -> Result<bool, Fail>
     )
 }
 
-// Both fibers need eight moves from the start on.
+// Both fibers need eight moves after the start.
 #[test]
 fn a_child_begins_with_the_moves_that_are_left(rt: HostRuntime) -> Result<(), Fail> {
     for left in 1..11u32 {
@@ -224,7 +224,7 @@ fn a_child_begins_with_the_moves_that_are_left(rt: HostRuntime) -> Result<(), Fa
     Ok(())
 }
 
-// The core's report where each fiber makes so many moves from the start on.
+// The core's report if each fiber makes `left` moves after the start.
 fn core_report(alloc: Global, left: u32) -> Result<String, Fail> {
     let schedule = format!(in alloc; "0*2 1*{left} 0*{left}")?;
     replayed(alloc, SAYING, ample(), schedule.as_str())

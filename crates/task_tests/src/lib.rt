@@ -1,12 +1,11 @@
-//! Tests of the public calls of `fiber_poll` and `wait_bay`, of `gather` over tasks that are turned by hand, and of
-//! `run_recording` over logs that are made up, with answers worked by hand.
+//! Tests of the public calls of `fiber_poll` and `wait_bay`, of `gather` with tasks that are turned by hand, and of
+//! `run_recording` with logs that are made up. The expected answers are worked out by hand.
 //!
-//! These crates promise what their calls answer, so these tests show what no proof does: that the calls
-//! succeed where memory is ample, which event a turn tells first, that fibers which are turned in any
-//! order and then gathered come to the report of that order, that a fiber's pass goes on after a
-//! refusal, and that a wake isn't lost. Of the schedules that `run_recording` puts together nothing is promised: the
-//! tests show which rules they keep. The crate has nothing but its tests. They stand apart from the
-//! libraries so that a library is proved without them.
+//! The contracts of these crates pin the results of their calls. These tests show what no proof does: that the calls
+//! succeed with ample memory, which event a turn returns first, that fibers which are turned in any order and then
+//! gathered have the report of that order, that a fiber's pass goes on after a refusal, and that a wake isn't lost.
+//! Nothing is promised of the schedules that `run_recording` makes: the tests show which rules they keep. The crate has
+//! only tests, so that the libraries are proved without them.
 #![tactic(auto)]
 
 #[cfg(test)]

@@ -10,7 +10,7 @@ use std::process::Abort;
 use std::sync::atomic::AtomicU64;
 use std::test::Fail;
 
-// A call, and what came of it.
+// A call and its reply.
 #[derive(Clone, Copy)]
 enum Made {
     Start,
@@ -22,7 +22,7 @@ enum Made {
     CancelsAgain(u16),
     FindsTheEnd(u16),
     Ends,
-    // Of ref 0, and of deferred 0.
+    // Calls on ref 0, and on deferred 0.
     GetsMost,
     GetsZero,
     SetsMost,
@@ -31,8 +31,9 @@ enum Made {
     Completes,
 }
 
-// What a log is told: a call of a fiber that had so many moves left before it, and the clock before it; that a
-// turn of a fiber left it so many, with a mark or not; that its last move waited, under a mask or not.
+// What a log receives: a call of a fiber that had a number of moves left before it, and the clock before it; a turn of
+// a fiber, the number of moves left after it, and whether it made a mark; a last move that waited, and whether a mask
+// was active.
 #[derive(Clone, Copy)]
 enum Told {
     Call(u16, u32, Made, u64),
@@ -41,15 +42,15 @@ enum Told {
     Refused(u16, RunError),
 }
 
-// A log, and the schedule that is put together of it.
+// A log, and the schedule that is made of it.
 struct MadeUp<'a> {
-    // What it shows.
+    // The rule that it shows.
     rule: &'a str,
-    // How many moves fiber 0 has at first.
+    // The number of moves of fiber 0 at first.
     moves: u32,
     told: &'a [Told],
     fault: Option<RunError>,
-    // The entries of one thread at the end.
+    // The entries that one thread makes at the end.
     settled: &'a [u16],
     want: Result<&'a [u16], NoSchedule>,
 }
@@ -236,7 +237,7 @@ fn asked(made: Made) -> (Ask, Reply) {
     }
 }
 
-// Tells a log this.
+// Passes this to a log.
 fn tell(log: &mut WorkerLog<'_>, told: Told) {
     match told {
         Told::Call(by, left, made, before) => {
@@ -249,7 +250,7 @@ fn tell(log: &mut WorkerLog<'_>, told: Told) {
     }
 }
 
-// The schedule that is put together of a log.
+// The schedule that is made of a log.
 fn put_together(alloc: Global, row: &MadeUp<'_>) -> Result<Vec<u16>, NoSchedule> {
     let clock = AtomicU64::new(0);
     let mut log = WorkerLog::new(alloc, &clock, 4);
@@ -262,7 +263,7 @@ fn put_together(alloc: Global, row: &MadeUp<'_>) -> Result<Vec<u16>, NoSchedule>
     gathered.schedule(row.settled)
 }
 
-// Whether the schedule is the one that is wanted.
+// Whether the schedule is the wanted one.
 fn is_wanted(found: &Result<Vec<u16>, NoSchedule>, want: Result<&[u16], NoSchedule>) -> bool {
     match found {
         Ok(entries) => match want {

@@ -1,4 +1,4 @@
-//! Calls that take memory. Each of these tests holds whichever request for memory is refused.
+//! Calls that allocate memory. Each of these tests holds with every request for memory refused in turn.
 
 ghost use Rattle.std.specs.Prelude.{◌≡◌, ◌<◌};
 ghost use Rattle.wait_bay.specs.Bays.{IsSeatOf};
@@ -23,7 +23,7 @@ fn say(number: i32) -> Mark {
     Mark::Say(Value::from_i32(number))
 }
 
-// What they mark.
+// Their marks.
 fn nested_marks() -> [Mark; 25] {
     [
         Mark::Enter(0),
@@ -54,13 +54,13 @@ fn nested_marks() -> [Mark; 25] {
     ]
 }
 
-// What a turn of a task told. The task of a fiber that it started is dropped.
+// The result of a turn. The task of a fiber that it started is dropped.
 fn turn_told(task: &mut FiberTask<'_>) -> Result<Told, AllocError> {
     let (told, _) = answered(task.turn(999))?;
     Ok(told)
 }
 
-// Whether each turn of a task that lacked memory says so again, and makes no move.
+// Whether each turn of a task that lacked memory returns this again, and makes no move.
 fn is_broken(task: &mut FiberTask<'_>) -> bool {
     let made = task.trace().len();
     for _ in 0..3 {
@@ -71,7 +71,7 @@ fn is_broken(task: &mut FiberTask<'_>) -> bool {
     true
 }
 
-// Whether one turn ends the fiber so and with these marks, or meets want of memory.
+// Whether one turn ends the fiber with this outcome and these marks, or runs out of memory.
 fn ends(task: &mut FiberTask<'_>, outcome: Outcome, marks: &[Mark]) -> bool {
     match turn_told(task) {
         Ok(told) => told == end_of(outcome) && task.trace() == marks,
@@ -79,15 +79,14 @@ fn ends(task: &mut FiberTask<'_>, outcome: Outcome, marks: &[Mark]) -> bool {
     }
 }
 
-// Whether the nested brackets end as they should; none where memory ran out before the turn.
+// Whether the nested brackets end as they should; `None` if memory ran out before the turn.
 fn nested_ends(alloc: Global) -> Option<bool> {
     let (code, registry, pass) = opened(alloc, NESTED, few(1, 99)).ok()?;
     let mut task = first(alloc, &registry, pass, &code, 999).ok()?;
     Some(ends(&mut task, Outcome::Canceled, nested_marks().as_slice()))
 }
 
-// What a turn answers and the marks from then on, or that memory ran out, which each later turn
-// answers, too.
+// The turn has its result and the marks, or memory ran out, which each later turn returns, too.
 #[test]
 fn a_turn_ends_the_fiber_or_memory_ran_out(rt: HostRuntime) {
     assert!(rt; nested_ends(rt.alloc()) != Some(false));
@@ -97,7 +96,7 @@ fn a_turn_ends_the_fiber_or_memory_ran_out(rt: HostRuntime) {
 const STARTING: &str =
     "(let x (pure 7) (let y (pure 8) (start f (say y) (join f z (say z) e (pure 0) (pure 0)))))";
 
-// Whether one turn starts a fiber that then ends, or meets want of memory.
+// Whether one turn starts a fiber that then ends, or runs out of memory.
 fn starts(parent: &mut FiberTask<'_>) -> bool {
     match answered(parent.turn(999)) {
         Ok((told, Some(mut child))) => {
@@ -113,20 +112,20 @@ fn starts(parent: &mut FiberTask<'_>) -> bool {
     }
 }
 
-// Whether the program starts a fiber as it should; none where memory ran out before the turn.
+// Whether the program starts a fiber as it should; `None` if memory ran out before the turn.
 fn first_starts(alloc: Global) -> Option<bool> {
     let (code, registry, pass) = opened(alloc, STARTING, few(2, 99)).ok()?;
     let mut parent = first(alloc, &registry, pass, &code, 999).ok()?;
     Some(starts(&mut parent))
 }
 
-// The child's task and its mark, or that memory ran out, which each later turn answers, too.
+// The turn returns the child's task, which has its mark, or memory ran out, which each later turn returns, too.
 #[test]
 fn a_turn_starts_a_fiber_or_memory_ran_out(rt: HostRuntime) {
     assert!(rt; first_starts(rt.alloc()) != Some(false));
 }
 
-// Whether the nested brackets end by themselves as they should; none where memory ran out before that.
+// Whether `alone` runs the nested brackets to the end that they should have; `None` if memory ran out before that.
 fn nested_ends_alone<R: Wait + RandomSource + AllocGlobal>(rt: &R) -> Option<bool> {
     let program = read_program(rt.alloc(), NESTED.as_bytes()).ok()?;
     if program.starts() {
@@ -139,13 +138,13 @@ fn nested_ends_alone<R: Wait + RandomSource + AllocGlobal>(rt: &R) -> Option<boo
     }
 }
 
-// The future's queue asks for memory, too: where it is refused, the thread can't wait.
+// The future's queue allocates memory, too. If it is refused, the thread can't wait.
 #[test]
 fn a_program_ends_alone_or_memory_ran_out(rt: HostRuntime) {
     assert!(&rt; nested_ends_alone(&rt) != Some(false));
 }
 
-// Whether it is noted who waits, where there is memory for it.
+// Whether a waiting fiber is recorded, if there is memory for it.
 fn notes(rt: &impl Wait, bay: &Bay<'_>) -> bool
     requires { 1 < bay.now.deferreds }
 {
@@ -159,7 +158,7 @@ fn notes(rt: &impl Wait, bay: &Bay<'_>) -> bool
     }
 }
 
-// Whether the task of fiber 0 goes into its slot, and is to be queued.
+// Whether the task of fiber 0 can be put into its slot, and has to be queued.
 fn takes_in<'a>(rt: &impl Wait, bay: &Bay<'a>, seat: &mut BaySeat<'a>, task: FiberTask<'a>) -> bool
     requires here { IsSeatOf bay.now seat.old }
     requires some { 0 < bay.now.fibers }
@@ -172,7 +171,7 @@ fn takes_in<'a>(rt: &impl Wait, bay: &Bay<'a>, seat: &mut BaySeat<'a>, task: Fib
     }
 }
 
-// Whether a bay takes this task in, and gives it back at its end; none where memory ran out.
+// Whether a bay takes this task in, and still has it at its end; `None` if memory ran out.
 fn keeps<'a>(alloc: Global, rt: &impl Wait, task: FiberTask<'a>) -> Option<bool> {
     let (bay, mut seat) = Bay::new(alloc, 3, 2, None).ok()?;
     let takes = takes_in(rt, &bay, &mut seat, task);
@@ -184,7 +183,7 @@ fn keeps<'a>(alloc: Global, rt: &impl Wait, task: FiberTask<'a>) -> Option<bool>
     Some(takes && notes && kept)
 }
 
-// Whether a bay keeps the task of fiber 0; none where memory ran out.
+// Whether a bay keeps the task of fiber 0; `None` if memory ran out.
 fn first_is_kept(alloc: Global, rt: &impl Wait) -> Option<bool> {
     let (code, registry, pass) = opened(alloc, "(pure 7)", few(1, 9)).ok()?;
     let task = first(alloc, &registry, pass, &code, 9).ok()?;

@@ -1,9 +1,9 @@
 //! Programs whose fibers are turned in several orders, each with a schedule that is worked out by hand.
 //!
-//! A turn stands in the schedule as so many entries of its fiber as it made moves. Outside masks and
-//! finalizers each word costs two, a look and its own, and so does the end of a fiber; below a mask it
-//! costs one. A turn makes its budget of moves, or ends with the move that has an event: so `(0, 2, ..)`
-//! is `0*2`, and the turn that starts a fiber, waits or ends is counted up to the move that does.
+//! The schedule has one entry of the fiber for each move of a turn. Outside masks and finalizers each word takes two
+//! moves, a look and its own, and so does the end of a fiber; in a mask it takes one. A turn makes as many moves as its
+//! budget, or ends with the first move that has an event. So `(0, 2, ..)` is `0*2`, and a turn that starts a fiber,
+//! waits or ends has the entries up to the move that does so.
 
 use crate::programs::ample;
 use crate::turning::{Told, Turns, expect_turns};
@@ -100,7 +100,7 @@ const ADD_ORDERS: &[Turns<'static>] = &[
     },
 ];
 
-// The parent cancels the child, which is masked but for a poll.
+// The parent cancels the child, which is masked except in a poll.
 const CANCELING: &str =
     "(start f (uncancelable p (seq (say 1) (poll p (say 2)) (say 3))) (cancel f))";
 

@@ -1,4 +1,4 @@
-//! Programs of texts, and what the core makes of them.
+//! Programs of texts, and their reports by the core.
 
 ghost use Rattle.std.specs.Prelude.{◌≡◌, ◌<◌, ◌≤◌, ◌^◌, IfOk, false};
 ghost use Rattle.cell_registry.specs.Cells.{AreLimits};
@@ -12,7 +12,7 @@ use outcome_trace::{Refused, Report, read_program, read_schedule, replay, text_o
 use std::alloc::Global;
 use std::test::Fail;
 
-/// The program that a text spells, which starts nobody.
+/// The program that a text spells, which starts no fiber.
 pub fn quiet_program(alloc: Global, text: &str) -> Result<Program, Fail>
     ensures { IfOk result (λ program. starts_fiber program ≡ false) }
 {
@@ -51,7 +51,7 @@ pub fn opened(alloc: Global, text: &str, limits: Limits) -> Result<(Code, Regist
     }
 }
 
-/// Limits of so many fibers, one ref and one deferred, and so many changes, each at least 1.
+/// Limits of `fibers` fibers, one ref, one deferred, and `count` changes, each at least 1.
 pub const fn few(fibers: u16, count: u64) -> Limits
     requires fibers { (0 < fibers) × (fibers ≤ 1000) }
     requires count { (0 < count) × (count < 2 ^ 40) }
@@ -66,7 +66,7 @@ pub const fn few(fibers: u16, count: u64) -> Limits
     }
 }
 
-/// Limits that none of these programs comes to.
+/// Limits that none of these programs reaches.
 pub fn ample() -> Limits
     ensures { AreLimits result }
 {

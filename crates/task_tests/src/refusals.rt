@@ -1,4 +1,4 @@
-//! Turns in which the registry refuses a call, and what goes on after them.
+//! Turns in which the registry refuses a call, and what is possible after them.
 
 ghost use Rattle.std.specs.Prelude.{◌≡◌, ◌<◌, IfOk};
 ghost use Rattle.cell_registry.specs.Cells.{AreLimits};
@@ -25,12 +25,12 @@ const NO_DEFERRED: Told = Told::Full(Band::Deferreds, 1);
 
 const SPENT: Told = Told::Spent(0);
 
-// How many moves fiber 0 may make.
+// The number of moves of fiber 0.
 const MOVES: u32 = 99;
 
 const CHILD_SPENT: Told = Told::Spent(1);
 
-// Where each band has one number.
+// Each band has one number.
 const FULL: &[Turns<'static>] = &[
     Turns {
         rule: "a refused start is refused again",
@@ -58,7 +58,7 @@ const FULL: &[Turns<'static>] = &[
     },
 ];
 
-// Where there may be two fibers.
+// There are two fibers.
 const TWO_FIBERS: &[Turns<'static>] = &[Turns {
     rule: "a second start is refused, and the fiber of the first one goes on",
     program: "(start f (say 1) (start g (pure 2) (pure 3)))",
@@ -75,7 +75,7 @@ const TWO_FIBERS: &[Turns<'static>] = &[Turns {
     report: "fiber 0 unended\nfiber 1 succeeded 0: say 1\n",
 }];
 
-// Where a fiber may change its cell once.
+// A fiber can change its cell once.
 const ONE_CHANGE: &[Turns<'static>] = &[Turns {
     rule: "the end of a mask is refused",
     program: "(uncancelable p (say 1))",
@@ -85,7 +85,7 @@ const ONE_CHANGE: &[Turns<'static>] = &[Turns {
     report: "fiber 0 unended: enter 0, say 1\n",
 }];
 
-// Where a fiber may change its cell twice, and there may be three fibers.
+// A fiber can change its cell twice, and there are three fibers.
 const TWO_CHANGES: &[Turns<'static>] = &[
     Turns {
         rule: "an end is refused",
@@ -143,21 +143,21 @@ enum Wanted {
     Other,
 }
 
-// A program whose fiber comes to a move that is refused.
+// A program whose fiber reaches a refused move.
 #[derive(Drop)]
 struct Refused<'a> {
     program: &'a str,
-    // What each turn tells.
+    // The result of each turn.
     told: Told,
     marks: &'a [Mark],
     wanted: Wanted,
-    // The fiber's changes of its cell.
+    // The number of changes that the fiber made to its cell.
     count: u64,
-    // Its active masks.
+    // The number of its active masks.
     depth: u8,
 }
 
-// Whether three turns are refused so, of which each changes nothing.
+// Whether three turns are refused with this result, and each changes nothing.
 fn is_refused_thrice(
     registry: &Registry,
     code: &Code,
@@ -193,7 +193,7 @@ fn parts_of(registry: &Registry, code: &Code, most: u32, task: FiberTask<'_>) ->
     (pass, wanted)
 }
 
-// Whether calls of the pass of fiber 0 that are of itself are answered.
+// Whether calls of the pass of fiber 0 on its own fiber have their replies.
 fn requests_its_end(registry: &Registry, pass: &mut Pass) -> bool
     requires own { IsOf registry.now pass.old }
     requires limits { AreLimits registry.now.limits }
@@ -205,7 +205,7 @@ fn requests_its_end(registry: &Registry, pass: &mut Pass) -> bool
     (first, second, end) == (CancelReply::Asked, CancelReply::Already, JoinReply::Waits)
 }
 
-// Whether calls of a pass that are of shared cells are answered.
+// Whether calls of a pass on shared cells have their replies.
 fn shares_cells(registry: &Registry, pass: &mut Pass) -> bool
     requires own { IsOf registry.now pass.old }
     requires limits { AreLimits registry.now.limits }
@@ -222,7 +222,7 @@ fn shares_cells(registry: &Registry, pass: &mut Pass) -> bool
     (of_ref, of_deferred) == ((Value::ZERO, five), (true, Some(six)))
 }
 
-// Whether a task is refused thrice, and its fiber's pass then goes on.
+// Whether a task is refused three times, and its fiber's pass then goes on.
 fn task_goes_on(
     registry: &Registry,
     code: &Code,
@@ -246,7 +246,7 @@ fn task_goes_on(
     Ok(is_there && requests && shares)
 }
 
-// Whether fiber 0 of a program is refused thrice, and its pass then goes on.
+// Whether fiber 0 of a program is refused three times, and its pass then goes on.
 fn goes_on(alloc: Global, limits: Limits, case: &Refused<'_>) -> Result<bool, Fail>
     requires { AreLimits limits }
 {
@@ -285,7 +285,7 @@ fn the_pass_goes_on_after_a_used_up_count(rt: HostRuntime) -> Result<(), Fail> {
     Ok(())
 }
 
-// Whether fiber 1 is canceled by fiber 0, whose pass is told of its end.
+// Whether fiber 0 cancels fiber 1, and its join finds the end.
 fn cancels_the_other(
     registry: &Registry,
     pass: &mut Pass,
@@ -302,7 +302,7 @@ fn cancels_the_other(
     Ok((reply, before, is_canceled) == (CancelReply::Asked, JoinReply::Waits, true))
 }
 
-// Whether a turn of fiber 0 is refused so, and its pass then cancels fiber 1.
+// Whether a turn of fiber 0 is refused with this result, and its pass then cancels fiber 1.
 fn refused_cancels(
     registry: &Registry,
     code: &Code,
@@ -323,7 +323,7 @@ fn refused_cancels(
     cancels_the_other(registry, &mut pass, &mut other)
 }
 
-// Whether fiber 0 starts fiber 1, is refused so, and then cancels it.
+// Whether fiber 0 starts fiber 1, is refused with this result, and then cancels fiber 1.
 fn cancels_after_refusal(alloc: Global, program: &str, refusal: Told) -> Result<bool, Fail> {
     let (code, registry, pass) = opened(alloc, program, few(2, 2))?;
     let mut task = first(alloc, &registry, pass, &code, MOVES)?;

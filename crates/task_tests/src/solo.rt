@@ -1,4 +1,4 @@
-//! Programs that start nobody, run by themselves.
+//! Programs that start no fiber, run by `alone`.
 
 ghost use Rattle.std.specs.Prelude.{◌≡◌, ◌<◌};
 
@@ -14,7 +14,7 @@ use std::random::RandomSource;
 use std::sync::Wait;
 use std::test::Fail;
 
-// A program, how many moves its fiber needs, and how it ends.
+// A program, the number of moves that its fiber needs, and its outcome.
 const ENDS: &[(&str, u32, Told)] = &[
     (
         "(uncancelable p (let a (canceled) (let b (say 1) (poll p (say 2)))))",
@@ -42,7 +42,7 @@ const ENDS: &[(&str, u32, Told)] = &[
     ("(guarantee (raise 3) (say 1))", 15, Told::Errored(3)),
 ];
 
-// How a fiber has ended, if it has.
+// The outcome of a fiber, if it has ended.
 fn end_told(ended: Option<Outcome>) -> Option<Told> {
     match ended {
         Some(outcome) => Some(end_of(outcome)),
@@ -50,7 +50,7 @@ fn end_told(ended: Option<Outcome>) -> Option<Told> {
     }
 }
 
-// How a program ends by itself in so many moves.
+// The outcome of a program that `alone` runs for this number of moves.
 fn ends_alone<R: Wait + RandomSource + AllocGlobal>(
     rt: &R,
     text: &str,
@@ -60,7 +60,7 @@ fn ends_alone<R: Wait + RandomSource + AllocGlobal>(
     Ok(end_told(alone(rt, program, moves)?))
 }
 
-// The core's report of a program under so many entries of 0.
+// The core's report of a program under this number of entries of 0.
 fn core_report(alloc: Global, text: &str, moves: usize) -> Result<Report, Fail> {
     let program = quiet_program(alloc, text)?;
     let schedule = vec![in alloc; 0; moves]?;
@@ -73,7 +73,7 @@ fn core_report(alloc: Global, text: &str, moves: usize) -> Result<Report, Fail> 
     Ok(replay(alloc, &program, schedule.as_slice(), limits)?)
 }
 
-// How the core's fiber 0 ends under so many entries of 0.
+// The outcome of the core's fiber 0 under this number of entries of 0.
 fn ends_in_the_core(alloc: Global, text: &str, moves: usize) -> Result<Option<Told>, Fail> {
     let report = core_report(alloc, text, moves)?;
     match report.fibers.as_slice().first() {
@@ -90,7 +90,7 @@ fn a_program_ends_alone(rt: HostRuntime) -> Result<(), Fail> {
     Ok(())
 }
 
-// Whether a program ends so in so many moves, by itself and in the core.
+// Whether a program has this outcome after this number of moves, by `alone` and in the core.
 fn ends_so<R: Wait + RandomSource + AllocGlobal>(
     rt: &R,
     text: &str,
@@ -117,8 +117,8 @@ fn alone_is_the_core_under_entries_of_0(rt: HostRuntime) -> Result<(), Fail> {
     Ok(())
 }
 
-// A program, how many moves its fiber may make, and the end or the fault where each band has one number
-// and a cell changes twice.
+// A program, the number of moves of its fiber, and the outcome or the fault if each band has one number and a cell can
+// change twice.
 const FUTURES: &[(&str, u32, Option<Told>)] = &[
     ("(seq (say 1) (cede) (raise 3))", 10, Some(Told::Errored(3))),
     ("(seq (say 1) (cede) (raise 3))", 9, None),
@@ -131,7 +131,7 @@ const FUTURES: &[(&str, u32, Option<Told>)] = &[
     ("(uncancelable p (say 1))", 99, Some(Told::Spent(0))),
 ];
 
-// What a future gave, where it is an end or a fault of the registry.
+// The result of a future, if it is an outcome or a fault of the registry.
 fn given(come: Result<Option<Outcome>, RunError>) -> Result<Option<Told>, Fail> {
     match come {
         Ok(ended) => Ok(end_told(ended)),
@@ -141,7 +141,7 @@ fn given(come: Result<Option<Outcome>, RunError>) -> Result<Option<Told>, Fail> 
     }
 }
 
-// What a program gives as a future, by two moves a poll, where each band has one number.
+// The result of a program as a future, with two moves a poll, if each band has one number.
 fn comes<R: Wait + RandomSource + AllocGlobal>(
     rt: &R,
     text: &str,

@@ -16,7 +16,7 @@ use std::process::Abort;
 use std::test::Fail;
 use steal_pool::gather;
 
-/// What a turn answered, with the number of a started fiber in place of its task.
+/// The result of a turn, with the number of a started fiber in place of its task.
 #[derive(Clone, Copy, PartialEq)]
 pub enum Told {
     Succeeded(i64),
@@ -32,7 +32,7 @@ pub enum Told {
     Spent(u16),
 }
 
-/// What the end of a fiber is told as.
+/// The result of a turn that ends a fiber with this outcome.
 pub fn end_of(outcome: Outcome) -> Told {
     match outcome {
         Outcome::Succeeded(value) => Told::Succeeded(value.get()),
@@ -41,7 +41,7 @@ pub fn end_of(outcome: Outcome) -> Told {
     }
 }
 
-// What a turn told that met no fault, and the task of the fiber that it started.
+// The result of a turn that met no fault, and the task of the fiber that it started.
 fn told_by<'a>(turn: Turn<'a>) -> (Told, Option<FiberTask<'a>>)
     ensures { IfSome result.1 (λ child. turn.entry ≡ Turn.Started child) }
 {
@@ -56,7 +56,7 @@ fn told_by<'a>(turn: Turn<'a>) -> (Told, Option<FiberTask<'a>>)
     }
 }
 
-/// What a turn told, and the task of the fiber that it started. `AllocError` where memory ran out.
+/// The result of a turn, and the task of the fiber that it started. Returns `AllocError` if memory ran out.
 pub fn answered<'a>(
     answer: Result<Turn<'a>, RunError>,
 ) -> Result<(Told, Option<FiberTask<'a>>), AllocError>
@@ -67,13 +67,13 @@ pub fn answered<'a>(
         Ok(turn) => Ok(told_by(turn)),
         Err(RunError::Full(band, limit)) => Ok((Told::Full(band, limit), None)),
         Err(RunError::Spent(fiber)) => Ok((Told::Spent(fiber), None)),
-        // No turn answers another fault.
+        // No turn returns another fault.
         Err(_) => Err(AllocError),
     }
 }
 
-/// Makes a turn of a task of this registry and code, where fiber 0 may make `most` moves, which it still is, and so is
-/// the task of the fiber that it started. `AllocError` where memory ran out.
+/// Makes a turn of a task of this registry and code, whose fiber 0 has `most` moves. The task still belongs to them,
+/// and so does the task of the fiber that it started. Returns `AllocError` if memory ran out.
 pub fn turned<'a>(
     registry: &Registry,
     code: &Code,
@@ -106,7 +106,7 @@ pub fn child_of<'a>(
     }
 }
 
-/// What a turn of a task of this registry and code tells, which it still is. The task of a fiber that it
+/// The result of a turn of a task of this registry and code, which still belongs to them. The task of a fiber that it
 /// started is dropped.
 pub fn turn_told(
     registry: &Registry,
@@ -121,7 +121,7 @@ pub fn turn_told(
     Ok(told)
 }
 
-// Makes a turn of the fiber of this number. A started fiber's task goes to the end, which is its place.
+// Makes a turn of the fiber of this number. A started fiber's task is added at the end, at the place of its number.
 fn turn_of<'a>(
     registry: &Registry,
     code: &Code,
@@ -142,10 +142,10 @@ fn turn_of<'a>(
     Ok(told)
 }
 
-/// A turn: the number of its fiber, its budget, and what it tells.
+/// A turn: the number of its fiber, its budget, and its result.
 pub type Row = (usize, u32, Told);
 
-// Whether these turns tell so.
+// Whether these turns have these results.
 fn tell<'a>(
     registry: &Registry,
     code: &Code,
@@ -167,7 +167,7 @@ fn tell<'a>(
     Ok(true)
 }
 
-// What the fiber of a task has come to.
+// The report of the fiber of a task.
 fn line_of(alloc: Global, task: &FiberTask<'_>) -> Result<FiberReport, AllocError> {
     let marks = Vec::from_slice(alloc, task.trace())?;
     Ok(FiberReport {
@@ -176,7 +176,7 @@ fn line_of(alloc: Global, task: &FiberTask<'_>) -> Result<FiberReport, AllocErro
     })
 }
 
-// The report of what these tasks tell that their fibers have come to.
+// The report of the fibers of these tasks, from the tasks themselves.
 fn report_of(alloc: Global, tasks: &[FiberTask<'_>]) -> Result<Report, AllocError> {
     let mut lines = Vec::new(alloc);
     for task in tasks {
@@ -187,12 +187,12 @@ fn report_of(alloc: Global, tasks: &[FiberTask<'_>]) -> Result<Report, AllocErro
     })
 }
 
-// Whether this is the text of the report of what these tasks tell themselves.
+// Whether this is the text of the report from the tasks themselves.
 fn is_told(alloc: Global, tasks: &[FiberTask<'_>], report: &str) -> Result<bool, Fail> {
     is_text_of(alloc, &report_of(alloc, tasks)?, report)
 }
 
-// Whether this is the text of the report that is gathered from these tasks, and of what they tell
+// Whether this is the text of the report that is gathered from these tasks, and of the report from the tasks
 // themselves.
 fn is_gathered<'a>(
     alloc: Global,
@@ -210,7 +210,7 @@ fn is_gathered<'a>(
     is_text_of(alloc, &gather(alloc, registry, code, tasks)?, report)
 }
 
-// Whether these turns of the tasks tell so, and this is the report that is then gathered from them.
+// Whether these turns of the tasks have these results, and this is the report that is then gathered from them.
 fn come_to<'a>(
     alloc: Global,
     registry: &Registry,
@@ -229,7 +229,7 @@ fn come_to<'a>(
     is_gathered(alloc, registry, code, most, tasks, report)
 }
 
-// Fiber 0's task, which may make so many moves, as the only one.
+// Fiber 0's task, with `most` moves, as the only one.
 fn only_first<'a>(
     alloc: Global,
     registry: &'a Registry,
@@ -245,8 +245,8 @@ fn only_first<'a>(
     Ok(tasks)
 }
 
-/// Makes these turns of a program's fibers, of which fiber 0 may make so many moves. Whether they tell
-/// so, and this is the text of the report that is then gathered from all tasks.
+/// Makes these turns of a program's fibers; fiber 0 has `most` moves. Whether they have these results, and this is the
+/// text of the report that is then gathered from all tasks.
 pub fn turn_by_turn(
     alloc: Global,
     text: &str,
@@ -262,22 +262,22 @@ pub fn turn_by_turn(
     come_to(alloc, &registry, &code, moves, tasks, turns, report)
 }
 
-/// Turns of a program's fibers that are made by hand, and what comes of them.
+/// Turns of a program's fibers that are made by hand, and their results.
 pub struct Turns<'a> {
-    /// What the turns show.
+    /// The rule that the turns show.
     pub rule: &'a str,
     pub program: &'a str,
-    /// How many moves fiber 0 may make. A child may make those that are left at its start.
+    /// The number of moves of fiber 0. A child begins with those that are left at its start.
     pub moves: u32,
     pub turns: &'a [Row],
-    /// A schedule that has the moves of the turns, in their order: a turn that made n moves of fiber f
-    /// stands in it as n entries of f. The refused move of a turn is no entry.
+    /// A schedule of the moves of the turns, in their order: a turn that made n moves of fiber f is n entries of f. The
+    /// refused move of a turn isn't an entry.
     pub schedule: &'a str,
     /// The report that is gathered from the tasks, which is the core's under the schedule.
     pub report: &'a str,
 }
 
-// Whether the turns tell what they should, and the gathered and the core's report are the one they come to.
+// Whether the turns have the expected results, and the gathered report and the core's report are the expected one.
 fn is_met(alloc: Global, limits: Limits, case: &Turns<'_>) -> Result<bool, Fail>
     requires { AreLimits limits }
 {
@@ -294,7 +294,7 @@ fn is_met(alloc: Global, limits: Limits, case: &Turns<'_>) -> Result<bool, Fail>
     is_replayed(alloc, case.program, limits, case.schedule, case.report)
 }
 
-/// Makes the turns of each case, and compares what they tell, and the gathered and the core's report.
+/// Makes the turns of each case, and compares their results, and the gathered report and the core's.
 pub fn expect_turns<R: Abort + AllocGlobal>(
     rt: &R,
     limits: Limits,

@@ -1,4 +1,4 @@
--- A term as one line of words, values, names and ends of forms, in the order of its text.
+-- A term as a flat list of words, values, names and ends of forms, in the order of its text.
 use Rattle.std.specs.Prelude.{List, [], ◌∷◌, ◌++◌}
 use Rattle.effect_term.specs.declared.term.Operand.{Operand}
 use Rattle.effect_term.specs.declared.term.Name.{Name}

@@ -10,11 +10,11 @@ abbrev pub bounds : List ℕ → List Binding → List Bound
 bounds text [] = []
 bounds text (b ∷ bs) = bound_of text b ∷ bounds text bs
 
--- the hash of a spelling: two that differ have seldom the same
+-- the hash of a spelling: different spellings seldom have the same hash
 unfoldable pub hash_of : List ℕ → ℕ
 hash_of x = fold (λ hash b. ((hash * 31) % 2 ^ 32 + b) % 2 ^ 32) 0 x
 
--- the spellings stand within the text, and their hashes are known
+-- the spellings are places within the text, and the hashes are those of the spellings
 abbrev pub InText : List ℕ → List Binding → Type 0
 InText text [] = Unit {0}
 InText text (b ∷ bs) =

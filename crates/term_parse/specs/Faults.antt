@@ -1,19 +1,19 @@
--- The first fault of a text from left to right, apart from any reading: some tokens fit, and what comes there is a
--- fault.
+-- The first fault of a text from left to right, stated apart from any reading: the tokens before it fit, and the rest
+-- begins with a fault.
 use Rattle.std.specs.Prelude.{◌≡◌, ℕ, List, [], ◌∷◌, ◌++◌, Ok, Err, Bool, true, false, nat_lt, length}
 use Rattle.term_parse.specs.declared.error.ParseError.{ParseError}
 use Rattle.term_parse.specs.declared.error.ParseError.TheVariants as errors
 use Rattle.term_parse.specs.Lexemes.{Placed, lexemes_at}
 use Rattle.term_parse.specs.Reading.{Want, term, ReadStep, want_step, open_of}
 
--- each token fits what is wanted there, and this is wanted after them
+-- each token fits what is wanted, and the second list is what is wanted after them
 abbrev pub Fit : List Want → List Placed → List Want → Type 0
 Fit ws [] after = ws ≡ after
 Fit [] (t ∷ ts) after = ⊥
 Fit (w ∷ ws) (t ∷ ts) after =
     (s : ReadStep) × (want_step (open_of (w ∷ ws)) w t.lexeme t.place ≡ Ok s) × Fit (s.wants ++ ws) ts after
 
--- where these are wanted, what comes there is this fault
+-- the rest begins with this fault, given what is wanted
 abbrev pub Breaks : ℕ → List Want → List Placed → ParseError → Type 0
 Breaks end [] [] e = ⊥
 Breaks end [] (t ∷ ts) e = e ≡ errors.Trailing t.place
@@ -32,6 +32,6 @@ abbrev pub FaultWhere : Bool → List ℕ → ParseError → Type 0
 FaultWhere true text e = e ≡ errors.TooLong 65536
 FaultWhere false text e = IsFirstFault (length text) (term [] ∷ []) (lexemes_at 0 text) e
 
--- the first fault of a whole text; that it is too long comes before all others
+-- the first fault of a whole text; TooLong comes before all others
 abbrev pub IsFaultOf : List ℕ → ParseError → Type 0
 IsFaultOf text e = FaultWhere (nat_lt 65536 (length text)) text e

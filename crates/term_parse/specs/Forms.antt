@@ -1,4 +1,4 @@
--- What an open form stands for, and which pieces its word wants.
+-- The meaning of an open form, and the pieces that its word wants.
 use Rattle.std.specs.Prelude.{◌≡◌, ◌≤◌, ◌<◌, ◌+◌, ℕ, suc, List, [], ◌∷◌, ◌++◌, length, drop, Box}
 use Rattle.effect_term.specs.declared.term.Term as terms
 use Rattle.term_parse.specs.declared.table.Word.{Word}
@@ -22,7 +22,7 @@ use Rattle.term_parse.specs.Reading.{Want, term, parts, open_of, with_front, rea
 use Rattle.term_parse.specs.Language.{parts_of}
 use Rattle.term_parse.specs.Bindings.{bounds, InText}
 
--- what kind of piece a part gives
+-- the kind of piece that a part gives
 pub data Sort : Type 0 where
   a_name : Sort
   a_value : Sort
@@ -59,7 +59,7 @@ AllTerms [] = Unit {0}
 AllTerms (a_term ∷ s) = AllTerms s
 AllTerms (x ∷ s) = ⊥
 
--- these pieces are what these parts give
+-- these are the pieces that these parts give
 abbrev pub Completes : List Part → List Sort → Type 0
 Completes [] s = ⊥
 Completes (Close ∷ ps) s = s ≡ []
@@ -71,7 +71,7 @@ Completes (Term ∷ ps) s = (r : List Sort) × (s ≡ a_term ∷ r) × Completes
 Completes (Under i ∷ ps) s = (r : List Sort) × (s ≡ a_term ∷ r) × Completes ps r
 Completes (UnderBoth i j ∷ ps) s = (r : List Sort) × (s ≡ a_term ∷ r) × Completes ps r
 
--- the pieces of which a term of this word is made
+-- the pieces that make a term of this word
 abbrev pub Shaped : Word → List Sort → Type 0
 Shaped words.Pure s = s ≡ a_value ∷ []
 Shaped words.Raise s = s ≡ a_value ∷ []
@@ -106,24 +106,24 @@ Shaped words.BracketFull s = s ≡ a_term ∷ a_term ∷ a_term ∷ a_term ∷ a
 Shaped words.Race s = s ≡ a_term ∷ a_term ∷ []
 Shaped words.Both s = s ≡ a_term ∷ a_term ∷ a_term ∷ []
 
--- a word with a term in it
+-- the word has a term in its form
 abbrev pub NotPlain : Word → Type 0
 NotPlain w = (w ≡ words.Pure → ⊥) × (w ≡ words.Raise → ⊥) × (w ≡ words.Add → ⊥) × (w ≡ words.Say → ⊥) ×
     (w ≡ words.Cede → ⊥) × (w ≡ words.Never → ⊥) × (w ≡ words.Canceled → ⊥) × (w ≡ words.Cancel → ⊥) ×
     (w ≡ words.Get → ⊥) × (w ≡ words.Set → ⊥) × (w ≡ words.Modify → ⊥) × (w ≡ words.Complete → ⊥) ×
     (w ≡ words.Await → ⊥)
 
--- none of the words with one term in it
+-- the word is none of those with one term in their form
 abbrev pub NotOne : Word → Type 0
 NotOne w = (w ≡ words.Uncancelable → ⊥) × (w ≡ words.Poll → ⊥) × (w ≡ words.Ref → ⊥) × (w ≡ words.Deferred → ⊥) ×
     (w ≡ words.Repeat → ⊥) × (w ≡ words.Forever → ⊥)
 
--- none of the words with two terms in it
+-- the word is none of those with two terms in their form
 abbrev pub NotTwo : Word → Type 0
 NotTwo w = (w ≡ words.Let → ⊥) × (w ≡ words.Handle → ⊥) × (w ≡ words.If0 → ⊥) × (w ≡ words.OnCancel → ⊥) ×
     (w ≡ words.Start → ⊥) × (w ≡ words.Guarantee → ⊥) × (w ≡ words.Race → ⊥)
 
--- what the parts that are left give completes the form, and its binders stand within the text
+-- the pieces that the remaining parts give complete the form, and its binders are spelled within the text
 pub record Sound (text : List ℕ) (f : OpenForm) : Type 0 where
   pub shape : (more : List Sort) → Completes (drop f.next (parts_of f.word)) more →
       Shaped f.word (sorts f.pieces ++ more)
@@ -137,11 +137,11 @@ pub record Awaits (text : List ℕ) (f : OpenForm) : Type 0 where
   pub scope : InText text f.scope
   pub bound : InText text f.bound
 
--- what is wanted of a form
+-- what the form wants
 abbrev pub want_of : List ℕ → OpenForm → Want
 want_of text f = parts (bounds text f.scope) (bounds text f.bound) (drop f.next (parts_of f.word))
 
--- what has been read of a form
+-- the atoms of what has been read of the form
 abbrev pub front_of : OpenForm → List Atom
 front_of f = word f.word ∷ pieces_atoms f.pieces
 
@@ -161,12 +161,12 @@ abbrev pub IsOneTerm : Part → Type 0
 IsOneTerm More = ⊥
 IsOneTerm p = IsTermPart p
 
--- what is wanted after a term: more terms may stand where any number may
+-- the parts that are wanted after a term: `More` is wanted again
 abbrev pub after : Part → List Part → List Part
 after More ps = More ∷ ps
 after p ps = ps
 
--- g is f with this piece added, and this part wanted next
+-- g is f with this piece added, and with this part wanted next
 pub record Adds (f : OpenForm) (p : ReadPart) (next : ℕ) (g : OpenForm) : Type 0 where
   pub same_word : g.word ≡ f.word
   pub next_is : g.next ≡ next
@@ -174,7 +174,7 @@ pub record Adds (f : OpenForm) (p : ReadPart) (next : ℕ) (g : OpenForm) : Type
   pub same_bound : g.bound ≡ f.bound
   pub pieces_are : g.pieces ≡ f.pieces ++ p ∷ []
 
--- whatever is wanted around this form, with so many brackets open, the reading from here on fails so
+-- whatever the outer forms want, with this many brackets open, the reading from here on fails with this error
 abbrev pub FailsAt : List ℕ → ℕ → ℕ → OpenForm → ParseError → Type 0
 FailsAt text at depth f e =
     (todo : List Want) → suc (open_of todo) ≡ depth → Fails e (reads_at text at (want_of text f ∷ todo))
@@ -186,7 +186,7 @@ pub record Reads (text : List ℕ) (at : ℕ) (f g : OpenForm) (next : ℕ) : Ty
   pub sound : Sound text f → Sound text g
   pub same_scope : g.scope ≡ f.scope
 
--- a form inside this one was opened
+-- a form inside f was opened
 pub record Opens (text : List ℕ) (at depth : ℕ) (f outer inner : OpenForm) (next : ℕ) : Type 0 where
   pub goes_on : (todo : List Want) → suc (open_of todo) ≡ depth →
       with_front (front_of f) (reads_at text at (want_of text f ∷ todo)) ≡ with_front (front_of outer ++
@@ -202,8 +202,8 @@ pub record Closes (text : List ℕ) (at : ℕ) (f : OpenForm) (next : ℕ) : Typ
       (reads_at text next todo)
   pub shaped : Sound text f → Shaped f.word (sorts f.pieces)
 
--- what a token did to this form and the binders around the innermost, which became g and t, and under which so many
--- brackets are open
+-- the effect of a token on the innermost form and on the binders around it, which became g and t; this many brackets
+-- are open
 abbrev pub Stepped : List ℕ → ℕ → ℕ → List Binding → Form → List Binding → Form → FormStep → Type 0
 Stepped text at depth s f t g (steps.Read next) =
     Reads text at (innermost s f) (innermost t g) next × (at < next) × (next ≤ length text)
@@ -213,12 +213,12 @@ Stepped text at depth s f t g (steps.Opened w next) =
 Stepped text at depth s f t g (steps.Closed next) =
     Closes text at (innermost s f) next × (g ≡ f) × (t ≡ s) × (at < next) × (next ≤ length text)
 
--- what is wanted of the forms around, the innermost first, which stand with the outermost first
+-- what the forms around want, the innermost first; the list has the outermost first
 abbrev pub todo_onto : List ℕ → List Want → List OpenForm → List Want
 todo_onto text around [] = around
 todo_onto text around (f ∷ fs) = todo_onto text (want_of text f ∷ around) fs
 
--- what has been read of these forms
+-- the atoms of what has been read of these forms
 abbrev pub fronts : List OpenForm → List Atom
 fronts [] = []
 fronts (f ∷ fs) = front_of f ++ fronts fs
@@ -231,7 +231,7 @@ abbrev pub ScopesWithin : ℕ → List OpenForm → Type 0
 ScopesWithin n [] = Unit {0}
 ScopesWithin n (f ∷ fs) = (length f.scope ≤ n) × ScopesWithin n fs
 
--- these forms are open, the first inside the others, and what was read of them and is left of the text is the whole
+-- these forms are open, the first inside the others; the atoms that were read and the rest of the text make the whole
 -- text
 pub record IsStack (text : List ℕ) (at : ℕ) (f : OpenForm) (fs : List OpenForm) : Type 0 where
   pub within : at ≤ length text
@@ -243,12 +243,12 @@ pub record IsStack (text : List ℕ) (at : ℕ) (f : OpenForm) (fs : List OpenFo
   pub few_around : ScopesWithin at fs
   pub forms : length fs ≤ at
 
--- the text is one term up to this place, and this is what is left
+-- the text up to `end` is this one term
 pub record IsWhole (text : List ℕ) (t : terms.Term) (end : ℕ) : Type 0 where
   pub within : end ≤ length text
   pub left : reads_at text 0 (term [] ∷ []) ≡ with_front (atoms_of t) (reads_at text end [])
 
--- this form is the innermost, under these binders, and those around it are open
+-- this form is the innermost, under these binders, and the forms around it are open
 pub record IsOpen (text : List ℕ) (at : ℕ) (s : List Binding) (f : Form) (fs : List (Box Form Global)) : Type 0 where
   pub stack : IsStack text at (innermost s f) (outers s fs)
   pub growing : Growing 0 fs (length s)
@@ -256,12 +256,12 @@ pub record IsOpen (text : List ℕ) (at : ℕ) (s : List Binding) (f : Form) (fs
 abbrev pub AreOpen : List ℕ → ℕ → Open → Type 0
 AreOpen text at o = IsOpen text at o.scope.items o.form.value o.around.items
 
--- what one token did: these forms are open now, or the whole term was read
+-- the result of one token: these forms are open now, or the whole term was read
 abbrev pub Turned : List ℕ → ℕ → Open → TermStep → Type 0
 Turned text at o (turns.More next) = AreOpen text next o × (at < next)
 Turned text at o (turns.Done t end) = IsWhole text t end
 
--- a form that was closed has the pieces that its word wants
+-- a closed form has the pieces that its word wants
 abbrev pub Buildable : Form → FormStep → Type 0
 Buildable f (steps.Read next) = Unit {0}
 Buildable f (steps.Opened w next) = Unit {0}

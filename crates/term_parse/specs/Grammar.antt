@@ -1,4 +1,4 @@
--- The grammar: what stands in a form, and what it means, as a relation apart from any reading.
+-- The grammar: the parts of a form and its meaning, as a relation apart from any reading.
 use Rattle.std.specs.Prelude.{◌≡◌, ◌≤◌, ℕ, suc, max, ℤ, List, [], ◌∷◌, ◌++◌, length}
 use Rattle.term_parse.specs.Atoms.{Atom, word, value, name, ended}
 use Rattle.effect_term.specs.declared.term.Kind.TheVariants as kinds
@@ -12,7 +12,7 @@ use Rattle.term_parse.specs.Innermost.{IsInnermost}
 use Rattle.term_parse.specs.Language.{word_spelling, parts_of}
 use Rattle.term_parse.specs.Reading.{Bound, entered}
 
--- what stands in a form behind its word, up to its closing bracket; each token with its place
+-- the content of a form behind its word, up to its closing bracket; each token with its place
 pub data Phrase : Type 0 where
   done : ℕ → Phrase
   spelled : ℕ → List ℕ → Phrase → Phrase
@@ -28,7 +28,7 @@ tokens_of (form a c w q p) = record { lexeme = opens; place = a } ∷ record {
   place = c;
 } ∷ (tokens_of q ++ tokens_of p)
 
--- how many brackets are open inside at most, beside those around
+-- the greatest number of brackets open inside, without those around
 abbrev pub depth_of : Phrase → ℕ
 depth_of (done a) = 0
 depth_of (spelled a x p) = depth_of p
@@ -36,7 +36,7 @@ depth_of (counted a n p) = depth_of p
 depth_of (form a c w q p) = max (suc (depth_of q)) (depth_of p)
 
 -- In this scope and under these binders the phrase is these parts and means these atoms. A use of a name means the
--- innermost binder of its spelling, which has to be of the kind that the part wants.
+-- innermost binder of its spelling, which must have the kind that the part wants.
 abbrev pub Means : List Bound → List Bound → List Part → Phrase → List Atom → Type 0
 Means s b (Close ∷ ps) (done a) xs = xs ≡ ended ∷ []
 Means s b (More ∷ ps) (done a) xs = xs ≡ ended ∷ []

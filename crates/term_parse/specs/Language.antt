@@ -1,4 +1,4 @@
--- The language: how each word is spelled, and what stands in its form.
+-- The language: the spelling of each word, and the parts of its form.
 use Rattle.std.specs.Prelude.{ℕ, List, [], ◌∷◌, Option, codes, find}
 use Rattle.std.specs.Str.{bytes_eq}
 use Rattle.effect_term.specs.declared.term.Kind.TheVariants as kinds
@@ -16,7 +16,7 @@ every_word =
     words.Await ∷ words.Repeat ∷ words.Forever ∷ words.Guarantee ∷ words.Bracket ∷ words.BracketCase ∷
     words.BracketFull ∷ words.Race ∷ words.Both ∷ []
 
--- how each is spelled
+-- the spelling of each word
 unfoldable pub word_spelling : Word → List ℕ
 word_spelling words.Pure = codes "pure"
 word_spelling words.Raise = codes "raise"
@@ -51,9 +51,9 @@ word_spelling words.BracketFull = codes "bracketfull"
 word_spelling words.Race = codes "race"
 word_spelling words.Both = codes "both"
 
--- What stands in each form behind its word, in the order of writing. A form's binders are counted from 0 in that order;
--- `Under i` is a term that sees binder i, `UnderBoth i j` one that sees i and, inside it, j, and `Term` sees none
--- of them.
+-- The parts of each form behind its word, in the order of writing. A form's binders are counted from 0 in that order.
+-- `Under i` is a term that sees binder i, `UnderBoth i j` one that sees i and, inside it, j, and `Term` sees none of
+-- them.
 unfoldable pub parts_of : Word → List Part
 -- (pure v)
 parts_of words.Pure = Value ∷ Close ∷ []
@@ -122,6 +122,6 @@ parts_of words.Race = Term ∷ Term ∷ Close ∷ []
 -- (both a b x y k)
 parts_of words.Both = Term ∷ Term ∷ Bind kinds.Value ∷ Bind kinds.Value ∷ UnderBoth 0 1 ∷ Close ∷ []
 
--- the word that is spelled so, if there is one
+-- the word with this spelling, if there is one
 unfoldable pub word_of : List ℕ → Option Word
 word_of x = find (λ w. bytes_eq (word_spelling w) x) every_word

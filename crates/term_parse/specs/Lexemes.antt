@@ -3,8 +3,8 @@ use Rattle.std.specs.Prelude.{◌==◌, ◌&&◌, ◌||◌, ◌^◌, ℕ, suc, �
 use Rattle.std.specs.Prelude.{length, drop, Option, Some, None, if◌then◌else◌, neg_ℤ}
 use Rattle.std.specs.Str.Parse.{digits_value}
 
--- a token: a bracket, an identifier, a number, a run that begins as a number and isn't one, or a byte with which no
--- token begins
+-- a token: a bracket, an identifier, a number, a run that begins like a number and isn't one, or a byte that begins no
+-- token
 pub data Lexeme : Type 0 where
   opens : Lexeme
   closes : Lexeme
@@ -31,7 +31,7 @@ is_digit b = nat_le 48 b && nat_le b 57
 abbrev pub is_run : ℕ → Bool
 is_run b = is_letter b || is_digit b
 
--- the bytes up to the first that may not go on a run
+-- the bytes up to the first that ends a run
 abbrev pub run_of : List ℕ → List ℕ
 run_of [] = []
 run_of (b ∷ bs) = if is_run b then b ∷ run_of bs else []
@@ -40,12 +40,12 @@ abbrev pub all_digits : List ℕ → Bool
 all_digits [] = true
 all_digits (b ∷ bs) = is_digit b && all_digits bs
 
--- the digits of a number that isn't 0
+-- digits of a number, without a leading 0
 abbrev pub is_plain : List ℕ → Bool
 is_plain [] = false
 is_plain (b ∷ bs) = nat_lt 48 b && all_digits (b ∷ bs)
 
--- 0, or digits that do not begin with 0, after a minus sign or not, within 63 bits with sign
+-- 0, or digits without a leading 0, with or without a minus sign, within 63 bits with sign
 unfoldable pub number_of : List ℕ → Option ℤ
 number_of [] = None
 number_of (b ∷ bs) =
@@ -59,7 +59,7 @@ unfoldable pub numbered : Option ℤ → Lexeme
 numbered (Some n) = number n
 numbered None = bad_number
 
--- the token that begins with this byte, before these bytes
+-- the token that begins with this byte, which is followed by these bytes
 unfoldable pub lexeme_of : ℕ → List ℕ → Lexeme
 lexeme_of b bs =
     if b == 40 then opens
@@ -68,8 +68,8 @@ lexeme_of b bs =
     else if is_digit b || (b == 45) then numbered (number_of (b ∷ run_of bs))
     else bad_byte
 
--- the tokens of these bytes, of which the first has this place; inside a run, the rest of the run belongs to the
--- token before
+-- the tokens of these bytes; the first byte has this place. Inside a run, the rest of the run belongs to the token
+-- before
 unfoldable pub lexemes : Bool → ℕ → List ℕ → List Placed
 lexemes inside at [] = []
 lexemes inside at (b ∷ bs) =

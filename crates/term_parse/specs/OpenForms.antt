@@ -1,5 +1,4 @@
--- The forms that are open. The binders around the innermost stand in one list, and those around an outer form are the
--- first of them.
+-- The open forms. The binders around the innermost are one list, and those around an outer form are a first part of it.
 use Rattle.std.specs.Prelude.{◌≡◌, ◌≤◌, ℕ, List, [], ◌∷◌, take, Box}
 use Rattle.std.specs.declared.alloc.Global.{Global}
 use Rattle.term_parse.specs.declared.table.Word.{Word}
@@ -7,8 +6,8 @@ use Rattle.term_parse.specs.declared.scope.Binding.{Binding}
 use Rattle.term_parse.specs.declared.form.ReadPart.{ReadPart}
 use Rattle.term_parse.specs.declared.form.Form.{Form}
 
--- a form whose closing bracket hasn't come: its word, the part that is wanted next, the binders around it and its own,
--- and what its parts gave
+-- a form whose closing bracket hasn't been read: its word, the part that is wanted next, the binders around it, its own
+-- binders, and what its parts gave
 pub record OpenForm : Type 0 where
   pub word : Word
   pub next : ℕ
@@ -29,7 +28,7 @@ abbrev pub outers : List Binding → List (Box Form Global) → List OpenForm
 outers scope [] = []
 outers scope (f ∷ fs) = outer scope f.value ∷ outers scope fs
 
--- a form of which only the word has been read
+-- a form where only the word has been read
 abbrev pub begun_form : Word → List Binding → OpenForm
 begun_form w scope = record { word = w; next = 0; scope = scope; bound = []; pieces = [] }
 
@@ -39,7 +38,7 @@ pub record IsBegun (w : Word) (f : Form) : Type 0 where
   pub bound_is : f.bound.items ≡ []
   pub pieces_are : f.pieces.items ≡ []
 
--- the binders around these forms grow more from each to the next, from so many on up to so many
+-- the number of binders around these forms doesn't fall from each form to the next, from the first number to the second
 abbrev pub Growing : ℕ → List (Box Form Global) → ℕ → Type 0
 Growing low [] high = low ≤ high
 Growing low (f ∷ fs) high = (low ≤ f.value.scope) × Growing f.value.scope fs high

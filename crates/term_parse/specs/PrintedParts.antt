@@ -1,4 +1,4 @@
--- What the printer holds of a form, without where it lies in memory.
+-- What the printer holds of a form, apart from its place in memory.
 use Rattle.std.specs.Prelude.{◌≡◌, ℕ, List, [], ◌∷◌, ◌++◌, Option, Some, None, map}
 use Rattle.effect_term.specs.declared.term.Operand.{Operand}
 use Rattle.effect_term.specs.declared.term.Name.{Name}
@@ -17,13 +17,13 @@ use Rattle.term_parse.specs.declared.table.Word.TheVariants as words
 use Rattle.term_parse.specs.Atoms.{Atom, value, name, atoms_of}
 use Rattle.term_parse.specs.Spelling as spelled
 
--- a piece as it is spelled
+-- a piece, as it is spelled
 abbrev pub piece_of : PrintedPart → spelled.SpelledPart
 piece_of (held.Value v) = spelled.value v.now
 piece_of (held.Name n) = spelled.name n
 piece_of (held.Term t) = spelled.inner (spelled.spelling t.now)
 
--- the pieces up to the first that is missing
+-- the pieces before the first missing one
 abbrev pub pieces_of : List (Option PrintedPart) → List spelled.SpelledPart
 pieces_of [] = []
 pieces_of (Some p ∷ ps) = piece_of p ∷ pieces_of ps
@@ -32,7 +32,7 @@ pieces_of (None ∷ ps) = []
 abbrev pub terms_spelled : List Term → List (ℕ → List ℕ)
 terms_spelled ts = map spelled.spelling ts
 
--- the atoms of terms, one after another, and these
+-- the atoms of the terms, one after another, and then these atoms
 abbrev pub terms_atoms : List Term → List Atom → List Atom
 terms_atoms [] end = end
 terms_atoms (t ∷ ts) end = atoms_of t ++ terms_atoms ts end
@@ -42,19 +42,19 @@ piece_atoms (held.Value v) = value v.now ∷ []
 piece_atoms (held.Name n) = name n ∷ []
 piece_atoms (held.Term t) = atoms_of t.now
 
--- the atoms of pieces, one after another, and these
+-- the atoms of the pieces, one after another, and then these atoms
 abbrev pub pieces_atoms : List (Option PrintedPart) → List Atom → List Atom
 pieces_atoms [] end = end
 pieces_atoms (Some p ∷ ps) end = piece_atoms p ++ pieces_atoms ps end
 pieces_atoms (None ∷ ps) end = end
 
--- no piece is left
+-- no piece remains
 abbrev pub Spent : List (Option PrintedPart) → Type 0
 Spent [] = Unit {0}
 Spent (None ∷ q) = Unit {0}
 Spent (Some x ∷ q) = ⊥
 
--- there is a piece for each part that wants one, and no further piece, and further terms stand only where they may
+-- there is exactly one piece for each part that wants one, and further terms only if the parts end with `More`
 abbrev pub Suffice : List Part → List (Option PrintedPart) → List Term → Type 0
 Suffice [] q more = ⊥
 Suffice (parts.Close ∷ ps) q more = Spent q × (more ≡ [])
@@ -63,7 +63,7 @@ Suffice (parts.Bind k ∷ ps) q more = Suffice ps q more
 Suffice (p ∷ ps) (Some x ∷ q) more = Suffice ps q more
 Suffice (p ∷ ps) q more = ⊥
 
--- what stands in a form beside its binders, without where it lies in memory
+-- a part of a form other than a binder, apart from its place in memory
 pub data Held : Type 0 where
   a_value : Operand → Held
   a_name : Name → Held
@@ -74,7 +74,7 @@ held_by (held.Value v) = a_value v.now
 held_by (held.Name n) = a_name n
 held_by (held.Term t) = inner t.now
 
--- what the pieces up to the first that is missing hold
+-- what the pieces before the first missing one hold
 abbrev pub held_in : List (Option PrintedPart) → List Held
 held_in [] = []
 held_in (Some p ∷ ps) = held_by p ∷ held_in ps
@@ -115,7 +115,7 @@ term_word (BracketFull' p acq q body r rs s re t rc) = words.BracketFull
 term_word (Race' p a q b) = words.Race
 term_word (Both' p a q b r k) = words.Both
 
--- what stands in a term beside its binders, but for the terms that a `seq` has behind its first two
+-- the parts of a term other than binders, without the terms of a `seq` behind its first two
 abbrev pub held_of : Term → List Held
 held_of (Pure v) = a_value v ∷ []
 held_of (Raise v) = a_value v ∷ []
@@ -150,7 +150,7 @@ held_of (BracketFull' p acq q body r rs s re t rc) = inner acq ∷ inner body �
 held_of (Race' p a q b) = inner a ∷ inner b ∷ []
 held_of (Both' p a q b r k) = inner a ∷ inner b ∷ inner k ∷ []
 
--- the terms that a `seq` has behind its first two
+-- the terms of a `seq` behind its first two
 abbrev pub more_of : Term → List Term
 more_of (Seq' p a q b shape more) = items-the_row-Term _ more
 more_of (Pure v) = []

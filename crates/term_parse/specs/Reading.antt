@@ -21,7 +21,7 @@ pub record Bound : Type 0 where
   pub spelling : List ℕ
   pub kind : Kind
 
--- the innermost binder of a spelling in a scope, which stands last; the slot of the first is given
+-- the innermost binder of a spelling in a scope, which is the last one; the number is the slot of the first binder
 unfoldable pub find_from : ℕ → List Bound → List ℕ → Option Name
 find_from n [] x = None
 find_from n (b ∷ bs) x = elim (find_from (suc n) bs x) [
@@ -29,7 +29,7 @@ find_from n (b ∷ bs) x = elim (find_from (suc n) bs x) [
   | None ↦ if bytes_eq b.spelling x then Some (record { slot = n; kind = b.kind }) else None
 ]
 
--- what a use of this kind at this place means: the innermost binder of its spelling, whatever its kind
+-- the meaning of a use of this kind at this place: the innermost binder of its spelling, whatever its kind
 unfoldable pub meaning : List Bound → Kind → List ℕ → ℕ → Result Name ParseError
 meaning scope kind x at = elim (find_from 0 scope x) [
   | None ↦ Err (errors.UnknownName at)
@@ -39,7 +39,7 @@ meaning scope kind x at = elim (find_from 0 scope x) [
 unfoldable pub picked : List Bound → ℕ → List Bound
 picked bound i = elim (slice_get bound i) [ Some b ↦ b ∷ [] | None ↦ [] ]
 
--- the binders that enclose a term: those around the form, and of the form's own those that the part names
+-- the binders that enclose a term: those around the form, and those of the form's own binders that the part names
 unfoldable pub entered : List Bound → List Bound → Part → List Bound
 entered scope bound (Under i) = scope ++ picked bound i
 entered scope bound (UnderBoth i j) = (scope ++ picked bound i) ++ picked bound j
@@ -51,12 +51,12 @@ pub data Want : Type 0 where
   a_word : List Bound → Want
   parts : List Bound → List Bound → List Part → Want
 
--- what a token gives, and what is wanted in its want's place
+-- the atoms of a token, and what is wanted in place of the want that it met
 pub record ReadStep : Type 0 where
   pub atoms : List Atom
   pub wants : List Want
 
--- an opening bracket that is wanted, where so many are open
+-- an opening bracket where one is wanted, with this many open
 abbrev pub opening : ℕ → ℕ → List Want → Result ReadStep ParseError
 opening depth at wants = if nat_lt depth 100 then Ok (record { atoms = []; wants = wants }) else Err (errors.TooDeep at)
 
@@ -68,7 +68,7 @@ abbrev pub begun : Option Word → List Bound → ℕ → Result ReadStep ParseE
 begun (Some w) scope at = Ok (record { atoms = word w ∷ []; wants = parts scope [] (parts_of w) ∷ [] })
 begun None scope at = Err (errors.UnknownWord at)
 
--- a good token where a part of a form is wanted; a token of another kind is a fault of the form
+-- the effect of a good token where a part of a form is wanted; a token of another kind is a fault of the form
 unfoldable pub part_step : ℕ → List Bound → List Bound → Part → List Part → Lexeme → ℕ → Result ReadStep ParseError
 part_step depth s b (Bind k) ps (called x) at =
     Ok (record { atoms = []; wants = parts s (b ++ record { spelling = x; kind = k } ∷ []) ps ∷ [] })
@@ -84,8 +84,8 @@ part_step depth s b More ps closes at = Ok (record { atoms = ended ∷ []; wants
 part_step depth s b Close ps closes at = Ok (record { atoms = ended ∷ []; wants = [] })
 part_step depth s b p ps t at = Err (errors.Arity at)
 
--- the fault table: what a token gives where this is wanted and so many brackets are open, or its fault.
--- A token that is no good comes before one in the wrong place.
+-- the fault table: the effect of a token on this want, with this many brackets open, or its fault. A bad token is
+-- reported as such, whatever is wanted
 unfoldable pub want_step : ℕ → Want → Lexeme → ℕ → Result ReadStep ParseError
 want_step depth w bad_byte at = Err (errors.BadByte at)
 want_step depth w bad_number at = Err (errors.BadNumber at)
@@ -96,7 +96,7 @@ want_step depth (a_word s) t at = Err (errors.UnknownWord at)
 want_step depth (parts s b []) t at = Err (errors.Arity at)
 want_step depth (parts s b (p ∷ ps)) t at = part_step depth s b p ps t at
 
--- how many brackets are open where these are wanted
+-- the number of brackets open when these are wanted
 abbrev pub open_of : List Want → ℕ
 open_of [] = 0
 open_of (term s ∷ todo) = open_of todo
@@ -107,8 +107,8 @@ abbrev pub with_front : List Atom → Result (List Atom) ParseError → Result (
 with_front front (Ok atoms) = Ok (front ++ atoms)
 with_front front (Err e) = Err e
 
--- what the tokens say where these are wanted, or their first fault: once nothing is wanted a token is one too many,
--- and where something is wanted the text mustn't be over, which has this length
+-- the atoms of the tokens, given what is wanted, or their first fault. A token after everything wanted is a fault, and
+-- so is the end of the text, which has this length, while something is wanted
 unfoldable pub reads : ℕ → List Want → List Placed → Result (List Atom) ParseError
 reads end [] [] = Ok []
 reads end [] (t ∷ ts) = Err (errors.Trailing t.place)
@@ -118,14 +118,14 @@ reads end (w ∷ todo) (t ∷ ts) = elim (want_step (open_of (w ∷ todo)) w t.l
   | Err e ↦ Err e
 ]
 
--- what a text says from this place on
+-- the atoms of a text from this place on
 unfoldable pub reads_at : List ℕ → ℕ → List Want → Result (List Atom) ParseError
 reads_at text at todo = reads (length text) todo (lexemes_at at text)
 
--- what a whole text says: the atoms of one closed term, or its first fault
+-- the reading of a whole text: the atoms of one closed term, or its first fault
 unfoldable pub reading : List ℕ → Result (List Atom) ParseError
 reading text = if nat_lt 65536 (length text) then Err (errors.TooLong 65536) else reads_at text 0 (term [] ∷ [])
 
--- the error is that of the reading, unless it says that memory ran out
+-- the error is that of the reading, or memory ran out
 abbrev pub Fails : ParseError → Result (List Atom) ParseError → Type 0
 Fails e r = (e ≡ errors.NoMemory → ⊥) → r ≡ Err e

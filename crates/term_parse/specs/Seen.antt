@@ -1,4 +1,4 @@
--- What the parser's values stand for.
+-- The meaning of the parser's values.
 use Rattle.std.specs.Prelude.{◌≡◌, ◌≤◌, ◌<◌, ◌==◌, ◌&&◌, ◌||◌, ◌^◌, ℕ, List, ◌∷◌, length, slice_range, nat_le}
 use Rattle.std.specs.Prelude.{Option, Some, None, if◌then◌else◌}
 use Rattle.std.specs.Str.Parse.{digits_value}
@@ -8,11 +8,11 @@ use Rattle.term_parse.specs.declared.token.Token.{Token}
 use Rattle.term_parse.specs.declared.token.TokenKind.{TokenKind}
 use Rattle.term_parse.specs.declared.token.TokenKind.TheVariants as tokens
 
--- the value of digits that do not begin with 0, where a minus sign may stand before it
+-- the number with these digits, which don't begin with 0, if it is in range behind a minus sign
 unfoldable pub plain_value : List ℕ → Option ℕ
 plain_value ds = if is_plain ds && nat_le (digits_value 10 ds) (2 ^ 62) then Some (digits_value 10 ds) else None
 
--- the token of this first byte and these bytes
+-- the token with this first byte and these bytes
 unfoldable pub lexeme_as : ℕ → List ℕ → Lexeme
 lexeme_as b run =
     if b == 40 then opens
@@ -33,13 +33,13 @@ seen_kind run tokens.BadByte = bad_byte
 abbrev pub seen : List ℕ → Token → Lexeme
 seen text t = seen_kind (slice_range text t.start t.end) t.kind
 
--- the token is none of the bad ones
+-- the token isn't a bad one
 abbrev pub IsGood : TokenKind → Type 0
 IsGood tokens.BadNumber = ⊥
 IsGood tokens.BadByte = ⊥
 IsGood k = Unit {0}
 
--- the next token from this place on, and where the tokens go on
+-- the next token from this place on, and where the tokens after it begin
 pub record IsNext (text : List ℕ) (at : ℕ) (t : Token) : Type 0 where
   pub tokens : lexemes_at at text ≡ record { lexeme = seen text t; place = t.start } ∷ lexemes_at t.end text
   pub within : t.end ≤ length text

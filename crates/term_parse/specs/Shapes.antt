@@ -1,4 +1,4 @@
--- A term apart from where it lies in memory.
+-- A term apart from its place in memory.
 use Rattle.effect_term.specs.declared.term.Operand.{Operand}
 use Rattle.effect_term.specs.declared.term.Name.{Name}
 use Rattle.effect_term.specs.declared.term.Term.{Term, Row_of-Term, end_of-Term, more_of-Term}
@@ -10,14 +10,14 @@ use Rattle.effect_term.specs.declared.term.Term.TheVariants.{BracketCase', Brack
 use Rattle.term_parse.specs.declared.table.Word.{Word}
 use Rattle.term_parse.specs.declared.table.Word.TheVariants as words
 
--- what stands in a form, part by part up to its end: values, names, and forms with their words
+-- the parts of a form up to its end: values, names, and forms with their words
 pub data Shape : Type 0 where
   closed : Shape
   value_then : Operand → Shape → Shape
   name_then : Name → Shape → Shape
   form_then : Word → Shape → Shape → Shape
 
--- a term, and what stands behind it
+-- a term, and then the rest
 abbrev mutual
   pub term_then : Term → Shape → Shape
   term_then (Pure v) rest = form_then words.Pure (value_then v closed) rest
@@ -61,6 +61,6 @@ abbrev mutual
   row_then end_of-Term rest = rest
   row_then (more_of-Term t more) rest = term_then t (row_then more rest)
 
--- a term, apart from where it lies in memory
+-- a term, apart from its place in memory
 abbrev pub shape_of : Term → Shape
 shape_of t = term_then t closed

@@ -34,25 +34,26 @@ abbrev pub operand_spelling : Operand → List ℕ
 operand_spelling (Number n) = signed_decimal n
 operand_spelling (Named n) = name_spelling n.kind n.slot
 
--- what stands in a form beside its binders: a value, a name, or a term, which is spelled by how many binders enclose it
+-- a part of a form other than a binder: a value, a name, or a term, as a function of the number of binders that enclose
+-- it
 pub data SpelledPart : Type 0 where
   value : Operand → SpelledPart
   name : Name → SpelledPart
   inner : (ℕ → List ℕ) → SpelledPart
 
--- how many of its form's binders enclose a term in this part
+-- the number of its form's binders that enclose a term in this part
 abbrev pub binders_of : Part → ℕ
 binders_of (parts.Under i) = 1
 binders_of (parts.UnderBoth i j) = 2
 binders_of p = 0
 
--- how many of its form's binders enclose the binder with this index, by the parts behind it
+-- the number of its form's binders that enclose the binder with this index, given the parts behind it
 abbrev pub outer_binders : ℕ → List Part → ℕ
 outer_binders i [] = 0
 outer_binders i (parts.UnderBoth j k ∷ ps) = if k == i then 1 else outer_binders i ps
 outer_binders i (p ∷ ps) = outer_binders i ps
 
--- a part, where so many binders enclose its form
+-- the spelling of a part, given the number of binders that enclose its form
 abbrev pub piece_spelling : ℕ → Part → SpelledPart → List ℕ
 piece_spelling around p (value v) = operand_spelling v
 piece_spelling around p (name n) = name_spelling n.kind n.slot
@@ -63,8 +64,8 @@ abbrev pub more_spelling : ℕ → List (ℕ → List ℕ) → List ℕ
 more_spelling around [] = 41 ∷ []
 more_spelling around (f ∷ fs) = 32 ∷ (f around ++ more_spelling around fs)
 
--- the parts of a form, each behind a space, and the closing bracket, where so many binders enclose the form and so many
--- of its own stand before
+-- the spelling of the parts of a form, each behind a space, and of the closing bracket, given the number of binders
+-- that enclose the form and the number of its own binders before these parts
 unfoldable pub parts_spelling : ℕ → ℕ → List Part → List SpelledPart → List (ℕ → List ℕ) → List ℕ
 parts_spelling around bound (parts.Close ∷ ps) q more = 41 ∷ []
 parts_spelling around bound (parts.More ∷ ps) q more = more_spelling around more
@@ -74,11 +75,11 @@ parts_spelling around bound (p ∷ ps) (x ∷ q) more =
     32 ∷ (piece_spelling around p x ++ parts_spelling around bound ps q more)
 parts_spelling around bound ps q more = []
 
--- a form from its opening bracket to its closing one
+-- the spelling of a form from its opening bracket to its closing one
 unfoldable pub form : Word → List SpelledPart → List (ℕ → List ℕ) → ℕ → List ℕ
 form w q more around = 40 ∷ (word_spelling w ++ parts_spelling around 0 (parts_of w) q more)
 
--- a term, by how many binders enclose it
+-- the spelling of a term, given the number of binders that enclose it
 abbrev mutual
   pub spelling : Term → ℕ → List ℕ
   spelling (Pure v) = form words.Pure (value v ∷ []) []

@@ -1,4 +1,4 @@
-//! A term from its word and the pieces that its form gave.
+//! Builds a term from its word and the pieces of its form.
 
 ghost use Rattle.std.specs.Prelude.{◌≡◌, List, [], ◌∷◌, ◌++◌, IfOk};
 ghost use Rattle.term_parse.specs.Atoms.{word as word_atom, value as value_atom, name as name_atom, ended, atoms_of};
@@ -11,7 +11,7 @@ use effect_term::{Name, Operand, Term};
 use std::alloc::{AllocError, Global};
 use std::collections::VecDeque;
 
-// Takes the name that stands first.
+// Takes the first piece, a name.
 fn name(pieces: &mut VecDeque<ReadPart>) -> Name
     requires { (rest : List Sort) × (sorts pieces.old.items ≡ a_name ∷ rest) }
     ensures atoms { ends pieces.old.items ≡ name_atom result ∷ ends pieces.new.items }
@@ -26,7 +26,7 @@ fn name(pieces: &mut VecDeque<ReadPart>) -> Name
     name
 }
 
-// Takes the value that stands first.
+// Takes the first piece, a value.
 fn value(pieces: &mut VecDeque<ReadPart>) -> Operand
     requires { (rest : List Sort) × (sorts pieces.old.items ≡ a_value ∷ rest) }
     ensures atoms { ends pieces.old.items ≡ value_atom result ∷ ends pieces.new.items }
@@ -41,7 +41,7 @@ fn value(pieces: &mut VecDeque<ReadPart>) -> Operand
     value
 }
 
-// Takes the term that stands first.
+// Takes the first piece, a term.
 fn term(pieces: &mut VecDeque<ReadPart>) -> Term
     requires { (rest : List Sort) × (sorts pieces.old.items ≡ a_term ∷ rest) }
     ensures atoms { ends pieces.old.items ≡ atoms_of result ++ ends pieces.new.items }
@@ -56,7 +56,7 @@ fn term(pieces: &mut VecDeque<ReadPart>) -> Term
     term
 }
 
-// Takes the term that stands first, into a box.
+// Takes the first piece, a term, into a box.
 fn boxed(alloc: Global, pieces: &mut VecDeque<ReadPart>) -> Result<Box<Term>, AllocError>
     requires { (rest : List Sort) × (sorts pieces.old.items ≡ a_term ∷ rest) }
     ensures atoms { IfOk result (λ t. ends pieces.old.items ≡ atoms_of t.value ++ ends pieces.new.items) }
@@ -67,7 +67,7 @@ fn boxed(alloc: Global, pieces: &mut VecDeque<ReadPart>) -> Result<Box<Term>, Al
     Ok(boxed)
 }
 
-// A value alone.
+// The one piece, a value.
 fn one_value(pieces: &mut VecDeque<ReadPart>) -> Operand
     requires { sorts pieces.old.items ≡ a_value ∷ [] }
     ensures { ends pieces.old.items ≡ value_atom result ∷ ended ∷ [] }
@@ -76,7 +76,7 @@ fn one_value(pieces: &mut VecDeque<ReadPart>) -> Operand
     value
 }
 
-// Two values.
+// The two pieces, both values.
 fn two_values(pieces: &mut VecDeque<ReadPart>) -> (Operand, Operand)
     requires { sorts pieces.old.items ≡ a_value ∷ a_value ∷ [] }
     ensures { ends pieces.old.items ≡ value_atom result.0 ∷ value_atom result.1 ∷ ended ∷ [] }
@@ -86,7 +86,7 @@ fn two_values(pieces: &mut VecDeque<ReadPart>) -> (Operand, Operand)
     (first, second)
 }
 
-// A name alone.
+// The one piece, a name.
 fn one_name(pieces: &mut VecDeque<ReadPart>) -> Name
     requires { sorts pieces.old.items ≡ a_name ∷ [] }
     ensures { ends pieces.old.items ≡ name_atom result ∷ ended ∷ [] }
@@ -95,7 +95,7 @@ fn one_name(pieces: &mut VecDeque<ReadPart>) -> Name
     name
 }
 
-// A name and a value.
+// The two pieces, a name and a value.
 fn name_and_value(pieces: &mut VecDeque<ReadPart>) -> (Name, Operand)
     requires { sorts pieces.old.items ≡ a_name ∷ a_value ∷ [] }
     ensures { ends pieces.old.items ≡ name_atom result.0 ∷ value_atom result.1 ∷ ended ∷ [] }
@@ -105,7 +105,7 @@ fn name_and_value(pieces: &mut VecDeque<ReadPart>) -> (Name, Operand)
     (name, value)
 }
 
-// A term alone.
+// The one piece, a term.
 fn one_term(alloc: Global, pieces: &mut VecDeque<ReadPart>) -> Result<Box<Term>, AllocError>
     requires { sorts pieces.old.items ≡ a_term ∷ [] }
     ensures { IfOk result (λ r. ends pieces.old.items ≡ atoms_of r.value ++ ended ∷ []) }
@@ -114,7 +114,7 @@ fn one_term(alloc: Global, pieces: &mut VecDeque<ReadPart>) -> Result<Box<Term>,
     Ok(term)
 }
 
-// A name and a term.
+// The two pieces, a name and a term.
 fn name_and_term(
     alloc: Global,
     pieces: &mut VecDeque<ReadPart>,
@@ -127,7 +127,7 @@ fn name_and_term(
     Ok((name, term))
 }
 
-// A value and a term.
+// The two pieces, a value and a term.
 fn value_and_term(
     alloc: Global,
     pieces: &mut VecDeque<ReadPart>,
@@ -140,7 +140,7 @@ fn value_and_term(
     Ok((value, term))
 }
 
-// Two terms.
+// The two pieces, both terms.
 fn two_terms(
     alloc: Global,
     pieces: &mut VecDeque<ReadPart>,
@@ -153,7 +153,7 @@ fn two_terms(
     Ok((first, second))
 }
 
-// A value and two terms.
+// The three pieces, a value and two terms.
 fn value_and_two_terms(
     alloc: Global,
     pieces: &mut VecDeque<ReadPart>,
@@ -168,7 +168,7 @@ fn value_and_two_terms(
     Ok((value, first, second))
 }
 
-// Three terms.
+// The three pieces, all terms.
 fn three_terms(
     alloc: Global,
     pieces: &mut VecDeque<ReadPart>,
@@ -183,7 +183,7 @@ fn three_terms(
     Ok((first, second, third))
 }
 
-// A name and three terms.
+// The four pieces, a name and three terms.
 fn name_and_three_terms(
     alloc: Global,
     pieces: &mut VecDeque<ReadPart>,
@@ -199,7 +199,7 @@ fn name_and_three_terms(
     Ok((name, first, second, third))
 }
 
-// Five terms.
+// The five pieces, all terms.
 fn five_terms(
     alloc: Global,
     pieces: &mut VecDeque<ReadPart>,
@@ -216,7 +216,7 @@ fn five_terms(
     Ok((first, second, third, fourth, fifth))
 }
 
-// The terms that are left.
+// The remaining pieces, all terms.
 fn rest_of(alloc: Global, pieces: &mut VecDeque<ReadPart>) -> Result<Vec<Term>, AllocError>
     requires { AllTerms (sorts pieces.old.items) }
     ensures { IfOk result (λ r. ends pieces.old.items ≡ terms_atoms r.items ++ ended ∷ []) }
@@ -231,7 +231,7 @@ fn rest_of(alloc: Global, pieces: &mut VecDeque<ReadPart>) -> Result<Vec<Term>, 
     Ok(terms)
 }
 
-// Two terms or more.
+// The pieces of a `seq`, two terms or more.
 fn terms_of_seq(
     alloc: Global,
     pieces: &mut VecDeque<ReadPart>,
@@ -246,7 +246,7 @@ fn terms_of_seq(
     Ok((first, second, rest))
 }
 
-/// The term of this word and these pieces, which are as the word wants them.
+/// The term of this word and these pieces, which are those that the word wants.
 pub(crate) fn build(
     alloc: Global,
     word: Word,
@@ -285,7 +285,7 @@ pub(crate) fn build(
     }
 }
 
-// The same where the word has a term in it.
+// The term of a word that has a term in its form.
 fn build_with_one(
     alloc: Global,
     word: Word,
@@ -324,7 +324,7 @@ fn build_with_one(
     }
 }
 
-// The same where the word has two terms or more in it.
+// The term of a word that has two terms or more in its form.
 fn build_with_two(
     alloc: Global,
     word: Word,
@@ -368,7 +368,7 @@ fn build_with_two(
     }
 }
 
-// The same where the word has three terms or more in it, or any number.
+// The term of a word that has three terms or more in its form, or any number.
 fn build_with_more(
     alloc: Global,
     word: Word,

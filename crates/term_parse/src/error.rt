@@ -6,8 +6,7 @@ ghost use Rattle.term_parse.specs.declared.error.ParseError.TheVariants.{NoMemor
 use std::alloc::{AllocError, AllocFailed};
 use thiserror::Error;
 
-/// Why a text is refused, and where. A place is the number of bytes before the token that is at
-/// fault, so it counts from 0.
+/// Why a text is refused, and where. A place is the number of bytes before the faulty token, so it counts from 0.
 #[derive(Clone, Copy, PartialEq, Eq, Debug, Error)]
 pub enum ParseError {
     /// There was no memory for the term.
@@ -16,10 +15,10 @@ pub enum ParseError {
     /// No token begins here.
     #[error("no token begins at byte {0}")]
     BadByte(usize),
-    /// The text is over before its term is. The place is the text's length.
+    /// The text ends inside the term. The place is the text's length.
     #[error("the text is over at byte {0}")]
     End(usize),
-    /// Behind an opening bracket stands no word.
+    /// The opening bracket isn't followed by a word of the language.
     #[error("no word stands at byte {0}")]
     UnknownWord(usize),
     /// The form wants a token of another kind.
@@ -28,19 +27,19 @@ pub enum ParseError {
     /// The number isn't well formed, or is out of the range of a value.
     #[error("the number at byte {0} is bad")]
     BadNumber(usize),
-    /// No binder of the name encloses it.
+    /// No enclosing binder has this name.
     #[error("the name at byte {0} has no binder")]
     UnknownName(usize),
     /// The innermost binder of the name is of another kind.
     #[error("the name at byte {0} is of another kind")]
     NameKind(usize),
-    /// With this opening bracket more than 100 would be open.
+    /// Brackets nest at most 100 deep; this opening bracket is the 101st.
     #[error("the brackets go too deep at byte {0}")]
     TooDeep(usize),
     /// The text has more than 65,536 bytes. The place is 65,536.
     #[error("the text is too long at byte {0}")]
     TooLong(usize),
-    /// Something other than space stands behind the term.
+    /// The term is followed by something other than space.
     #[error("more text stands at byte {0}")]
     Trailing(usize),
 }

@@ -1,4 +1,4 @@
-//! The forms whose closing bracket hasn't come, and what one token does to the innermost.
+//! The open forms, and the effect of one token on the innermost.
 
 ghost use Rattle.std.specs.Prelude.{◌≡◌, ◌≤◌, ◌+◌, ◌<◌, ◌^◌, ℕ, suc, List, [], ◌∷◌, ◌++◌, Err, IfOk, IfErr, length};
 ghost use Rattle.std.specs.Prelude.{drop};
@@ -18,7 +18,7 @@ use effect_term::{Kind, Operand, Term, Value};
 use std::alloc::AllocError;
 use std::collections::VecDeque;
 
-/// A piece of a form: a part of it that has been read, apart from binders.
+/// A part of a form that has been read, other than a binder.
 #[derive(Drop)]
 pub(crate) enum ReadPart {
     Name(effect_term::Name),
@@ -26,23 +26,23 @@ pub(crate) enum ReadPart {
     Term(Term),
 }
 
-/// A form whose closing bracket hasn't come.
+/// A form whose closing bracket hasn't been read.
 #[derive(Drop)]
 pub(crate) struct Form {
     /// Its word.
     pub word: Word,
-    /// How many of its parts have been read.
+    /// The number of its parts that have been read.
     pub next: usize,
-    /// How many binders stood around it when a form was last opened inside it.
+    /// The number of binders around it when a form was last opened inside it.
     pub scope: usize,
     /// Its own binders so far.
     pub bound: Vec<Binding>,
-    /// What its parts gave so far.
+    /// What its parts have given so far.
     pub pieces: VecDeque<ReadPart>,
 }
 
-/// What a token did to a form: it read a part of it, opened a form of this word inside it, or closed
-/// it. The number is where the text goes on.
+/// The effect of a token on a form: it read a part, opened a form of this word inside, or closed the form. The number
+/// is the place behind the token.
 #[derive(Clone, Copy)]
 pub(crate) enum FormStep {
     Read(usize),
@@ -50,10 +50,10 @@ pub(crate) enum FormStep {
     Closed(usize),
 }
 
-// How many brackets may be open.
+// The greatest number of open brackets.
 const MOST_OPEN: usize = 100;
 
-/// The token that is wanted here, which is a good one.
+/// The next token, which has to be a good one.
 #[inline(always)]
 pub(crate) fn wanted(text: &[u8], at: usize) -> Result<Token, ParseError>
     requires { at ≤ length text.now }
@@ -71,7 +71,7 @@ pub(crate) fn wanted(text: &[u8], at: usize) -> Result<Token, ParseError>
     }
 }
 
-/// The word that is wanted here, and where the text goes on.
+/// The word that is wanted here, and the place behind it.
 #[inline(always)]
 pub(crate) fn word(text: &[u8], at: usize) -> Result<(Word, usize), ParseError>
     requires { at ≤ length text.now }
@@ -115,7 +115,7 @@ fn bind(text: &[u8], form: &mut Form, token: Token, kind: Kind) -> Result<FormSt
     Ok(FormStep::Read(token.end))
 }
 
-/// Adds a piece to the form, of which this part is wanted next.
+/// Adds a piece to the form; `next` is the part that is wanted next.
 #[inline(always)]
 pub(crate) fn with_piece(form: &mut Form, piece: ReadPart, next: usize) -> Result<(), AllocError>
     ensures { (scope : List Binding) →
@@ -221,7 +221,7 @@ fn named_value(
     }
 }
 
-// Opens a form inside this one, of which this part is wanted once the other has closed.
+// Opens a form inside this one; `next` is the part that is wanted once the new form is closed.
 fn open(
     text: &[u8],
     scope: &mut Vec<Binding>,
@@ -256,7 +256,7 @@ fn open(
     }
 }
 
-// Reads the opening bracket of the one term that is wanted.
+// Reads the opening bracket of a term, the only token that is wanted.
 fn one_term(
     text: &[u8],
     scope: &mut Vec<Binding>,
@@ -323,7 +323,7 @@ fn close(token: Token) -> Result<FormStep, ParseError>
     Ok(FormStep::Closed(token.end))
 }
 
-/// What the next token does to the innermost form, under which so many brackets are open.
+/// The effect of the next token on the innermost form; `depth` brackets are open.
 pub(crate) fn advance(
     text: &[u8],
     at: usize,

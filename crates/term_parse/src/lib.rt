@@ -1,20 +1,18 @@
-//! The text of terms, both ways: what a text means or where it is at fault, and how a term is
-//! spelled.
+//! The text of terms, both ways: what a text means, or where its first fault is, and how a term is spelled.
 //!
-//! It stands on `effect_term`, whose terms it reads and writes. One list of the language says how each
-//! word is spelled and what stands in its form; the grammar and the faults read it, and so may others
-//! ([`every_word`]). It promises that
-//! [`parse`] gives a term exactly where the grammar spells it, and else the first fault with its
-//! place, and that [`print`] writes the canonical spelling, which spells the same term again. What
-//! is parsed is closed and well kinded.
+//! The crate uses `effect_term`, whose terms it reads and writes. One table of the language says how each word is
+//! spelled and what its form contains. The grammar and the faults use this table, and so can other crates
+//! ([`every_word`]). The crate promises that [`parse`] returns a term exactly if the grammar spells it, and otherwise
+//! the first fault with its place, and that [`print`] writes the canonical spelling, which spells the same term again.
+//! A parsed term is closed and well kinded.
 //!
-//! A text is read, and printed again in the canonical spelling, so:
+//! This reads a text, and prints it in the canonical spelling:
 //!
 //! ```
 //! let term = parse(alloc, b"( let  x (pure 1)(pure x))")?;
 //! let text = print(alloc, &term)?;
 //! assert_eq!(str::from_utf8(text.as_slice()), Ok("(let v0 (pure 1) (pure v0))"));
-//! // Where a text spells no term, its first fault comes with its place, here the x, before which 6 bytes stand.
+//! // The first fault of a text that spells no term comes with its place: here the x, behind 6 bytes.
 //! assert_eq!(parse(alloc, b"(pure x)").err(), Some(ParseError::UnknownName(6)));
 //! ```
 #![tactic(auto)]

@@ -22,7 +22,7 @@ use effect_term::{Kind, Name, Operand, Term};
 use itoa::Buffer;
 use std::alloc::{AllocError, Global};
 
-// A piece of a form that is printed: what stands in it beside its binders.
+// A piece of a form that is printed: a part other than a binder.
 #[derive(Clone, Copy)]
 enum PrintedPart<'a> {
     Value(&'a Operand),
@@ -30,7 +30,7 @@ enum PrintedPart<'a> {
     Term(&'a Term),
 }
 
-// A term as its word and pieces. The terms that a `seq` has behind its first two stand apart.
+// A term as its word and pieces. The terms of a `seq` behind its first two are kept apart.
 #[derive(Clone, Copy)]
 struct PrintedForm<'a> {
     word: Word,
@@ -45,7 +45,7 @@ fn no_pieces<'a>() -> [Option<PrintedPart<'a>>; 5]
     [None, None, None, None, None]
 }
 
-// A piece alone.
+// One piece.
 fn one_piece(a: PrintedPart<'_>) -> [Option<PrintedPart<'_>>; 5]
     ensures { held_in result ≡ held_by a.entry ∷ [] }
 {
@@ -147,7 +147,7 @@ fn term_word(term: &Term) -> Word
     }
 }
 
-// What stands in a term beside its binders, but for the terms that a `seq` has behind its first two.
+// The parts of a term other than binders, without the terms of a `seq` behind its first two.
 fn pieces_in(term: &Term) -> [Option<PrintedPart<'_>>; 5]
     ensures { held_in result ≡ held_of term.now }
 {
@@ -192,7 +192,7 @@ fn pieces_in(term: &Term) -> [Option<PrintedPart<'_>>; 5]
     }
 }
 
-// The terms that a `seq` has behind its first two.
+// The terms of a `seq` behind its first two.
 fn more_of(term: &Term) -> &[Term]
     ensures { result.now ≡ more_of term.now }
 {
@@ -261,7 +261,7 @@ fn write_operand(out: &mut Vec<u8>, operand: Operand) -> Result<(), AllocError>
     }
 }
 
-// How many of its form's binders enclose a term in this part.
+// The number of its form's binders that enclose a term in this part.
 fn binders_of(part: Part) -> usize
     ensures value { result ≡ binders_of part }
     ensures few { result ≤ 2 }
@@ -273,7 +273,7 @@ fn binders_of(part: Part) -> usize
     }
 }
 
-// How many of its form's binders enclose the binder with this index, by the parts behind it.
+// The number of its form's binders that enclose the binder with this index; `parts` are the parts behind it.
 fn outer_binders(index: usize, parts: &[Part]) -> usize
     ensures value { result ≡ outer_binders index parts.now }
     ensures few { result ≤ 1 }
@@ -288,8 +288,7 @@ fn outer_binders(index: usize, parts: &[Part]) -> usize
     0
 }
 
-// Writes a space and a binder of a form, before which so many of its own binders stand, and behind it
-// these parts.
+// Writes a space and the form's binder number `bound`; `behind` are the parts behind it.
 fn write_binder(
     out: &mut Vec<u8>,
     kind: Kind,
@@ -308,10 +307,10 @@ fn write_binder(
     write_name(out, kind, around + outer_binders(bound, behind))
 }
 
-// Writes a term, which so many binders enclose.
+// Writes a term inside `around` binders.
 //
-// Each binder is part of a form whose bracket and word are written before its terms, so there are
-// no more binders than bytes, and no slot is too large for a number.
+// Each binder is part of a form whose bracket and word are written before its terms. So there are no more binders than
+// bytes, and no slot is too large for a number.
 #[cycle(writing)]
 fn write_term(out: &mut Vec<u8>, term: &Term, around: usize) -> Result<(), AllocError>
     requires { around ≤ vec_len out.old }
@@ -325,7 +324,7 @@ fn write_term(out: &mut Vec<u8>, term: &Term, around: usize) -> Result<(), Alloc
     write_parts(out, parts_of(form.word), &form.pieces, form.more, around, 0)
 }
 
-// Writes the rest of a form, before which so many of its own binders stand.
+// Writes the rest of a form; `bound` of its own binders come before it.
 #[cycle(writing)]
 fn write_parts(
     out: &mut Vec<u8>,
@@ -411,12 +410,11 @@ fn write_more(out: &mut Vec<u8>, terms: &[Term], around: usize) -> Result<(), Al
     Ok(())
 }
 
-/// Writes a term in its canonical spelling: one space between parts and none inside the brackets,
-/// and each name as the letter of its kind (`v`, `p`, `f`, `r` or `d`) followed by its slot.
+/// Writes a term in its canonical spelling: one space between parts and none inside the brackets, and each name as the
+/// letter of its kind (`v`, `p`, `f`, `r` or `d`) followed by its slot.
 ///
-/// The text of a closed, well-kinded term spells that term again, if the term is at most 100 words
-/// deep and the text has at most 65,536 bytes. So [`parse`](crate::parse) reads that term from it,
-/// and no other, but for where it lies in memory.
+/// The text of a closed, well-kinded term spells that term again, if the term is at most 100 words deep and the text
+/// has at most 65,536 bytes. So [`parse`](crate::parse) reads an equal term from it.
 pub fn print(alloc: Global, term: &Term) -> Result<Vec<u8>, AllocError>
     ensures canonical { IfOk result (λ text. text.items ≡ canonical term.now) }
     ensures read_back { IfOk result (λ text.

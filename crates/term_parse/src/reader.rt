@@ -1,4 +1,4 @@
-//! Reads a text from left to right, one token at a time, with the forms that are open on a stack.
+//! Reads a text from left to right, one token at a time, with the open forms on a stack.
 
 ghost use Rattle.std.specs.Prelude.{◌≡◌, ◌≢◌, ◌≤◌, ◌<◌, ◌+◌, ℕ, List, [], ◌∷◌, IfOk, IfErr, Ok, Err, length};
 ghost use Rattle.effect_term.specs.Kinds.{WellKinded};
@@ -26,30 +26,30 @@ use std::alloc::{AllocError, Global};
 use std::collections::VecDeque;
 use std::mem;
 
-// How many bytes a text may have.
+// The greatest number of bytes of a text.
 const LONGEST: usize = 65536;
 
-/// What one token did: the place where the text goes on, or the whole term and the place behind it.
+/// The result of one token: the place where the text goes on, or the whole term and the place behind it.
 #[derive(Drop)]
 pub(crate) enum TermStep {
     More(usize),
     Done(Term, usize),
 }
 
-/// The forms that are open.
+/// The open forms.
 #[derive(Drop)]
 pub(crate) struct Open {
     /// The innermost.
     pub form: Box<Form>,
-    /// Those around it, the innermost of them last.
+    /// The forms around it, the innermost last.
     pub around: Vec<Box<Form>>,
-    /// The binders around the innermost, the innermost last.
+    /// The binders around the innermost form, the innermost last.
     pub scope: Vec<Binding>,
-    /// Forms that have closed, whose room the next ones take.
+    /// Closed forms, whose memory the next forms use.
     pub closed: Vec<Box<Form>>,
 }
 
-// The whole term's word, and where the text goes on.
+// The word of the whole term, and the place behind it.
 fn first_word(text: &[u8]) -> Result<(Word, usize), ParseError>
     ensures within { IfOk result (λ r. r.1 ≤ length text.now) }
     ensures found { IfOk result (λ r. reads_at text.now 0 (term [] ∷ []) ≡
@@ -66,7 +66,7 @@ fn first_word(text: &[u8]) -> Result<(Word, usize), ParseError>
     }
 }
 
-// A form of this word, of which nothing else has been read.
+// A form of this word, where nothing else has been read.
 fn new_form(alloc: Global, word: Word) -> Result<Box<Form>, AllocError>
     ensures { IfOk result (λ f. IsBegun word f.value) }
 {
@@ -81,7 +81,7 @@ fn new_form(alloc: Global, word: Word) -> Result<Box<Form>, AllocError>
     Ok(form)
 }
 
-// The same, in the room of a form that has closed, if there is one.
+// The same, in the memory of a closed form if there is one.
 fn next_form(
     alloc: Global,
     word: Word,
@@ -101,7 +101,7 @@ fn next_form(
     }
 }
 
-// The whole term's form alone.
+// The form of the whole term as the only open one.
 fn opened(alloc: Global, word: Word) -> Result<Open, AllocError>
     ensures form { IfOk result (λ o. IsBegun word o.form.value) }
     ensures around { IfOk result (λ o. o.around.items ≡ []) }
@@ -116,7 +116,7 @@ fn opened(alloc: Global, word: Word) -> Result<Open, AllocError>
     })
 }
 
-// Goes on in the form around one that has closed, if there is one.
+// Goes on in the form around one that was closed, if there is one.
 fn resume(alloc: Global, stack: &mut Open, next: usize) -> Result<TermStep, AllocError>
     requires { Shaped stack.old.form.value.word (sorts stack.old.form.value.pieces.items) }
     ensures { (text : List ℕ) (at : ℕ) → AreOpen text at stack.old →
@@ -131,7 +131,7 @@ fn resume(alloc: Global, stack: &mut Open, next: usize) -> Result<TermStep, Allo
     let part = outer.next;
     stack.scope.truncate(outer.scope);
     let form = mem::replace(&mut stack.form, outer);
-    // Where there is no room to keep it, it is let go.
+    // If there is no memory to keep the form, it is dropped.
     let _ = stack.closed.push(form);
     with_piece(&mut stack.form, ReadPart::Term(term), part)?;
     Ok(TermStep::More(next))
@@ -176,7 +176,7 @@ fn read_token(
     }
 }
 
-// The term with which the text begins, and the place behind it.
+// The term at the beginning of the text, and the place behind it.
 fn whole(alloc: Global, text: &[u8]) -> Result<(Term, usize), ParseError>
     requires { length text.now ≤ 65536 }
     ensures found { IfOk result (λ r. IsWhole text.now r.0 r.1) }
@@ -193,7 +193,7 @@ fn whole(alloc: Global, text: &[u8]) -> Result<(Term, usize), ParseError>
     }
 }
 
-// The term, if nothing but space stands behind it.
+// The term, if only space follows it.
 fn alone(text: &[u8], term: Term, end: usize) -> Result<Term, ParseError>
     requires short { length text.now ≤ 65536 }
     requires whole { IsWhole text.now term end }
@@ -222,13 +222,13 @@ fn read(alloc: Global, text: &[u8]) -> Result<Term, ParseError>
 
 /// Reads the text of a term: one term with space around its tokens, by the grammar of the table.
 ///
-/// A text has at most 65,536 bytes, and at most 100 brackets are open in it. Names stand for the
-/// innermost binder of their spelling. The answer is the term that the grammar spells so. A text
-/// spells at most one, but for where it lies in memory, and that term is closed and well kinded.
+/// A text has at most 65,536 bytes, and brackets nest at most 100 deep. A name means the innermost binder of its
+/// spelling. The result is the term that the grammar spells as this text. There is at most one, apart from its place in
+/// memory, and it is closed and well kinded.
 ///
-/// The answer to a text that spells none is its first fault from left to right, with its place;
-/// [`ParseError::TooLong`] comes before all others. No other fault, and none at another place, is
-/// the first. The answer is [`ParseError::NoMemory`] only where a request for memory was refused.
+/// If the text spells no term, the result is its first fault from left to right, with its place;
+/// [`ParseError::TooLong`] comes before all others. Exactly one fault at one place is the first. The result is
+/// [`ParseError::NoMemory`] only if a request for memory was refused.
 pub fn parse(alloc: Global, text: &[u8]) -> Result<Term, ParseError>
     ensures found { IfOk result (λ t. reading text.now ≡ Ok (atoms_of t)) }
     ensures only { (atoms : List Atom) → reading text.now ≡ Ok atoms → IfErr result (λ e. e ≡ ParseError.NoMemory) }

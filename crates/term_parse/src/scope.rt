@@ -15,7 +15,7 @@ use crate::table::Part;
 use effect_term::{Kind, Name};
 use std::alloc::AllocError;
 
-/// A binder: where its spelling stands in the text, and what it binds.
+/// A binder: the place of its spelling in the text, and what it binds.
 #[derive(Clone, Copy)]
 pub(crate) struct Binding {
     pub start: usize,
@@ -25,7 +25,7 @@ pub(crate) struct Binding {
     pub hash: u32,
 }
 
-/// A number for a spelling, which few others have.
+/// A hash of a spelling, which few other spellings have.
 #[tactic(auto, unfolding(crate::specs::Bindings::hash_of))]
 pub(crate) fn hash_of(spelling: &[u8]) -> u32
     ensures { result ≡ hash_of spelling.now }
@@ -36,7 +36,7 @@ pub(crate) fn hash_of(spelling: &[u8]) -> u32
     )
 }
 
-// Whether this is how the binder is spelled. The spelling's hash is given.
+// Whether the binder has this spelling, whose hash is `hash`.
 #[tactic(auto, using(crate::proofs::LastBinder::other_hash))]
 #[inline(always)]
 fn is_spelled(text: &[u8], binding: Binding, spelling: &[u8], hash: u32) -> bool
@@ -82,9 +82,8 @@ fn same_kind(a: Kind, b: Kind) -> bool
     }
 }
 
-/// What a use of this kind means that stands at this place: the innermost binder of its spelling,
-/// behind which nothing of that spelling stands. Where there is none the name is unknown, and where
-/// that binder is of another kind the use is refused.
+/// The meaning of a use of this kind at this place: the innermost binder of its spelling. If there is none, the name is
+/// unknown; if that binder is of another kind, the use is refused.
 #[tactic(auto, unfolding(crate::specs::Reading::meaning))]
 pub(crate) fn meaning(
     text: &[u8],
@@ -113,7 +112,7 @@ pub(crate) fn meaning(
     }
 }
 
-// Adds the binder of this index to the scope, where there is one.
+// Adds the binder of this index to the scope, if there is one.
 #[tactic(auto, unfolding(crate::specs::Reading::picked))]
 fn pick(scope: &mut Vec<Binding>, bound: &[Binding], index: usize) -> Result<(), AllocError>
     ensures few { IfOk result (λ _. length scope.new.items ≤ length scope.old.items + 1) }
@@ -133,8 +132,8 @@ fn pick(scope: &mut Vec<Binding>, bound: &[Binding], index: usize) -> Result<(),
     }
 }
 
-/// Adds the binders that enclose a term, apart from those around its form: of the form's own those that
-/// the part names.
+/// Adds the binders that enclose a term, without those around its form: those of the form's own binders that the part
+/// names.
 #[tactic(auto, unfolding(crate::specs::Reading::entered), using(crate::proofs::PickedBinders::kept_twice))]
 pub(crate) fn enter(
     scope: &mut Vec<Binding>,

@@ -3,7 +3,7 @@
 ghost use Rattle.std.specs.Prelude.{◌≡◌};
 ghost use Rattle.std.specs.Str.{bytes_eq};
 
-/// Whether these are the same bytes. The texts that it compares are short, and most differ early.
+/// Whether these are the same bytes. Most texts that it compares are short and differ early.
 #[tactic(auto, using(crate::proofs::Spellings::other_length, crate::proofs::Spellings::other_byte, crate::proofs::Spellings::same_bytes))]
 pub(crate) fn is_same(a: &[u8], b: &[u8]) -> bool
     ensures { result ≡ bytes_eq a.now b.now }

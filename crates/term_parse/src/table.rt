@@ -1,8 +1,8 @@
-//! The words of the language: how each is spelled, and what stands in its form.
+//! The words of the language: the spelling of each, and the parts of its form.
 //!
-//! The parser and the printer look a word's parts up here, one after another, and so does whoever speaks of a text in
-//! the language's own words. A further word is one more variant, word of the list, spelling, row of parts and word of
-//! its first letter here, and says in `build`, `printer` and the atoms of a term which of the parts are its own.
+//! The parser and the printer look up a word's parts here, and so does any code that names the language's words. A new
+//! word is a variant, an entry of the list of words, a spelling, a row of parts and an entry under its first letter
+//! here; `build`, `printer` and the atoms of a term say which of the parts are its own.
 
 ghost use Rattle.std.specs.Prelude.{◌≡◌, ◌<◌, ◌≤◌, ℕ, suc, length, find};
 ghost use Rattle.std.specs.Str.{bytes_eq};
@@ -12,7 +12,7 @@ ghost use Rattle.term_parse.specs.Lookup.{words_from};
 use crate::spelling::is_same;
 use effect_term::Kind;
 
-/// The 32 words of the language. Each variant is the word of its own name in small letters.
+/// The 32 words of the language. The spelling of each is the name of its variant in small letters.
 #[derive(Clone, Copy)]
 pub enum Word {
     Pure,
@@ -49,7 +49,7 @@ pub enum Word {
     Both,
 }
 
-/// A part of a form behind its word. A binder is named by its index among the binders of its form.
+/// A part of a form behind its word. A binder is named by its index among the form's binders.
 #[derive(Clone, Copy)]
 pub enum Part {
     /// A name that the form binds.
@@ -70,7 +70,7 @@ pub enum Part {
     Close,
 }
 
-/// All words, in the order in which [`Word`] has them.
+/// All words, in the order of [`Word`].
 pub fn every_word() -> &'static [Word]
     ensures { result.now ≡ every_word }
 {
@@ -110,7 +110,7 @@ pub fn every_word() -> &'static [Word]
     ]
 }
 
-/// How a word is spelled.
+/// The spelling of a word.
 #[tactic(auto, unfolding(crate::specs::Language::word_spelling))]
 pub fn spelling_of(word: Word) -> &'static [u8]
     ensures value { result.now ≡ word_spelling word }
@@ -152,7 +152,7 @@ pub fn spelling_of(word: Word) -> &'static [u8]
     }
 }
 
-/// What stands in the form of a word, behind the word.
+/// The parts of the form of a word, behind the word.
 #[tactic(auto, unfolding(crate::specs::Language::parts_of))]
 pub fn parts_of(word: Word) -> &'static [Part]
     ensures value { result.now ≡ parts_of word }
@@ -281,7 +281,7 @@ fn words_from(first: u8) -> &'static [Word]
     }
 }
 
-// The one of these words that is spelled so, if there is one.
+// The word with this spelling among these, if there is one.
 fn spelled_so(words: &[Word], spelling: &[u8]) -> Option<Word>
     ensures { result ≡ find (λ w. bytes_eq (word_spelling w) spelling.now) words.now }
 {
@@ -293,7 +293,7 @@ fn spelled_so(words: &[Word], spelling: &[u8]) -> Option<Word>
     None
 }
 
-/// The word that is spelled so, if there is one.
+/// The word with this spelling, if there is one.
 #[tactic(auto, using(crate::proofs::Lookup::no_word))]
 pub fn word_of(spelling: &[u8]) -> Option<Word>
     ensures { result ≡ word_of spelling.now }

@@ -8,7 +8,7 @@ ghost use Rattle.term_parse.specs.Seen.{IsNext, lexeme_as, plain_value, seen_kin
 
 use effect_term::Value;
 
-/// What a token is.
+/// The kind of a token.
 #[derive(Clone, Copy)]
 pub(crate) enum TokenKind {
     Open,
@@ -19,7 +19,7 @@ pub(crate) enum TokenKind {
     BadByte,
 }
 
-/// A token, and where its bytes stand in the text.
+/// A token, and the place of its bytes in the text.
 #[derive(Clone, Copy)]
 pub(crate) struct Token {
     pub kind: TokenKind,
@@ -27,7 +27,7 @@ pub(crate) struct Token {
     pub end: usize,
 }
 
-// The greatest number that may stand behind a minus sign.
+// The greatest number behind a minus sign.
 const LARGEST: u64 = 4_611_686_018_427_387_904;
 
 fn is_letter(byte: u8) -> bool
@@ -48,7 +48,7 @@ fn is_run(byte: u8) -> bool
     is_letter(byte) || is_digit(byte)
 }
 
-// Whether an identifier or a number begins with this byte.
+// Whether an identifier or a number can begin with this byte.
 fn begins_run(byte: u8) -> bool
     ensures { result ≡ (is_run byte || (byte == 45)) }
 {
@@ -61,7 +61,7 @@ fn is_space(byte: u8) -> bool
     byte == b' ' || byte == b'\t' || byte == b'\r' || byte == b'\n'
 }
 
-// Where the space ends that begins here.
+// The end of the space that begins here.
 #[tactic(auto, using(crate::proofs::Lexing::skip_space))]
 fn space_end(text: &[u8], from: usize) -> usize
     requires { from ≤ length text.now }
@@ -79,7 +79,7 @@ fn space_end(text: &[u8], from: usize) -> usize
     at
 }
 
-// Where the run of letters and digits ends that goes on here.
+// The end of the run of letters and digits that continues here.
 #[tactic(auto, using(crate::proofs::Lexing::run_stops, crate::proofs::Lexing::run_ends))]
 fn run_end(text: &[u8], from: usize) -> usize
     requires { from ≤ length text.now }
@@ -97,7 +97,7 @@ fn run_end(text: &[u8], from: usize) -> usize
     at
 }
 
-// The value of digits that don't begin with 0, where it is at most [`LARGEST`].
+// The value of digits that don't begin with 0, if it is at most [`LARGEST`].
 #[tactic(auto, unfolding(crate::specs::Seen::plain_value))]
 fn plain_value(digits: &[u8]) -> Option<u64>
     ensures { result ≡ plain_value digits.now }
@@ -135,7 +135,7 @@ fn negated(value: u64) -> Value
     value
 }
 
-// The number that a run is, if it is one.
+// The number with these bytes, if they are one.
 #[tactic(auto, unfolding(crate::specs::Seen::plain_value, crate::specs::Lexemes::number_of))]
 fn number(run: &[u8]) -> Option<Value>
     ensures { result ≡ number_of run.now }
@@ -154,7 +154,7 @@ fn number(run: &[u8]) -> Option<Value>
     Value::of(value as i64)
 }
 
-// What the token is that begins with this byte and, if it is an identifier or a number, has these.
+// The kind of the token that begins with this byte; `run` is its bytes if it is an identifier or a number.
 #[tactic(auto, unfolding(crate::specs::Seen::lexeme_as, crate::specs::Lexemes::numbered))]
 #[inline(always)]
 fn kind_of(first: u8, run: &[u8]) -> TokenKind

@@ -1,15 +1,15 @@
--- What a program's devices are seen to be: where its text comes from, where its answer goes, and where faults are told.
+-- What contracts see of a program's devices: the input, the output, and the device for faults.
 use Rattle.std.specs.Prelude.{ℕ, Bool, List, Option}
 
--- the bytes that reads will give, where they are known, whether a read has failed, whether one has found the end of
--- the input, and how many reads were made
+-- the bytes that reads will give, if they are known, whether a read has failed, whether one has found the end of the
+-- input, and the number of reads
 pub record Reader : Type 0 where
   pub remaining : Option (List ℕ)
   pub failed : Bool
   pub ended : Bool
   pub reads : ℕ
 
--- the bytes that went out, where they are known, and whether a write has failed
+-- the bytes that were written, if they are known, and whether a write has failed
 pub record Writer : Type 0 where
   pub contents : Option (List ℕ)
   pub failed : Bool

@@ -1,4 +1,4 @@
--- What is read from one device and written to another as its answer.
+-- What is read from one device, and the answer that is written to another.
 use Rattle.std.specs.Prelude.{◌≡◌, ◌+◌, ◌<◌, ◌≤◌, ℕ, true, List, length, Result, Ok, Err, IfOk, IsErrOf}
 use Rattle.std.specs.Io.KnownBytes.{Consumes, IsAtEnd}
 use Rattle.text_io.specs.declared.fault.TextFault.{TextFault}
@@ -13,7 +13,7 @@ pub record IsRead (before after : Reader) (text : List ℕ) : Type 0 where
   pub bound : length text ≤ 65537
   pub ended : length text < 65537 → IsAtEnd after.remaining × (after.ended ≡ true)
 
--- so many reads were made as a text may have, none of them found the end of the input, and they gave fewer bytes
+-- 65,537 reads were made, none of them found the end of the input, and they gave fewer bytes than that
 pub record IsOutOfReads (before after : Reader) : Type 0 where
   pub text : List ℕ
   pub taken : Consumes before.remaining after.remaining text
@@ -21,8 +21,8 @@ pub record IsOutOfReads (before after : Reader) : Type 0 where
   pub unended : after.ended ≡ before.ended
   pub reads : after.reads ≡ before.reads + 65537
 
--- A text was read, and an answer to it, of this status, goes out as the result tells. Where all of it goes out, the
--- result is the status.
+-- A text was read, and an answer to it with this status is written, as far as the result says. If all of it is written,
+-- the result is the status.
 pub record Exchange (Answers : List ℕ → List ℕ → Status → Type 0) (before after : Reader) (old new : Writer)
     (result : Result Status TextFault) : Type 0 where
   pub text : List ℕ
@@ -33,7 +33,7 @@ pub record Exchange (Answers : List ℕ → List ℕ → Status → Type 0) (bef
   pub out : GoesOut old.contents new.contents answer result
   pub told : IfOk result (λ s. s ≡ status)
 
--- an exchange, where an answer began to go out, and else nothing was written
+-- an exchange, if an answer began to be written; otherwise nothing was written
 abbrev pub Exchanges : (List ℕ → List ℕ → Status → Type 0) → Reader → Reader → Writer → Writer →
     Result Status TextFault → Type 0
 Exchanges Answers before after old new (Ok s) = Exchange Answers before after old new (Ok s)
@@ -42,8 +42,8 @@ Exchanges Answers before after old new (Err ReadFault) = new ≡ old
 Exchanges Answers before after old new (Err (WriteFault n)) = Exchange Answers before after old new (Err (WriteFault n))
 Exchanges Answers before after old new (Err TurnBound) = new ≡ old
 
--- The answer to the text goes out, and its status is the result, or there is a fault: the reader's exactly where a read
--- has failed, the writer's exactly where a write has failed, and that of too many reads only where they ran out.
+-- Either the answer to the text is written, and its status is the result, or there is a fault: the reader's exactly if
+-- a read has failed, the writer's exactly if a write has failed, and that of too many reads only if they were used up.
 pub record IsAnswered (Answers : List ℕ → List ℕ → Status → Type 0) (before after : Reader) (old new : Writer)
     (result : Result Status TextFault) : Type 0 where
   pub exchange : Exchanges Answers before after old new result

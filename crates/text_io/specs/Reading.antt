@@ -1,10 +1,10 @@
--- How far a schedule has been read, and how far it has been written.
+-- How far a schedule has been read, or written.
 use Rattle.std.specs.Prelude.{◌≡◌, ◌<◌, ◌≤◌, ◌⊎◌, ℕ, List, [], ◌∷◌, ◌++◌, get_or, length, take}
 use Rattle.std.specs.Fmt.{decimal}
 use Rattle.std.specs.List.{All, AllByRecursion}
 use Rattle.text_io.specs.Schedule.{Item, IsItem, front_of, entries_of}
 
--- good items stand before the rest, and these are their entries
+-- the text before the rest consists of good items, and these are their entries
 pub record HasRead (text rest entries : List ℕ) : Type 0 where
   pub items : List Item
   pub good : AllByRecursion IsItem items
@@ -13,7 +13,7 @@ pub record HasRead (text rest entries : List ℕ) : Type 0 where
   pub few : length entries ≤ 1000000
   pub some : 0 < length text
 
--- the text is of good items with a space behind each, and the rest are the entries behind theirs
+-- the text consists of good items with a space behind each, and the rest are the entries behind theirs
 pub record HasWritten (text rest entries : List ℕ) : Type 0 where
   pub items : List Item
   pub good : AllByRecursion IsItem items
@@ -22,8 +22,8 @@ pub record HasWritten (text rest entries : List ℕ) : Type 0 where
   pub fibers : All (λ fiber. fiber < 1000) rest
   pub some : 0 < length rest
 
--- Behind the number of an item's fiber these bytes go on, with a space at this one: the item ends there, or the fiber
--- stands so many times.
+-- The bytes continue an item behind the number of its fiber, with a space at the given index: the item ends there, or
+-- it has `*` and the number of times.
 pub record GoesOn (bytes : List ℕ) (times space : ℕ) : Type 0 where
   pub within : space < length bytes
   pub there : get_or bytes space 0 ≡ 32

@@ -6,7 +6,7 @@ use Rattle.std.specs.declared.vec.Vec.{Vec}
 use Rattle.text_io.specs.declared.schedule.ScheduleError.{ScheduleError}
 use Rattle.text_io.specs.declared.schedule.ScheduleError.TheVariants.{NoMemory, BadSchedule}
 
--- a fiber once, or so many times
+-- a fiber once, or a number of times
 pub data Item : Type 0 where
   once : ℕ → Item
   repeated : ℕ → ℕ → Item
@@ -28,7 +28,7 @@ abbrev pub spelling : Item → List ℕ
 spelling (once f) = decimal f
 spelling (repeated f k) = decimal f ++ 42 ∷ decimal k
 
--- the items with one space between
+-- the items, with one space between two
 abbrev pub text_of : List Item → List ℕ
 text_of [] = []
 text_of (i ∷ []) = spelling i
@@ -38,7 +38,7 @@ abbrev pub entries_of : List Item → List ℕ
 entries_of [] = []
 entries_of (i ∷ items) = replicate (times_of i) (fiber_of i) ++ entries_of items
 
--- the text is an item of this fiber, so many times
+-- the text is an item of this fiber, with this number of times
 pub record IsItemOf (text : List ℕ) (fiber times : ℕ) : Type 0 where
   pub item : Item
   pub good : IsItem item
@@ -54,16 +54,16 @@ pub record SpellsEntries (text entries : List ℕ) : Type 0 where
   pub entries_are : entries ≡ entries_of items
   pub few : length entries ≤ 1000000
 
--- items that others stand behind, each with its space
+-- items before other items, each with its space
 abbrev pub front_of : List Item → List ℕ
 front_of [] = []
 front_of (i ∷ items) = spelling i ++ 32 ∷ front_of items
 
--- the text begins with this item, and ends there or goes on behind a space
+-- the text begins with this item, and ends there or has a space behind it
 abbrev pub BeginsWith : List ℕ → Item → Type 0
 BeginsWith text i = (text ≡ spelling i) ⊎ ((behind : List ℕ) × (text ≡ spelling i ++ 32 ∷ behind))
 
--- Behind good items there stands none that is one and stays within the bound, and its place is this one.
+-- Good items come before this place, and no item that is good and within the bound is at it.
 pub record IsFirstBad (text : List ℕ) (place : ℕ) : Type 0 where
   pub items : List Item
   pub rest : List ℕ
@@ -74,17 +74,17 @@ pub record IsFirstBad (text : List ℕ) (place : ℕ) : Type 0 where
   pub some : 0 < length text
   pub bad : (i : Item) → IsItem i → BeginsWith rest i → length (entries_of items) + times_of i ≤ 1000000 → ⊥
 
--- the byte isn't in the text
+-- the text doesn't contain the byte
 abbrev pub HasNo : ℕ → List ℕ → Type 0
 HasNo c text = AllByRecursion (λ b. b ≢ c) text
 
--- what a reader gives where the text is good: these entries, unless memory runs out
+-- what a reader returns for a good text: these entries, unless memory runs out
 abbrev pub GivesEntries : {A : Type 0} → List ℕ → Result (Vec ℕ A) ScheduleError → Type 0
 GivesEntries entries (Ok v) = v.items ≡ entries
 GivesEntries entries (Err NoMemory) = Unit {0}
 GivesEntries entries (Err (BadSchedule place)) = ⊥
 
--- what a reader gives where the first bad item has this place: that, unless memory runs out
+-- what a reader returns if the first bad item has this place: that place, unless memory runs out
 abbrev pub RefusesAt : {A : Type 0} → ℕ → Result A ScheduleError → Type 0
 RefusesAt place (Ok v) = ⊥
 RefusesAt place (Err NoMemory) = Unit {0}

@@ -1,4 +1,4 @@
--- What is told on the last device, and what becomes of a text whose fault is told there.
+-- What is written to the last device: the fault of a text.
 use Rattle.std.specs.Prelude.{◌≡◌, List, ℕ, Result, Ok, Err}
 use Rattle.text_io.specs.declared.fault.TextFault.{TextFault}
 use Rattle.text_io.specs.declared.fault.TextFault.TheVariants.{NoMemory}
@@ -11,14 +11,14 @@ use Rattle.text_io.specs.Exchange.{IsAnswered}
 use Rattle.text_io.specs.FaultLines.{fault_line, schedule_line}
 use Rattle.text_io.specs.Text.{GoesOut, OnlyWriteFaults, is_write_fault}
 
--- the line went out, or as much of its front as the device took until it failed
+-- the line was written, or as much of its beginning as the device took before it failed
 pub record Told (line : List ℕ) (before after : Writer) : Type 0 where
   pub result : Result (Unit {0}) TextFault
   pub out : GoesOut before.contents after.contents line result
   pub only : OnlyWriteFaults result
   pub failed : after.failed ≡ is_write_fault result
 
--- a fault is told, and nothing else
+-- a fault is written, and nothing otherwise
 abbrev pub TellsResult : Result Status TextFault → Writer → Writer → Type 0
 TellsResult (Ok s) before after = after ≡ before
 TellsResult (Err fault) before after = Told (fault_line fault) before after
@@ -28,13 +28,13 @@ abbrev pub status_of : Result Status TextFault → Status
 status_of (Ok s) = s
 status_of (Err fault) = Fault
 
--- a bad schedule is told with its place, as wrong usage, and want of memory as a fault
+-- a bad schedule is reported with its place, as wrong usage; running out of memory, as a fault
 abbrev pub RefusesSchedule : ScheduleError → Writer → Writer → Status → Type 0
 RefusesSchedule schedules.NoMemory before after status = Told (fault_line NoMemory) before after × (status ≡ Fault)
 RefusesSchedule (schedules.BadSchedule place) before after status =
     Told (schedule_line place) before after × (status ≡ Usage)
 
--- The text is answered, or there is a fault, which is told on the last device.
+-- The text is answered, or there is a fault, which is written to the last device.
 pub record Answered (Answers : List ℕ → List ℕ → Status → Type 0) (before after : Devices) (status : Status) : Type 0
   where
     pub result : Result Status TextFault

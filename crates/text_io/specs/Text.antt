@@ -1,10 +1,10 @@
--- How much of a text has gone out.
+-- How much of a text was written.
 use Rattle.std.specs.Prelude.{◌<◌, ℕ, Bool, true, false, List, length, take, Option, Result, Ok, Err}
 use Rattle.std.specs.Io.KnownBytes.{Appends, Keeps}
 use Rattle.text_io.specs.declared.fault.TextFault.{TextFault}
 use Rattle.text_io.specs.declared.fault.TextFault.TheVariants.{NoMemory, ReadFault, WriteFault, TurnBound}
 
--- what of a text has gone out, as the result tells: all of it, so many bytes of its front, which isn't all, or nothing
+-- the part of a text that was written, by the result: all of it, the first bytes, fewer than all, or nothing
 abbrev pub GoesOut : {A : Type 0} → Option (List ℕ) → Option (List ℕ) → List ℕ → Result A TextFault → Type 0
 GoesOut old new text (Ok v) = Appends old new text
 GoesOut old new text (Err NoMemory) = Keeps old new
@@ -28,7 +28,7 @@ is_read_fault (Err ReadFault) = true
 is_read_fault (Err (WriteFault n)) = false
 is_read_fault (Err TurnBound) = false
 
--- no fault but the writer's
+-- the fault, if there is one, is the writer's
 abbrev pub OnlyWriteFaults : {A : Type 0} → Result A TextFault → Type 0
 OnlyWriteFaults (Ok v) = Unit {0}
 OnlyWriteFaults (Err NoMemory) = ⊥
@@ -36,7 +36,7 @@ OnlyWriteFaults (Err ReadFault) = ⊥
 OnlyWriteFaults (Err (WriteFault n)) = Unit {0}
 OnlyWriteFaults (Err TurnBound) = ⊥
 
--- no fault but the writer's and want of memory
+-- the fault, if there is one, is the writer's, or memory ran out
 abbrev pub OnlyOutFaults : {A : Type 0} → Result A TextFault → Type 0
 OnlyOutFaults (Ok v) = Unit {0}
 OnlyOutFaults (Err NoMemory) = Unit {0}

@@ -9,24 +9,24 @@ ghost use Rattle.text_io.specs.Devices.{Reader, Writer};
 /// Why a read gave no count.
 #[derive(Clone, Copy, Debug, PartialEq, Eq)]
 pub enum ReadError {
-    /// The read is to be tried again.
+    /// The read was interrupted, and can be tried again.
     Interrupted,
     /// The device has failed.
     Failed,
 }
 
-/// Why a write gave no count: the device has failed, or was interrupted, which counts as failing.
+/// Why a write gave no count: the device has failed, or was interrupted, which counts as a failure.
 #[derive(Clone, Copy, Debug, PartialEq, Eq)]
 pub struct WriteFailed;
 
-/// Where a text comes from.
+/// A device that a text is read from.
 pub trait TextIn {
-    // What is seen of the device: the bytes that reads will give from here on, where they are known, whether a read has
-    // failed or has found the end of the input, and how many reads were made.
+    // What contracts see of the device: the bytes that reads will give from here on, if they are known, whether a read
+    // has failed or has found the end of the input, and the number of reads.
     ghost seen: { Self → Reader };
 
-    /// One read into the front of the buffer. Gives how many bytes it took: none at the end of the
-    /// input, or where the buffer is empty.
+    /// One read into the front of the buffer. Returns the number of bytes: 0 at the end of the input, or if the buffer
+    /// is empty.
     fn read_some(&mut self, buffer: &mut [u8]) -> Result<usize, ReadError>
         requires healthy { (seen self.old).failed ≡ false }
         requires countable { (seen self.old).reads < 2 ^ 64 - 1 }
@@ -37,13 +37,13 @@ pub trait TextIn {
         ensures counted { (seen self.new).reads ≡ (seen self.old).reads + 1 };
 }
 
-/// Where a text goes.
+/// A device that a text is written to.
 pub trait TextOut {
-    // What is seen of the device: the bytes that went out, where they are known, and whether a write has failed. One
-    // that takes nothing of some bytes has.
+    // What contracts see of the device: the bytes that were written, if they are known, and whether a write has failed.
+    // A write that takes none of some bytes has failed.
     ghost seen: { Self → Writer };
 
-    /// One write of the front of the bytes. Gives how many it took.
+    /// One write of the first of these bytes. Returns how many it took.
     fn write_some(&mut self, bytes: &[u8]) -> Result<usize, WriteFailed>
         requires { (seen self.old).failed ≡ false }
         ensures bound { WritesAtMost result bytes.now }

@@ -1,5 +1,5 @@
-//! The lines that tell a fault of a device or of a schedule's text. They take no memory, so a fault
-//! is always told as what it is.
+//! The lines that report a fault of a device or of a schedule's text. The functions here allocate no memory, so even a
+//! fault of memory can be reported.
 
 ghost use Rattle.std.specs.Prelude.{◌≡◌, ◌≤◌, length};
 ghost use Rattle.text_io.specs.FaultLines.{fault_line, schedule_line, told};
@@ -8,8 +8,7 @@ use crate::fault::TextFault;
 use arrayvec::ArrayString;
 use itoa::Buffer;
 
-// How long a line may be: the words of a bad schedule, the 20 digits of the greatest place, and a
-// line feed.
+// The greatest length of a line: the words of a bad schedule, the 20 digits of the greatest place, and a line feed.
 const LONGEST: usize = 42;
 
 /// The line of a text's fault.

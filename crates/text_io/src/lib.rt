@@ -1,10 +1,9 @@
-//! Texts that come in from one device and go out to another: devices, whole texts, the texts of schedules, and faults
-//! that are told.
+//! Input and output of texts: devices, whole texts, the texts of schedules, and the reports of faults.
 //!
-//! It stands on the standard library, and on the kit's `arrayvec`, `itoa` and `thiserror`. It promises that a text is
-//! read whole or its fault is told, that a schedule's text is accepted exactly where it is well formed, with the place
-//! of its first bad item where it isn't, and that what goes out is exactly the text, or as much of its front as the
-//! device took, or the line of the fault.
+//! The crate uses the standard library, and the kit's `arrayvec`, `itoa` and `thiserror`. The crate promises that a
+//! text is read whole or its fault is reported, that a schedule's text is accepted exactly if it is well formed, and
+//! otherwise refused with the place of its first bad item, and that what is written is exactly the text, or as much of
+//! its beginning as the device took, or the line of the fault.
 #![tactic(auto)]
 
 mod device;

@@ -12,7 +12,7 @@ ghost use Rattle.text_io.specs.declared.schedule.ScheduleError.TheVariants.{NoMe
 use std::alloc::{AllocError, Global};
 use thiserror::Error;
 
-/// How many entries a schedule may have.
+/// The greatest number of entries of a schedule.
 pub const MOST_ENTRIES: usize = 1_000_000;
 
 const MOST_FIBER: u32 = 999;
@@ -35,7 +35,7 @@ impl From<AllocError> for ScheduleError {
     }
 }
 
-// No sign, and no zero in front.
+// Whether there is no sign and no leading zero.
 fn is_plain(digits: &[u8]) -> bool
     ensures { result ≡ is_plain digits.now }
 {
@@ -46,7 +46,7 @@ fn is_plain(digits: &[u8]) -> bool
     }
 }
 
-// A number in digits, with no zero in front, and at most `most`.
+// A number in digits, without a leading zero, and at most `most`.
 fn number(digits: &str, most: u32) -> Option<u32>
     ensures found { IfSome result (λ n. (n ≤ most) × (digits.now ≡ decimal n)) }
     ensures none { IfNone result ((n : ℕ) → n ≤ most → digits.now ≡ decimal n → ⊥) }
@@ -60,7 +60,7 @@ fn number(digits: &str, most: u32) -> Option<u32>
     }
 }
 
-// The fiber of an item, and how often it stands.
+// The fiber of an item, and its number of times.
 fn item(text: &str) -> Option<(u16, u32)>
     ensures found { IfSome result (λ found. IsItemOf text.now found.0 found.1) }
     ensures none { IfNone result ((i : Item) → IsItem i → text.now ≡ spelling i → ⊥) }
@@ -87,7 +87,7 @@ fn item(text: &str) -> Option<(u16, u32)>
     }
 }
 
-// The first item of a text, and what stands behind its space.
+// The first item of a text, and the text behind its space.
 fn first_item(text: &str) -> (&str, Option<&str>)
     ensures alone { HasNo 32 result.0.now }
     ensures parts { MatchOption result.1 (text.now ≡ result.0.now) (λ rest. text.now ≡ result.0.now ++ 32 ∷ rest.now) }
@@ -98,8 +98,8 @@ fn first_item(text: &str) -> (&str, Option<&str>)
     }
 }
 
-// The number with which the bytes begin, at most `most` and without a zero in front, and how many digits it has; none
-// where nothing stands behind it.
+// The number at the beginning of the bytes, at most `most` and without a leading zero, and the number of its digits;
+// `None` if nothing follows it.
 #[inline(always)]
 fn lead(bytes: &[u8], most: u32) -> Option<(u32, usize)>
     requires { (9 ≤ most) × (most < 1000000) }
@@ -127,8 +127,8 @@ fn lead(bytes: &[u8], most: u32) -> Option<(u32, usize)>
     None
 }
 
-// How often the fiber of an item stands that goes on so behind the fiber's number, and at which byte the space stands
-// that is behind the item.
+// The number of times of an item that continues like this behind its fiber's number, and the index of the space behind
+// the item.
 #[inline(always)]
 fn times_behind(bytes: &[u8]) -> Option<(u32, usize)>
     ensures { IfSome result (λ found. GoesOn bytes.now found.0 found.1) }
@@ -146,8 +146,8 @@ fn times_behind(bytes: &[u8]) -> Option<(u32, usize)>
     }
 }
 
-// The fiber of the first item, how often it stands, and what stands behind its space, as it is of most items: none says
-// nothing.
+// The fiber of the first item, its number of times, and the text behind its space, if the item has the usual form.
+// `None` decides nothing.
 fn quick_item(text: &str) -> Option<(u16, u32, &str)>
     ensures { IfSome result (λ found. (first : List ℕ) × IsItemOf first found.0 found.1 ×
         (text.now ≡ first ++ 32 ∷ found.2.now)) }
@@ -170,8 +170,8 @@ fn push_times(entries: &mut Vec<u16>, fiber: u16, times: u32) -> Result<(), Allo
     entries.resize(len, fiber)
 }
 
-// For how many entries room is made at first: where each item is one entry, for all, since an item and its
-// space are two bytes at least.
+// The number of entries for which room is made at first. The room is enough if each item is one entry, since an item
+// and its space have at least two bytes.
 fn first_room(text: &str) -> usize {
     MOST_ENTRIES.min(text.len() / 2 + 1)
 }
@@ -208,10 +208,10 @@ fn read_items(alloc: Global, text: &str) -> Result<Vec<u16>, ScheduleError>
     }
 }
 
-/// The entries of a schedule's text. A text means one thing: one list of entries, or one place of
-/// its first bad item, and never both.
+/// The entries of a schedule's text. A text has exactly one meaning: one list of entries, or one place of its first bad
+/// item.
 pub fn read_schedule(alloc: Global, text: &str) -> Result<Vec<u16>, ScheduleError>
-    // What is accepted is a text of items, and gives their entries.
+    // An accepted text consists of items, and the result is their entries.
     ensures found { IfOk result (λ schedule. SpellsEntries text.now schedule.items) }
     ensures one_list { IfOk result (λ schedule. (entries : List ℕ) → SpellsEntries text.now entries →
         entries ≡ schedule.items) }
@@ -219,7 +219,7 @@ pub fn read_schedule(alloc: Global, text: &str) -> Result<Vec<u16>, ScheduleErro
     // Each text of items is accepted, unless memory runs out.
     ensures only { (entries : List ℕ) → SpellsEntries text.now entries → GivesEntries entries result }
 
-    // The place is that of the first item that is bad, or goes past `MOST_ENTRIES`.
+    // The place is that of the first item that is bad, or that exceeds `MOST_ENTRIES`.
     ensures place { (place : ℕ) → IsErrOf result (ScheduleError.BadSchedule place) → IsFirstBad text.now place }
     ensures one_place { (place : ℕ) → IsErrOf result (ScheduleError.BadSchedule place) → (other : ℕ) →
         IsFirstBad text.now other → other ≡ place }

@@ -7,13 +7,11 @@ ghost use Rattle.text_io.specs.Schedule.{IsItemOf, SpellsEntries};
 use crate::schedule::MOST_TIMES;
 use std::alloc::{AllocError, Global};
 
-/// The text of a schedule in which each run of one fiber is an item: `f` for one entry, and `f*k` for
-/// two to 100,000, with one space between items. A longer run is several items. The text of no entries
-/// is empty.
+/// The text of a schedule in which each run of one fiber is an item: `f` for one entry, and `f*k` for two to 100,000,
+/// with one space between items. A longer run is several items. The text of an empty schedule is empty.
 ///
-/// The text spells these entries, so [`read_schedule`](crate::read_schedule) gives them back. Each
-/// entry is at most 999, and there are at most [`MOST_ENTRIES`](crate::MOST_ENTRIES). `AllocError` where
-/// memory is refused.
+/// The text spells these entries, so [`read_schedule`](crate::read_schedule) returns them. Each entry is at most 999,
+/// and there are at most [`MOST_ENTRIES`](crate::MOST_ENTRIES). Returns `AllocError` if memory is refused.
 pub fn schedule_text(alloc: Global, entries: &[u16]) -> Result<String, AllocError>
     requires fibers { All (λ fiber. fiber < 1000) entries.now }
     requires few { length entries.now ≤ 1000000 }
@@ -36,7 +34,7 @@ pub fn schedule_text(alloc: Global, entries: &[u16]) -> Result<String, AllocErro
     }
 }
 
-// How many entries, from the first one on, are of its fiber, up to `MOST_TIMES`.
+// The length of the run at the beginning of the entries, at most `MOST_TIMES`.
 fn run_len(entries: &[u16]) -> usize
     requires { 0 < length entries.now }
     ensures some { 0 < result }
@@ -52,7 +50,7 @@ fn run_len(entries: &[u16]) -> usize
     times
 }
 
-// The item of a fiber, so many times.
+// The item of a fiber with this number of times.
 fn item_text(alloc: Global, fiber: u16, times: usize) -> Result<String, AllocError>
     requires fiber { fiber < 1000 }
     requires some { 0 < times }

@@ -1,9 +1,9 @@
-//! The statuses that the program ends with.
+//! The exit statuses of the program.
 
 ghost use Rattle.std.specs.Prelude.{◌≡◌};
 ghost use Rattle.text_io.specs.Status.{code_of};
 
-/// How the program ends, by its exit status. This is the whole list.
+/// The exit statuses of the program, all of them.
 #[derive(Clone, Copy, PartialEq, Eq, Debug)]
 pub enum Status {
     /// 0: fiber 0 succeeded, a text was checked or shown, or help was asked for.

@@ -1,4 +1,4 @@
-//! Faults that are told.
+//! The reports of faults.
 
 ghost use Rattle.std.specs.Prelude.{◌≡◌, false};
 ghost use Rattle.text_io.specs.FaultLines.{fault_line};
@@ -11,7 +11,7 @@ use crate::schedule::ScheduleError;
 use crate::status::Status;
 use crate::text::write_text;
 
-/// Tells a fault. It takes no memory. If this device fails too, nothing more is said.
+/// Writes the line of a fault. Allocates no memory. If this device fails too, nothing more is written.
 pub fn tell_fault<E: TextOut>(fault: TextFault, err: &mut E) -> Status
     requires { (E.seen err.old).failed ≡ false }
     ensures told { Told (fault_line fault) (E.seen err.old) (E.seen err.new) }
@@ -21,7 +21,7 @@ pub fn tell_fault<E: TextOut>(fault: TextFault, err: &mut E) -> Status
     Status::Fault
 }
 
-/// The status of a result, whose fault is told.
+/// The status of a result. Writes the line of its fault, if it is one.
 pub fn status_of<E: TextOut>(outcome: Result<Status, TextFault>, err: &mut E) -> Status
     requires { (E.seen err.old).failed ≡ false }
     ensures told { TellsResult outcome (E.seen err.old) (E.seen err.new) }
@@ -33,7 +33,7 @@ pub fn status_of<E: TextOut>(outcome: Result<Status, TextFault>, err: &mut E) ->
     }
 }
 
-/// Tells that a schedule's text is bad, or that there was no memory for its entries.
+/// Reports that a schedule's text is bad, or that there was no memory for its entries.
 pub fn refuse_schedule<E: TextOut>(error: ScheduleError, err: &mut E) -> Status
     requires { (E.seen err.old).failed ≡ false }
     ensures { RefusesSchedule error (E.seen err.old) (E.seen err.new) result }

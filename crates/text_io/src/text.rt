@@ -11,23 +11,22 @@ use crate::device::{ReadError, TextIn, TextOut};
 use crate::fault::TextFault;
 use std::alloc::{AllocError, Global};
 
-/// One byte more than a text may have, and how many reads are made of one text.
+/// One more than the greatest number of bytes of a text, and the greatest number of reads for one text.
 pub const TEXT_BOUND: usize = 65_537;
 
-/// What is left of the input, up to `TEXT_BOUND` bytes. An interrupted read is tried again.
+/// The rest of the input, at most `TEXT_BOUND` bytes. An interrupted read is tried again.
 ///
-/// It makes at most `TEXT_BOUND` reads, and asks that the reader has counted fewer than 2^63. The
-/// faults are `ReadFault` where a read failed, `TurnBound` where so many reads neither found the end
-/// of the input nor gave as many bytes, and `NoMemory` where memory ran out, which is before the
-/// first read.
+/// Makes at most `TEXT_BOUND` reads; the reader has counted fewer than 2^63 before. Returns `ReadFault` if a read
+/// failed, `TurnBound` if `TEXT_BOUND` reads neither found the end of the input nor gave as many bytes, and `NoMemory`
+/// if memory ran out, which is before the first read.
 pub fn read_text<T: TextIn>(alloc: Global, input: &mut T) -> Result<Vec<u8>, TextFault>
     requires healthy { (T.seen input.old).failed ≡ false }
     requires countable { (T.seen input.old).reads < 2 ^ 63 }
 
-    // It gives what it took from the input, which is all of it, or `TEXT_BOUND` bytes.
+    // The result is what was taken from the input: all of it, or `TEXT_BOUND` bytes.
     ensures read { IfOk result (λ text. IsRead (T.seen input.old) (T.seen input.new) text.items) }
 
-    // The fault is told exactly where the reader failed.
+    // The result is `ReadFault` exactly if the reader failed.
     ensures failed { (T.seen input.new).failed ≡ is_read_fault result }
     ensures turns { IsErrOf result TextFault.TurnBound → IsOutOfReads (T.seen input.old) (T.seen input.new) }
     ensures memory { IsErrOf result TextFault.NoMemory → input.new ≡ input.old }
@@ -54,7 +53,7 @@ pub fn read_text<T: TextIn>(alloc: Global, input: &mut T) -> Result<Vec<u8>, Tex
     Err(TextFault::TurnBound)
 }
 
-// One read into the buffer, behind the bytes that it has already.
+// One read into the buffer, behind the first `len` bytes.
 fn read_after<T: TextIn>(buffer: &mut [u8], len: usize, input: &mut T) -> Result<usize, ReadError>
     requires within { len ≤ length buffer.old }
     requires healthy { (T.seen input.old).failed ≡ false }
@@ -78,12 +77,12 @@ fn zeros(alloc: Global, count: usize) -> Result<Vec<u8>, AllocError>
     vec![in alloc; 0u8; count]
 }
 
-/// Writes the whole text. It takes no memory: the only fault is `WriteFault`, with the number of
-/// bytes that went out before a write failed, was interrupted, or took nothing.
+/// Writes the whole text. Allocates no memory. The only fault is `WriteFault`, with the number of bytes that were
+/// written before a write failed, was interrupted, or took nothing.
 pub fn write_text<T: TextOut>(text: &[u8], out: &mut T) -> Result<(), TextFault>
     requires { (T.seen out.old).failed ≡ false }
 
-    // All of it goes out, or as much of its front as the fault tells.
+    // All of it is written, or as many of its first bytes as the fault says.
     ensures text { GoesOut (T.seen out.old).contents (T.seen out.new).contents text.now result }
     ensures only { OnlyWriteFaults result }
     ensures failed { (T.seen out.new).failed ≡ is_write_fault result }

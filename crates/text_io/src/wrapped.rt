@@ -14,17 +14,16 @@ use crate::device::{ReadError, TextIn, TextOut, WriteFailed};
 use std::io;
 use std::io::{ErrorKind, Read, Write};
 
-/// A reader that is asked for bytes. Each `Read` is one.
-///
-/// What it may answer is open here, so that who owes an answer of the reader has to ask it.
+/// A reader of bytes. Each `Read` is one. Which results it can give is left open here, so a contract about them names
+/// the reader.
 pub trait Source {
-    // The bytes that reads will give from here on, where they are known.
+    // The bytes that reads will give from here on, if they are known.
     ghost remaining: { Self → Option (List ℕ) };
 
-    // What one read may answer, by the reader before it and after it, with the buffer as the read left it.
+    // The results that one read can give, by the reader before and after it, and the buffer as the read left it.
     ghost answers: { Self → Self → Result ℕ Error → List ℕ → Type 0 };
 
-    /// One read into the front of the buffer. Gives how many bytes it took.
+    /// One read into the front of the buffer. Returns the number of bytes.
     fn ask(&mut self, buffer: &mut [u8]) -> io::Result<usize>
         ensures bound { ReadsAtMost result buffer.new }
         ensures bytes { ReadConsumes (remaining self.old) (remaining self.new) result buffer.new }
@@ -41,17 +40,16 @@ impl<R: Read> Source for R {
     }
 }
 
-/// A writer that is given bytes. Each `Write` is one.
-///
-/// What it may answer is open here, so that who owes an answer of the writer has to ask it.
+/// A writer of bytes. Each `Write` is one. Which results it can give is left open here, so a contract about them names
+/// the writer.
 pub trait Sink {
-    // The bytes that went out, where they are known.
+    // The bytes that were written, if they are known.
     ghost contents: { Self → Option (List ℕ) };
 
-    // What one write of these bytes may answer, by the writer before it and after it.
+    // The results that one write of these bytes can give, by the writer before and after it.
     ghost answers: { Self → Self → Result ℕ Error → List ℕ → Type 0 };
 
-    /// One write of the front of the bytes. Gives how many it took.
+    /// One write of the first of these bytes. Returns how many it took.
     fn give(&mut self, bytes: &[u8]) -> io::Result<usize>
         ensures bound { WritesAtMost result bytes.now }
         ensures bytes { WriteAppends (contents self.old) (contents self.new) result bytes.now }
@@ -68,8 +66,7 @@ impl<W: Write> Sink for W {
     }
 }
 
-// What a reader's error means: it is to be asked again where it was interrupted, and else it has
-// failed.
+// The meaning of a reader's error: an interrupted read can be tried again, and any other error is a failure.
 fn read_error(error: &io::Error) -> ReadError
     ensures { (result ≡ ReadError.Interrupted) ↔ (error_kind error.now ≡ ErrorKind.Interrupted) }
 {
@@ -79,8 +76,8 @@ fn read_error(error: &io::Error) -> ReadError
     }
 }
 
-/// Any reader, as a device. It keeps whether a read has failed, and whether one has found the end,
-/// and counts the reads.
+/// Any reader, as a device. The device keeps whether a read has failed, and whether one has found the end, and counts
+/// the reads.
 #[derive(Drop)]
 pub struct FromRead<R> {
     inner: R,
@@ -90,7 +87,7 @@ pub struct FromRead<R> {
 }
 
 impl<R> FromRead<R> {
-    /// The reader, of which nothing has been read through this device.
+    /// A device for this reader, with no reads made.
     pub fn new(inner: R) -> FromRead<R>
         ensures reader { reader_of result ≡ inner }
         ensures healthy { read_has_failed result ≡ false }
@@ -109,8 +106,8 @@ impl<R> FromRead<R> {
 impl<R: Source> TextIn for FromRead<R> {
     ghost seen = { λ d. reader (R.remaining (reader_of d)) (read_has_failed d) (has_found_end d) (reads_of d) };
 
-    /// Asks the reader once, with this buffer, and tells what it answered: its count, or that it was
-    /// interrupted, or for any other error that it has failed.
+    /// Makes one read into this buffer, and returns its count. An error is either an interruption or, if it is any
+    /// other, a failure.
     fn read_some(&mut self, buffer: &mut [u8]) -> Result<usize, ReadError>
         requires healthy { read_has_failed self.old ≡ false }
         requires countable { reads_of self.old < 2 ^ 64 - 1 }
@@ -139,7 +136,7 @@ impl<R: Source> TextIn for FromRead<R> {
     }
 }
 
-/// Any writer, as a device. It keeps whether a write has failed.
+/// Any writer, as a device. The device keeps whether a write has failed.
 #[derive(Drop)]
 pub struct ToWrite<W> {
     inner: W,
@@ -147,7 +144,7 @@ pub struct ToWrite<W> {
 }
 
 impl<W> ToWrite<W> {
-    /// The writer, to which nothing has been written through this device.
+    /// A device for this writer, with no writes made.
     pub fn new(inner: W) -> ToWrite<W>
         ensures writer { writer_of result ≡ inner }
         ensures healthy { write_has_failed result ≡ false }
@@ -162,8 +159,7 @@ impl<W> ToWrite<W> {
 impl<W: Sink> TextOut for ToWrite<W> {
     ghost seen = { λ d. writer (W.contents (writer_of d)) (write_has_failed d) };
 
-    /// Gives the bytes to the writer once, and tells what it answered: its count, or for any error
-    /// that it has failed.
+    /// Makes one write of these bytes, and returns its count. Any error is a failure.
     fn write_some(&mut self, bytes: &[u8]) -> Result<usize, WriteFailed>
         requires { write_has_failed self.old ≡ false }
         ensures bound { WritesAtMost result bytes.now }

@@ -1,5 +1,4 @@
-//! Texts and terms as large and as deep as they may be. Each text is made piece by piece here, and
-//! compared whole.
+//! Texts and terms of the greatest size and depth. Each text is made of pieces here, and compared as a whole.
 
 use crate::pieces::{Piece, text_of};
 use crate::printed_terms::is_spelled;
@@ -20,7 +19,7 @@ fn bound(alloc: Global, first: Term, then: Term) -> Result<Term, AllocError> {
     Ok(Term::Let(first, Box::new(alloc, then)?))
 }
 
-// So many bindings of a value, each inside the last, and innermost the last value itself.
+// `binders` bindings of a value, each inside the one before, with the last value inside.
 fn nested_lets(alloc: Global, binders: u32) -> Result<Term, AllocError> {
     let slot = binders.saturating_sub(1);
     let mut term = Term::Pure(Operand::Named(Name {
@@ -33,7 +32,7 @@ fn nested_lets(alloc: Global, binders: u32) -> Result<Term, AllocError> {
     Ok(term)
 }
 
-// Their text: each binder is named by how many stand around it.
+// Their text: the number in a binder's name is that of the binders around it.
 fn push_nested_lets(text: &mut String, binders: u32) -> Result<(), AllocError> {
     for slot in 0..binders {
         write!(text, "(let v{slot} (cede) ")?;
@@ -72,7 +71,7 @@ fn push_cedes(parts: &mut Vec<Term>, cedes: usize) -> Result<(), AllocError> {
     Ok(())
 }
 
-// Two `say` that stand apart, so many more of them, and then so many `cede`.
+// Two `say` as the first two parts, `says` more of them, and then `cedes` times `cede`.
 fn seq(alloc: Global, says: usize, cedes: usize) -> Result<Term, AllocError> {
     let mut more = Vec::new(alloc);
     push_says(&mut more, says)?;
@@ -98,7 +97,7 @@ fn a_canonical_text_of_65536_bytes(rt: HostRuntime) -> Result<(), Fail> {
     Ok(())
 }
 
-// A text with as many parts as fit, and what it is printed as.
+// A text with as many parts as fit, and its printed text.
 const PARTS: &[Piece] = &[(b"(seq", 1), (b"(cede)", 10921), (b")", 1)];
 
 const PRINTED_PARTS: &[Piece] = &[(b"(seq", 1), (b" (cede)", 10921), (b")", 1)];

@@ -5,7 +5,7 @@ use std::alloc::Global;
 use std::test::Fail;
 use term_parse::parse;
 
-// Texts, and what each is printed as.
+// Texts, and the printed text of each.
 const FORMS: &[(&[u8], &[u8])] = &[
     (
         b" ( pure\t-4611686018427387904\r\n) ",
@@ -98,7 +98,7 @@ const FORMS: &[(&[u8], &[u8])] = &[
     ),
 ];
 
-// Texts that printing gives back.
+// Texts that printing returns unchanged.
 const CANONICAL: &[&[u8]] = &[
     b"(pure 2147483648)",
     b"(add 4611686018427387903 -4611686018427387904)",
@@ -115,13 +115,13 @@ const CANONICAL: &[&[u8]] = &[
     b"(both (race (cede) (never)) (pure 2) v0 v1 (add v0 v1))",
 ];
 
-// Whether reading and printing the first text gives the second.
+// Whether reading and printing the first text results in the second.
 fn is_read_and_printed(alloc: Global, text: &[u8], canonical: &[u8]) -> Result<bool, Fail> {
     Ok(is_spelled(alloc, parse(alloc, text)?, canonical)?)
 }
 
-// Each word's form, with other names and spaces than its canonical spelling, which is what parsing
-// and printing give.
+// Each word's form, with other names and spaces than its canonical spelling, which is the result of parsing and
+// printing.
 #[test]
 fn each_form_is_read_and_printed(rt: HostRuntime) -> Result<(), Fail> {
     for (text, canonical) in FORMS {
@@ -130,7 +130,7 @@ fn each_form_is_read_and_printed(rt: HostRuntime) -> Result<(), Fail> {
     Ok(())
 }
 
-// Canonical texts, which printing gives back.
+// Canonical texts, which printing returns unchanged.
 #[test]
 fn canonical_texts_stay_as_they_are(rt: HostRuntime) -> Result<(), Fail> {
     for text in CANONICAL {

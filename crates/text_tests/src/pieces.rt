@@ -1,8 +1,8 @@
-//! Texts made of pieces, each of which stands a number of times in a row.
+//! Texts made of pieces, each of which is repeated a number of times.
 
 use std::alloc::{AllocError, Global};
 
-/// A piece, and how many times it stands there.
+/// A piece, and the number of times that it is repeated.
 pub(crate) type Piece = (&'static [u8], usize);
 
 fn push_repeated(text: &mut Vec<u8>, piece: &[u8], times: usize) -> Result<(), AllocError> {

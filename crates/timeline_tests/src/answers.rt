@@ -8,7 +8,7 @@ use std::alloc::Global;
 use std::test::Fail;
 use timelines::{ExploreTimelineOrder, PictureOrder, TimelineOrder};
 
-/// Limits that small programs keep, with so many fibers (1 to 16).
+/// Limits for small programs, with this number of fibers (1 to 16).
 pub fn limits(fibers: u16) -> Limits
     ensures { AreLimits result }
 {
@@ -20,7 +20,7 @@ pub fn limits(fibers: u16) -> Limits
     }
 }
 
-/// What is answered to a program under a schedule, with its timeline.
+/// The answer to a program under a schedule, with its timeline.
 pub fn with_timeline(
     alloc: Global,
     program: &str,
@@ -35,7 +35,7 @@ pub fn with_timeline(
     Ok(order.answer(alloc, program.as_bytes())?)
 }
 
-/// What is answered to a program under a schedule, as a picture.
+/// The answer to a program under a schedule, as a picture.
 pub fn pictured(alloc: Global, program: &str, schedule: &str, fibers: u16) -> Result<Answer, Fail> {
     let entries = read_schedule(alloc, schedule)?;
     let order = PictureOrder {
@@ -57,7 +57,7 @@ fn push_wants(wants: &mut Vec<Want>, words: &[&str]) -> Result<(), Fail> {
     Ok(())
 }
 
-/// The order to explore with at most so many fibers (1 to 16), where these outcomes are wanted.
+/// The order to explore with at most this number of fibers (1 to 16) and these wanted outcomes.
 pub fn exploration(alloc: Global, fibers: u16, words: &[&str]) -> Result<ExploreOrder, Fail> {
     let mut wants = Vec::new(alloc);
     push_wants(&mut wants, words)?;
@@ -72,7 +72,7 @@ pub fn exploration(alloc: Global, fibers: u16, words: &[&str]) -> Result<Explore
     })
 }
 
-/// What is answered to a program that is explored, with its timelines.
+/// The answer to a program that is explored, with its timelines.
 pub fn explored_with_timelines(
     alloc: Global,
     program: &str,

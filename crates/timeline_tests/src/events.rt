@@ -9,7 +9,7 @@ use outcome_trace::{read_program, read_schedule};
 use std::alloc::Global;
 use std::test::Fail;
 
-// What is told of a program under a schedule, with so many fibers.
+// The result of a program under a schedule, with its events, with this number of fibers.
 fn told(alloc: Global, program: &str, schedule: &str, fibers: u16) -> Result<Told, Fail> {
     let Ok(program) = read_program(alloc, program.as_bytes()) else {
         return Err(Fail::new("no program"));
@@ -38,7 +38,7 @@ fn own(entry: usize, deed: Deed, mark: Option<Mark>) -> Event {
     }
 }
 
-// Looks, a request, a cut and an end, with their replies.
+// The events are looks, a request, a cut and an end, with their replies.
 #[test]
 fn a_request_is_told_with_its_replies(rt: HostRuntime) -> Result<(), Fail> {
     let told = told(rt.alloc(), "(canceled)", "0*6", 16)?;
@@ -56,7 +56,7 @@ fn a_request_is_told_with_its_replies(rt: HostRuntime) -> Result<(), Fail> {
     Ok(())
 }
 
-// Moves of the fiber's own, and a wait for nothing; an entry that moves nobody has no event.
+// The events are moves of the fiber's own, and a wait for nothing; an entry that moves no fiber has no event.
 #[test]
 fn own_moves_are_told(rt: HostRuntime) -> Result<(), Fail> {
     let told = told(
@@ -78,7 +78,7 @@ fn own_moves_are_told(rt: HostRuntime) -> Result<(), Fail> {
     Ok(())
 }
 
-// No event of an entry that is refused, nor of those behind it.
+// A refused entry has no event, and those behind it have none.
 #[test]
 fn events_end_before_a_fault(rt: HostRuntime) -> Result<(), Fail> {
     let told = told(rt.alloc(), "(start f (pure 1) (pure 2))", "0*5", 1)?;

@@ -6,13 +6,14 @@ use std::alloc::Global;
 use std::str;
 use std::test::Fail;
 
-// Programs that come to more than one report, without a fault.
+// Programs with more than one report, and without a fault.
 const BRANCHING: &[&str] = &[
     "(ref r 0 (start f (set r 1) (get r)))",
     "(start f (say 1) (cancel f))",
 ];
 
-// The text of an exploration, where each answer is that of a replay with its timeline under the schedule that is told.
+// The text of an exploration in which each answer is replaced by that of a replay, with its timeline, under the
+// answer's schedule.
 fn replayed(alloc: Global, program: &str, explored: &str) -> Result<Vec<u8>, Fail> {
     let mut text = Vec::new(alloc);
     for (place, part) in explored.split("\nunder \"").enumerate() {
@@ -29,7 +30,7 @@ fn replayed(alloc: Global, program: &str, explored: &str) -> Result<Vec<u8>, Fai
     Ok(text)
 }
 
-// Whether a program comes to more than one report, and each has the timeline of its schedule.
+// Whether a program has more than one report, and each comes with the timeline of its schedule.
 fn has_each_timeline(alloc: Global, program: &str) -> Result<bool, Fail> {
     let explored = exploration(alloc, 16, &[])?.answer(alloc, program.as_bytes())?;
     let told = explored_with_timelines(alloc, program, 16, &[])?;

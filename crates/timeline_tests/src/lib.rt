@@ -1,9 +1,9 @@
-//! Tests of the public calls of `fiber_events` and `timelines`, with events and timelines that are
-//! worked by hand from the table of moves.
+//! Tests of the public calls of `fiber_events` and `timelines`. The expected events and timelines are worked out by
+//! hand from the table of moves.
 //!
-//! The libraries promise that the events are those of the core, and what a timeline and a picture stand behind or in
-//! place of. These tests show what no proof does: what the rows of a timeline and the shapes of a picture are. The
-//! crate has nothing but its tests. They stand apart from the libraries so that these are proved without them.
+//! The contracts of the libraries pin that the events are those of the core, and which text a timeline follows or a
+//! picture replaces. These tests show what no proof does: the rows of a timeline and the shapes of a picture. The crate
+//! has only tests, so that the libraries are proved without them.
 #![tactic(auto)]
 
 #[cfg(test)]

@@ -6,9 +6,9 @@ use std::alloc::Global;
 use std::str;
 use std::test::Fail;
 
-// A program under a schedule, and what its picture has, with how often. The legend has one of each.
+// A program under a schedule, and the shapes of its picture, with their numbers. The legend has one of each.
 struct Shown<'a> {
-    // What it shows.
+    // The rule that it shows.
     rule: &'a str,
     program: &'a str,
     schedule: &'a str,
@@ -154,7 +154,7 @@ const SMALL: &str = " width=\"100%\" height=\"100%\"/>\n\
     <text class=\"faint\" x=\"462\" y=\"193\">wakes</text>\n\
     </svg>\n";
 
-// Whether a picture has these shapes, each as often as is said.
+// Whether a picture has these shapes, each as often as expected.
 fn is_shown(alloc: Global, it: &Shown<'_>) -> Result<bool, Fail> {
     let answer = pictured(alloc, it.program, it.schedule, 16)?;
     let Ok(text) = str::from_utf8(answer.text.as_slice()) else {
@@ -176,7 +176,7 @@ fn pictures_have_shapes(rt: HostRuntime) -> Result<(), Fail> {
     Ok(())
 }
 
-// What stands in a text behind its style.
+// The text behind the style.
 fn behind_style(text: &[u8]) -> &str {
     match str::from_utf8(text) {
         Ok(text) => match text.split_once("<rect class=\"paper\"") {
@@ -195,7 +195,7 @@ fn a_small_picture_is_drawn_whole(rt: HostRuntime) -> Result<(), Fail> {
     Ok(())
 }
 
-// A mark that a finalizer notes stands behind the bar of the finalizers, and so is drawn over it.
+// The sign of a finalizer's mark follows the bar of the finalizers in the text, and so is drawn over it.
 #[test]
 fn signs_are_drawn_over_their_bars(rt: HostRuntime) -> Result<(), Fail> {
     let program = "(oncancel (seq (canceled) (say 1)) (say 2))";

@@ -1,4 +1,4 @@
--- What is answered to a text whose program is explored, with a timeline behind each answer.
+-- The answers to a text whose program is explored, with a timeline behind each answer.
 use Rattle.std.specs.Prelude.{◌≡◌, ℕ, Bool, true, false, List, [], ◌∷◌, ◌++◌, Ok}
 use Rattle.std.specs.List.{filter}
 use Rattle.cell_registry.specs.declared.limits.Limits.{Limits}
@@ -14,25 +14,25 @@ use Rattle.exploration_text.specs.declared.wants.Want.{Want}
 use Rattle.exploration_text.specs.ExplorationText.{IsAnswerText, exploration_status, first_line, is_listed_so}
 use Rattle.exploration_text.specs.ExploreAnswers.{IsExplorationOf}
 
--- the text of an answer in the text of its exploration, then a blank line and a timeline
+-- the text of an answer as in the text of its exploration, then a blank line and a timeline
 pub record IsToldText (unwanted : Bool) (a : Answer) (text : List ℕ) : Type 0 where
   pub front : List ℕ
   pub timeline : List ℕ
   pub text_is : text ≡ front ++ 10 ∷ timeline
   pub answer_is : IsAnswerText unwanted a front
 
--- such texts of answers, one behind the other
+-- such texts of answers, one after another
 abbrev pub AreToldTexts : Bool → List Answer → List ℕ → Type 0
 AreToldTexts unwanted [] text = text ≡ []
 AreToldTexts unwanted (a ∷ answers) text = (front : List ℕ) × (behind : List ℕ) × (text ≡ front ++ behind) ×
     IsToldText unwanted a front × AreToldTexts unwanted answers behind
 
--- those of the answers that are listed as not wanted, or of the others
+-- the texts of the answers that are listed as unwanted, or of the others
 abbrev pub IsToldPart : Bool → List Want → List Answer → List ℕ → Type 0
 IsToldPart unwanted wants answers text =
     AreToldTexts unwanted (filter (λ a. is_listed_so unwanted wants a) answers) text
 
--- the first line of the text of the exploration, then the answers that are not wanted, and then the others
+-- the first line of the text of the exploration, then the unwanted answers, and then the others
 pub record IsToldExploration (wants : List Want) (e : Exploration) (text : List ℕ) : Type 0 where
   pub unwanted : List ℕ
   pub others : List ℕ
@@ -49,7 +49,7 @@ pub record IsToldExplored (t : Term) (limits : Limits) (bounds : Bounds) (wants 
     pub text_is : IsToldExploration wants exploration answer
     pub status_is : status ≡ exploration_status wants exploration
 
--- what is answered to a text under limits, with its status: a refusal, or the exploration of the program that the text
+-- the answer to a text under limits, with its status: a refusal, or the exploration of the program that the text
 -- spells, with timelines
 abbrev pub IsExploreTimeline : Limits → Bounds → List Want → List ℕ → List ℕ → Status → Type 0
 IsExploreTimeline limits bounds wants = IsProgramAnswer IsRefusalAnswer (λ t. IsToldExplored t limits bounds wants)

@@ -1,4 +1,4 @@
--- What is answered to a text under a schedule, with a timeline.
+-- The answers to a text under a schedule, with a timeline.
 use Rattle.std.specs.Prelude.{◌≡◌, ℕ, List, ◌∷◌, ◌++◌, Ok, Err, Result}
 use Rattle.cell_registry.specs.declared.limits.Limits.{Limits}
 use Rattle.cell_registry.specs.declared.limits.RunError.{RunError}
@@ -11,7 +11,7 @@ use Rattle.outcome_trace.specs.Lines.{run_line}
 use Rattle.outcome_trace.specs.ReplayAnswers.{IsRunAnswer, report_status}
 use Rattle.outcome_trace.specs.ReportText.{text_of_fibers}
 
--- the text of what a run came to, and the status that goes with it: of a report, or of a fault
+-- the text of the end of a run, and its status: of a report, or of a fault
 abbrev pub end_text : Result Report RunError → List ℕ
 end_text (Ok r) = text_of_fibers r.fibers
 end_text (Err e) = run_line e
@@ -20,7 +20,7 @@ abbrev pub end_status : Result Report RunError → Status
 end_status (Ok r) = report_status r.fibers
 end_status (Err e) = ends.Fault
 
--- what comes of a program under a schedule and limits, with its status: the report or the fault of the core, then a
+-- the answer to a program under a schedule and limits, with its status: the report or the fault of the core, then a
 -- blank line and a timeline
 pub record IsToldAnswer (t : Term) (schedule : List ℕ) (limits : Limits) (answer : List ℕ) (status : Status) : Type 0
   where
@@ -29,6 +29,6 @@ pub record IsToldAnswer (t : Term) (schedule : List ℕ) (limits : Limits) (answ
     pub text_is : answer ≡ front ++ 10 ∷ timeline
     pub runs : IsRunAnswer t schedule limits front status
 
--- what is answered to a text: a refusal, or what comes of the program that it spells, with a timeline
+-- the answer to a text: a refusal, or the answer to the program that it spells, with a timeline
 abbrev pub IsTimelineAnswer : List ℕ → Limits → List ℕ → List ℕ → Status → Type 0
 IsTimelineAnswer schedule limits = IsProgramAnswer IsRefusalAnswer (λ t. IsToldAnswer t schedule limits)

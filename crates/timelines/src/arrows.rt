@@ -1,4 +1,4 @@
-//! The arrows of a picture: who starts, cancels and wakes whom.
+//! The arrows of a picture: which fiber starts, cancels or wakes which.
 
 use crate::scale::{BAR, Scale};
 use crate::shapes::{Place, push_line};
@@ -8,7 +8,7 @@ use effect_term::{CancelReply, JoinReply, Reply};
 use fiber_events::{Deed, Event};
 use std::alloc::{AllocError, Global};
 
-// How many deferreds a run may have.
+// The greatest number of deferreds of a run.
 const DEFERREDS: usize = 1000;
 
 // A moment of a fiber.
@@ -18,14 +18,14 @@ struct Moment {
     x: usize,
 }
 
-// What others may wait for, and who waits.
+// The events that fibers can wait for, and which fibers wait.
 #[derive(Drop)]
 struct Wakes {
-    // Of each fiber, its end.
+    // The end of each fiber.
     ended: Vec<Option<Moment>>,
-    // Of each deferred, its completion.
+    // The completion of each deferred.
     completed: Vec<Option<Moment>>,
-    // Of each fiber, whether it waits.
+    // Whether each fiber waits.
     waits: Vec<bool>,
 }
 
@@ -116,7 +116,7 @@ impl Wakes {
         })
     }
 
-    // An event is kept. Who woke its fiber, if it waited and goes on.
+    // Records an event. Returns the moment that woke its fiber, if the fiber waited and goes on.
     fn take(&mut self, here: Moment, event: &Event) -> Option<Moment> {
         if !is_seen(event) {
             return None;
@@ -129,7 +129,7 @@ impl Wakes {
         if waited { self.waker(event) } else { None }
     }
 
-    // What others may wait for is kept.
+    // Records an end or a completion, which fibers can wait for.
     fn keep(&mut self, here: Moment, event: &Event) {
         match event.deed {
             Deed::Called(Call::Finish(_), _) => put(self.ended.as_mut_slice(), here.fiber, here),
@@ -140,7 +140,7 @@ impl Wakes {
         }
     }
 
-    // Who did what a fiber has waited for.
+    // The moment that the fiber of an event has waited for.
     fn waker(&self, event: &Event) -> Option<Moment> {
         match event.deed {
             Deed::Called(Call::Join(fiber), Reply::Join(JoinReply::Ended(_))) => {
@@ -154,7 +154,7 @@ impl Wakes {
     }
 }
 
-// Keeps a moment at a place.
+// Records a moment at a place.
 fn put(moments: &mut [Option<Moment>], place: usize, moment: Moment) {
     if let Some(kept) = moments.get_mut(place) {
         *kept = Some(moment);

@@ -1,32 +1,32 @@
-//! How wide the columns of a timeline are.
+//! The widths of the columns of a timeline.
 
 use crate::words::push_event;
 use fiber_events::Event;
 use itoa::Buffer;
 use std::alloc::{AllocError, Global};
 
-// How many bytes a line may have in a table that has a column for each fiber.
+// The greatest width of a line in a table with a column for each fiber.
 const WIDEST: usize = 120;
 
-// How wide the column of a fiber is at least, with the spaces behind it.
+// The least width of a fiber's column, with the spaces behind it.
 const NARROWEST: usize = 20;
 
-// How wide the column of the entries is at least: as wide as its heading.
+// The least width of the column of the entries: that of its heading.
 const ENTRY: usize = 6;
 
 /// The columns of a timeline.
 #[derive(Drop)]
 pub(crate) struct Columns {
-    /// How wide the column of the entries is.
+    /// The width of the column of the entries.
     pub(crate) entry: usize,
-    /// How wide the column of each fiber is, with two spaces behind it.
+    /// The width of each fiber's column, with two spaces behind it.
     pub(crate) fibers: Vec<usize>,
-    // How wide the name or the widest row of the last fiber is, behind which no spaces are written.
+    // The width of the last fiber's name or widest row, which no spaces follow.
     last: usize,
 }
 
 impl Columns {
-    /// Columns that are wide enough for these rows of so many fibers.
+    /// Columns that are wide enough for these rows of `born` fibers.
     pub(crate) fn new(alloc: Global, rows: &[Event], born: usize) -> Result<Columns, AllocError> {
         let mut fibers = vec![in alloc; NARROWEST; born]?;
         let mut last = name_width(born.saturating_sub(1));
@@ -50,7 +50,7 @@ impl Columns {
         })
     }
 
-    /// Whether all fibers have room side by side: whether the widest line has at most 120 bytes.
+    /// Whether all fibers have room side by side: the widest line has at most 120 bytes.
     pub(crate) fn fit(&self) -> bool {
         let mut width = self.entry.saturating_add(2);
         for fiber in self.fibers.iter().take(self.fibers.len().saturating_sub(1)) {
@@ -60,20 +60,20 @@ impl Columns {
     }
 }
 
-// How wide the name of a fiber is: `fiber`, a space and the number.
+// The width of a fiber's name: `fiber`, a space and the number.
 fn name_width(fiber: usize) -> usize {
     let mut digits = Buffer::new();
     digits.format(fiber).len().saturating_add(6)
 }
 
-// A column is at least so wide.
+// Makes a column at least this wide.
 fn widen(widths: &mut [usize], place: usize, wide: usize) {
     if let Some(width) = widths.get_mut(place) {
         *width = wide.max(*width);
     }
 }
 
-// How wide the column of the entries is.
+// The width of the column of the entries.
 fn entry_width(rows: &[Event]) -> usize {
     match rows.last() {
         Some(event) => {

@@ -11,9 +11,9 @@ use std::alloc::{AllocError, Global};
 
 /// The picture of a replay: one SVG document, without scripts.
 ///
-/// Each fiber has a lane from its birth to its end, of at most 100 fibers. Time goes to the right by entries: 14 points
-/// for each of up to 120, and of more all in 1680 points, where signs that would stand at one point are drawn once. So
-/// the size is bounded by the lanes. `AllocError` where memory runs out.
+/// Each fiber, up to the 100th, has a lane from its birth to its end. Time goes to the right by entries: 14 points for
+/// each of up to 120 entries, and 1680 points in all for more. Signs at the same point are drawn once, so the number of
+/// lanes bounds the size. Returns `AllocError` if memory runs out.
 pub fn picture(alloc: Global, told: &Told) -> Result<String, AllocError> {
     let events = told.events.as_slice();
     let scale = Scale {

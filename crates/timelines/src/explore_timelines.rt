@@ -1,4 +1,4 @@
-//! What comes of a text under every schedule, with the timeline of each answer.
+//! The answers to a text under every schedule, each with its timeline.
 
 ghost use Rattle.std.specs.Prelude.{IfOk};
 ghost use Rattle.std.specs.List.{All};
@@ -18,13 +18,14 @@ use fiber_events::replay_events;
 use outcome_trace::{InWords, ProgramOrder};
 use std::alloc::{AllocError, Global};
 
-/// Tells all that can come of the program that the text spells, under every schedule, and how: what `ExploreOrder` of
-/// `exploration_text` answers, where behind each report and each line of a fault stand a blank line and the timeline
-/// ([`timeline`]) of the replay under its schedule. The first line, the headings, the order of the answers and the
-/// status are the same. A text that is refused is answered by the line of its refusal alone, with `Status::Refused`.
+/// Answers a text with all that its program can come to under every schedule, and how: the answer of `ExploreOrder` of
+/// `exploration_text`, in which a blank line and a timeline ([`timeline`]) follow each report and each line of a fault.
+/// The timeline is that of the replay under the answer's schedule. The first line, the headings, the order of the
+/// answers and the status are the same. A refused text is answered only by the line of its refusal, with
+/// `Status::Refused`.
 #[derive(Drop)]
 pub struct ExploreTimelineOrder {
-    /// What is explored, how far, and what is wanted.
+    /// The limits, the bounds and the wanted reports of the exploration.
     pub order: ExploreOrder,
 }
 
@@ -74,7 +75,7 @@ fn told_exploration(
     Ok(text)
 }
 
-// The text of the answers that are listed as not wanted, or of the others, with timelines.
+// The text of the answers that are listed as unwanted, or of the others, with timelines.
 fn told_part(
     alloc: Global,
     program: &Program,

@@ -14,28 +14,28 @@ use std::alloc::{AllocError, Global};
 #[derive(Drop)]
 pub(crate) struct Lane {
     fiber: usize,
-    // Where the shade that is drawn now began.
+    // Where the present shade began.
     from: usize,
-    // How many masks are active.
+    // The number of active masks.
     masks: usize,
-    // How many polls are applied.
+    // The number of applied polls.
     polls: usize,
-    // The fiber was cut.
+    // Whether the fiber was cut.
     cut: bool,
     // Where it began to wait, if it waits.
     waits: Option<usize>,
-    // Where brackets acquired that haven't released, the innermost last.
+    // Where the brackets acquired that haven't released, the innermost last.
     spans: Vec<usize>,
     // The signs and words so far, which are drawn over the bars.
     signs: String,
-    // Where the last sign stands.
+    // The place of the last sign.
     signed: usize,
-    /// How the fiber ended, if it did.
+    /// The outcome of the fiber, if it has ended.
     pub(crate) outcome: Option<Outcome>,
 }
 
 impl Lane {
-    /// The lane of a fiber that was born there.
+    /// The lane of a fiber that was started at the entry `from`.
     pub(crate) fn new(alloc: Global, fiber: usize, from: usize) -> Lane {
         Lane {
             fiber,
@@ -51,7 +51,7 @@ impl Lane {
         }
     }
 
-    // The class of what the fiber runs: under a mask, in a poll, a finalizer, or neither.
+    // The class of what the fiber runs: masked, in a poll, a finalizer, or none of these.
     fn shade(&self) -> &'static str {
         if self.cut {
             "final"
@@ -88,7 +88,7 @@ impl Lane {
         self.note_end(text, scale, x, event)
     }
 
-    // A wait, if there was one, goes up to here.
+    // Draws a wait up to here, if there was one.
     fn end_wait(&mut self, text: &mut String, scale: Scale, x: usize) -> Result<(), AllocError> {
         if let Some(from) = self.waits {
             self.end_shade(text, scale, x)?;
@@ -104,7 +104,7 @@ impl Lane {
         Ok(())
     }
 
-    // The shade goes up to here.
+    // Draws the shade up to here.
     fn end_shade(&mut self, text: &mut String, scale: Scale, x: usize) -> Result<(), AllocError> {
         if x > self.from {
             let at = Place {
@@ -117,7 +117,7 @@ impl Lane {
         Ok(())
     }
 
-    // What a mark changes of the lane.
+    // Changes the lane by a mark.
     fn push_mark(
         &mut self,
         text: &mut String,
@@ -137,7 +137,7 @@ impl Lane {
         }
     }
 
-    // What a mark changes of the masks.
+    // Changes the numbers of masks and polls by a mark.
     fn shift(&mut self, mark: Mark) {
         match mark {
             Mark::Enter(_) => self.masks = self.masks.saturating_add(1),
@@ -155,7 +155,7 @@ impl Lane {
         }
     }
 
-    // The innermost bracket goes up to here.
+    // Draws the innermost bracket up to here.
     fn end_span(
         &mut self,
         text: &mut String,
@@ -177,7 +177,7 @@ impl Lane {
         Ok(())
     }
 
-    // The end of the fiber, if this is it.
+    // Records the end of the fiber, if this is it.
     fn note_end(
         &mut self,
         text: &mut String,
@@ -207,12 +207,12 @@ impl Lane {
         push_event_sign(&mut self.signs, sign.class, place, sign.drawing, event)
     }
 
-    /// The signs and words, behind all bars.
+    /// Appends the signs and words, after all bars.
     pub(crate) fn push_signs(&self, text: &mut String) -> Result<(), AllocError> {
         text.push_str(self.signs.as_str())
     }
 
-    /// All that is still open goes up to here.
+    /// Draws all that is still open up to here.
     pub(crate) fn close(
         &mut self,
         text: &mut String,
@@ -228,7 +228,7 @@ impl Lane {
     }
 }
 
-// How the fiber of an event ended by it, if it did.
+// The outcome of the event's fiber, if the event ended it.
 fn end_of(event: &Event) -> Option<Outcome> {
     match event.deed {
         Deed::Called(call, _) => end_by(call),
@@ -236,7 +236,7 @@ fn end_of(event: &Event) -> Option<Outcome> {
     }
 }
 
-// How a fiber ends that makes this call, if it does.
+// The outcome of a fiber that makes this call, if the call ends it.
 fn end_by(call: Call) -> Option<Outcome> {
     match call {
         Call::Finish(outcome) => Some(outcome),
@@ -244,7 +244,7 @@ fn end_by(call: Call) -> Option<Outcome> {
     }
 }
 
-// What an event said, over its sign, where there is room for it.
+// Writes the value of an event's `say` over its sign, if there is room for it.
 fn push_said(
     text: &mut String,
     scale: Scale,
@@ -257,7 +257,7 @@ fn push_said(
     }
 }
 
-// The value of a `say`.
+// Writes the value of a `say`.
 fn push_value(text: &mut String, place: Place, mark: Mark) -> Result<(), AllocError> {
     match mark {
         Mark::Say(value) => {
@@ -272,7 +272,7 @@ fn push_value(text: &mut String, place: Place, mark: Mark) -> Result<(), AllocEr
     }
 }
 
-// A sign: its class, and how it is drawn.
+// A sign: its class and its drawing.
 #[derive(Clone, Copy, Debug)]
 struct Sign {
     class: &'static str,

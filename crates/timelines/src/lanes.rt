@@ -53,7 +53,7 @@ fn push_lane(
     push_end(alloc, text, scale, fiber, lane.outcome)
 }
 
-// How a fiber ended, behind its lane.
+// The outcome of a fiber, behind its lane.
 fn push_end(
     alloc: Global,
     text: &mut String,
@@ -73,7 +73,7 @@ fn push_end(
     push_words(text, "faint", at, words.as_str())
 }
 
-// The entry with which a fiber is born: 0 for fiber 0.
+// The entry that started a fiber: 0 for fiber 0.
 fn birth(events: &[Event], fiber: usize) -> usize {
     for event in events {
         if let Deed::Called(Call::Start, Reply::Number(number)) = event.deed

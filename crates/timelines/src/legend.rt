@@ -1,16 +1,16 @@
-//! What the shades, signs and arrows of a picture mean, and the numbers of the entries.
+//! The meanings of the shades, signs and arrows of a picture, and the numbers of the entries.
 
 use crate::scale::{BAR, LEFT, Scale, TOP};
 use crate::shapes::{Place, push_bar, push_counted, push_line, push_sign, push_words};
 use std::alloc::AllocError;
 
-// How far apart the samples of the legend are.
+// The distance between the samples of the legend.
 const APART: usize = 104;
 
-/// How high the legend is.
+/// The height of the legend.
 pub(crate) const HEIGHT: usize = 108;
 
-/// How wide the legend is.
+/// The width of the legend.
 pub(crate) const WIDTH: usize = 16 + 7 * APART;
 
 // The shades, each with its class.
@@ -67,8 +67,8 @@ pub(crate) fn push_axis(text: &mut String, scale: Scale) -> Result<(), AllocErro
     Ok(())
 }
 
-// How many entries are from one number to the next: 1 where all have one digit, which have room side by side; else 1,
-// 2 or 5 and zeros, so that there are 20 at most.
+// The number of entries from one label to the next: 1 if all have one digit, which have room side by side; otherwise 1,
+// 2 or 5 times a power of ten, so that there are at most 20 labels.
 fn step(entries: usize) -> usize {
     if entries < 10 {
         return 1;
@@ -84,7 +84,7 @@ fn step(entries: usize) -> usize {
     step
 }
 
-/// The legend, from a height on.
+/// The legend, from this height on.
 pub(crate) fn push_legend(text: &mut String, top: usize) -> Result<(), AllocError> {
     push_shades(text, top)?;
     push_signs(text, top.saturating_add(34))?;
@@ -150,7 +150,7 @@ fn push_arrows(text: &mut String, top: usize) -> Result<(), AllocError> {
     Ok(())
 }
 
-/// The words for fibers that have no lane, under the lanes.
+/// The words about fibers without a lane, under the lanes.
 pub(crate) fn push_missing(text: &mut String, scale: Scale) -> Result<(), AllocError> {
     let missing = scale.born.saturating_sub(scale.lanes());
     if missing == 0 {

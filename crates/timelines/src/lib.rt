@@ -1,13 +1,12 @@
-//! The events of a run, shown in time: as text, a row for each entry that did something anyone would see and a column
-//! for each fiber, and as a picture, one SVG document with a lane for each fiber in which time goes to the right by
-//! entries.
+//! The events of a run, shown in time: as text, with a row for each entry with a visible effect and a column for each
+//! fiber, and as a picture, one SVG document with a lane for each fiber, in which time goes to the right by entries.
 //!
-//! It stands on the events of a replay (`fiber_events`), and on reports, explorations and texts (`outcome_trace`,
-//! `every_schedule`, `exploration_text`, `text_io`). It promises that what goes out with a timeline begins with exactly
-//! what is answered without one, behind which stand a blank line and a text, and that the status is the same; of an
-//! exploration, that each of its answers is exactly what it is without a timeline, with a blank line and a text behind
-//! it; and that a text is answered by a picture exactly where its program comes to a report, with the status of the
-//! report, and else as a replay answers it. What the rows say and the picture shows is shown by tests.
+//! The crate uses the events of a replay (`fiber_events`), and reports, explorations and texts (`outcome_trace`,
+//! `every_schedule`, `exploration_text`, `text_io`). The crate promises that an answer with a timeline begins with
+//! exactly the answer without one, followed by a blank line and a text, and has the same status; that in an
+//! exploration, each answer is exactly what it is without a timeline, followed by a blank line and a text; and that a
+//! text is answered by a picture exactly if its program has a report, with the status of the report, and otherwise as a
+//! replay answers it. Tests show what the rows and the picture contain.
 #![tactic(auto)]
 
 mod arrows;

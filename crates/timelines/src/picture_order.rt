@@ -1,4 +1,4 @@
-//! What comes of a text under a schedule, as a picture.
+//! The answer to a text under a schedule, as a picture.
 
 ghost use Rattle.cell_registry.specs.Cells.{AreLimits};
 ghost use Rattle.timelines.specs.PictureAnswers.{IsPicturedAnswer};
@@ -10,15 +10,15 @@ use fiber_events::replay_events;
 use outcome_trace::{Answer, InWords, ProgramOrder, Refused, Status, line, report_status};
 use std::alloc::{AllocError, Global};
 
-/// Tells what the program that the text spells does under a schedule, by a picture ([`picture`]) in place of the
-/// report, with the report's status. Where there is no report, it answers as `ReplayOrder` of `outcome_trace` does: the
-/// line of the text's refusal, with `Status::Refused`, or of the run's fault, with `Status::Fault`.
+/// Answers a text under a schedule with a picture ([`picture`]) of what its program does, in place of the report, and
+/// with the report's status. If there is no report, it answers as `ReplayOrder` of `outcome_trace` does: with the line
+/// of the text's refusal, with `Status::Refused`, or of the run's fault, with `Status::Fault`.
 #[derive(Clone, Copy, Debug)]
 pub struct PictureOrder<'a> {
-    /// Whose move is next, from the first entry on.
+    /// The fiber that moves next, from the first entry on.
     pub schedule: &'a [u16],
-    /// How many fibers, refs and deferreds there may be (each 1 to 1000), and how often a fiber may
-    /// change its own state (1 to 1,099,511,627,775).
+    /// The numbers of fibers, refs and deferreds (each 1 to 1000), and how often a fiber can change its own cell (1 to
+    /// 1,099,511,627,775).
     pub limits: Limits,
     pub ghost ranges: { AreLimits limits },
 }

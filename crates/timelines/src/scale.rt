@@ -1,54 +1,54 @@
-//! Where things stand in a picture.
+//! The places of things in a picture.
 
 use fiber_events::Event;
 
 /// How far from the left the first entry is: behind the names of the fibers.
 pub(crate) const LEFT: usize = 84;
 
-/// How far from the top the first lane is.
+/// The distance of the first lane from the top.
 pub(crate) const TOP: usize = 40;
 
-/// How far a lane is below the one before it.
+/// The distance between two lanes.
 pub(crate) const PITCH: usize = 52;
 
-/// How high a lane's bar is.
+/// The height of a lane's bar.
 pub(crate) const BAR: usize = 18;
 
-/// How many fibers have a lane.
+/// The greatest number of lanes.
 pub(crate) const MOST_LANES: usize = 100;
 
-// How wide an entry is where all have room.
+// The width of an entry if all have room.
 const STEP: usize = 14;
 
-// How many entries have room at that width. More stand closer together.
+// The greatest number of entries at that width. More entries are closer together.
 const ROOMY: usize = 120;
 
-/// How far entries are apart, and where lanes begin.
+/// The distance between entries, and the places of lanes.
 #[derive(Clone, Copy, Debug)]
 pub(crate) struct Scale {
-    /// How many entries there are.
+    /// The number of entries.
     pub(crate) entries: usize,
-    /// How many fibers were born.
+    /// The number of fibers that were started.
     pub(crate) born: usize,
 }
 
 impl Scale {
-    /// How many lanes there are.
+    /// The number of lanes.
     pub(crate) fn lanes(self) -> usize {
         self.born.min(MOST_LANES)
     }
 
-    /// Whether entries are as far apart as a short word is wide.
+    /// Whether the distance between entries is enough for a short word.
     pub(crate) fn is_roomy(self) -> bool {
         self.entries <= ROOMY
     }
 
-    /// How wide the lanes are.
+    /// The width of the lanes.
     pub(crate) fn width(self) -> usize {
         self.entries.min(ROOMY).max(20).saturating_mul(STEP)
     }
 
-    /// How far from the left an entry is. The first entry is number 1; at 0 nothing has moved.
+    /// The distance of an entry from the left. The first entry is number 1; at 0 nothing has moved.
     pub(crate) fn at(self, entry: usize) -> usize {
         if self.entries <= ROOMY {
             LEFT.saturating_add(entry.saturating_mul(STEP))
@@ -58,27 +58,27 @@ impl Scale {
         }
     }
 
-    /// How far from the left an event is.
+    /// The distance of an event from the left.
     pub(crate) fn of(self, event: &Event) -> usize {
         self.at(event.entry)
     }
 
-    /// How far from the left the lanes end.
+    /// The distance of the end of the lanes from the left.
     pub(crate) fn right(self) -> usize {
         LEFT.saturating_add(self.width()).saturating_add(STEP)
     }
 
-    /// How far from the top the bar of a fiber is.
+    /// The distance of a fiber's bar from the top.
     pub(crate) fn top(self, fiber: usize) -> usize {
         TOP.saturating_add(fiber.saturating_mul(PITCH))
     }
 
-    /// How far from the top the middle of the bar of a fiber is.
+    /// The distance of the middle of a fiber's bar from the top.
     pub(crate) fn middle(self, fiber: usize) -> usize {
         self.top(fiber).saturating_add(BAR / 2)
     }
 
-    /// How far from the top all lanes end.
+    /// The distance of the end of all lanes from the top.
     pub(crate) fn bottom(self) -> usize {
         self.top(self.lanes())
     }

@@ -5,23 +5,23 @@ use fiber_events::Event;
 use itoa::Buffer;
 use std::alloc::AllocError;
 
-// A number behind what stands before it.
+// Appends `before` and a number.
 fn push_number(text: &mut String, before: &str, number: usize) -> Result<(), AllocError> {
     let mut digits = Buffer::new();
     text.push_str(before)?;
     text.push_str(digits.format(number))
 }
 
-/// Where a shape stands.
+/// The place of a shape.
 #[derive(Clone, Copy, Debug)]
 pub(crate) struct Place {
-    /// How far from the left.
+    /// The distance from the left.
     pub(crate) x: usize,
-    /// How far from the top.
+    /// The distance from the top.
     pub(crate) y: usize,
 }
 
-/// A bar of a class, with its left upper corner.
+/// A bar of a class, from its upper left corner.
 pub(crate) fn push_bar(
     text: &mut String,
     class: &str,
@@ -54,7 +54,7 @@ pub(crate) fn push_line(
     text.push_str("\"/>\n")
 }
 
-/// Words of a class, which begin or are centred at a place. They are no markup.
+/// Words of a class, which begin or are centred at a place. The words contain no markup.
 pub(crate) fn push_words(
     text: &mut String,
     class: &str,

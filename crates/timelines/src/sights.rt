@@ -1,4 +1,4 @@
-//! Which events anyone would see.
+//! The events with a visible effect.
 
 use cell_registry::Call;
 use effect_term::{JoinReply, Reply};
@@ -8,17 +8,17 @@ use std::alloc::{AllocError, Global};
 // What a fiber waits for.
 #[derive(Clone, Copy, PartialEq, Eq, Debug)]
 enum Topic {
-    // It doesn't wait.
+    // The fiber doesn't wait.
     Nothing,
     // The end of this fiber.
     Fiber(u16),
     // The completion of this deferred.
     Deferred(u16),
-    // What never comes.
+    // Something that never comes.
     Never,
 }
 
-// What the fiber of an event waits for since.
+// What the fiber of an event waits for after it.
 fn waits_for(event: &Event) -> Topic {
     match event.deed {
         Deed::Called(Call::Join(fiber), Reply::Join(JoinReply::Waits)) => Topic::Fiber(fiber),
@@ -28,13 +28,13 @@ fn waits_for(event: &Event) -> Topic {
     }
 }
 
-/// Whether the fiber of an event waits since: for the end of a fiber, a deferred, or nothing.
+/// Whether the fiber of an event waits after it: for the end of a fiber, a deferred, or without end.
 pub(crate) fn waits(event: &Event) -> bool {
     waits_for(event) != Topic::Nothing
 }
 
-/// Whether anyone would see what an event did: not a look that found no request, nor a move that changes the fiber
-/// alone and notes nothing.
+/// Whether an event has a visible effect: it is neither a look that found no request, nor a move that changes only its
+/// fiber and adds no mark.
 pub(crate) fn is_seen(event: &Event) -> bool {
     match event.deed {
         Deed::Called(Call::Look, Reply::Seen(asked)) => asked,
@@ -43,7 +43,7 @@ pub(crate) fn is_seen(event: &Event) -> bool {
     }
 }
 
-/// How many fibers were born: fiber 0, and one with each start.
+/// The number of fibers that were started: fiber 0, and one with each start.
 pub(crate) fn born(events: &[Event]) -> usize {
     let mut born = 1usize;
     for event in events {
@@ -54,8 +54,8 @@ pub(crate) fn born(events: &[Event]) -> usize {
     born
 }
 
-/// The events that anyone would see, in their order, and of a wait that goes on the first. `AllocError` where memory is
-/// refused.
+/// The events with a visible effect, in their order, and only the first event of each wait. Returns `AllocError` if
+/// memory is refused.
 pub(crate) fn seen(alloc: Global, events: &[Event]) -> Result<Vec<Event>, AllocError> {
     let mut waits = vec![in alloc; Topic::Nothing; born(events)]?;
     let mut rows = Vec::new(alloc);
@@ -67,7 +67,7 @@ pub(crate) fn seen(alloc: Global, events: &[Event]) -> Result<Vec<Event>, AllocE
     Ok(rows)
 }
 
-// Whether an event is one of these. What each fiber waits for is kept.
+// Whether an event has a visible effect and isn't a wait that goes on. Records what each fiber waits for.
 fn is_new(waits: &mut [Topic], event: &Event) -> bool {
     if !is_seen(event) {
         return false;

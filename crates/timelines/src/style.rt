@@ -1,4 +1,4 @@
-//! What stands before the shapes of a picture: its colours, by day and by night.
+//! The style of a picture: its colours, for light and dark display.
 
 /// The style of the shapes, and what they are filled and headed with.
 pub(crate) const STYLE: &str = "<style>\n\

@@ -1,4 +1,4 @@
-//! What comes of a text under a schedule, with its timeline.
+//! The answer to a text under a schedule, with a timeline.
 
 ghost use Rattle.std.specs.Prelude.{◌≡◌, ◌++◌, ◌∷◌, IfOk, OnOk};
 ghost use Rattle.cell_registry.specs.Cells.{AreLimits};
@@ -11,15 +11,15 @@ use fiber_events::replay_events;
 use outcome_trace::{Answer, InWords, ProgramOrder, Refused, Report, Status, line, report_answer};
 use std::alloc::{AllocError, Global};
 
-/// Tells what the program that the text spells comes to under a schedule, and how: what `ReplayOrder` of
-/// `outcome_trace` answers, then a blank line and the timeline ([`timeline`]), with the same status. A text that is
-/// refused is answered by the line of its refusal alone, with `Status::Refused`.
+/// Answers a text under a schedule: the answer of `ReplayOrder` of `outcome_trace`, then a blank line and the timeline
+/// ([`timeline`]), with the same status. A refused text is answered only by the line of its refusal, with
+/// `Status::Refused`.
 #[derive(Clone, Copy, Debug)]
 pub struct TimelineOrder<'a> {
-    /// Whose move is next, from the first entry on.
+    /// The fiber that moves next, from the first entry on.
     pub schedule: &'a [u16],
-    /// How many fibers, refs and deferreds there may be (each 1 to 1000), and how often a fiber may
-    /// change its own state (1 to 1,099,511,627,775).
+    /// The numbers of fibers, refs and deferreds (each 1 to 1000), and how often a fiber can change its own cell (1 to
+    /// 1,099,511,627,775).
     pub limits: Limits,
     pub ghost ranges: { AreLimits limits },
 }
@@ -37,7 +37,7 @@ impl ProgramOrder for TimelineOrder<'_> {
     }
 }
 
-// An answer with a blank line and a timeline behind it.
+// An answer followed by a blank line and a timeline.
 fn with_rows(front: Answer, rows: &[u8]) -> Result<Answer, AllocError>
     ensures text { IfOk result (λ a. a.text.items ≡ front.text.items ++ 10 ∷ rows.now) }
     ensures status { IfOk result (λ a. a.status ≡ front.status) }
@@ -47,7 +47,7 @@ fn with_rows(front: Answer, rows: &[u8]) -> Result<Answer, AllocError>
     Ok(Answer { text, status })
 }
 
-/// Puts a blank line and a timeline behind a text.
+/// Appends a blank line and a timeline to a text.
 pub(crate) fn push_rows(text: &mut Vec<u8>, rows: &[u8]) -> Result<(), AllocError>
     ensures { OnOk result (text.new.items ≡ text.old.items ++ 10 ∷ rows.now) }
 {

@@ -9,10 +9,10 @@ use std::alloc::{AllocError, Global};
 
 /// The timeline of a replay, as text.
 ///
-/// Under a heading there is a row for each entry that did something anyone would see, with its number and, in the
-/// column of its fiber, what it did; a wait that goes on has one row. Where the table would be wider than 120 columns,
-/// each fiber has a table of its own, one below the other. At the foot stand the entry that was refused, if one was,
-/// and how many entries moved nobody, if any did. `AllocError` where memory runs out.
+/// Under a heading there is a row for each entry with a visible effect, with its number and, in the column of its
+/// fiber, what it did; a wait that goes on has one row. If the table would be wider than 120 columns, each fiber has a
+/// table of its own, one below the other. The last lines are the entry that was refused, if one was, and the number of
+/// entries that moved no fiber, if there were any. Returns `AllocError` if memory runs out.
 pub fn timeline(alloc: Global, told: &Told) -> Result<String, AllocError> {
     let events = told.events.as_slice();
     let rows = seen(alloc, events)?;
@@ -51,13 +51,13 @@ fn push_fiber(text: &mut String, fiber: usize) -> Result<(), AllocError> {
     text.push_str(digits.format(fiber))
 }
 
-// What heads the entries.
+// The heading of the column of the entries.
 fn push_heading(text: &mut String, columns: &Columns) -> Result<(), AllocError> {
     push_spaces(text, columns.entry.saturating_sub(5))?;
     text.push_str("entry  ")
 }
 
-// All fibers side by side.
+// A table of all fibers, side by side.
 fn push_table(text: &mut String, rows: &[Event], columns: &Columns) -> Result<(), AllocError> {
     push_heading(text, columns)?;
     push_names(text, columns.fibers.as_slice())?;
@@ -82,7 +82,7 @@ fn push_names(text: &mut String, widths: &[usize]) -> Result<(), AllocError> {
     text.push('\n')
 }
 
-// How far from the first fiber's column the column of a fiber is.
+// The distance from the first fiber's column to the column of a fiber.
 fn start(widths: &[usize], fiber: u16) -> usize {
     let mut start = 0usize;
     for width in widths.iter().take(usize::from(fiber)) {
@@ -91,7 +91,7 @@ fn start(widths: &[usize], fiber: u16) -> usize {
     start
 }
 
-// The fibers one below the other, each with a table of its own.
+// A table for each fiber, one below the other.
 fn push_blocks(text: &mut String, rows: &[Event], columns: &Columns) -> Result<(), AllocError> {
     for fiber in 0..columns.fibers.len() {
         if fiber > 0 {
@@ -122,7 +122,7 @@ fn push_own_rows(
     Ok(())
 }
 
-// The entry that was refused, and how many moved nobody.
+// The entry that was refused, and the number of entries that moved no fiber.
 fn push_foot(text: &mut String, told: &Told) -> Result<(), AllocError> {
     let idle = told.made.saturating_sub(told.events.as_slice().len());
     let mut digits = Buffer::new();

@@ -1,4 +1,4 @@
-//! What is said of an event.
+//! The words for an event.
 
 use cell_registry::Call;
 use effect_term::{CancelReply, JoinReply, Outcome, Reply, Value};
@@ -14,7 +14,7 @@ fn push_number<I: Integer>(text: &mut String, word: &str, number: I) -> Result<(
     text.push_str(digits.format(number))
 }
 
-// A word, a number, and what is said of it.
+// A word, a number, and a further word with a number.
 fn push_about<I: Integer, J: Integer>(
     text: &mut String,
     word: &str,
@@ -26,8 +26,8 @@ fn push_about<I: Integer, J: Integer>(
     push_number(text, between, about)
 }
 
-/// Writes what is said of an event behind a text: the mark that was noted, as a report spells it, or else what the move
-/// did. Of a move that changed the fiber alone nothing is said. `AllocError` where memory is refused.
+/// Appends the words for an event to a text: the mark that it added, as a report spells it, or else what the move did.
+/// A move that changed only its fiber has no words. Returns `AllocError` if memory is refused.
 pub(crate) fn push_event(text: &mut String, event: &Event) -> Result<(), AllocError> {
     if let Some(mark) = event.mark {
         return push_mark(text, mark);
@@ -85,7 +85,7 @@ fn push_cells(text: &mut String, call: Call, reply: Reply) -> Result<(), AllocEr
     }
 }
 
-// The value that a ref was answered with.
+// The value in the reply to a call on a ref.
 fn value_in(reply: Reply) -> i64 {
     match reply {
         Reply::Value(value) => value.get(),
@@ -93,7 +93,7 @@ fn value_in(reply: Reply) -> i64 {
     }
 }
 
-// A sum, with what the ref held before and holds since.
+// A sum, with the ref's values before and after.
 fn push_modify(text: &mut String, number: u16, added: i64, old: i64) -> Result<(), AllocError> {
     push_about(text, "modify ref ", number, ": ", old)?;
     push_number(text, " -> ", sum(old, added))
@@ -132,7 +132,7 @@ fn push_made(text: &mut String, what: &str, reply: Reply) -> Result<(), AllocErr
     }
 }
 
-// A request for the cancellation of a fiber, and what it found.
+// A request for the cancellation of a fiber, and its reply.
 fn push_cancel(text: &mut String, fiber: u16, reply: Reply) -> Result<(), AllocError> {
     push_number(text, "requests cancel ", fiber)?;
     match reply {
@@ -142,7 +142,7 @@ fn push_cancel(text: &mut String, fiber: u16, reply: Reply) -> Result<(), AllocE
     }
 }
 
-// A wait for the end of a fiber, or how it ended.
+// A wait for the end of a fiber, or the fiber's outcome.
 fn push_join(text: &mut String, fiber: u16, reply: Reply) -> Result<(), AllocError> {
     match reply {
         Reply::Join(JoinReply::Ended(outcome)) => {
@@ -154,7 +154,7 @@ fn push_join(text: &mut String, fiber: u16, reply: Reply) -> Result<(), AllocErr
     }
 }
 
-/// Writes how a fiber ended behind a text, as a report spells it. `AllocError` where memory is refused.
+/// Appends the outcome of a fiber to a text, as a report spells it. Returns `AllocError` if memory is refused.
 pub(crate) fn push_outcome(text: &mut String, outcome: Outcome) -> Result<(), AllocError> {
     match outcome {
         Outcome::Succeeded(value) => push_number(text, "succeeded ", value.get()),
@@ -163,7 +163,7 @@ pub(crate) fn push_outcome(text: &mut String, outcome: Outcome) -> Result<(), Al
     }
 }
 
-// The sum modulo 2^63, which a ref holds behind a `modify`.
+// The sum modulo 2^63, the ref's value after a `modify`.
 fn sum(old: i64, added: i64) -> i64 {
     let half = 4_611_686_018_427_387_904;
     let sum = old.saturating_add(added);

@@ -7,19 +7,19 @@ use Rattle.wait_bay.specs.declared.fault.PutError.{PutError}
 use Rattle.wait_bay.specs.declared.fault.PutError.TheVariants.{WrongSlot, Occupied}
 use Rattle.wait_bay.specs.Names.{Named}
 
--- a seat: the table that it is at, and what it knows the bay to name
+-- a seat: its table, and what it knows the bay to name
 pub record SeatView : Type 0 where
   pub table : TableId
   pub named : Option Named
 
--- a bay: its table, what it names, and for how many fibers and deferreds it is
+-- a bay: its table, what it names, and its numbers of fibers and deferreds
 pub record BayView : Type 0 where
   pub table : TableId
   pub named : Option Named
   pub fibers : ℕ
   pub deferreds : ℕ
 
--- the seat is one of this bay's
+-- the seat belongs to this bay
 pub record IsSeatOf (b : BayView) (s : SeatView) : Type 0 where
   pub table : s.table ≡ b.table
   pub named : s.named ≡ b.named

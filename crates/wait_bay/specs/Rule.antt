@@ -1,4 +1,4 @@
--- The rule of a bay's table, and what the steps on it tell.
+-- The rule of a bay's table, and what the steps on it show.
 use Rattle.std.specs.Prelude.{◌≡◌, ◌==◌, ◌<◌, ℕ, Option, ◌∷◌, length, slice_index, MatchBool}
 use Rattle.atomic_table.specs.Table.{State, Step, Me, rest}
 use mathlib.Core.Option.{some}
@@ -7,8 +7,8 @@ use Rattle.fiber_poll.specs.Tasks.{TaskView}
 use Rattle.wait_bay.specs.declared.rule.Knowledge.{Knowledge}
 use Rattle.wait_bay.specs.Names.{Named, MayLie}
 
--- each seat knows what the bay names. A slot at home has what may lie there, a slot whose word is 0 is at home, and
--- there are as many words as slots
+-- Each seat knows what the bay names. A slot at home has what it can hold, a slot whose word is 0 is at home, and there
+-- are as many words as slots
 pub record KeepsTasks (named : Option Named) (s : State (Option TaskView) Knowledge) : Type 0 where
   pub seats : (seat : ℕ) (v : Knowledge) → get_elem? s.views seat ≡ some v → v.named ≡ named
   pub lie : (f : ℕ) (y : Option TaskView) → get_elem? s.homes f ≡ some (some y) → MayLie named f y
@@ -16,8 +16,7 @@ pub record KeepsTasks (named : Option Named) (s : State (Option TaskView) Knowle
       (get_elem? s.homes f ≡ some (some y))
   pub many : length s.words ≡ length s.homes
 
--- where the word was 0 the slot is out with this seat, which had found it with what may lie there, and else nothing
--- has changed
+-- if the word was 0, the slot is now out with this seat, and has what it can hold; otherwise nothing has changed
 abbrev pub GoesOut : Step (Option TaskView) → Me (Option TaskView) Knowledge → ℕ → Me (Option TaskView) Knowledge →
     Type 0
 GoesOut s v found w =

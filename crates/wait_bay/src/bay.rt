@@ -1,4 +1,4 @@
-//! The bay: its slots and lists, and what is done with the lists.
+//! The bay: its slots and lists, and the operations on the lists.
 ghost use Rattle.std.specs.Prelude.{◌≡◌, ◌<◌, ◌↔◌, [], IfOk, IsNone, IsOk, IsTrue, false};
 ghost use Rattle.wait_bay.specs.Names.{named_of};
 ghost use Rattle.wait_bay.specs.Bays.{IsSeatOf, IsWithin};
@@ -16,12 +16,11 @@ use std::marker::Model;
 use std::sync::atomic::Ordering;
 use std::sync::{Mutex, Wait};
 
-/// The tasks of fibers that no worker has, and the lists of those that wait, which workers on any
-/// threads share.
+/// The tasks of fibers that no worker holds, and the lists of waiting fibers, which workers on any threads share.
 ///
-/// A fiber is in one of three states: its task is in its slot and its number is on no queue, its
-/// task is in its slot and its number is queued once, or a worker has the task. The calls that put
-/// and wake answer whether the caller is to queue the number, so that it is never queued twice.
+/// A fiber is in one of three states: its task is in its slot and its number is on no queue, its task is in its slot
+/// and its number is queued once, or a worker has the task. The calls that put and wake return whether the caller has
+/// to queue the number, so that it is never queued twice.
 #[derive(Drop)]
 pub struct Bay<'a> {
     pub(crate) alloc: Global,
@@ -55,9 +54,9 @@ impl<'a> Model for Bay<'a> {
 }
 
 impl<'a> Bay<'a> {
-    /// A bay with a slot for each number of a fiber below `fibers` and a list for each fiber and
-    /// each deferred below `deferreds`, all empty, and its first seat. It names this registry,
-    /// this code and how many moves fiber 0 may make, or nothing. Answers `AllocError` where there is no memory for it.
+    /// A bay with a slot for each number of a fiber below `fibers` and a list for each fiber and each deferred below
+    /// `deferreds`, all empty, and its first seat. The bay names this registry, this code and the number of moves of
+    /// fiber 0, or nothing. Returns `AllocError` if there is no memory for it.
     pub fn new(
         alloc: Global,
         fibers: u16,
@@ -88,7 +87,7 @@ impl<'a> Bay<'a> {
         Ok((bay, BaySeat { seat }))
     }
 
-    /// How many fibers the bay has slots for.
+    /// The number of fibers that the bay has slots for.
     #[inline(always)]
     pub fn fibers(&self) -> u16
         ensures { result ≡ self.now.fibers }
@@ -108,8 +107,7 @@ impl<'a> Bay<'a> {
         }
     }
 
-    /// Another seat of this bay, for another worker. It costs one load of a word, so the bay has a
-    /// slot.
+    /// Another seat of this bay, for another worker. The call loads one word, so the bay has at least one slot.
     pub fn split(&self, seat: &mut BaySeat<'a>) -> BaySeat<'a>
         requires here { IsSeatOf self.now seat.old }
         requires some { 0 < self.now.fibers }
@@ -120,8 +118,8 @@ impl<'a> Bay<'a> {
         BaySeat { seat }
     }
 
-    /// Notes that a fiber waits for a topic. Who waits for `Never` is noted nowhere, since nobody
-    /// wakes it. Answers `AllocError` where there is no memory for it, and changes nothing then.
+    /// Records that a fiber waits for a topic. A fiber that waits for `Never` isn't recorded, since nothing wakes it.
+    /// Returns `AllocError` if there is no memory for it, and then changes nothing.
     pub fn register(&self, rt: &impl Wait, topic: Topic, f: u16) -> Result<(), AllocError>
         requires within { IsWithin self.now topic }
         ensures never { topic ≡ Topic.Never → IsOk result }
@@ -137,8 +135,8 @@ impl<'a> Bay<'a> {
         Ok(())
     }
 
-    /// Whether a fiber was noted as waiting for a topic since the topic's list was drained last. It takes no
-    /// lock. A fiber that is noted after a `false` sees at its next look what had come before the call.
+    /// Whether a fiber was recorded as waiting for a topic since the topic's list was last drained. Takes no lock. A
+    /// fiber that is recorded after a `false` sees at its next look what had happened before the call.
     #[inline(always)]
     pub fn is_awaited(&self, topic: Topic) -> bool
         requires within { IsWithin self.now topic }
@@ -150,8 +148,8 @@ impl<'a> Bay<'a> {
         }
     }
 
-    /// The fibers that wait for a topic, in the order in which they came. Nobody waits for it from
-    /// then on. Takes no memory.
+    /// Takes the fibers that wait for a topic, in the order in which they came; the list is then empty. Allocates no
+    /// memory.
     pub fn drain_topic(&self, rt: &impl Wait, topic: Topic) -> Vec<u16>
         requires within { IsWithin self.now topic }
         ensures never { topic ≡ Topic.Never → result.items ≡ [] }
@@ -164,7 +162,7 @@ impl<'a> Bay<'a> {
         waiters.drain()
     }
 
-    // The list of a topic, if somebody may be noted there. `Never` has none.
+    // The list of a topic, if fibers can be recorded there. `Never` has none.
     #[inline(always)]
     fn list(&self, topic: Topic) -> Option<&WaiterList>
         requires within { IsWithin self.now topic }

@@ -1,4 +1,4 @@
-//! What is left in a bay at its end.
+//! The tasks that are left in a bay at its end.
 ghost use Rattle.std.specs.Prelude.{◌≡◌, ◌⊎◌, ◌∷◌, ◌++◌, [], All, AllPairs, IfOk, Some, true};
 ghost use Rattle.fiber_poll.specs.Tasks.{TaskView};
 ghost use Rattle.wait_bay.specs.Names.{ComesBefore, IsNamed};
@@ -8,9 +8,8 @@ use fiber_poll::FiberTask;
 use std::alloc::AllocError;
 
 impl<'a> Bay<'a> {
-    /// The tasks in the slots, in the order of their numbers. A slot that is with somebody is passed
-    /// over. Answers `AllocError` where there is no memory for the list, and the tasks are dropped
-    /// then.
+    /// The tasks in the slots, in the order of their numbers. A slot that is out with a seat is skipped. Returns
+    /// `AllocError` if there is no memory for the list; the tasks are then dropped.
     pub fn empty(self) -> Result<Vec<FiberTask<'a>>, AllocError>
         ensures named { IfOk result (λ tasks. All (IsNamed self.entry.named) tasks.items) }
         ensures order { IfOk result (λ tasks. AllPairs ComesBefore tasks.items) }
@@ -36,7 +35,7 @@ impl<'a> Bay<'a> {
     }
 }
 
-// Keeps what was found in a slot, if it was at home. Answers whether there was memory for it.
+// Keeps what was found in a slot, if it was at home. Returns whether there was memory for it.
 fn keep<'a>(tasks: &mut Vec<FiberTask<'a>>, found: Option<FiberTask<'a>>, home: bool) -> bool
     ensures kept { (tasks.new.items ≡ tasks.old.items) ⊎ ((t : TaskView) × (home ≡ true) × (found.entry ≡ Some t) ×
         (tasks.new.items ≡ tasks.old.items ++ t ∷ [])) }

@@ -6,7 +6,7 @@ use fiber_poll::FiberTask;
 pub enum PutError {
     /// The task's number isn't this slot's.
     WrongSlot(u16),
-    /// A task is in this slot, or somebody is putting or taking one.
+    /// A task is in this slot, or another worker is putting or taking one.
     Occupied(u16),
 }
 

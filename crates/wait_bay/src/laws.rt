@@ -1,25 +1,25 @@
-//! What is done under each lock of a bay, on what the lock keeps.
+//! The operations under each lock of a bay, on the data that the lock protects.
 ghost use Rattle.std.specs.Prelude.{◌≡◌, ◌≢◌, ◌++◌, ◌∷◌, [], ◌⊎◌, ◌↔◌, IfOk, IsErr, IsTrue, OnErr, OnOk, false, true};
 
 use std::alloc::{AllocError, Global};
 use std::marker::Model;
 use std::mem;
 
-/// What lies under the lock of a fiber.
+/// The data under the lock of a fiber.
 #[derive(Clone, Copy, Drop)]
 pub struct Slot {
     /// Whether the fiber's task is here.
     pub full: bool,
-    /// Whether the fiber's number was queued, or is to be once its task is put here.
+    /// Whether the fiber's number was queued, or has to be queued once its task is put here.
     pub woken: bool,
 }
 
-/// A task is in the slot already.
+/// The slot already has a task.
 #[derive(Drop)]
 pub struct IsFull;
 
 impl Slot {
-    /// The slot of a fiber that nobody has put or woken.
+    /// The slot of a fiber that wasn't put or woken yet.
     pub fn new() -> Slot
         ensures { result ≡ record { full = false; woken = false } }
     {
@@ -29,8 +29,8 @@ impl Slot {
         }
     }
 
-    /// Takes in a task, and answers whether its number is to be queued: where it is `ready`, or a
-    /// wake came since it was taken. Refuses where a task is here already.
+    /// Puts a task, and returns whether its number has to be queued: if it is `ready`, or a wake came since it was
+    /// taken. Refuses if a task is here already.
     #[inline(always)]
     pub fn put(&mut self, ready: bool) -> Result<bool, IsFull>
         ensures refused { IsErr result ↔ IsTrue self.old.full }
@@ -46,8 +46,7 @@ impl Slot {
         Ok(self.woken)
     }
 
-    /// Lets the task go, and with it the wakes so far. Answers whether one was here, and changes
-    /// nothing where none was.
+    /// Takes the task, and forgets the wakes so far. Returns whether a task was here; if not, changes nothing.
     #[inline(always)]
     pub fn take(&mut self) -> bool
         ensures value { result ≡ self.old.full }
@@ -62,8 +61,8 @@ impl Slot {
         true
     }
 
-    /// Notes a wake, and answers whether the number is to be queued: where the task is here and no
-    /// wake came before. A wake of a task that a worker has is told by the next `put`.
+    /// Records a wake, and returns whether the number has to be queued: if the task is here and no wake came before.
+    /// The next `put` reports a wake that came while a worker had the task.
     #[inline(always)]
     pub fn wake(&mut self) -> bool
         ensures slot { self.new ≡ record self.old { woken = true } }
@@ -77,8 +76,7 @@ impl Slot {
     }
 }
 
-/// What lies under the lock of a topic: the fibers that wait for it, in the order in which they
-/// came.
+/// The data under the lock of a topic: the fibers that wait for it, in the order in which they came.
 #[derive(Drop)]
 pub struct Waiters {
     alloc: Global,
@@ -94,7 +92,7 @@ impl Model for Waiters {
 }
 
 impl Waiters {
-    /// A list of nobody. Takes no memory.
+    /// An empty list. Allocates no memory.
     pub fn new(alloc: Global) -> Waiters
         ensures { result ≡ [] }
     {
@@ -104,8 +102,7 @@ impl Waiters {
         }
     }
 
-    /// Puts a fiber last. Answers `AllocError` where there is no memory for it, and changes nothing
-    /// then.
+    /// Puts a fiber last. Returns `AllocError` if there is no memory for it, and then changes nothing.
     pub fn register(&mut self, fiber: u16) -> Result<(), AllocError>
         ensures ok { OnOk result (self.new ≡ self.old ++ fiber ∷ []) }
         ensures err { OnErr result (self.new ≡ self.old) }
@@ -113,7 +110,7 @@ impl Waiters {
         self.fibers.push(fiber).map_err(|_| AllocError)
     }
 
-    /// The list, of which nobody is left. Takes no memory.
+    /// Takes all fibers of the list, which is then empty. Allocates no memory.
     pub fn drain(&mut self) -> Vec<u16>
         ensures value { result.items ≡ self.old }
         ensures none { self.new ≡ [] }

@@ -1,14 +1,14 @@
-//! Where the tasks of fibers lie while no worker has them, and who waits for what.
+//! The tasks of fibers that no worker holds, and the lists of which fiber waits for what.
 //!
-//! It stands on the tasks (`fiber_poll`), on the locks of `std` and on the kit's `atomic_table` and
-//! `once_cell`. A [`Bay`] has a slot for each fiber and a list of waiters for each topic. It names a
-//! registry and a code, or nothing, and promises that what comes out of a slot is its own fiber's
-//! task and, where it names them, a task of that registry and that code.
+//! The crate uses the tasks (`fiber_poll`), the locks of `std` and the kit's `atomic_table` and `once_cell`. A [`Bay`]
+//! has a slot for each fiber and a list of waiters for each topic. The bay names a registry and a code, or nothing, and
+//! promises that a task taken from a slot is that of the slot's fiber and, if the bay names them, a task of that
+//! registry and that code.
 //!
-//! The tasks lie in the slots of a table whose rule says so, and a worker takes and puts them from
-//! its own [`BaySeat`]. Whether a fiber's task is there and whether it was woken stand under a lock
-//! of that fiber, and each topic's list under its own: what is done under a lock is exact on the
-//! functions of [`laws`], which are lent what the lock keeps.
+//! The tasks are in the slots of a table, whose rule is this promise, and a worker takes and puts them from its own
+//! [`BaySeat`]. Whether a fiber's task is there and whether it was woken is under a lock of that fiber, and each
+//! topic's list is under a lock of its own. The operations under a lock are exact in the functions of [`laws`], which
+//! borrow what the lock protects.
 #![tactic(auto)]
 
 mod bay;

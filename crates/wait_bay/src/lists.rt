@@ -1,4 +1,4 @@
-//! The lists of those that wait, by the numbers of what they wait for.
+//! The lists of waiting fibers, by the numbers of what they wait for.
 ghost use Rattle.std.specs.Prelude.{◌≡◌, ◌<◌, ◌≤◌, ◌*◌, IfOk, vec_len};
 
 use crate::laws::Waiters;
@@ -7,21 +7,21 @@ use std::alloc::{AllocError, Global};
 use std::sync::Mutex;
 use std::sync::atomic::AtomicBool;
 
-// How many lists a page has.
+// The number of lists of a page.
 const PAGE: usize = 64;
 
-/// Those that wait for one topic, as workers share them.
+/// The fibers that wait for one topic, as workers share them.
 #[derive(Drop)]
 pub(crate) struct WaiterList {
-    /// Whether somebody was noted since the list was drained last. It changes under the lock.
+    /// Whether a fiber was recorded since the list was last drained. The flag changes under the lock.
     pub noted: AtomicBool,
     pub waiters: Mutex<Waiters>,
 }
 
 /// A list of waiters for each number below `count`.
 ///
-/// The lists lie in pages, and a page is made when somebody waits for a number of it for the first time:
-/// most fibers and deferreds are waited for by nobody.
+/// The lists are in pages. A page is made when a fiber first waits for one of its numbers, since no fiber waits for
+/// most fibers and deferreds.
 #[derive(Drop)]
 pub(crate) struct Lists {
     alloc: Global,
@@ -37,7 +37,7 @@ struct Page {
 }
 
 impl Lists {
-    /// So many lists of nobody, of which no page is made yet.
+    /// `count` empty lists, without pages.
     pub(crate) fn new(alloc: Global, count: u16) -> Result<Lists, AllocError>
         ensures { IfOk result (λ lists. lists.count ≡ count) }
     {
@@ -53,7 +53,7 @@ impl Lists {
         })
     }
 
-    /// The list of a number, or none where nobody ever waited for a number of its page.
+    /// The list of a number, or `None` if no fiber ever waited for a number of its page.
     #[inline(always)]
     pub(crate) fn get(&self, number: u16) -> Option<&WaiterList>
         requires { number < self.now.count }
@@ -63,8 +63,7 @@ impl Lists {
         Some(&page.lists[at % PAGE])
     }
 
-    /// The list of a number, for whoever waits for it. Answers `AllocError` where there is no memory for
-    /// its page.
+    /// The list of a number, for a fiber that waits for it. Returns `AllocError` if there is no memory for its page.
     pub(crate) fn made(&self, number: u16) -> Result<&WaiterList, AllocError>
         requires { number < self.now.count }
     {
@@ -76,7 +75,7 @@ impl Lists {
 }
 
 impl Page {
-    // A page of lists of nobody.
+    // A page of empty lists.
     fn new(alloc: Global) -> Result<Box<Page>, AllocError> {
         let mut lists = Vec::with_capacity(alloc, PAGE)?;
         for _ in 0..PAGE {

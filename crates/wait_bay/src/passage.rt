@@ -1,4 +1,4 @@
-//! How tasks go into their slots and out of them, and how fibers are woken.
+//! Puts tasks into their slots, takes them out, and wakes fibers.
 ghost use Rattle.std.specs.Prelude.{◌≡◌, ◌≢◌, ◌<◌, ◌∷◌, [], IfErr, IfOk, IfSome, IsTrue, Option, false, true};
 ghost use Rattle.fiber_poll.specs.Tasks.{TaskView};
 ghost use Rattle.wait_bay.specs.Names.{IsNamed, MayLie};
@@ -13,12 +13,11 @@ use fiber_poll::FiberTask;
 use std::sync::Wait;
 
 impl<'a> Bay<'a> {
-    /// Stores the task of a fiber, and answers whether the caller is to queue its number: where the
-    /// task is `ready`, or the fiber was woken since its task was taken.
+    /// Stores the task of a fiber, and returns whether the caller has to queue its number: if the task is `ready`, or
+    /// the fiber was woken since its task was taken.
     ///
-    /// A refused task comes back, and its slot is as it was: `WrongSlot` where the task is another
-    /// fiber's, else `Occupied` where a task is in the slot, or the slot is with somebody else. Takes
-    /// no memory.
+    /// A refused task is returned, and its slot is as it was: `WrongSlot` if the task is another fiber's, otherwise
+    /// `Occupied` if a task is in the slot, or the slot is out with another seat. Allocates no memory.
     #[inline(always)]
     pub fn put(
         &self,
@@ -34,7 +33,7 @@ impl<'a> Bay<'a> {
         ensures same { seat.new ≡ seat.old }
         ensures own { IfOk result (λ _. task.entry.state.number ≡ f) }
 
-        // A task that is ready is to be queued.
+        // A task that is ready has to be queued.
         ensures ready { IfOk result (λ queued. IsTrue ready → IsTrue queued) }
         ensures error { IfErr result (λ fault. fault.error ≡ refusal f task.entry.state.number) }
         ensures back { IfErr result (λ fault. fault.task ≡ task.entry) }
@@ -65,8 +64,8 @@ impl<'a> Bay<'a> {
         }
     }
 
-    /// Takes the task of a fiber, and with it the wakes so far. Answers `None` where no task is in
-    /// the slot, or the slot is with somebody else. Takes no memory.
+    /// Takes the task of a fiber, and forgets the wakes so far. Returns `None` if no task is in the slot, or the slot
+    /// is out with another seat. Allocates no memory.
     #[inline(always)]
     pub fn take(&self, rt: &impl Wait, seat: &mut BaySeat<'a>, f: u16) -> Option<FiberTask<'a>>
         requires here { IsSeatOf self.now seat.old }
@@ -89,9 +88,8 @@ impl<'a> Bay<'a> {
         task
     }
 
-    /// Wakes a fiber, and answers whether the caller is to queue its number: where its task is in
-    /// its slot and no wake came before. Where a worker has the task, its next `put` tells of the
-    /// wake. Takes no memory.
+    /// Wakes a fiber, and returns whether the caller has to queue its number: if its task is in its slot and no wake
+    /// came before. If a worker has the task, its next `put` reports the wake. Allocates no memory.
     #[inline(always)]
     pub fn wake(&self, rt: &impl Wait, f: u16) -> bool
         requires within { f < self.now.fibers }
@@ -99,8 +97,8 @@ impl<'a> Bay<'a> {
         self.slots[f as usize].lock(rt).wake()
     }
 
-    // Lays a task into its slot, if the slot is at home and empty. Else the task comes back, and the
-    // slot has what it had.
+    // Puts a task into its slot, if the slot is at home and empty. Otherwise returns the task, and the slot is as it
+    // was.
     #[inline(always)]
     fn lay(&self, seat: &mut BaySeat<'a>, f: u16, task: FiberTask<'a>) -> Option<FiberTask<'a>>
         requires here { IsSeatOf self.now seat.old }
@@ -127,7 +125,7 @@ impl<'a> Bay<'a> {
         back
     }
 
-    // Takes a slot out, if it is at home. It is tried once: who has it is putting or taking.
+    // Takes a slot out, if it is at home. Tries once: a seat that has the slot is putting or taking.
     #[inline(always)]
     fn take_out(&self, seat: &mut Seat<Option<FiberTask<'a>>, Knowledge>, f: u16) -> bool
         requires here { seat.old.table_id ≡ self.now.table }
@@ -146,7 +144,7 @@ impl<'a> Bay<'a> {
         found == 0
     }
 
-    // Gives a slot back, with what may lie there.
+    // Brings a slot home, with what it can hold.
     #[inline(always)]
     fn give_back(&self, seat: &mut Seat<Option<FiberTask<'a>>, Knowledge>, f: u16)
         requires here { seat.old.table_id ≡ self.now.table }

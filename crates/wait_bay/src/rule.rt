@@ -1,4 +1,4 @@
-//! The table that the tasks of a bay lie in: its rule, and what each step on it tells.
+//! The table that has the tasks of a bay: its rule, and what each step on it shows.
 ghost use Rattle.std.specs.Prelude.{◌≡◌};
 
 use atomic_table::{Play, Split, TableRule};
@@ -7,7 +7,7 @@ use derived_ops::Code;
 use fiber_poll::FiberTask;
 use std::marker::Model;
 
-/// The registry, the code and the moves of fiber 0 that a bay names, if it names any.
+/// The registry, the code and the number of moves of fiber 0 that a bay names, if it names any.
 #[derive(Drop)]
 pub struct Names<'a> {
     pub(crate) named: Option<(&'a Registry, &'a Code, u32)>,
@@ -26,13 +26,13 @@ impl<'a> Model for Names<'a> {
     ghost view = { λ n. named_of n.named };
 }
 
-/// What a seat of a bay knows: what the bay names. No value of it is made.
+/// What a seat of a bay knows: what the bay names. No program makes such a value.
 pub struct Knowledge {
     pub named: Names<'static>,
 }
 
-/// The rule of a bay's table: all its seats know what it names, and what lies in a slot is its own
-/// fiber's task, of what is named.
+/// The rule of a bay's table: all its seats know what it names, and a slot holds only its own fiber's task, which
+/// belongs to what is named.
 pub struct BayRule;
 
 impl<'a> TableRule<Option<FiberTask<'a>>, Knowledge, Names<'a>> for BayRule {
@@ -43,7 +43,7 @@ impl<'a> TableRule<Option<FiberTask<'a>>, Knowledge, Names<'a>> for BayRule {
     ghost first = { λ named. record { named = named } };
 }
 
-/// A seat becomes two, which know the same.
+/// One seat becomes two, which know the same.
 pub(crate) struct Same;
 
 impl Split<Knowledge> for Same {
@@ -52,7 +52,7 @@ impl Split<Knowledge> for Same {
     ghost right = { λ v. v };
 }
 
-/// A slot goes to the seat, if it is at home.
+/// A slot goes out with the seat, if it is at home.
 pub(crate) struct Goes;
 
 impl<'a> Play<Option<FiberTask<'a>>, Knowledge> for Goes {

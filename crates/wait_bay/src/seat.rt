@@ -1,10 +1,10 @@
-//! Where a worker stands at a bay.
+//! A worker's seat at a bay.
 use crate::rule::Knowledge;
 use atomic_table::Seat;
 use fiber_poll::FiberTask;
 use std::marker::Model;
 
-/// A place at a bay, from which one worker puts and takes. Between its calls it holds no slot.
+/// A place at a bay, from which one worker puts and takes. Between its calls it has no slot.
 #[derive(Drop)]
 pub struct BaySeat<'a> {
     pub(crate) seat: Seat<Option<FiberTask<'a>>, Knowledge>,

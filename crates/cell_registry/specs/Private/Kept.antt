@@ -6,7 +6,7 @@ use Rattle.cell_registry.specs.declared.cell.Stage.TheVariants as stage
 use Rattle.cell_registry.specs.declared.phase.Phase.{Phase}
 use Rattle.cell_registry.specs.declared.phase.Phase.TheVariants.{Running, Finalizing, Succeeded, Errored, Canceled}
 
--- the stage of a fiber in this phase, which ended with this value or error code if it succeeded or errored
+-- the stage of a fiber in this phase; the value is used if the fiber succeeded or errored
 abbrev pub stage_of : Phase → ℤ → Stage
 stage_of Running v = stage.Running
 stage_of Finalizing v = stage.Finalizing

@@ -1,4 +1,4 @@
--- What the words of a closed table show of the registry that they are left by.
+-- The registry that the words of a closed table show.
 use Rattle.std.specs.Prelude.{◌≡◌, ℕ, ◌<◌, List}
 use lib.ListN.{get_elem?}
 use mathlib.Core.Option.{some}
@@ -11,7 +11,7 @@ use Rattle.cell_registry.specs.declared.cell.Cell.{Cell}
 use Rattle.cell_registry.specs.Cells.{AreLimits, Cells, IsSound}
 use Rattle.cell_registry.specs.Words.{HoldsOutcome, Leaves, cell_word, control}
 
--- the fiber's word and its value word are those of the cell
+-- the fiber's word and its value word show this cell
 pub record IsShown (n m : ℕ) (c : Cell) : Type 0 where
   pub range : InRange (control c)
   pub word : cell_word c ≡ n
@@ -20,13 +20,13 @@ pub record IsShown (n m : ℕ) (c : Cell) : Type 0 where
 abbrev pub ShowsCell : ℕ → ℕ → Cell → Type 0
 ShowsCell n m d = (c : Cell) → IsShown n m c → d ≡ c
 
--- the words are those that a registry within these limits leaves
+-- the words show this registry, within these limits
 pub record Shows (k : Limits) (words : List ℕ) (s : Cells) : Type 0 where
   pub limits : AreLimits k
   pub sound : IsSound k s
   pub leaves : Leaves words s
 
--- the first n of these words
+-- the copy is the first n of these words
 pub record Copies (words : List ℕ) (n : ℕ) (copy : List ℕ) : Type 0 where
   pub long : length copy ≡ n
   pub each : (i : ℕ) → i < n → get_elem? words i ≡ some (slice_index_or copy i 0)

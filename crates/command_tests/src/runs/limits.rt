@@ -1,5 +1,5 @@
-//! Limits that are met in the middle of a run: the first refused call ends it with its fault, and
-//! nothing else is written. A fiber that has used its moves is unended.
+//! Limits that are reached in the middle of a run: the first refused call ends it with its fault, and nothing else is
+//! written. A fiber that has used up its moves is unended.
 
 use super::{Run, expect_run};
 use std::process::Abort;
@@ -14,7 +14,7 @@ const POLL: &str = "(uncancelable p (poll p (pure 1)))";
 
 const STARTS: &str = "(start f (pure 5) (pure 6))";
 
-// Programs that an option makes come to one fault.
+// Programs that have the same fault under an option.
 struct Faults<'a> {
     option: &'a str,
     // The rule that a program shows, and the program.
@@ -22,7 +22,7 @@ struct Faults<'a> {
     fault: &'a str,
 }
 
-// The count of a fiber's own changes ends a run.
+// The limit of a fiber's own changes ends a run.
 const COUNTS: &[Faults<'static>] = &[
     Faults {
         option: "--count=1",
@@ -63,7 +63,7 @@ const COUNTS: &[Faults<'static>] = &[
     },
 ];
 
-// A number past its limit ends a run.
+// The limit of a band ends a run.
 const NUMBERS: &[Faults<'static>] = &[
     Faults {
         option: "--fibers=1",
@@ -90,7 +90,7 @@ const NUMBERS: &[Faults<'static>] = &[
     },
 ];
 
-// Runs that an option leaves as much as they need, which have their report.
+// Runs with options that are just enough, which have a report.
 const ENOUGH: &[(&str, Run<'static>)] = &[
     (
         "--count=4",
@@ -139,7 +139,7 @@ const ENOUGH: &[(&str, Run<'static>)] = &[
     ),
 ];
 
-// Runs in which fibers have used their moves, and are unended.
+// Runs in which fibers have used up their moves, and are unended.
 const TOO_FEW: &[(&str, Run<'static>)] = &[
     (
         "--moves=1",

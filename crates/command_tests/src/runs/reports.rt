@@ -1,4 +1,4 @@
-//! What fibers come to on workers: ends, joins, cancels, refs and deferreds.
+//! The reports of fibers on workers: ends, joins, cancels, refs and deferreds.
 
 use super::{Run, expect_run};
 use std::process::Abort;
@@ -7,7 +7,7 @@ use std::sync::Wait;
 use std::thread::Threads;
 use std::time::Clock;
 
-// A fiber alone ends or waits.
+// A single fiber ends or waits.
 const ALONE: &[Run<'static>] = &[
     Run {
         rule: "a value",
@@ -41,7 +41,7 @@ const ALONE: &[Run<'static>] = &[
     },
 ];
 
-// A join waits for the end and gives it.
+// A join waits for the end and gets the outcome.
 const JOINS: &[Run<'static>] = &[
     Run {
         rule: "a join of a fiber that succeeds",
@@ -123,7 +123,7 @@ const CELLS: &[Run<'static>] = &[
     },
 ];
 
-// Texts that are refused, so that nothing runs.
+// Refused texts, for which nothing runs.
 const REFUSED: &[Run<'static>] = &[
     Run {
         rule: "no text",

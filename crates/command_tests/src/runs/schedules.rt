@@ -1,4 +1,4 @@
-//! Many fibers, and a program with several reports: each run gives one of them.
+//! Many fibers, and a program with several reports: each run has one of them.
 
 use crate::answers::{answered, expect};
 use std::alloc::{AllocError, Global};
@@ -36,8 +36,7 @@ fn a_hundred_starts_and_joins_give_a_hundred_ends(rt: HostRuntime) -> Result<(),
     Ok(())
 }
 
-// A fiber that is canceled wherever it stands: unmasked in front, masked, polled, masked again, or
-// at its end.
+// A fiber that can be canceled at any place: unmasked at the beginning, masked, polled, masked again, or at its end.
 const CANCELED_ANYWHERE: &str =
     "(start f (uncancelable p (seq (say 1) (poll p (say 2)) (say 3))) (cancel f))";
 
@@ -50,7 +49,7 @@ const REPORTS: &[&[u8]] = &[
     b"fiber 0 succeeded 0: enter 0, leave 0\nfiber 1 succeeded 0: enter 0, say 1, in 0, say 2, out 0, say 3, leave 0\n",
 ];
 
-// Runs the program on four workers, and asks that its report be one of the five.
+// Runs the program on four workers, and checks that its report is one of the five.
 fn expect_one_of_five<R: Abort + AllocGlobal + Clock + Files + Threads + Wait + Sync>(rt: &R) {
     let answer = answered(rt, ON_FOUR, CANCELED_ANYWHERE.as_bytes());
     assert_eq!(rt; (answer.status, answer.err.len()), (0, 0));

@@ -1,4 +1,4 @@
--- What two explorations show of the ends that the one has and the other hasn't.
+-- What two explorations show of the ends that one has and the other hasn't.
 use Rattle.std.specs.Prelude.{◌≡◌, true, Some}
 use Rattle.std.specs.List.{slice_get}
 use Rattle.every_schedule.specs.declared.exploration.Answer.{Answer}

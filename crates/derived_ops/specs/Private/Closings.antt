@@ -20,7 +20,7 @@ abbrev pub outcome_of_closing : Closing → ℕ
 outcome_of_closing (Finalizer s) = s + 1
 outcome_of_closing (Release s) = s + 3
 
--- the body, for which the masks are undone
+-- the body, with the masks undone
 abbrev pub opened_by : Closing → Tree → Tree
 opened_by (Finalizer s) e = Poll (Named s) e
 opened_by (Release s) e = Poll (Named (s + 2)) (Poll (Named s) e)
@@ -37,7 +37,7 @@ abbrev pub closed_on_value : Closing → Tree → Tree
 closed_on_value (Finalizer s) e = in_order e (Pure (Slot (s + 1)))
 closed_on_value (Release s) e = released_on_value (Named s) e (s + 3) (s + 4)
 
--- the body with what is done where it is canceled; with what is done after its error too; and all of it
+-- the body with its case of cancellation; with its case of an error, too; and with all cases
 abbrev pub guarded_by : Closing → (e on_cancel : Tree) → Tree
 guarded_by c e on_cancel = On_cancel (opened_by c e) (closed_on_cancel c on_cancel)
 

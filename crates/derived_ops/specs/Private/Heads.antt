@@ -1,4 +1,4 @@
--- What is printed of a form before its parts, and how a sequence goes on.
+-- The text of a form before its parts, and how a sequence goes on.
 use Rattle.std.specs.Prelude.{ℕ, List, ◌++◌, Option, Some, None, codes}
 use Rattle.std.specs.Fmt.{decimal}
 use Rattle.derived_ops.specs.CoreText.{value_text}
@@ -7,7 +7,7 @@ use Rattle.derived_ops.specs.declared.core_word.CoreWord.TheVariants as word
 use Rattle.derived_ops.specs.declared.core_word.Rest as rests
 use Rattle.derived_ops.specs.Tree.{Maker, New_ref, New_deferred, Turns, Times, Always, Rest, More}
 
--- what stands before the part that has the cell, and before that of a loop
+-- the text before the part that has the cell, and the text before the part of a loop
 abbrev pub maker_text : Maker → ℕ → List ℕ
 maker_text (New_ref v) r = codes "(ref r" ++ decimal r ++ (codes " " ++ value_text v)
 maker_text New_deferred d = codes "(deferred d" ++ decimal d
@@ -16,8 +16,7 @@ abbrev pub turns_text : Turns → List ℕ
 turns_text (Times v) = codes "(repeat " ++ value_text v
 turns_text Always = codes "(forever"
 
--- what is left behind the first part of a sequence, where this word begins a sequence that is left of another one, and
--- how far behind that part it stands
+-- if this word continues a sequence: what remains behind the first part, and the distance from that part to it
 abbrev pub further : Rest → CoreWord → Option (rests.Rest × ℕ)
 further More (word.Seq w j) = Some (w, j)
 further _ _ = None

@@ -15,7 +15,7 @@ abbrev pub trees_in_order : Tree → Tree → List Tree → Tree
 trees_in_order a b [] = Seq Last a b
 trees_in_order a b (c ∷ rest) = Seq More a (trees_in_order b c rest)
 
--- what stands behind the first part of a `seq`: a part and these
+-- what comes behind the first part of a `seq`: a part and these
 abbrev pub rest_before : List Tree → Rest
 rest_before [] = Last
 rest_before (c ∷ rest) = More

@@ -1,4 +1,5 @@
--- A term as a word and its parts: where a part stands in the expansion, and what is made of the expanded parts.
+-- A term as a word and its parts: the place of a part in the expansion, and the expansion as built from the expanded
+-- parts.
 use Rattle.std.specs.Prelude.{ℕ, ◌+◌, ◌<◌, ◌^◌, pos, List, [], ◌∷◌, ◌++◌, map}
 use Rattle.effect_term.specs.ExpansionSize.{expansion_size_of, total_expansion_size}
 use Rattle.derived_ops.specs.declared.shape.Bare.{Bare}
@@ -22,7 +23,7 @@ use Rattle.derived_ops.specs.Reading.{source_of}
 use Rattle.derived_ops.specs.Tree.{Tree, Named, Number, Open_slot, Complete, Pure, Raise, Act, Cancel, Let, Handled}
 use Rattle.derived_ops.specs.Tree.{If0, Join, Make, Start, Loop, Uncancelable, Poll, On_cancel}
 
--- the binders around a part of a word that stands below d binders, and those of them that the program knows, beside m
+-- the number of binders around a part of a word inside d binders, and those of them that the program knows, added to m
 abbrev pub depth_at : Place → ℕ → ℕ
 depth_at place.Here d = d
 depth_at (place.Above n) d = d + n
@@ -41,7 +42,7 @@ slots_at place.Released m d = m ++ (d + 1) ∷ []
 slots_at place.Chosen m d = (m ++ (d + 1) ∷ []) ++ (d + 3) ∷ []
 slots_at place.Values m d = (m ++ (d + 1) ∷ []) ++ (d + 2) ∷ []
 
--- the expansion of a part, and of what stands after an outcome
+-- the expansion of a part, and of the part for an outcome
 abbrev pub part_tree : List ℕ → ℕ → Part → Tree
 part_tree m d p = expansion (slots_at p.place m d) (depth_at p.place d) (source_of p.term.now)
 
@@ -49,7 +50,7 @@ abbrev pub end_tree : List ℕ → ℕ → End → Tree
 end_tree m d (end.Part p) = part_tree m d p
 end_tree m d (end.Done c z) = Act (Complete (Open_slot c) (Number (pos z)))
 
--- what a word that binds the slot s is with its parts expanded
+-- the expansion of a word that binds the slot s, from its expanded parts
 abbrev pub tree_of_bare : Bare → Tree
 tree_of_bare (bare.Pure v) = Pure (value_in_core v)
 tree_of_bare (bare.Raise v) = Raise (value_in_core v)
@@ -69,7 +70,7 @@ tree_of_two s (two.If0 v) e k = If0 (value_in_core v) e k
 tree_of_two s two.OnCancel e fin = On_cancel e fin
 tree_of_two s two.Start e k = Start s e k
 
--- what a term below d binders is by its word and parts
+-- the expansion of a term inside d binders, from its word and parts
 abbrev pub tree_of_shape : List ℕ → ℕ → Shape → Tree
 tree_of_shape m d (shape.Bare w) = tree_of_bare w
 tree_of_shape m d (shape.One w a) = tree_of_one d w (part_tree m d a)
@@ -88,7 +89,7 @@ tree_of_shape m d (shape.Bracket acq body ends) =
 tree_of_shape m d (shape.Race a b) = race d (part_tree m d a) (part_tree m d b)
 tree_of_shape m d (shape.Both a b k) = both d (part_tree m d a) (part_tree m d b) (part_tree m d k)
 
--- how many words and marks a part's expansion has
+-- the number of words and marks of a part's expansion
 abbrev pub size_at : Part → ℕ
 size_at p = expansion_size_of p.term.now
 
@@ -99,7 +100,7 @@ size_of_end (end.Done c z) = 0
 abbrev pub size_of_ends : Ends → ℕ
 size_of_ends ends = size_of_end ends.on_cancel + size_of_end ends.on_error + size_of_end ends.on_value
 
--- a part of a word below d binders is no deeper than a slot can count
+-- a part of a word inside d binders is at a depth that a slot can count
 abbrev pub Fits : ℕ → Part → Type 0
 Fits d p = depth_at p.place d + size_at p < 2 ^ 32
 
@@ -110,8 +111,7 @@ EndFits d (end.Done c z) = Unit {0}
 abbrev pub EndsFit : ℕ → Ends → Type 0
 EndsFit d ends = EndFits d ends.on_cancel × (EndFits d ends.on_error × EndFits d ends.on_value)
 
--- the parts of a term of n words below d binders have fewer words together, and no slot of it is past what can be
--- counted
+-- the parts of a term of n words inside d binders have fewer words together, and each slot of it is in range
 abbrev pub PartsFit : ℕ → ℕ → Shape → Type 0
 PartsFit n d (shape.Bare w) = Unit {0}
 PartsFit n d (shape.One w a) = (size_at a < n) × Fits d a

@@ -1,4 +1,4 @@
--- The words that a term is written with.
+-- The words by which a term is stored.
 use Rattle.std.specs.Prelude.{ℕ, ◌+◌, ◌%◌, ◌^◌, List, ◌∷◌}
 use Rattle.derived_ops.specs.declared.core_term.Operand.{Operand}
 use Rattle.derived_ops.specs.declared.core_term.Operand.TheVariants as operand
@@ -19,7 +19,8 @@ use Rattle.derived_ops.specs.Tree as tree
 use Rattle.derived_ops.specs.Tree.{Known, Open_slot, Named, Pair, Tree, Pure, Raise, Act, Note, Cancel, Let, Seq}
 use Rattle.derived_ops.specs.Tree.{Handled, If0, Join, Make, Start, Loop, Uncancelable, Poll, On_cancel}
 
--- what is stored for an operand, a handle, a mask, an action and so on; what only a running fiber has isn't stored
+-- the stored form of an operand, a handle, a mask, an action and so on; forms that only a running fiber has aren't
+-- stored
 abbrev pub stored_value : tree.Operand → Operand
 stored_value (tree.Number z) = operand.Number z
 stored_value (tree.Slot s) = operand.Slot s
@@ -61,7 +62,7 @@ abbrev pub stored_rest : tree.Rest → Rest
 stored_rest tree.Last = rest.Last
 stored_rest tree.More = rest.More
 
--- how many words a term is written with
+-- the number of words by which a term is stored
 abbrev pub size : Tree → ℕ
 size (Let e x k) = 1 + (size e + size k)
 size (Seq w e k) = 1 + (size e + size k)
@@ -83,7 +84,7 @@ size _ = 1
 abbrev pub distance : ℕ → ℕ
 distance n = n % 2 ^ 32
 
--- these words behind the words of a term
+-- the words of a term, and then these
 abbrev pub before : Tree → List CoreWord → List CoreWord
 before (Pure v) ws = word.Pure (stored_value v) ∷ ws
 before (Raise v) ws = word.Raise (stored_value v) ∷ ws
@@ -107,7 +108,7 @@ before (tree.Masked m e) ws = ws
 before (tree.Polled q e) ws = ws
 before (tree.Guarded e fin) ws = ws
 
--- a race of the poll p: what follows it stands in these words
+-- a race of the poll p; these are the words of what follows it
 abbrev pub race_before : ℕ → (a b : Tree) → List CoreWord → List CoreWord
 race_before p a b ws =
     let first = runs_side (p + 2) (p + 1) 0 a in

@@ -1,4 +1,4 @@
--- A term's uses of names in two: those of its own operands, which are read first, and those of its parts.
+-- The uses of names in a term, in two lists: those in its own operands, which come first, and those in its parts.
 use Rattle.std.specs.Prelude.{◌++◌, List, [], ◌∷◌}
 use Rattle.effect_term.specs.declared.term.Kind.{Kind}
 use Rattle.effect_term.specs.declared.term.Kind.TheVariants.{Value, Poll, Fiber, Ref, Deferred}

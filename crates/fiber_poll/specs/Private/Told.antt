@@ -20,7 +20,7 @@ use Rattle.fiber_poll.specs.Turns.{event_of, woken}
 use Rattle.fiber_poll.specs.Tasks.{TaskView, Went}
 use Rattle.fiber_poll.specs.Stepping.{IsChild}
 
--- what the ask of a fiber tells of it, and of what comes of its move
+-- what the ask of a fiber determines about it, and about the result of its move
 pub record IsAsked (g : Fiber) (a : Ask) : Type 0 where
   pub tells : Asked g a
   pub leads : (r : Reply) → Answers g.number a r → Leads g a r (move g r)
@@ -28,14 +28,14 @@ pub record IsAsked (g : Fiber) (a : Ask) : Type 0 where
   pub moves_names : (b : Given) (r : Reply) → NamedRun b g.running → NumberGiven b a r → NamedRun b (move g r).running
   pub child_names : (b : Given) (n : ℕ) → NamedRun b g.running → NamedBeginning b (child g n)
 
--- a move that asks so starts nobody
+-- a move with this ask starts no fiber
 abbrev pub IsStep : Ask → Type 0
 IsStep ask.Start = ⊥
 IsStep (ask.Over o) = ⊥
 IsStep ask.Broken = ⊥
 IsStep _ = Unit {0}
 
--- whom a move that asks so woke, if it did
+-- what a move with this ask woke, if it woke any
 abbrev pub woken_at : Ask → Option Event
 woken_at (ask.Cancel f) = Some (Wakes_fiber f)
 woken_at (ask.Complete d v) = Some (Wakes_topic (topic.Deferred d))
@@ -45,7 +45,7 @@ abbrev pub ended_at : Ask → Option Event
 ended_at (ask.Finish o) = Some (Ends o)
 ended_at _ = None
 
--- the event of a move that asked so
+-- the event of a move with this ask
 abbrev pub event_at : Ask → MoveEnd → Option Event
 event_at a move_end.Plain = None
 event_at a move_end.Woke = woken_at a
@@ -53,7 +53,7 @@ event_at a move_end.Waited = Some (Waits_for (awaited a))
 event_at a move_end.Ceded = Some Yields
 event_at a move_end.Ended = ended_at a
 
--- a move that asks so can wake somebody
+-- a move with this ask can wake fibers
 abbrev pub CanWake : Ask → Type 0
 CanWake (ask.Cancel f) = Unit {0}
 CanWake (ask.Complete d v) = Unit {0}
@@ -63,19 +63,19 @@ abbrev pub CanEnd : Ask → Type 0
 CanEnd (ask.Finish o) = Unit {0}
 CanEnd _ = ⊥
 
--- a move that asks so can be this
+-- a move with this ask can be of this kind
 abbrev pub Tells : Ask → MoveEnd → Type 0
 Tells a move_end.Woke = CanWake a
 Tells a move_end.Ended = CanEnd a
 Tells a _ = Unit {0}
 
--- a move that asks so can be this to the fiber's runner, and starts nobody
+-- a move with this ask can be this for the fiber's runner, and starts no fiber
 abbrev pub Follows : Ask → Moved → Type 0
 Follows a (moved.Born c) = ⊥
 Follows a (moved.Ended o) = a ≡ ask.Finish o
 Follows a _ = Unit {0}
 
--- the event of a move of fiber i of which its runner was told this
+-- the event of a move of fiber i that was this for the fiber's runner
 abbrev pub event_in : ℕ → Ask → Reply → Moved → Option Event
 event_in i a r moved.Plain = woken i a r
 event_in i a r moved.Waited = Some (Waits_for (awaited a))
@@ -83,7 +83,7 @@ event_in i a r moved.Ceded = Some Yields
 event_in i a r (moved.Born c) = Some Starts_child
 event_in i a r (moved.Ended o) = Some (Ends o)
 
--- the event that an answer tells
+-- the event of a turn's result
 abbrev pub event_told : Turn → Option Event
 event_told (turn.Ended o) = Some (Ends o)
 event_told (turn.Waits t) = Some (Waits_for t)
@@ -93,14 +93,14 @@ event_told (turn.WakeFiber f) = Some (Wakes_fiber f)
 event_told (turn.WakeTopic t) = Some (Wakes_topic t)
 event_told turn.OutOfMoves = None
 
--- an answer that a move which starts nobody can have
+-- a move that starts no fiber can have this result
 abbrev pub IsLast : Turn → Type 0
 IsLast (turn.Started t) = ⊥
 IsLast turn.OutOfMoves = ⊥
 IsLast _ = Unit {0}
 
--- one move, under some reply, which was this: how far the fiber has come by it, and that it goes on unless there is
--- something to tell
+-- one move, under some reply, of this kind: how far the fiber has come by it; the fiber goes on unless the move has an
+-- event
 pub record Made (old : TaskView) (a : Ask) (s : MoveEnd) (new : TaskView) : Type 0 where
   pub reply : Reply
   pub went : Went old (reply ∷ []) new
@@ -109,7 +109,7 @@ pub record Made (old : TaskView) (a : Ask) (s : MoveEnd) (new : TaskView) : Type
   pub way : way_of new.state.running ≡ way_after a (way_of old.state.running)
   pub goes : event_of old.state reply ≡ None → IsGoing (way_of new.state.running)
 
--- one move, by which the fiber of the task c was started
+-- one move, which started the fiber of the task c
 pub record Bears (old new c : TaskView) : Type 0 where
   pub reply : Reply
   pub went : Went old (reply ∷ []) new

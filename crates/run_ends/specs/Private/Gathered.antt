@@ -1,4 +1,4 @@
--- What is gathered from tasks on the way to a report.
+-- The tasks on their way to a report.
 use Rattle.std.specs.Prelude.{◌≡◌, ◌≢◌, ◌⊎◌, ℕ, ◌<◌, List, length, map, Some}
 use Rattle.std.specs.List.{slice_get}
 use mathlib.Core.List.{IsPrefix}
@@ -12,18 +12,19 @@ use Rattle.scheduled_core.specs.Core.{fiber_report}
 use Rattle.fiber_poll.specs.Tasks.{IsBroken, TaskView}
 use Rattle.run_ends.specs.Leaving.{IsMet}
 
--- the task is at home at this registry
+-- the task belongs to this registry
 abbrev pub IsAtHome : RegistryView → TaskView → Type 0
 IsAtHome r t = t.home ≡ r
 
--- the task's state is one of these, and the pass has seen what the task's own had, without a further call of its fiber
+-- the task's state is one of these, and the pass has seen what the task's own pass had, without a further call by its
+-- fiber
 pub record IsOut (t : TaskView) (met : PassView) (configs : List Fiber) : Type 0 where
   pub place : ℕ
   pub here : slice_get configs place ≡ Some t.state
   pub seen : IsPrefix t.pass.seen met.seen
   pub own : calls_by t.state.number met.seen ≡ calls_by t.state.number t.pass.seen
 
--- of all these tasks the rest is still there, and the states of the others are these, each of another fiber
+-- of all these tasks, the rest remain, and these are the states of the others, each of another fiber
 pub record Taken (all rest : List TaskView) (met : PassView) (configs : List Fiber) : Type 0 where
   pub still : (i : ℕ) (t : TaskView) → slice_get rest i ≡ Some t → slice_get all i ≡ Some t
   pub out : (i : ℕ) (t : TaskView) → slice_get all i ≡ Some t → (slice_get rest i ≡ Some t) ⊎ IsOut t met configs
@@ -33,7 +34,7 @@ pub record Taken (all rest : List TaskView) (met : PassView) (configs : List Fib
   pub apart : (i j : ℕ) (s t : Fiber) → slice_get configs i ≡ Some s → slice_get configs j ≡ Some t →
       s.number ≡ t.number → s ≡ t
 
--- the state is one of these, and the fiber's
+-- the state is one of these, and that of fiber f
 pub record IsIn (s : Fiber) (configs : List Fiber) (f : ℕ) : Type 0 where
   pub number : s.number ≡ f
   pub place : ℕ
@@ -43,14 +44,14 @@ pub record IsIn (s : Fiber) (configs : List Fiber) (f : ℕ) : Type 0 where
 abbrev pub IsNowhere : List Fiber → ℕ → Type 0
 IsNowhere configs f = (place : ℕ) (s : Fiber) → slice_get configs place ≡ Some s → s.number ≢ f
 
--- these are what the fibers below a number have come to
+-- these are the reports of the fibers below a number
 pub record AreLines (configs : List Fiber) (born : ℕ) (lines : List FiberReport) : Type 0 where
   pub finals : List Fiber
   pub lines_are : lines ≡ map fiber_report finals
   pub many : length finals ≡ born
   pub each : (f : ℕ) (s : Fiber) → slice_get finals f ≡ Some s → IsIn s configs f
 
--- the fiber f is the least one below a number that none of these states is of
+-- f is the least number below `born` of a fiber that has none of these states
 pub record IsLeast (configs : List Fiber) (born f : ℕ) : Type 0 where
   pub below : f < born
   pub none : IsNowhere configs f
@@ -61,17 +62,18 @@ pub record AreInOrder (configs : List Fiber) (born : ℕ) (fibers : List Fiber) 
   pub many : length fibers ≡ born
   pub each : (f : ℕ) (s : Fiber) → slice_get fibers f ≡ Some s → IsIn s configs f × (IsBroken s → ⊥)
 
--- so many of these tasks, from the first one on, stand at their numbers, and these are the moves that each may still make
+-- each of the first n of these tasks is at the place of its number, and these are the numbers of moves that they have
+-- left
 pub record AreRestsBelow (tasks : List TaskView) (n : ℕ) (rests : List ℕ) : Type 0 where
   pub many : length rests ≡ n
   pub each : (i : ℕ) (t : TaskView) → i < n → slice_get tasks i ≡ Some t → (t.state.number ≡ i) ×
       (slice_get rests i ≡ Some t.moves)
 
--- all these tasks do
+-- the same of all these tasks
 abbrev pub AreRests : List TaskView → List ℕ → Type 0
 AreRests tasks rests = AreRestsBelow tasks (length tasks) rests
 
--- the pass has met the passes of these states' tasks, each of which is among all
+-- the pass has met the passes of these states' tasks, each of which is one of `all`
 pub record AreMet (r : RegistryView) (code : Tree) (most : ℕ) (all : List TaskView) (met : PassView) (configs : List Fiber) :
     Type 0 where
   pub home : IsOf r met

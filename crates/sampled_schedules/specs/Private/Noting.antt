@@ -1,18 +1,18 @@
--- What becomes of the comings where one more schedule is drawn.
+-- The tally after one more schedule is drawn.
 use Rattle.std.specs.Prelude.{◌≡◌, ◌≢◌, ◌+◌, ◌&&◌, ℕ, Bool, List, [], ◌∷◌, ◌++◌, Some, slice_set}
 use Rattle.std.specs.List.{slice_get, sum_by}
 use Rattle.sampled_schedules.specs.declared.comings.Coming.{Coming}
 use Rattle.sampled_schedules.specs.declared.comings.Drawn.{Drawn}
 
--- how many schedules came to any of these
+-- the number of schedules with any of these ends
 abbrev pub came_in_all : List Coming → ℕ
 came_in_all comings = sum_by (λ (c : Coming). c.times) comings
 
--- one more schedule came to it, which was cut short or wasn't
+-- one more schedule has this end; it was cut short or wasn't
 abbrev pub raised : Coming → Bool → Coming
 raised c cut = record { answer = c.answer; times = c.times + 1; cut = c.cut && cut }
 
--- one schedule came to it
+-- the first schedule with its end
 abbrev pub coming_of : Drawn → Coming
 coming_of d = record { answer = d.answer; times = 1; cut = d.cut }
 

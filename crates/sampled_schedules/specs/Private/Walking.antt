@@ -1,4 +1,4 @@
--- What entries lead to, one behind the other.
+-- What entries lead to, one after another.
 use Rattle.std.specs.Prelude.{◌≡◌, ◌+◌, ◌<◌, ◌≤◌, ℕ, Bool, false, List, length, Some, None, Result, Ok, Err}
 use Rattle.std.specs.List.{All, slice_get}
 use Rattle.derived_ops.specs.Tree.{Tree}
@@ -21,8 +21,8 @@ was_cut (Err e) = false
 abbrev pub HasUnendedFiber : List Fiber → Type 0
 HasUnendedFiber fibers = (f : ℕ) × (g : Fiber) × (slice_get fibers f ≡ Some g) × (outcome_of g ≡ None)
 
--- Where the entries before led to this world, those after lead to this end, and they are so many more at most. Each is
--- the number of a fiber, if those before were.
+-- The entries `before` led to this world, and `after` extends them by at most `most` entries and leads to this end.
+-- Each entry is the number of a fiber, if those before were.
 pub record IsWalk (k : Limits) (w : World) (before : List ℕ) (end : Result World RunError) (after : List ℕ) (most : ℕ) :
     Type 0
   where

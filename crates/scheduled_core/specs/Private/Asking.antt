@@ -1,4 +1,4 @@
--- What its ask tells of a fiber.
+-- What a fiber's ask says about it.
 use Rattle.std.specs.Prelude.{ℕ}
 use Rattle.effect_term.specs.declared.reply.Reply.{Reply}
 use Rattle.derived_ops.specs.Naming.{Given}
@@ -7,7 +7,7 @@ use Rattle.fiber_frames.specs.Fiber.{Fiber, ask_of, child, move}
 use Rattle.fiber_frames.specs.Leading.{Asked, Leads}
 use Rattle.fiber_frames.specs.Naming.{AskNamed, NamedBeginning, NamedRun, NumberGiven}
 
--- where the fiber is, what its move changes, and what it and its child name
+-- how far the fiber has come, what its move changes, and what it and its child name
 pub record Asking (g : Fiber) : Type 0 where
   pub tells : Asked g (ask_of g)
   pub leads : (r : Reply) → Answers g.number (ask_of g) r → Leads g (ask_of g) r (move g r)

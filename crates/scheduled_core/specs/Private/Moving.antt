@@ -1,4 +1,4 @@
--- The fibers of a run beside their registry, and the next move of one of them.
+-- The fibers of a run with their registry, and the next move of one of them.
 use Rattle.std.specs.Prelude.{◌≡◌, ℕ, List, [], ◌∷◌, Some}
 use Rattle.effect_term.specs.declared.reply.Reply.{Reply}
 use Rattle.effect_term.specs.declared.reply.Reply.TheVariants as reply
@@ -15,7 +15,7 @@ use Rattle.scheduled_core.specs.declared.wish.Wish.TheVariants.{Alone, Nothing, 
 use Rattle.scheduled_core.specs.Core.{fault_of, wish_of}
 use Rattle.scheduled_core.specs.Private.Asking.{Asking}
 
--- what is told of a move gives this child, or none
+-- the child of a move, if it started one
 abbrev pub children : Moved → List Fiber
 children (moves.Born c) = c ∷ []
 children moves.Plain = []
@@ -23,7 +23,7 @@ children moves.Waited = []
 children moves.Ceded = []
 children (moves.Ended o) = []
 
--- the reply of the registry to fiber f, where its next move makes a call, and the reply of a move that makes none
+-- the registry's reply to the call of fiber f's next move, or `Done` for a move without a call
 pub data Replied (old : PlainView) (f : ℕ) (g : Fiber) (r : Reply) (new : PlainView) : Type 0 where
   Unshared : wish_of (ask_of g) ≡ Alone → r ≡ reply.Done → new ≡ old → Replied old f g r new
   Made : (c : Call) → wish_of (ask_of g) ≡ Shared c → IsMade old new f c r → Replied old f g r new
