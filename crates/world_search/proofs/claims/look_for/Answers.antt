@@ -21,11 +21,20 @@ returns-in_ok-push-in-Some g c =
     let holds = subst (λ o. IfSome o (λ j. (w : g.row.W-World.Denot) → slice_get ws j ≡ Some w → g.W.Claims.meets w claim ≡ true)) c.in-Some.is
     c.in_ok-first_meeting.ensures.meets in
     record {
-      adds = inr (m, c.in_ok-push-in-Some.ensures.items, refl, (claim, there, record {
-        number = world;
-        node = node;
-        at = at;
-        holds = holds;
-        path = c.in_ok-schedule-in-Some.ensures;
-      }));
+      adds = inr (
+        m,
+        c.in_ok-push-in-Some.ensures.items,
+        refl,
+        (
+          claim,
+          there,
+          record {
+            number = world;
+            node = node;
+            at = at;
+            holds = holds;
+            path = c.in_ok-schedule-in-Some.ensures;
+          },
+        ),
+      );
     }
