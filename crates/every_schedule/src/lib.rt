@@ -17,6 +17,8 @@
 //! ```
 #![tactic(auto)]
 
+mod claimed;
+mod claims;
 mod core_world;
 mod core_worlds;
 mod current;
@@ -29,8 +31,12 @@ mod pool;
 mod reduced_worlds;
 mod reports;
 mod row;
+mod seen_row;
+mod seen_worlds;
 mod unfolding;
 
+pub use claimed::search_claims;
+pub use claims::{Claim, ClaimWord, Comparison};
 pub use exploration::{Answer, Answers, Exploration, Schedule};
 pub use explored::{explore, explore_full, explore_watched};
-pub use world_search::{Bounds, Watcher};
+pub use world_search::{Bounds, Claimed, Met, Watcher};
