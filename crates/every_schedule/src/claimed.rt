@@ -1,5 +1,5 @@
 //! Which claims worlds meet, under every schedule.
-ghost use Rattle.std.specs.Prelude.{◌≡◌, ◌++◌, ◌<◌, ◌≤◌, ℕ, List, [], ◌∷◌, max, IfErr, IfOk, Some, true, false};
+ghost use Rattle.std.specs.Prelude.{◌≡◌, ◌++◌, ◌<◌, ◌≤◌, ℕ, List, [], ◌∷◌, max, IfErr, IfOk, OnOk, Some, true, false};
 ghost use Rattle.std.specs.List.{All, slice_get};
 ghost use Rattle.derived_ops.specs.Expansion.{code_of};
 ghost use Rattle.derived_ops.specs.Reading.{source_of};
@@ -18,7 +18,7 @@ use crate::seen_worlds::{STILL, SeenWorlds, note_ref};
 use crate::unfolding::unfold;
 use cell_registry::{Limits, RunError};
 use effect_term::Program;
-use std::alloc::Global;
+use std::alloc::{AllocError, Global};
 use world_search::{Bounds, Claimed, Met, Watcher};
 
 /// Which of these claims some world of a program meets, whatever the schedule: each with a schedule that leads there, as
@@ -124,11 +124,16 @@ fn certify(
     if !met_here {
         return Ok(false);
     }
-    met.push(Met {
-        claim: found.claim,
-        schedule,
-    })?;
+    add(met, found.claim, schedule)?;
     Ok(true)
+}
+
+// Adds a claim, with its schedule.
+fn add(met: &mut Vec<Met>, claim: usize, schedule: Vec<u16>) -> Result<(), AllocError>
+    ensures { OnOk result (met.new.items ≡ met.old.items ++ record { claim = claim; schedule = schedule } ∷ []) }
+{
+    met.push(Met { claim, schedule })?;
+    Ok(())
 }
 
 // Whether a schedule of the core leads to a world that meets the claim.

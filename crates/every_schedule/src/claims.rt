@@ -168,7 +168,7 @@ fn step(registry: &mut PlainRegistry, stack: &mut Vec<bool>, word: ClaimWord) ->
 // The truth value that a word puts on the stack. Those that it takes off are gone.
 fn truth_of(registry: &mut PlainRegistry, stack: &mut Vec<bool>, word: ClaimWord) -> bool
     ensures same { registry.new ≡ registry.old }
-    ensures { worded registry.old.state stack.old.items word ≡ stack.new.items ++ result ∷ [] }
+    ensures stack { worded registry.old.state stack.old.items word ≡ stack.new.items ++ result ∷ [] }
 {
     match word {
         ClaimWord::Compare(number, how, value) => is_so(how, value_of(registry, number), value),
