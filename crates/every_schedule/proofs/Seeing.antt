@@ -183,8 +183,7 @@ module _ (k : Limits) where
       (y : Result World RunError) → entered k (Ok w) f ≡ y → fold (entered k) y s ≡ Ok v → Leads w seen (f ∷ s) v
   complete_next s w seen f v on (Ok x) is e =
       let rest = on x (seen_next w seen f) e in
-      let here : stepped (at w) f ≡ Ok (at x) = bare_step (record { limits = k; world = w }) f ∙ ap (λ (y : Result World RunError). bared (placed k y)) is in
-      (
+      let here : stepped (at w) f ≡ Ok (at x) = bare_step (record { limits = k; world = w }) f ∙ ap (λ (y : Result World RunError). bared (placed k y)) is in (
         rest.0,
         ap (λ y. run (viewed stepped) (seeing (seen_next w seen f) y) s) here ∙ rest.1,
         rest.2,
@@ -228,8 +227,7 @@ module _ (code : Tree) (k : Limits) (words : List ClaimWord) where
       (u : View) × (run (viewed stepped) (Ok (first_view (first_place code k))) s ≡ Ok u) × (is_met u words ≡ true)
   unfolding core
   core_met s h =
-      let l = complete k s (first_world code k) [] h.world h.leads in
-      (
+      let l = complete k s (first_world code k) [] h.world h.leads in (
         l.0,
         ap (λ v. run (viewed stepped) (Ok v) s) first_same ∙ l.1,
         and_true (are_seen l.0.seen words) (holds l.0.place.world.cells words)

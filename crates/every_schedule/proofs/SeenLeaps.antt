@@ -172,8 +172,7 @@ module _ (v : View) (f g : ℕ) (x : View) (h : IsFree v f) (e : viewed stepped 
   commute_by : (y : Result Place RunError) → Commutes stepped (MayOwn false) f x.place g y → Commutes (viewed stepped) IsFree f x g (seeing then_seen y)
   commute_by (Ok y) pair =
       let z : View = record { place = pair.1; seen = then_seen } in
-      let there : View = record { place = y; seen = then_seen } in
-      (
+      let there : View = record { place = y; seen = then_seen } in (
         pair.0,
         z,
         free_step there f pair.0 ∙ ap (seeing then_seen) pair.2,

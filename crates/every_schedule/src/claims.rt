@@ -156,7 +156,11 @@ fn holds(
 }
 
 // One word.
-fn step(registry: &mut PlainRegistry, stack: &mut Vec<bool>, word: ClaimWord) -> Result<(), AllocError>
+fn step(
+    registry: &mut PlainRegistry,
+    stack: &mut Vec<bool>,
+    word: ClaimWord,
+) -> Result<(), AllocError>
     ensures same { registry.new ≡ registry.old }
     ensures stack { OnOk result (stack.new.items ≡ worded registry.old.state stack.old.items word) }
 {

@@ -268,7 +268,12 @@ pub fn limits() -> Limits
 }
 
 /// What a search finds of claims within so many worlds.
-pub fn searched(alloc: Global, text: &str, claims: &[Claim], worlds: usize) -> Result<Claimed, Fail> {
+pub fn searched(
+    alloc: Global,
+    text: &str,
+    claims: &[Claim],
+    worlds: usize,
+) -> Result<Claimed, Fail> {
     let Ok(program) = read_program(alloc, text.as_bytes()) else {
         return Err(Fail::new("the text is refused"));
     };
@@ -277,7 +282,8 @@ pub fn searched(alloc: Global, text: &str, claims: &[Claim], worlds: usize) -> R
         entries: 1000,
         memory: usize::MAX,
     };
-    let Ok(claimed) = search_claims(alloc, &program, limits(), bounds, claims, &mut Unwatched) else {
+    let Ok(claimed) = search_claims(alloc, &program, limits(), bounds, claims, &mut Unwatched)
+    else {
         return Err(Fail::new("memory ran out"));
     };
     Ok(claimed)

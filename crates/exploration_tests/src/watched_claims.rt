@@ -11,6 +11,7 @@ use std::test::Fail;
 
 // The values that are asked for: those from the first one on.
 const FIRST: i32 = -3;
+
 const MANY: usize = 16;
 
 // What a fiber does, by a number below 8.
