@@ -89,7 +89,8 @@ pub record Meets (code : Tree) (k : Limits) (words : List ClaimWord) (schedule :
   pub set : (r : ℕ) → Compares words r → WasSet k r (first_world code k) schedule
   pub truth : holds world.cells words ≡ true
 
--- ---- worlds as a search for claims keeps them: each with the refs that were set before, in the order of their first time
+-- ---- worlds as a search for claims keeps them: each with the refs that were set before, in the order of their first
+-- time
 pub record View : Type 0 where
   pub place : Place
   pub seen : List ℕ

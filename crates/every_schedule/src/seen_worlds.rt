@@ -20,8 +20,8 @@ use std::alloc::{AllocError, Global};
 use std::marker::Model;
 use world_search::{Claims, Entered, Landing, Worlds};
 
-/// The own moves that are made at once behind an entry: none that sets a ref or changes it, so that each of their values is
-/// one of a world that is kept.
+/// The own moves that are made at once behind an entry: none that sets a ref or changes it, so that each of their values
+/// is one of a world that is kept.
 pub(crate) const STILL: AtOnce = AtOnce {
     most: 100,
     stores: false,
