@@ -70,7 +70,7 @@ has_last r (m ∷ seen) = or_second (nat_eq m r) (has r (seen ++ r ∷ [])) (has
 has_back : (r n : ℕ) (seen : List ℕ) → has r (seen ++ n ∷ []) ≡ true → (has r seen ≡ true) ⊎ (n ≡ r)
 has_back r n [] h = elim (one_true (nat_eq n r) false h) [
   | inl here ↦ inr (eqb-true n r here)
-  | inr no ↦ absurd (cc)
+  | inr bad ↦ absurd (cc)
 ]
 has_back r n (m ∷ seen) h = elim (one_true (nat_eq m r) (has r (seen ++ n ∷ [])) h) [
   | inl here ↦ inl (first_true (nat_eq m r) (has r seen) here)

@@ -313,10 +313,10 @@ fn claims_of(alloc: Global, rows: &[Row<'_>]) -> Result<Vec<Claim>, Fail> {
 }
 
 // The first claim of which something else was found than it says.
-fn wrong(rows: &[Row<'_>], claimed: &Claimed) -> Option<usize> {
+fn wrong<'a>(rows: &'a [Row<'a>], claimed: &Claimed) -> Option<&'a str> {
     for (number, row) in rows.iter().enumerate() {
         if is_met(claimed, number) != row.is_met {
-            return Some(number);
+            return Some(row.claim);
         }
     }
     None
@@ -328,8 +328,8 @@ fn claims_are_met_by_the_worlds_of_small_programs(rt: HostRuntime) -> Result<(),
         let claims = claims_of(rt.alloc(), it.rows)?;
         let claimed = searched(rt.alloc(), it.text, claims.as_slice(), 10_000)?;
         assert!(rt; claimed.complete, "{}", it.rule);
-        if let Some(number) = wrong(it.rows, &claimed) {
-            assert!(rt; false, "{}: {}", it.rule, it.rows[number].claim);
+        if let Some(claim) = wrong(it.rows, &claimed) {
+            assert!(rt; false, "{}: {claim}", it.rule);
         }
     }
     Ok(())

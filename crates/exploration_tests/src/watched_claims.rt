@@ -2,7 +2,7 @@
 
 use crate::claims::{is_met, limits, searched};
 use effect_term::{Outcome, Value};
-use every_schedule::{Bounds, Claim, ClaimWord, Comparison, Exploration, explore};
+use every_schedule::{Bounds, Claim, ClaimWord, Claimed, Comparison, Exploration, explore};
 use outcome_trace::read_program;
 use rand_core::{Rng, SeedableRng};
 use rand_xoshiro::Xoshiro256PlusPlus;
@@ -13,6 +13,9 @@ use std::test::Fail;
 const FIRST: i32 = -3;
 
 const MANY: usize = 16;
+
+// The most worlds.
+const WORLDS: usize = 20_000;
 
 // What a fiber does, by a number below 8.
 const ACTS: [&str; 8] = [
@@ -72,41 +75,61 @@ fn is_read(exploration: &Exploration, value: Value) -> bool {
     false
 }
 
-// Compares one program. How many of the values are met, or none where a bound was met.
-fn compared(alloc: Global, seed: u64) -> Result<Option<u32>, Fail> {
-    let plain = random_program(alloc, seed, "", ")")?;
-    let watched = random_program(alloc, seed, "(start w (get r) ", "))")?;
-    let Ok(program) = read_program(alloc, watched.as_bytes()) else {
-        return Err(Fail::new(watched.as_str()));
+// That the ref has each of these values.
+fn claims(alloc: Global) -> Result<Vec<Claim>, Fail> {
+    let mut claims = Vec::new(alloc);
+    for value in VALUES {
+        let word = ClaimWord::Compare(0, Comparison::Equal, Value::from_i32(value));
+        claims.push(Claim::new(vec![in alloc; word]?))?;
+    }
+    Ok(claims)
+}
+
+// What an exploration finds of a program within the same worlds.
+fn explored(alloc: Global, text: &str) -> Result<Exploration, Fail> {
+    let Ok(program) = read_program(alloc, text.as_bytes()) else {
+        return Err(Fail::new(text));
     };
     let bounds = Bounds {
-        worlds: 20_000,
+        worlds: WORLDS,
         entries: 1000,
         memory: usize::MAX,
     };
     let Ok(exploration) = explore(alloc, &program, limits(), bounds) else {
         return Err(Fail::new("memory ran out"));
     };
-    let mut claims = Vec::new(alloc);
-    for place in 0..MANY {
-        let value = Value::from_i32(FIRST + place as i32);
-        claims.push(Claim::new(vec![in alloc; ClaimWord::Compare(0, Comparison::Equal, value)]?))?;
-    }
-    let claimed = searched(alloc, plain.as_str(), claims.as_slice(), 20_000)?;
-    if !exploration.complete || !claimed.complete {
-        return Ok(None);
-    }
+    Ok(exploration)
+}
+
+// How many of the values are met, where exactly these are read, or none where others are.
+fn agreeing(claimed: &Claimed, exploration: &Exploration) -> Option<u32> {
     let mut met = 0u32;
-    for place in 0..MANY {
-        let is_so = is_met(&claimed, place);
-        if is_so != is_read(&exploration, Value::from_i32(FIRST + place as i32)) {
-            return Err(Fail::new(plain.as_str()));
+    for (number, value) in VALUES.iter().enumerate() {
+        let is_so = is_met(claimed, number);
+        if is_so != is_read(exploration, Value::from_i32(*value)) {
+            return None;
         }
         if is_so {
             met = met.saturating_add(1);
         }
     }
-    Ok(Some(met))
+    Some(met)
+}
+
+// Compares one program. How many of the values are met, or 0 where a bound was met.
+fn compared(alloc: Global, seed: u64) -> Result<u32, Fail> {
+    let plain = random_program(alloc, seed, "", ")")?;
+    let watched = random_program(alloc, seed, "(start w (get r) ", "))")?;
+    let exploration = explored(alloc, watched.as_str())?;
+    let claims = claims(alloc)?;
+    let claimed = searched(alloc, plain.as_str(), claims.as_slice(), WORLDS)?;
+    if !exploration.complete || !claimed.complete {
+        return Ok(0);
+    }
+    match agreeing(&claimed, &exploration) {
+        Some(met) => Ok(met),
+        None => Err(Fail::new(plain.as_str())),
+    }
 }
 
 // A ref has a value in some world exactly where a fiber that does nothing but read it can read that value.
@@ -114,10 +137,8 @@ fn compared(alloc: Global, seed: u64) -> Result<Option<u32>, Fail> {
 fn claims_are_met_where_a_reader_reads(rt: HostRuntime) -> Result<(), Fail> {
     let mut rich = 0u32;
     for seed in 0..60u64 {
-        if let Some(met) = compared(rt.alloc(), seed)? {
-            if met > 2 {
-                rich = rich.saturating_add(1);
-            }
+        if compared(rt.alloc(), seed)? > 2 {
+            rich = rich.saturating_add(1);
         }
     }
     assert!(rt; rich >= 30, "{rich} programs have three values or more");

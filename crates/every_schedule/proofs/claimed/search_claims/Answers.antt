@@ -12,7 +12,7 @@ use Rattle.every_schedule.proofs.SeenLeaps.{unmet_all}
 use Rattle.every_schedule.proofs.claimed.search_claims.Goals as goal
 
 pub returns-clause-unmet : goal.returns-clause-unmet
-returns-clause-unmet c = λ complete i words at unfound schedule met.
+returns-clause-unmet g c = λ complete i words at unfound schedule met.
     let code = code_of (source_of c.args.program.now) in
     let k = c.args.limits in
     let first = first_view (first_place code k) in
