@@ -1,7 +1,7 @@
 -- Which schedules of the core lead to worlds that meet a claim, by the views of a search.
-use Rattle.std.proofs.Common.{◌≡◌, ◌≢◌, ◌⊎◌, inl, inr, ℕ, zero, suc, nat_eq, Bool, true, false, cond, ◌&&◌, ◌||◌, List, [], ◌∷◌, ◌++◌, Option, Some, None}
+use Rattle.std.proofs.Common.{◌≡◌, ◌⊎◌, inl, inr, ℕ, zero, suc, nat_eq, Bool, true, false, cond, ◌&&◌, ◌||◌, List, [], ◌∷◌, ◌++◌, Option, Some, None}
 use Rattle.std.proofs.Common.{Result, Ok, Err, refl, sym, ap, ◌∙◌, subst}
-use Rattle.std.specs.List.{list_all, list_any}
+use Rattle.std.specs.List.{list_all}
 use Rattle.std.specs.List.{fold, slice_get}
 use Rattle.std.proofs.lemmas.Bool.{eqb-true, eq-eqb}
 use Rattle.derived_ops.specs.Tree.{Tree}
@@ -14,7 +14,7 @@ use Rattle.world_search.proofs.Free.{run_fault}
 use Rattle.every_schedule.specs.declared.claims.ClaimWord.{ClaimWord}
 use Rattle.every_schedule.specs.declared.claims.ClaimWord.TheVariants.{Compare, Not, And, Or}
 use Rattle.every_schedule.specs.Claims.{Compares, Meets, View, WasSet, are_seen, first_view, has, holds, is_met, is_seen, last_of, noted, seeing, stored_by, viewed, worded}
-use Rattle.every_schedule.specs.Places.{Place, bare, bared, first_place, placed, stepped, unnoted}
+use Rattle.every_schedule.specs.Places.{Place, bared, first_place, placed, stepped, unnoted}
 use Rattle.every_schedule.proofs.Bare.{bare_step}
 use Rattle.every_schedule.proofs.Placed.{first_bare}
 use Rattle.every_schedule.proofs.OwnKept.{and_true, or_second}

@@ -1,6 +1,3 @@
-use Rattle.std.proofs.Common.{◌∙◌, sym, ap}
-use Rattle.cell_registry.specs.Plain.{PlainView}
-use Rattle.cell_registry.specs.Cells.{ref_of}
 use Rattle.every_schedule.proofs.RefValues.{got_same, got_value}
 use Rattle.every_schedule.proofs.claims.value_of.Goals as goal
 
