@@ -13,8 +13,14 @@ pub mod Alone
 pub mod Commuting
 pub mod Growing
 pub mod Bare
+pub mod Still
 pub mod Leaps
 pub mod Trails
 pub mod PastBound
 pub mod GrowingLeaps
 pub mod Deadlocks
+pub mod Seeing
+pub mod SeenRows
+pub mod SeenLeaps
+pub mod RefValues
+pub mod Prefixes

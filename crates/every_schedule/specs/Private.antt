@@ -5,3 +5,4 @@ pub mod Numbered
 pub mod Standing
 pub mod Reporting
 pub mod Trails
+pub mod Seen

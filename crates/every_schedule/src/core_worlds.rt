@@ -1,6 +1,6 @@
 //! The worlds that an exploration has found, each with a number.
 ghost use Rattle.std.specs.Prelude.{◌≡◌, ◌⊎◌, ◌++◌, ◌<◌, ◌≤◌, ℕ, [], ◌∷◌, length, max};
-ghost use Rattle.std.specs.Prelude.{IfOk, IfErr, IfSome, OnOk, OnErr, Some};
+ghost use Rattle.std.specs.Prelude.{IfOk, IfErr, IfSome, OnOk, OnErr, Some, None};
 ghost use Rattle.std.specs.Prelude.{Ok as GoesWell, Err as Fails, Result as TheResult, List};
 ghost use Rattle.std.specs.List.{All, slice_get};
 ghost use Rattle.derived_ops.specs.Expansion.{code_of};
@@ -9,24 +9,34 @@ ghost use Rattle.fiber_frames.specs.Marks.{AreLawful};
 ghost use Rattle.cell_registry.specs.Cells.{AreLimits};
 ghost use Rattle.world_search.specs.Landings.{EntersAt, IsNext};
 ghost use Rattle.world_search.specs.Lists.{IsMore};
+ghost use Rattle.fiber_frames.specs.Fiber.{Fiber};
+ghost use Rattle.every_schedule.specs.Claims.{stored_by};
 ghost use Rattle.every_schedule.specs.Places.{Place, first_place, report_at};
 ghost use Rattle.every_schedule.specs.Reduced.{leapt};
 ghost use Rattle.every_schedule.specs.Private.Keeping.{AreSingle, IsKept};
 ghost use Rattle.every_schedule.specs.Private.Numbered.{MayAdd};
 
 use crate::core_world::CoreWorld;
-use crate::current::{Current, States, begun, fibers_of, set_up};
+use crate::current::{Current, States, begun, fibers_of, fresh, set_up};
 use crate::faults::Faults;
-use crate::leaping::leap;
+use crate::leaping::{AtOnce, leap};
+use crate::own_moves::stored_in;
 use crate::pool::{Pool, Pooled};
 use crate::reports::same_reports;
 use crate::row::Row;
 use cell_registry::{Limits, RunError};
 use effect_term::{Program, facts_of};
-use scheduled_core::{Report, report_of_fibers};
+use fiber_frames::Config;
+use scheduled_core::{Report, Wish, report_of_fibers};
 use std::alloc::{AllocError, Global};
 use std::marker::Model;
 use world_search::{Entered, Landing, Worlds};
+
+/// No own moves are made at once.
+pub(crate) const NONE: AtOnce = AtOnce {
+    most: 0,
+    stores: true,
+};
 
 /// All worlds and faults that were found. The states of fibers and registries are kept once, and a world is a row of
 /// their numbers.
@@ -139,6 +149,27 @@ impl CoreWorlds {
         row.fibers().len() as u16
     }
 
+    /// The world of this number.
+    pub(crate) fn world(&self, number: usize) -> Result<CoreWorld, AllocError>
+        requires { number < length self.now.places }
+        ensures { IfOk result (λ it. (p : Place) → slice_get self.now.places number ≡ Some p → it ≡ p) }
+    {
+        let row = &self.rows.items[number];
+        let current = fresh(self.alloc, &self.states, row)?;
+        let Current { world, .. } = current;
+        Ok(world)
+    }
+
+    /// The ref that the next move of a fiber of a world sets, or changes by an addition, if it does that.
+    pub(crate) fn stored(&self, world: usize, fiber: u16) -> Option<u16>
+        requires { world < length self.now.places }
+        ensures { (p : Place) → slice_get self.now.places world ≡ Some p →
+            result ≡ stored_by (slice_get p.world.fibers fiber) }
+    {
+        let row = &self.rows.items[world];
+        stored_at(&self.states.fibers, row.fibers(), fiber)
+    }
+
     /// About how many bytes the rows and the states take.
     pub(crate) fn counted(&self) -> usize
         ensures { result ≡ self.now.bytes }
@@ -149,16 +180,16 @@ impl CoreWorlds {
             .saturating_add(self.states.registries.bytes)
     }
 
-    /// Makes the entry of a fiber at a world, with at most so many own moves behind it.
+    /// Makes the entry of a fiber at a world, with such own moves behind it.
     pub(crate) fn entry(
         &mut self,
         world: usize,
         fiber: u16,
         most: usize,
-        at_once: usize,
+        at_once: AtOnce,
     ) -> Result<Entered, AllocError>
         requires { world < length self.old.places }
-        ensures worlds { OnOk result (IsMore self.old.places self.new.places) }
+        ensures worlds { IsMore self.old.places self.new.places }
         ensures faults { OnOk result (IsMore self.old.faults self.new.faults) }
         ensures lands { IfOk result (λ it. (p : Place) → slice_get self.old.places world ≡ Some p →
             EntersAt self.new.places self.new.faults it (leapt at_once p fiber)) }
@@ -190,8 +221,13 @@ impl CoreWorlds {
     }
 }
 
-// The number of a row, which is kept unless there are so many already.
-fn keep(alloc: Global, rows: &mut Pool<Row>, row: &Row, most: usize) -> Result<Entered, AllocError>
+/// The number of a row, which is kept unless there are so many already.
+pub(crate) fn keep<T: Pooled>(
+    alloc: Global,
+    rows: &mut Pool<T>,
+    row: &T,
+    most: usize,
+) -> Result<Entered, AllocError>
     ensures adds { MayAdd rows.old.items.items rows.new.items.items row.now }
     ensures kept { IfOk result (λ it. IsKept rows.new.items.items it row.now) }
     ensures room { OnOk result (length rows.new.items.items ≤ max most (length rows.old.items.items)) }
@@ -205,6 +241,21 @@ fn keep(alloc: Global, rows: &mut Pool<Row>, row: &Row, most: usize) -> Result<E
     }
     let number = rows.add(row.again(alloc)?)?;
     Ok(Entered::At(Landing::World(number as usize)))
+}
+
+// The ref that the next move of a fiber, if it is one of these numbers, sets or changes.
+fn stored_at(pool: &Pool<Config>, numbers: &[u32], fiber: u16) -> Option<u16>
+    requires { All (λ n. n < length pool.now.items.items) numbers.now }
+    ensures none { slice_get numbers.now fiber ≡ None → result ≡ None }
+    ensures some { (n : ℕ) (g : Fiber) → slice_get numbers.now fiber ≡ Some n →
+        slice_get pool.now.items.items n ≡ Some g → result ≡ stored_by (Some g) }
+{
+    let place = usize::from(fiber);
+    if place >= numbers.len() {
+        return None;
+    }
+    let number = numbers[place];
+    stored_in(Wish::of(pool.items[number as usize].ask()))
 }
 
 // What came of an entry that ended so: the fault's number, or want of memory.
@@ -251,7 +302,7 @@ impl Worlds for CoreWorlds {
     }
 
     fn enter(&mut self, world: usize, fiber: u16, most: usize) -> Result<Entered, AllocError> {
-        self.entry(world, fiber, most, 0)
+        self.entry(world, fiber, most, NONE)
     }
 
     fn same_report(&self, one: usize, other: usize) -> bool {

@@ -6,28 +6,36 @@ ghost use Rattle.scheduled_core.specs.Fitting.{AllFit};
 ghost use Rattle.world_search.specs.Lists.{IsMore};
 ghost use Rattle.every_schedule.specs.Explored.{HasMove};
 ghost use Rattle.every_schedule.specs.Places.{Place, stepped};
-ghost use Rattle.std.specs.List.{slice_get};
-ghost use Rattle.every_schedule.specs.Reduced.{after_own, has_own, leapt, own_of, pushed, pushed_once};
+ghost use Rattle.every_schedule.specs.Reduced.{after_own, is_made, leapt, own_of, pushed, pushed_once};
 ghost use Rattle.every_schedule.specs.Private.Standing.{IsCurrent};
 ghost use Rattle.every_schedule.specs.Private.Trails.{IsTrail};
 
 use crate::core_world::CoreWorld;
 use crate::current::{Current, States, entered, fresh};
-use crate::own_moves::is_own_move;
+use crate::own_moves::{is_own_move, may_be_made};
 use crate::pool::Pooled;
 use cell_registry::RunError;
 use effect_term::facts_of;
 use scheduled_core::Wish;
 use std::alloc::{AllocError, Global};
 
-/// The world to which the entry of a fiber leads, with at most `at_once` own moves behind it. The entries that were
+/// Which own moves are made at once behind an entry.
+#[derive(Clone, Copy)]
+pub(crate) struct AtOnce {
+    /// At most so many of each fiber.
+    pub(crate) most: usize,
+    /// Those that set a ref or change it are among them.
+    pub(crate) stores: bool,
+}
+
+/// The world to which the entry of a fiber leads, with such own moves behind it. The entries that were
 /// made are added to the trail: one that ends in a fault too, and none of a fiber that isn't born or has ended.
 pub(crate) fn leap(
     alloc: Global,
     current: Current,
     states: &mut States,
     fiber: u16,
-    at_once: usize,
+    at_once: AtOnce,
     trail: &mut Vec<u16>,
 ) -> Result<Current, RunError>
     requires { IsCurrent states.old.fibers.items.items states.old.registries.items.items current }
@@ -95,25 +103,25 @@ pub(crate) fn born(world: &CoreWorld) -> usize
     world.fibers().len()
 }
 
-// At most `at_once` own moves of each fiber.
+// Such own moves of each fiber.
 fn push(
     alloc: Global,
     current: Current,
     states: &mut States,
-    at_once: usize,
+    at_once: AtOnce,
     trail: &mut Vec<u16>,
 ) -> Result<Current, AllocError>
     requires { IsCurrent states.old.fibers.items.items states.old.registries.items.items current }
     ensures fibers { IsMore states.old.fibers.items.items states.new.fibers.items.items }
     ensures registries { IsMore states.old.registries.items.items states.new.registries.items.items }
-    ensures goes { IfOk result (λ c. c.world ≡ pushed at_once current.world) }
+    ensures goes { IfOk result (λ c. c.world ≡ pushed at_once.stores at_once.most current.world) }
     ensures current { IfOk result (IsCurrent states.new.fibers.items.items states.new.registries.items.items) }
     ensures fits { AllFit current.world.world → IfOk result (λ c. AllFit c.world.world) }
     ensures trail { IfOk result (λ c. IsTrail trail.old.items trail.new.items current.world (GoesWell c.world)) }
 {
     let mut now = current;
-    for _move in 0..at_once {
-        let (next, moved) = push_once(alloc, now, &mut *states, &mut *trail)?;
+    for _move in 0..at_once.most {
+        let (next, moved) = push_once(alloc, now, &mut *states, at_once.stores, &mut *trail)?;
         now = next;
         if !moved {
             return Ok(now);
@@ -127,13 +135,14 @@ fn push_once(
     alloc: Global,
     current: Current,
     states: &mut States,
+    stores: bool,
     trail: &mut Vec<u16>,
 ) -> Result<(Current, bool), AllocError>
     requires { IsCurrent states.old.fibers.items.items states.old.registries.items.items current }
     ensures fibers { IsMore states.old.fibers.items.items states.new.fibers.items.items }
     ensures registries { IsMore states.old.registries.items.items states.new.registries.items.items }
-    ensures goes { IfOk result (λ r. r.0.world ≡ pushed_once current.world) }
-    ensures stays { IfOk result (λ r. r.1 ≡ false → pushed_once r.0.world ≡ r.0.world) }
+    ensures goes { IfOk result (λ r. r.0.world ≡ pushed_once stores current.world) }
+    ensures stays { IfOk result (λ r. r.1 ≡ false → pushed_once stores r.0.world ≡ r.0.world) }
     ensures current { IfOk result (λ r.
         IsCurrent states.new.fibers.items.items states.new.registries.items.items r.0) }
     ensures fits { IfOk result (λ r. AllFit r.0.world.world) }
@@ -144,7 +153,7 @@ fn push_once(
     let mut moved = false;
     for done in 0..born {
         let fiber = (born - 1 - done) as u16;
-        let (next, made) = push_fiber(alloc, now, &mut *states, fiber, &mut *trail)?;
+        let (next, made) = push_fiber(alloc, now, &mut *states, stores, fiber, &mut *trail)?;
         now = next;
         moved = either(moved, made);
     }
@@ -163,6 +172,7 @@ fn push_fiber(
     alloc: Global,
     current: Current,
     states: &mut States,
+    stores: bool,
     fiber: u16,
     trail: &mut Vec<u16>,
 ) -> Result<(Current, bool), AllocError>
@@ -170,14 +180,14 @@ fn push_fiber(
     requires few { fiber < 1000 }
     ensures fibers { IsMore states.old.fibers.items.items states.new.fibers.items.items }
     ensures registries { IsMore states.old.registries.items.items states.new.registries.items.items }
-    ensures goes { IfOk result (λ r. r.0.world ≡ after_own current.world (own_of current.world fiber)) }
+    ensures goes { IfOk result (λ r. r.0.world ≡ after_own current.world (own_of stores current.world fiber)) }
     ensures stays { IfOk result (λ r. r.1 ≡ false → r.0.world ≡ current.world) }
     ensures current { IfOk result (λ r.
         IsCurrent states.new.fibers.items.items states.new.registries.items.items r.0) }
     ensures fits { IfOk result (λ r. AllFit r.0.world.world) }
     ensures trail { IfOk result (λ r. IsTrail trail.old.items trail.new.items current.world (GoesWell r.0.world)) }
 {
-    if !has_own_move(&current.world, fiber) {
+    if !has_own_move(&current.world, stores, fiber) {
         return Ok((current, false));
     }
     let row = current.row.again(alloc)?;
@@ -200,12 +210,14 @@ fn push_fiber(
     }
 }
 
-// Whether a fiber is born and its next move is an own one.
-fn has_own_move(world: &CoreWorld, fiber: u16) -> bool
-    ensures own { result ≡ has_own world.now.world fiber (slice_get world.now.world.fibers fiber) }
+// Whether a fiber is born and its next move is an own one that may be made at once.
+fn has_own_move(world: &CoreWorld, stores: bool, fiber: u16) -> bool
+    ensures own { result ≡ is_made stores world.now.world fiber }
     ensures fits { AllFit world.now.world }
 {
-    usize::from(fiber) < born(world) && is_own_move(world, fiber)
+    usize::from(fiber) < born(world)
+        && is_own_move(world, fiber)
+        && may_be_made(world, stores, fiber)
 }
 
 /// Whether this is want of memory.

@@ -4,7 +4,8 @@ ghost use Rattle.std.specs.Prelude.{◌≡◌, ◌<◌, length};
 ghost use Rattle.std.specs.List.{slice_get};
 ghost use Rattle.fiber_frames.specs.Uses.{used_place};
 ghost use Rattle.scheduled_core.specs.Fitting.{AllFit};
-ghost use Rattle.every_schedule.specs.Reduced.{IsNamed, has_come_to_end as has_ended, has_own, next_of};
+ghost use Rattle.every_schedule.specs.Claims.{stored_by as the_stored_by, stored_in as the_stored};
+ghost use Rattle.every_schedule.specs.Reduced.{IsNamed, has_come_to_end as has_ended, has_own, may_be, next_of};
 ghost use Rattle.every_schedule.specs.Reduced.{is_completed as is_filled, is_kept as is_own_number};
 ghost use Rattle.every_schedule.specs.Reduced.{is_left_alone as has_no_other, is_own_call as is_so};
 
@@ -26,6 +27,33 @@ pub(crate) fn is_own_move(world: &CoreWorld, by: u16) -> bool
         Wish::Alone => !fiber.waits_alone(),
         Wish::Nothing => false,
         Wish::Shared(call) => is_own_call(world, by, call),
+    }
+}
+
+/// Whether the next move of this fiber may be made at once, where those that set a ref or change it are, or aren't.
+pub(crate) fn may_be_made(world: &CoreWorld, stores: bool, by: u16) -> bool
+    ensures { result ≡ may_be stores (slice_get world.now.world.fibers by) }
+{
+    stores || stored_by(world, by).is_none()
+}
+
+/// The ref that the next move of a fiber sets or changes, if it does that.
+pub(crate) fn stored_by(world: &CoreWorld, by: u16) -> Option<u16>
+    ensures { result ≡ the_stored_by (slice_get world.now.world.fibers by) }
+{
+    match world.fibers().get(usize::from(by)) {
+        None => None,
+        Some(it) => stored_in(Wish::of(it.ask())),
+    }
+}
+
+/// The ref that a move which wants this sets or changes.
+pub(crate) fn stored_in(wish: Wish) -> Option<u16>
+    ensures { result ≡ the_stored wish }
+{
+    match wish {
+        Wish::Shared(Call::Set(number, _)) | Wish::Shared(Call::Modify(number, _)) => Some(number),
+        _ => None,
     }
 }
 

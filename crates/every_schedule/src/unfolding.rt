@@ -12,7 +12,7 @@ ghost use Rattle.every_schedule.specs.Private.Trails.{IsLeftOut, IsUnfolded, ran
 
 use crate::core_world::CoreWorld;
 use crate::current::{States, begun};
-use crate::leaping::{is_memory, leap};
+use crate::leaping::{AtOnce, is_memory, leap};
 use crate::pool::Pool;
 use cell_registry::{Limits, RunError};
 use effect_term::Program;
@@ -33,7 +33,7 @@ pub(crate) fn unfold_all(
     program: &Program,
     limits: Limits,
     found: &[Answer],
-    at_once: usize,
+    at_once: AtOnce,
     most: usize,
 ) -> Result<Unfolded, RunError>
     requires { AreLimits limits }
@@ -101,13 +101,13 @@ fn add(
     Ok(true)
 }
 
-// The entries that a schedule of the reduced search makes, one by one.
-fn unfold(
+/// The entries that a schedule of the reduced search makes, one by one.
+pub(crate) fn unfold(
     alloc: Global,
     program: &Program,
     limits: Limits,
     schedule: &[u16],
-    at_once: usize,
+    at_once: AtOnce,
 ) -> Result<Vec<u16>, RunError>
     requires { AreLimits limits }
     ensures entries { IfOk result (λ it.

@@ -12,7 +12,7 @@ invariant-loop-move l = record {
   fibers : IsMore l.initial.states.fibers.items.items l.states.fibers.items.items;
   registries : IsMore l.initial.states.registries.items.items l.states.registries.items.items;
   current : IsCurrent l.states.fibers.items.items l.states.registries.items.items l.now;
-  goes : pushed l.at_once l.fn.current.world ≡ pushed (l.at_once - l._move) l.now.world;
+  goes : pushed l.at_once.stores l.at_once.most l.fn.current.world ≡ pushed l.at_once.stores (l.at_once.most - l._move) l.now.world;
   fits : AllFit l.fn.current.world.world → AllFit l.now.world.world;
   trail : IsTrail l.initial.trail.items l.trail.items l.fn.current.world (Ok l.now.world);
 }

@@ -32,7 +32,7 @@ returns-in-Ok-clause-trail c =
     let old = c.args.trail.now.items in
     subst (λ (l : List ℕ). IsTrail old l c.args.current.world (Ok c.in-Ok.next.world)) (sym c.in_ok-add-in-Ok.ensures)
     (trail_one old c.args.current.world c.args.fiber (Ok c.in-Ok.next.world) c.requires.few
-    (own_moves c.args.current.world c.args.fiber (sym c.has_own_move.ensures.own ∙ c.if-not-has_own_move.false)) c.in-Ok.ensures.goes)
+    (own_moves c.args.stores c.args.current.world c.args.fiber (sym c.has_own_move.ensures.own ∙ c.if-not-has_own_move.false)) c.in-Ok.ensures.goes)
 
 pub returns-clause-goes : goal.returns-clause-goes
 returns-clause-goes c =
@@ -47,7 +47,7 @@ returns-clause-goes c =
     let own = sym c.has_own_move.ensures.own ∙ c.if-not-has_own_move.false in
     let stops : stepped p c.args.fiber ≡ Err c.in-Err.fault =
     refused c.in-Err.fault (stepped p c.args.fiber) (c.is_memory.ensures c.if-is_memory.false) c.in-Err.ensures.stops in
-    same ∙ sym (fiber_refused p c.args.fiber c.in-Err.fault own stops)
+    same ∙ sym (fiber_refused c.args.stores p c.args.fiber c.in-Err.fault own stops)
 
 pub returns-clause-stays : goal.returns-clause-stays
 returns-clause-stays c = λ other.
@@ -100,13 +100,13 @@ returns-then-is-clause-trail c =
 pub returns-then-is-clause-goes : goal.returns-then-is-clause-goes
 returns-then-is-clause-goes c =
     let own = sym c.has_own_move.ensures.own ∙ c.if-not-has_own_move.false in
-    sym (fiber_made c.args.current.world c.args.fiber c.in-Ok.next.world own c.in-Ok.ensures.goes)
+    sym (fiber_made c.args.stores c.args.current.world c.args.fiber c.in-Ok.next.world own c.in-Ok.ensures.goes)
 
 pub returns-in-Ok-clause-goes : goal.returns-in-Ok-clause-goes
 returns-in-Ok-clause-goes c =
     let own = sym c.has_own_move.ensures.own ∙ c.if-not-has_own_move.false in
-    sym (fiber_made c.args.current.world c.args.fiber c.in-Ok.next.world own c.in-Ok.ensures.goes)
+    sym (fiber_made c.args.stores c.args.current.world c.args.fiber c.in-Ok.next.world own c.in-Ok.ensures.goes)
 
 pub returns-then-not-has_own_move-clause-goes : goal.returns-then-not-has_own_move-clause-goes
 returns-then-not-has_own_move-clause-goes c =
-    sym (fiber_none c.args.current.world c.args.fiber (sym c.has_own_move.ensures.own ∙ c.if-not-has_own_move.true))
+    sym (fiber_none c.args.stores c.args.current.world c.args.fiber (sym c.has_own_move.ensures.own ∙ c.if-not-has_own_move.true))

@@ -19,8 +19,8 @@ loop-done-preserved c =
       registries = more_more c.args.states.now.registries.items.items c.loop-done.states.registries.items.items
           c.push_fiber.new.states.registries.items.items known.registries told.registries;
       current = told.current;
-      goes = known.goes ∙ swept_next (c.born-born.result - c.loop-done.done) m c.loop-done.now.world c.in_ok-next.next.world left told.goes ∙
-          ap (λ i. swept i c.in_ok-next.next.world) place;
+      goes = known.goes ∙ swept_next c.args.stores (c.born-born.result - c.loop-done.done) m c.loop-done.now.world c.in_ok-next.next.world left told.goes ∙
+          ap (λ i. swept c.args.stores i c.in_ok-next.next.world) place;
       stays = λ none. let both = c.either-moved.ensures none in told.stays both.1 ∙ known.stays both.0;
       fits = told.fits;
       trail = trail_more c.args.trail.now.items c.loop-done.trail.items c.push_fiber.new.trail.items c.args.current.world c.loop-done.now.world
@@ -31,12 +31,12 @@ pub returns-clause-goes : goal.returns-clause-goes
 returns-clause-goes c =
     let known = c.loop-done.invariant in
     let none : c.born-born.result - c.loop-done.done ≡ 0 = omega arith in
-    sym (ap (λ i. swept i c.args.current.world) (sym c.born-born.ensures.born) ∙ known.goes ∙ ap (λ i. swept i c.loop-done.now.world) none ∙ swept_none c.loop-done.now.world)
+    sym (ap (λ i. swept c.args.stores i c.args.current.world) (sym c.born-born.ensures.born) ∙ known.goes ∙ ap (λ i. swept c.args.stores i c.loop-done.now.world) none ∙ swept_none c.args.stores c.loop-done.now.world)
 
 pub returns-clause-stays : goal.returns-clause-stays
 returns-clause-stays c = λ still.
     let known = c.loop-done.invariant in
     let none : c.born-born.result - c.loop-done.done ≡ 0 = omega arith in
-    let goes : pushed_once c.args.current.world ≡ c.loop-done.now.world =
-    ap (λ i. swept i c.args.current.world) (sym c.born-born.ensures.born) ∙ known.goes ∙ ap (λ i. swept i c.loop-done.now.world) none ∙ swept_none c.loop-done.now.world in
-    subst (λ (x : Place). pushed_once x ≡ c.loop-done.now.world) (sym (known.stays still)) goes
+    let goes : pushed_once c.args.stores c.args.current.world ≡ c.loop-done.now.world =
+    ap (λ i. swept c.args.stores i c.args.current.world) (sym c.born-born.ensures.born) ∙ known.goes ∙ ap (λ i. swept c.args.stores i c.loop-done.now.world) none ∙ swept_none c.args.stores c.loop-done.now.world in
+    subst (λ (x : Place). pushed_once c.args.stores x ≡ c.loop-done.now.world) (sym (known.stays still)) goes

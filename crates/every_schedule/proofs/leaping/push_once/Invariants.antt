@@ -12,7 +12,7 @@ invariant-loop-done l = record {
   fibers : IsMore l.initial.states.fibers.items.items l.states.fibers.items.items;
   registries : IsMore l.initial.states.registries.items.items l.states.registries.items.items;
   current : IsCurrent l.states.fibers.items.items l.states.registries.items.items l.now;
-  goes : swept l.born l.fn.current.world ≡ swept (l.born - l.done) l.now.world;
+  goes : swept l.stores l.born l.fn.current.world ≡ swept l.stores (l.born - l.done) l.now.world;
   stays : l.moved ≡ false → l.now.world ≡ l.fn.current.world;
   fits : AllFit l.now.world.world;
   trail : IsTrail l.initial.trail.items l.trail.items l.fn.current.world (Ok l.now.world);
