@@ -1,5 +1,6 @@
 pub mod Placed
 pub mod Told
+pub mod FairRuns
 pub mod Listing
 pub mod Laws
 pub mod Numbered

@@ -3,4 +3,5 @@ pub mod Places
 pub mod Sizes
 pub mod Reduced
 pub mod Claims
+pub mod Fairness
 pub mod Private
