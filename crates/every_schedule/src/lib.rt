@@ -37,6 +37,7 @@ mod reports;
 mod row;
 mod seen_row;
 mod seen_worlds;
+mod turns;
 mod unfolding;
 
 pub use claimed::search_claims;
