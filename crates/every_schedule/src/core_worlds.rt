@@ -43,6 +43,7 @@ pub(crate) const NONE: AtOnce = AtOnce {
 #[derive(Drop)]
 pub(crate) struct CoreWorlds {
     alloc: Global,
+    limits: Limits,
     current: Current,
     rows: Pool<Row>,
     // The entries that led from the last world to the current one.
@@ -65,13 +66,13 @@ impl Model for CoreWorlds {
     ghost coded = { Prim.hlevel (codes, tree_code, the_look.the_row.coded, the_mark.the_row.coded) };
 
     ghost view = { λ s. record {
-      places = map (place_of s.current.limits s.current.fibers s.current.registries) s.rows.items.items;
+      places = map (place_of s.limits s.current.fibers s.current.registries) s.rows.items.items;
       faults = s.faults;
       bytes = capped (s.rows.bytes + s.current.bytes);
     } };
 
     ghost invariant = { λ s.
-        AreWorlds s.current.limits s.current.fibers s.current.registries s.rows.items.items };
+        AreWorlds s.limits s.current.fibers s.current.registries s.rows.items.items };
 }
 
 impl CoreWorlds {
@@ -86,12 +87,13 @@ impl CoreWorlds {
         ensures faults { IfOk result (λ s. s.faults ≡ []) }
     {
         let first = CoreWorld::first(alloc, program, limits)?;
-        let current = Current::new(alloc, first)?;
-        let row = current.row().again(alloc)?;
+        let mut current = Current::new(alloc, first)?;
+        let row = current.row()?;
         let mut rows = Pool::new(alloc);
         rows.add(row)?;
         Ok(CoreWorlds {
             alloc,
+            limits,
             current,
             rows,
             trail: Vec::new(alloc),
@@ -145,7 +147,9 @@ impl CoreWorlds {
         ensures { IfOk result (λ it. (p : Place) → slice_get self.now.places number ≡ Some p → it ≡ p) }
     {
         let row = &self.rows.items[number];
-        self.current.world(row)
+        let fibers = fibers_of(self.alloc, self.current.fibers(), row.fibers())?;
+        let registry = self.current.registry_of(row).again(self.alloc)?;
+        Ok(CoreWorld::new(fibers, registry))
     }
 
     /// The ref that the next move of a fiber of a world sets, or changes by an addition, if it does that.
@@ -185,7 +189,10 @@ impl CoreWorlds {
         self.current.go_to(row)?;
         self.trail.clear();
         match leap(&mut self.current, fiber, at_once, &mut self.trail) {
-            Ok(()) => keep(self.alloc, &mut self.rows, self.current.row(), most),
+            Ok(()) => {
+                let row = self.current.row()?;
+                keep(self.alloc, &mut self.rows, &row, most)
+            }
             Err(fault) => fault_met(&mut self.faults, fault),
         }
     }

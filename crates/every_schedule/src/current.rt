@@ -1,28 +1,35 @@
 //! The world at which entries are made.
-ghost use Rattle.std.specs.Prelude.{◌≡◌, ◌⊎◌, ◌<◌, ◌≤◌, length, false, true, IfErr, IfOk, OnErr, OnOk, Some};
-ghost use Rattle.std.specs.Prelude.{Ok as GoesWell, Err as Fails};
+ghost use Rattle.std.specs.Prelude.{◌≡◌, ◌≢◌, ◌⊎◌, ◌<◌, ◌++◌, length, slice_set};
+ghost use Rattle.std.specs.Prelude.{IfErr, IfOk, OnOk, Some, Ok as GoesWell, Err as Fails};
 ghost use Rattle.std.specs.List.{All, slice_get};
+ghost use Rattle.std.specs.Option.{option_to_list};
+ghost use Rattle.cell_registry.specs.declared.call.Call.{Call as TheCall};
 ghost use Rattle.cell_registry.specs.declared.limits.Limits.{Limits as TheLimits};
+ghost use Rattle.cell_registry.specs.Plain.{MayCall};
+ghost use Rattle.fiber_frames.specs.Fiber.{Fiber, ask_of, move};
+ghost use Rattle.fiber_frames.specs.Moves.{moved};
+ghost use Rattle.scheduled_core.specs.Core.{wish_of};
 ghost use Rattle.scheduled_core.specs.Fitting.{AllFit};
-ghost use Rattle.fiber_frames.specs.Fiber.{Fiber};
+ghost use Rattle.scheduled_core.specs.Permits.{IsInRange};
+ghost use Rattle.scheduled_core.specs.Private.Moving.{Refuses, Replied, children};
 ghost use Rattle.world_search.specs.Lists.{IsMore};
-ghost use Rattle.every_schedule.specs.Places.{Place, moves_at, stepped};
-ghost use Rattle.every_schedule.specs.Private.Numbered.{AreAt, AreFirst, IsWorld, IsWorldOf, place_of};
+ghost use Rattle.every_schedule.specs.Places.{moves_at, stepped};
+ghost use Rattle.every_schedule.specs.Private.Numbered.{AreAt, IsWorld, IsWorldOf};
 ghost use Rattle.every_schedule.specs.Private.Standing.{IsOnward, here};
-ghost use Rattle.every_schedule.specs.Private.Turning.{AreTurned, IsNumbered, IsTurned};
+ghost use Rattle.every_schedule.specs.Private.Turning.{AreTurned, IsChild, IsTurned, MayTurn};
 
 use crate::core_world::CoreWorld;
 use crate::pool::{Pool, Pooled};
 use crate::row::Row;
 use crate::turns::{Turn, Turned, Turns};
-use cell_registry::{Limits, PlainRegistry, RunError};
-use effect_term::facts_of;
-use fiber_frames::Config;
-use scheduled_core::Wish;
+use cell_registry::{PlainRegistry, RunError};
+use effect_term::{Reply, facts_of};
+use fiber_frames::{Config, Moved};
+use scheduled_core::{Wish, answer, fault};
 use std::alloc::{AllocError, Global};
 use std::marker::Model;
 
-/// The states that worlds are made of, and the entries that lead from one to another.
+/// The states that worlds are made of, and the moves that lead from one state of a fiber to another.
 #[derive(Drop)]
 pub(crate) struct States {
     fibers: Pool<Config>,
@@ -30,23 +37,23 @@ pub(crate) struct States {
     turns: Turns,
 }
 
-/// A world, by the numbers of its states.
+/// A world: the numbers of its fibers' states, and its registry.
 #[derive(Drop)]
 pub(crate) struct Current {
     alloc: Global,
-    limits: Limits,
     states: States,
-    row: Row,
+    numbers: Vec<u32>,
+    registry: PlainRegistry,
 }
 
 impl Model for Current {
-    ghost use Rattle.std.specs.Prelude.{◌+◌};
+    ghost use Rattle.std.specs.Prelude.{◌+◌, ◌*◌, ◌<◌, length};
+    ghost use Rattle.std.specs.List.{All};
     ghost use Rattle.std.specs.Coded.{codes};
     ghost use Rattle.derived_ops.specs.Stored.{tree_code};
     ghost use Rattle.fiber_frames.specs.contracts.ask.Look as the_look;
     ghost use Rattle.fiber_frames.specs.contracts.mark.Mark as the_mark;
     ghost use Rattle.every_schedule.specs.Sizes.{capped};
-    ghost use Rattle.every_schedule.specs.Private.Numbered.{IsWorld};
     ghost use Rattle.every_schedule.specs.Private.Standing.{Stand};
     ghost use Rattle.every_schedule.specs.Private.Turning.{AreTurned};
 
@@ -55,81 +62,92 @@ impl Model for Current {
     ghost coded = { Prim.hlevel (codes, tree_code, the_look.the_row.coded, the_mark.the_row.coded) };
 
     ghost view = { λ s. record {
-      limits = s.limits;
       fibers = s.states.fibers.items.items;
       registries = s.states.registries.items.items;
-      row = s.row;
+      numbers = s.numbers.items;
+      registry = s.registry;
       bytes = capped (s.states.fibers.bytes + s.states.registries.bytes);
     } };
 
     ghost invariant = { λ s.
-        IsWorld s.limits s.states.fibers.items.items s.states.registries.items.items s.row ×
-        AreTurned s.states.fibers.items.items s.states.registries.items.items s.states.turns.kept.items };
+        All (λ n. n < length s.states.fibers.items.items) s.numbers.items ×
+        AreTurned s.states.fibers.items.items s.states.turns.kept.items };
 }
 
 impl Current {
     /// This world, alone.
     pub(crate) fn new(alloc: Global, first: CoreWorld) -> Result<Current, AllocError>
         ensures here { IfOk result (λ it. here it ≡ first) }
-        ensures limits { IfOk result (λ it. it.limits ≡ first.limits) }
+        ensures fits { AllFit first.world }
     {
+        // Its fibers fit.
+        facts_of(first.fibers());
         let mut states = States {
             fibers: Pool::new(alloc),
             registries: Pool::new(alloc),
             turns: Turns::new(alloc),
         };
-        let limits = first.registry().limits();
-        let mut numbers = Vec::new(alloc);
-        number_born(alloc, &mut numbers, first.fibers(), &mut states.fibers)?;
-        let registry = states.registries.number_of(alloc, first.registry())?;
+        let (fibers, registry) = first.into_parts();
+        let numbers = number_all(alloc, fibers.as_slice(), &mut states.fibers)?;
         Ok(Current {
             alloc,
-            limits,
             states,
-            row: Row::new(registry, numbers),
+            numbers,
+            registry,
         })
     }
 
-    /// The numbers of its states.
-    pub(crate) fn row(&self) -> &Row
-        ensures row { result.now ≡ self.now.row }
-        ensures is { IsWorld self.now.limits self.now.fibers self.now.registries self.now.row }
+    /// The numbers of its states, under which they are kept from now on.
+    pub(crate) fn row(&mut self) -> Result<Row, AllocError>
+        ensures onward { IsOnward self.old self.new }
+        ensures here { here self.new ≡ here self.old }
+        ensures row { IfOk result (λ it. IsWorldOf self.new.fibers self.new.registries it (here self.old)) }
     {
-        &self.row
+        let registry = self
+            .states
+            .registries
+            .number_of(self.alloc, &self.registry)?;
+        let numbers = Vec::from_slice(self.alloc, self.numbers.as_slice())?;
+        Ok(Row::new(registry, numbers))
     }
 
     /// Goes to the world of this row.
     pub(crate) fn go_to(&mut self, row: &Row) -> Result<(), AllocError>
-        requires { IsWorld self.old.limits self.old.fibers self.old.registries row.now }
-        ensures limits { self.new.limits ≡ self.old.limits }
+        requires { (k : TheLimits) × IsWorld k self.old.fibers self.old.registries row.now }
         ensures fibers { self.new.fibers ≡ self.old.fibers }
         ensures registries { self.new.registries ≡ self.old.registries }
-        ensures row { OnOk result (self.new.row ≡ row.now) }
+        ensures here { OnOk result (IsWorldOf self.old.fibers self.old.registries row.now (here self.new)) }
     {
-        self.row = row.again(self.alloc)?;
+        let numbers = Vec::from_slice(self.alloc, row.fibers())?;
+        let registry = self.states.registries.items[row.registry() as usize].again(self.alloc)?;
+        self.numbers = numbers;
+        self.registry = registry;
         Ok(())
     }
 
-    /// The entry of a fiber. Whether it changes anything.
-    pub(crate) fn enter(&mut self, fiber: u16) -> Result<bool, RunError>
+    /// The entry of a fiber.
+    pub(crate) fn enter(&mut self, fiber: u16) -> Result<(), RunError>
+        requires { AllFit (here self.old).world }
         ensures onward { IsOnward self.old self.new }
         ensures goes { OnOk result (stepped (here self.old) fiber ≡ GoesWell (here self.new)) }
-        ensures same { IfOk result (λ it. it ≡ false → here self.new ≡ here self.old) }
-        ensures stays { OnErr result (here self.new ≡ here self.old) }
-        ensures stops { IfErr result (λ e. (e ≡ RunError.NoMemory) ⊎ (stepped (here self.old) fiber ≡ Fails e)) }
+        ensures fits { OnOk result (AllFit (here self.new).world) }
+        ensures stops { IfErr result (λ e. (e ≡ RunError.NoMemory) ⊎
+            ((stepped (here self.old) fiber ≡ Fails e) × (here self.new ≡ here self.old))) }
     {
-        if !self.has_move(fiber) {
-            return Ok(false);
-        }
         let place = usize::from(fiber);
-        let state = self.row.fibers()[place];
-        let registry = self.row.registry();
-        let turn = turn_of(self.alloc, &mut self.states, &self.row, fiber, state)?;
-        if turn.state == state && turn.registry == registry && turn.child.is_none() {
-            return Ok(false);
+        if place >= self.numbers.len() {
+            return Ok(());
         }
-        self.row.go_on(place, turn)?;
-        Ok(true)
+        let state = self.numbers[place];
+        let wish = Wish::of(self.states.fibers.items[state as usize].ask());
+        if wish == Wish::Nothing {
+            return Ok(());
+        }
+        let reply = replied(&mut self.registry, fiber, wish)?;
+        let turn = turn_of(self.alloc, &mut self.states, state, reply)?;
+        self.registry.forget_waits();
+        put(&mut self.numbers, place, turn)?;
+        Ok(())
     }
 
     /// Whether the fiber of this number is born and has a next move.
@@ -142,31 +160,24 @@ impl Current {
 
     /// How many fibers are born.
     pub(crate) fn born(&self) -> usize
-        ensures born { result ≡ length (here self.now).world.fibers }
-        ensures few { result ≤ 1000 }
-        ensures within { result ≤ self.now.limits.fibers }
-        ensures fits { AllFit (here self.now).world }
+        ensures { result ≡ length (here self.now).world.fibers }
     {
-        // The registry is within its limits, and has given each of the fibers its number.
-        facts_of(self.registry().limits());
-        self.row.fibers().len()
+        self.numbers.len()
     }
 
     /// The state of a fiber.
     pub(crate) fn fiber(&self, place: usize) -> &Config
         requires { place < length (here self.now).world.fibers }
-        ensures fiber { slice_get (here self.now).world.fibers place ≡ Some result.now }
-        ensures fits { AllFit (here self.now).world }
+        ensures { slice_get (here self.now).world.fibers place ≡ Some result.now }
     {
-        let number = self.row.fibers()[place];
-        &self.states.fibers.items[number as usize]
+        &self.states.fibers.items[self.numbers[place] as usize]
     }
 
     /// The registry.
     pub(crate) fn registry(&self) -> &PlainRegistry
-        ensures { result.now ≡ record { limits = self.now.limits; state = (here self.now).world.cells } }
+        ensures { result.now ≡ record { limits = (here self.now).limits; state = (here self.now).world.cells } }
     {
-        &self.states.registries.items[self.row.registry() as usize]
+        &self.registry
     }
 
     /// About how many bytes the states take.
@@ -186,17 +197,9 @@ impl Current {
         &self.states.fibers
     }
 
-    /// The world of a row.
-    pub(crate) fn world(&self, row: &Row) -> Result<CoreWorld, AllocError>
-        requires { IsWorld self.now.limits self.now.fibers self.now.registries row.now }
-        ensures { IfOk result (IsWorldOf self.now.fibers self.now.registries row.now) }
-    {
-        world_of_row(self.alloc, &self.states, row)
-    }
-
     /// The registry of a row.
     pub(crate) fn registry_of(&self, row: &Row) -> &PlainRegistry
-        requires { IsWorld self.now.limits self.now.fibers self.now.registries row.now }
+        requires { row.now.registry < length self.now.registries }
         ensures { slice_get self.now.registries row.now.registry ≡ Some result.now }
     {
         &self.states.registries.items[row.registry() as usize]
@@ -213,104 +216,105 @@ fn moves(fiber: &Config) -> bool
     }
 }
 
-// What the entry of a fiber, which has a next move, leads to: it is made only if it wasn't made before.
+// The registry's reply to what the next move of a fiber wants.
+fn replied(registry: &mut PlainRegistry, fiber: u16, wish: Wish) -> Result<Reply, RunError>
+    requires { (call : TheCall) → wish ≡ Wish.Shared call → IsInRange call → MayCall registry.old fiber call }
+    ensures made { IfOk result (λ reply. (g : Fiber) → wish_of (ask_of g) ≡ wish → wish ≢ Wish.Nothing →
+        Replied registry.old fiber g reply registry.new) }
+    ensures refused { IfErr result (λ e. (registry.new ≡ registry.old) × ((g : Fiber) → wish_of (ask_of g) ≡ wish →
+        Refuses registry.old fiber g e)) }
+{
+    match wish {
+        Wish::Shared(call) => match answer(registry, fiber, call) {
+            Ok(reply) => Ok(reply),
+            Err(error) => Err(fault(fiber, error)),
+        },
+        Wish::Alone | Wish::Nothing => Ok(Reply::Done),
+    }
+}
+
+// The fiber of this place gets its new state, and its child the next place.
+fn put(numbers: &mut Vec<u32>, place: usize, turn: Turn) -> Result<(), AllocError>
+    requires { place < length numbers.old.items }
+    ensures { OnOk result (numbers.new.items ≡
+        slice_set (numbers.old.items ++ option_to_list turn.child) place turn.state) }
+{
+    if let Some(child) = turn.child {
+        numbers.push(child)?;
+    }
+    numbers[place] = turn.state;
+    Ok(())
+}
+
+// What the move of this state under this reply leads to: it is made only if it wasn't made before.
 fn turn_of(
     alloc: Global,
     states: &mut States,
-    row: &Row,
-    fiber: u16,
     state: u32,
-) -> Result<Turn, RunError>
-    requires world { (k : TheLimits) ×
-        IsWorld k states.old.fibers.items.items states.old.registries.items.items row.now }
-    requires state { slice_get row.now.fibers fiber ≡ Some state }
-    requires moves { (g : Fiber) → slice_get states.old.fibers.items.items state ≡ Some g →
-        moves_at (Some g) ≡ true }
-    requires turns { AreTurned states.old.fibers.items.items states.old.registries.items.items
-        states.old.turns.kept.items }
+    reply: Reply,
+) -> Result<Turn, AllocError>
+    requires state { state < length states.old.fibers.items.items }
+    requires may { (g : Fiber) → slice_get states.old.fibers.items.items state ≡ Some g → MayTurn g reply }
+    requires turns { AreTurned states.old.fibers.items.items states.old.turns.kept.items }
     ensures fibers { IsMore states.old.fibers.items.items states.new.fibers.items.items }
-    ensures registries { IsMore states.old.registries.items.items states.new.registries.items.items }
-    ensures turns { AreTurned states.new.fibers.items.items states.new.registries.items.items
-        states.new.turns.kept.items }
-    ensures turned { IfOk result (λ turn. IsTurned states.new.fibers.items.items states.new.registries.items.items
-        record { registry = row.now.registry; state = state; fiber = fiber; turn = turn }) }
-    ensures stops { IfErr result (λ e. (e ≡ RunError.NoMemory) ⊎ ((p : Place) →
-        IsWorldOf states.old.fibers.items.items states.old.registries.items.items row.now p →
-        stepped p fiber ≡ Fails e)) }
+    ensures registries { states.new.registries ≡ states.old.registries }
+    ensures turns { AreTurned states.new.fibers.items.items states.new.turns.kept.items }
+    ensures turned { IfOk result (λ turn. IsTurned states.new.fibers.items.items
+        record { state = state; reply = reply; turn = turn }) }
 {
-    if let Some(turn) = states.turns.find(row.registry(), state, fiber) {
+    if let Some(turn) = states.turns.find(state, reply) {
         return Ok(turn);
     }
-    let turn = made(alloc, &mut *states, row, fiber, state)?;
-    states.turns.add(Turned {
-        registry: row.registry(),
-        state,
-        fiber,
-        turn,
-    })?;
+    let turn = made(alloc, &mut states.fibers, state, reply)?;
+    states.turns.add(Turned { state, reply, turn })?;
     Ok(turn)
 }
 
 // The same, where it is made.
 fn made(
     alloc: Global,
-    states: &mut States,
-    row: &Row,
-    fiber: u16,
+    pool: &mut Pool<Config>,
     state: u32,
-) -> Result<Turn, RunError>
-    requires world { (k : TheLimits) ×
-        IsWorld k states.old.fibers.items.items states.old.registries.items.items row.now }
-    requires state { slice_get row.now.fibers fiber ≡ Some state }
-    requires moves { (g : Fiber) → slice_get states.old.fibers.items.items state ≡ Some g →
-        moves_at (Some g) ≡ true }
-    ensures fibers { IsMore states.old.fibers.items.items states.new.fibers.items.items }
-    ensures registries { IsMore states.old.registries.items.items states.new.registries.items.items }
-    ensures turns { states.new.turns ≡ states.old.turns }
-    ensures turned { IfOk result (λ turn. IsTurned states.new.fibers.items.items states.new.registries.items.items
-        record { registry = row.now.registry; state = state; fiber = fiber; turn = turn }) }
-    ensures stops { IfErr result (λ e. (e ≡ RunError.NoMemory) ⊎ ((p : Place) →
-        IsWorldOf states.old.fibers.items.items states.old.registries.items.items row.now p →
-        stepped p fiber ≡ Fails e)) }
+    reply: Reply,
+) -> Result<Turn, AllocError>
+    requires state { state < length pool.old.items.items }
+    requires may { (g : Fiber) → slice_get pool.old.items.items state ≡ Some g → MayTurn g reply }
+    ensures more { IsMore pool.old.items.items pool.new.items.items }
+    ensures turned { IfOk result (λ turn. IsTurned pool.new.items.items
+        record { state = state; reply = reply; turn = turn }) }
 {
-    let world = world_of_row(alloc, &*states, row)?;
-    let next = world.enter(fiber)?;
-    let fibers = next.fibers();
-    let child = child_of(alloc, &mut states.fibers, fibers, row.fibers().len())?;
-    let moved = states.fibers.number_of(alloc, &fibers[usize::from(fiber)])?;
-    let registry = states.registries.number_of(alloc, next.registry())?;
-    Ok(Turn {
-        state: moved,
-        registry,
-        child,
-    })
+    let mut fiber = pool.items[state as usize].again(alloc)?;
+    let child = resumed(&mut fiber, reply)?;
+    let state = pool.number_of(alloc, &fiber)?;
+    let child = child_of(alloc, pool, child)?;
+    Ok(Turn { state, child })
 }
 
-// The number of the fiber at this place, if there is one.
-fn child_of(
-    alloc: Global,
-    pool: &mut Pool<Config>,
-    fibers: &[Config],
-    place: usize,
-) -> Result<Option<u32>, AllocError>
-    ensures more { IsMore pool.old.items.items pool.new.items.items }
-    ensures child { IfOk result (IsNumbered pool.new.items.items (slice_get fibers.now place)) }
+// The move under a reply, and the child that it starts, if it starts one.
+fn resumed(fiber: &mut Config, reply: Reply) -> Result<Option<Config>, AllocError>
+    requires { MayTurn fiber.old reply }
+    ensures state { OnOk result (fiber.new ≡ move fiber.old reply) }
+    ensures child { IfOk result (λ child. option_to_list child ≡ children (moved fiber.old reply)) }
 {
-    match fibers.get(place) {
-        None => Ok(None),
-        Some(child) => Ok(Some(pool.number_of(alloc, child)?)),
+    match fiber.resume(reply)? {
+        Moved::Born(child) => Ok(Some(child)),
+        Moved::Plain | Moved::Waited | Moved::Ceded | Moved::Ended(_) => Ok(None),
     }
 }
 
-// The world of a row.
-fn world_of_row(alloc: Global, states: &States, row: &Row) -> Result<CoreWorld, AllocError>
-    requires { (k : TheLimits) ×
-        IsWorld k states.now.fibers.items.items states.now.registries.items.items row.now }
-    ensures { IfOk result (IsWorldOf states.now.fibers.items.items states.now.registries.items.items row.now) }
+// The number of a child, if there is one.
+fn child_of(
+    alloc: Global,
+    pool: &mut Pool<Config>,
+    child: Option<Config>,
+) -> Result<Option<u32>, AllocError>
+    ensures more { IsMore pool.old.items.items pool.new.items.items }
+    ensures child { IfOk result (λ it. IsChild pool.new.items.items it (option_to_list child)) }
 {
-    let fibers = fibers_of(alloc, &states.fibers, row.fibers())?;
-    let registry = states.registries.items[row.registry() as usize].again(alloc)?;
-    Ok(CoreWorld::new(fibers, registry))
+    match child {
+        None => Ok(None),
+        Some(it) => Ok(Some(pool.number_of(alloc, &it)?)),
+    }
 }
 
 /// The fibers of these numbers.
@@ -330,20 +334,19 @@ pub(crate) fn fibers_of(
     Ok(fibers)
 }
 
-// The numbers of fibers, of which the first are known.
-fn number_born(
+// The numbers of fibers.
+fn number_all(
     alloc: Global,
-    numbers: &mut Vec<u32>,
     fibers: &[Config],
     pool: &mut Pool<Config>,
-) -> Result<(), AllocError>
-    requires { AreFirst pool.old.items.items numbers.old.items fibers.now }
+) -> Result<Vec<u32>, AllocError>
     ensures more { IsMore pool.old.items.items pool.new.items.items }
-    ensures numbers { OnOk result (AreAt pool.new.items.items numbers.new.items fibers.now) }
+    ensures numbers { IfOk result (λ it. AreAt pool.new.items.items it.items fibers.now) }
 {
-    for i in numbers.len()..fibers.len() {
+    let mut numbers = Vec::new(alloc);
+    for i in 0..fibers.len() {
         let number = pool.number_of(alloc, &fibers[i])?;
         numbers.push(number)?;
     }
-    Ok(())
+    Ok(numbers)
 }

@@ -1,7 +1,8 @@
 //! Entries with own moves behind them.
-ghost use Rattle.std.specs.Prelude.{◌≡◌, ◌≢◌, ◌⊎◌, ◌++◌, ◌<◌, [], ◌∷◌, false, true};
+ghost use Rattle.std.specs.Prelude.{◌≡◌, ◌≢◌, ◌⊎◌, ◌++◌, ◌<◌, ◌≤◌, [], ◌∷◌, length, false, true};
 ghost use Rattle.std.specs.Prelude.{IfErr, IfOk, OnOk};
 ghost use Rattle.std.specs.Prelude.{Ok as GoesWell, Err as Fails, Result as TheResult};
+ghost use Rattle.scheduled_core.specs.Fitting.{AllFit};
 ghost use Rattle.every_schedule.specs.Places.{Place, stepped};
 ghost use Rattle.every_schedule.specs.Reduced.{after_own, is_made, leapt, own_of, pushed, pushed_once};
 ghost use Rattle.every_schedule.specs.Private.Standing.{IsOnward, here};
@@ -10,6 +11,7 @@ ghost use Rattle.every_schedule.specs.Private.Trails.{IsTrail};
 use crate::current::Current;
 use crate::own_moves::{is_own_move, may_be_made};
 use cell_registry::RunError;
+use effect_term::facts_of;
 use std::alloc::AllocError;
 
 /// Which own moves are made at once behind an entry.
@@ -29,21 +31,35 @@ pub(crate) fn leap(
     at_once: AtOnce,
     trail: &mut Vec<u16>,
 ) -> Result<(), RunError>
+    requires { AllFit (here current.old).world }
     ensures onward { IsOnward current.old current.new }
     ensures goes { OnOk result (leapt at_once (here current.old) fiber ≡ GoesWell (here current.new)) }
+    ensures fits { OnOk result (AllFit (here current.new).world) }
     ensures trail { OnOk result (IsTrail trail.old.items trail.new.items (here current.old)
         (GoesWell (here current.new))) }
     ensures stops { IfErr result (λ e. (e ≡ RunError.NoMemory) ⊎
         ((leapt at_once (here current.old) fiber ≡ Fails e) ×
         IsTrail trail.old.items trail.new.items (here current.old) (Fails e))) }
 {
-    if usize::from(fiber) >= current.born() {
+    if usize::from(fiber) >= few_born(&*current) {
         return Ok(());
     }
     note(&mut *trail, &*current, fiber)?;
     current.enter(fiber)?;
     push(current, at_once, trail)?;
     Ok(())
+}
+
+// How many fibers are born.
+fn few_born(current: &Current) -> usize
+    requires { AllFit (here current.now).world }
+    ensures born { result ≡ length (here current.now).world.fibers }
+    ensures few { result ≤ 1000 }
+    ensures within { result ≤ (here current.now).limits.fibers }
+{
+    // The registry is within its limits, and has given each of the fibers its number.
+    facts_of(current.registry().limits());
+    current.born()
 }
 
 // The entry of a fiber, if it has a next move: else it changes nothing.
@@ -68,8 +84,10 @@ fn add(trail: &mut Vec<u16>, fiber: u16) -> Result<(), AllocError>
 
 // Such own moves of each fiber.
 fn push(current: &mut Current, at_once: AtOnce, trail: &mut Vec<u16>) -> Result<(), AllocError>
+    requires { AllFit (here current.old).world }
     ensures onward { IsOnward current.old current.new }
     ensures goes { OnOk result (here current.new ≡ pushed at_once.stores at_once.most (here current.old)) }
+    ensures fits { OnOk result (AllFit (here current.new).world) }
     ensures trail { OnOk result (IsTrail trail.old.items trail.new.items (here current.old)
         (GoesWell (here current.new))) }
 {
@@ -87,13 +105,15 @@ fn push_once(
     stores: bool,
     trail: &mut Vec<u16>,
 ) -> Result<bool, AllocError>
+    requires { AllFit (here current.old).world }
     ensures onward { IsOnward current.old current.new }
     ensures goes { OnOk result (here current.new ≡ pushed_once stores (here current.old)) }
     ensures stays { IfOk result (λ it. it ≡ false → pushed_once stores (here current.new) ≡ here current.new) }
+    ensures fits { OnOk result (AllFit (here current.new).world) }
     ensures trail { OnOk result (IsTrail trail.old.items trail.new.items (here current.old)
         (GoesWell (here current.new))) }
 {
-    let born = current.born();
+    let born = few_born(&*current);
     let mut moved = false;
     for done in 0..born {
         let fiber = (born - 1 - done) as u16;
@@ -117,10 +137,12 @@ fn push_fiber(
     fiber: u16,
     trail: &mut Vec<u16>,
 ) -> Result<bool, AllocError>
-    requires { fiber < 1000 }
+    requires few { fiber < 1000 }
+    requires fits { AllFit (here current.old).world }
     ensures onward { IsOnward current.old current.new }
     ensures goes { OnOk result (here current.new ≡ after_own (here current.old) (own_of stores (here current.old) fiber)) }
     ensures stays { IfOk result (λ it. it ≡ false → here current.new ≡ here current.old) }
+    ensures fits { OnOk result (AllFit (here current.new).world) }
     ensures trail { OnOk result (IsTrail trail.old.items trail.new.items (here current.old)
         (GoesWell (here current.new))) }
 {
@@ -128,12 +150,10 @@ fn push_fiber(
         return Ok(false);
     }
     match current.enter(fiber) {
-        Ok(true) => {
+        Ok(()) => {
             add(trail, fiber)?;
             Ok(true)
         }
-        // A wait that goes on changes nothing.
-        Ok(false) => Ok(false),
         Err(fault) => {
             if is_memory(fault) {
                 return Err(AllocError);
@@ -145,9 +165,10 @@ fn push_fiber(
 
 // Whether a fiber is born and its next move is an own one that may be made at once.
 fn has_own_move(current: &Current, stores: bool, fiber: u16) -> bool
+    requires { AllFit (here current.now).world }
     ensures { result ≡ is_made stores (here current.now).world fiber }
 {
-    usize::from(fiber) < current.born()
+    usize::from(fiber) < few_born(current)
         && is_own_move(current, fiber)
         && may_be_made(current, stores, fiber)
 }

@@ -20,7 +20,8 @@ use scheduled_core::Wish;
 /// Whether the next move of this fiber is an own one.
 pub(crate) fn is_own_move(current: &Current, by: u16) -> bool
     requires born { by < length (here current.now).world.fibers }
-    requires within { by < current.now.limits.fibers }
+    requires within { by < (here current.now).limits.fibers }
+    requires fits { AllFit (here current.now).world }
     ensures { result ≡ has_own (here current.now).world by (slice_get (here current.now).world.fibers by) }
 {
     let fiber = current.fiber(usize::from(by));
@@ -62,7 +63,8 @@ pub(crate) fn stored_in(wish: Wish) -> Option<u16>
 // Whether this call of a fiber is an own one.
 fn is_own_call(current: &Current, by: u16, call: Call) -> bool
     requires born { by < (here current.now).world.cells.next_fiber }
-    requires within { by < current.now.limits.fibers }
+    requires within { by < (here current.now).limits.fibers }
+    requires fits { AllFit (here current.now).world }
     requires named { IsNamed (here current.now).world.cells call }
     ensures { result ≡ is_so (here current.now).world by call }
 {
@@ -87,7 +89,8 @@ fn is_own_call(current: &Current, by: u16, call: Call) -> bool
 
 // Whether no other fiber can request the cancellation of this one any more.
 fn is_left_alone(current: &Current, fiber: u16) -> bool
-    requires { fiber < (here current.now).world.cells.next_fiber }
+    requires given { fiber < (here current.now).world.cells.next_fiber }
+    requires fits { AllFit (here current.now).world }
     ensures { result ≡ has_no_other (here current.now).world fiber }
 {
     is_kept(current, Use::Cancels, fiber, fiber)
@@ -95,9 +98,9 @@ fn is_left_alone(current: &Current, fiber: u16) -> bool
 
 // Whether no fiber but this one can use a number so any more. The number is given.
 fn is_kept(current: &Current, what: Use, by: u16, number: u16) -> bool
-    requires { number < next_of (used_place what) (here current.now).world.cells }
-    ensures kept { result ≡ is_own_number what (here current.now).world by number }
-    ensures fits { AllFit (here current.now).world }
+    requires given { number < next_of (used_place what) (here current.now).world.cells }
+    requires fits { AllFit (here current.now).world }
+    ensures { result ≡ is_own_number what (here current.now).world by number }
 {
     for place in 0..current.born() {
         if place != usize::from(by) && current.fiber(place).uses(what, number) {
@@ -109,6 +112,7 @@ fn is_kept(current: &Current, what: Use, by: u16, number: u16) -> bool
 
 // Whether a fiber has ended.
 fn has_come_to_end(current: &Current, fiber: u16) -> bool
+    requires { AllFit (here current.now).world }
     ensures { result ≡ has_ended (here current.now).world fiber }
 {
     let place = usize::from(fiber);

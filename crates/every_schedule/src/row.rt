@@ -1,9 +1,7 @@
 //! A world by the numbers of its states.
-ghost use Rattle.std.specs.Prelude.{◌≡◌, ◌++◌, ◌<◌, length, slice_set, IfOk, OnErr, OnOk, true};
-ghost use Rattle.std.specs.Option.{option_to_list};
+ghost use Rattle.std.specs.Prelude.{◌≡◌, IfOk, true};
 
 use crate::pool::Pooled;
-use crate::turns::Turn;
 use std::alloc::{AllocError, Global};
 use std::marker::Model;
 
@@ -45,23 +43,6 @@ impl Row {
         ensures { result.now ≡ self.now.fibers }
     {
         self.fibers.as_slice()
-    }
-
-    /// Goes on to the row behind an entry of the fiber of this place, which leads to these numbers.
-    pub(crate) fn go_on(&mut self, place: usize, turn: Turn) -> Result<(), AllocError>
-        requires { place < length self.old.fibers }
-        ensures goes { OnOk result (self.new ≡ record {
-            registry = turn.registry;
-            fibers = slice_set (self.old.fibers ++ option_to_list turn.child) place turn.state;
-        }) }
-        ensures stays { OnErr result (self.new ≡ self.old) }
-    {
-        if let Some(child) = turn.child {
-            self.fibers.push(child)?;
-        }
-        self.fibers[place] = turn.state;
-        self.registry = turn.registry;
-        Ok(())
     }
 }
 

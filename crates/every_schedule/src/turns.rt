@@ -1,37 +1,28 @@
-//! What entries of fibers make of their states, kept by the numbers of states.
+//! What moves make of the states of fibers, kept by the numbers of states.
 ghost use Rattle.std.specs.Prelude.{◌≡◌, ◌++◌, [], ◌∷◌, IfSome, OnErr, OnOk};
-ghost use Rattle.every_schedule.specs.Private.Turning.{IsAmongTurned};
+ghost use Rattle.every_schedule.specs.Private.Turning.{IsAmong};
 
+use effect_term::{CancelReply, JoinReply, Outcome, Reply};
 use std::alloc::{AllocError, Global};
 use std::collections::HashMap;
 
-/// The numbers of what an entry of a fiber leads to: of the fiber's state, of the registry, and of the state of the
-/// child that is born, if there is one.
-#[derive(Clone, Copy, Drop)]
+/// The number of a fiber's state behind a move, and that of the child which the move starts, if it starts one.
+#[derive(Clone, Copy)]
 pub(crate) struct Turn {
     pub(crate) state: u32,
-    pub(crate) registry: u32,
     pub(crate) child: Option<u32>,
 }
 
-/// An entry of a fiber in the state of this number, beside the registry of this number, and what it leads to.
-#[derive(Clone, Copy, Drop)]
+/// The move of a fiber in the state of this number, under this reply, and what it leads to.
+#[derive(Clone, Copy)]
 pub(crate) struct Turned {
-    pub(crate) registry: u32,
     pub(crate) state: u32,
-    pub(crate) fiber: u16,
+    pub(crate) reply: Reply,
     pub(crate) turn: Turn,
 }
 
-// A number by which such an entry is looked up.
-fn key(registry: u32, state: u32, fiber: u16) -> u64 {
-    let first = (u64::from(registry) ^ 0x9E37_79B9_7F4A_7C15).wrapping_mul(0x9E37_79B9_7F4A_7C15);
-    let second = (first ^ u64::from(state)).wrapping_mul(0xC2B2_AE3D_27D4_EB4F);
-    ((second ^ (second >> 32)) ^ u64::from(fiber)).wrapping_mul(0x9E37_79B9_7F4A_7C15)
-}
-
-/// The entries that were made. One is looked up by its key, under which the last one of this key is filed. Whatever
-/// stands there, only the entry that is looked for is found.
+/// The moves that were made. One is looked up by its key, under which the last one of this key is filed. Whatever
+/// stands there, only the move that is looked for is found.
 #[derive(Drop)]
 pub(crate) struct Turns {
     pub(crate) kept: Vec<Turned>,
@@ -39,7 +30,7 @@ pub(crate) struct Turns {
 }
 
 impl Turns {
-    /// No entry yet.
+    /// No move yet.
     pub(crate) fn new(alloc: Global) -> Turns
         ensures { result.kept.items ≡ [] }
     {
@@ -49,33 +40,63 @@ impl Turns {
         }
     }
 
-    /// What the entry of a fiber in this state beside this registry leads to, if it was made before.
-    pub(crate) fn find(&self, registry: u32, state: u32, fiber: u16) -> Option<Turn>
-        ensures { IfSome result (λ turn. IsAmongTurned self.now.kept.items
-            record { registry = registry; state = state; fiber = fiber; turn = turn }) }
+    /// What the move of this state under this reply leads to, if it was made before.
+    pub(crate) fn find(&self, state: u32, reply: Reply) -> Option<Turn>
+        ensures { IfSome result (λ turn. IsAmong self.now.kept.items
+            record { state = state; reply = reply; turn = turn }) }
     {
-        let number = self.last.get(&key(registry, state, fiber)).copied()?;
+        let number = self.last.get(&key(state, reply)).copied()?;
         let found = self.kept.get(number as usize)?;
-        if found.registry == registry && found.state == state && found.fiber == fiber {
+        if found.state == state && found.reply == reply {
             return Some(found.turn);
         }
         None
     }
 
-    /// Keeps one more entry.
+    /// Keeps one more move.
     pub(crate) fn add(&mut self, turned: Turned) -> Result<(), AllocError>
         ensures added { OnOk result (self.new.kept.items ≡ self.old.kept.items ++ turned ∷ []) }
-        ensures kept { OnErr result (self.new.kept.items ≡ self.old.kept.items) }
+        ensures same { OnErr result (self.new.kept.items ≡ self.old.kept.items) }
     {
         let place = self.kept.len();
         if place >= u32::MAX as usize {
             return Err(AllocError);
         }
-        self.last.insert(
-            key(turned.registry, turned.state, turned.fiber),
-            place as u32,
-        )?;
+        self.last
+            .insert(key(turned.state, turned.reply), place as u32)?;
         self.kept.push(turned)?;
         Ok(())
+    }
+}
+
+// A number by which a move is looked up.
+fn key(state: u32, reply: Reply) -> u64 {
+    let (kind, value) = reply_key(reply);
+    mixed(mixed(u64::from(state), kind), value)
+}
+
+// A number, and then this one in it.
+fn mixed(key: u64, word: u64) -> u64 {
+    let product = (key ^ word).wrapping_mul(0x9E37_79B9_7F4A_7C15);
+    product ^ (product >> 32)
+}
+
+// Two numbers that tell one reply from another.
+fn reply_key(reply: Reply) -> (u64, u64) {
+    match reply {
+        Reply::Done => (1, 0),
+        Reply::Seen(seen) => (2, u64::from(seen)),
+        Reply::Cancel(CancelReply::Asked) => (3, 0),
+        Reply::Cancel(CancelReply::Already) => (3, 1),
+        Reply::Cancel(CancelReply::Ended) => (3, 2),
+        Reply::Join(JoinReply::Waits) => (4, 0),
+        Reply::Join(JoinReply::Ended(Outcome::Succeeded(value))) => (5, value.get().cast_unsigned()),
+        Reply::Join(JoinReply::Ended(Outcome::Errored(code))) => (6, code.get().cast_unsigned()),
+        Reply::Join(JoinReply::Ended(Outcome::Canceled)) => (7, 0),
+        Reply::Number(number) => (8, u64::from(number)),
+        Reply::Value(value) => (9, value.get().cast_unsigned()),
+        Reply::Completed(completed) => (10, u64::from(completed)),
+        Reply::Read(None) => (11, 0),
+        Reply::Read(Some(value)) => (12, value.get().cast_unsigned()),
     }
 }
