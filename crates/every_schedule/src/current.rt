@@ -6,7 +6,10 @@ ghost use Rattle.std.specs.Option.{option_to_list};
 ghost use Rattle.cell_registry.specs.declared.call.Call.{Call as TheCall};
 ghost use Rattle.cell_registry.specs.declared.limits.Limits.{Limits as TheLimits};
 ghost use Rattle.cell_registry.specs.Plain.{MayCall};
-ghost use Rattle.fiber_frames.specs.Fiber.{Fiber, ask_of, move};
+ghost use Rattle.fiber_frames.specs.Fiber.{Fiber, ask_of, move, waits_alone};
+ghost use Rattle.fiber_frames.specs.Naming.{NamedRun};
+ghost use Rattle.fiber_frames.specs.Uses.{is_some, uses_in};
+ghost use Rattle.derived_ops.specs.Naming.{Given};
 ghost use Rattle.fiber_frames.specs.Moves.{moved};
 ghost use Rattle.scheduled_core.specs.Core.{wish_of};
 ghost use Rattle.scheduled_core.specs.Fitting.{AllFit};
@@ -16,15 +19,17 @@ ghost use Rattle.world_search.specs.Lists.{IsMore};
 ghost use Rattle.every_schedule.specs.Places.{moves_at, stepped};
 ghost use Rattle.every_schedule.specs.Private.Numbered.{AreAt, IsWorld, IsWorldOf};
 ghost use Rattle.every_schedule.specs.Private.Standing.{IsOnward, here};
+ghost use Rattle.every_schedule.specs.Private.Knowing.{AreKnownOf};
 ghost use Rattle.every_schedule.specs.Private.Turning.{AreTurned, IsChild, IsTurned, MayTurn};
 
 use crate::core_world::CoreWorld;
+use crate::known::Known;
 use crate::pool::{Pool, Pooled};
 use crate::row::Row;
 use crate::turns::{Turn, Turned, Turns};
-use cell_registry::{PlainRegistry, RunError};
+use cell_registry::{Limits, PlainRegistry, RunError};
 use effect_term::{Reply, facts_of};
-use fiber_frames::{Config, Moved};
+use fiber_frames::{Config, Moved, Use};
 use scheduled_core::{Wish, answer, fault};
 use std::alloc::{AllocError, Global};
 use std::marker::Model;
@@ -35,6 +40,8 @@ pub(crate) struct States {
     fibers: Pool<Config>,
     registries: Pool<PlainRegistry>,
     turns: Turns,
+    // Of the first states of fibers, what is known of each.
+    known: Vec<Known>,
 }
 
 /// A world: the numbers of its fibers' states, and its registry.
@@ -55,6 +62,7 @@ impl Model for Current {
     ghost use Rattle.fiber_frames.specs.contracts.mark.Mark as the_mark;
     ghost use Rattle.every_schedule.specs.Sizes.{capped};
     ghost use Rattle.every_schedule.specs.Private.Standing.{Stand};
+    ghost use Rattle.every_schedule.specs.Private.Knowing.{AreKnownOf};
     ghost use Rattle.every_schedule.specs.Private.Turning.{AreTurned};
 
     ghost Value = { Stand };
@@ -71,7 +79,8 @@ impl Model for Current {
 
     ghost invariant = { λ s.
         All (λ n. n < length s.states.fibers.items.items) s.numbers.items ×
-        AreTurned s.states.fibers.items.items s.states.turns.kept.items };
+        AreTurned s.states.fibers.items.items s.states.turns.kept.items ×
+        AreKnownOf s.states.fibers.items.items s.states.known.items };
 }
 
 impl Current {
@@ -86,9 +95,16 @@ impl Current {
             fibers: Pool::new(alloc),
             registries: Pool::new(alloc),
             turns: Turns::new(alloc),
+            known: Vec::new(alloc),
         };
         let (fibers, registry) = first.into_parts();
         let numbers = number_all(alloc, fibers.as_slice(), &mut states.fibers)?;
+        know_all(
+            alloc,
+            &states.fibers,
+            registry.limits(),
+            &mut states.known,
+        )?;
         Ok(Current {
             alloc,
             states,
@@ -138,13 +154,18 @@ impl Current {
         if place >= self.numbers.len() {
             return Ok(());
         }
-        let state = self.numbers[place];
-        let wish = Wish::of(self.states.fibers.items[state as usize].ask());
+        let wish = self.wish(place);
         if wish == Wish::Nothing {
             return Ok(());
         }
         let reply = replied(&mut self.registry, fiber, wish)?;
-        let turn = turn_of(self.alloc, &mut self.states, state, reply)?;
+        let turn = turn_of(
+            self.alloc,
+            &mut self.states,
+            self.registry.limits(),
+            self.numbers[place],
+            reply,
+        )?;
         self.registry.forget_waits();
         put(&mut self.numbers, place, turn)?;
         Ok(())
@@ -155,7 +176,7 @@ impl Current {
         ensures { result ≡ moves_at (slice_get (here self.now).world.fibers fiber) }
     {
         let place = usize::from(fiber);
-        place < self.born() && moves(self.fiber(place))
+        place < self.born() && self.wish(place) != Wish::Nothing
     }
 
     /// How many fibers are born.
@@ -165,12 +186,45 @@ impl Current {
         self.numbers.len()
     }
 
-    /// The state of a fiber.
-    pub(crate) fn fiber(&self, place: usize) -> &Config
+    /// What the next move of a fiber wants.
+    pub(crate) fn wish(&self, place: usize) -> Wish
         requires { place < length (here self.now).world.fibers }
-        ensures { slice_get (here self.now).world.fibers place ≡ Some result.now }
+        ensures wish { (g : Fiber) → slice_get (here self.now).world.fibers place ≡ Some g → result ≡ wish_of (ask_of g) }
     {
-        &self.states.fibers.items[self.numbers[place] as usize]
+        let number = self.numbers[place] as usize;
+        match self.states.known.get(number) {
+            Some(known) => known.wish,
+            None => Wish::of(self.states.fibers.items[number].ask()),
+        }
+    }
+
+    /// Whether the next move of a fiber is a wait that never ends.
+    pub(crate) fn waits_alone(&self, place: usize) -> bool
+        requires { place < length (here self.now).world.fibers }
+        ensures { (g : Fiber) → slice_get (here self.now).world.fibers place ≡ Some g → result ≡ waits_alone g }
+    {
+        let number = self.numbers[place] as usize;
+        match self.states.known.get(number) {
+            Some(known) => known.waits_alone,
+            None => self.states.fibers.items[number].waits_alone(),
+        }
+    }
+
+    /// Whether a fiber can still use the fiber, the ref or the deferred of this number so.
+    pub(crate) fn uses(&self, place: usize, what: Use, number: u16) -> bool
+        requires { place < length (here self.now).world.fibers }
+        ensures { (given : Given) (g : Fiber) → slice_get (here self.now).world.fibers place ≡ Some g →
+            NamedRun given g.running → result ≡ is_some (uses_in what number g.running) }
+    {
+        let state = self.numbers[place] as usize;
+        let known = match self.states.known.get(state) {
+            Some(known) => known.uses(what).get(usize::from(number)).copied(),
+            None => None,
+        };
+        match known {
+            Some(it) => it,
+            None => self.states.fibers.items[state].uses(what, number),
+        }
     }
 
     /// The registry.
@@ -203,16 +257,6 @@ impl Current {
         ensures { slice_get self.now.registries row.now.registry ≡ Some result.now }
     {
         &self.states.registries.items[row.registry() as usize]
-    }
-}
-
-// Whether a fiber has a next move.
-fn moves(fiber: &Config) -> bool
-    ensures { result ≡ moves_at (Some fiber.now) }
-{
-    match Wish::of(fiber.ask()) {
-        Wish::Shared(_) | Wish::Alone => true,
-        Wish::Nothing => false,
     }
 }
 
@@ -250,15 +294,18 @@ fn put(numbers: &mut Vec<u32>, place: usize, turn: Turn) -> Result<(), AllocErro
 fn turn_of(
     alloc: Global,
     states: &mut States,
+    limits: Limits,
     state: u32,
     reply: Reply,
 ) -> Result<Turn, AllocError>
     requires state { state < length states.old.fibers.items.items }
     requires may { (g : Fiber) → slice_get states.old.fibers.items.items state ≡ Some g → MayTurn g reply }
     requires turns { AreTurned states.old.fibers.items.items states.old.turns.kept.items }
+    requires known { AreKnownOf states.old.fibers.items.items states.old.known.items }
     ensures fibers { IsMore states.old.fibers.items.items states.new.fibers.items.items }
     ensures registries { states.new.registries ≡ states.old.registries }
     ensures turns { AreTurned states.new.fibers.items.items states.new.turns.kept.items }
+    ensures known { AreKnownOf states.new.fibers.items.items states.new.known.items }
     ensures turned { IfOk result (λ turn. IsTurned states.new.fibers.items.items
         record { state = state; reply = reply; turn = turn }) }
 {
@@ -266,8 +313,25 @@ fn turn_of(
         return Ok(turn);
     }
     let turn = made(alloc, &mut states.fibers, state, reply)?;
+    know_all(alloc, &states.fibers, limits, &mut states.known)?;
     states.turns.add(Turned { state, reply, turn })?;
     Ok(turn)
+}
+
+// What is known of the states of which nothing is known yet.
+fn know_all(
+    alloc: Global,
+    pool: &Pool<Config>,
+    limits: Limits,
+    known: &mut Vec<Known>,
+) -> Result<(), AllocError>
+    requires { AreKnownOf pool.now.items.items known.old.items }
+    ensures { AreKnownOf pool.now.items.items known.new.items }
+{
+    for number in known.len()..pool.items.len() {
+        known.push(Known::of(alloc, &pool.items[number], limits)?)?;
+    }
+    Ok(())
 }
 
 // The same, where it is made.

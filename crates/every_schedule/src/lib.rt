@@ -29,6 +29,7 @@ mod current;
 mod exploration;
 mod explored;
 mod faults;
+mod known;
 mod leaping;
 mod own_moves;
 mod pool;

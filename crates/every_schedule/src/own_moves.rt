@@ -24,9 +24,9 @@ pub(crate) fn is_own_move(current: &Current, by: u16) -> bool
     requires fits { AllFit (here current.now).world }
     ensures { result ≡ has_own (here current.now).world by (slice_get (here current.now).world.fibers by) }
 {
-    let fiber = current.fiber(usize::from(by));
-    match Wish::of(fiber.ask()) {
-        Wish::Alone => !fiber.waits_alone(),
+    let place = usize::from(by);
+    match current.wish(place) {
+        Wish::Alone => !current.waits_alone(place),
         Wish::Nothing => false,
         Wish::Shared(call) => is_own_call(current, by, call),
     }
@@ -37,7 +37,7 @@ pub(crate) fn may_be_made(current: &Current, stores: bool, by: u16) -> bool
     requires { by < length (here current.now).world.fibers }
     ensures { result ≡ may_be stores (slice_get (here current.now).world.fibers by) }
 {
-    stores || stored_in(Wish::of(current.fiber(usize::from(by)).ask())).is_none()
+    stores || stored_in(current.wish(usize::from(by))).is_none()
 }
 
 /// The ref that the next move of a fiber sets or changes, if it does that.
@@ -103,7 +103,7 @@ fn is_kept(current: &Current, what: Use, by: u16, number: u16) -> bool
     ensures { result ≡ is_own_number what (here current.now).world by number }
 {
     for place in 0..current.born() {
-        if place != usize::from(by) && current.fiber(place).uses(what, number) {
+        if place != usize::from(by) && current.uses(place, what, number) {
             return false;
         }
     }
@@ -119,7 +119,7 @@ fn has_come_to_end(current: &Current, fiber: u16) -> bool
     if place >= current.born() {
         return false;
     }
-    match Wish::of(current.fiber(place).ask()) {
+    match current.wish(place) {
         Wish::Nothing => current.registry().has_ended(fiber),
         Wish::Shared(_) | Wish::Alone => false,
     }

@@ -72,7 +72,7 @@ impl Turns {
 // A number by which a move is looked up.
 fn key(state: u32, reply: Reply) -> u64 {
     let (kind, value) = reply_key(reply);
-    mixed(mixed(u64::from(state), kind), value)
+    mixed(mixed(mixed(0x9E37_79B9, u64::from(state)), kind), value)
 }
 
 // A number, and then this one in it.
