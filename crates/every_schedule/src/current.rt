@@ -7,9 +7,7 @@ ghost use Rattle.cell_registry.specs.declared.call.Call.{Call as TheCall};
 ghost use Rattle.cell_registry.specs.declared.limits.Limits.{Limits as TheLimits};
 ghost use Rattle.cell_registry.specs.Plain.{MayCall};
 ghost use Rattle.fiber_frames.specs.Fiber.{Fiber, ask_of, move, waits_alone};
-ghost use Rattle.fiber_frames.specs.Naming.{NamedRun};
 ghost use Rattle.fiber_frames.specs.Uses.{is_some, uses_in};
-ghost use Rattle.derived_ops.specs.Naming.{Given};
 ghost use Rattle.fiber_frames.specs.Moves.{moved};
 ghost use Rattle.scheduled_core.specs.Core.{wish_of};
 ghost use Rattle.scheduled_core.specs.Fitting.{AllFit};
@@ -18,7 +16,7 @@ ghost use Rattle.scheduled_core.specs.Private.Moving.{Refuses, Replied, children
 ghost use Rattle.world_search.specs.Lists.{IsMore};
 ghost use Rattle.every_schedule.specs.Places.{moves_at, stepped};
 ghost use Rattle.every_schedule.specs.Private.Numbered.{AreAt, IsWorld, IsWorldOf};
-ghost use Rattle.every_schedule.specs.Private.Standing.{IsOnward, here};
+ghost use Rattle.every_schedule.specs.Private.Standing.{IsOnward, IsSame, here};
 ghost use Rattle.every_schedule.specs.Private.Knowing.{AreKnownOf};
 ghost use Rattle.every_schedule.specs.Private.Turning.{AreTurned, IsChild, IsTurned, MayTurn};
 
@@ -211,20 +209,19 @@ impl Current {
     }
 
     /// Whether a fiber can still use the fiber, the ref or the deferred of this number so.
-    pub(crate) fn uses(&self, place: usize, what: Use, number: u16) -> bool
-        requires { place < length (here self.now).world.fibers }
-        ensures { (given : Given) (g : Fiber) → slice_get (here self.now).world.fibers place ≡ Some g →
-            NamedRun given g.running → result ≡ is_some (uses_in what number g.running) }
+    pub(crate) fn uses(&mut self, place: usize, what: Use, number: u16) -> bool
+        requires place { place < length (here self.old).world.fibers }
+        requires fits { AllFit (here self.old).world }
+        ensures same { IsSame self.old self.new }
+        ensures uses { (g : Fiber) → slice_get (here self.old).world.fibers place ≡ Some g →
+            result ≡ is_some (uses_in what number g.running) }
     {
         let state = self.numbers[place] as usize;
-        let known = match self.states.known.get(state) {
-            Some(known) => known.uses(what).get(usize::from(number)).copied(),
-            None => None,
-        };
-        match known {
-            Some(it) => it,
-            None => self.states.fibers.items[state].uses(what, number),
+        let fiber = &self.states.fibers.items[state];
+        if state >= self.states.known.len() {
+            return fiber.uses(what, number);
         }
+        self.states.known[state].uses(fiber, what, number)
     }
 
     /// The registry.

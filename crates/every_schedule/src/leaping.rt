@@ -5,7 +5,7 @@ ghost use Rattle.std.specs.Prelude.{Ok as GoesWell, Err as Fails, Result as TheR
 ghost use Rattle.scheduled_core.specs.Fitting.{AllFit};
 ghost use Rattle.every_schedule.specs.Places.{Place, stepped};
 ghost use Rattle.every_schedule.specs.Reduced.{after_own, is_made, leapt, own_of, pushed, pushed_once};
-ghost use Rattle.every_schedule.specs.Private.Standing.{IsOnward, here};
+ghost use Rattle.every_schedule.specs.Private.Standing.{IsOnward, IsSame, here};
 ghost use Rattle.every_schedule.specs.Private.Trails.{IsTrail};
 
 use crate::current::Current;
@@ -146,7 +146,7 @@ fn push_fiber(
     ensures trail { OnOk result (IsTrail trail.old.items trail.new.items (here current.old)
         (GoesWell (here current.new))) }
 {
-    if !has_own_move(&*current, stores, fiber) {
+    if !has_own_move(&mut *current, stores, fiber) {
         return Ok(false);
     }
     match current.enter(fiber) {
@@ -164,13 +164,14 @@ fn push_fiber(
 }
 
 // Whether a fiber is born and its next move is an own one that may be made at once.
-fn has_own_move(current: &Current, stores: bool, fiber: u16) -> bool
-    requires { AllFit (here current.now).world }
-    ensures { result ≡ is_made stores (here current.now).world fiber }
+fn has_own_move(current: &mut Current, stores: bool, fiber: u16) -> bool
+    requires { AllFit (here current.old).world }
+    ensures same { IsSame current.old current.new }
+    ensures own { result ≡ is_made stores (here current.old).world fiber }
 {
-    usize::from(fiber) < few_born(current)
-        && is_own_move(current, fiber)
-        && may_be_made(current, stores, fiber)
+    usize::from(fiber) < few_born(&*current)
+        && is_own_move(&mut *current, fiber)
+        && may_be_made(&*current, stores, fiber)
 }
 
 /// Whether this is want of memory.

@@ -7,7 +7,7 @@ ghost use Rattle.scheduled_core.specs.Fitting.{AllFit};
 ghost use Rattle.every_schedule.specs.Claims.{stored_by as the_stored_by, stored_in as the_stored};
 ghost use Rattle.every_schedule.specs.Reduced.{IsNamed, has_come_to_end as has_ended, has_own, may_be, next_of};
 ghost use Rattle.every_schedule.specs.Reduced.{is_completed as is_filled, is_kept as is_own_number};
-ghost use Rattle.every_schedule.specs.Private.Standing.{here};
+ghost use Rattle.every_schedule.specs.Private.Standing.{IsSame, here};
 ghost use Rattle.every_schedule.specs.Reduced.{is_left_alone as has_no_other, is_own_call as is_so};
 
 use crate::core_world::CoreWorld;
@@ -18,11 +18,12 @@ use fiber_frames::Use;
 use scheduled_core::Wish;
 
 /// Whether the next move of this fiber is an own one.
-pub(crate) fn is_own_move(current: &Current, by: u16) -> bool
-    requires born { by < length (here current.now).world.fibers }
-    requires within { by < (here current.now).limits.fibers }
-    requires fits { AllFit (here current.now).world }
-    ensures { result ≡ has_own (here current.now).world by (slice_get (here current.now).world.fibers by) }
+pub(crate) fn is_own_move(current: &mut Current, by: u16) -> bool
+    requires born { by < length (here current.old).world.fibers }
+    requires within { by < (here current.old).limits.fibers }
+    requires fits { AllFit (here current.old).world }
+    ensures same { IsSame current.old current.new }
+    ensures own { result ≡ has_own (here current.old).world by (slice_get (here current.old).world.fibers by) }
 {
     let place = usize::from(by);
     match current.wish(place) {
@@ -61,46 +62,49 @@ pub(crate) fn stored_in(wish: Wish) -> Option<u16>
 }
 
 // Whether this call of a fiber is an own one.
-fn is_own_call(current: &Current, by: u16, call: Call) -> bool
-    requires born { by < (here current.now).world.cells.next_fiber }
-    requires within { by < (here current.now).limits.fibers }
-    requires fits { AllFit (here current.now).world }
-    requires named { IsNamed (here current.now).world.cells call }
-    ensures { result ≡ is_so (here current.now).world by call }
+fn is_own_call(current: &mut Current, by: u16, call: Call) -> bool
+    requires born { by < (here current.old).world.cells.next_fiber }
+    requires within { by < (here current.old).limits.fibers }
+    requires fits { AllFit (here current.old).world }
+    requires named { IsNamed (here current.old).world.cells call }
+    ensures same { IsSame current.old current.new }
+    ensures own { result ≡ is_so (here current.old).world by call }
 {
     match call {
         Call::Look => current.registry().is_requested(by) || is_left_alone(current, by),
         Call::Mask | Call::Unmask => true,
         Call::Cut => !current.registry().has_ended(by),
-        Call::Cancel(other) | Call::Join(other) => has_come_to_end(current, other),
-        Call::Finish(_) => is_left_alone(current, by) && is_kept(current, Use::Joins, by, by),
+        Call::Cancel(other) | Call::Join(other) => has_come_to_end(&*current, other),
+        Call::Finish(_) => is_left_alone(&mut *current, by) && is_kept(current, Use::Joins, by, by),
         Call::Get(it) => is_kept(current, Use::Stores, by, it),
         Call::Set(it, _) | Call::Modify(it, _) => {
-            is_kept(current, Use::Stores, by, it) && is_kept(current, Use::Gets, by, it)
+            is_kept(&mut *current, Use::Stores, by, it) && is_kept(current, Use::Gets, by, it)
         }
         Call::Complete(it, _) => {
-            is_completed(current, it)
-                || is_kept(current, Use::Completes, by, it) && is_kept(current, Use::Awaits, by, it)
+            is_completed(&*current, it)
+                || is_kept(&mut *current, Use::Completes, by, it) && is_kept(current, Use::Awaits, by, it)
         }
-        Call::Read(it) => is_completed(current, it),
+        Call::Read(it) => is_completed(&*current, it),
         Call::Start | Call::NewRef | Call::NewDeferred => false,
     }
 }
 
 // Whether no other fiber can request the cancellation of this one any more.
-fn is_left_alone(current: &Current, fiber: u16) -> bool
-    requires given { fiber < (here current.now).world.cells.next_fiber }
-    requires fits { AllFit (here current.now).world }
-    ensures { result ≡ has_no_other (here current.now).world fiber }
+fn is_left_alone(current: &mut Current, fiber: u16) -> bool
+    requires given { fiber < (here current.old).world.cells.next_fiber }
+    requires fits { AllFit (here current.old).world }
+    ensures same { IsSame current.old current.new }
+    ensures alone { result ≡ has_no_other (here current.old).world fiber }
 {
     is_kept(current, Use::Cancels, fiber, fiber)
 }
 
 // Whether no fiber but this one can use a number so any more. The number is given.
-fn is_kept(current: &Current, what: Use, by: u16, number: u16) -> bool
-    requires given { number < next_of (used_place what) (here current.now).world.cells }
-    requires fits { AllFit (here current.now).world }
-    ensures { result ≡ is_own_number what (here current.now).world by number }
+fn is_kept(current: &mut Current, what: Use, by: u16, number: u16) -> bool
+    requires given { number < next_of (used_place what) (here current.old).world.cells }
+    requires fits { AllFit (here current.old).world }
+    ensures same { IsSame current.old current.new }
+    ensures kept { result ≡ is_own_number what (here current.old).world by number }
 {
     for place in 0..current.born() {
         if place != usize::from(by) && current.uses(place, what, number) {

@@ -1,5 +1,5 @@
 -- What is known of the states of fibers.
-use Rattle.std.specs.Prelude.{◌≡◌, ℕ, Bool, List, Some}
+use Rattle.std.specs.Prelude.{◌≡◌, ℕ, Bool, List, Option, Some}
 use Rattle.std.specs.List.{slice_get}
 use Rattle.derived_ops.specs.Naming.{Given}
 use Rattle.fiber_frames.specs.declared.uses.Use.{Use}
@@ -10,9 +10,9 @@ use Rattle.fiber_frames.specs.Uses.{is_some, uses_in}
 use Rattle.scheduled_core.specs.Core.{wish_of}
 use Rattle.every_schedule.specs.declared.known.Known.{Known}
 
--- for the first numbers, whether a state that names what was given can still use them so
-abbrev pub TellsUses : Use → Fiber → List Bool → Type 0
-TellsUses u g uses = (given : Given) → NamedRun given g.running → (n : ℕ) (b : Bool) → slice_get uses n ≡ Some b →
+-- for the first numbers, whether a state that names what was given can still use them so, if that is known
+abbrev pub TellsUses : Use → Fiber → List (Option Bool) → Type 0
+TellsUses u g uses = (given : Given) → NamedRun given g.running → (n : ℕ) (b : Bool) → slice_get uses n ≡ Some (Some b) →
     b ≡ is_some (uses_in u n g.running)
 
 pub record IsKnown (g : Fiber) (k : Known) : Type 0 where

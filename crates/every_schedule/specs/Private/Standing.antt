@@ -24,3 +24,9 @@ here s = record { limits = s.registry.limits; world = world_of (picked s.fibers 
 pub record IsOnward (old new : Stand) : Type 0 where
   pub fibers : IsMore old.fibers new.fibers
   pub registries : IsMore old.registries new.registries
+
+-- the same world, of the same states
+pub record IsSame (old new : Stand) : Type 0 where
+  pub fibers : new.fibers ≡ old.fibers
+  pub registries : new.registries ≡ old.registries
+  pub here : here new ≡ here old
