@@ -1,32 +1,31 @@
 //! The world at which entries are made.
-ghost use Rattle.std.specs.Prelude.{◌≡◌, ◌≢◌, ◌⊎◌, ◌<◌, ◌++◌, length, slice_set};
+ghost use Rattle.std.specs.Prelude.{◌≡◌, ◌⊎◌, ◌<◌, ◌++◌, length, slice_set, true};
 ghost use Rattle.std.specs.Prelude.{IfErr, IfOk, OnOk, Some, Ok as GoesWell, Err as Fails};
 ghost use Rattle.std.specs.List.{All, slice_get};
 ghost use Rattle.std.specs.Option.{option_to_list};
-ghost use Rattle.cell_registry.specs.declared.call.Call.{Call as TheCall};
 ghost use Rattle.cell_registry.specs.declared.limits.Limits.{Limits as TheLimits};
-ghost use Rattle.cell_registry.specs.Plain.{MayCall};
+ghost use Rattle.cell_registry.specs.Plain.{IsPlain};
 ghost use Rattle.fiber_frames.specs.Fiber.{Fiber, ask_of, move, waits_alone};
 ghost use Rattle.fiber_frames.specs.Uses.{is_some, uses_in};
 ghost use Rattle.fiber_frames.specs.Moves.{moved};
 ghost use Rattle.scheduled_core.specs.Core.{wish_of};
-ghost use Rattle.scheduled_core.specs.Fitting.{AllFit};
-ghost use Rattle.scheduled_core.specs.Permits.{IsInRange};
+ghost use Rattle.scheduled_core.specs.Fitting.{AllFit, Fits, cell_registered};
+ghost use Rattle.scheduled_core.specs.Private.Asking.{Asking};
 ghost use Rattle.scheduled_core.specs.Private.Moving.{Refuses, Replied, children};
 ghost use Rattle.world_search.specs.Lists.{IsMore};
 ghost use Rattle.every_schedule.specs.Places.{moves_at, stepped};
 ghost use Rattle.every_schedule.specs.Private.Numbered.{AreAt, IsWorld, IsWorldOf};
 ghost use Rattle.every_schedule.specs.Private.Standing.{IsOnward, IsSame, here};
 ghost use Rattle.every_schedule.specs.Private.Knowing.{AreKnownOf};
-ghost use Rattle.every_schedule.specs.Private.Turning.{AreTurned, IsChild, IsTurned, MayTurn};
+ghost use Rattle.every_schedule.specs.Private.Turning.{AreTurned, IsChild, IsMoved, MayTurn, reply_of};
 
 use crate::core_world::CoreWorld;
 use crate::known::Known;
 use crate::pool::{Pool, Pooled};
 use crate::row::Row;
-use crate::turns::{Turn, Turned, Turns};
+use crate::turns::{Said, Turn, Turns, reply_said, said};
 use cell_registry::{Limits, PlainRegistry, RunError};
-use effect_term::{Reply, facts_of};
+use effect_term::facts_of;
 use fiber_frames::{Config, Moved, Use};
 use scheduled_core::{Wish, answer, fault};
 use std::alloc::{AllocError, Global};
@@ -148,22 +147,18 @@ impl Current {
         ensures stops { IfErr result (λ e. (e ≡ RunError.NoMemory) ⊎
             ((stepped (here self.old) fiber ≡ Fails e) × (here self.new ≡ here self.old))) }
     {
+        if !self.has_move(fiber) {
+            return Ok(());
+        }
         let place = usize::from(fiber);
-        if place >= self.numbers.len() {
-            return Ok(());
-        }
-        let wish = self.wish(place);
-        if wish == Wish::Nothing {
-            return Ok(());
-        }
-        let reply = replied(&mut self.registry, fiber, wish)?;
-        let turn = turn_of(
-            self.alloc,
-            &mut self.states,
-            self.registry.limits(),
-            self.numbers[place],
-            reply,
-        )?;
+        let state = self.numbers[place];
+        let config = &self.states.fibers.items[state as usize];
+        let said = match replied(config, &mut self.registry, fiber) {
+            Ok(said) => said,
+            Err(fault) => return Err(fault),
+        };
+        let limits = self.registry.limits();
+        let turn = turn_of(self.alloc, &mut self.states, limits, state, said)?;
         self.registry.forget_waits();
         put(&mut self.numbers, place, turn)?;
         Ok(())
@@ -187,7 +182,7 @@ impl Current {
     /// What the next move of a fiber wants.
     pub(crate) fn wish(&self, place: usize) -> Wish
         requires { place < length (here self.now).world.fibers }
-        ensures wish { (g : Fiber) → slice_get (here self.now).world.fibers place ≡ Some g → result ≡ wish_of (ask_of g) }
+        ensures { (g : Fiber) → slice_get (here self.now).world.fibers place ≡ Some g → result ≡ wish_of (ask_of g) }
     {
         let number = self.numbers[place] as usize;
         match self.states.known.get(number) {
@@ -257,20 +252,27 @@ impl Current {
     }
 }
 
-// The registry's reply to what the next move of a fiber wants.
-fn replied(registry: &mut PlainRegistry, fiber: u16, wish: Wish) -> Result<Reply, RunError>
-    requires { (call : TheCall) → wish ≡ Wish.Shared call → IsInRange call → MayCall registry.old fiber call }
-    ensures made { IfOk result (λ reply. (g : Fiber) → wish_of (ask_of g) ≡ wish → wish ≢ Wish.Nothing →
-        Replied registry.old fiber g reply registry.new) }
-    ensures refused { IfErr result (λ e. (registry.new ≡ registry.old) × ((g : Fiber) → wish_of (ask_of g) ≡ wish →
-        Refuses registry.old fiber g e)) }
+// The registry's reply to the next move of a fiber, which it has.
+fn replied(
+    config: &Config,
+    registry: &mut PlainRegistry,
+    fiber: u16,
+) -> Result<Said, RunError>
+    requires fits { Fits (cell_registered registry.old.state fiber) config.now }
+    requires moves { moves_at (Some config.now) ≡ true }
+    ensures made { IfOk result (λ said. Replied registry.old fiber config.now (reply_of said) registry.new) }
+    ensures refused { IfErr result (λ e. (registry.new ≡ registry.old) × Refuses registry.old fiber config.now e) }
+    ensures asks { Asking config.now }
+    ensures lawful { IsPlain registry.old }
 {
-    match wish {
+    // The registry is within its limits.
+    facts_of(registry.limits());
+    match Wish::of(config.ask()) {
         Wish::Shared(call) => match answer(registry, fiber, call) {
-            Ok(reply) => Ok(reply),
+            Ok(reply) => Ok(said(reply)),
             Err(error) => Err(fault(fiber, error)),
         },
-        Wish::Alone | Wish::Nothing => Ok(Reply::Done),
+        Wish::Alone | Wish::Nothing => Ok(Said::Done),
     }
 }
 
@@ -293,25 +295,24 @@ fn turn_of(
     states: &mut States,
     limits: Limits,
     state: u32,
-    reply: Reply,
+    said: Said,
 ) -> Result<Turn, AllocError>
     requires state { state < length states.old.fibers.items.items }
-    requires may { (g : Fiber) → slice_get states.old.fibers.items.items state ≡ Some g → MayTurn g reply }
+    requires may { (g : Fiber) → slice_get states.old.fibers.items.items state ≡ Some g → MayTurn g (reply_of said) }
     requires turns { AreTurned states.old.fibers.items.items states.old.turns.kept.items }
     requires known { AreKnownOf states.old.fibers.items.items states.old.known.items }
     ensures fibers { IsMore states.old.fibers.items.items states.new.fibers.items.items }
     ensures registries { states.new.registries ≡ states.old.registries }
     ensures turns { AreTurned states.new.fibers.items.items states.new.turns.kept.items }
     ensures known { AreKnownOf states.new.fibers.items.items states.new.known.items }
-    ensures turned { IfOk result (λ turn. IsTurned states.new.fibers.items.items
-        record { state = state; reply = reply; turn = turn }) }
+    ensures turned { IfOk result (λ turn. IsMoved states.new.fibers.items.items state (reply_of said) turn) }
 {
-    if let Some(turn) = states.turns.find(state, reply) {
+    if let Some(turn) = states.turns.find(state, said) {
         return Ok(turn);
     }
-    let turn = made(alloc, &mut states.fibers, state, reply)?;
+    let turn = made(alloc, &mut states.fibers, state, said)?;
     know_all(alloc, &states.fibers, limits, &mut states.known)?;
-    states.turns.add(Turned { state, reply, turn })?;
+    states.turns.add(state, said, turn)?;
     Ok(turn)
 }
 
@@ -336,28 +337,27 @@ fn made(
     alloc: Global,
     pool: &mut Pool<Config>,
     state: u32,
-    reply: Reply,
+    said: Said,
 ) -> Result<Turn, AllocError>
     requires state { state < length pool.old.items.items }
-    requires may { (g : Fiber) → slice_get pool.old.items.items state ≡ Some g → MayTurn g reply }
+    requires may { (g : Fiber) → slice_get pool.old.items.items state ≡ Some g → MayTurn g (reply_of said) }
     ensures more { IsMore pool.old.items.items pool.new.items.items }
-    ensures turned { IfOk result (λ turn. IsTurned pool.new.items.items
-        record { state = state; reply = reply; turn = turn }) }
+    ensures turned { IfOk result (λ turn. IsMoved pool.new.items.items state (reply_of said) turn) }
 {
     let mut fiber = pool.items[state as usize].again(alloc)?;
-    let child = resumed(&mut fiber, reply)?;
-    let state = pool.number_of(alloc, &fiber)?;
+    let child = resumed(&mut fiber, said)?;
+    let next = pool.number_of(alloc, &fiber)?;
     let child = child_of(alloc, pool, child)?;
-    Ok(Turn { state, child })
+    Ok(Turn { state: next, child })
 }
 
 // The move under a reply, and the child that it starts, if it starts one.
-fn resumed(fiber: &mut Config, reply: Reply) -> Result<Option<Config>, AllocError>
-    requires { MayTurn fiber.old reply }
-    ensures state { OnOk result (fiber.new ≡ move fiber.old reply) }
-    ensures child { IfOk result (λ child. option_to_list child ≡ children (moved fiber.old reply)) }
+fn resumed(fiber: &mut Config, said: Said) -> Result<Option<Config>, AllocError>
+    requires { MayTurn fiber.old (reply_of said) }
+    ensures state { OnOk result (fiber.new ≡ move fiber.old (reply_of said)) }
+    ensures child { IfOk result (λ child. option_to_list child ≡ children (moved fiber.old (reply_of said))) }
 {
-    match fiber.resume(reply)? {
+    match fiber.resume(reply_said(said))? {
         Moved::Born(child) => Ok(Some(child)),
         Moved::Plain | Moved::Waited | Moved::Ceded | Moved::Ended(_) => Ok(None),
     }

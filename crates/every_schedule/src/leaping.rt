@@ -50,8 +50,8 @@ pub(crate) fn leap(
     Ok(())
 }
 
-// How many fibers are born.
-fn few_born(current: &Current) -> usize
+/// How many fibers are born.
+pub(crate) fn few_born(current: &Current) -> usize
     requires { AllFit (here current.now).world }
     ensures born { result ≡ length (here current.now).world.fibers }
     ensures few { result ≤ 1000 }
@@ -92,7 +92,8 @@ fn push(current: &mut Current, at_once: AtOnce, trail: &mut Vec<u16>) -> Result<
         (GoesWell (here current.new))) }
 {
     for _move in 0..at_once.most {
-        if !push_once(&mut *current, at_once.stores, &mut *trail)? {
+        let moved = push_once(&mut *current, at_once.stores, &mut *trail)?;
+        if !moved {
             return Ok(());
         }
     }

@@ -1,17 +1,19 @@
 //! Which moves are made at once: those of which no other fiber sees anything, and which nothing that another fiber does
 //! can change.
-ghost use Rattle.std.specs.Prelude.{◌≡◌, ◌<◌, length};
+ghost use Rattle.std.specs.Prelude.{◌≡◌, ◌<◌, ◌||◌, length, nat_eq, Some};
 ghost use Rattle.std.specs.List.{slice_get};
+ghost use Rattle.fiber_frames.specs.Fiber.{Fiber};
 ghost use Rattle.fiber_frames.specs.Uses.{used_place};
 ghost use Rattle.scheduled_core.specs.Fitting.{AllFit};
 ghost use Rattle.every_schedule.specs.Claims.{stored_by as the_stored_by, stored_in as the_stored};
-ghost use Rattle.every_schedule.specs.Reduced.{IsNamed, has_come_to_end as has_ended, has_own, may_be, next_of};
+ghost use Rattle.every_schedule.specs.Reduced.{IsNamed, has_come_to_end as has_ended, has_own, keeps, may_be, next_of};
 ghost use Rattle.every_schedule.specs.Reduced.{is_completed as is_filled, is_kept as is_own_number};
 ghost use Rattle.every_schedule.specs.Private.Standing.{IsSame, here};
 ghost use Rattle.every_schedule.specs.Reduced.{is_left_alone as has_no_other, is_own_call as is_so};
 
 use crate::core_world::CoreWorld;
 use crate::current::Current;
+use crate::leaping::few_born;
 use cell_registry::Call;
 use effect_term::facts_of;
 use fiber_frames::Use;
@@ -29,7 +31,11 @@ pub(crate) fn is_own_move(current: &mut Current, by: u16) -> bool
     match current.wish(place) {
         Wish::Alone => !current.waits_alone(place),
         Wish::Nothing => false,
-        Wish::Shared(call) => is_own_call(current, by, call),
+        Wish::Shared(call) => {
+            // What it asks for is given.
+            facts_of(current.fiber(place).ask());
+            is_own_call(current, by, call)
+        }
     }
 }
 
@@ -107,11 +113,26 @@ fn is_kept(current: &mut Current, what: Use, by: u16, number: u16) -> bool
     ensures kept { result ≡ is_own_number what (here current.old).world by number }
 {
     for place in 0..current.born() {
-        if place != usize::from(by) && current.uses(place, what, number) {
+        let spared = spares(&mut *current, what, by, number, place);
+        if !spared {
             return false;
         }
     }
     true
+}
+
+// Whether the fiber of this place is that one, or can't use the number so any more.
+fn spares(current: &mut Current, what: Use, by: u16, number: u16, place: usize) -> bool
+    requires place { place < length (here current.old).world.fibers }
+    requires fits { AllFit (here current.old).world }
+    ensures same { IsSame current.old current.new }
+    ensures spares { (g : Fiber) → slice_get (here current.old).world.fibers place ≡ Some g →
+        result ≡ (nat_eq place by || keeps what number g) }
+{
+    if place == usize::from(by) {
+        return true;
+    }
+    !current.uses(place, what, number)
 }
 
 // Whether a fiber has ended.
@@ -120,7 +141,7 @@ fn has_come_to_end(current: &Current, fiber: u16) -> bool
     ensures { result ≡ has_ended (here current.now).world fiber }
 {
     let place = usize::from(fiber);
-    if place >= current.born() {
+    if place >= few_born(current) {
         return false;
     }
     match current.wish(place) {

@@ -1,10 +1,45 @@
 //! What moves make of the states of fibers, kept by the numbers of states.
 ghost use Rattle.std.specs.Prelude.{◌≡◌, ◌++◌, [], ◌∷◌, IfSome, OnErr, OnOk};
-ghost use Rattle.every_schedule.specs.Private.Turning.{IsAmong};
+ghost use Rattle.effect_term.specs.declared.reply.JoinReply.TheVariants as TheJoin;
+ghost use Rattle.effect_term.specs.declared.reply.Reply.TheVariants as TheReply;
+ghost use Rattle.every_schedule.specs.Private.Turning.{IsAmong, reply_of};
 
-use effect_term::{CancelReply, JoinReply, Outcome, Reply};
+use effect_term::{CancelReply, JoinReply, Outcome, Reply, Value};
 use std::alloc::{AllocError, Global};
 use std::collections::HashMap;
+
+/// A reply, in one piece.
+#[derive(Clone, Copy, PartialEq, Eq)]
+pub(crate) enum Said {
+    /// The call is made.
+    Done,
+    /// Whether the fiber was asked to cancel.
+    Seen(bool),
+    /// A request: it is the first.
+    Asked,
+    /// A request: there was one before.
+    Already,
+    /// A request: the fiber had ended.
+    Over,
+    /// A join: the fiber hasn't ended.
+    Waits,
+    /// A join: the fiber succeeded.
+    Succeeded(Value),
+    /// A join: the fiber raised an error.
+    Errored(Value),
+    /// A join: the fiber was canceled.
+    Canceled,
+    /// The number of the new fiber, ref or deferred.
+    Number(u16),
+    /// The value of a ref.
+    Value(Value),
+    /// Whether this call completed the deferred.
+    Completed(bool),
+    /// The deferred isn't completed.
+    Empty,
+    /// The value of a deferred that is completed.
+    Full(Value),
+}
 
 /// The number of a fiber's state behind a move, and that of the child which the move starts, if it starts one.
 #[derive(Clone, Copy)]
@@ -17,7 +52,7 @@ pub(crate) struct Turn {
 #[derive(Clone, Copy)]
 pub(crate) struct Turned {
     pub(crate) state: u32,
-    pub(crate) reply: Reply,
+    pub(crate) said: Said,
     pub(crate) turn: Turn,
 }
 
@@ -41,37 +76,37 @@ impl Turns {
     }
 
     /// What the move of this state under this reply leads to, if it was made before.
-    pub(crate) fn find(&self, state: u32, reply: Reply) -> Option<Turn>
+    pub(crate) fn find(&self, state: u32, said: Said) -> Option<Turn>
         ensures { IfSome result (λ turn. IsAmong self.now.kept.items
-            record { state = state; reply = reply; turn = turn }) }
+            record { state = state; said = said; turn = turn }) }
     {
-        let number = self.last.get(&key(state, reply)).copied()?;
+        let number = self.last.get(&key(state, said)).copied()?;
         let found = self.kept.get(number as usize)?;
-        if found.state == state && found.reply == reply {
+        if found.state == state && found.said == said {
             return Some(found.turn);
         }
         None
     }
 
     /// Keeps one more move.
-    pub(crate) fn add(&mut self, turned: Turned) -> Result<(), AllocError>
-        ensures added { OnOk result (self.new.kept.items ≡ self.old.kept.items ++ turned ∷ []) }
+    pub(crate) fn add(&mut self, state: u32, said: Said, turn: Turn) -> Result<(), AllocError>
+        ensures added { OnOk result (self.new.kept.items ≡
+            self.old.kept.items ++ record { state = state; said = said; turn = turn } ∷ []) }
         ensures same { OnErr result (self.new.kept.items ≡ self.old.kept.items) }
     {
         let place = self.kept.len();
         if place >= u32::MAX as usize {
             return Err(AllocError);
         }
-        self.last
-            .insert(key(turned.state, turned.reply), place as u32)?;
-        self.kept.push(turned)?;
+        self.last.insert(key(state, said), place as u32)?;
+        self.kept.push(Turned { state, said, turn })?;
         Ok(())
     }
 }
 
 // A number by which a move is looked up.
-fn key(state: u32, reply: Reply) -> u64 {
-    let (kind, value) = reply_key(reply);
+fn key(state: u32, said: Said) -> u64 {
+    let (kind, value) = said_key(said);
     mixed(mixed(mixed(0x9E37_79B9, u64::from(state)), kind), value)
 }
 
@@ -82,21 +117,88 @@ fn mixed(key: u64, word: u64) -> u64 {
 }
 
 // Two numbers that tell one reply from another.
-fn reply_key(reply: Reply) -> (u64, u64) {
+fn said_key(said: Said) -> (u64, u64) {
+    match said {
+        Said::Done => (1, 0),
+        Said::Seen(seen) => (2, u64::from(seen)),
+        Said::Asked => (3, 0),
+        Said::Already => (4, 0),
+        Said::Over => (5, 0),
+        Said::Waits => (6, 0),
+        Said::Succeeded(value) => (7, value_key(value)),
+        Said::Errored(code) => (8, value_key(code)),
+        Said::Canceled => (9, 0),
+        Said::Number(number) => (10, u64::from(number)),
+        Said::Value(value) => (11, value_key(value)),
+        Said::Completed(completed) => (12, u64::from(completed)),
+        Said::Empty => (13, 0),
+        Said::Full(value) => (14, value_key(value)),
+    }
+}
+
+// The number of a value.
+fn value_key(value: Value) -> u64 {
+    value.get().cast_unsigned()
+}
+
+/// The reply in one piece.
+pub(crate) fn said(reply: Reply) -> Said
+    ensures { reply_of result ≡ reply }
+{
     match reply {
-        Reply::Done => (1, 0),
-        Reply::Seen(seen) => (2, u64::from(seen)),
-        Reply::Cancel(CancelReply::Asked) => (3, 0),
-        Reply::Cancel(CancelReply::Already) => (3, 1),
-        Reply::Cancel(CancelReply::Ended) => (3, 2),
-        Reply::Join(JoinReply::Waits) => (4, 0),
-        Reply::Join(JoinReply::Ended(Outcome::Succeeded(value))) => (5, value.get().cast_unsigned()),
-        Reply::Join(JoinReply::Ended(Outcome::Errored(code))) => (6, code.get().cast_unsigned()),
-        Reply::Join(JoinReply::Ended(Outcome::Canceled)) => (7, 0),
-        Reply::Number(number) => (8, u64::from(number)),
-        Reply::Value(value) => (9, value.get().cast_unsigned()),
-        Reply::Completed(completed) => (10, u64::from(completed)),
-        Reply::Read(None) => (11, 0),
-        Reply::Read(Some(value)) => (12, value.get().cast_unsigned()),
+        Reply::Done => Said::Done,
+        Reply::Seen(seen) => Said::Seen(seen),
+        Reply::Cancel(CancelReply::Asked) => Said::Asked,
+        Reply::Cancel(CancelReply::Already) => Said::Already,
+        Reply::Cancel(CancelReply::Ended) => Said::Over,
+        Reply::Join(JoinReply::Waits) => Said::Waits,
+        Reply::Join(JoinReply::Ended(outcome)) => said_of(outcome),
+        Reply::Number(number) => Said::Number(number),
+        Reply::Value(value) => Said::Value(value),
+        Reply::Completed(completed) => Said::Completed(completed),
+        Reply::Read(read) => said_read(read),
+    }
+}
+
+// The reply to a join of a fiber that ended so.
+fn said_of(outcome: Outcome) -> Said
+    ensures { reply_of result ≡ TheReply.Join (TheJoin.Ended outcome) }
+{
+    match outcome {
+        Outcome::Succeeded(value) => Said::Succeeded(value),
+        Outcome::Errored(code) => Said::Errored(code),
+        Outcome::Canceled => Said::Canceled,
+    }
+}
+
+// The reply to a wait for a deferred.
+fn said_read(read: Option<Value>) -> Said
+    ensures { reply_of result ≡ TheReply.Read read }
+{
+    match read {
+        None => Said::Empty,
+        Some(value) => Said::Full(value),
+    }
+}
+
+/// The reply that was said so.
+pub(crate) fn reply_said(said: Said) -> Reply
+    ensures { result ≡ reply_of said }
+{
+    match said {
+        Said::Done => Reply::Done,
+        Said::Seen(seen) => Reply::Seen(seen),
+        Said::Asked => Reply::Cancel(CancelReply::Asked),
+        Said::Already => Reply::Cancel(CancelReply::Already),
+        Said::Over => Reply::Cancel(CancelReply::Ended),
+        Said::Waits => Reply::Join(JoinReply::Waits),
+        Said::Succeeded(value) => Reply::Join(JoinReply::Ended(Outcome::Succeeded(value))),
+        Said::Errored(code) => Reply::Join(JoinReply::Ended(Outcome::Errored(code))),
+        Said::Canceled => Reply::Join(JoinReply::Ended(Outcome::Canceled)),
+        Said::Number(number) => Reply::Number(number),
+        Said::Value(value) => Reply::Value(value),
+        Said::Completed(completed) => Reply::Completed(completed),
+        Said::Empty => Reply::Read(None),
+        Said::Full(value) => Reply::Read(Some(value)),
     }
 }

@@ -14,7 +14,7 @@ index-registry-requires c =
     let s = c.self.inside in
     let m = c.index-row.result.now in
     let row : slice_get s.rows.items.items c.args.world ≡ Some m = grind (arith, common_steps, gets) in
-    let there = registry_there s.limits s.states.fibers.items.items s.states.registries.items.items m (c.self.invariant.0 c.args.world m row) in
+    let there = registry_there s.limits s.current.fibers s.current.registries m (c.self.invariant c.args.world m row) in
     let same = c.registry.ensures in
     omega arith
 
@@ -23,13 +23,13 @@ overflow_cast-result c =
     let s = c.self.inside in
     let m = c.index-row.result.now in
     let row : slice_get s.rows.items.items c.args.world ≡ Some m = grind (arith, common_steps, gets) in
-    let rs = s.states.registries.items.items in
+    let rs = s.current.registries in
     let r = c.index-registry.result.now in
-    let low = registry_there s.limits s.states.fibers.items.items rs m (c.self.invariant.0 c.args.world m row) in
+    let low = registry_there s.limits s.current.fibers rs m (c.self.invariant c.args.world m row) in
     let there : slice_get rs m.registry ≡ Some r = slice_get-get_or rs m.registry r low ∙
     ap Some (sym (c.index-registry.ensures ∙ ap (λ i. slice_index_or rs i r) c.registry.ensures)) in
-    let few = born_few s.limits s.states.fibers.items.items s.states.registries.items.items m c.index-registry.result.now
-    (c.self.invariant.0 c.args.world m row) there c.limits.ensures.lawful in
+    let few = born_few s.limits s.current.fibers s.current.registries m c.index-registry.result.now
+    (c.self.invariant c.args.world m row) there c.limits.ensures.lawful in
     let long = ap length c.fibers.ensures in
     omega arith
 
@@ -38,13 +38,13 @@ returns-clause-few c =
     let s = c.self.inside in
     let m = c.index-row.result.now in
     let row : slice_get s.rows.items.items c.args.world ≡ Some m = grind (arith, common_steps, gets) in
-    let rs = s.states.registries.items.items in
+    let rs = s.current.registries in
     let r = c.index-registry.result.now in
-    let low = registry_there s.limits s.states.fibers.items.items rs m (c.self.invariant.0 c.args.world m row) in
+    let low = registry_there s.limits s.current.fibers rs m (c.self.invariant c.args.world m row) in
     let there : slice_get rs m.registry ≡ Some r = slice_get-get_or rs m.registry r low ∙
     ap Some (sym (c.index-registry.ensures ∙ ap (λ i. slice_index_or rs i r) c.registry.ensures)) in
-    let few = born_few s.limits s.states.fibers.items.items s.states.registries.items.items m c.index-registry.result.now
-    (c.self.invariant.0 c.args.world m row) there c.limits.ensures.lawful in
+    let few = born_few s.limits s.current.fibers s.current.registries m c.index-registry.result.now
+    (c.self.invariant c.args.world m row) there c.limits.ensures.lawful in
     let long = ap length c.fibers.ensures in
     omega arith
 
@@ -52,13 +52,13 @@ pub returns-clause-born : goal.returns-clause-born
 returns-clause-born c = λ p at.
     let s = c.self.inside in
     let k = s.limits in
-    let fs = s.states.fibers.items.items in
-    let rs = s.states.registries.items.items in
+    let fs = s.current.fibers in
+    let rs = s.current.registries in
     let m = c.index-row.result.now in
     let row : slice_get s.rows.items.items c.args.world ≡ Some m = grind (arith, common_steps, gets) in
     let places : map (place_of k fs rs) s.rows.items.items ≡ c.args.self.now.places = ap (λ (x : Kept). x.places) c.self.view_is in
     let here : place_of k fs rs m ≡ p = place_at k fs rs s.rows.items.items c.args.world m p row (ap (λ l. slice_get l c.args.world) places ∙ at) in
-    let born = born_of k fs rs m (c.self.invariant.0 c.args.world m row) in
+    let born = born_of k fs rs m (c.self.invariant c.args.world m row) in
     let same : length (place_of k fs rs m).world.fibers ≡ length p.world.fibers = ap (λ (q : Place). length q.world.fibers) here in
     let long = ap length c.fibers.ensures in
     omega arith

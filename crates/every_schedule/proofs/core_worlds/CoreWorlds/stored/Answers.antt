@@ -13,17 +13,17 @@ use Rattle.every_schedule.proofs.core_worlds.CoreWorlds.stored.Goals as goal
 pub stored_at-requires : goal.stored_at-requires
 stored_at-requires c =
     let s = c.self.inside in
-    let fs = s.states.fibers.items.items in
+    let fs = s.current.fibers in
     let row : slice_get s.rows.items.items c.args.world ≡ Some c.index-row.result.now = grind (arith, common_steps, gets) in
     subst (λ (l : List ℕ). All (λ m. m < length fs) l) (sym c.fibers.ensures)
-    (fibers_there s.limits fs s.states.registries.items.items c.index-row.result.now (c.self.invariant.0 c.args.world c.index-row.result.now row))
+    (fibers_there s.limits fs s.current.registries c.index-row.result.now (c.self.invariant c.args.world c.index-row.result.now row))
 
 pub returns : goal.returns
 returns c = λ p at.
     let s = c.self.inside in
     let k = s.limits in
-    let fs = s.states.fibers.items.items in
-    let rs = s.states.registries.items.items in
+    let fs = s.current.fibers in
+    let rs = s.current.registries in
     let rows = s.rows.items.items in
     let m = c.index-row.result.now in
     let f = c.args.fiber in
@@ -31,6 +31,6 @@ returns c = λ p at.
     let places : map (place_of k fs rs) rows ≡ c.args.self.now.places = ap (λ (x : Kept). x.places) c.self.view_is in
     let here = place_at k fs rs rows c.args.world m p row (ap (λ l. slice_get l c.args.world) places ∙ at) in
     let numbers : c.fibers.result.now ≡ m.fibers = c.fibers.ensures in
-    stored_is k fs rs m (c.self.invariant.0 c.args.world m row) p here f c.stored_at.result
+    stored_is k fs rs m (c.self.invariant c.args.world m row) p here f c.stored_at.result
     (λ e. c.stored_at.ensures.none (ap (λ (l : List ℕ). slice_get l f) numbers ∙ e))
     (λ n g e there. c.stored_at.ensures.some n g (ap (λ (l : List ℕ). slice_get l f) numbers ∙ e) there)
