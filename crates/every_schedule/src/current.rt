@@ -179,6 +179,15 @@ impl Current {
         self.numbers.len()
     }
 
+    /// The state of a fiber.
+    pub(crate) fn fiber(&self, place: usize) -> &Config
+        requires { place < length (here self.now).world.fibers }
+        ensures { slice_get (here self.now).world.fibers place ≡ Some result.now }
+    {
+        let number = self.numbers[place];
+        &self.states.fibers.items[number as usize]
+    }
+
     /// What the next move of a fiber wants.
     pub(crate) fn wish(&self, place: usize) -> Wish
         requires { place < length (here self.now).world.fibers }

@@ -1,22 +1,20 @@
-use Rattle.std.proofs.Common.{slice_index_or, ◌≡◌, length, map, sym, ap, ◌∙◌, arith}
+use Rattle.std.proofs.Common.{◌≡◌, length, map, sym, ap, ◌∙◌, arith}
 use Rattle.std.specs.Prelude.{Some}
 use Rattle.std.specs.List.{slice_get}
 use Rattle.std.proofs.lemmas.Grind.{common_steps}
-use Rattle.std.proofs.lemmas.Option.{gets, slice_get-get_or}
+use Rattle.std.proofs.lemmas.Option.{gets}
 use Rattle.every_schedule.specs.Places.{Kept, Place}
 use Rattle.every_schedule.specs.Private.Numbered.{place_of}
 use Rattle.every_schedule.proofs.Numbered.{registry_there}
 use Rattle.every_schedule.proofs.Entering.{born_few, born_of, place_at}
 use Rattle.every_schedule.proofs.core_worlds.CoreWorlds.born_at.Goals as goal
 
-pub index-registry-requires : goal.index-registry-requires
-index-registry-requires c =
+pub registry_of-requires : goal.registry_of-requires
+registry_of-requires c =
     let s = c.self.inside in
     let m = c.index-row.result.now in
     let row : slice_get s.rows.items.items c.args.world ≡ Some m = grind (arith, common_steps, gets) in
-    let there = registry_there s.limits s.current.fibers s.current.registries m (c.self.invariant c.args.world m row) in
-    let same = c.registry.ensures in
-    omega arith
+    registry_there s.limits s.current.fibers s.current.registries m (c.self.invariant c.args.world m row)
 
 pub overflow_cast-result : goal.overflow_cast-result
 overflow_cast-result c =
@@ -24,12 +22,8 @@ overflow_cast-result c =
     let m = c.index-row.result.now in
     let row : slice_get s.rows.items.items c.args.world ≡ Some m = grind (arith, common_steps, gets) in
     let rs = s.current.registries in
-    let r = c.index-registry.result.now in
-    let low = registry_there s.limits s.current.fibers rs m (c.self.invariant c.args.world m row) in
-    let there : slice_get rs m.registry ≡ Some r = slice_get-get_or rs m.registry r low ∙
-    ap Some (sym (c.index-registry.ensures ∙ ap (λ i. slice_index_or rs i r) c.registry.ensures)) in
-    let few = born_few s.limits s.current.fibers s.current.registries m c.index-registry.result.now
-    (c.self.invariant c.args.world m row) there c.limits.ensures.lawful in
+    let few = born_few s.limits s.current.fibers rs m c.registry_of-registry.result.now
+    (c.self.invariant c.args.world m row) c.registry_of-registry.ensures c.limits.ensures.lawful in
     let long = ap length c.fibers.ensures in
     omega arith
 
@@ -39,12 +33,8 @@ returns-clause-few c =
     let m = c.index-row.result.now in
     let row : slice_get s.rows.items.items c.args.world ≡ Some m = grind (arith, common_steps, gets) in
     let rs = s.current.registries in
-    let r = c.index-registry.result.now in
-    let low = registry_there s.limits s.current.fibers rs m (c.self.invariant c.args.world m row) in
-    let there : slice_get rs m.registry ≡ Some r = slice_get-get_or rs m.registry r low ∙
-    ap Some (sym (c.index-registry.ensures ∙ ap (λ i. slice_index_or rs i r) c.registry.ensures)) in
-    let few = born_few s.limits s.current.fibers s.current.registries m c.index-registry.result.now
-    (c.self.invariant c.args.world m row) there c.limits.ensures.lawful in
+    let few = born_few s.limits s.current.fibers rs m c.registry_of-registry.result.now
+    (c.self.invariant c.args.world m row) c.registry_of-registry.ensures c.limits.ensures.lawful in
     let long = ap length c.fibers.ensures in
     omega arith
 

@@ -20,7 +20,7 @@ fibers_of-requires c =
     let row : slice_get s.rows.items.items c.args.world ≡ Some c.index-row.result.now = grind (arith, common_steps, gets) in
     subst (λ (l : List Fiber). All (λ m. m < length l) c.fibers-2.result.now) (sym c.fibers.ensures)
     (subst (λ (l : List ℕ). All (λ m. m < length fs) l) (sym c.fibers-2.ensures)
-    (fibers_there s.limits fs s.current.registries c.index-row.result.now (c.self.invariant c.args.world c.index-row.result.now row))
+    (fibers_there s.limits fs s.current.registries c.index-row.result.now (c.self.invariant c.args.world c.index-row.result.now row)))
 
 pub returns-clause-report : goal.returns-clause-report
 returns-clause-report c = IfOk-weaker c.report_of_fibers.result _ _ (λ it is. λ p at.
@@ -33,6 +33,8 @@ returns-clause-report c = IfOk-weaker c.report_of_fibers.result _ _ (λ it is. �
     let places : map (place_of k fs rs) rows ≡ c.args.self.now.places = ap (λ (x : Kept). x.places) c.self.view_is in
     let row : slice_get rows c.args.world ≡ Some m = grind (arith, common_steps, gets) in
     let here : place_of k fs rs m ≡ p = place_at k fs rs rows c.args.world m p row (ap (λ l. slice_get l c.args.world) places ∙ at) in
-    let are : AreAt fs m.fibers c.in_ok-fibers.fibers.items = subst (λ l. AreAt fs l c.in_ok-fibers.fibers.items) c.fibers.ensures c.in_ok-fibers.ensures in
+    let are : AreAt fs m.fibers c.in_ok-fibers.fibers.items =
+    subst (λ (l : List Fiber). AreAt l m.fibers c.in_ok-fibers.fibers.items) c.fibers.ensures
+    (subst (λ l. AreAt c.fibers.result.now.items.items l c.in_ok-fibers.fibers.items) c.fibers-2.ensures c.in_ok-fibers.ensures) in
     is ∙ ap (λ (l : List Fiber). told (map fiber_report l)) (sym (picked_is fs m.fibers c.in_ok-fibers.fibers.items are)) ∙ ap report_at here)
     (c.report_of_fibers.ensures.reports)
