@@ -17,13 +17,13 @@ ghost use Rattle.every_schedule.specs.Places.{moves_at, stepped};
 ghost use Rattle.every_schedule.specs.Private.Numbered.{AreAt, IsWorld, IsWorldOf};
 ghost use Rattle.every_schedule.specs.Private.Standing.{IsOnward, IsSame, here};
 ghost use Rattle.every_schedule.specs.Private.Knowing.{AreKnownOf};
-ghost use Rattle.every_schedule.specs.Private.Turning.{AreTurned, IsChild, IsMoved, MayTurn, reply_of};
+ghost use Rattle.every_schedule.specs.Private.Turning.{AreTurned, IsChild, IsMoved, IsSaid, MayTurn, reply_of};
 
 use crate::core_world::CoreWorld;
 use crate::known::Known;
 use crate::pool::{Pool, Pooled};
 use crate::row::Row;
-use crate::turns::{Said, Turn, Turns, reply_said, said};
+use crate::turns::{Said, Turn, Turns, reply_said, told};
 use cell_registry::{Limits, PlainRegistry, RunError};
 use effect_term::facts_of;
 use fiber_frames::{Config, Moved, Use};
@@ -269,6 +269,7 @@ fn replied(
 ) -> Result<Said, RunError>
     requires fits { Fits (cell_registered registry.old.state fiber) config.now }
     requires moves { moves_at (Some config.now) ≡ true }
+    ensures said { IfOk result IsSaid }
     ensures made { IfOk result (λ said. Replied registry.old fiber config.now (reply_of said) registry.new) }
     ensures refused { IfErr result (λ e. (registry.new ≡ registry.old) × Refuses registry.old fiber config.now e) }
     ensures asks { Asking config.now }
@@ -278,7 +279,7 @@ fn replied(
     facts_of(registry.limits());
     match Wish::of(config.ask()) {
         Wish::Shared(call) => match answer(registry, fiber, call) {
-            Ok(reply) => Ok(said(reply)),
+            Ok(reply) => Ok(told(reply)),
             Err(error) => Err(fault(fiber, error)),
         },
         Wish::Alone | Wish::Nothing => Ok(Said::Done),
@@ -307,6 +308,7 @@ fn turn_of(
     said: Said,
 ) -> Result<Turn, AllocError>
     requires state { state < length states.old.fibers.items.items }
+    requires said { IsSaid said }
     requires may { (g : Fiber) → slice_get states.old.fibers.items.items state ≡ Some g → MayTurn g (reply_of said) }
     requires turns { AreTurned states.old.fibers.items.items states.old.turns.kept.items }
     requires known { AreKnownOf states.old.fibers.items.items states.old.known.items }
@@ -349,6 +351,7 @@ fn made(
     said: Said,
 ) -> Result<Turn, AllocError>
     requires state { state < length pool.old.items.items }
+    requires said { IsSaid said }
     requires may { (g : Fiber) → slice_get pool.old.items.items state ≡ Some g → MayTurn g (reply_of said) }
     ensures more { IsMore pool.old.items.items pool.new.items.items }
     ensures turned { IfOk result (λ turn. IsMoved pool.new.items.items state (reply_of said) turn) }
@@ -362,7 +365,8 @@ fn made(
 
 // The move under a reply, and the child that it starts, if it starts one.
 fn resumed(fiber: &mut Config, said: Said) -> Result<Option<Config>, AllocError>
-    requires { MayTurn fiber.old (reply_of said) }
+    requires said { IsSaid said }
+    requires may { MayTurn fiber.old (reply_of said) }
     ensures state { OnOk result (fiber.new ≡ move fiber.old (reply_of said)) }
     ensures child { IfOk result (λ child. option_to_list child ≡ children (moved fiber.old (reply_of said))) }
 {

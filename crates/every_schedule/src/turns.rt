@@ -1,14 +1,15 @@
 //! What moves make of the states of fibers, kept by the numbers of states.
 ghost use Rattle.std.specs.Prelude.{◌≡◌, ◌++◌, [], ◌∷◌, IfSome, OnErr, OnOk};
+ghost use Rattle.effect_term.specs.Values.{IsValue};
 ghost use Rattle.effect_term.specs.declared.reply.JoinReply.TheVariants as TheJoin;
 ghost use Rattle.effect_term.specs.declared.reply.Reply.TheVariants as TheReply;
-ghost use Rattle.every_schedule.specs.Private.Turning.{IsAmong, reply_of};
+ghost use Rattle.every_schedule.specs.Private.Turning.{IsAmong, IsSaid, reply_of};
 
 use effect_term::{CancelReply, JoinReply, Outcome, Reply, Value};
 use std::alloc::{AllocError, Global};
 use std::collections::HashMap;
 
-/// A reply, in one piece.
+/// A reply, with the number of a value in the place of the value.
 #[derive(Clone, Copy, PartialEq, Eq)]
 pub(crate) enum Said {
     /// The call is made.
@@ -24,21 +25,21 @@ pub(crate) enum Said {
     /// A join: the fiber hasn't ended.
     Waits,
     /// A join: the fiber succeeded.
-    Succeeded(Value),
+    Succeeded(i64),
     /// A join: the fiber raised an error.
-    Errored(Value),
+    Errored(i64),
     /// A join: the fiber was canceled.
     Canceled,
     /// The number of the new fiber, ref or deferred.
     Number(u16),
     /// The value of a ref.
-    Value(Value),
+    Value(i64),
     /// Whether this call completed the deferred.
     Completed(bool),
     /// The deferred isn't completed.
     Empty,
     /// The value of a deferred that is completed.
-    Full(Value),
+    Full(i64),
 }
 
 /// The number of a fiber's state behind a move, and that of the child which the move starts, if it starts one.
@@ -125,25 +126,21 @@ fn said_key(said: Said) -> (u64, u64) {
         Said::Already => (4, 0),
         Said::Over => (5, 0),
         Said::Waits => (6, 0),
-        Said::Succeeded(value) => (7, value_key(value)),
-        Said::Errored(code) => (8, value_key(code)),
+        Said::Succeeded(value) => (7, value.cast_unsigned()),
+        Said::Errored(code) => (8, code.cast_unsigned()),
         Said::Canceled => (9, 0),
         Said::Number(number) => (10, u64::from(number)),
-        Said::Value(value) => (11, value_key(value)),
+        Said::Value(value) => (11, value.cast_unsigned()),
         Said::Completed(completed) => (12, u64::from(completed)),
         Said::Empty => (13, 0),
-        Said::Full(value) => (14, value_key(value)),
+        Said::Full(value) => (14, value.cast_unsigned()),
     }
 }
 
-// The number of a value.
-fn value_key(value: Value) -> u64 {
-    value.get().cast_unsigned()
-}
-
 /// The reply in one piece.
-pub(crate) fn said(reply: Reply) -> Said
-    ensures { reply_of result ≡ reply }
+pub(crate) fn told(reply: Reply) -> Said
+    ensures reply { reply_of result ≡ reply }
+    ensures value { IsSaid result }
 {
     match reply {
         Reply::Done => Said::Done,
@@ -154,7 +151,7 @@ pub(crate) fn said(reply: Reply) -> Said
         Reply::Join(JoinReply::Waits) => Said::Waits,
         Reply::Join(JoinReply::Ended(outcome)) => said_of(outcome),
         Reply::Number(number) => Said::Number(number),
-        Reply::Value(value) => Said::Value(value),
+        Reply::Value(value) => Said::Value(value.get()),
         Reply::Completed(completed) => Said::Completed(completed),
         Reply::Read(read) => said_read(read),
     }
@@ -162,27 +159,30 @@ pub(crate) fn said(reply: Reply) -> Said
 
 // The reply to a join of a fiber that ended so.
 fn said_of(outcome: Outcome) -> Said
-    ensures { reply_of result ≡ TheReply.Join (TheJoin.Ended outcome) }
+    ensures reply { reply_of result ≡ TheReply.Join (TheJoin.Ended outcome) }
+    ensures value { IsSaid result }
 {
     match outcome {
-        Outcome::Succeeded(value) => Said::Succeeded(value),
-        Outcome::Errored(code) => Said::Errored(code),
+        Outcome::Succeeded(value) => Said::Succeeded(value.get()),
+        Outcome::Errored(code) => Said::Errored(code.get()),
         Outcome::Canceled => Said::Canceled,
     }
 }
 
 // The reply to a wait for a deferred.
 fn said_read(read: Option<Value>) -> Said
-    ensures { reply_of result ≡ TheReply.Read read }
+    ensures reply { reply_of result ≡ TheReply.Read read }
+    ensures value { IsSaid result }
 {
     match read {
         None => Said::Empty,
-        Some(value) => Said::Full(value),
+        Some(value) => Said::Full(value.get()),
     }
 }
 
 /// The reply that was said so.
 pub(crate) fn reply_said(said: Said) -> Reply
+    requires { IsSaid said }
     ensures { result ≡ reply_of said }
 {
     match said {
@@ -192,13 +192,24 @@ pub(crate) fn reply_said(said: Said) -> Reply
         Said::Already => Reply::Cancel(CancelReply::Already),
         Said::Over => Reply::Cancel(CancelReply::Ended),
         Said::Waits => Reply::Join(JoinReply::Waits),
-        Said::Succeeded(value) => Reply::Join(JoinReply::Ended(Outcome::Succeeded(value))),
-        Said::Errored(code) => Reply::Join(JoinReply::Ended(Outcome::Errored(code))),
+        Said::Succeeded(number) => Reply::Join(JoinReply::Ended(Outcome::Succeeded(value_of(number)))),
+        Said::Errored(number) => Reply::Join(JoinReply::Ended(Outcome::Errored(value_of(number)))),
         Said::Canceled => Reply::Join(JoinReply::Ended(Outcome::Canceled)),
         Said::Number(number) => Reply::Number(number),
-        Said::Value(value) => Reply::Value(value),
+        Said::Value(number) => Reply::Value(value_of(number)),
         Said::Completed(completed) => Reply::Completed(completed),
         Said::Empty => Reply::Read(None),
-        Said::Full(value) => Reply::Read(Some(value)),
+        Said::Full(number) => Reply::Read(Some(value_of(number))),
+    }
+}
+
+// The value of this number.
+fn value_of(number: i64) -> Value
+    requires { IsValue number }
+    ensures { result ≡ number }
+{
+    match Value::of(number) {
+        Some(value) => value,
+        None => Value::ZERO,
     }
 }

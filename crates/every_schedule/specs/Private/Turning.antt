@@ -2,6 +2,7 @@
 use Rattle.std.specs.Prelude.{◌≡◌, ℕ, ◌<◌, ◌^◌, List, [], ◌∷◌, Option, Some, None}
 use Rattle.std.specs.List.{slice_get}
 use Rattle.effect_term.specs.declared.reply.Reply.{Reply}
+use Rattle.effect_term.specs.Values.{IsValue}
 use Rattle.fiber_frames.specs.Answers.{Answers}
 use Rattle.fiber_frames.specs.Fiber.{Fiber, ask_of, move}
 use Rattle.fiber_frames.specs.Moves.{moved}
@@ -41,6 +42,14 @@ reply_of (said.Value v) = reply.Value v
 reply_of (said.Completed b) = reply.Completed b
 reply_of said.Empty = reply.Read None
 reply_of (said.Full v) = reply.Read (Some v)
+
+-- the number of its value is that of one
+abbrev pub IsSaid : Said → Type 0
+IsSaid (said.Succeeded v) = IsValue v
+IsSaid (said.Errored v) = IsValue v
+IsSaid (said.Value v) = IsValue v
+IsSaid (said.Full v) = IsValue v
+IsSaid _ = Unit {0}
 
 -- the move of the state of this number, under this reply, leads to the states of these numbers
 pub record IsMoved (fs : List Fiber) (state : ℕ) (r : Reply) (t : Turn) : Type 0 where

@@ -8,8 +8,8 @@ use Rattle.world_search.proofs.Lists.{more_get, more_more}
 use Rattle.every_schedule.specs.Private.Turning.{IsChild, IsMoved, MayTurn, reply_of}
 use Rattle.every_schedule.proofs.current.made.Goals as goal
 
-pub resumed-requires : goal.resumed-requires
-resumed-requires c =
+pub resumed-requires-clause-may : goal.resumed-requires-clause-may
+resumed-requires-clause-may c =
     let at : slice_get c.args.pool.now.items.items c.args.state ≡ Some c.index.result.now = grind (arith, common_steps, gets) in
     subst (λ (g : Fiber). MayTurn g (reply_of c.args.said)) (sym c.in_ok-fiber.ensures) (c.requires.may c.index.result.now at)
 

@@ -24,7 +24,7 @@ answer-requires c = λ range.
 pub returns-in-Ok-clause-made : goal.returns-in-Ok-clause-made
 returns-in-Ok-clause-made c =
     let wish : wish_of (ask_of c.args.config.now) ≡ Shared c.in-Shared.call = ap wish_of (sym c.ask.ensures.ask) ∙ sym c.of.ensures ∙ c.in-Shared.is in
-    subst (λ (r : Reply). Replied c.args.registry.now c.args.fiber c.args.config.now r c.answer.new.registry) (sym c.said.ensures)
+    subst (λ (r : Reply). Replied c.args.registry.now c.args.fiber c.args.config.now r c.answer.new.registry) (sym c.told.ensures.reply)
     (Made c.in-Shared.call wish c.in-Ok.ensures)
 
 pub returns-in-Err-clause-refused : goal.returns-in-Err-clause-refused
