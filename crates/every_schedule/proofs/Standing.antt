@@ -175,10 +175,10 @@ moves_there gs f None e m = absurd (cc)
 moves_there gs f (Some g) e m = slice_get_within gs f g e
 
 -- ---- an entry
-pub at_place : PlainView → List Fiber → Place
+abbrev pub at_place : PlainView → List Fiber → Place
 at_place r gs = record { limits = r.limits; world = world_of gs r.state }
 
-pub forgot : PlainView → PlainView
+abbrev pub forgot : PlainView → PlainView
 forgot r = record r { state = without_waits r.state }
 
 module _ (old : PlainView) (gs : List Fiber) (f : ℕ) (g : Fiber) (all : AllFit (world_of gs old.state)) (lawful : IsPlain old)
@@ -231,14 +231,13 @@ pub none_numbered : (fs gs : List Fiber) → AreAt fs [] (take 0 gs)
 none_numbered fs [] = record { many = refl; each = λ i n e. absurd (cc) }
 none_numbered fs (g ∷ gs) = record { many = refl; each = λ i n e. absurd (cc) }
 
-take_next : {A : Type 0} (xs : List A) (i : ℕ) (x : A) → slice_get xs i ≡ Some x → take (i + 1) xs ≡ take i xs ++ x ∷ []
+take_next : {A : Type 0} (xs : List A) (i : ℕ) (x : A) → slice_get xs i ≡ Some x → take (suc i) xs ≡ take i xs ++ x ∷ []
 take_next [] i x e = absurd (cc)
-take_next (y ∷ xs) zero x e = subst (λ (z : _). take 1 (y ∷ xs) ≡ z ∷ []) (same_Some y x e) (none xs)
-  where
-    none : (zs : List _) → take 1 (y ∷ zs) ≡ y ∷ []
-    none [] = refl
-    none (z ∷ zs) = refl
+take_next (y ∷ xs) zero x e = ap (λ z. z ∷ []) (same_Some y x e)
 take_next (y ∷ xs) (suc i) x e = ap (λ l. y ∷ l) (take_next xs i x e)
+
+take_one_more : {A : Type 0} (xs : List A) (i : ℕ) (x : A) → slice_get xs i ≡ Some x → take (i + 1) xs ≡ take i xs ++ x ∷ []
+take_one_more xs i x e = (let one : i + 1 ≡ suc i = omega arith in ap (λ n. take n xs) one) ∙ take_next xs i x e
 
 one_more : (fs : List Fiber) (ns : List ℕ) (gs : List Fiber) (n : ℕ) (g : Fiber) → slice_get fs n ≡ Some g → AreAt fs ns gs →
     AreAt fs (ns ++ n ∷ []) (gs ++ g ∷ [])
@@ -247,9 +246,9 @@ one_more fs ns gs n g at h = at_child fs ns gs (Some n) (g ∷ []) (g, refl, at)
 pub taken_at : (fs : List Fiber) (ns : List ℕ) (i : ℕ) (gs : List Fiber) (n : ℕ) (g : Fiber) → slice_get ns i ≡ Some n → slice_get fs n ≡ Some g →
     AreAt fs (take i ns) gs → AreAt fs (take (i + 1) ns) (gs ++ g ∷ [])
 taken_at fs ns i gs n g here at h =
-    subst (λ (l : List ℕ). AreAt fs l (gs ++ g ∷ [])) (sym (take_next ns i n here)) (one_more fs (take i ns) gs n g at h)
+    subst (λ (l : List ℕ). AreAt fs l (gs ++ g ∷ [])) (sym (take_one_more ns i n here)) (one_more fs (take i ns) gs n g at h)
 
 pub numbered_at : (fs : List Fiber) (ns : List ℕ) (gs : List Fiber) (i n : ℕ) (g : Fiber) → slice_get gs i ≡ Some g → slice_get fs n ≡ Some g →
     AreAt fs ns (take i gs) → AreAt fs (ns ++ n ∷ []) (take (i + 1) gs)
 numbered_at fs ns gs i n g here at h =
-    subst (λ (l : List Fiber). AreAt fs (ns ++ n ∷ []) l) (sym (take_next gs i g here)) (one_more fs ns (take i gs) n g at h)
+    subst (λ (l : List Fiber). AreAt fs (ns ++ n ∷ []) l) (sym (take_one_more gs i g here)) (one_more fs ns (take i gs) n g at h)

@@ -40,3 +40,6 @@ turned_added fs ts t is h = λ i x at. elim (get_end ts t x i at) [
 pub found_moved : (fs : List Fiber) (ts : List Turned) (n : ℕ) (d : Said) (r : Reply) (t : Turn) → reply_of d ≡ r → AreTurned fs ts →
     IsAmong ts record { state = n; said = d; turn = t } → IsMoved fs n r t
 found_moved fs ts n d r t is h at = subst (λ (x : Reply). IsMoved fs n x t) is (h at.0 _ at.1)
+
+pub turned_none : (fs : List Fiber) → AreTurned fs []
+turned_none fs = λ i t at. absurd (cc)

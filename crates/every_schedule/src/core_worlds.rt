@@ -189,12 +189,11 @@ impl CoreWorlds {
         self.current.go_to(row)?;
         self.trail.clear();
         match leap(&mut self.current, fiber, at_once, &mut self.trail) {
-            Ok(()) => {
-                let row = self.current.row()?;
-                keep(self.alloc, &mut self.rows, &row, most)
-            }
-            Err(fault) => fault_met(&mut self.faults, fault),
+            Ok(()) => {}
+            Err(fault) => return fault_met(&mut self.faults, fault),
         }
+        let row = self.current.row()?;
+        keep(self.alloc, &mut self.rows, &row, most)
     }
 }
 

@@ -1,6 +1,6 @@
 //! The world at which entries are made.
 ghost use Rattle.std.specs.Prelude.{◌≡◌, ◌⊎◌, ◌<◌, ◌++◌, length, slice_set, true};
-ghost use Rattle.std.specs.Prelude.{IfErr, IfOk, OnOk, Some, Ok as GoesWell, Err as Fails};
+ghost use Rattle.std.specs.Prelude.{IfErr, IfOk, OnErr, OnOk, Some, Ok as GoesWell, Err as Fails};
 ghost use Rattle.std.specs.List.{All, slice_get};
 ghost use Rattle.std.specs.Option.{option_to_list};
 ghost use Rattle.cell_registry.specs.declared.limits.Limits.{Limits as TheLimits};
@@ -289,8 +289,9 @@ fn replied(
 // The fiber of this place gets its new state, and its child the next place.
 fn put(numbers: &mut Vec<u32>, place: usize, turn: Turn) -> Result<(), AllocError>
     requires { place < length numbers.old.items }
-    ensures { OnOk result (numbers.new.items ≡
+    ensures put { OnOk result (numbers.new.items ≡
         slice_set (numbers.old.items ++ option_to_list turn.child) place turn.state) }
+    ensures same { OnErr result (numbers.new.items ≡ numbers.old.items) }
 {
     if let Some(child) = turn.child {
         numbers.push(child)?;

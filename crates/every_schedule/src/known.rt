@@ -34,15 +34,21 @@ impl Known {
     pub(crate) fn of(alloc: Global, fiber: &Config, limits: Limits) -> Result<Known, AllocError>
         ensures { IfOk result (IsKnown fiber.now) }
     {
+        let cancels = unknown(alloc, limits.fibers)?;
+        let joins = unknown(alloc, limits.fibers)?;
+        let gets = unknown(alloc, limits.refs)?;
+        let stores = unknown(alloc, limits.refs)?;
+        let completes = unknown(alloc, limits.deferreds)?;
+        let awaits = unknown(alloc, limits.deferreds)?;
         Ok(Known {
             wish: Wish::of(fiber.ask()),
             waits_alone: fiber.waits_alone(),
-            cancels: unknown(alloc, limits.fibers)?,
-            joins: unknown(alloc, limits.fibers)?,
-            gets: unknown(alloc, limits.refs)?,
-            stores: unknown(alloc, limits.refs)?,
-            completes: unknown(alloc, limits.deferreds)?,
-            awaits: unknown(alloc, limits.deferreds)?,
+            cancels,
+            joins,
+            gets,
+            stores,
+            completes,
+            awaits,
         })
     }
 

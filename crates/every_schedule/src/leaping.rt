@@ -151,17 +151,16 @@ fn push_fiber(
         return Ok(false);
     }
     match current.enter(fiber) {
-        Ok(()) => {
-            add(trail, fiber)?;
-            Ok(true)
-        }
+        Ok(()) => {}
         Err(fault) => {
             if is_memory(fault) {
                 return Err(AllocError);
             }
-            Ok(false)
+            return Ok(false);
         }
     }
+    add(trail, fiber)?;
+    Ok(true)
 }
 
 // Whether a fiber is born and its next move is an own one that may be made at once.

@@ -145,15 +145,43 @@ pub(crate) fn told(reply: Reply) -> Said
     match reply {
         Reply::Done => Said::Done,
         Reply::Seen(seen) => Said::Seen(seen),
-        Reply::Cancel(CancelReply::Asked) => Said::Asked,
-        Reply::Cancel(CancelReply::Already) => Said::Already,
-        Reply::Cancel(CancelReply::Ended) => Said::Over,
-        Reply::Join(JoinReply::Waits) => Said::Waits,
-        Reply::Join(JoinReply::Ended(outcome)) => said_of(outcome),
+        Reply::Cancel(cancel) => said_cancel(cancel),
+        Reply::Join(join) => said_join(join),
         Reply::Number(number) => Said::Number(number),
-        Reply::Value(value) => Said::Value(value.get()),
+        Reply::Value(value) => said_value(value),
         Reply::Completed(completed) => Said::Completed(completed),
         Reply::Read(read) => said_read(read),
+    }
+}
+
+// The reply to a request.
+fn said_cancel(cancel: CancelReply) -> Said
+    ensures reply { reply_of result ≡ TheReply.Cancel cancel }
+    ensures value { IsSaid result }
+{
+    match cancel {
+        CancelReply::Asked => Said::Asked,
+        CancelReply::Already => Said::Already,
+        CancelReply::Ended => Said::Over,
+    }
+}
+
+// The value of a ref.
+fn said_value(value: Value) -> Said
+    ensures reply { reply_of result ≡ TheReply.Value value }
+    ensures value { IsSaid result }
+{
+    Said::Value(value.get())
+}
+
+// The reply to a join.
+fn said_join(join: JoinReply) -> Said
+    ensures reply { reply_of result ≡ TheReply.Join join }
+    ensures value { IsSaid result }
+{
+    match join {
+        JoinReply::Waits => Said::Waits,
+        JoinReply::Ended(outcome) => said_of(outcome),
     }
 }
 

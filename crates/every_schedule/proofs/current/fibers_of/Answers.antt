@@ -1,12 +1,12 @@
-use Rattle.std.proofs.Common.{◌≡◌, ◌≤◌, ◌+◌, ℕ, List, length, take, sym, ap, ◌∙◌, subst, arith}
+use Rattle.std.proofs.Common.{slice_index_or, ◌≡◌, ◌≤◌, ◌+◌, ℕ, List, length, take, sym, ap, ◌∙◌, subst, arith}
 use Rattle.std.specs.Prelude.{Some}
 use Rattle.std.specs.List.{slice_get}
 use Rattle.std.proofs.lemmas.Grind.{common_steps}
-use Rattle.std.proofs.lemmas.Option.{gets}
+use Rattle.std.proofs.lemmas.Option.{gets, slice_get-get_or}
 use Rattle.std.proofs.lemmas.List.{take_all}
 use Rattle.fiber_frames.specs.Fiber.{Fiber}
 use Rattle.every_schedule.specs.Private.Numbered.{AreAt}
-use Rattle.every_schedule.proofs.Standing.{taken_at, taken_none}
+use Rattle.every_schedule.proofs.Standing.{all_low, taken_at, taken_none}
 use Rattle.every_schedule.proofs.current.fibers_of.Goals as goal
 
 pub loop-i-init : goal.loop-i-init
@@ -17,10 +17,15 @@ loop-i-init c =
 pub loop-i-preserved : goal.loop-i-preserved
 loop-i-preserved c =
     let fs = c.args.pool.now.items.items in
-    let number : slice_get c.args.numbers.now c.loop-i.i ≡ Some c.index-2.result.now = grind (arith, common_steps, gets) in
-    let state : slice_get fs c.index-2.result.now ≡ Some c.in_ok-fiber.fiber = grind (arith, common_steps, gets) in
-    subst (λ (l : List Fiber). AreAt fs (take (c.loop-i.i + 1) c.args.numbers.now) l) (sym c.in_ok-push.ensures.items)
-    (taken_at fs c.args.numbers.now c.loop-i.i c.loop-i.fibers.items c.index-2.result.now c.in_ok-fiber.fiber number state c.loop-i.invariant)
+    let ns = c.args.numbers.now in
+    let i = c.loop-i.i in
+    let n = slice_index_or ns i 0 in
+    let number : slice_get ns i ≡ Some n = slice_get-get_or ns i 0 (omega arith) in
+    let low = all_low fs ns i n c.requires number in
+    let item : slice_get fs n ≡ Some c.index.result.now = grind (arith, common_steps, gets) in
+    let state : slice_get fs n ≡ Some c.in_ok-fiber.fiber = item ∙ ap Some (sym c.in_ok-fiber.ensures) in
+    subst (λ (l : List Fiber). AreAt fs (take (i + 1) ns) l) (sym c.in_ok-push.ensures.items)
+    (taken_at fs ns i c.loop-i.fibers.items n c.in_ok-fiber.fiber number state c.loop-i.invariant)
 
 pub returns : goal.returns
 returns c =

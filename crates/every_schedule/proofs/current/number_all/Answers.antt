@@ -25,12 +25,12 @@ loop-i-preserved c =
     let told = c.in_ok-number.ensures in
     let fs = c.loop-i.pool.items.items in
     let gs = c.number_of.new.self.items.items in
-    let at : slice_get c.args.fibers.now c.loop-i.i ≡ Some c.index.result.now = grind (arith, common_steps, gets) in
+    let at : slice_get c.args.fibers.now c.loop-i.i ≡ Some c.index-fibers-i.result = grind (arith, common_steps, gets) in
     let before = at_more fs gs c.loop-i.numbers.items (take c.loop-i.i c.args.fibers.now) told.more known.numbers in
     record {
       more = more_more c.args.pool.now.items.items fs gs known.more told.more;
       numbers = subst (λ (l : List ℕ). AreAt gs l (take (c.loop-i.i + 1) c.args.fibers.now)) (sym c.in_ok-push.ensures.items)
-          (numbered_at gs c.loop-i.numbers.items c.args.fibers.now c.loop-i.i c.in_ok-number.number c.index.result.now at told.number before);
+          (numbered_at gs c.loop-i.numbers.items c.args.fibers.now c.loop-i.i c.in_ok-number.number c.index-fibers-i.result at told.number before);
     }
 
 pub returns-in_err-number-clause-more : goal.returns-in_err-number-clause-more

@@ -1,4 +1,4 @@
-use Rattle.std.proofs.Common.{◌≡◌, ◌×◌, ℕ, refl, sym, ap, ◌∙◌, subst, absurd}
+use Rattle.std.proofs.Common.{◌≡◌, ℕ, refl, sym, ap, ◌∙◌, subst}
 use Rattle.std.specs.Prelude.{Bool, true, Some}
 use Rattle.effect_term.specs.declared.reply.Reply.{Reply}
 use Rattle.fiber_frames.specs.Fiber.{ask_of}
@@ -38,3 +38,13 @@ returns-in-Err-clause-refused c =
       fault = c.fault.ensures;
     } in
     (c.in-Err.ensures.same, refused)
+
+pub returns-in-Ok-clause-asks : goal.returns-in-Ok-clause-asks
+returns-in-Ok-clause-asks c =
+    asking c.args.config.now c.ask.result c.ask.ensures.ask c.ask.ensures.tells c.ask.ensures.leads
+    c.ask.ensures.names c.ask.ensures.moves_names c.ask.ensures.child_names
+
+pub returns-in-Err-clause-asks : goal.returns-in-Err-clause-asks
+returns-in-Err-clause-asks c =
+    asking c.args.config.now c.ask.result c.ask.ensures.ask c.ask.ensures.tells c.ask.ensures.leads
+    c.ask.ensures.names c.ask.ensures.moves_names c.ask.ensures.child_names

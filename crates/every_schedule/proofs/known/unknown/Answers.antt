@@ -1,4 +1,4 @@
-use Rattle.std.proofs.Common.{◌≡◌, inl, inr, sym, ap, ◌∙◌, subst}
+use Rattle.std.proofs.Common.{◌≡◌, [], inl, inr, sym, ap, ◌∙◌, subst}
 use Rattle.std.specs.Prelude.{List, Option, Bool, Some, None}
 use Rattle.std.specs.List.{slice_get}
 use Rattle.world_search.proofs.Lists.{get_end}
@@ -7,7 +7,7 @@ use Rattle.every_schedule.proofs.known.unknown.Goals as goal
 
 pub loop-number-init : goal.loop-number-init
 loop-number-init c = λ i x at.
-    let no : slice_get [] i ≡ Some x = subst (λ (l : List (Option Bool)). slice_get l i ≡ Some x) c.new-uses.ensures.items at in cc
+    let no : slice_get [] i ≡ Some x = subst (λ (l : List (Option Bool)). slice_get l i ≡ Some x) c.new-uses.ensures.items at in absurd (cc)
 
 pub loop-number-preserved : goal.loop-number-preserved
 loop-number-preserved c = λ i x at.

@@ -9,7 +9,7 @@ use Rattle.every_schedule.proofs.leaping.push.Goals as goal
 pub loop-move-init : goal.loop-move-init
 loop-move-init c = record {
   onward = onward_none c.args.current.now;
-  goes = refl;
+  goes = ap (λ i. pushed c.args.at_once.stores i (here c.args.current.now)) (let e : c.args.at_once.most ≡ c.args.at_once.most - 0 = omega arith in e);
   fits = c.requires;
   trail = trail_none c.args.trail.now.items (here c.args.current.now);
 }

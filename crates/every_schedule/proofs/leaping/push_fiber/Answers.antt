@@ -32,29 +32,6 @@ returns-then-not-has_own_move-clause-trail c =
     let p = here c.args.current.now in
     subst (λ (x : Place). IsTrail old old p (Ok x)) (sym c.has_own_move.ensures.same.here) (trail_none old p)
 
-pub returns-in-Ok-clause-onward : goal.returns-in-Ok-clause-onward
-returns-in-Ok-clause-onward c =
-    onward_on c.args.current.now c.has_own_move.new.current c.enter.new.self
-    (same_onward c.args.current.now c.has_own_move.new.current c.has_own_move.ensures.same) c.enter.ensures.onward
-
-pub returns-in-Ok-clause-goes : goal.returns-in-Ok-clause-goes
-returns-in-Ok-clause-goes c =
-    let p = here c.args.current.now in
-    let q = here c.enter.new.self in
-    let own = sym c.has_own_move.ensures.own ∙ c.if-not-has_own_move.false in
-    let goes : stepped p c.args.fiber ≡ Ok q = subst (λ (x : Place). stepped x c.args.fiber ≡ Ok q) c.has_own_move.ensures.same.here c.in-Ok.ensures.goes in
-    sym (fiber_made c.args.stores p c.args.fiber q own goes)
-
-pub returns-in-Ok-clause-trail : goal.returns-in-Ok-clause-trail
-returns-in-Ok-clause-trail c =
-    let old = c.args.trail.now.items in
-    let p = here c.args.current.now in
-    let q = here c.enter.new.self in
-    let own = sym c.has_own_move.ensures.own ∙ c.if-not-has_own_move.false in
-    let goes : stepped p c.args.fiber ≡ Ok q = subst (λ (x : Place). stepped x c.args.fiber ≡ Ok q) c.has_own_move.ensures.same.here c.in-Ok.ensures.goes in
-    subst (λ (l : List ℕ). IsTrail old l p (Ok q)) (sym c.in_ok-add-in-Ok.ensures)
-    (trail_one old p c.args.fiber (Ok q) c.requires.few (own_moves c.args.stores p c.args.fiber own) goes)
-
 pub returns-clause-onward : goal.returns-clause-onward
 returns-clause-onward c =
     onward_on c.args.current.now c.has_own_move.new.current c.enter.new.self
@@ -63,24 +40,47 @@ returns-clause-onward c =
 pub returns-clause-goes : goal.returns-clause-goes
 returns-clause-goes c =
     let p = here c.args.current.now in
+    let q = here c.enter.new.self in
+    let own = sym c.has_own_move.ensures.own ∙ c.if-not-has_own_move.false in
+    let goes : stepped p c.args.fiber ≡ Ok q = subst (λ (x : Place). stepped x c.args.fiber ≡ Ok q) c.has_own_move.ensures.same.here c.in-Ok.ensures.goes in
+    sym (fiber_made c.args.stores p c.args.fiber q own goes)
+
+pub returns-clause-trail : goal.returns-clause-trail
+returns-clause-trail c =
+    let old = c.args.trail.now.items in
+    let p = here c.args.current.now in
+    let q = here c.enter.new.self in
+    let own = sym c.has_own_move.ensures.own ∙ c.if-not-has_own_move.false in
+    let goes : stepped p c.args.fiber ≡ Ok q = subst (λ (x : Place). stepped x c.args.fiber ≡ Ok q) c.has_own_move.ensures.same.here c.in-Ok.ensures.goes in
+    subst (λ (l : List ℕ). IsTrail old l p (Ok q)) (sym c.in_ok-add.ensures)
+    (trail_one old p c.args.fiber (Ok q) c.requires.few (own_moves c.args.stores p c.args.fiber own) goes)
+
+pub returns-in-Err-clause-onward : goal.returns-in-Err-clause-onward
+returns-in-Err-clause-onward c =
+    onward_on c.args.current.now c.has_own_move.new.current c.enter.new.self
+    (same_onward c.args.current.now c.has_own_move.new.current c.has_own_move.ensures.same) c.enter.ensures.onward
+
+pub returns-in-Err-clause-goes : goal.returns-in-Err-clause-goes
+returns-in-Err-clause-goes c =
+    let p = here c.args.current.now in
     let own = sym c.has_own_move.ensures.own ∙ c.if-not-has_own_move.false in
     let both = refused_with c.in-Err.fault _ (c.is_memory.ensures c.if-is_memory.false) c.in-Err.ensures.stops in
     let stops : stepped p c.args.fiber ≡ Err c.in-Err.fault =
     subst (λ (x : Place). stepped x c.args.fiber ≡ Err c.in-Err.fault) c.has_own_move.ensures.same.here both.0 in
     both.1 ∙ c.has_own_move.ensures.same.here ∙ sym (fiber_refused c.args.stores p c.args.fiber c.in-Err.fault own stops)
 
-pub returns-clause-stays : goal.returns-clause-stays
-returns-clause-stays c = λ e.
+pub returns-in-Err-clause-stays : goal.returns-in-Err-clause-stays
+returns-in-Err-clause-stays c = λ e.
     let both = refused_with c.in-Err.fault _ (c.is_memory.ensures c.if-is_memory.false) c.in-Err.ensures.stops in
     both.1 ∙ c.has_own_move.ensures.same.here
 
-pub returns-clause-fits : goal.returns-clause-fits
-returns-clause-fits c =
+pub returns-in-Err-clause-fits : goal.returns-in-Err-clause-fits
+returns-in-Err-clause-fits c =
     let both = refused_with c.in-Err.fault _ (c.is_memory.ensures c.if-is_memory.false) c.in-Err.ensures.stops in
     subst (λ (p : Place). AllFit p.world) (sym (both.1 ∙ c.has_own_move.ensures.same.here)) c.requires.fits
 
-pub returns-clause-trail : goal.returns-clause-trail
-returns-clause-trail c =
+pub returns-in-Err-clause-trail : goal.returns-in-Err-clause-trail
+returns-in-Err-clause-trail c =
     let old = c.args.trail.now.items in
     let p = here c.args.current.now in
     let both = refused_with c.in-Err.fault _ (c.is_memory.ensures c.if-is_memory.false) c.in-Err.ensures.stops in

@@ -10,7 +10,7 @@ use Rattle.every_schedule.proofs.leaping.push_once.Goals as goal
 pub loop-done-init : goal.loop-done-init
 loop-done-init c = record {
   onward = onward_none c.args.current.now;
-  goes = refl;
+  goes = ap (λ i. swept c.args.stores i (here c.args.current.now)) (let e : c.few_born-born.result ≡ c.few_born-born.result - 0 = omega arith in e);
   stays = λ e. refl;
   fits = c.requires;
   trail = trail_none c.args.trail.now.items (here c.args.current.now);

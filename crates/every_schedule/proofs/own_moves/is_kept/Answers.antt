@@ -13,14 +13,14 @@ use Rattle.every_schedule.proofs.own_moves.is_kept.Goals as goal
 pub loop-place-init : goal.loop-place-init
 loop-place-init c = record { same = same_none c.args.current.now; spared = refl }
 
-pub spares-requires-clause-place : goal.spares-requires-clause-place
-spares-requires-clause-place c =
-    let long = c.born.ensures in
+pub spares-spared-requires-clause-place : goal.spares-spared-requires-clause-place
+spares-spared-requires-clause-place c =
+    let long = c.born-place-end.ensures in
     let same = ap (λ (p : Place). length p.world.fibers) c.loop-place.invariant.same.here in
     omega arith
 
-pub spares-requires-clause-fits : goal.spares-requires-clause-fits
-spares-requires-clause-fits c = subst (λ (p : Place). AllFit p.world) (sym c.loop-place.invariant.same.here) c.requires.fits
+pub spares-spared-requires-clause-fits : goal.spares-spared-requires-clause-fits
+spares-spared-requires-clause-fits c = subst (λ (p : Place). AllFit p.world) (sym c.loop-place.invariant.same.here) c.requires.fits
 
 pub returns-then-not-spared-clause-same : goal.returns-then-not-spared-clause-same
 returns-then-not-spared-clause-same c =
@@ -33,7 +33,7 @@ returns-then-not-spared-clause-kept c =
     let n = c.args.number in
     let f = c.args.by in
     let i = c.loop-place.place in
-    let long = c.born.ensures in
+    let long = c.born-place-end.ensures in
     let low : i < length w.fibers = omega arith in
     let b = get_low w.fibers i low in
     let known = c.loop-place.invariant in
@@ -49,7 +49,7 @@ loop-place-preserved c =
     let n = c.args.number in
     let f = c.args.by in
     let i = c.loop-place.place in
-    let long = c.born.ensures in
+    let long = c.born-place-end.ensures in
     let low : i < length w.fibers = omega arith in
     let b = get_low w.fibers i low in
     let known = c.loop-place.invariant in
@@ -67,7 +67,7 @@ returns-clause-kept c =
     let u = c.args.what in
     let n = c.args.number in
     let f = c.args.by in
-    let long = c.born.ensures in
+    let long = c.born-place-end.ensures in
     let past : length w.fibers ≤ c.loop-place.place = omega arith in
     sym (given_kept u w f n c.requires.given ∙ c.loop-place.invariant.spared ∙ none_left (keeps u n) f w.fibers c.loop-place.place past)
 

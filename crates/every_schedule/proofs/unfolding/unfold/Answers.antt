@@ -19,7 +19,7 @@ loop-fiber-init c =
     let first = first_place (code_of (source_of c.args.program.now)) c.args.limits in
     let same : here c.in_ok-current.current ≡ first = c.in_ok-current.ensures.here ∙ c.in_ok-first.ensures in
     record {
-      fits = subst (λ (p : Place). AllFit p.world) (sym c.in_ok-current.ensures.here) c.new-current.ensures.fits;
+      fits = subst (λ (p : Place). AllFit p.world) (sym c.in_ok-current.ensures.here) c.new.ensures.fits;
       goes = ap Ok (sym same);
       trail = subst (λ (l : List ℕ). IsTrail [] l first (Ok (here c.in_ok-current.current))) (sym c.new-trail.ensures.items)
           (subst (λ (x : Place). IsTrail [] [] first (Ok x)) (sym same) (trail_none [] first));

@@ -9,8 +9,8 @@ use Rattle.every_schedule.proofs.Numbered.{registry_there}
 use Rattle.every_schedule.proofs.Entering.{born_few, born_of, place_at}
 use Rattle.every_schedule.proofs.core_worlds.CoreWorlds.born_at.Goals as goal
 
-pub registry_of-requires : goal.registry_of-requires
-registry_of-requires c =
+pub registry_of-registry-requires : goal.registry_of-registry-requires
+registry_of-registry-requires c =
     let s = c.self.inside in
     let m = c.index-row.result.now in
     let row : slice_get s.rows.items.items c.args.world ≡ Some m = grind (arith, common_steps, gets) in

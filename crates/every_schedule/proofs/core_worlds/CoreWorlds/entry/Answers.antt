@@ -41,8 +41,8 @@ leap-requires c =
     let is_now : IsWorldOf fs rs m now = c.in_ok-go_to.ensures.here in
     fits_so k fs rs m now (c.self.invariant c.args.world m row) is_now
 
-pub invariant_of-self-in-Ok : goal.invariant_of-self-in-Ok
-invariant_of-self-in-Ok c = 
+pub invariant_of-self : goal.invariant_of-self
+invariant_of-self c = 
     let s = c.self.inside in
     let k = s.limits in
     let fs = s.current.fibers in
@@ -83,8 +83,8 @@ invariant_of-self-in-Err c =
     let mq : IsMore rs qs = subst (λ (l : List PlainView). IsMore l qs) c.go_to.ensures.registries c.leap.ensures.onward.registries in
     rows_stay k fs gs rs qs mg mq rows c.self.invariant c.args.world m row now is_now
 
-pub returns-in-Ok-clause-worlds : goal.returns-in-Ok-clause-worlds
-returns-in-Ok-clause-worlds c = 
+pub returns-clause-worlds : goal.returns-clause-worlds
+returns-clause-worlds c = 
     let s = c.self.inside in
     let k = s.limits in
     let fs = s.current.fibers in
@@ -111,13 +111,8 @@ returns-in-Ok-clause-worlds c =
     (places_hold k fs fs' rs rs' mf mr rows c.self.invariant c.args.world m row now is_now
     c.args.at_once c.args.fiber n next c.in-Ok.ensures.goes c.in_ok-row.ensures.row c.in-Ok.ensures.fits rows' c.keep.ensures.adds))
 
-pub returns-in-Ok-clause-faults : goal.returns-in-Ok-clause-faults
-returns-in-Ok-clause-faults c = 
-    let faults = ap (λ (x : Kept). x.faults) c.self.view_is in
-    always c.keep.result _ (subst (λ l. IsMore l c.self.inside.faults) faults (more_same c.self.inside.faults))
-
-pub returns-in-Ok-clause-lands : goal.returns-in-Ok-clause-lands
-returns-in-Ok-clause-lands c = 
+pub returns-clause-lands : goal.returns-clause-lands
+returns-clause-lands c = 
     let s = c.self.inside in
     let k = s.limits in
     let fs = s.current.fibers in
@@ -144,8 +139,8 @@ returns-in-Ok-clause-lands c =
     c.args.at_once c.args.fiber n next c.in-Ok.ensures.goes c.in_ok-row.ensures.row c.in-Ok.ensures.fits rows' c.keep.ensures.adds s.faults it kept w
     (ap (λ l. slice_get l c.args.world) places ∙ at)) c.keep.ensures.kept
 
-pub returns-in-Ok-clause-room : goal.returns-in-Ok-clause-room
-returns-in-Ok-clause-room c = 
+pub returns-clause-room : goal.returns-clause-room
+returns-clause-room c = 
     let s = c.self.inside in
     let k = s.limits in
     let fs = s.current.fibers in
@@ -171,8 +166,8 @@ returns-in-Ok-clause-room c =
     (λ it few. subst (λ l. length (map (place_of k fs' rs') rows') ≤ max c.args.most (length l)) places
     (room_kept (place_of k fs rs) (place_of k fs' rs') rows rows' c.args.most few)) c.keep.ensures.room
 
-pub returns-in-Ok-clause-next : goal.returns-in-Ok-clause-next
-returns-in-Ok-clause-next c = 
+pub returns-clause-next : goal.returns-clause-next
+returns-clause-next c = 
     let s = c.self.inside in
     let k = s.limits in
     let fs = s.current.fibers in
@@ -281,4 +276,25 @@ returns-in-Err-clause-next c =
     (λ it next. subst (λ l. IsNext (length l) (length (map (place_of k gs qs) rows)) c.args.most it) places
     (next_kept (place_of k fs rs) (place_of k gs qs) rows rows c.args.most it (next (length rows) c.args.most)))
     c.fault_met.ensures.next
+
+pub invariant_of-self-in_err-row : goal.invariant_of-self-in_err-row
+invariant_of-self-in_err-row c = 
+    let s = c.self.inside in
+    let k = s.limits in
+    let fs = s.current.fibers in
+    let rs = s.current.registries in
+    let rows = s.rows.items.items in
+    let m = c.index-row.result.now in
+    let row : slice_get rows c.args.world ≡ Some m = grind (arith, common_steps, gets) in
+    let now = here c.go_to.new.self in
+    let is_now : IsWorldOf fs rs m now = c.in_ok-go_to.ensures.here in
+    let gs = c.leap.new.current.fibers in
+    let qs = c.leap.new.current.registries in
+    let mg : IsMore fs gs = subst (λ (l : List Fiber). IsMore l gs) c.go_to.ensures.fibers c.leap.ensures.onward.fibers in
+    let mq : IsMore rs qs = subst (λ (l : List PlainView). IsMore l qs) c.go_to.ensures.registries c.leap.ensures.onward.registries in
+    let fs' = c.row.new.self.fibers in
+    let rs' = c.row.new.self.registries in
+    let mf = more_more fs gs fs' mg c.row.ensures.onward.fibers in
+    let mr = more_more rs qs rs' mq c.row.ensures.onward.registries in
+    rows_stay k fs fs' rs rs' mf mr rows c.self.invariant c.args.world m row now is_now
 

@@ -16,7 +16,7 @@ invariant_of-result c =
     let p = here c.in_ok-current.current in
     let first : p ≡ c.in_ok-first.first = c.in_ok-current.ensures.here in
     let limits : p.limits ≡ k = ap (λ (q : Place). q.limits) (first ∙ c.in_ok-first.ensures) in
-    let fits : AllFit p.world = subst (λ (q : Place). AllFit q.world) (sym first) c.new-current.ensures.fits in
+    let fits : AllFit p.world = subst (λ (q : Place). AllFit q.world) (sym first) c.new.ensures.fits in
     let rows : c.add.new.self.items.items ≡ n ∷ [] = c.in_ok-add.ensures.added ∙
     ap (λ (l : List Numbers). l ++ c.in_ok-row.row ∷ []) c.new-rows.ensures.none in
     subst (AreWorlds k fs rs) (sym rows) (first_worlds k fs rs n p c.in_ok-row.ensures.row limits fits)

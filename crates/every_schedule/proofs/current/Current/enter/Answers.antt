@@ -1,7 +1,7 @@
-use Rattle.std.proofs.Common.{◌≡◌, ◌<◌, ◌×◌, ◌++◌, true, inl, inr, length, set, refl, sym, ap, ◌∙◌, subst, arith}
+use Rattle.std.proofs.Common.{◌≡◌, ◌<◌, ◌++◌, true, inl, inr, length, set, refl, sym, ap, ◌∙◌, subst, arith}
 use Rattle.std.specs.Prelude.{List, ℕ, Some, Ok, Err}
 use Rattle.std.specs.Option.{option_to_list}
-use Rattle.std.specs.List.{slice_get}
+use Rattle.std.specs.List.{All, slice_get}
 use Rattle.std.proofs.lemmas.Grind.{common_steps}
 use Rattle.std.proofs.lemmas.Option.{gets, same_Some, slice_get_within}
 use Rattle.fiber_frames.specs.Fiber.{Fiber, move}
@@ -15,7 +15,7 @@ use Rattle.every_schedule.specs.Private.Numbered.{picked}
 use Rattle.every_schedule.specs.Private.Standing.{Stand, here}
 use Rattle.every_schedule.specs.Private.Turning.{MayTurn, reply_of}
 use Rattle.every_schedule.proofs.Bare.{idle_stays}
-use Rattle.every_schedule.proofs.Standing.{all_low, at_place, behind_is, behind_low, forgot, moves_there, picked_get, picked_long, step_fits, step_goes, step_stops}
+use Rattle.every_schedule.proofs.Standing.{all_low, at_place, behind_is, behind_low, forgot, low_more, moves_there, picked_get, picked_long, step_fits, step_goes, step_stops}
 use Rattle.every_schedule.proofs.current.Current.enter.Goals as goal
 
 pub returns-then-not-has_move-clause-goes : goal.returns-then-not-has_move-clause-goes
@@ -39,8 +39,15 @@ index-config-requires c =
     let s = c.self.inside in
     let fs = s.states.fibers.items.items in
     let ns = s.numbers.items in
+    let moving = subst (λ (x : Stand). moves_at (slice_get (here x).world.fibers c.args.fiber) ≡ true) (sym c.self.view_is)
+    (sym c.has_move.ensures ∙ c.if-not-has_move.false) in
+    let placed = moves_there (picked s.states.fibers.items.items s.numbers.items) c.args.fiber _ refl moving in
+    let long = picked_long s.states.fibers.items.items s.numbers.items c.self.invariant.0 in
+    let from = c.from-place.ensures in
+    let low : c.from-place.result < length s.numbers.items = omega arith in
     let at : slice_get ns c.from-place.result ≡ Some c.index-state.result.now = grind (arith, common_steps, gets) in
-    all_low fs ns c.from-place.result c.index-state.result.now c.self.invariant.0 at
+    let there = all_low fs ns c.from-place.result c.index-state.result.now c.self.invariant.0 at in
+    omega arith
 
 pub replied-requires-clause-fits : goal.replied-requires-clause-fits
 replied-requires-clause-fits c =
@@ -49,8 +56,15 @@ replied-requires-clause-fits c =
     let ns = s.numbers.items in
     let n = c.index-state.result.now in
     let h = c.index-config.result.now in
+    let moving = subst (λ (x : Stand). moves_at (slice_get (here x).world.fibers c.args.fiber) ≡ true) (sym c.self.view_is)
+    (sym c.has_move.ensures ∙ c.if-not-has_move.false) in
+    let placed = moves_there (picked s.states.fibers.items.items s.numbers.items) c.args.fiber _ refl moving in
+    let long = picked_long s.states.fibers.items.items s.numbers.items c.self.invariant.0 in
+    let from = c.from-place.ensures in
+    let low : c.from-place.result < length s.numbers.items = omega arith in
     let at0 : slice_get ns c.from-place.result ≡ Some n = grind (arith, common_steps, gets) in
     let at : slice_get ns c.args.fiber ≡ Some n = subst (λ i. slice_get ns i ≡ Some n) c.from-place.ensures at0 in
+    let inside = all_low fs ns c.args.fiber n c.self.invariant.0 at in
     let is : slice_get fs n ≡ Some h = grind (arith, common_steps, gets) in
     let fits = subst (λ (x : Stand). AllFit (here x).world) (sym c.self.view_is) c.requires in
     fits.each c.args.fiber h (picked_get fs ns c.args.fiber n h c.self.invariant.0 at is)
@@ -62,8 +76,15 @@ replied-requires-clause-moves c =
     let ns = s.numbers.items in
     let n = c.index-state.result.now in
     let h = c.index-config.result.now in
+    let moving = subst (λ (x : Stand). moves_at (slice_get (here x).world.fibers c.args.fiber) ≡ true) (sym c.self.view_is)
+    (sym c.has_move.ensures ∙ c.if-not-has_move.false) in
+    let placed = moves_there (picked s.states.fibers.items.items s.numbers.items) c.args.fiber _ refl moving in
+    let long = picked_long s.states.fibers.items.items s.numbers.items c.self.invariant.0 in
+    let from = c.from-place.ensures in
+    let low : c.from-place.result < length s.numbers.items = omega arith in
     let at0 : slice_get ns c.from-place.result ≡ Some n = grind (arith, common_steps, gets) in
     let at : slice_get ns c.args.fiber ≡ Some n = subst (λ i. slice_get ns i ≡ Some n) c.from-place.ensures at0 in
+    let inside = all_low fs ns c.args.fiber n c.self.invariant.0 at in
     let is : slice_get fs n ≡ Some h = grind (arith, common_steps, gets) in
     let moves = subst (λ (x : Stand). moves_at (slice_get (here x).world.fibers c.args.fiber) ≡ true) (sym c.self.view_is)
     (sym c.has_move.ensures ∙ c.if-not-has_move.false) in
@@ -76,8 +97,15 @@ returns-in-Err-clause-stops c =
     let ns = s.numbers.items in
     let n = c.index-state.result.now in
     let h = c.index-config.result.now in
+    let moving = subst (λ (x : Stand). moves_at (slice_get (here x).world.fibers c.args.fiber) ≡ true) (sym c.self.view_is)
+    (sym c.has_move.ensures ∙ c.if-not-has_move.false) in
+    let placed = moves_there (picked s.states.fibers.items.items s.numbers.items) c.args.fiber _ refl moving in
+    let long = picked_long s.states.fibers.items.items s.numbers.items c.self.invariant.0 in
+    let from = c.from-place.ensures in
+    let low : c.from-place.result < length s.numbers.items = omega arith in
     let at0 : slice_get ns c.from-place.result ≡ Some n = grind (arith, common_steps, gets) in
     let at : slice_get ns c.args.fiber ≡ Some n = subst (λ i. slice_get ns i ≡ Some n) c.from-place.ensures at0 in
+    let inside = all_low fs ns c.args.fiber n c.self.invariant.0 at in
     let is : slice_get fs n ≡ Some h = grind (arith, common_steps, gets) in
     let there = picked_get fs ns c.args.fiber n h c.self.invariant.0 at is in
     let fits = subst (λ (x : Stand). AllFit (here x).world) (sym c.self.view_is) c.requires in
@@ -93,6 +121,12 @@ returns-in-Err-clause-stops c =
 pub turn_of-requires-clause-state : goal.turn_of-requires-clause-state
 turn_of-requires-clause-state c =
     let s = c.self.inside in
+    let moving = subst (λ (x : Stand). moves_at (slice_get (here x).world.fibers c.args.fiber) ≡ true) (sym c.self.view_is)
+    (sym c.has_move.ensures ∙ c.if-not-has_move.false) in
+    let placed = moves_there (picked s.states.fibers.items.items s.numbers.items) c.args.fiber _ refl moving in
+    let long = picked_long s.states.fibers.items.items s.numbers.items c.self.invariant.0 in
+    let from = c.from-place.ensures in
+    let low : c.from-place.result < length s.numbers.items = omega arith in
     let at : slice_get s.numbers.items c.from-place.result ≡ Some c.index-state.result.now = grind (arith, common_steps, gets) in
     all_low s.states.fibers.items.items s.numbers.items c.from-place.result c.index-state.result.now c.self.invariant.0 at
 
@@ -103,8 +137,15 @@ turn_of-requires-clause-may c = λ g there.
     let ns = s.numbers.items in
     let n = c.index-state.result.now in
     let h = c.index-config.result.now in
+    let moving = subst (λ (x : Stand). moves_at (slice_get (here x).world.fibers c.args.fiber) ≡ true) (sym c.self.view_is)
+    (sym c.has_move.ensures ∙ c.if-not-has_move.false) in
+    let placed = moves_there (picked s.states.fibers.items.items s.numbers.items) c.args.fiber _ refl moving in
+    let long = picked_long s.states.fibers.items.items s.numbers.items c.self.invariant.0 in
+    let from = c.from-place.ensures in
+    let low : c.from-place.result < length s.numbers.items = omega arith in
     let at0 : slice_get ns c.from-place.result ≡ Some n = grind (arith, common_steps, gets) in
     let at : slice_get ns c.args.fiber ≡ Some n = subst (λ i. slice_get ns i ≡ Some n) c.from-place.ensures at0 in
+    let inside = all_low fs ns c.args.fiber n c.self.invariant.0 at in
     let is : slice_get fs n ≡ Some h = grind (arith, common_steps, gets) in
     let all = subst (λ (x : Stand). AllFit (here x).world) (sym c.self.view_is) c.requires in
     let fits = all.each c.args.fiber h (picked_get fs ns c.args.fiber n h c.self.invariant.0 at is) in
@@ -126,8 +167,15 @@ returns-clause-goes c =
     let f = c.args.fiber in
     let r = reply_of c.in-Ok.said in
     let t = c.in_ok-turn.turn in
+    let moving = subst (λ (x : Stand). moves_at (slice_get (here x).world.fibers c.args.fiber) ≡ true) (sym c.self.view_is)
+    (sym c.has_move.ensures ∙ c.if-not-has_move.false) in
+    let placed = moves_there (picked s.states.fibers.items.items s.numbers.items) c.args.fiber _ refl moving in
+    let long = picked_long s.states.fibers.items.items s.numbers.items c.self.invariant.0 in
+    let from = c.from-place.ensures in
+    let low : c.from-place.result < length s.numbers.items = omega arith in
     let at0 : slice_get ns c.from-place.result ≡ Some n = grind (arith, common_steps, gets) in
     let at : slice_get ns f ≡ Some n = subst (λ i. slice_get ns i ≡ Some n) c.from-place.ensures at0 in
+    let inside = all_low fs ns c.args.fiber n c.self.invariant.0 at in
     let is : slice_get fs n ≡ Some h = grind (arith, common_steps, gets) in
     let all = subst (λ (x : Stand). AllFit (here x).world) (sym c.self.view_is) c.requires in
     let moves = subst (λ (x : Stand). moves_at (slice_get (here x).world.fibers f) ≡ true) (sym c.self.view_is)
@@ -136,7 +184,7 @@ returns-clause-goes c =
     let goes = step_goes s.registry (picked fs ns) f h all c.replied.ensures.lawful there c.replied.ensures.asks moves r c.replied.new.registry c.in-Ok.ensures.made in
     let behind = behind_is fs gs ns c.self.invariant.0 c.turn_of.ensures.fibers f n h at is r t c.in_ok-turn.ensures.turned in
     let numbers : c.put.new.numbers.items ≡ set (ns ++ option_to_list t.child) f t.state =
-    c.in_ok-put.ensures ∙ ap (λ i. set (ns ++ option_to_list t.child) i t.state) c.from-place.ensures in
+    c.in_ok-put.ensures.put ∙ ap (λ i. set (ns ++ option_to_list t.child) i t.state) c.from-place.ensures in
     let same : at_place (forgot c.replied.new.registry) (set (picked fs ns) f (move h r) ++ children (moved h r)) ≡
     at_place c.forget_waits.new.self (picked gs c.put.new.numbers.items) =
     ap (λ (x : PlainView). at_place x (set (picked fs ns) f (move h r) ++ children (moved h r))) (sym c.forget_waits.ensures.forgets)
@@ -155,8 +203,15 @@ returns-clause-fits c =
     let f = c.args.fiber in
     let r = reply_of c.in-Ok.said in
     let t = c.in_ok-turn.turn in
+    let moving = subst (λ (x : Stand). moves_at (slice_get (here x).world.fibers c.args.fiber) ≡ true) (sym c.self.view_is)
+    (sym c.has_move.ensures ∙ c.if-not-has_move.false) in
+    let placed = moves_there (picked s.states.fibers.items.items s.numbers.items) c.args.fiber _ refl moving in
+    let long = picked_long s.states.fibers.items.items s.numbers.items c.self.invariant.0 in
+    let from = c.from-place.ensures in
+    let low : c.from-place.result < length s.numbers.items = omega arith in
     let at0 : slice_get ns c.from-place.result ≡ Some n = grind (arith, common_steps, gets) in
     let at : slice_get ns f ≡ Some n = subst (λ i. slice_get ns i ≡ Some n) c.from-place.ensures at0 in
+    let inside = all_low fs ns c.args.fiber n c.self.invariant.0 at in
     let is : slice_get fs n ≡ Some h = grind (arith, common_steps, gets) in
     let all = subst (λ (x : Stand). AllFit (here x).world) (sym c.self.view_is) c.requires in
     let moves = subst (λ (x : Stand). moves_at (slice_get (here x).world.fibers f) ≡ true) (sym c.self.view_is)
@@ -165,6 +220,93 @@ returns-clause-fits c =
     let fits = step_fits s.registry (picked fs ns) f h all c.replied.ensures.lawful there c.replied.ensures.asks moves r c.replied.new.registry c.in-Ok.ensures.made in
     let behind = behind_is fs gs ns c.self.invariant.0 c.turn_of.ensures.fibers f n h at is r t c.in_ok-turn.ensures.turned in
     let numbers : c.put.new.numbers.items ≡ set (ns ++ option_to_list t.child) f t.state =
-    c.in_ok-put.ensures ∙ ap (λ i. set (ns ++ option_to_list t.child) i t.state) c.from-place.ensures in
+    c.in_ok-put.ensures.put ∙ ap (λ i. set (ns ++ option_to_list t.child) i t.state) c.from-place.ensures in
     subst (λ (l : List Fiber). AllFit (world_of l c.forget_waits.new.self.state)) (sym behind ∙ ap (picked gs) (sym numbers))
     (subst (λ (x : PlainView). AllFit (world_of (set (picked fs ns) f (move h r) ++ children (moved h r)) x.state)) (sym c.forget_waits.ensures.forgets) fits)
+
+pub put-requires : goal.put-requires
+put-requires c =
+    let s = c.self.inside in
+    let moving = subst (λ (x : Stand). moves_at (slice_get (here x).world.fibers c.args.fiber) ≡ true) (sym c.self.view_is)
+    (sym c.has_move.ensures ∙ c.if-not-has_move.false) in
+    let placed = moves_there (picked s.states.fibers.items.items s.numbers.items) c.args.fiber _ refl moving in
+    let long = picked_long s.states.fibers.items.items s.numbers.items c.self.invariant.0 in
+    let from = c.from-place.ensures in
+    let low : c.from-place.result < length s.numbers.items = omega arith in
+    let at : slice_get ns c.from-place.result ≡ Some c.index-state.result.now = grind (arith, common_steps, gets) in
+    let there = all_low fs ns c.from-place.result c.index-state.result.now c.self.invariant.0 at in
+    omega arith
+
+pub replied-requires-clause-fits : goal.replied-requires-clause-fits
+replied-requires-clause-fits c =
+    let s = c.self.inside in
+    let fs = s.states.fibers.items.items in
+    let ns = s.numbers.items in
+    let n = c.index-state.result.now in
+    let h = c.index-config.result.now in
+    let moving = subst (λ (x : Stand). moves_at (slice_get (here x).world.fibers c.args.fiber) ≡ true) (sym c.self.view_is)
+    (sym c.has_move.ensures ∙ c.if-not-has_move.false) in
+    let placed = moves_there (picked s.states.fibers.items.items s.numbers.items) c.args.fiber _ refl moving in
+    let long = picked_long s.states.fibers.items.items s.numbers.items c.self.invariant.0 in
+    let from = c.from-place.ensures in
+    let low : c.from-place.result < length s.numbers.items = omega arith in
+    low
+
+pub invariant_of-self-in_err-put : goal.invariant_of-self-in_err-put
+invariant_of-self-in_err-put c =
+    let s = c.self.inside in
+    let fs = s.states.fibers.items.items in
+    let gs = c.turn_of.new.states.fibers.items.items in
+    let ns = s.numbers.items in
+    (
+      subst (λ (l : List ℕ). All (λ n. n < length gs) l) (sym c.in_err-put.ensures.same) (low_more fs gs ns c.turn_of.ensures.fibers c.self.invariant.0),
+      c.turn_of.ensures.turns,
+      c.turn_of.ensures.known,
+    )
+
+pub invariant_of-self-2 : goal.invariant_of-self-2
+invariant_of-self-2 c =
+    let s = c.self.inside in
+    let fs = s.states.fibers.items.items in
+    let gs = c.turn_of.new.states.fibers.items.items in
+    let ns = s.numbers.items in
+    let n = c.index-state.result.now in
+    let h = c.index-config.result.now in
+    let f = c.args.fiber in
+    let r = reply_of c.in-Ok.said in
+    let t = c.in_ok-turn.turn in
+    let moving = subst (λ (x : Stand). moves_at (slice_get (here x).world.fibers c.args.fiber) ≡ true) (sym c.self.view_is)
+    (sym c.has_move.ensures ∙ c.if-not-has_move.false) in
+    let placed = moves_there (picked s.states.fibers.items.items s.numbers.items) c.args.fiber _ refl moving in
+    let long = picked_long s.states.fibers.items.items s.numbers.items c.self.invariant.0 in
+    let from = c.from-place.ensures in
+    let low : c.from-place.result < length s.numbers.items = omega arith in
+    let at : slice_get ns c.from-place.result ≡ Some c.index-state.result.now = grind (arith, common_steps, gets) in
+    let there = all_low fs ns c.from-place.result c.index-state.result.now c.self.invariant.0 at in
+    omega arith
+
+pub replied-requires-clause-fits : goal.replied-requires-clause-fits
+replied-requires-clause-fits c =
+    let s = c.self.inside in
+    let fs = s.states.fibers.items.items in
+    let ns = s.numbers.items in
+    let n = c.index-state.result.now in
+    let h = c.index-config.result.now in
+    let moving = subst (λ (x : Stand). moves_at (slice_get (here x).world.fibers c.args.fiber) ≡ true) (sym c.self.view_is)
+    (sym c.has_move.ensures ∙ c.if-not-has_move.false) in
+    let placed = moves_there (picked s.states.fibers.items.items s.numbers.items) c.args.fiber _ refl moving in
+    let long = picked_long s.states.fibers.items.items s.numbers.items c.self.invariant.0 in
+    let from = c.from-place.ensures in
+    let low : c.from-place.result < length s.numbers.items = omega arith in
+    let at0 : slice_get ns c.from-place.result ≡ Some n = grind (arith, common_steps, gets) in
+    let at : slice_get ns f ≡ Some n = subst (λ i. slice_get ns i ≡ Some n) c.from-place.ensures at0 in
+    let inside = all_low fs ns f n c.self.invariant.0 at in
+    let is : slice_get fs n ≡ Some h = grind (arith, common_steps, gets) in
+    let numbers : c.put.new.numbers.items ≡ set (ns ++ option_to_list t.child) f t.state =
+    c.in_ok-put.ensures.put ∙ ap (λ i. set (ns ++ option_to_list t.child) i t.state) c.from-place.ensures in
+    (
+      subst (λ (l : List ℕ). All (λ n. n < length gs) l) (sym numbers)
+          (behind_low fs gs ns c.self.invariant.0 c.turn_of.ensures.fibers f n h at is r t c.in_ok-turn.ensures.turned),
+      c.turn_of.ensures.turns,
+      c.turn_of.ensures.known,
+    )

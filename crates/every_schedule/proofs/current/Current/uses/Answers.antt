@@ -1,4 +1,4 @@
-use Rattle.std.proofs.Common.{◌≡◌, ◌<◌, ◌×◌, length, sym, ap, ◌∙◌, subst, arith}
+use Rattle.std.proofs.Common.{◌≡◌, ◌<◌, length, sym, ap, ◌∙◌, subst, arith}
 use Rattle.std.specs.Prelude.{Some}
 use Rattle.std.specs.List.{slice_get}
 use Rattle.std.proofs.lemmas.Grind.{common_steps}
@@ -24,14 +24,22 @@ index-requires c =
 pub index-fiber-requires : goal.index-fiber-requires
 index-fiber-requires c =
     let s = c.self.inside in
+    let long = picked_long s.states.fibers.items.items s.numbers.items c.self.invariant.0 in
+    let within = subst (λ (x : Stand). c.args.place < length (picked x.fibers x.numbers)) (sym c.self.view_is) c.requires.place in
+    let low : c.args.place < length s.numbers.items = omega arith in
     let at : slice_get s.numbers.items c.args.place ≡ Some c.index.result.now = grind (arith, common_steps, gets) in
-    all_low s.states.fibers.items.items s.numbers.items c.args.place c.index.result.now c.self.invariant.0 at
+    let there = all_low s.states.fibers.items.items s.numbers.items c.args.place c.index.result.now c.self.invariant.0 at in
+    omega arith
 
 pub returns-then-state-len-clause-uses : goal.returns-then-state-len-clause-uses
 returns-then-state-len-clause-uses c = λ g there.
     let s = c.self.inside in
     let fs = s.states.fibers.items.items in
+    let long = picked_long s.states.fibers.items.items s.numbers.items c.self.invariant.0 in
+    let within = subst (λ (x : Stand). c.args.place < length (picked x.fibers x.numbers)) (sym c.self.view_is) c.requires.place in
+    let low : c.args.place < length s.numbers.items = omega arith in
     let at : slice_get s.numbers.items c.args.place ≡ Some c.index.result.now = grind (arith, common_steps, gets) in
+    let inside = all_low fs s.numbers.items c.args.place c.index.result.now c.self.invariant.0 at in
     let state : slice_get fs c.index.result.now ≡ Some c.index-fiber.result.now = grind (arith, common_steps, gets) in
     let placed = subst (λ (x : Stand). slice_get (picked x.fibers x.numbers) c.args.place ≡ Some g) (sym c.self.view_is) there in
     let one = state_is fs s.numbers.items c.args.place c.index.result.now c.index-fiber.result.now g c.self.invariant.0 at state placed in
@@ -44,6 +52,11 @@ pub uses-requires-2 : goal.uses-requires-2
 uses-requires-2 c =
     let s = c.self.inside in
     let fs = s.states.fibers.items.items in
+    let long = picked_long s.states.fibers.items.items s.numbers.items c.self.invariant.0 in
+    let within = subst (λ (x : Stand). c.args.place < length (picked x.fibers x.numbers)) (sym c.self.view_is) c.requires.place in
+    let low : c.args.place < length s.numbers.items = omega arith in
+    let at : slice_get s.numbers.items c.args.place ≡ Some c.index.result.now = grind (arith, common_steps, gets) in
+    let inside = all_low fs s.numbers.items c.args.place c.index.result.now c.self.invariant.0 at in
     let state : slice_get fs c.index.result.now ≡ Some c.index-fiber.result.now = grind (arith, common_steps, gets) in
     let found : slice_get s.states.known.items c.index.result.now ≡ Some c.index_mut.result.now = grind (arith, common_steps, gets) in
     let it = c.self.invariant.2 c.index.result.now c.index_mut.result.now found in
@@ -53,6 +66,11 @@ pub invariant_of-self : goal.invariant_of-self
 invariant_of-self c =
     let s = c.self.inside in
     let fs = s.states.fibers.items.items in
+    let long = picked_long s.states.fibers.items.items s.numbers.items c.self.invariant.0 in
+    let within = subst (λ (x : Stand). c.args.place < length (picked x.fibers x.numbers)) (sym c.self.view_is) c.requires.place in
+    let low : c.args.place < length s.numbers.items = omega arith in
+    let at : slice_get s.numbers.items c.args.place ≡ Some c.index.result.now = grind (arith, common_steps, gets) in
+    let inside = all_low fs s.numbers.items c.args.place c.index.result.now c.self.invariant.0 at in
     let state : slice_get fs c.index.result.now ≡ Some c.index-fiber.result.now = grind (arith, common_steps, gets) in
     (c.self.invariant.0, c.self.invariant.1, known_set fs s.states.known.items c.index-fiber.result.now c.index.result.now c.uses-2.new.self
     (omega arith) state c.uses-2.ensures.known c.self.invariant.2)
@@ -61,7 +79,11 @@ pub returns-clause-uses : goal.returns-clause-uses
 returns-clause-uses c = λ g there.
     let s = c.self.inside in
     let fs = s.states.fibers.items.items in
+    let long = picked_long s.states.fibers.items.items s.numbers.items c.self.invariant.0 in
+    let within = subst (λ (x : Stand). c.args.place < length (picked x.fibers x.numbers)) (sym c.self.view_is) c.requires.place in
+    let low : c.args.place < length s.numbers.items = omega arith in
     let at : slice_get s.numbers.items c.args.place ≡ Some c.index.result.now = grind (arith, common_steps, gets) in
+    let inside = all_low fs s.numbers.items c.args.place c.index.result.now c.self.invariant.0 at in
     let state : slice_get fs c.index.result.now ≡ Some c.index-fiber.result.now = grind (arith, common_steps, gets) in
     let placed = subst (λ (x : Stand). slice_get (picked x.fibers x.numbers) c.args.place ≡ Some g) (sym c.self.view_is) there in
     let one = state_is fs s.numbers.items c.args.place c.index.result.now c.index-fiber.result.now g c.self.invariant.0 at state placed in

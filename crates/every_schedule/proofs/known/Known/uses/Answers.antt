@@ -10,7 +10,7 @@ looked_up-requires c =
 pub returns-in-Cancels-clause-known : goal.returns-in-Cancels-clause-known
 returns-in-Cancels-clause-known c =
     let told = subst (λ (u : Use). TellsUses u c.args.fiber.now c.looked_up.new.uses.items) c.in-Cancels.is c.looked_up.ensures.known in
-    record c.requires { cancels = told }
+    record { wish = c.requires.wish; waits = c.requires.waits; cancels = told; joins = c.requires.joins; gets = c.requires.gets; stores = c.requires.stores; completes = c.requires.completes; awaits = c.requires.awaits }
 
 pub looked_up-requires-in-Joins : goal.looked_up-requires-in-Joins
 looked_up-requires-in-Joins c =
@@ -19,7 +19,7 @@ looked_up-requires-in-Joins c =
 pub returns-in-Joins-clause-known : goal.returns-in-Joins-clause-known
 returns-in-Joins-clause-known c =
     let told = subst (λ (u : Use). TellsUses u c.args.fiber.now c.looked_up-in-Joins.new.uses.items) c.in-Joins.is c.looked_up-in-Joins.ensures.known in
-    record c.requires { joins = told }
+    record { wish = c.requires.wish; waits = c.requires.waits; cancels = c.requires.cancels; joins = told; gets = c.requires.gets; stores = c.requires.stores; completes = c.requires.completes; awaits = c.requires.awaits }
 
 pub looked_up-requires-in-Gets : goal.looked_up-requires-in-Gets
 looked_up-requires-in-Gets c =
@@ -28,7 +28,7 @@ looked_up-requires-in-Gets c =
 pub returns-in-Gets-clause-known : goal.returns-in-Gets-clause-known
 returns-in-Gets-clause-known c =
     let told = subst (λ (u : Use). TellsUses u c.args.fiber.now c.looked_up-in-Gets.new.uses.items) c.in-Gets.is c.looked_up-in-Gets.ensures.known in
-    record c.requires { gets = told }
+    record { wish = c.requires.wish; waits = c.requires.waits; cancels = c.requires.cancels; joins = c.requires.joins; gets = told; stores = c.requires.stores; completes = c.requires.completes; awaits = c.requires.awaits }
 
 pub looked_up-requires-in-Stores : goal.looked_up-requires-in-Stores
 looked_up-requires-in-Stores c =
@@ -37,7 +37,7 @@ looked_up-requires-in-Stores c =
 pub returns-in-Stores-clause-known : goal.returns-in-Stores-clause-known
 returns-in-Stores-clause-known c =
     let told = subst (λ (u : Use). TellsUses u c.args.fiber.now c.looked_up-in-Stores.new.uses.items) c.in-Stores.is c.looked_up-in-Stores.ensures.known in
-    record c.requires { stores = told }
+    record { wish = c.requires.wish; waits = c.requires.waits; cancels = c.requires.cancels; joins = c.requires.joins; gets = c.requires.gets; stores = told; completes = c.requires.completes; awaits = c.requires.awaits }
 
 pub looked_up-requires-in-Completes : goal.looked_up-requires-in-Completes
 looked_up-requires-in-Completes c =
@@ -46,7 +46,7 @@ looked_up-requires-in-Completes c =
 pub returns-in-Completes-clause-known : goal.returns-in-Completes-clause-known
 returns-in-Completes-clause-known c =
     let told = subst (λ (u : Use). TellsUses u c.args.fiber.now c.looked_up-in-Completes.new.uses.items) c.in-Completes.is c.looked_up-in-Completes.ensures.known in
-    record c.requires { completes = told }
+    record { wish = c.requires.wish; waits = c.requires.waits; cancels = c.requires.cancels; joins = c.requires.joins; gets = c.requires.gets; stores = c.requires.stores; completes = told; awaits = c.requires.awaits }
 
 pub looked_up-requires-in-Awaits : goal.looked_up-requires-in-Awaits
 looked_up-requires-in-Awaits c =
@@ -55,5 +55,5 @@ looked_up-requires-in-Awaits c =
 pub returns-in-Awaits-clause-known : goal.returns-in-Awaits-clause-known
 returns-in-Awaits-clause-known c =
     let told = subst (λ (u : Use). TellsUses u c.args.fiber.now c.looked_up-in-Awaits.new.uses.items) c.in-Awaits.is c.looked_up-in-Awaits.ensures.known in
-    record c.requires { awaits = told }
+    record { wish = c.requires.wish; waits = c.requires.waits; cancels = c.requires.cancels; joins = c.requires.joins; gets = c.requires.gets; stores = c.requires.stores; completes = c.requires.completes; awaits = told }
 
