@@ -63,13 +63,13 @@ pub(crate) fn few_born(current: &Current) -> usize
 }
 
 // The entry of a fiber, if it has a next move: else it changes nothing.
-fn note(trail: &mut Vec<u16>, current: &Current, fiber: u16) -> Result<(), AllocError>
-    requires { fiber < 1000 }
-    ensures { OnOk result ((y : TheResult Place RunError) → stepped (here current.now) fiber ≡ y →
+fn note(trail: &mut Vec<u16>, current: &Current, by: u16) -> Result<(), AllocError>
+    requires { by < 1000 }
+    ensures { OnOk result ((y : TheResult Place RunError) → stepped (here current.now) by ≡ y →
         IsTrail trail.old.items trail.new.items (here current.now) y) }
 {
-    if current.has_move(fiber) {
-        add(trail, fiber)?;
+    if current.has_move(by) {
+        add(trail, by)?;
     }
     Ok(())
 }

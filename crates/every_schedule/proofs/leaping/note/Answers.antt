@@ -10,4 +10,4 @@ returns-in_ok-add c = λ y goes.
     let p = here c.args.current.now in
     let old = c.args.trail.now.items in
     subst (λ (l : List ℕ). IsTrail old l p y) (sym c.in_ok-add.ensures)
-    (trail_one old p c.args.fiber y c.requires (has_next p.world c.args.fiber (sym c.has_move.ensures ∙ c.if-has_move.true)) goes)
+    (trail_one old p c.args.by y c.requires (has_next p.world c.args.by (sym c.has_move.ensures ∙ c.if-has_move.true)) goes)

@@ -1,4 +1,4 @@
-use Rattle.std.proofs.Common.{◌≡◌, ◌≤◌, ◌×◌, length, map, inl, inr, sym, ap, ◌∙◌, subst, arith}
+use Rattle.std.proofs.Common.{◌≡◌, ◌≤◌, length, map, inl, inr, sym, ap, ◌∙◌, subst, arith}
 use Rattle.std.specs.Prelude.{List, Some, max}
 use Rattle.std.specs.List.{slice_get}
 use Rattle.std.proofs.lemmas.Grind.{common_steps}
@@ -41,8 +41,8 @@ leap-requires c =
     let is_now : IsWorldOf fs rs m now = c.in_ok-go_to.ensures.here in
     fits_so k fs rs m now (c.self.invariant c.args.world m row) is_now
 
-pub invariant_of-self : goal.invariant_of-self
-invariant_of-self c = 
+pub invariant_of-self-2 : goal.invariant_of-self-2
+invariant_of-self-2 c = 
     let s = c.self.inside in
     let k = s.limits in
     let fs = s.current.fibers in
@@ -110,6 +110,11 @@ returns-clause-worlds c =
     (subst (λ l. IsMore l (map (place_of k fs' rs') rows')) places
     (places_hold k fs fs' rs rs' mf mr rows c.self.invariant c.args.world m row now is_now
     c.args.at_once c.args.fiber n next c.in-Ok.ensures.goes c.in_ok-row.ensures.row c.in-Ok.ensures.fits rows' c.keep.ensures.adds))
+
+pub returns-clause-faults : goal.returns-clause-faults
+returns-clause-faults c = 
+    let faults = ap (λ (x : Kept). x.faults) c.self.view_is in
+    always c.keep.result _ (subst (λ l. IsMore l c.self.inside.faults) faults (more_same c.self.inside.faults))
 
 pub returns-clause-lands : goal.returns-clause-lands
 returns-clause-lands c = 

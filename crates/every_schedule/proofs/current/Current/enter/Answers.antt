@@ -233,23 +233,6 @@ put-requires c =
     let long = picked_long s.states.fibers.items.items s.numbers.items c.self.invariant.0 in
     let from = c.from-place.ensures in
     let low : c.from-place.result < length s.numbers.items = omega arith in
-    let at : slice_get ns c.from-place.result ≡ Some c.index-state.result.now = grind (arith, common_steps, gets) in
-    let there = all_low fs ns c.from-place.result c.index-state.result.now c.self.invariant.0 at in
-    omega arith
-
-pub replied-requires-clause-fits : goal.replied-requires-clause-fits
-replied-requires-clause-fits c =
-    let s = c.self.inside in
-    let fs = s.states.fibers.items.items in
-    let ns = s.numbers.items in
-    let n = c.index-state.result.now in
-    let h = c.index-config.result.now in
-    let moving = subst (λ (x : Stand). moves_at (slice_get (here x).world.fibers c.args.fiber) ≡ true) (sym c.self.view_is)
-    (sym c.has_move.ensures ∙ c.if-not-has_move.false) in
-    let placed = moves_there (picked s.states.fibers.items.items s.numbers.items) c.args.fiber _ refl moving in
-    let long = picked_long s.states.fibers.items.items s.numbers.items c.self.invariant.0 in
-    let from = c.from-place.ensures in
-    let low : c.from-place.result < length s.numbers.items = omega arith in
     low
 
 pub invariant_of-self-in_err-put : goal.invariant_of-self-in_err-put
@@ -281,23 +264,6 @@ invariant_of-self-2 c =
     let long = picked_long s.states.fibers.items.items s.numbers.items c.self.invariant.0 in
     let from = c.from-place.ensures in
     let low : c.from-place.result < length s.numbers.items = omega arith in
-    let at : slice_get ns c.from-place.result ≡ Some c.index-state.result.now = grind (arith, common_steps, gets) in
-    let there = all_low fs ns c.from-place.result c.index-state.result.now c.self.invariant.0 at in
-    omega arith
-
-pub replied-requires-clause-fits : goal.replied-requires-clause-fits
-replied-requires-clause-fits c =
-    let s = c.self.inside in
-    let fs = s.states.fibers.items.items in
-    let ns = s.numbers.items in
-    let n = c.index-state.result.now in
-    let h = c.index-config.result.now in
-    let moving = subst (λ (x : Stand). moves_at (slice_get (here x).world.fibers c.args.fiber) ≡ true) (sym c.self.view_is)
-    (sym c.has_move.ensures ∙ c.if-not-has_move.false) in
-    let placed = moves_there (picked s.states.fibers.items.items s.numbers.items) c.args.fiber _ refl moving in
-    let long = picked_long s.states.fibers.items.items s.numbers.items c.self.invariant.0 in
-    let from = c.from-place.ensures in
-    let low : c.from-place.result < length s.numbers.items = omega arith in
     let at0 : slice_get ns c.from-place.result ≡ Some n = grind (arith, common_steps, gets) in
     let at : slice_get ns f ≡ Some n = subst (λ i. slice_get ns i ≡ Some n) c.from-place.ensures at0 in
     let inside = all_low fs ns f n c.self.invariant.0 at in
@@ -305,7 +271,7 @@ replied-requires-clause-fits c =
     let numbers : c.put.new.numbers.items ≡ set (ns ++ option_to_list t.child) f t.state =
     c.in_ok-put.ensures.put ∙ ap (λ i. set (ns ++ option_to_list t.child) i t.state) c.from-place.ensures in
     (
-      subst (λ (l : List ℕ). All (λ n. n < length gs) l) (sym numbers)
+      subst (λ (l : List ℕ). All (λ m. m < length gs) l) (sym numbers)
           (behind_low fs gs ns c.self.invariant.0 c.turn_of.ensures.fibers f n h at is r t c.in_ok-turn.ensures.turned),
       c.turn_of.ensures.turns,
       c.turn_of.ensures.known,
