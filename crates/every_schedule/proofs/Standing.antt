@@ -100,10 +100,10 @@ at_child fs ns gs (Some n) born is h =
             let low = slice_get_within gs i it.0 it.1 in
             (it.0, append_get gs (is.0 ∷ []) i low ∙ it.1, it.2)
         | inr last ↦ (
-            is.0,
-            ap (slice_get (gs ++ is.0 ∷ [])) (last.0 ∙ h.many) ∙ append_last gs is.0,
-            ap (slice_get fs) (sym last.1) ∙ is.2,
-          )
+          is.0,
+          ap (slice_get (gs ++ is.0 ∷ [])) (last.0 ∙ h.many) ∙ append_last gs is.0,
+          ap (slice_get fs) (sym last.1) ∙ is.2,
+        )
       ];
     }
 
@@ -141,8 +141,8 @@ module _ (fs : List Fiber) (ns : List ℕ) (all : All (λ n. n < length fs) ns) 
   at_after =
       let long = length-append ns (option_to_list t.child) in
       let both = at_set fs (ns ++ option_to_list t.child) (picked fs ns ++ children (moved it.fiber r)) i t.state (move it.fiber r)
-          (let l = low in omega arith) it.to
-          (at_child fs ns (picked fs ns) t.child (children (moved it.fiber r)) it.child (picked_at fs ns all)) in
+      (let l = low in omega arith) it.to
+      (at_child fs ns (picked fs ns) t.child (children (moved it.fiber r)) it.child (picked_at fs ns all)) in
       subst (AreAt fs after)
       (set_append (picked fs ns) (children (moved it.fiber r)) i (move it.fiber r) (let m = picked_long fs ns all in let l = low in omega arith)) both
 

@@ -96,12 +96,7 @@ impl Current {
         };
         let (fibers, registry) = first.into_parts();
         let numbers = number_all(alloc, fibers.as_slice(), &mut states.fibers)?;
-        know_all(
-            alloc,
-            &states.fibers,
-            registry.limits(),
-            &mut states.known,
-        )?;
+        know_all(alloc, &states.fibers, registry.limits(), &mut states.known)?;
         Ok(Current {
             alloc,
             states,
@@ -262,11 +257,7 @@ impl Current {
 }
 
 // The registry's reply to the next move of a fiber, which it has.
-fn replied(
-    config: &Config,
-    registry: &mut PlainRegistry,
-    fiber: u16,
-) -> Result<Said, RunError>
+fn replied(config: &Config, registry: &mut PlainRegistry, fiber: u16) -> Result<Said, RunError>
     requires fits { Fits (cell_registered registry.old.state fiber) config.now }
     requires moves { moves_at (Some config.now) ≡ true }
     ensures said { IfOk result IsSaid }
@@ -345,12 +336,7 @@ fn know_all(
 }
 
 // The same, where it is made.
-fn made(
-    alloc: Global,
-    pool: &mut Pool<Config>,
-    state: u32,
-    said: Said,
-) -> Result<Turn, AllocError>
+fn made(alloc: Global, pool: &mut Pool<Config>, state: u32, said: Said) -> Result<Turn, AllocError>
     requires state { state < length pool.old.items.items }
     requires said { IsSaid said }
     requires may { (g : Fiber) → slice_get pool.old.items.items state ≡ Some g → MayTurn g (reply_of said) }

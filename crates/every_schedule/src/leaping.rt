@@ -101,11 +101,7 @@ fn push(current: &mut Current, at_once: AtOnce, trail: &mut Vec<u16>) -> Result<
 }
 
 // One own move of each fiber that has one, the last fiber first. Whether any was made.
-fn push_once(
-    current: &mut Current,
-    stores: bool,
-    trail: &mut Vec<u16>,
-) -> Result<bool, AllocError>
+fn push_once(current: &mut Current, stores: bool, trail: &mut Vec<u16>) -> Result<bool, AllocError>
     requires { AllFit (here current.old).world }
     ensures onward { IsOnward current.old current.new }
     ensures goes { OnOk result (here current.new ≡ pushed_once stores (here current.old)) }

@@ -88,7 +88,8 @@ fn is_own_call(current: &mut Current, by: u16, call: Call) -> bool
         }
         Call::Complete(it, _) => {
             is_completed(&*current, it)
-                || is_kept(&mut *current, Use::Completes, by, it) && is_kept(current, Use::Awaits, by, it)
+                || is_kept(&mut *current, Use::Completes, by, it)
+                    && is_kept(current, Use::Awaits, by, it)
         }
         Call::Read(it) => is_completed(&*current, it),
         Call::Start | Call::NewRef | Call::NewDeferred => false,

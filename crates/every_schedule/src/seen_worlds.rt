@@ -82,11 +82,7 @@ impl SeenWorlds {
 }
 
 // The refs that were set before, with the one that the next move sets, if it sets one.
-fn seen_after(
-    alloc: Global,
-    seen: &[u16],
-    stored: Option<u16>,
-) -> Result<Vec<u16>, AllocError>
+fn seen_after(alloc: Global, seen: &[u16], stored: Option<u16>) -> Result<Vec<u16>, AllocError>
     ensures { IfOk result (λ it. it.items ≡ noted seen.now stored) }
 {
     let mut after = Vec::from_slice(alloc, seen)?;

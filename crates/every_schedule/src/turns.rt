@@ -220,7 +220,9 @@ pub(crate) fn reply_said(said: Said) -> Reply
         Said::Already => Reply::Cancel(CancelReply::Already),
         Said::Over => Reply::Cancel(CancelReply::Ended),
         Said::Waits => Reply::Join(JoinReply::Waits),
-        Said::Succeeded(number) => Reply::Join(JoinReply::Ended(Outcome::Succeeded(value_of(number)))),
+        Said::Succeeded(number) => Reply::Join(JoinReply::Ended(Outcome::Succeeded(value_of(
+            number,
+        )))),
         Said::Errored(number) => Reply::Join(JoinReply::Ended(Outcome::Errored(value_of(number)))),
         Said::Canceled => Reply::Join(JoinReply::Ended(Outcome::Canceled)),
         Said::Number(number) => Reply::Number(number),

@@ -18,7 +18,7 @@ use Rattle.every_schedule.proofs.Numbered.{fits_so}
 use Rattle.every_schedule.proofs.core_worlds.CoreWorlds.entry.Goals as goal
 
 pub go_to-requires : goal.go_to-requires
-go_to-requires c = 
+go_to-requires c =
     let s = c.self.inside in
     let k = s.limits in
     let fs = s.current.fibers in
@@ -29,7 +29,7 @@ go_to-requires c =
     (k, c.self.invariant c.args.world m row)
 
 pub leap-requires : goal.leap-requires
-leap-requires c = 
+leap-requires c =
     let s = c.self.inside in
     let k = s.limits in
     let fs = s.current.fibers in
@@ -42,7 +42,7 @@ leap-requires c =
     fits_so k fs rs m now (c.self.invariant c.args.world m row) is_now
 
 pub invariant_of-self-2 : goal.invariant_of-self-2
-invariant_of-self-2 c = 
+invariant_of-self-2 c =
     let s = c.self.inside in
     let k = s.limits in
     let fs = s.current.fibers in
@@ -67,7 +67,7 @@ invariant_of-self-2 c =
     c.args.at_once c.args.fiber n next c.in-Ok.ensures.goes c.in_ok-row.ensures.row c.in-Ok.ensures.fits rows' c.keep.ensures.adds
 
 pub invariant_of-self-in-Err : goal.invariant_of-self-in-Err
-invariant_of-self-in-Err c = 
+invariant_of-self-in-Err c =
     let s = c.self.inside in
     let k = s.limits in
     let fs = s.current.fibers in
@@ -84,7 +84,7 @@ invariant_of-self-in-Err c =
     rows_stay k fs gs rs qs mg mq rows c.self.invariant c.args.world m row now is_now
 
 pub returns-clause-worlds : goal.returns-clause-worlds
-returns-clause-worlds c = 
+returns-clause-worlds c =
     let s = c.self.inside in
     let k = s.limits in
     let fs = s.current.fibers in
@@ -112,12 +112,12 @@ returns-clause-worlds c =
     c.args.at_once c.args.fiber n next c.in-Ok.ensures.goes c.in_ok-row.ensures.row c.in-Ok.ensures.fits rows' c.keep.ensures.adds))
 
 pub returns-clause-faults : goal.returns-clause-faults
-returns-clause-faults c = 
+returns-clause-faults c =
     let faults = ap (λ (x : Kept). x.faults) c.self.view_is in
     always c.keep.result _ (subst (λ l. IsMore l c.self.inside.faults) faults (more_same c.self.inside.faults))
 
 pub returns-clause-lands : goal.returns-clause-lands
-returns-clause-lands c = 
+returns-clause-lands c =
     let s = c.self.inside in
     let k = s.limits in
     let fs = s.current.fibers in
@@ -145,7 +145,7 @@ returns-clause-lands c =
     (ap (λ l. slice_get l c.args.world) places ∙ at)) c.keep.ensures.kept
 
 pub returns-clause-room : goal.returns-clause-room
-returns-clause-room c = 
+returns-clause-room c =
     let s = c.self.inside in
     let k = s.limits in
     let fs = s.current.fibers in
@@ -172,7 +172,7 @@ returns-clause-room c =
     (room_kept (place_of k fs rs) (place_of k fs' rs') rows rows' c.args.most few)) c.keep.ensures.room
 
 pub returns-clause-next : goal.returns-clause-next
-returns-clause-next c = 
+returns-clause-next c =
     let s = c.self.inside in
     let k = s.limits in
     let fs = s.current.fibers in
@@ -199,7 +199,7 @@ returns-clause-next c =
     (next_kept (place_of k fs rs) (place_of k fs' rs') rows rows' c.args.most it next)) c.keep.ensures.next
 
 pub returns-in-Err-clause-worlds : goal.returns-in-Err-clause-worlds
-returns-in-Err-clause-worlds c = 
+returns-in-Err-clause-worlds c =
     let s = c.self.inside in
     let k = s.limits in
     let fs = s.current.fibers in
@@ -218,7 +218,7 @@ returns-in-Err-clause-worlds c =
     (subst (λ l. IsMore l (map (place_of k gs qs) rows)) places (places_stay k fs gs rs qs mg mq rows c.self.invariant c.args.world m row now is_now))
 
 pub returns-in-Err-clause-lands : goal.returns-in-Err-clause-lands
-returns-in-Err-clause-lands c = 
+returns-in-Err-clause-lands c =
     let s = c.self.inside in
     let k = s.limits in
     let fs = s.current.fibers in
@@ -242,7 +242,7 @@ returns-in-Err-clause-lands c =
     ])) c.fault_met.ensures.met
 
 pub returns-in-Err-clause-room : goal.returns-in-Err-clause-room
-returns-in-Err-clause-room c = 
+returns-in-Err-clause-room c =
     let s = c.self.inside in
     let k = s.limits in
     let fs = s.current.fibers in
@@ -262,7 +262,7 @@ returns-in-Err-clause-room c =
     (room_kept (place_of k fs rs) (place_of k gs qs) rows rows c.args.most (omega arith)))
 
 pub returns-in-Err-clause-next : goal.returns-in-Err-clause-next
-returns-in-Err-clause-next c = 
+returns-in-Err-clause-next c =
     let s = c.self.inside in
     let k = s.limits in
     let fs = s.current.fibers in
@@ -283,7 +283,7 @@ returns-in-Err-clause-next c =
     c.fault_met.ensures.next
 
 pub invariant_of-self-in_err-row : goal.invariant_of-self-in_err-row
-invariant_of-self-in_err-row c = 
+invariant_of-self-in_err-row c =
     let s = c.self.inside in
     let k = s.limits in
     let fs = s.current.fibers in
@@ -302,4 +302,3 @@ invariant_of-self-in_err-row c =
     let mf = more_more fs gs fs' mg c.row.ensures.onward.fibers in
     let mr = more_more rs qs rs' mq c.row.ensures.onward.registries in
     rows_stay k fs fs' rs rs' mf mr rows c.self.invariant c.args.world m row now is_now
-

@@ -240,8 +240,7 @@ invariant_of-self-in_err-put c =
     let s = c.self.inside in
     let fs = s.states.fibers.items.items in
     let gs = c.turn_of.new.states.fibers.items.items in
-    let ns = s.numbers.items in
-    (
+    let ns = s.numbers.items in (
       subst (λ (l : List ℕ). All (λ n. n < length gs) l) (sym c.in_err-put.ensures.same) (low_more fs gs ns c.turn_of.ensures.fibers c.self.invariant.0),
       c.turn_of.ensures.turns,
       c.turn_of.ensures.known,
@@ -269,8 +268,7 @@ invariant_of-self-2 c =
     let inside = all_low fs ns f n c.self.invariant.0 at in
     let is : slice_get fs n ≡ Some h = grind (arith, common_steps, gets) in
     let numbers : c.put.new.numbers.items ≡ set (ns ++ option_to_list t.child) f t.state =
-    c.in_ok-put.ensures.put ∙ ap (λ i. set (ns ++ option_to_list t.child) i t.state) c.from-place.ensures in
-    (
+    c.in_ok-put.ensures.put ∙ ap (λ i. set (ns ++ option_to_list t.child) i t.state) c.from-place.ensures in (
       subst (λ (l : List ℕ). All (λ m. m < length gs) l) (sym numbers)
           (behind_low fs gs ns c.self.invariant.0 c.turn_of.ensures.fibers f n h at is r t c.in_ok-turn.ensures.turned),
       c.turn_of.ensures.turns,

@@ -15,8 +15,7 @@ use Rattle.every_schedule.proofs.current.Current.new.Goals as goal
 pub invariant_of-result : goal.invariant_of-result
 invariant_of-result c =
     let fs = c.number_all.new.pool.items.items in
-    let none : c.new-3.result.kept.items ≡ [] = c.new-3.ensures in
-    (
+    let none : c.new-3.result.kept.items ≡ [] = c.new-3.ensures in (
       low_at fs c.in_ok-numbers.numbers.items c.as_slice.result.now c.in_ok-numbers.ensures.numbers,
       subst (AreTurned fs) (sym none) (turned_none fs),
       c.know_all.ensures,

@@ -71,9 +71,12 @@ invariant_of-self c =
     let low : c.args.place < length s.numbers.items = omega arith in
     let at : slice_get s.numbers.items c.args.place ≡ Some c.index.result.now = grind (arith, common_steps, gets) in
     let inside = all_low fs s.numbers.items c.args.place c.index.result.now c.self.invariant.0 at in
-    let state : slice_get fs c.index.result.now ≡ Some c.index-fiber.result.now = grind (arith, common_steps, gets) in
-    (c.self.invariant.0, c.self.invariant.1, known_set fs s.states.known.items c.index-fiber.result.now c.index.result.now c.uses-2.new.self
-    (omega arith) state c.uses-2.ensures.known c.self.invariant.2)
+    let state : slice_get fs c.index.result.now ≡ Some c.index-fiber.result.now = grind (arith, common_steps, gets) in (
+      c.self.invariant.0,
+      c.self.invariant.1,
+      known_set fs s.states.known.items c.index-fiber.result.now c.index.result.now c.uses-2.new.self
+          (omega arith) state c.uses-2.ensures.known c.self.invariant.2,
+    )
 
 pub returns-clause-uses : goal.returns-clause-uses
 returns-clause-uses c = λ g there.

@@ -56,4 +56,3 @@ pub returns-in-Awaits-clause-known : goal.returns-in-Awaits-clause-known
 returns-in-Awaits-clause-known c =
     let told = subst (λ (u : Use). TellsUses u c.args.fiber.now c.looked_up-in-Awaits.new.uses.items) c.in-Awaits.is c.looked_up-in-Awaits.ensures.known in
     record { wish = c.requires.wish; waits = c.requires.waits; cancels = c.requires.cancels; joins = c.requires.joins; gets = c.requires.gets; stores = c.requires.stores; completes = c.requires.completes; awaits = told }
-
