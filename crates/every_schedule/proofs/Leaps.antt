@@ -145,3 +145,11 @@ own_moves b p f made = own_moves_by p.world f (slice_get p.world.fibers f) refl 
 -- the entry of a fiber that has none changes nothing
 pub none_stays : (p : Place) (f : ℕ) (g : Fiber) → slice_get p.world.fibers f ≡ Some g → wish_of (ask_of g) ≡ Nothing → stepped p f ≡ Ok p
 none_stays p f g at none = idle_stays p f (ap moves_at at ∙ ap wants none)
+
+-- a fiber that moves has a next move
+has_next_by : (w : World) (f : ℕ) (o : Option Fiber) → slice_get w.fibers f ≡ o → moves_at o ≡ true → HasMove w f
+has_next_by w f None e m = absurd (cc)
+has_next_by w f (Some g) e m = (g, e, λ none. let no : wants Nothing ≡ true = subst (λ x. wants x ≡ true) none m in cc)
+
+pub has_next : (w : World) (f : ℕ) → moves_at (slice_get w.fibers f) ≡ true → HasMove w f
+has_next w f m = has_next_by w f (slice_get w.fibers f) refl m

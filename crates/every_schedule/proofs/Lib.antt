@@ -4,8 +4,9 @@ pub mod FairRuns
 pub mod Listing
 pub mod Laws
 pub mod Numbered
-pub mod Bringing
-pub mod Apart
+pub mod Knowing
+pub mod Turning
+pub mod Standing
 pub mod Alikeness
 pub mod Entering
 pub mod OwnCalls

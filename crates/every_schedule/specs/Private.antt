@@ -2,6 +2,8 @@
 pub mod Telling
 pub mod Keeping
 pub mod Numbered
+pub mod Turning
+pub mod Knowing
 pub mod Standing
 pub mod Reporting
 pub mod Trails

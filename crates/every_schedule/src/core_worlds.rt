@@ -17,7 +17,7 @@ ghost use Rattle.every_schedule.specs.Private.Keeping.{AreSingle, IsKept};
 ghost use Rattle.every_schedule.specs.Private.Numbered.{MayAdd};
 
 use crate::core_world::CoreWorld;
-use crate::current::{Current, States, begun, fibers_of, fresh, set_up};
+use crate::current::{Current, fibers_of};
 use crate::faults::Faults;
 use crate::leaping::{AtOnce, leap};
 use crate::own_moves::stored_in;
@@ -44,16 +44,15 @@ pub(crate) const NONE: AtOnce = AtOnce {
 pub(crate) struct CoreWorlds {
     alloc: Global,
     limits: Limits,
-    states: States,
+    current: Current,
     rows: Pool<Row>,
-    current: Option<Current>,
     // The entries that led from the last world to the current one.
     trail: Vec<u16>,
     faults: Faults,
 }
 
 impl Model for CoreWorlds {
-    ghost use Rattle.std.specs.Prelude.{◌+◌, map, IfSome};
+    ghost use Rattle.std.specs.Prelude.{◌+◌, map};
     ghost use Rattle.std.specs.Coded.{codes};
     ghost use Rattle.derived_ops.specs.Stored.{tree_code};
     ghost use Rattle.fiber_frames.specs.contracts.ask.Look as the_look;
@@ -61,21 +60,19 @@ impl Model for CoreWorlds {
     ghost use Rattle.every_schedule.specs.Places.{Kept};
     ghost use Rattle.every_schedule.specs.Sizes.{capped};
     ghost use Rattle.every_schedule.specs.Private.Numbered.{AreWorlds, place_of};
-    ghost use Rattle.every_schedule.specs.Private.Standing.{IsCurrent};
 
     ghost Value = { Kept };
 
     ghost coded = { Prim.hlevel (codes, tree_code, the_look.the_row.coded, the_mark.the_row.coded) };
 
     ghost view = { λ s. record {
-      places = map (place_of s.limits s.states.fibers.items.items s.states.registries.items.items) s.rows.items.items;
+      places = map (place_of s.limits s.current.fibers s.current.registries) s.rows.items.items;
       faults = s.faults;
-      bytes = capped (s.rows.bytes + s.states.fibers.bytes + s.states.registries.bytes);
+      bytes = capped (s.rows.bytes + s.current.bytes);
     } };
 
     ghost invariant = { λ s.
-        AreWorlds s.limits s.states.fibers.items.items s.states.registries.items.items s.rows.items.items ×
-        IfSome s.current (IsCurrent s.states.fibers.items.items s.states.registries.items.items) };
+        AreWorlds s.limits s.current.fibers s.current.registries s.rows.items.items };
 }
 
 impl CoreWorlds {
@@ -89,21 +86,16 @@ impl CoreWorlds {
         ensures places { IfOk result (λ s. s.places ≡ first_place (code_of (source_of program.now)) limits ∷ []) }
         ensures faults { IfOk result (λ s. s.faults ≡ []) }
     {
-        let mut states = States {
-            fibers: Pool::new(alloc),
-            registries: Pool::new(alloc),
-        };
         let first = CoreWorld::first(alloc, program, limits)?;
-        let current = begun(alloc, first, &mut states)?;
-        let row = current.row.again(alloc)?;
+        let mut current = Current::new(alloc, first)?;
+        let row = current.row()?;
         let mut rows = Pool::new(alloc);
         rows.add(row)?;
         Ok(CoreWorlds {
             alloc,
             limits,
-            states,
+            current,
             rows,
-            current: Some(current),
             trail: Vec::new(alloc),
             faults: Faults::new(alloc),
         })
@@ -116,7 +108,7 @@ impl CoreWorlds {
         ensures lawful { IfOk result (λ it. All (λ f. AreLawful f.marks f.outcome) it.fibers) }
     {
         let row = &self.rows.items[world];
-        let fibers = fibers_of(self.alloc, &self.states.fibers, row.fibers())?;
+        let fibers = fibers_of(self.alloc, self.current.fibers(), row.fibers())?;
         report_of_fibers(self.alloc, fibers)
     }
 
@@ -144,7 +136,7 @@ impl CoreWorlds {
     {
         let row = &self.rows.items[world];
         // The registry is within its limits, and has given each of the fibers its number.
-        let registry = &self.states.registries.items[row.registry() as usize];
+        let registry = self.current.registry_of(row);
         facts_of(registry.limits());
         row.fibers().len() as u16
     }
@@ -155,9 +147,9 @@ impl CoreWorlds {
         ensures { IfOk result (λ it. (p : Place) → slice_get self.now.places number ≡ Some p → it ≡ p) }
     {
         let row = &self.rows.items[number];
-        let current = fresh(self.alloc, &self.states, row)?;
-        let Current { world, .. } = current;
-        Ok(world)
+        let fibers = fibers_of(self.alloc, self.current.fibers(), row.fibers())?;
+        let registry = self.current.registry_of(row).again(self.alloc)?;
+        Ok(CoreWorld::new(fibers, registry))
     }
 
     /// The ref that the next move of a fiber of a world sets, or changes by an addition, if it does that.
@@ -167,17 +159,14 @@ impl CoreWorlds {
             result ≡ stored_by (slice_get p.world.fibers fiber) }
     {
         let row = &self.rows.items[world];
-        stored_at(&self.states.fibers, row.fibers(), fiber)
+        stored_at(self.current.fibers(), row.fibers(), fiber)
     }
 
     /// About how many bytes the rows and the states take.
     pub(crate) fn counted(&self) -> usize
         ensures { result ≡ self.now.bytes }
     {
-        self.rows
-            .bytes
-            .saturating_add(self.states.fibers.bytes)
-            .saturating_add(self.states.registries.bytes)
+        self.rows.bytes.saturating_add(self.current.bytes())
     }
 
     /// Makes the entry of a fiber at a world, with such own moves behind it.
@@ -197,27 +186,14 @@ impl CoreWorlds {
         ensures next { IfOk result (IsNext (length self.old.places) (length self.new.places) most) }
     {
         let row = &self.rows.items[world];
-        let before = self.current.take();
-        let current = set_up(self.alloc, before, &self.states, row)?;
+        self.current.go_to(row)?;
         self.trail.clear();
-        match leap(
-            self.alloc,
-            current,
-            &mut self.states,
-            fiber,
-            at_once,
-            &mut self.trail,
-        ) {
-            Ok(next) => {
-                let kept = keep(self.alloc, &mut self.rows, &next.row, most);
-                self.current = Some(next);
-                kept
-            }
-            Err(fault) => {
-                self.current = None;
-                fault_met(&mut self.faults, fault)
-            }
+        match leap(&mut self.current, fiber, at_once, &mut self.trail) {
+            Ok(()) => {}
+            Err(fault) => return fault_met(&mut self.faults, fault),
         }
+        let row = self.current.row()?;
+        keep(self.alloc, &mut self.rows, &row, most)
     }
 }
 
@@ -308,7 +284,7 @@ impl Worlds for CoreWorlds {
     fn same_report(&self, one: usize, other: usize) -> bool {
         let first = &self.rows.items[one];
         let second = &self.rows.items[other];
-        same_reports(&self.states.fibers, first.fibers(), second.fibers())
+        same_reports(self.current.fibers(), first.fibers(), second.fibers())
     }
 
     fn len(&self) -> usize {

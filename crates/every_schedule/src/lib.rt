@@ -30,6 +30,7 @@ mod exploration;
 mod explored;
 mod fair_endings;
 mod faults;
+mod known;
 mod leaping;
 mod own_moves;
 mod pool;
@@ -38,6 +39,7 @@ mod reports;
 mod row;
 mod seen_row;
 mod seen_worlds;
+mod turns;
 mod unfolding;
 
 pub use claimed::search_claims;

@@ -11,9 +11,8 @@ ghost use Rattle.every_schedule.specs.Private.Trails.{AreSorted, AreUnfolded, En
 ghost use Rattle.every_schedule.specs.Private.Trails.{IsLeftOut, IsUnfolded, rank_of};
 
 use crate::core_world::CoreWorld;
-use crate::current::{States, begun};
+use crate::current::Current;
 use crate::leaping::{AtOnce, is_memory, leap};
-use crate::pool::Pool;
 use cell_registry::{Limits, RunError};
 use effect_term::Program;
 use std::alloc::{AllocError, Global};
@@ -114,16 +113,12 @@ pub(crate) fn unfold(
         IsUnfolded at_once (first_place (code_of (source_of program.now)) limits) schedule.now it.items) }
     ensures memory { IfErr result (λ e. e ≡ RunError.NoMemory) }
 {
-    let mut states = States {
-        fibers: Pool::new(alloc),
-        registries: Pool::new(alloc),
-    };
     let first = CoreWorld::first(alloc, program, limits)?;
-    let mut current = begun(alloc, first, &mut states)?;
+    let mut current = Current::new(alloc, first)?;
     let mut trail = Vec::new(alloc);
     for fiber in schedule {
-        match leap(alloc, current, &mut states, *fiber, at_once, &mut trail) {
-            Ok(next) => current = next,
+        match leap(&mut current, *fiber, at_once, &mut trail) {
+            Ok(()) => {}
             Err(fault) => {
                 if is_memory(fault) {
                     return Err(RunError::NoMemory);
