@@ -10,7 +10,10 @@
 //! alone.
 #![tactic(auto)]
 
+mod held;
 mod judging;
+mod looking;
+mod moments;
 mod named;
 mod origins;
 mod plan;
@@ -26,6 +29,6 @@ mod word_places;
 
 pub use named::Named;
 pub use plan::SearchBounds;
-pub use result::{ClaimResult, ModelResult, NamedAnswer, Search};
+pub use result::{ClaimResult, HeldRef, ModelResult, NamedAnswer, Search};
 pub use run::{check_model, run_model};
 pub use warnings::Warning;
