@@ -8,7 +8,7 @@ use crate::one_line::joined;
 use crate::verdicts::counts_of;
 use effect_term::Outcome;
 use model_claims::{FiberName, SeenFiber, Verdict};
-use model_runs::{ClaimResult, Named, NamedAnswer, Warning};
+use model_runs::{ClaimResult, HeldRef, Named, NamedAnswer, Warning};
 use reasons::Position;
 use serde_json::{Value, json};
 use std::alloc::{AllocError, Global};

@@ -1,6 +1,7 @@
 -- What a search that looks at each world says of the claims at any moment.
 use Rattle.std.specs.Prelude.{◌≡◌, ◌⊎◌, ◌++◌, ◌&&◌, ℕ, Bool, true, false, List, [], ◌∷◌, map, Option, Some, None}
-use Rattle.std.specs.List.{All, list_any, slice_get}
+use Rattle.std.specs.List.{All, flat_map, list_any, slice_get}
+use Rattle.std.specs.declared.alloc.Global.{Global}
 use Rattle.std.specs.declared.vec.Vec.{Vec}
 use Rattle.derived_ops.specs.Tree.{Tree}
 use Rattle.cell_registry.specs.declared.limits.Limits.{Limits}
@@ -40,11 +41,14 @@ claim_word moments.Not = its.Not
 claim_word moments.And = its.And
 claim_word moments.Or = its.Or
 
+abbrev pub turning : Rule → List ClaimWord
+turning rules.Every = its.Not ∷ []
+turning rules.Some = []
+
 -- what decides a claim by itself: of one on every moment a moment at which its words aren't true, of one on some moment
 -- a moment at which they are
 abbrev pub sought : Rule → List MomentWord → List ClaimWord
-sought rules.Every words = map claim_word words ++ its.Not ∷ []
-sought rules.Some words = map claim_word words
+sought rule words = map claim_word words ++ turning rule
 
 -- of a claim at any moment what decides it, of another one nothing
 abbrev pub sought_in : Rule → Option (Vec MomentWord Global) → List (List ClaimWord)
@@ -53,8 +57,7 @@ sought_in rule (Some words) = sought rule words.items ∷ []
 
 -- the same of all claims of a model
 abbrev pub soughts : List Claim → List (List ClaimWord)
-soughts [] = []
-soughts (c ∷ cs) = sought_in c.rule c.moment ++ soughts cs
+soughts claims = flat_map (λ c. sought_in c.rule c.moment) claims
 
 -- ---- what is found
 -- each was met by its schedule, and where the search is complete no schedule meets another one

@@ -4,8 +4,8 @@ ghost use Rattle.std.specs.Prelude.{◌≡◌, ◌++◌, map, IfOk, OnOk};
 ghost use Rattle.derived_ops.specs.Expansion.{code_of};
 ghost use Rattle.derived_ops.specs.Reading.{source_of};
 ghost use Rattle.cell_registry.specs.Cells.{AreLimits};
-ghost use Rattle.model_runs.specs.Moments.{AreMet, claim_comparison, claim_word, sought, sought_in, soughts as all_soughts};
-ghost use Rattle.model_runs.specs.Private.Looking.{turning};
+ghost use Rattle.model_runs.specs.Moments.{AreMet, claim_comparison, claim_word, sought, sought_in, turning};
+ghost use Rattle.model_runs.specs.Moments.{soughts as all_soughts};
 
 use crate::plan::Plan;
 use crate::searching::{FIRST, TIMES_MORE};

@@ -1,22 +1,20 @@
 -- What a search for moments has found, as it is kept.
 use Rattle.std.specs.Prelude.{◌≡◌, ◌×◌, ◌⊎◌, ◌||◌, ◌&&◌, ℕ, Bool, true, false, List, [], ◌∷◌, map, Option, Some, None}
 use Rattle.std.specs.List.{slice_get}
+use Rattle.std.specs.declared.alloc.Global.{Global}
+use Rattle.std.specs.declared.vec.Vec.{Vec}
 use Rattle.derived_ops.specs.Tree.{Tree}
 use Rattle.cell_registry.specs.declared.limits.Limits.{Limits}
 use Rattle.world_search.specs.declared.claims.Met.{Met}
 use Rattle.every_schedule.specs.declared.claims.ClaimWord.{ClaimWord}
-use Rattle.every_schedule.specs.declared.claims.ClaimWord.TheVariants as its
 use Rattle.model_claims.specs.declared.judging.Rule.{Rule}
 use Rattle.model_claims.specs.declared.judging.Rule.TheVariants as rules
 use Rattle.model_claims.specs.declared.judging.Verdict.{Verdict}
 use Rattle.model_claims.specs.declared.judging.Verdict.TheVariants as verdicts
 use Rattle.model_runs.specs.declared.moments.Moments.{Moments}
-use Rattle.model_runs.specs.Moments.{AreMet}
-
--- the word that turns the words of a claim on every moment round
-abbrev pub turning : Rule → List ClaimWord
-turning rules.Every = its.Not ∷ []
-turning rules.Some = []
+use Rattle.model_claims.specs.declared.claim.Claim.{Claim}
+use Rattle.model_claims.specs.declared.moment.MomentWord.{MomentWord}
+use Rattle.model_runs.specs.Moments.{AreMet, sought}
 
 -- it is right about a code: what was met, and an answer for each with its schedule
 pub record IsRightAt (code : Tree) (k : Limits) (wanted : List (List ClaimWord)) (it : Moments) : Type 0 where
