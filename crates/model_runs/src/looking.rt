@@ -144,5 +144,6 @@ fn search_with(
         entries: plan.entries as usize,
         memory: plan.memory,
     };
-    search_claims(alloc, program, plan.limits, bounds, wanted, &mut Unwatched)
+    let found = search_claims(alloc, program, plan.limits, bounds, wanted, &mut Unwatched)?;
+    Ok(found)
 }

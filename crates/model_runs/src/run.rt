@@ -1,6 +1,6 @@
 //! A model explored and judged.
 
-ghost use Rattle.std.specs.Prelude.{◌≡◌, ◌≤◌, length, IfOk, IsTrue, None as Nothing};
+ghost use Rattle.std.specs.Prelude.{◌≡◌, ◌≤◌, length, true, IfOk, None as Nothing};
 ghost use Rattle.std.specs.List.{All};
 ghost use Rattle.std.specs.Option.{is_some};
 ghost use Rattle.model_runs.specs.Deciding.{IsDecided, IsDecidedIn};
@@ -212,7 +212,7 @@ fn decided_at_moments(
     number: usize,
 ) -> Result<ClaimResult, Refused>
     requires limits { AreLimits plan.limits }
-    requires moment { IsTrue (is_some claim.now.moment) }
+    requires moment { is_some claim.now.moment ≡ true }
     requires right { IsRightOf claim.now number moments.now }
     ensures decided { IfOk result (IsDecidedAtMoments searches.now moments.now.search) }
 {
