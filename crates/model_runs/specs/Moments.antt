@@ -61,7 +61,8 @@ soughts claims = flat_map (λ c. sought_in c.rule c.moment) claims
 
 -- ---- what is found
 -- each was met by its schedule, and where the search is complete no schedule meets another one
-pub record AreMet (code : Tree) (k : Limits) (wanted : List (List ClaimWord)) (complete : Bool) (met : List Met) : Type 0 where
+pub record AreMet (code : Tree) (k : Limits) (wanted : List (List ClaimWord)) (complete : Bool) (met : List Met)
+    : Type 0 where
   pub each : All (IsMetIn code k wanted) met
   pub none : complete ≡ true → (i : ℕ) (words : List ClaimWord) → slice_get wanted i ≡ Some words →
       (IsFound i met → ⊥) → (schedule : List ℕ) → Meets code k words schedule → ⊥
@@ -103,7 +104,8 @@ IsShownAt code k words answers true None = ⊤
 IsShownAt code k words answers false shown = ⊤
 
 -- what became of a claim that these words decide is what an exploration and a search for moments say of it
-pub record IsJudgedMoment (claim : Claim) (code : Tree) (k : Limits) (words : List ClaimWord) (ends found : Search) (it : ClaimResult) : Type 0 where
+pub record IsJudgedMoment (claim : Claim) (code : Tree) (k : Limits) (words : List ClaimWord) (ends found : Search)
+    (it : ClaimResult) : Type 0 where
   pub form : it.form ≡ claim.form
   pub rule : it.rule ≡ claim.rule
   pub fails : it.fails ≡ claim.fails

@@ -13,7 +13,8 @@ ghost use Rattle.every_schedule.specs.declared.claims.ClaimWord.{ClaimWord};
 ghost use Rattle.model_claims.specs.declared.judging.Verdict.{Verdict as TheVerdict};
 ghost use Rattle.model_claims.specs.Judging.{under as under_fails};
 ghost use Rattle.model_runs.specs.Moments.{AreMet, IsJudgedAt, IsShownAt, has_fault, soughts as all_soughts};
-ghost use Rattle.model_runs.specs.Private.Looking.{IsMetAt, IsRightAt, IsRightAtSome, by_search, moment_verdict as the_verdict};
+ghost use Rattle.model_runs.specs.Private.Looking.{IsMetAt, IsRightAt, IsRightAtSome, by_search};
+ghost use Rattle.model_runs.specs.Private.Looking.{moment_verdict as the_verdict};
 
 use crate::held::held_refs;
 use crate::looking::{search_by_plan, soughts};
@@ -37,8 +38,8 @@ pub(crate) struct Moments {
     pub search: Search,
 }
 
-/// Looks at each world of a model's term for what decides the claims at any moment. Nothing is looked at where there are
-/// none.
+/// Looks at each world of a model's term for what decides the claims at any moment. Nothing is looked at where there
+/// are none.
 pub(crate) fn moments_of(
     alloc: Global,
     source: &Source,

@@ -75,8 +75,8 @@ pub struct ModelResult {
     pub worlds: u64,
     /// What was found of its term, with what its claims want put into it.
     pub searches: Vec<Search>,
-    /// What was found of the worlds of its term, where a claim wants a look at each of them: its answers are moments, each
-    /// of which decides a claim. Nothing is looked at where no claim wants it.
+    /// What was found of the worlds of its term, where a claim wants a look at each of them: its answers are moments,
+    /// each of which decides a claim. Nothing is looked at where no claim wants it.
     pub moments: Search,
     /// What became of each claim, in the order of the file.
     pub claims: Vec<ClaimResult>,

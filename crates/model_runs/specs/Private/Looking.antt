@@ -54,4 +54,5 @@ moment_verdict rules.Some faulty met explored searched = some_verdict met search
 pub record IsRightOf (claim : Claim) (n : ℕ) (it : Moments) : Type 0 where
   pub wanted : List (List ClaimWord)
   pub right : IsRightAtSome wanted it
-  pub there : (words : Vec MomentWord Global) → claim.moment ≡ Some words → slice_get wanted n ≡ Some (sought claim.rule words.items)
+  pub there : (words : Vec MomentWord Global) → claim.moment ≡ Some words →
+      slice_get wanted n ≡ Some (sought claim.rule words.items)

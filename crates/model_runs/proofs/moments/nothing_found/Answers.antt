@@ -1,8 +1,8 @@
 use Rattle.std.proofs.Common.{rules, ◌≡◌, refl, arith}
 use Rattle.model_runs.proofs.moments.nothing_found.Goals as goal
 
-pub returns-clause : goal.returns-clause
-returns-clause c = λ code k wanted. record {
+pub returns : goal.returns
+returns c = λ code k wanted. record {
   met = record {
     each = λ i d low. absurd (omega arith);
     none = λ e. absurd (cc);
