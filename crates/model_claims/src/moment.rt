@@ -4,8 +4,8 @@ use crate::condition::{Comparison, Word};
 use effect_term::Value;
 use std::alloc::{AllocError, Global};
 
-/// A word of what is claimed of a moment. The words stand in postfix order, over a stack of truths: a comparison puts its
-/// truth on the stack, and the others take the last one or two off and put theirs on.
+/// A word of what is claimed of a moment. The words stand in postfix order, over a stack of truths: a comparison puts
+/// its truth on the stack, and the others take the last one or two off and put theirs on.
 #[derive(Clone, Copy)]
 pub enum MomentWord {
     /// Whether the value of the ref of this number compares so with this number. Refs have their numbers from 0 on, in
@@ -48,19 +48,27 @@ fn first_number(words: &[Word]) -> Option<u16> {
     None
 }
 
+// The least value.
+fn least_value() -> Value {
+    Value::MIN
+}
+
+// The comparison of a ref with this number, if it is known.
+fn compared(number: Option<u16>, comparison: Comparison, value: Value) -> Option<MomentWord> {
+    let number = number?;
+    Some(MomentWord::Compares(number, comparison, value))
+}
+
 // A word of a condition whose first ref has this number. What is always true is that the ref holds at least the least
 // value, and what is never true that it holds less.
 fn moment_word(first: u16, word: Word) -> Option<MomentWord> {
     match word {
-        Word::Yes => Some(MomentWord::Compares(first, Comparison::AtLeast, Value::MIN)),
-        Word::No => Some(MomentWord::Compares(first, Comparison::Below, Value::MIN)),
+        Word::Yes => Some(MomentWord::Compares(first, Comparison::AtLeast, least_value())),
+        Word::No => Some(MomentWord::Compares(first, Comparison::Below, least_value())),
         Word::And => Some(MomentWord::And),
         Word::Or => Some(MomentWord::Or),
         Word::Not => Some(MomentWord::Not),
-        Word::Compares(Some(number), comparison, value) => {
-            Some(MomentWord::Compares(number, comparison, value))
-        }
-        Word::Compares(None, _, _) => None,
+        Word::Compares(number, comparison, value) => compared(number, comparison, value),
         Word::Ended(_) => None,
         Word::Ends(_, _, _) => None,
         Word::Said(_, _, _) => None,

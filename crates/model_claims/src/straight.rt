@@ -1,7 +1,7 @@
 //! The part of a term in which fiber 0 is alone, and goes from each form to the next.
 
-/// How many bytes of a term stand before the first form that may start a fiber, go round, or leave out a form behind it.
-/// The refs before it are made in the order of the text, each once, and before any other.
+/// How many bytes of a term stand before the first form that may start a fiber, go round, or leave out a form behind
+/// it. The refs before it are made in the order of the text, each once, and before any other.
 pub(crate) fn straight_part(text: &[u8]) -> usize {
     for (at, byte) in text.iter().enumerate() {
         if *byte == b'(' && !is_straight(word_behind(text, at.saturating_add(1))) {
