@@ -14,7 +14,7 @@ use Rattle.model_runs.specs.declared.result.Search.{Search}
 use Rattle.model_runs.specs.Deciding.{IsDecided, IsResultOf}
 use Rattle.model_runs.specs.Moments.{IsDecidedAtMoments, IsJudgedMoment}
 use Rattle.model_runs.specs.Private.Looking.{IsRightAt, IsRightOf}
-use Rattle.model_runs.proofs.Moments.{some_in}
+use Rattle.model_runs.proofs.Looks.{some_in}
 
 pub decided_by : (source : Source) (claim : Claim) (searches : List Search) (n : ℕ) (s : Search) (it : Result ClaimResult Refused) →
     slice_get searches n ≡ Some s → claim.moment ≡ None → IfOk it (IsResultOf source claim s) → IfOk it (λ r. r.search ≡ n) →

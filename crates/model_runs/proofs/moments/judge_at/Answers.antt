@@ -3,7 +3,7 @@ use Rattle.std.specs.Option.{is_some}
 use Rattle.model_claims.specs.Judging.{under}
 use Rattle.model_runs.specs.Moments.{has_fault}
 use Rattle.model_runs.specs.Private.Looking.{moment_verdict}
-use Rattle.model_runs.proofs.Moments.{judged, shown_by}
+use Rattle.model_runs.proofs.Looks.{judged, shown_by}
 use Rattle.model_runs.proofs.moments.judge_at.Goals as goal
 
 pub returns-clause-judged : goal.returns-clause-judged

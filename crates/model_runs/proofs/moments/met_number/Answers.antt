@@ -1,4 +1,4 @@
-use Rattle.model_runs.proofs.Moments.{unfound}
+use Rattle.model_runs.proofs.Looks.{unfound}
 use Rattle.model_runs.proofs.moments.met_number.Goals as goal
 
 pub returns-clause-none : goal.returns-clause-none
