@@ -1,5 +1,5 @@
 -- Reports grow along the entries of the reduced exploration, too.
-use Rattle.std.proofs.Common.{ℕ, [], ◌∷◌, ◌∙◌}
+use Rattle.std.proofs.Common.{[], ◌∷◌, ◌∙◌}
 use Rattle.world_search.specs.Free.{AreGrowing}
 use Rattle.world_search.proofs.Free.{grown, unfolded}
 use Rattle.every_schedule.specs.Places.{report_at, stepped}

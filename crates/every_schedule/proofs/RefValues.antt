@@ -1,7 +1,6 @@
 -- The value of a ref, read from a registry.
 use Rattle.std.proofs.Common.{◌≡◌, ℕ, zero, suc, ◌<◌, ◌≤◌, List, [], ◌∷◌, length, refl, arith}
 use Rattle.std.specs.Prelude.{ℤ, pos, slice_index_or}
-use Rattle.effect_term.specs.declared.reply.Reply.{Reply}
 use Rattle.effect_term.specs.declared.reply.Reply.TheVariants as reply
 use Rattle.cell_registry.specs.declared.call.Call.TheVariants.{Get}
 use Rattle.cell_registry.specs.Cells.{IsAllowed, after, ref_of, reply_of}

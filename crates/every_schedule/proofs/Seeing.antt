@@ -1,7 +1,7 @@
 -- Which schedules of the core lead to worlds that meet a claim, by the views of a search.
-use Rattle.std.proofs.Common.{◌≡◌, ◌≢◌, ◌⊎◌, inl, inr, ℕ, zero, suc, nat_eq, Bool, true, false, cond, ◌&&◌, ◌||◌, List, [], ◌∷◌, ◌++◌, Option, Some, None}
+use Rattle.std.proofs.Common.{◌≡◌, ◌⊎◌, inl, inr, ℕ, zero, suc, nat_eq, Bool, true, false, cond, ◌&&◌, ◌||◌, List, [], ◌∷◌, ◌++◌, Option, Some, None}
 use Rattle.std.proofs.Common.{Result, Ok, Err, refl, sym, ap, ◌∙◌, subst}
-use Rattle.std.specs.List.{list_all, list_any}
+use Rattle.std.specs.List.{list_all}
 use Rattle.std.specs.List.{fold, slice_get}
 use Rattle.std.proofs.lemmas.Bool.{eqb-true, eq-eqb}
 use Rattle.derived_ops.specs.Tree.{Tree}
@@ -14,7 +14,7 @@ use Rattle.world_search.proofs.Free.{run_fault}
 use Rattle.every_schedule.specs.declared.claims.ClaimWord.{ClaimWord}
 use Rattle.every_schedule.specs.declared.claims.ClaimWord.TheVariants.{Compare, Not, And, Or}
 use Rattle.every_schedule.specs.Claims.{Compares, Meets, View, WasSet, are_seen, first_view, has, holds, is_met, is_seen, last_of, noted, seeing, stored_by, viewed, worded}
-use Rattle.every_schedule.specs.Places.{Place, bare, bared, first_place, placed, stepped, unnoted}
+use Rattle.every_schedule.specs.Places.{Place, bared, first_place, placed, stepped, unnoted}
 use Rattle.every_schedule.proofs.Bare.{bare_step}
 use Rattle.every_schedule.proofs.Placed.{first_bare}
 use Rattle.every_schedule.proofs.OwnKept.{and_true, or_second}
@@ -70,7 +70,7 @@ has_last r (m ∷ seen) = or_second (nat_eq m r) (has r (seen ++ r ∷ [])) (has
 has_back : (r n : ℕ) (seen : List ℕ) → has r (seen ++ n ∷ []) ≡ true → (has r seen ≡ true) ⊎ (n ≡ r)
 has_back r n [] h = elim (one_true (nat_eq n r) false h) [
   | inl here ↦ inr (eqb-true n r here)
-  | inr no ↦ absurd (cc)
+  | inr bad ↦ absurd (cc)
 ]
 has_back r n (m ∷ seen) h = elim (one_true (nat_eq m r) (has r (seen ++ n ∷ [])) h) [
   | inl here ↦ inl (first_true (nat_eq m r) (has r seen) here)
@@ -183,8 +183,7 @@ module _ (k : Limits) where
       (y : Result World RunError) → entered k (Ok w) f ≡ y → fold (entered k) y s ≡ Ok v → Leads w seen (f ∷ s) v
   complete_next s w seen f v on (Ok x) is e =
       let rest = on x (seen_next w seen f) e in
-      let here : stepped (at w) f ≡ Ok (at x) = bare_step (record { limits = k; world = w }) f ∙ ap (λ (y : Result World RunError). bared (placed k y)) is in
-      (
+      let here : stepped (at w) f ≡ Ok (at x) = bare_step (record { limits = k; world = w }) f ∙ ap (λ (y : Result World RunError). bared (placed k y)) is in (
         rest.0,
         ap (λ y. run (viewed stepped) (seeing (seen_next w seen f) y) s) here ∙ rest.1,
         rest.2,
@@ -228,8 +227,7 @@ module _ (code : Tree) (k : Limits) (words : List ClaimWord) where
       (u : View) × (run (viewed stepped) (Ok (first_view (first_place code k))) s ≡ Ok u) × (is_met u words ≡ true)
   unfolding core
   core_met s h =
-      let l = complete k s (first_world code k) [] h.world h.leads in
-      (
+      let l = complete k s (first_world code k) [] h.world h.leads in (
         l.0,
         ap (λ v. run (viewed stepped) (Ok v) s) first_same ∙ l.1,
         and_true (are_seen l.0.seen words) (holds l.0.place.world.cells words)

@@ -1,8 +1,8 @@
 -- What a reduced search for claims leaves out: own moves that set no ref and change none are free where the refs that were
 -- set are kept beside each world, and they keep what claims look at.
-use Rattle.std.proofs.Common.{◌≡◌, ◌≢◌, ℕ, ◌&&◌, ◌||◌, Bool, true, false, is_none, List, [], ◌∷◌, ◌++◌, set, append-nil, Some, None, Option, Result, Ok, Err}
+use Rattle.std.proofs.Common.{◌≡◌, ◌≢◌, ℕ, ◌&&◌, Bool, true, false, is_none, List, [], ◌∷◌, ◌++◌, set, append-nil, Some, None, Option, Result, Ok, Err}
 use Rattle.std.proofs.Common.{refl, sym, ap, ap₂, ◌∙◌, subst}
-use Rattle.std.specs.Prelude.{ℤ, pos, slice_index_or}
+use Rattle.std.specs.Prelude.{ℤ}
 use Rattle.std.specs.List.{fold, slice_get}
 use Rattle.effect_term.specs.declared.reply.Reply.{Reply}
 use Rattle.fiber_frames.specs.Fiber.{Fiber, ask_of, move, silent_move}
@@ -23,9 +23,9 @@ use Rattle.world_search.proofs.Views.{unmet_up}
 use Rattle.every_schedule.specs.declared.claims.ClaimWord.{ClaimWord}
 use Rattle.every_schedule.specs.declared.claims.ClaimWord.TheVariants.{Compare, Not, And, Or}
 use Rattle.every_schedule.specs.Claims.{View, are_seen, holds, is_met, last_of, noted, seeing, stored_by, stored_in, viewed, worded}
-use Rattle.every_schedule.specs.Places.{Place, bare, placed, stepped}
+use Rattle.every_schedule.specs.Places.{Place, placed, stepped}
 use Rattle.every_schedule.specs.Reduced.{MayOwn, has_own, hundred_still, is_own, is_own_call, leapt, may_be}
-use Rattle.every_schedule.proofs.Bare.{Enters, enters, unborn_stays}
+use Rattle.every_schedule.proofs.Bare.{enters}
 use Rattle.every_schedule.proofs.Bare.Enters.{Stays, Goes}
 use Rattle.every_schedule.proofs.Leaps.{leaps}
 use Rattle.every_schedule.proofs.Still.{may_are_free, other_stays}
@@ -172,8 +172,7 @@ module _ (v : View) (f g : ℕ) (x : View) (h : IsFree v f) (e : viewed stepped 
   commute_by : (y : Result Place RunError) → Commutes stepped (MayOwn false) f x.place g y → Commutes (viewed stepped) IsFree f x g (seeing then_seen y)
   commute_by (Ok y) pair =
       let z : View = record { place = pair.1; seen = then_seen } in
-      let there : View = record { place = y; seen = then_seen } in
-      (
+      let there : View = record { place = y; seen = then_seen } in (
         pair.0,
         z,
         free_step there f pair.0 ∙ ap (seeing then_seen) pair.2,

@@ -1,5 +1,5 @@
 -- Worlds by their numbers, each with the refs that were set before.
-use Rattle.std.proofs.Common.{◌≡◌, ℕ, zero, suc, ◌<◌, ◌≤◌, List, [], ◌∷◌, length, map, Option, Some, None, Result, Ok, Err, refl, sym, ap, ◌∙◌, ap₂, subst, arith, inl, inr}
+use Rattle.std.proofs.Common.{◌≡◌, ℕ, zero, suc, ◌<◌, ◌≤◌, List, [], ◌∷◌, length, map, Option, Some, None, Result, Ok, refl, sym, ap, ◌∙◌, ap₂, subst, arith, inl, inr}
 use Rattle.std.specs.List.{slice_get}
 use Rattle.std.proofs.lemmas.Option.{same_Some, slice_get_past, slice_get_within}
 use Rattle.cell_registry.specs.declared.limits.RunError.{RunError}
@@ -10,7 +10,7 @@ use Rattle.world_search.specs.Landings.{EntersAt}
 use Rattle.world_search.specs.Lists.{IsMore}
 use Rattle.world_search.proofs.Lists.{get_end, get_low, more_get, more_long, more_same}
 use Rattle.every_schedule.specs.Claims.{View, first_view, noted, seeing, stored_by, viewed}
-use Rattle.every_schedule.specs.Places.{Place, stepped}
+use Rattle.every_schedule.specs.Places.{Place}
 use Rattle.every_schedule.specs.Private.Keeping.{IsKept}
 use Rattle.every_schedule.specs.Private.Seen.{AreThere, IsRowAdded, IsRowMet, Marked, place_in, view_of}
 use Rattle.cell_registry.specs.declared.limits.Limits.{Limits}

@@ -1,6 +1,6 @@
 -- Own moves that may be made at once, where those that set a ref or change it may not be: they are free, too, and the
 -- values of refs stay.
-use Rattle.std.proofs.Common.{◌≡◌, ◌≢◌, ℕ, Bool, true, false, ◌&&◌, ◌||◌, List, [], ◌∷◌, ◌++◌, set, Some, None, Option, Result, Ok, Err, refl, sym, ap, ◌∙◌, subst}
+use Rattle.std.proofs.Common.{◌≡◌, ◌≢◌, ℕ, Bool, true, false, ◌&&◌, set, Some, None, Option, Result, Ok, Err, refl, sym, ap, ◌∙◌, subst}
 use Rattle.std.specs.List.{slice_get}
 use Rattle.fiber_frames.specs.Fiber.{Fiber, ask_of, move, silent_move}
 use Rattle.cell_registry.specs.declared.limits.Limits.{Limits}
@@ -14,9 +14,9 @@ use Rattle.scheduled_core.specs.Core.{World, answered, born, called, turned, wis
 use Rattle.scheduled_core.proofs.Lists.{slice_get-set_other}
 use Rattle.scheduled_core.proofs.Standing.Lists.{get_early}
 use Rattle.world_search.specs.Free.{AreFree, Commutes}
-use Rattle.every_schedule.specs.Places.{Place, bare, entering, placed, stepped}
+use Rattle.every_schedule.specs.Places.{Place, placed, stepped}
 use Rattle.every_schedule.specs.Reduced.{IsOwn, MayOwn, has_own, may_be}
-use Rattle.every_schedule.proofs.Bare.{Enters, enters, own_are_free}
+use Rattle.every_schedule.proofs.Bare.{enters, own_are_free}
 use Rattle.every_schedule.proofs.Bare.Enters.{Stays, Goes}
 
 pub two_true : (a b : Bool) → a && b ≡ true → (a ≡ true) × (b ≡ true)

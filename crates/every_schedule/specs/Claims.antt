@@ -1,13 +1,13 @@
 -- Claims of worlds, and which schedules lead to a world that meets one.
 use Rattle.std.specs.Prelude.{◌≡◌, ◌⊎◌, ◌-◌, ◌++◌, ◌&&◌, ◌||◌, ℕ, nat_eq, Bool, true, false, not, cond, List, [], ◌∷◌, length, take}
-use Rattle.std.specs.Prelude.{Option, Some, None, Result, Ok, Err, ℤ, int_le, int_lt, slice_index_or, map}
+use Rattle.std.specs.Prelude.{Option, Some, None, Result, Ok, Err, ℤ, int_le, int_lt, slice_index_or}
 use Rattle.std.specs.List.{list_all, list_any}
 use Rattle.std.specs.List.{fold, slice_get}
 use Rattle.derived_ops.specs.Tree.{Tree}
 use Rattle.cell_registry.specs.declared.call.Call.TheVariants.{Set, Modify}
 use Rattle.cell_registry.specs.declared.limits.Limits.{Limits}
 use Rattle.cell_registry.specs.declared.limits.RunError.{RunError}
-use Rattle.cell_registry.specs.Cells.{Cells, opening, ref_of}
+use Rattle.cell_registry.specs.Cells.{Cells, ref_of}
 use Rattle.fiber_frames.specs.Fiber.{Fiber, ask_of}
 use Rattle.scheduled_core.specs.declared.wish.Wish.{Wish}
 use Rattle.scheduled_core.specs.declared.wish.Wish.TheVariants.{Shared}
@@ -89,7 +89,8 @@ pub record Meets (code : Tree) (k : Limits) (words : List ClaimWord) (schedule :
   pub set : (r : ℕ) → Compares words r → WasSet k r (first_world code k) schedule
   pub truth : holds world.cells words ≡ true
 
--- ---- worlds as a search for claims keeps them: each with the refs that were set before, in the order of their first time
+-- ---- worlds as a search for claims keeps them: each with the refs that were set before, in the order of their first
+-- time
 pub record View : Type 0 where
   pub place : Place
   pub seen : List ℕ

@@ -24,16 +24,16 @@ use world_search::{Bounds, Claimed, Met, Watcher};
 /// Which of these claims some world of a program meets, whatever the schedule: each with a schedule that leads there, as
 /// `replay` takes it, to the first such world that was found.
 ///
-/// A claim is looked at in each world to which a schedule leads. A ref is named by its number, in the order in which refs
-/// are made, and it is looked at from the first time on that it is set, which is when it is made: before that, a claim
-/// that compares it isn't met, whatever else it says.
+/// A claim is looked at in each world to which a schedule leads. A ref is named by its number, in the order in which
+/// refs are made. It is looked at from its first set on, which follows when it is made: before that, a claim that
+/// compares it isn't met, whatever else it says.
 ///
-/// Where the search is complete, no schedule leads to a world that meets another of the claims. Where it isn't, what was
-/// met is met all the same.
+/// Where the search is complete, no schedule leads to a world that meets another of the claims. Where it isn't, what
+/// was met is met all the same.
 ///
 /// It is the reduced search of [`explore`](crate::explore), but that no move which sets a ref or changes it is made at
-/// once: each view of the refs that a schedule leads to is that of a world which is kept. The bound of entries counts
-/// those of the search alone, without the moves behind them.
+/// once: the values of the refs in each world to which a schedule leads are those in a world that is kept. The bound of
+/// entries counts those of the search alone, without the moves behind them.
 ///
 /// The limits are in their ranges ([`Limits`]). The watcher is told as in
 /// [`explore_watched`](crate::explore_watched). [`RunError::NoMemory`] is the only error.

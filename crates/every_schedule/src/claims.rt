@@ -27,8 +27,9 @@ pub enum Comparison {
     AtLeast,
 }
 
-/// A word of a claim. The words stand in postfix order, over a stack of truth values: a comparison puts its truth on the
-/// stack, and the others take the last one or two off and put theirs on. What is taken from an empty stack is false.
+/// A word of a claim. The words stand in postfix order, over a stack of truth values: a comparison puts its truth on
+/// the stack, and the others take the last one or two off and put theirs on. What is taken from an empty stack is
+/// false.
 #[derive(Clone, Copy)]
 pub enum ClaimWord {
     /// The value of the ref of this number is compared with a value. Refs have their numbers from 0 on, in the order in
@@ -156,7 +157,11 @@ fn holds(
 }
 
 // One word.
-fn step(registry: &mut PlainRegistry, stack: &mut Vec<bool>, word: ClaimWord) -> Result<(), AllocError>
+fn step(
+    registry: &mut PlainRegistry,
+    stack: &mut Vec<bool>,
+    word: ClaimWord,
+) -> Result<(), AllocError>
     ensures same { registry.new ≡ registry.old }
     ensures stack { OnOk result (stack.new.items ≡ worded registry.old.state stack.old.items word) }
 {

@@ -189,7 +189,7 @@ impl CoreWorlds {
         at_once: AtOnce,
     ) -> Result<Entered, AllocError>
         requires { world < length self.old.places }
-        ensures worlds { OnOk result (IsMore self.old.places self.new.places) }
+        ensures worlds { IsMore self.old.places self.new.places }
         ensures faults { OnOk result (IsMore self.old.faults self.new.faults) }
         ensures lands { IfOk result (λ it. (p : Place) → slice_get self.old.places world ≡ Some p →
             EntersAt self.new.places self.new.faults it (leapt at_once p fiber)) }

@@ -20,8 +20,8 @@ use std::alloc::{AllocError, Global};
 use std::marker::Model;
 use world_search::{Claims, Entered, Landing, Worlds};
 
-/// The own moves that are made at once behind an entry: none that sets a ref or changes it, so that each of their values is
-/// one of a world that is kept.
+/// The own moves that are made at once behind an entry: none that sets a ref or changes it, so that each of their values
+/// is one of a world that is kept.
 pub(crate) const STILL: AtOnce = AtOnce {
     most: 100,
     stores: false,
@@ -82,11 +82,7 @@ impl SeenWorlds {
 }
 
 // The refs that were set before, with the one that the next move sets, if it sets one.
-fn seen_after(
-    alloc: Global,
-    seen: &[u16],
-    stored: Option<u16>,
-) -> Result<Vec<u16>, AllocError>
+fn seen_after(alloc: Global, seen: &[u16], stored: Option<u16>) -> Result<Vec<u16>, AllocError>
     ensures { IfOk result (λ it. it.items ≡ noted seen.now stored) }
 {
     let mut after = Vec::from_slice(alloc, seen)?;

@@ -10,6 +10,8 @@
 #[cfg(test)]
 mod answers;
 #[cfg(test)]
+mod claims;
+#[cfg(test)]
 mod families;
 #[cfg(test)]
 mod listed;
@@ -37,3 +39,5 @@ mod texts;
 mod wants;
 #[cfg(test)]
 mod watched;
+#[cfg(test)]
+mod watched_claims;

@@ -58,8 +58,8 @@ pub struct Claimed {
 
 /// Searches every schedule from the first world of a store for worlds that meet claims.
 ///
-/// The worlds are those that [`search`](crate::search) meets; each claim is looked at in each of them, until one meets it.
-/// The watcher is called, and memory is bounded, as there.
+/// The worlds are those that [`search`](crate::search) meets; each claim is looked at in each of them, until one meets
+/// it. The watcher is called, and memory is bounded, as there.
 pub fn search_claims<W: Claims, V: Watcher>(
     alloc: Global,
     worlds: &mut W,

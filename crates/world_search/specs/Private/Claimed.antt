@@ -31,7 +31,8 @@ module _ {W C : Type 0} (meets : W → C → Bool) (ws : List W) where
   AreLooked many claims n met =
       (i : ℕ) (c : C) → i < n → slice_get claims i ≡ Some c → IsFound i met ⊎ MeetsNone many c
 
-  -- the claim of this number is listed as the next one, or none of the worlds of these nodes meets it and none is listed
+  -- the claim of this number is listed as the next one, or none of the worlds of these nodes meets it and none is
+  -- listed
   abbrev pub AddsMet : List Node → List C → ℕ → (old new : List Met) → Type 0
   AddsMet nodes claims number old new =
       ((new ≡ old) × ((c : C) → slice_get claims number ≡ Some c → MeetsNone (length nodes) c)) ⊎

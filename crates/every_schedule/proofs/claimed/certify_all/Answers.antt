@@ -1,4 +1,4 @@
-use Rattle.std.proofs.Common.{◌≡◌, ◌+◌, ◌<◌, ℕ, List, [], ◌∷◌, ◌++◌, length, sym, ◌∙◌, subst, arith}
+use Rattle.std.proofs.Common.{◌≡◌, List, [], ◌∷◌, ◌++◌, length, sym, ◌∙◌, subst, arith}
 use Rattle.std.specs.Prelude.{Some}
 use Rattle.std.specs.List.{All, slice_get}
 use Rattle.std.proofs.lemmas.Grind.{common_steps}
@@ -43,6 +43,15 @@ loop-i-preserved c =
           let f = known.whole k m (omega arith) there in
           (f.0, more_in old (old ++ one.0 ∷ []) f.0 (more_by old (one.0 ∷ [])) f.1, f.2)));
     }
+
+pub returns-then-not-added-clause-met : goal.returns-then-not-added-clause-met
+returns-then-not-added-clause-met c =
+    let P = IsMetIn (code_of (source_of c.args.program.now)) c.args.limits c.args.claims.now in
+    subst (λ (l : List Met). All P l) (sym (c.in_ok-added.ensures.same c.if-not-added.true)) c.loop-i.invariant.met
+
+pub returns-then-not-added-clause-numbers : goal.returns-then-not-added-clause-numbers
+returns-then-not-added-clause-numbers c =
+    subst (λ (l : List Met). All (IsFew 1000) l) (sym (c.in_ok-added.ensures.same c.if-not-added.true)) c.loop-i.invariant.numbers
 
 pub returns-clause-whole : goal.returns-clause-whole
 returns-clause-whole c = λ whole k m at.

@@ -1,4 +1,4 @@
-use Rattle.std.proofs.Common.{◌≡◌, ℕ, ◌≤◌, List, [], get_or, length, Ok, refl, sym, ap, ap₂, ◌∙◌, subst, arith}
+use Rattle.std.proofs.Common.{◌≡◌, ℕ, ◌≤◌, List, get_or, length, Ok, sym, ap, ap₂, ◌∙◌, arith}
 use Rattle.std.proofs.lemmas.List.{take_all}
 use Rattle.std.proofs.lemmas.List.Sums.{fold_more}
 use Rattle.derived_ops.specs.Expansion.{code_of}
@@ -20,7 +20,7 @@ loop-fiber-preserved c =
     let i = c.loop-fiber.fiber-index in
     let f = get_or c.args.schedule.now i 0 in
     let seen = c.loop-fiber.seen.items in
-    let set = c.in_ok-note_ref.ensures ∙ ap (noted seen) c.stored_by.ensures in
+    let set = c.in_ok-note_ref.ensures ∙ ap (noted seen) c.stored_by-stored.ensures in
     fold_more (entered (viewed stepped)) (Ok first) c.args.schedule.now i 0 c.loop-fiber-test.true ∙
     ap (λ x. entered (viewed stepped) x f) known ∙ ap₂ seeing (sym set) c.in-Ok.ensures.goes
 
@@ -34,4 +34,4 @@ returns-clause-meets c = λ yes.
     let led : run (viewed stepped) (Ok first) c.args.schedule.now ≡ Ok here =
     ap (run (viewed stepped) (Ok first)) (sym (take_all c.loop-fiber.fiber-index c.args.schedule.now past)) ∙ c.loop-fiber.invariant in
     met_core code k c.args.claim.now c.args.schedule.now here led
-    (ap (λ (v : View). is_met v c.args.claim.now) (sym c.new-2.ensures) ∙ sym c.in_ok-met.ensures ∙ yes)
+    (ap (λ (v : View). is_met v c.args.claim.now) (sym c.new.ensures) ∙ sym c.in_ok-met.ensures ∙ yes)

@@ -1,4 +1,4 @@
-use Rattle.std.proofs.Common.{◌≡◌, ℕ, true, false, List, sym, ap, ◌∙◌, subst}
+use Rattle.std.proofs.Common.{◌≡◌, true, false, List, sym, ap, ◌∙◌, subst}
 use Rattle.std.specs.Prelude.{Some}
 use Rattle.std.specs.List.{slice_get}
 use Rattle.derived_ops.specs.Expansion.{code_of}
@@ -12,7 +12,7 @@ use Rattle.every_schedule.proofs.SeenLeaps.{unmet_all}
 use Rattle.every_schedule.proofs.claimed.search_claims.Goals as goal
 
 pub returns-clause-unmet : goal.returns-clause-unmet
-returns-clause-unmet c = λ complete i words at unfound schedule met.
+returns-clause-unmet g c = λ complete i words at unfound schedule met.
     let code = code_of (source_of c.args.program.now) in
     let k = c.args.limits in
     let first = first_view (first_place code k) in

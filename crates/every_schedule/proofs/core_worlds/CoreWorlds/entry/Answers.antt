@@ -21,6 +21,13 @@ set_up-requires-clause-row c =
     let row : slice_get s.rows.items.items c.args.world ≡ Some c.index-row.result.now = grind (arith, common_steps, gets) in
     (s.limits, c.self.invariant.0 c.args.world c.index-row.result.now row)
 
+pub returns-in_err-current-clause-worlds : goal.returns-in_err-current-clause-worlds
+returns-in_err-current-clause-worlds c =
+    let s = c.self.inside in
+    let places = ap (λ (x : Kept). x.places) c.self.view_is in
+    let here = map (place_of s.limits s.states.fibers.items.items s.states.registries.items.items) s.rows.items.items in
+    subst (λ l. IsMore l here) places (more_same here)
+
 pub invariant_of-self-in-Ok : goal.invariant_of-self-in-Ok
 invariant_of-self-in-Ok c =
     let s = c.self.inside in
@@ -79,10 +86,9 @@ returns-in-Ok-clause-worlds c =
     let rows' = c.keep-kept.new.rows.items.items in
     let n = c.in-Ok.next.row in
     let next = c.in-Ok.next.world in
-    always c.keep-kept.result _
-    (subst (λ l. IsMore l (map (place_of k fs' rs') rows')) places
+    subst (λ l. IsMore l (map (place_of k fs' rs') rows')) places
     (places_hold k fs fs' rs rs' mf mr rows c.self.invariant.0 c.args.world m row now is_now c.args.at_once c.args.fiber n next
-    c.in-Ok.ensures.goes c.in-Ok.ensures.current c.in-Ok.ensures.fits rows' c.keep-kept.ensures.adds))
+    c.in-Ok.ensures.goes c.in-Ok.ensures.current c.in-Ok.ensures.fits rows' c.keep-kept.ensures.adds)
 
 pub returns-in-Ok-clause-lands : goal.returns-in-Ok-clause-lands
 returns-in-Ok-clause-lands c =
@@ -147,8 +153,7 @@ returns-in-Err-clause-worlds c =
     let row : slice_get rows c.args.world ≡ Some m = grind (arith, common_steps, gets) in
     let is_now : IsWorldOf fs rs m now = subst (λ (n : Numbers). IsWorldOf fs rs n now) c.in_ok-current.ensures.row c.in_ok-current.ensures.current in
     let places : map (place_of k fs rs) rows ≡ c.args.self.now.places = ap (λ (x : Kept). x.places) c.self.view_is in
-    always c.fault_met.result _
-    (subst (λ l. IsMore l (map (place_of k fs' rs') rows)) places (places_stay k fs fs' rs rs' mf mr rows c.self.invariant.0 c.args.world m row now is_now))
+    subst (λ l. IsMore l (map (place_of k fs' rs') rows)) places (places_stay k fs fs' rs rs' mf mr rows c.self.invariant.0 c.args.world m row now is_now)
 
 pub returns-in-Err-clause-lands : goal.returns-in-Err-clause-lands
 returns-in-Err-clause-lands c =

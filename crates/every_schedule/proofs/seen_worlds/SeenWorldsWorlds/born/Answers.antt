@@ -1,13 +1,10 @@
-use Rattle.std.proofs.Common.{◌≡◌, ◌≤◌, ℕ, length, map, refl, sym, ap, ap₂, ◌∙◌, subst, arith}
+use Rattle.std.proofs.Common.{◌≡◌, map, sym, ap, ◌∙◌, arith}
 use Rattle.std.specs.Prelude.{Some}
 use Rattle.std.specs.List.{slice_get}
 use Rattle.std.proofs.lemmas.Grind.{common_steps}
-use Rattle.std.proofs.lemmas.Option.{gets, slice_get_past}
+use Rattle.std.proofs.lemmas.Option.{gets}
 use Rattle.world_search.proofs.Lists.{get_low}
-use Rattle.every_schedule.specs.Claims.{View, noted, seeing, stored_by, viewed}
-use Rattle.every_schedule.specs.Reduced.{hundred_still, leapt}
 use Rattle.every_schedule.specs.Private.Seen.{KeptViews, view_of}
-use Rattle.every_schedule.proofs.Leaps.{leapt_rests}
 use Rattle.every_schedule.proofs.SeenRows.{view_at, view_is, view_rests}
 use Rattle.every_schedule.proofs.seen_worlds.SeenWorldsWorlds.born.Goals as goal
 

@@ -1,4 +1,4 @@
-use Rattle.std.proofs.Common.{◌≡◌, ◌≤◌, ℕ, List, length, map, sym, ap, ap₂, ◌∙◌, subst, arith}
+use Rattle.std.proofs.Common.{◌≡◌, ◌≤◌, length, map, sym, ap, ap₂, ◌∙◌, subst, arith}
 use Rattle.std.specs.Prelude.{Some, max}
 use Rattle.std.specs.List.{slice_get}
 use Rattle.std.proofs.lemmas.Grind.{common_steps}
@@ -11,11 +11,11 @@ use Rattle.every_schedule.specs.Claims.{View, noted, seeing, stored_by, viewed}
 use Rattle.every_schedule.specs.Reduced.{hundred_still, leapt}
 use Rattle.every_schedule.specs.Private.Seen.{KeptViews, view_of}
 use Rattle.every_schedule.proofs.Entering.{always, next_kept, room_kept}
-use Rattle.every_schedule.proofs.SeenRows.{row_lands, rows_there, view_at, view_is, views_grow}
+use Rattle.every_schedule.proofs.SeenRows.{row_lands, rows_there, there_more, view_at, view_is, views_grow}
 use Rattle.every_schedule.proofs.seen_worlds.SeenWorldsWorlds.enter.Goals as goal
 
-pub stored-requires : goal.stored-requires
-stored-requires c =
+pub stored-stored-requires : goal.stored-stored-requires
+stored-stored-requires c =
     let s = c.self.inside in
     let m = c.index-row.result.now in
     let row : slice_get s.rows.items.items c.args.world ≡ Some m = grind (arith, common_steps, gets) in
@@ -34,6 +34,10 @@ entry-requires c =
 
 pub invariant_of-self : goal.invariant_of-self
 invariant_of-self c =
+    there_more c.self.inside.worlds.places c.entry.new.self.places c.entry.ensures.worlds c.self.inside.rows.items.items c.self.invariant
+
+pub invariant_of-self-2 : goal.invariant_of-self-2
+invariant_of-self-2 c =
     let s = c.self.inside in
     let places = s.worlds.places in
     let places' = c.entry.new.self.places in
@@ -48,7 +52,7 @@ invariant_of-self c =
     let low = c.self.invariant c.args.world m row in
     let p = get_low places m.world low in
     let here : slice_get places c.world-number.result ≡ Some p.0 = ap (slice_get places) c.world-number.ensures ∙ p.1 in
-    let more = c.in_ok-came.ensures.worlds in
+    let more = c.entry.ensures.worlds in
     rows_there places places' more rows rows' c.self.invariant seen es (leapt hundred_still p.0 f) c.in_ok-came.came
     (c.in_ok-came.ensures.lands p.0 here) c.row_met.ensures.adds
 
@@ -68,7 +72,7 @@ returns-clause-worlds c =
     let low = c.self.invariant c.args.world m row in
     let p = get_low places m.world low in
     let here : slice_get places c.world-number.result ≡ Some p.0 = ap (slice_get places) c.world-number.ensures ∙ p.1 in
-    let more = c.in_ok-came.ensures.worlds in
+    let more = c.entry.ensures.worlds in
     always c.row_met.result _ (subst (λ l. IsMore l (map (view_of places') rows')) views
     (views_grow places places' more rows rows' c.self.invariant seen es (leapt hundred_still p.0 f) c.in_ok-came.came c.row_met.ensures.adds))
 
@@ -93,7 +97,7 @@ returns-clause-lands c =
     let low = c.self.invariant c.args.world m row in
     let p = get_low places m.world low in
     let here : slice_get places c.world-number.result ≡ Some p.0 = ap (slice_get places) c.world-number.ensures ∙ p.1 in
-    let more = c.in_ok-came.ensures.worlds in
+    let more = c.entry.ensures.worlds in
     let set : seen ≡ noted m.seen (stored_by (slice_get p.0.world.fibers f)) =
     c.in_ok-seen.ensures ∙ ap₂ noted c.seen.ensures (c.stored-stored.ensures p.0 here) in
     IfOk-weaker c.row_met.result _ _ (λ it met. λ w at.
@@ -120,7 +124,7 @@ returns-clause-room c =
     let low = c.self.invariant c.args.world m row in
     let p = get_low places m.world low in
     let here : slice_get places c.world-number.result ≡ Some p.0 = ap (slice_get places) c.world-number.ensures ∙ p.1 in
-    let more = c.in_ok-came.ensures.worlds in
+    let more = c.entry.ensures.worlds in
     IfOk-weaker c.row_met.result _ _
     (λ it few. subst (λ l. length (map (view_of places') rows') ≤ max c.args.most (length l)) views
     (room_kept (view_of places) (view_of places') rows rows' c.args.most few)) c.row_met.ensures.room
@@ -141,7 +145,7 @@ returns-clause-next c =
     let low = c.self.invariant c.args.world m row in
     let p = get_low places m.world low in
     let here : slice_get places c.world-number.result ≡ Some p.0 = ap (slice_get places) c.world-number.ensures ∙ p.1 in
-    let more = c.in_ok-came.ensures.worlds in
+    let more = c.entry.ensures.worlds in
     IfOk-weaker c.row_met.result _ _
     (λ it next. subst (λ l. IsNext (length l) (length (map (view_of places') rows')) c.args.most it) views
     (next_kept (view_of places) (view_of places') rows rows' c.args.most it next)) c.row_met.ensures.next
