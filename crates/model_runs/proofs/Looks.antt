@@ -1,12 +1,12 @@
 -- What decides the claims at any moment.
-use Rattle.std.proofs.Common.{◌≡◌, ◌≢◌, ℕ, zero, suc, ◌+◌, ◌<◌, ◌≤◌, Bool, true, false, List, [], ◌∷◌, ◌++◌, length, drop, map, refl}
+use Rattle.std.proofs.Common.{◌≡◌, ◌≢◌, ℕ, zero, suc, ◌+◌, ◌<◌, ◌≤◌, Bool, true, false, List, [], ◌∷◌, ◌++◌, length, drop, take, map, refl}
 use Rattle.std.proofs.Common.{sym, ap, ◌∙◌, subst, arith, inl, inr, get_or}
 use Rattle.std.specs.Prelude.{Option, Some, None, IfSome, IfNone}
 use Rattle.std.specs.List.{All, AllWithin, slice_get}
 use Rattle.std.specs.Option.{is_some}
 use Rattle.std.specs.declared.alloc.Global.{Global}
 use Rattle.std.specs.declared.vec.Vec.{Vec}
-use Rattle.std.proofs.lemmas.List.{at_drop_more, drop-drop, drop_at}
+use Rattle.std.proofs.lemmas.List.{at_drop_more, drop-drop, drop_at, map_more, map_push}
 use Rattle.std.proofs.lemmas.List.Elements.{All-get_or}
 use Rattle.std.proofs.lemmas.Option.{get_or_from_slice_get, same_Some, slice_get-map, slice_get_within}
 use Rattle.derived_ops.specs.Tree.{Tree}
@@ -101,6 +101,14 @@ shown_by code k wanted words it n right there true (Some i) (Some j) some same =
     let a = answer_at it.search.answers.items it.met.items i is.0 right.same is.1 in
     (a.0, a.1, subst (λ (s : List ℕ). Meets code k words s) (sym a.2)
     (meets_at code k wanted words it.met.items n i right.met.each there is))
+
+-- two lists of which each has one more, with the same of both
+pub one_more_alike : {A B S : Type 0} (f : A → S) (g : B → S) (xs ys : List A) (bs : List B) (i : ℕ) (a : A) (b : B) →
+    i < length bs → b ≡ get_or bs i b → map f xs ≡ map g (take i bs) → ys ≡ xs ++ a ∷ [] → f a ≡ g b →
+    map f ys ≡ map g (take (i + 1) bs)
+one_more_alike f g xs ys bs i a b low at before more same =
+    ap (map f) more ∙ map_push f xs a ∙ ap (λ l. l ++ f a ∷ []) before ∙ ap (λ s. map g (take i bs) ++ s ∷ []) (same ∙ ap g at)
+    ∙ sym (map_more g bs i b low)
 
 -- ---- the numbers of claims
 get_drop : {A : Type 0} (xs : List A) (n : ℕ) → slice_get (drop n xs) 0 ≡ slice_get xs n

@@ -6,6 +6,6 @@ returns-clause-moment c = λ code k wanted words right there. record {
   form = refl;
   rule = refl;
   fails = refl;
-  judged = c.judge_at.ensures.judged code k wanted words right there;
-  shown = c.judge_at.ensures.shown code k wanted words right there;
+  judged = c.judge_at-judged.ensures.judged code k wanted words right there;
+  shown = c.judge_at-judged.ensures.shown code k wanted words right there;
 }

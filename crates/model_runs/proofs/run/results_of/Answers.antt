@@ -18,7 +18,7 @@ loop-claim-preserved c =
     let pushed : c.push.new.self.items ≡ c.loop-claim.results.items ++ one ∷ [] = search rules in
     record {
       decided = All-same P _ _ pushed (All-push P c.loop-claim.results.items one c.loop-claim.invariant.decided c.in_ok-result.ensures.decided);
-      counted = left_behind c.args.claims.now c.loop-claim.claim-index c.loop-claim.number c.count_of.result c.claim-item.result
-          (omega arith) c.claim-item.is c.loop-claim.invariant.counted c.count_of.ensures.count;
+      counted = left_behind c.args.claims.now c.loop-claim.claim-index c.loop-claim.number c.count_of-number.result c.claim-item.result
+          (omega arith) c.claim-item.is c.loop-claim.invariant.counted c.count_of-number.ensures.count;
       low = omega arith;
     }
