@@ -1,5 +1,5 @@
 -- No answer to a text ends as wrong usage does.
-use Rattle.std.proofs.Common.{◌≡◌, ◌≢◌, ◌∙◌, if◌then◌else◌, Bool, true, false, ℕ, List, [], ◌∷◌, Option, Some, None, Result, Ok, Err, sym}
+use Rattle.std.proofs.Common.{◌≡◌, ◌≢◌, ◌∙◌, inl, inr, if◌then◌else◌, Bool, true, false, ℕ, List, [], ◌∷◌, Option, Some, None, Result, Ok, Err, sym}
 use Rattle.cell_registry.specs.declared.limits.Limits.{Limits}
 use Rattle.effect_term.specs.declared.reply.Outcome.{Outcome}
 use Rattle.effect_term.specs.declared.reply.Outcome.TheVariants.{Succeeded, Errored, Canceled}
@@ -17,6 +17,7 @@ use Rattle.world_search.specs.declared.answers.Bounds.{Bounds}
 use Rattle.exploration_text.specs.declared.wants.Want.{Want}
 use Rattle.exploration_text.specs.ExplorationText.{has_failure}
 use Rattle.exploration_text.specs.ExploreAnswers.{IsExploreAnswer, explores, unexplored}
+use Rattle.exploration_text.specs.Findings.{IsExploreFirst, IsFirstAnswer}
 use Rattle.reasons.specs.Explained.{Explained}
 use Rattle.json_answers.specs.Answers.{IsJsonCheck, IsJsonRefusal, IsJsonReplay, IsJsonRun, reports as reports_json}
 use Rattle.json_answers.specs.Answers.{faults as faults_json, no_program as no_program_json, no_term as no_term_json}
@@ -24,6 +25,7 @@ use Rattle.timelines.specs.PictureAnswers.{IsPictureAnswer, IsPicturedAnswer, fa
 use Rattle.json_answers.specs.FoundAnswers.{IsJsonExplore, IsJsonSample, explores as explores_json}
 use Rattle.json_answers.specs.FoundAnswers.{samples as samples_json, unexplored as unexplored_json}
 use Rattle.json_answers.specs.FoundAnswers.{unsampled as unsampled_json}
+use Rattle.json_answers.specs.FindingData.{IsJsonFirst, IsJsonFirstAnswer}
 use Rattle.timelines.specs.ExploreTimelines.{IsExploreTimeline}
 use Rattle.timelines.specs.TimelineAnswers.{IsTimelineAnswer}
 use Rattle.exploration_text.specs.SampleText.{has_finding}
@@ -192,6 +194,26 @@ pub json_explore_ends : {limits : Limits} {bounds : Bounds} {wants : List Want} 
 json_explore_ends (unexplored_json text answer status h) = json_refusal_ends h
 json_explore_ends {limits} {bounds} {wants} (explores_json text answer status t reads program h) =
     λ u. chosen_ends (has_failure wants h.exploration.answers) h.exploration.complete (sym h.status_is ∙ u)
+
+two_findings_end : {t : Term} {limits : Limits} {bounds : Bounds} {wants : List Want} {answer : List ℕ} {status : Status} →
+    IsFirstAnswer t limits bounds wants answer status → status ≢ ends.Usage
+two_findings_end (inl h) = λ u. let bad : ends.Errored ≡ ends.Usage = sym h.status_is ∙ u in cc
+two_findings_end {t} {limits} {bounds} {wants} (inr h) =
+    λ u. chosen_ends (has_failure wants h.explored.exploration.answers) h.explored.exploration.complete (sym h.explored.status_is ∙ u)
+
+pub first_ends : {limits : Limits} {bounds : Bounds} {wants : List Want} {text answer : List ℕ} {status : Status} →
+    IsExploreFirst limits bounds wants text answer status → status ≢ ends.Usage
+first_ends = program_ends (λ text answer status h. refusal_ends h) (λ t answer status h. two_findings_end h)
+
+json_findings_end : {t : Term} {limits : Limits} {bounds : Bounds} {wants : List Want} {answer : List ℕ} {status : Status} →
+    IsJsonFirstAnswer t limits bounds wants answer status → status ≢ ends.Usage
+json_findings_end (inl h) = λ u. let bad : ends.Errored ≡ ends.Usage = sym h.status_is ∙ u in cc
+json_findings_end {t} {limits} {bounds} {wants} (inr h) =
+    λ u. chosen_ends (has_failure wants h.explored.exploration.answers) h.explored.exploration.complete (sym h.explored.status_is ∙ u)
+
+pub json_first_ends : {limits : Limits} {bounds : Bounds} {wants : List Want} {text answer : List ℕ} {status : Status} →
+    IsJsonFirst limits bounds wants text answer status → status ≢ ends.Usage
+json_first_ends = program_ends (λ text answer status h. json_refusal_ends h) (λ t answer status h. json_findings_end h)
 
 -- ---- of runs on workers
 refused_ends : (form : RunForm) (text answer : List ℕ) (status : Status) → refused_as form text answer status → status ≢ ends.Usage
