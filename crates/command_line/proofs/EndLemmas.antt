@@ -30,6 +30,7 @@ use Rattle.timelines.specs.ExploreTimelines.{IsExploreTimeline}
 use Rattle.timelines.specs.TimelineAnswers.{IsTimelineAnswer}
 use Rattle.exploration_text.specs.SampleText.{has_finding}
 use Rattle.exploration_text.specs.SampleAnswers.{IsSampleAnswer, samples, unsampled}
+use Rattle.exploration_text.specs.declared.explore_texts.ExploreOrder.{ExploreOrder}
 use Rattle.exploration_text.specs.declared.sample_texts.SampleOrder.{SampleOrder}
 use Rattle.steal_pool.specs.declared.options.Options.{Options}
 use Rattle.command_words.specs.declared.replay.AnswerForm.{AnswerForm}
@@ -43,6 +44,7 @@ use Rattle.command_line.specs.Replays.{answers_as}
 use Rattle.command_line.specs.RunReasons.{ExplainsRun}
 use Rattle.command_line.specs.Runs.{comes_as, ran_as, refused_as}
 use Rattle.command_line.specs.Samplings.{samples_as}
+use Rattle.command_line.specs.Seekings.{seeks_as}
 use Rattle.command_line.specs.Workers.{IsJsonWorkersAnswer, IsWorkersAnswer}
 use Rattle.command_line.specs.Workers.{value_of_fault, values, reports as reports_worked, faults as faults_worked}
 
@@ -195,13 +197,14 @@ json_explore_ends (unexplored_json text answer status h) = json_refusal_ends h
 json_explore_ends {limits} {bounds} {wants} (explores_json text answer status t reads program h) =
     λ u. chosen_ends (has_failure wants h.exploration.answers) h.exploration.complete (sym h.status_is ∙ u)
 
+-- ---- of first findings
 two_findings_end : {t : Term} {limits : Limits} {bounds : Bounds} {wants : List Want} {answer : List ℕ} {status : Status} →
     IsFirstAnswer t limits bounds wants answer status → status ≢ ends.Usage
 two_findings_end (inl h) = λ u. let bad : ends.Errored ≡ ends.Usage = sym h.status_is ∙ u in cc
 two_findings_end {t} {limits} {bounds} {wants} (inr h) =
     λ u. chosen_ends (has_failure wants h.explored.exploration.answers) h.explored.exploration.complete (sym h.explored.status_is ∙ u)
 
-pub first_ends : {limits : Limits} {bounds : Bounds} {wants : List Want} {text answer : List ℕ} {status : Status} →
+first_ends : {limits : Limits} {bounds : Bounds} {wants : List Want} {text answer : List ℕ} {status : Status} →
     IsExploreFirst limits bounds wants text answer status → status ≢ ends.Usage
 first_ends = program_ends (λ text answer status h. refusal_ends h) (λ t answer status h. two_findings_end h)
 
@@ -211,9 +214,13 @@ json_findings_end (inl h) = λ u. let bad : ends.Errored ≡ ends.Usage = sym h.
 json_findings_end {t} {limits} {bounds} {wants} (inr h) =
     λ u. chosen_ends (has_failure wants h.explored.exploration.answers) h.explored.exploration.complete (sym h.explored.status_is ∙ u)
 
-pub json_first_ends : {limits : Limits} {bounds : Bounds} {wants : List Want} {text answer : List ℕ} {status : Status} →
+json_first_ends : {limits : Limits} {bounds : Bounds} {wants : List Want} {text answer : List ℕ} {status : Status} →
     IsJsonFirst limits bounds wants text answer status → status ≢ ends.Usage
 json_first_ends = program_ends (λ text answer status h. json_refusal_ends h) (λ t answer status h. json_findings_end h)
+
+pub seek_ends : (json : Bool) (order : ExploreOrder) (text answer : List ℕ) (status : Status) → seeks_as json order text answer status → status ≢ ends.Usage
+seek_ends true order text answer status h = json_first_ends h
+seek_ends false order text answer status h = first_ends h
 
 -- ---- of runs on workers
 refused_ends : (form : RunForm) (text answer : List ℕ) (status : Status) → refused_as form text answer status → status ≢ ends.Usage

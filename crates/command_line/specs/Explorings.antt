@@ -2,9 +2,7 @@
 use Rattle.std.specs.Prelude.{◌≡◌, Bool, Result}
 use Rattle.exploration_text.specs.declared.explore_texts.ExploreOrder.{ExploreOrder}
 use Rattle.exploration_text.specs.ExploreAnswers.{IsExploreAnswer}
-use Rattle.exploration_text.specs.Findings.{IsExploreFirst}
 use Rattle.reasons.specs.Refusals.{IsTextReasons}
-use Rattle.json_answers.specs.FindingData.{IsJsonFirst}
 use Rattle.json_answers.specs.FoundAnswers.{IsJsonExplore}
 use Rattle.text_io.specs.declared.fault.TextFault.{TextFault}
 use Rattle.text_io.specs.declared.status.Status.{Status}
@@ -13,7 +11,7 @@ use Rattle.text_io.specs.Exchange.{IsAnswered}
 use Rattle.text_io.specs.Telling.{status_of}
 use Rattle.timelines.specs.ExploreTimelines.{IsExploreTimeline}
 use Rattle.command_words.specs.declared.exploring.ExploreForm.{ExploreForm}
-use Rattle.command_words.specs.declared.exploring.ExploreForm.TheVariants.{First, FirstJson, Json, Progress, Report, Timeline}
+use Rattle.command_words.specs.declared.exploring.ExploreForm.TheVariants.{Report, Timeline, Json, Progress}
 use Rattle.command_words.specs.declared.exploring.Exploring.{Exploring}
 use Rattle.command_line.specs.Orders.{ObeysOrder}
 
@@ -32,10 +30,6 @@ ExploresAs Timeline explain order before after status =
 ExploresAs Json explain order before after status =
     ObeysOrder (IsJsonExplore order.limits order.bounds order.wants.items) IsTextReasons explain before after status
 ExploresAs Progress explain order before after status = ExploresWatched order before after status
-ExploresAs First explain order before after status =
-    ObeysOrder (IsExploreFirst order.limits order.bounds order.wants.items) IsTextReasons explain before after status
-ExploresAs FirstJson explain order before after status =
-    ObeysOrder (IsJsonFirst order.limits order.bounds order.wants.items) IsTextReasons explain before after status
 
 abbrev pub ObeysExplore : Exploring → Devices → Devices → Status → Type 0
 ObeysExplore exploring before after status =

@@ -8,6 +8,7 @@ pub mod Replays
 pub mod RunReasons
 pub mod Runs
 pub mod Samplings
+pub mod Seekings
 pub mod Tests
 pub mod Workers
 pub mod Comparings

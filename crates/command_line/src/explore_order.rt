@@ -6,8 +6,8 @@ ghost use Rattle.text_io.specs.Devices.{devices};
 
 use crate::order::obey_order;
 use command_words::{ExploreForm, Exploring};
-use exploration_text::{FirstOrder, obey_explore_watched};
-use json_answers::{ExploreJson, FirstJson};
+use exploration_text::obey_explore_watched;
+use json_answers::ExploreJson;
 use outcome_trace::{Status, TextIn, TextOut};
 use reasons::TextReasons;
 use std::alloc::Global;
@@ -49,13 +49,5 @@ pub fn obey_explore<C: Clock, I: TextIn, O: TextOut, E: TextOut>(
             obey_order(alloc, &order, &TextReasons, explain, input, out, err)
         }
         ExploreForm::Progress => obey_explore_watched(clock, alloc, &order, input, out, err),
-        ExploreForm::First => {
-            let order = FirstOrder { order };
-            obey_order(alloc, &order, &TextReasons, explain, input, out, err)
-        }
-        ExploreForm::FirstJson => {
-            let order = FirstJson { order };
-            obey_order(alloc, &order, &TextReasons, explain, input, out, err)
-        }
     }
 }

@@ -37,8 +37,6 @@ progress_with_timeline options progress timeline explores.Timeline explain says 
 progress_with_timeline options progress timeline explores.Json explain says = says.0 progress
 progress_with_timeline options progress timeline explores.Progress false says = says.1 timeline
 progress_with_timeline options progress timeline explores.Progress true says = says
-progress_with_timeline options progress timeline explores.First explain says = says.0 progress
-progress_with_timeline options progress timeline explores.FirstJson explain says = says.0 progress
 
 pub progress_with_json : (options : List Row) → IsGiven (codes "progress") options → IsGiven (codes "json") options →
     (form : ExploreForm) (explain : Bool) → SaysExploreForm options form explain → ⊥
@@ -47,28 +45,14 @@ progress_with_json options progress json explores.Timeline explain says = says.0
 progress_with_json options progress json explores.Json explain says = says.0 progress
 progress_with_json options progress json explores.Progress false says = says.2 json
 progress_with_json options progress json explores.Progress true says = says
-progress_with_json options progress json explores.First explain says = says.0 progress
-progress_with_json options progress json explores.FirstJson explain says = says.0 progress
-
-pub progress_with_first : (options : List Row) → IsGiven (codes "progress") options → IsGiven (codes "first") options →
-    (form : ExploreForm) (explain : Bool) → SaysExploreForm options form explain → ⊥
-progress_with_first options progress first explores.Report explain says = says.0 progress
-progress_with_first options progress first explores.Timeline explain says = says.0 progress
-progress_with_first options progress first explores.Json explain says = says.0 progress
-progress_with_first options progress first explores.Progress false says = says.3 first
-progress_with_first options progress first explores.Progress true says = says
-progress_with_first options progress first explores.First explain says = says.0 progress
-progress_with_first options progress first explores.FirstJson explain says = says.0 progress
 
 pub progress_with_reasons : (options : List Row) → IsGiven (codes "progress") options → IsGiven (codes "explain") options →
     (form : ExploreForm) (explain : Bool) → SaysExploreForm options form explain → ⊥
 progress_with_reasons options progress asked explores.Report explain says = says.0 progress
 progress_with_reasons options progress asked explores.Timeline explain says = says.0 progress
 progress_with_reasons options progress asked explores.Json explain says = says.0 progress
-progress_with_reasons options progress asked explores.Progress false says = says.4 asked
+progress_with_reasons options progress asked explores.Progress false says = says.3 asked
 progress_with_reasons options progress asked explores.Progress true says = says
-progress_with_reasons options progress asked explores.First explain says = says.0 progress
-progress_with_reasons options progress asked explores.FirstJson explain says = says.0 progress
 
 pub explored_timeline_with_json : (options : List Row) → IsGiven (codes "timeline") options → IsGiven (codes "json") options →
     (form : ExploreForm) (explain : Bool) → SaysExploreForm options form explain → ⊥
@@ -77,18 +61,6 @@ explored_timeline_with_json options timeline json explores.Timeline explain says
 explored_timeline_with_json options timeline json explores.Json explain says = says.1 timeline
 explored_timeline_with_json options timeline json explores.Progress false says = says.1 timeline
 explored_timeline_with_json options timeline json explores.Progress true says = says
-explored_timeline_with_json options timeline json explores.First explain says = says.1 timeline
-explored_timeline_with_json options timeline json explores.FirstJson explain says = says.1 timeline
-
-pub explored_timeline_with_first : (options : List Row) → IsGiven (codes "timeline") options → IsGiven (codes "first") options →
-    (form : ExploreForm) (explain : Bool) → SaysExploreForm options form explain → ⊥
-explored_timeline_with_first options timeline first explores.Report explain says = says.1 timeline
-explored_timeline_with_first options timeline first explores.Timeline explain says = says.3 first
-explored_timeline_with_first options timeline first explores.Json explain says = says.1 timeline
-explored_timeline_with_first options timeline first explores.Progress false says = says.1 timeline
-explored_timeline_with_first options timeline first explores.Progress true says = says
-explored_timeline_with_first options timeline first explores.First explain says = says.1 timeline
-explored_timeline_with_first options timeline first explores.FirstJson explain says = says.1 timeline
 
 -- ---- of `run`
 pub record_with_json : (options : List Row) → IsGiven (codes "record") options → IsGiven (codes "json") options → (form : RunForm) (explain : Bool) →

@@ -38,23 +38,17 @@ SaysForm options Json =
 abbrev pub SaysExploreForm : List Row → ExploreForm → Bool → Type 0
 SaysExploreForm options explores.Report explain =
     IsLeftOut (codes "progress") options × IsLeftOut (codes "timeline") options × IsLeftOut (codes "json") options ×
-    IsLeftOut (codes "first") options × SaysFlag (codes "explain") options explain
+    SaysFlag (codes "explain") options explain
 SaysExploreForm options explores.Timeline explain =
     IsLeftOut (codes "progress") options × IsGiven (codes "timeline") options × IsLeftOut (codes "json") options ×
-    IsLeftOut (codes "first") options × SaysFlag (codes "explain") options explain
+    SaysFlag (codes "explain") options explain
 SaysExploreForm options explores.Json explain =
     IsLeftOut (codes "progress") options × IsLeftOut (codes "timeline") options × IsGiven (codes "json") options ×
-    IsLeftOut (codes "first") options × SaysFlag (codes "explain") options explain
+    SaysFlag (codes "explain") options explain
 SaysExploreForm options explores.Progress false =
     IsGiven (codes "progress") options × IsLeftOut (codes "timeline") options × IsLeftOut (codes "json") options ×
-    IsLeftOut (codes "first") options × IsLeftOut (codes "explain") options
+    IsLeftOut (codes "explain") options
 SaysExploreForm options explores.Progress true = ⊥
-SaysExploreForm options explores.First explain =
-    IsLeftOut (codes "progress") options × IsLeftOut (codes "timeline") options × IsLeftOut (codes "json") options ×
-    IsGiven (codes "first") options × SaysFlag (codes "explain") options explain
-SaysExploreForm options explores.FirstJson explain =
-    IsLeftOut (codes "progress") options × IsLeftOut (codes "timeline") options × IsGiven (codes "json") options ×
-    IsGiven (codes "first") options × SaysFlag (codes "explain") options explain
 
 -- the form that the options of `run` say, and whether reasons are told, which is so beside a report alone; a
 -- timeline is one of the schedule that is recorded

@@ -13,10 +13,6 @@ pub enum ExploreForm {
     Json,
     /// As that list, while it is told how far the search has come.
     Progress,
-    /// As the first finding alone, or that list where there is none.
-    First,
-    /// As the first finding alone, or that list where there is none, in JSON.
-    FirstJson,
 }
 
 /// To explore every schedule of the text's program.

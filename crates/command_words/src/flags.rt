@@ -60,7 +60,7 @@ pub fn replay_form(options: &ArgMatches<'_>) -> Option<AnswerForm>
 }
 
 /// The form that the options of `explore` say, and whether reasons are told, where these go together.
-#[tactic(auto, using(crate::proofs::FormLemmas::progress_with_timeline, crate::proofs::FormLemmas::progress_with_json, crate::proofs::FormLemmas::progress_with_reasons, crate::proofs::FormLemmas::explored_timeline_with_json, crate::proofs::FormLemmas::progress_with_first, crate::proofs::FormLemmas::explored_timeline_with_first))]
+#[tactic(auto, using(crate::proofs::FormLemmas::progress_with_timeline, crate::proofs::FormLemmas::progress_with_json, crate::proofs::FormLemmas::progress_with_reasons, crate::proofs::FormLemmas::explored_timeline_with_json))]
 pub fn explore_form(options: &ArgMatches<'_>) -> Option<(ExploreForm, bool)>
     ensures said { IfSome result (λ said. SaysExploreForm (rows_of (found_of options.now)) said.0 said.1) }
     ensures none { IfNone result ((form : ExploreForm) (explain : Bool) →
@@ -69,25 +69,18 @@ pub fn explore_form(options: &ArgMatches<'_>) -> Option<(ExploreForm, bool)>
     let progress = given(options, "progress");
     let timeline = given(options, "timeline");
     let json = given(options, "json");
-    let first = given(options, "first");
     let explain = given(options, "explain");
     if progress {
-        if timeline || json || first || explain {
+        if timeline || json || explain {
             None
         } else {
             Some((ExploreForm::Progress, false))
         }
     } else if timeline {
-        if json || first {
+        if json {
             None
         } else {
             Some((ExploreForm::Timeline, explain))
-        }
-    } else if first {
-        if json {
-            Some((ExploreForm::FirstJson, explain))
-        } else {
-            Some((ExploreForm::First, explain))
         }
     } else if json {
         Some((ExploreForm::Json, explain))

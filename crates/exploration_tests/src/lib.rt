@@ -12,6 +12,8 @@ mod answers;
 #[cfg(test)]
 mod families;
 #[cfg(test)]
+mod first_findings;
+#[cfg(test)]
 mod listed;
 #[cfg(test)]
 mod places;

@@ -1,4 +1,4 @@
-use Rattle.command_line.proofs.EndLemmas.{explore_ends, explore_timeline_ends, first_ends, json_explore_ends, json_first_ends, order_ends}
+use Rattle.command_line.proofs.EndLemmas.{explore_ends, explore_timeline_ends, json_explore_ends, order_ends}
 use Rattle.command_line.proofs.explore_order.obey_explore.Goals as goal
 
 pub returns-in-Report-clause-ends : goal.returns-in-Report-clause-ends
@@ -10,9 +10,3 @@ returns-in-Timeline-clause-ends g c =
 
 pub returns-in-Json-clause-ends : goal.returns-in-Json-clause-ends
 returns-in-Json-clause-ends g c = order_ends _ _ c.args.exploring.explain _ _ _ (λ text answer status h. json_explore_ends h) c.obey_order-in-Json.ensures
-
-pub returns-in-First-clause-ends : goal.returns-in-First-clause-ends
-returns-in-First-clause-ends g c = order_ends _ _ c.args.exploring.explain _ _ _ (λ text answer status h. first_ends h) c.obey_order-in-First.ensures
-
-pub returns-in-FirstJson-clause-ends : goal.returns-in-FirstJson-clause-ends
-returns-in-FirstJson-clause-ends g c = order_ends _ _ c.args.exploring.explain _ _ _ (λ text answer status h. json_first_ends h) c.obey_order-in-FirstJson.ensures
