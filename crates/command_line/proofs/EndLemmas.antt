@@ -22,14 +22,13 @@ use Rattle.reasons.specs.Explained.{Explained}
 use Rattle.json_answers.specs.Answers.{IsJsonCheck, IsJsonRefusal, IsJsonReplay, IsJsonRun, reports as reports_json}
 use Rattle.json_answers.specs.Answers.{faults as faults_json, no_program as no_program_json, no_term as no_term_json}
 use Rattle.timelines.specs.PictureAnswers.{IsPictureAnswer, IsPicturedAnswer, faults as faults_drawn, pictures}
-use Rattle.json_answers.specs.FoundAnswers.{IsJsonExplore, IsJsonSample, explores as explores_json}
-use Rattle.json_answers.specs.FoundAnswers.{samples as samples_json, unexplored as unexplored_json}
-use Rattle.json_answers.specs.FoundAnswers.{unsampled as unsampled_json}
+use Rattle.json_answers.specs.FoundAnswers.{IsJsonExplore, IsNotedJsonSample, explores as explores_json}
+use Rattle.json_answers.specs.FoundAnswers.{unexplored as unexplored_json}
 use Rattle.json_answers.specs.FindingData.{IsJsonFirst, IsJsonFirstAnswer}
 use Rattle.timelines.specs.ExploreTimelines.{IsExploreTimeline}
 use Rattle.timelines.specs.TimelineAnswers.{IsTimelineAnswer}
 use Rattle.exploration_text.specs.SampleText.{has_finding}
-use Rattle.exploration_text.specs.SampleAnswers.{IsSampleAnswer, samples, unsampled}
+use Rattle.exploration_text.specs.SampleAnswers.{IsNotedSample}
 use Rattle.exploration_text.specs.declared.explore_texts.ExploreOrder.{ExploreOrder}
 use Rattle.exploration_text.specs.declared.sample_texts.SampleOrder.{SampleOrder}
 use Rattle.steal_pool.specs.declared.options.Options.{Options}
@@ -38,12 +37,13 @@ use Rattle.command_words.specs.declared.replay.AnswerForm.TheVariants.{Report, T
 use Rattle.command_words.specs.declared.running.RunForm.{RunForm}
 use Rattle.command_words.specs.declared.running.RunForm.TheVariants as ran
 use Rattle.command_line.specs.Checks.{checks_as}
+use Rattle.command_line.specs.Noting.{IsNotedAnswer, ObeysNoted}
 use Rattle.command_line.specs.Orders.{ObeysOrder}
 use Rattle.command_line.specs.Recording.{IsRecordedWith, IsTimedAnswer, alone, timed, reports as reports_recorded, faults as faults_recorded}
 use Rattle.command_line.specs.Replays.{answers_as}
 use Rattle.command_line.specs.RunReasons.{ExplainsRun}
 use Rattle.command_line.specs.Runs.{comes_as, ran_as, refused_as}
-use Rattle.command_line.specs.Samplings.{samples_as}
+use Rattle.command_line.specs.Samplings.{sample_refuses, samples_as}
 use Rattle.command_line.specs.Seekings.{seeks_as}
 use Rattle.command_line.specs.Workers.{IsJsonWorkersAnswer, IsWorkersAnswer}
 use Rattle.command_line.specs.Workers.{value_of_fault, values, reports as reports_worked, faults as faults_worked}
@@ -168,22 +168,26 @@ two_ends : (some : Bool) → (if some then ends.Errored else ends.Succeeded) ≢
 two_ends true = λ u. cc
 two_ends false = λ u. cc
 
-pub sample_ends : {limits : Limits} {times entries : ℕ} {wants : List Want} (text answer : List ℕ) (status : Status) →
-    IsSampleAnswer limits times entries wants text answer status → status ≢ ends.Usage
-sample_ends text answer status (unsampled _ _ _ h) = refusal_ends h
-sample_ends {limits} {times} {entries} {wants} text answer status (samples _ _ _ t reads program h) =
-    λ u. two_ends (has_finding wants h.sample.comings) (sym h.status_is ∙ u)
+sampled_ends : {t : Term} {limits : Limits} {times entries : ℕ} {wants : List Want} {note answer : List ℕ} {status : Status} →
+    IsNotedSample t limits times entries wants note answer status → status ≢ ends.Usage
+sampled_ends {t} {limits} {times} {entries} {wants} h = λ u. two_ends (has_finding wants h.sampled.sample.comings) (sym h.sampled.status_is ∙ u)
 
-json_sample_ends : {limits : Limits} {seed times entries : ℕ} {wants : List Want} (text answer : List ℕ) (status : Status) →
-    IsJsonSample limits seed times entries wants text answer status → status ≢ ends.Usage
-json_sample_ends text answer status (unsampled_json _ _ _ h) = json_refusal_ends h
-json_sample_ends {limits} {seed} {times} {entries} {wants} text answer status (samples_json _ _ _ t reads program h) =
-    λ u. two_ends (has_finding wants h.sample.comings) (sym h.status_is ∙ u)
+json_sampled_ends : {t : Term} {limits : Limits} {seed times entries : ℕ} {wants : List Want} {note answer : List ℕ} {status : Status} →
+    IsNotedJsonSample t limits seed times entries wants note answer status → status ≢ ends.Usage
+json_sampled_ends {t} {limits} {seed} {times} {entries} {wants} h =
+    λ u. two_ends (has_finding wants h.sampled.sample.comings) (sym h.sampled.status_is ∙ u)
 
-pub sample_as_ends : (json : Bool) (order : SampleOrder) (text answer : List ℕ) (status : Status) → samples_as json order text answer status →
-    status ≢ ends.Usage
-sample_as_ends true order text answer status h = json_sample_ends text answer status h
-sample_as_ends false order text answer status h = sample_ends text answer status h
+pub sample_as_ends : (json : Bool) (order : SampleOrder) (note text answer : List ℕ) (status : Status) →
+    IsNotedAnswer (sample_refuses json) (samples_as json order) note text answer status → status ≢ ends.Usage
+sample_as_ends true order note text answer status =
+    program_ends (λ text answer status h. json_refusal_ends h.0) (λ t answer status h. json_sampled_ends h)
+sample_as_ends false order note text answer status =
+    program_ends (λ text answer status h. refusal_ends h.0) (λ t answer status h. sampled_ends h)
+
+pub noted_ends : (Refuses : List ℕ → List ℕ → Status → Type 0) (Notes : List ℕ → Term → List ℕ → Status → Type 0) (before after : Devices) (status : Status) →
+    ((note text answer : List ℕ) (status : Status) → IsNotedAnswer Refuses Notes note text answer status → status ≢ ends.Usage) →
+    ObeysNoted Refuses Notes before after status → status ≢ ends.Usage
+noted_ends Refuses Notes before after status never h = λ u. answered_ends _ _ _ _ _ h.result (never h.note) h.answered (sym h.status_is ∙ u)
 
 -- ---- of explorations
 pub explore_timeline_ends : {limits : Limits} {bounds : Bounds} {wants : List Want} {text answer : List ℕ} {status : Status} →

@@ -1,6 +1,7 @@
 pub mod Checks
 pub mod Explorings
 pub mod FirstLine
+pub mod Noting
 pub mod Obeying
 pub mod Orders
 pub mod Recording

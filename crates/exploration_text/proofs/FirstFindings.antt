@@ -1,5 +1,5 @@
 -- The first finding of a program.
-use Rattle.std.proofs.Common.{◌≡◌, ◌≤◌, ◌<◌, inl, inr, ℕ, Bool, true, false, List, Result, Ok, Err, IfOk, length, ap, sym, ◌∙◌, subst}
+use Rattle.std.proofs.Common.{◌≡◌, ◌≤◌, ◌<◌, inl, inr, ℕ, Bool, true, false, List, Result, Ok, Err, IfOk, length, ap, arith, sym, ◌∙◌, subst}
 use Rattle.std.specs.Prelude.{Some, max}
 use Rattle.std.specs.List.{All, slice_get}
 use Rattle.cell_registry.specs.declared.limits.Limits.{Limits}

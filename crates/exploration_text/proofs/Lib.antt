@@ -4,3 +4,4 @@ pub mod Explored
 pub mod SampleParts
 pub mod Sampled
 pub mod FirstFindings
+pub mod MissingLines

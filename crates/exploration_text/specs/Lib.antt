@@ -4,3 +4,4 @@ pub mod ExploreAnswers
 pub mod SampleText
 pub mod SampleAnswers
 pub mod Findings
+pub mod Missing
