@@ -17,14 +17,14 @@ use Rattle.world_search.specs.declared.answers.Bounds.{Bounds}
 use Rattle.exploration_text.specs.declared.wants.Want.{Want}
 use Rattle.exploration_text.specs.ExplorationText.{has_failure}
 use Rattle.exploration_text.specs.ExploreAnswers.{IsExploreAnswer, explores, unexplored}
-use Rattle.exploration_text.specs.Findings.{IsExploreFirst, IsFirstAnswer}
+use Rattle.exploration_text.specs.Findings.{IsFirstAnswer}
 use Rattle.reasons.specs.Explained.{Explained}
 use Rattle.json_answers.specs.Answers.{IsJsonCheck, IsJsonRefusal, IsJsonReplay, IsJsonRun, reports as reports_json}
 use Rattle.json_answers.specs.Answers.{faults as faults_json, no_program as no_program_json, no_term as no_term_json}
 use Rattle.timelines.specs.PictureAnswers.{IsPictureAnswer, IsPicturedAnswer, faults as faults_drawn, pictures}
 use Rattle.json_answers.specs.FoundAnswers.{IsJsonExplore, IsNotedJsonSample, explores as explores_json}
 use Rattle.json_answers.specs.FoundAnswers.{unexplored as unexplored_json}
-use Rattle.json_answers.specs.FindingData.{IsJsonFirst, IsJsonFirstAnswer}
+use Rattle.json_answers.specs.FindingData.{IsJsonFirstAnswer}
 use Rattle.timelines.specs.ExploreTimelines.{IsExploreTimeline}
 use Rattle.timelines.specs.TimelineAnswers.{IsTimelineAnswer}
 use Rattle.exploration_text.specs.SampleText.{has_finding}
@@ -44,7 +44,7 @@ use Rattle.command_line.specs.Replays.{answers_as}
 use Rattle.command_line.specs.RunReasons.{ExplainsRun}
 use Rattle.command_line.specs.Runs.{comes_as, ran_as, refused_as}
 use Rattle.command_line.specs.Samplings.{sample_refuses, samples_as}
-use Rattle.command_line.specs.Seekings.{seeks_as}
+use Rattle.command_line.specs.Seekings.{seek_refuses, seeks_as}
 use Rattle.command_line.specs.Workers.{IsJsonWorkersAnswer, IsWorkersAnswer}
 use Rattle.command_line.specs.Workers.{value_of_fault, values, reports as reports_worked, faults as faults_worked}
 
@@ -184,10 +184,12 @@ sample_as_ends true order note text answer status =
 sample_as_ends false order note text answer status =
     program_ends (λ text answer status h. refusal_ends h.0) (λ t answer status h. sampled_ends h)
 
-pub noted_ends : (Refuses : List ℕ → List ℕ → Status → Type 0) (Notes : List ℕ → Term → List ℕ → Status → Type 0) (before after : Devices) (status : Status) →
+pub noted_ends : (Refuses : List ℕ → List ℕ → Status → Type 0) (Notes : List ℕ → Term → List ℕ → Status → Type 0)
+    (Tells : List ℕ → List ℕ → Type 0) (explain : Bool) (before after : Devices) (status : Status) →
     ((note text answer : List ℕ) (status : Status) → IsNotedAnswer Refuses Notes note text answer status → status ≢ ends.Usage) →
-    ObeysNoted Refuses Notes before after status → status ≢ ends.Usage
-noted_ends Refuses Notes before after status never h = λ u. answered_ends _ _ _ _ _ h.result (never h.note) h.answered (sym h.status_is ∙ u)
+    ObeysNoted Refuses Notes Tells explain before after status → status ≢ ends.Usage
+noted_ends Refuses Notes Tells explain before after status never h =
+    λ u. answered_ends _ _ _ _ _ h.result (never h.note) h.answered (sym h.status_is ∙ u)
 
 -- ---- of explorations
 pub explore_timeline_ends : {limits : Limits} {bounds : Bounds} {wants : List Want} {text answer : List ℕ} {status : Status} →
@@ -202,29 +204,26 @@ json_explore_ends {limits} {bounds} {wants} (explores_json text answer status t 
     λ u. chosen_ends (has_failure wants h.exploration.answers) h.exploration.complete (sym h.status_is ∙ u)
 
 -- ---- of first findings
-two_findings_end : {t : Term} {limits : Limits} {bounds : Bounds} {wants : List Want} {answer : List ℕ} {status : Status} →
-    IsFirstAnswer t limits bounds wants answer status → status ≢ ends.Usage
-two_findings_end (inl h) = λ u. let bad : ends.Errored ≡ ends.Usage = sym h.status_is ∙ u in cc
-two_findings_end {t} {limits} {bounds} {wants} (inr h) =
-    λ u. chosen_ends (has_failure wants h.explored.exploration.answers) h.explored.exploration.complete (sym h.explored.status_is ∙ u)
+firsts_end : {t : Term} {limits : Limits} {bounds : Bounds} {wants : List Want} {note answer : List ℕ} {status : Status} →
+    IsFirstAnswer t limits bounds wants note answer status → status ≢ ends.Usage
+firsts_end (inl h) = λ u. let bad : ends.Errored ≡ ends.Usage = sym h.0.status_is ∙ u in cc
+firsts_end {t} {limits} {bounds} {wants} (inr h) =
+    let e = h.unfound.explored in
+    λ u. chosen_ends (has_failure wants e.exploration.answers) e.exploration.complete (sym e.status_is ∙ u)
 
-first_ends : {limits : Limits} {bounds : Bounds} {wants : List Want} {text answer : List ℕ} {status : Status} →
-    IsExploreFirst limits bounds wants text answer status → status ≢ ends.Usage
-first_ends = program_ends (λ text answer status h. refusal_ends h) (λ t answer status h. two_findings_end h)
+json_firsts_end : {t : Term} {limits : Limits} {bounds : Bounds} {wants : List Want} {note answer : List ℕ} {status : Status} →
+    IsJsonFirstAnswer t limits bounds wants note answer status → status ≢ ends.Usage
+json_firsts_end (inl h) = λ u. let bad : ends.Errored ≡ ends.Usage = sym h.0.status_is ∙ u in cc
+json_firsts_end {t} {limits} {bounds} {wants} (inr h) =
+    let e = h.unfound.explored in
+    λ u. chosen_ends (has_failure wants e.exploration.answers) e.exploration.complete (sym e.status_is ∙ u)
 
-json_findings_end : {t : Term} {limits : Limits} {bounds : Bounds} {wants : List Want} {answer : List ℕ} {status : Status} →
-    IsJsonFirstAnswer t limits bounds wants answer status → status ≢ ends.Usage
-json_findings_end (inl h) = λ u. let bad : ends.Errored ≡ ends.Usage = sym h.status_is ∙ u in cc
-json_findings_end {t} {limits} {bounds} {wants} (inr h) =
-    λ u. chosen_ends (has_failure wants h.explored.exploration.answers) h.explored.exploration.complete (sym h.explored.status_is ∙ u)
-
-json_first_ends : {limits : Limits} {bounds : Bounds} {wants : List Want} {text answer : List ℕ} {status : Status} →
-    IsJsonFirst limits bounds wants text answer status → status ≢ ends.Usage
-json_first_ends = program_ends (λ text answer status h. json_refusal_ends h) (λ t answer status h. json_findings_end h)
-
-pub seek_ends : (json : Bool) (order : ExploreOrder) (text answer : List ℕ) (status : Status) → seeks_as json order text answer status → status ≢ ends.Usage
-seek_ends true order text answer status h = json_first_ends h
-seek_ends false order text answer status h = first_ends h
+pub seek_ends : (json : Bool) (order : ExploreOrder) (note text answer : List ℕ) (status : Status) →
+    IsNotedAnswer (seek_refuses json) (seeks_as json order) note text answer status → status ≢ ends.Usage
+seek_ends true order note text answer status =
+    program_ends (λ text answer status h. json_refusal_ends h.0) (λ t answer status h. json_firsts_end h)
+seek_ends false order note text answer status =
+    program_ends (λ text answer status h. refusal_ends h.0) (λ t answer status h. firsts_end h)
 
 -- ---- of runs on workers
 refused_ends : (form : RunForm) (text answer : List ℕ) (status : Status) → refused_as form text answer status → status ≢ ends.Usage

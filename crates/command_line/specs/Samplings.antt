@@ -6,6 +6,7 @@ use Rattle.effect_term.specs.declared.term.Term.{Term}
 use Rattle.exploration_text.specs.declared.sample_texts.SampleOrder.{SampleOrder}
 use Rattle.exploration_text.specs.SampleAnswers.{IsNotedSample}
 use Rattle.outcome_trace.specs.Answers.{IsRefusalAnswer}
+use Rattle.reasons.specs.Refusals.{IsTextReasons}
 use Rattle.text_io.specs.declared.status.Status.{Status}
 use Rattle.text_io.specs.Devices.{Devices}
 use Rattle.command_words.specs.declared.sampling.Sampling.{Sampling}
@@ -23,4 +24,5 @@ sample_refuses false = IsRefusalAnswer
 
 abbrev pub ObeysSample : Sampling → Devices → Devices → Status → Type 0
 ObeysSample sampling before after status =
-    ObeysNoted (sample_refuses sampling.json) (samples_as sampling.json sampling.order) before after status
+    ObeysNoted (sample_refuses sampling.json) (samples_as sampling.json sampling.order) IsTextReasons false before after
+    status

@@ -8,6 +8,7 @@ use crate::noted::obey_noted;
 use command_words::Sampling;
 use json_answers::SampleJson;
 use outcome_trace::{Status, TextIn, TextOut};
+use reasons::TextReasons;
 use std::alloc::Global;
 
 /// Tells what schedules of a text's program come to that are drawn at random, and gives the status: that of the answer,
@@ -30,8 +31,9 @@ pub fn obey_sample<I: TextIn, O: TextOut, E: TextOut>(
 {
     let Sampling { order, json } = sampling;
     if json {
-        obey_noted(alloc, &SampleJson { order }, input, out, err)
+        let order = SampleJson { order };
+        obey_noted(alloc, &order, &TextReasons, false, input, out, err)
     } else {
-        obey_noted(alloc, &order, input, out, err)
+        obey_noted(alloc, &order, &TextReasons, false, input, out, err)
     }
 }

@@ -4,7 +4,7 @@ ghost use Rattle.std.specs.Prelude.{◌≡◌, ◌≢◌, ◌<◌, ◌^◌, fals
 ghost use Rattle.command_line.specs.Seekings.{ObeysSeek};
 ghost use Rattle.text_io.specs.Devices.{devices};
 
-use crate::order::obey_order;
+use crate::noted::obey_noted;
 use command_words::Seeking;
 use exploration_text::FirstOrder;
 use json_answers::FirstJson;
@@ -37,9 +37,9 @@ pub fn obey_seek<I: TextIn, O: TextOut, E: TextOut>(
     } = seeking;
     if json {
         let order = FirstJson { order };
-        obey_order(alloc, &order, &TextReasons, explain, input, out, err)
+        obey_noted(alloc, &order, &TextReasons, explain, input, out, err)
     } else {
         let order = FirstOrder { order };
-        obey_order(alloc, &order, &TextReasons, explain, input, out, err)
+        obey_noted(alloc, &order, &TextReasons, explain, input, out, err)
     }
 }

@@ -181,7 +181,13 @@ const FOUND: &[(&str, &[&str], &str, u8, &str, &str)] = &[
     ),
     (
         "the first outcome that is not wanted, as JSON",
-        &["fiber_cli", "explore", "--json", "--first", "--want=canceled"],
+        &[
+            "fiber_cli",
+            "explore",
+            "--json",
+            "--first",
+            "--want=canceled",
+        ],
         "(raise 7)",
         1,
         "{\"answer\":\"finding\",\"final\":true,\"found\":\"random\",\"report\":{\"answer\":\"report\",\"fibers\":\
@@ -190,12 +196,53 @@ const FOUND: &[(&str, &[&str], &str, u8, &str, &str)] = &[
     ),
     (
         "a fault as JSON, with reasons beside it, of which there are none",
-        &["fiber_cli", "explore", "--json", "--first", "--explain", "--fibers=1"],
+        &[
+            "fiber_cli",
+            "explore",
+            "--json",
+            "--first",
+            "--explain",
+            "--fibers=1",
+        ],
         "(start f (pure 5) (pure 6))",
         1,
         "{\"answer\":\"finding\",\"fault\":{\"answer\":\"fault\",\"band\":\"fibers\",\"limit\":1,\"name\":\"Full\",\
             \"number\":18},\"final\":true,\"found\":\"random\",\"schedule\":\"0*2\"}\n",
         "",
+    ),
+    (
+        "a wanted outcome that no schedule comes to",
+        &[
+            "fiber_cli",
+            "explore",
+            "--first",
+            "--want=errored 7",
+            "--want=succeeded 77",
+        ],
+        "(raise 7)",
+        0,
+        "explored 2 worlds: 1 report, 0 faults\n\nunder \"0*2\"\nfiber 0 errored 7\n",
+        "no schedule comes to `succeeded 77`\n",
+    ),
+    (
+        "outcomes that no drawn schedule comes to, beside JSON",
+        &[
+            "fiber_cli",
+            "sample",
+            "--json",
+            "--times=3",
+            "--seed=9",
+            "--want=errored 7",
+            "--want=errored -7",
+            "--want=unended",
+        ],
+        "(raise 7)",
+        0,
+        "{\"answer\":\"sample\",\"answers\":[{\"came\":3,\"cut\":false,\"report\":{\"answer\":\"report\",\"fibers\":\
+            [{\"fiber\":0,\"marks\":[],\"outcome\":{\"errored\":7}}]},\"schedule\":\"0*2\",\
+            \"wanted\":true}],\"seed\":9,\"times\":3}\n",
+        "no schedule was found that comes to `errored -7`\n\
+            no schedule was found that comes to `unended`\n",
     ),
     (
         "a text of which nothing is looked for",

@@ -2,8 +2,8 @@
 
 use crate::sample_answers::{explore_order, replayed};
 use crate::wants::push_wants;
-use exploration_text::FirstOrder;
-use outcome_trace::{Status, TextOrder};
+use exploration_text::{ExploreOrder, FirstOrder, NotedAnswer, NotedOrder};
+use outcome_trace::{Status, TextOrder, read_program};
 use std::alloc::Global;
 use std::str;
 use std::test::Fail;
@@ -57,12 +57,22 @@ const FOUND: &[Found] = &[
     },
 ];
 
+// What is answered to a program whose first finding is asked for.
+fn first_of(alloc: Global, order: ExploreOrder, text: &[u8]) -> Result<Option<NotedAnswer>, Fail> {
+    match read_program(alloc, text) {
+        Ok(program) => Ok(Some(FirstOrder { order }.noted_answer(alloc, &program)?)),
+        Err(_) => Ok(None),
+    }
+}
+
 // Whether the first finding is this one, and a replay under its schedule answers its end.
 fn is_found(alloc: Global, found: &Found) -> Result<bool, Fail> {
     let mut order = explore_order(alloc);
     push_wants(&mut order.wants, &[found.want])?;
-    let first = FirstOrder { order };
-    let answer = first.answer(alloc, found.program.as_bytes())?;
+    let Some(noted) = first_of(alloc, order, found.program.as_bytes())? else {
+        return Ok(false);
+    };
+    let answer = noted.answer;
     let Ok(text) = str::from_utf8(answer.text.as_slice()) else {
         return Ok(false);
     };
@@ -92,10 +102,16 @@ fn where_nothing_is_found_all_is_told(rt: HostRuntime) -> Result<(), Fail> {
     let alloc = rt.alloc();
     let program = b"(race (pure 1) (pure 2))";
     let mut order = explore_order(alloc);
-    push_wants(&mut order.wants, &["succeeded 1", "succeeded 2"])?;
+    push_wants(
+        &mut order.wants,
+        &["succeeded 1", "canceled", "succeeded 2"],
+    )?;
     let all = order.answer(alloc, program)?;
-    let first = FirstOrder { order }.answer(alloc, program)?;
-    assert_eq!(rt; first.text.as_slice(), all.text.as_slice());
-    assert!(rt; first.status == Status::Succeeded);
+    let Some(first) = first_of(alloc, order, program)? else {
+        return Err(Fail::new("it is refused"));
+    };
+    assert_eq!(rt; first.answer.text.as_slice(), all.text.as_slice());
+    assert_eq!(rt; first.note.as_slice(), b"no schedule comes to `canceled`\n");
+    assert!(rt; first.answer.status == Status::Succeeded);
     Ok(())
 }

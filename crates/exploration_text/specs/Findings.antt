@@ -1,5 +1,5 @@
 -- The first thing that shows that a program isn't right, and what is answered where it is looked for.
-use Rattle.std.specs.Prelude.{◌≡◌, ◌⊎◌, ◌<◌, ℕ, Bool, true, false, List, ◌∷◌, ◌++◌, codes, length, Option, Some}
+use Rattle.std.specs.Prelude.{◌≡◌, ◌⊎◌, ◌<◌, ℕ, Bool, true, false, List, [], ◌∷◌, ◌++◌, codes, length, Option, Some}
 use Rattle.std.specs.Prelude.{Result, Ok, Err}
 use Rattle.std.specs.List.{All}
 use Rattle.cell_registry.specs.declared.limits.Limits.{Limits}
@@ -12,7 +12,6 @@ use Rattle.effect_term.specs.declared.term.Term.{Term}
 use Rattle.text_io.specs.declared.status.Status.{Status}
 use Rattle.text_io.specs.declared.status.Status.TheVariants as ends
 use Rattle.text_io.specs.Schedule.{SpellsEntries}
-use Rattle.outcome_trace.specs.Answers.{IsProgramAnswer, IsRefusalAnswer}
 use Rattle.scheduled_core.specs.declared.report.Report.{Report}
 use Rattle.scheduled_core.specs.Core.{core, reported}
 use Rattle.every_schedule.specs.declared.exploration.Answer.{Answer}
@@ -24,6 +23,7 @@ use Rattle.exploration_text.specs.declared.findings.First.TheVariants.{Explored,
 use Rattle.exploration_text.specs.declared.wants.Want.{Want}
 use Rattle.exploration_text.specs.ExplorationText.{IsSpellable, end_text, has_failure}
 use Rattle.exploration_text.specs.ExploreAnswers.{IsExplorationOf, IsExploredAnswer}
+use Rattle.exploration_text.specs.Missing.{missing_of_exploration}
 use Rattle.exploration_text.specs.Wants.{first_outcome, is_failure}
 
 -- it is a report in which fiber 0 has ended
@@ -78,15 +78,18 @@ pub record IsUnfoundAnswer (t : Term) (limits : Limits) (bounds : Bounds) (wants
     pub explored : IsExploredAnswer t limits bounds wants answer status
     pub none : has_failure wants explored.exploration.answers ≡ false
 
--- what is answered to a program, with its status: a finding, or an exploration that lists none
-abbrev pub IsFirstAnswer : Term → Limits → Bounds → List Want → List ℕ → Status → Type 0
-IsFirstAnswer t limits bounds wants answer status =
-    IsFoundAnswer t limits wants answer status ⊎ IsUnfoundAnswer t limits bounds wants answer status
+-- such an answer, beside the lines of the wanted outcomes that no schedule comes to
+pub record IsNotedUnfound (t : Term) (limits : Limits) (bounds : Bounds) (wants : List Want) (note answer : List ℕ)
+    (status : Status) : Type 0
+  where
+    pub unfound : IsUnfoundAnswer t limits bounds wants answer status
+    pub note_is : note ≡ missing_of_exploration wants unfound.explored.exploration
 
--- what `explore --first` answers under limits, with its status: a refusal, or what comes of the program that the text
--- spells
-abbrev pub IsExploreFirst : Limits → Bounds → List Want → List ℕ → List ℕ → Status → Type 0
-IsExploreFirst limits bounds wants = IsProgramAnswer IsRefusalAnswer (λ t. IsFirstAnswer t limits bounds wants)
+-- what is answered to a program with this note, with its status: a finding, which has no note, or an exploration that
+-- lists none
+abbrev pub IsFirstAnswer : Term → Limits → Bounds → List Want → (note : List ℕ) → List ℕ → Status → Type 0
+IsFirstAnswer t limits bounds wants note answer status =
+    (IsFoundAnswer t limits wants answer status × (note ≡ [])) ⊎ IsNotedUnfound t limits bounds wants note answer status
 
 -- ---- for private clauses
 

@@ -6,35 +6,44 @@ ghost use Rattle.exploration_text.specs.Findings.{IsFindingText, IsFirstAnswer, 
 
 use crate::explore_texts::ExploreOrder;
 use crate::findings::{Finding, First, first_finding};
+use crate::missing::missing_of_exploration;
+use crate::noted::{NotedAnswer, NotedOrder};
 use crate::texts::{end_text, exploration_status, text_of_exploration};
 use effect_term::Program;
-use outcome_trace::{Answer, InWords, ProgramOrder, Status, schedule_text};
+use outcome_trace::{Answer, InWords, Status, schedule_text};
 use std::alloc::{AllocError, Global};
 
 /// Looks for the first finding of the program that the text spells ([`first_finding`]), and answers its text with
-/// `Status::Errored`. Where there is none, the answer is what [`ExploreOrder`] answers. A text that is refused is
-/// answered by the line of its refusal, with `Status::Refused`.
+/// `Status::Errored`. Where there is none, the answer is what [`ExploreOrder`] answers, with a note that names the wanted
+/// outcomes to which no schedule comes. A text that is refused is answered by the line of its refusal, with
+/// `Status::Refused`.
 #[derive(Drop)]
 pub struct FirstOrder {
     /// What is explored, how far, and what is wanted.
     pub order: ExploreOrder,
 }
 
-impl ProgramOrder for FirstOrder {
+impl NotedOrder for FirstOrder {
     type Refusals = InWords;
 
-    ghost comes = { λ it t. IsFirstAnswer t it.order.limits it.order.bounds it.order.wants.items };
+    ghost notes = { λ it note t. IsFirstAnswer t it.order.limits it.order.bounds it.order.wants.items note };
 
-    fn answer_program(&self, alloc: Global, program: &Program) -> Result<Answer, AllocError> {
+    fn noted_answer(&self, alloc: Global, program: &Program) -> Result<NotedAnswer, AllocError> {
         let wants = self.order.wants.as_slice();
         match first_finding(alloc, program, &self.order)? {
-            First::Found(finding) => Ok(Answer {
-                text: text_of_finding(alloc, &finding)?,
-                status: Status::Errored,
+            First::Found(finding) => Ok(NotedAnswer {
+                answer: Answer {
+                    text: text_of_finding(alloc, &finding)?,
+                    status: Status::Errored,
+                },
+                note: Vec::new(alloc),
             }),
-            First::Explored(exploration) => Ok(Answer {
-                text: text_of_exploration(alloc, &exploration, wants)?,
-                status: exploration_status(&exploration, wants),
+            First::Explored(exploration) => Ok(NotedAnswer {
+                answer: Answer {
+                    text: text_of_exploration(alloc, &exploration, wants)?,
+                    status: exploration_status(&exploration, wants),
+                },
+                note: missing_of_exploration(alloc, &exploration, wants)?,
             }),
         }
     }

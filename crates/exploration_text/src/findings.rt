@@ -24,7 +24,9 @@ use std::alloc::{AllocError, Global};
 // How many samples are drawn before the search, how many schedules each has, and how many entries a schedule has at
 // most. All of them take less than a second.
 const SAMPLES: u64 = 30;
+
 const SCHEDULES: u32 = 100;
+
 const DRAWN_ENTRIES: usize = 1000;
 
 // How many worlds the searches before the last one have, so that a finding that is near is told soon.

@@ -1,6 +1,6 @@
 -- A finding as JSON, and what is answered in JSON where one is looked for. The members of an object stand in the order
 -- of their keys.
-use Rattle.std.specs.Prelude.{◌≡◌, ◌⊎◌, ℕ, Bool, true, false, List, codes, Result, Ok, Err}
+use Rattle.std.specs.Prelude.{◌≡◌, ◌⊎◌, ℕ, Bool, true, false, List, [], codes, Result, Ok, Err}
 use Rattle.cell_registry.specs.declared.limits.Limits.{Limits}
 use Rattle.cell_registry.specs.declared.limits.RunError.{RunError}
 use Rattle.derived_ops.specs.Expansion.{code_of}
@@ -9,15 +9,14 @@ use Rattle.effect_term.specs.declared.term.Term.{Term}
 use Rattle.text_io.specs.declared.status.Status.{Status}
 use Rattle.text_io.specs.declared.status.Status.TheVariants as ends
 use Rattle.text_io.specs.Schedule.{SpellsEntries}
-use Rattle.outcome_trace.specs.Answers.{IsProgramAnswer}
 use Rattle.scheduled_core.specs.declared.report.Report.{Report}
 use Rattle.world_search.specs.declared.answers.Bounds.{Bounds}
 use Rattle.exploration_text.specs.declared.findings.Finding.{Finding}
 use Rattle.exploration_text.specs.declared.wants.Want.{Want}
 use Rattle.exploration_text.specs.ExplorationText.{has_failure}
 use Rattle.exploration_text.specs.Findings.{IsFinding}
+use Rattle.exploration_text.specs.Missing.{missing_of_exploration}
 use Rattle.serde_json.specs.Data.{Data, boolean, string, object, no_members, member}
-use Rattle.json_answers.specs.Answers.{IsJsonRefusal}
 use Rattle.json_answers.specs.FoundAnswers.{IsJsonExplored}
 use Rattle.json_answers.specs.ReportData.{fault_data, line_of_data, report_data}
 
@@ -57,11 +56,15 @@ pub record IsJsonUnfound (t : Term) (limits : Limits) (bounds : Bounds) (wants :
     pub explored : IsJsonExplored t limits bounds wants answer status
     pub none : has_failure wants explored.exploration.answers ≡ false
 
--- what is answered to a program, with its status: a finding, or an exploration that lists none
-abbrev pub IsJsonFirstAnswer : Term → Limits → Bounds → List Want → List ℕ → Status → Type 0
-IsJsonFirstAnswer t limits bounds wants answer status =
-    IsJsonFound t limits wants answer status ⊎ IsJsonUnfound t limits bounds wants answer status
+-- such an answer, beside the lines of the wanted outcomes that no schedule comes to
+pub record IsNotedJsonUnfound (t : Term) (limits : Limits) (bounds : Bounds) (wants : List Want) (note answer : List ℕ)
+    (status : Status) : Type 0
+  where
+    pub unfound : IsJsonUnfound t limits bounds wants answer status
+    pub note_is : note ≡ missing_of_exploration wants unfound.explored.exploration
 
--- what `explore --first` answers under limits: a refusal, or what comes of the program that the text spells
-abbrev pub IsJsonFirst : Limits → Bounds → List Want → List ℕ → List ℕ → Status → Type 0
-IsJsonFirst limits bounds wants = IsProgramAnswer IsJsonRefusal (λ t. IsJsonFirstAnswer t limits bounds wants)
+-- what is answered to a program with this note, with its status: a finding, which has no note, or an exploration that
+-- lists none
+abbrev pub IsJsonFirstAnswer : Term → Limits → Bounds → List Want → (note : List ℕ) → List ℕ → Status → Type 0
+IsJsonFirstAnswer t limits bounds wants note answer status =
+    (IsJsonFound t limits wants answer status × (note ≡ [])) ⊎ IsNotedJsonUnfound t limits bounds wants note answer status

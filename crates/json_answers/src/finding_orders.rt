@@ -11,8 +11,11 @@ use crate::report_values::{fault_json, report_json};
 use crate::values::value_answer;
 use cell_registry::RunError;
 use effect_term::Program;
-use exploration_text::{ExploreOrder, Finding, First, exploration_status, first_finding};
-use outcome_trace::{Answer, ProgramOrder, Report, Status, schedule_text};
+use exploration_text::{
+    ExploreOrder, Finding, First, NotedAnswer, NotedOrder, exploration_status, first_finding,
+    missing_of_exploration,
+};
+use outcome_trace::{Report, Status, schedule_text};
 use serde_json::{Value, json};
 use std::alloc::{AllocError, Global};
 
@@ -24,21 +27,28 @@ pub struct FirstJson {
     pub order: ExploreOrder,
 }
 
-impl ProgramOrder for FirstJson {
+impl NotedOrder for FirstJson {
     type Refusals = InJson;
 
-    ghost comes = { λ it t. IsJsonFirstAnswer t it.order.limits it.order.bounds it.order.wants.items };
+    ghost notes = { λ it note t. IsJsonFirstAnswer t it.order.limits it.order.bounds it.order.wants.items note };
 
-    fn answer_program(&self, alloc: Global, program: &Program) -> Result<Answer, AllocError> {
+    fn noted_answer(&self, alloc: Global, program: &Program) -> Result<NotedAnswer, AllocError> {
         let wants = self.order.wants.as_slice();
         match first_finding(alloc, program, &self.order)? {
             First::Found(finding) => {
                 let value = finding_json(alloc, &finding)?;
-                value_answer(alloc, &value, Status::Errored)
+                Ok(NotedAnswer {
+                    answer: value_answer(alloc, &value, Status::Errored)?,
+                    note: Vec::new(alloc),
+                })
             }
             First::Explored(exploration) => {
                 let value = exploration_json(alloc, &exploration, wants)?;
-                value_answer(alloc, &value, exploration_status(&exploration, wants))
+                let status = exploration_status(&exploration, wants);
+                Ok(NotedAnswer {
+                    answer: value_answer(alloc, &value, status)?,
+                    note: missing_of_exploration(alloc, &exploration, wants)?,
+                })
             }
         }
     }

@@ -7,9 +7,7 @@ use crate::refusals::{InJson, refusal_answer};
 use crate::sample_values::sample_json;
 use crate::values::value_answer;
 use effect_term::Program;
-use exploration_text::{
-    NotedAnswer, NotedOrder, SampleOrder, missing_of_sample, sample_status,
-};
+use exploration_text::{NotedAnswer, NotedOrder, SampleOrder, missing_of_sample, sample_status};
 use outcome_trace::{Answer, TextOrder, read_program};
 use sampled_schedules::sample;
 use std::alloc::{AllocError, Global};
@@ -68,11 +66,8 @@ fn sampled_answer(
     program: &Program,
     sampling: &SampleJson,
 ) -> Result<Answer, AllocError>
-    ensures {
-        let order = sampling.now.order;
-        IfOk result (λ a. IsJsonSampled program.now order.limits order.seed order.times order.entries
-            order.wants.items a.text.items a.status)
-    }
+    ensures { IfOk result (let order = sampling.now.order in λ a. IsJsonSampled program.now order.limits order.seed
+        order.times order.entries order.wants.items a.text.items a.status) }
 {
     Ok(sampling.noted_answer(alloc, program)?.answer)
 }

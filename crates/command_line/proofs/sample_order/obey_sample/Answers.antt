@@ -3,7 +3,7 @@ use Rattle.command_line.proofs.EndLemmas.{noted_ends, sample_as_ends}
 use Rattle.command_line.proofs.sample_order.obey_sample.Goals as goal
 
 pub returns-then-json-clause-ends : goal.returns-then-json-clause-ends
-returns-then-json-clause-ends g c = noted_ends _ _ _ _ _ (sample_as_ends true c.args.sampling.order) c.obey_noted.ensures
+returns-then-json-clause-ends g c = noted_ends _ _ _ false _ _ _ (sample_as_ends true c.args.sampling.order) c.obey_noted.ensures
 
 pub returns-else-json-clause-ends : goal.returns-else-json-clause-ends
-returns-else-json-clause-ends g c = noted_ends _ _ _ _ _ (sample_as_ends false c.args.sampling.order) c.obey_noted-else-json.ensures
+returns-else-json-clause-ends g c = noted_ends _ _ _ false _ _ _ (sample_as_ends false c.args.sampling.order) c.obey_noted-else-json.ensures
