@@ -111,7 +111,10 @@ fn where_nothing_is_found_all_is_told(rt: HostRuntime) -> Result<(), Fail> {
         return Err(Fail::new("it is refused"));
     };
     assert_eq!(rt; first.answer.text.as_slice(), all.text.as_slice());
-    assert_eq!(rt; first.note.as_slice(), b"no schedule comes to `canceled`\n");
+    assert_eq!(rt;
+        first.note.as_slice(),
+        b"no schedule comes to `canceled`\n".as_slice()
+    );
     assert!(rt; first.answer.status == Status::Succeeded);
     Ok(())
 }
