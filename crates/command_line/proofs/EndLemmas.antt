@@ -1,5 +1,5 @@
 -- No answer to a text ends as wrong usage does.
-use Rattle.std.proofs.Common.{◌≡◌, ◌≢◌, ◌∙◌, inl, inr, if◌then◌else◌, Bool, true, false, ℕ, List, [], ◌∷◌, Option, Some, None, Result, Ok, Err, sym}
+use Rattle.std.proofs.Common.{◌≡◌, ◌≢◌, ◌∙◌, if◌then◌else◌, Bool, true, false, ℕ, List, [], ◌∷◌, Option, Some, None, Result, Ok, Err, sym}
 use Rattle.cell_registry.specs.declared.limits.Limits.{Limits}
 use Rattle.effect_term.specs.declared.reply.Outcome.{Outcome}
 use Rattle.effect_term.specs.declared.reply.Outcome.TheVariants.{Succeeded, Errored, Canceled}
@@ -17,34 +17,24 @@ use Rattle.world_search.specs.declared.answers.Bounds.{Bounds}
 use Rattle.exploration_text.specs.declared.wants.Want.{Want}
 use Rattle.exploration_text.specs.ExplorationText.{has_failure}
 use Rattle.exploration_text.specs.ExploreAnswers.{IsExploreAnswer, explores, unexplored}
-use Rattle.exploration_text.specs.Findings.{IsFirstAnswer}
 use Rattle.reasons.specs.Explained.{Explained}
 use Rattle.json_answers.specs.Answers.{IsJsonCheck, IsJsonRefusal, IsJsonReplay, IsJsonRun, reports as reports_json}
 use Rattle.json_answers.specs.Answers.{faults as faults_json, no_program as no_program_json, no_term as no_term_json}
 use Rattle.timelines.specs.PictureAnswers.{IsPictureAnswer, IsPicturedAnswer, faults as faults_drawn, pictures}
-use Rattle.json_answers.specs.FoundAnswers.{IsJsonExplore, IsNotedJsonSample, explores as explores_json}
-use Rattle.json_answers.specs.FoundAnswers.{unexplored as unexplored_json}
-use Rattle.json_answers.specs.FindingData.{IsJsonFirstAnswer}
+use Rattle.json_answers.specs.FoundAnswers.{IsJsonExplore, explores as explores_json, unexplored as unexplored_json}
 use Rattle.timelines.specs.ExploreTimelines.{IsExploreTimeline}
 use Rattle.timelines.specs.TimelineAnswers.{IsTimelineAnswer}
-use Rattle.exploration_text.specs.SampleText.{has_finding}
-use Rattle.exploration_text.specs.SampleAnswers.{IsNotedSample}
-use Rattle.exploration_text.specs.declared.explore_texts.ExploreOrder.{ExploreOrder}
-use Rattle.exploration_text.specs.declared.sample_texts.SampleOrder.{SampleOrder}
 use Rattle.steal_pool.specs.declared.options.Options.{Options}
 use Rattle.command_words.specs.declared.replay.AnswerForm.{AnswerForm}
 use Rattle.command_words.specs.declared.replay.AnswerForm.TheVariants.{Report, Timeline, Picture, Json}
 use Rattle.command_words.specs.declared.running.RunForm.{RunForm}
 use Rattle.command_words.specs.declared.running.RunForm.TheVariants as ran
 use Rattle.command_line.specs.Checks.{checks_as}
-use Rattle.command_line.specs.Noting.{IsNotedAnswer, ObeysNoted}
 use Rattle.command_line.specs.Orders.{ObeysOrder}
 use Rattle.command_line.specs.Recording.{IsRecordedWith, IsTimedAnswer, alone, timed, reports as reports_recorded, faults as faults_recorded}
 use Rattle.command_line.specs.Replays.{answers_as}
 use Rattle.command_line.specs.RunReasons.{ExplainsRun}
 use Rattle.command_line.specs.Runs.{comes_as, ran_as, refused_as}
-use Rattle.command_line.specs.Samplings.{sample_refuses, samples_as}
-use Rattle.command_line.specs.Seekings.{seek_refuses, seeks_as}
 use Rattle.command_line.specs.Workers.{IsJsonWorkersAnswer, IsWorkersAnswer}
 use Rattle.command_line.specs.Workers.{value_of_fault, values, reports as reports_worked, faults as faults_worked}
 
@@ -66,7 +56,7 @@ success_ends : {status : Status} → status ≡ ends.Succeeded → status ≢ en
 success_ends is = λ u. let bad : ends.Succeeded ≡ ends.Usage = sym is ∙ u in cc
 
 -- where neither a refusal nor what comes of a program has the status of wrong usage, no answer to a text has it
-program_ends : {Refuses : List ℕ → List ℕ → Status → Type 0} {Comes : Term → List ℕ → Status → Type 0} {text answer : List ℕ} {status : Status} →
+pub program_ends : {Refuses : List ℕ → List ℕ → Status → Type 0} {Comes : Term → List ℕ → Status → Type 0} {text answer : List ℕ} {status : Status} →
     ((text answer : List ℕ) (status : Status) → Refuses text answer status → status ≢ ends.Usage) →
     ((t : Term) (answer : List ℕ) (status : Status) → Comes t answer status → status ≢ ends.Usage) →
     IsProgramAnswer Refuses Comes text answer status → status ≢ ends.Usage
@@ -88,7 +78,7 @@ check_ends = program_ends (λ text answer status h. refusal_ends h) (λ t answer
 pub show_ends : {text answer : List ℕ} {status : Status} → IsShowAnswer text answer status → status ≢ ends.Usage
 show_ends = program_ends (λ text answer status h. refusal_ends h) (λ t answer status h. success_ends h.1)
 
-chosen_ends : (failed complete : Bool) → (if failed then ends.Errored else (if complete then ends.Succeeded else ends.Unended)) ≢ ends.Usage
+pub chosen_ends : (failed complete : Bool) → (if failed then ends.Errored else (if complete then ends.Succeeded else ends.Unended)) ≢ ends.Usage
 chosen_ends true complete = λ u. cc
 chosen_ends false true = λ u. cc
 chosen_ends false false = λ u. cc
@@ -112,7 +102,7 @@ picture_ends : {schedule : List ℕ} {limits : Limits} {text answer : List ℕ} 
     status ≢ ends.Usage
 picture_ends = program_ends (λ text answer status h. refusal_ends h) (λ t answer status h. pictured_ends h)
 
-json_refusal_ends : {text answer : List ℕ} {status : Status} → IsJsonRefusal text answer status → status ≢ ends.Usage
+pub json_refusal_ends : {text answer : List ℕ} {status : Status} → IsJsonRefusal text answer status → status ≢ ends.Usage
 json_refusal_ends (no_term_json text e reads) = λ u. cc
 json_refusal_ends (no_program_json text t e reads past) = λ u. cc
 
@@ -163,34 +153,6 @@ pub check_as_ends : (json : Bool) (text answer : List ℕ) (status : Status) →
 check_as_ends true text answer status h = json_check_ends h
 check_as_ends false text answer status h = check_ends h
 
--- ---- of samples
-two_ends : (some : Bool) → (if some then ends.Errored else ends.Succeeded) ≢ ends.Usage
-two_ends true = λ u. cc
-two_ends false = λ u. cc
-
-sampled_ends : {t : Term} {limits : Limits} {times entries : ℕ} {wants : List Want} {note answer : List ℕ} {status : Status} →
-    IsNotedSample t limits times entries wants note answer status → status ≢ ends.Usage
-sampled_ends {t} {limits} {times} {entries} {wants} h = λ u. two_ends (has_finding wants h.sampled.sample.comings) (sym h.sampled.status_is ∙ u)
-
-json_sampled_ends : {t : Term} {limits : Limits} {seed times entries : ℕ} {wants : List Want} {note answer : List ℕ} {status : Status} →
-    IsNotedJsonSample t limits seed times entries wants note answer status → status ≢ ends.Usage
-json_sampled_ends {t} {limits} {seed} {times} {entries} {wants} h =
-    λ u. two_ends (has_finding wants h.sampled.sample.comings) (sym h.sampled.status_is ∙ u)
-
-pub sample_as_ends : (json : Bool) (order : SampleOrder) (note text answer : List ℕ) (status : Status) →
-    IsNotedAnswer (sample_refuses json) (samples_as json order) note text answer status → status ≢ ends.Usage
-sample_as_ends true order note text answer status =
-    program_ends (λ text answer status h. json_refusal_ends h.0) (λ t answer status h. json_sampled_ends h)
-sample_as_ends false order note text answer status =
-    program_ends (λ text answer status h. refusal_ends h.0) (λ t answer status h. sampled_ends h)
-
-pub noted_ends : (Refuses : List ℕ → List ℕ → Status → Type 0) (Notes : List ℕ → Term → List ℕ → Status → Type 0)
-    (Tells : List ℕ → List ℕ → Type 0) (explain : Bool) (before after : Devices) (status : Status) →
-    ((note text answer : List ℕ) (status : Status) → IsNotedAnswer Refuses Notes note text answer status → status ≢ ends.Usage) →
-    ObeysNoted Refuses Notes Tells explain before after status → status ≢ ends.Usage
-noted_ends Refuses Notes Tells explain before after status never h =
-    λ u. answered_ends _ _ _ _ _ h.result (never h.note) h.answered (sym h.status_is ∙ u)
-
 -- ---- of explorations
 pub explore_timeline_ends : {limits : Limits} {bounds : Bounds} {wants : List Want} {text answer : List ℕ} {status : Status} →
     IsExploreTimeline limits bounds wants text answer status → status ≢ ends.Usage
@@ -202,28 +164,6 @@ pub json_explore_ends : {limits : Limits} {bounds : Bounds} {wants : List Want} 
 json_explore_ends (unexplored_json text answer status h) = json_refusal_ends h
 json_explore_ends {limits} {bounds} {wants} (explores_json text answer status t reads program h) =
     λ u. chosen_ends (has_failure wants h.exploration.answers) h.exploration.complete (sym h.status_is ∙ u)
-
--- ---- of first findings
-firsts_end : {t : Term} {limits : Limits} {bounds : Bounds} {wants : List Want} {note answer : List ℕ} {status : Status} →
-    IsFirstAnswer t limits bounds wants note answer status → status ≢ ends.Usage
-firsts_end (inl h) = λ u. let bad : ends.Errored ≡ ends.Usage = sym h.0.status_is ∙ u in cc
-firsts_end {t} {limits} {bounds} {wants} (inr h) =
-    let e = h.unfound.explored in
-    λ u. chosen_ends (has_failure wants e.exploration.answers) e.exploration.complete (sym e.status_is ∙ u)
-
-json_firsts_end : {t : Term} {limits : Limits} {bounds : Bounds} {wants : List Want} {note answer : List ℕ} {status : Status} →
-    IsJsonFirstAnswer t limits bounds wants note answer status → status ≢ ends.Usage
-json_firsts_end (inl h) = λ u. let bad : ends.Errored ≡ ends.Usage = sym h.0.status_is ∙ u in cc
-json_firsts_end {t} {limits} {bounds} {wants} (inr h) =
-    let e = h.unfound.explored in
-    λ u. chosen_ends (has_failure wants e.exploration.answers) e.exploration.complete (sym e.status_is ∙ u)
-
-pub seek_ends : (json : Bool) (order : ExploreOrder) (note text answer : List ℕ) (status : Status) →
-    IsNotedAnswer (seek_refuses json) (seeks_as json order) note text answer status → status ≢ ends.Usage
-seek_ends true order note text answer status =
-    program_ends (λ text answer status h. json_refusal_ends h.0) (λ t answer status h. json_firsts_end h)
-seek_ends false order note text answer status =
-    program_ends (λ text answer status h. refusal_ends h.0) (λ t answer status h. firsts_end h)
 
 -- ---- of runs on workers
 refused_ends : (form : RunForm) (text answer : List ℕ) (status : Status) → refused_as form text answer status → status ≢ ends.Usage

@@ -1,4 +1,5 @@
 pub mod EndLemmas
+pub mod NotedEnds
 pub mod ReasonLemmas
 pub mod RecordLemmas
 pub mod RunLemmas

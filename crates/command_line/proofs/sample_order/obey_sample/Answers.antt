@@ -1,5 +1,5 @@
 use Rattle.std.proofs.Common.{false, true}
-use Rattle.command_line.proofs.EndLemmas.{noted_ends, sample_as_ends}
+use Rattle.command_line.proofs.NotedEnds.{noted_ends, sample_as_ends}
 use Rattle.command_line.proofs.sample_order.obey_sample.Goals as goal
 
 pub returns-then-json-clause-ends : goal.returns-then-json-clause-ends

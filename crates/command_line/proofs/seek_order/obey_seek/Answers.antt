@@ -1,5 +1,5 @@
 use Rattle.std.proofs.Common.{false, true}
-use Rattle.command_line.proofs.EndLemmas.{noted_ends, seek_ends}
+use Rattle.command_line.proofs.NotedEnds.{noted_ends, seek_ends}
 use Rattle.command_line.proofs.seek_order.obey_seek.Goals as goal
 
 pub returns-then-json-clause-ends : goal.returns-then-json-clause-ends
