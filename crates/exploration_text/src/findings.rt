@@ -21,13 +21,13 @@ use outcome_trace::replay;
 use sampled_schedules::{Coming, sample};
 use std::alloc::{AllocError, Global};
 
-// How many samples are drawn before the search, how many schedules each has, and how many entries a schedule has at
-// most. All of them take less than a second.
-const SAMPLES: u64 = 30;
+// How many samples are drawn of each length, how many schedules each has, and the lengths: how many entries a schedule has
+// at most. Short ones come first, since they are easier to read. All of them take less than a second.
+const SAMPLES: u64 = 10;
 
 const SCHEDULES: u32 = 100;
 
-const DRAWN_ENTRIES: usize = 1000;
+const LENGTHS: &[u32] = &[64, 256, 1000];
 
 // How many worlds the searches before the last one have, so that a finding that is near is told soon.
 const SEARCHES: &[usize] = &[10_000, 1_000_000];
@@ -52,9 +52,10 @@ pub enum First {
     Explored(Exploration),
 }
 
-/// Draws 3,000 schedules of a program by fixed seeds, each of at most 1,000 entries, and returns the first finding
-/// among their ends. Where there is none, explores every schedule, and returns the first answer that is a finding, or
-/// the exploration. The search looks for a finding where it has 10,000 worlds, 1,000,000 worlds and at its end.
+/// Draws 3,000 schedules of a program by fixed seeds, 1,000 each of at most 64, 256 and 1,000 entries, and returns the
+/// first finding among their ends. Where there is none, explores every schedule, and returns the first answer that is a
+/// finding, or the exploration. The search looks for a finding where it has 10,000 worlds, 1,000,000 worlds and at its
+/// end.
 pub fn first_finding(
     alloc: Global,
     program: &Program,
@@ -144,8 +145,27 @@ fn drawn_finding(
     ensures { IfOk result (λ found. IfSome found (IsFinding (code_of (source_of program.now)) order.now.limits
         order.now.wants.items)) }
 {
+    for length in LENGTHS {
+        if let Some(finding) = finding_within(alloc, program, order, *length)? {
+            return Ok(Some(finding));
+        }
+    }
+    Ok(None)
+}
+
+// The first finding among the ends of the schedules that are drawn with so many entries at most.
+fn finding_within(
+    alloc: Global,
+    program: &Program,
+    order: &ExploreOrder,
+    length: u32,
+) -> Result<Option<Finding>, AllocError>
+    ensures { IfOk result (λ found. IfSome found (IsFinding (code_of (source_of program.now)) order.now.limits
+        order.now.wants.items)) }
+{
+    let entries = order.bounds.entries.min(length as usize) as u32;
     for seed in 0..SAMPLES {
-        if let Some(finding) = finding_of_sample(alloc, program, order, seed)? {
+        if let Some(finding) = finding_of_sample(alloc, program, order, seed, entries)? {
             return Ok(Some(finding));
         }
     }
@@ -158,11 +178,12 @@ fn finding_of_sample(
     program: &Program,
     order: &ExploreOrder,
     seed: u64,
+    entries: u32,
 ) -> Result<Option<Finding>, AllocError>
+    requires { entries ≤ order.now.bounds.entries }
     ensures { IfOk result (λ found. IfSome found (IsFinding (code_of (source_of program.now)) order.now.limits
         order.now.wants.items)) }
 {
-    let entries = order.bounds.entries.min(DRAWN_ENTRIES) as u32;
     let Ok(found) = sample(alloc, program, order.limits, seed, SCHEDULES, entries) else {
         return Err(AllocError);
     };
