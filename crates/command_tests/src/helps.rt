@@ -156,9 +156,8 @@ const HELP: &[(&[&str], &str)] = &[
         \n      --progress        Write to standard error how far the search has come, while it goes on\
         \n      --timeline        Print a timeline behind each report and each fault\
         \n      --json            Print the answer as JSON, on one line\
-        \n      --first           Print the first fault, or the first outcome of fiber 0 that is not wanted,\
-        \n                        and nothing else; all others where there is none. 3000 schedules are drawn at\
-        \n                        random before the search\
+        \n      --first           Print the first finding alone: a fault, or an outcome of fiber 0 that is not\
+        \n                        wanted. Before the search 3000 schedules are drawn at random\
         \n      --explain         Write reasons to standard error: where a text or a schedule is refused, and\
         \n                        why a fiber of a replay or a run hasn't ended\
         \n  -h, --help            Print help\

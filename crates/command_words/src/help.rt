@@ -308,9 +308,8 @@ pub const EXPLORE_TIMELINE: &str = "Print a timeline behind each report and each
 pub const PROGRESS: &str = "Write to standard error how far the search has come, while it goes on";
 
 pub const FIRST_FINDING: &str =
-    "Print the first fault, or the first outcome of fiber 0 that is not wanted,
-and nothing else; all others where there is none. 3000 schedules are drawn at
-random before the search";
+    "Print the first finding alone: a fault, or an outcome of fiber 0 that is not
+wanted. Before the search 3000 schedules are drawn at random";
 
 pub const SVG: &str = "Print a picture of the run in place of the report, as SVG";
 
