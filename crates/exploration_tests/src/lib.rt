@@ -14,6 +14,8 @@ mod claims;
 #[cfg(test)]
 mod families;
 #[cfg(test)]
+mod first_findings;
+#[cfg(test)]
 mod listed;
 #[cfg(test)]
 mod places;
