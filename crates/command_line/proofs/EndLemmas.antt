@@ -21,14 +21,9 @@ use Rattle.reasons.specs.Explained.{Explained}
 use Rattle.json_answers.specs.Answers.{IsJsonCheck, IsJsonRefusal, IsJsonReplay, IsJsonRun, reports as reports_json}
 use Rattle.json_answers.specs.Answers.{faults as faults_json, no_program as no_program_json, no_term as no_term_json}
 use Rattle.timelines.specs.PictureAnswers.{IsPictureAnswer, IsPicturedAnswer, faults as faults_drawn, pictures}
-use Rattle.json_answers.specs.FoundAnswers.{IsJsonExplore, IsJsonSample, explores as explores_json}
-use Rattle.json_answers.specs.FoundAnswers.{samples as samples_json, unexplored as unexplored_json}
-use Rattle.json_answers.specs.FoundAnswers.{unsampled as unsampled_json}
+use Rattle.json_answers.specs.FoundAnswers.{IsJsonExplore, explores as explores_json, unexplored as unexplored_json}
 use Rattle.timelines.specs.ExploreTimelines.{IsExploreTimeline}
 use Rattle.timelines.specs.TimelineAnswers.{IsTimelineAnswer}
-use Rattle.exploration_text.specs.SampleText.{has_finding}
-use Rattle.exploration_text.specs.SampleAnswers.{IsSampleAnswer, samples, unsampled}
-use Rattle.exploration_text.specs.declared.sample_texts.SampleOrder.{SampleOrder}
 use Rattle.steal_pool.specs.declared.options.Options.{Options}
 use Rattle.command_words.specs.declared.replay.AnswerForm.{AnswerForm}
 use Rattle.command_words.specs.declared.replay.AnswerForm.TheVariants.{Report, Timeline, Picture, Json}
@@ -40,7 +35,6 @@ use Rattle.command_line.specs.Recording.{IsRecordedWith, IsTimedAnswer, alone, t
 use Rattle.command_line.specs.Replays.{answers_as}
 use Rattle.command_line.specs.RunReasons.{ExplainsRun}
 use Rattle.command_line.specs.Runs.{comes_as, ran_as, refused_as}
-use Rattle.command_line.specs.Samplings.{samples_as}
 use Rattle.command_line.specs.Workers.{IsJsonWorkersAnswer, IsWorkersAnswer}
 use Rattle.command_line.specs.Workers.{value_of_fault, values, reports as reports_worked, faults as faults_worked}
 
@@ -62,7 +56,7 @@ success_ends : {status : Status} → status ≡ ends.Succeeded → status ≢ en
 success_ends is = λ u. let bad : ends.Succeeded ≡ ends.Usage = sym is ∙ u in cc
 
 -- where neither a refusal nor what comes of a program has the status of wrong usage, no answer to a text has it
-program_ends : {Refuses : List ℕ → List ℕ → Status → Type 0} {Comes : Term → List ℕ → Status → Type 0} {text answer : List ℕ} {status : Status} →
+pub program_ends : {Refuses : List ℕ → List ℕ → Status → Type 0} {Comes : Term → List ℕ → Status → Type 0} {text answer : List ℕ} {status : Status} →
     ((text answer : List ℕ) (status : Status) → Refuses text answer status → status ≢ ends.Usage) →
     ((t : Term) (answer : List ℕ) (status : Status) → Comes t answer status → status ≢ ends.Usage) →
     IsProgramAnswer Refuses Comes text answer status → status ≢ ends.Usage
@@ -84,7 +78,7 @@ check_ends = program_ends (λ text answer status h. refusal_ends h) (λ t answer
 pub show_ends : {text answer : List ℕ} {status : Status} → IsShowAnswer text answer status → status ≢ ends.Usage
 show_ends = program_ends (λ text answer status h. refusal_ends h) (λ t answer status h. success_ends h.1)
 
-chosen_ends : (failed complete : Bool) → (if failed then ends.Errored else (if complete then ends.Succeeded else ends.Unended)) ≢ ends.Usage
+pub chosen_ends : (failed complete : Bool) → (if failed then ends.Errored else (if complete then ends.Succeeded else ends.Unended)) ≢ ends.Usage
 chosen_ends true complete = λ u. cc
 chosen_ends false true = λ u. cc
 chosen_ends false false = λ u. cc
@@ -108,7 +102,7 @@ picture_ends : {schedule : List ℕ} {limits : Limits} {text answer : List ℕ} 
     status ≢ ends.Usage
 picture_ends = program_ends (λ text answer status h. refusal_ends h) (λ t answer status h. pictured_ends h)
 
-json_refusal_ends : {text answer : List ℕ} {status : Status} → IsJsonRefusal text answer status → status ≢ ends.Usage
+pub json_refusal_ends : {text answer : List ℕ} {status : Status} → IsJsonRefusal text answer status → status ≢ ends.Usage
 json_refusal_ends (no_term_json text e reads) = λ u. cc
 json_refusal_ends (no_program_json text t e reads past) = λ u. cc
 
@@ -158,28 +152,6 @@ order_ends Answers Tells false before after status never h = told_ends never h
 pub check_as_ends : (json : Bool) (text answer : List ℕ) (status : Status) → checks_as json text answer status → status ≢ ends.Usage
 check_as_ends true text answer status h = json_check_ends h
 check_as_ends false text answer status h = check_ends h
-
--- ---- of samples
-two_ends : (some : Bool) → (if some then ends.Errored else ends.Succeeded) ≢ ends.Usage
-two_ends true = λ u. cc
-two_ends false = λ u. cc
-
-pub sample_ends : {limits : Limits} {times entries : ℕ} {wants : List Want} (text answer : List ℕ) (status : Status) →
-    IsSampleAnswer limits times entries wants text answer status → status ≢ ends.Usage
-sample_ends text answer status (unsampled _ _ _ h) = refusal_ends h
-sample_ends {limits} {times} {entries} {wants} text answer status (samples _ _ _ t reads program h) =
-    λ u. two_ends (has_finding wants h.sample.comings) (sym h.status_is ∙ u)
-
-json_sample_ends : {limits : Limits} {seed times entries : ℕ} {wants : List Want} (text answer : List ℕ) (status : Status) →
-    IsJsonSample limits seed times entries wants text answer status → status ≢ ends.Usage
-json_sample_ends text answer status (unsampled_json _ _ _ h) = json_refusal_ends h
-json_sample_ends {limits} {seed} {times} {entries} {wants} text answer status (samples_json _ _ _ t reads program h) =
-    λ u. two_ends (has_finding wants h.sample.comings) (sym h.status_is ∙ u)
-
-pub sample_as_ends : (json : Bool) (order : SampleOrder) (text answer : List ℕ) (status : Status) → samples_as json order text answer status →
-    status ≢ ends.Usage
-sample_as_ends true order text answer status h = json_sample_ends text answer status h
-sample_as_ends false order text answer status h = sample_ends text answer status h
 
 -- ---- of explorations
 pub explore_timeline_ends : {limits : Limits} {bounds : Bounds} {wants : List Want} {text answer : List ℕ} {status : Status} →

@@ -1,4 +1,6 @@
 pub mod EndLemmas
+pub mod NotedEnds
+pub mod NoteLemmas
 pub mod ReasonLemmas
 pub mod RecordLemmas
 pub mod RunLemmas

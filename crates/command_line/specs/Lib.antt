@@ -1,6 +1,7 @@
 pub mod Checks
 pub mod Explorings
 pub mod FirstLine
+pub mod Noting
 pub mod Obeying
 pub mod Orders
 pub mod Recording
@@ -8,6 +9,7 @@ pub mod Replays
 pub mod RunReasons
 pub mod Runs
 pub mod Samplings
+pub mod Seekings
 pub mod Tests
 pub mod Workers
 pub mod Comparings

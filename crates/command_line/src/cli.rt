@@ -13,6 +13,7 @@ use crate::explore_order::obey_explore;
 use crate::replay_order::obey_replay;
 use crate::run_order::obey_run;
 use crate::sample_order::obey_sample;
+use crate::seek_order::obey_seek;
 use crate::test_order::{obey_terms, obey_test};
 use clap::error::ErrorKind;
 use clap::{ArgMatches, Error};
@@ -76,6 +77,7 @@ where
         Request::Show(showing) => obey_show(rt.alloc(), showing, input, out, err),
         Request::Replay(replay) => obey_replay(rt.alloc(), replay, input, out, err),
         Request::Explore(exploring) => obey_explore(rt, rt.alloc(), exploring, input, out, err),
+        Request::Seek(seeking) => obey_seek(rt.alloc(), seeking, input, out, err),
         Request::Run(running) => obey_run(rt, rt.alloc(), running, input, out, err),
         Request::Sample(sampling) => obey_sample(rt.alloc(), sampling, input, out, err),
         Request::Compare(comparing) => obey_compare(rt, rt.alloc(), comparing, out, err),

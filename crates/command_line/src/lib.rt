@@ -9,6 +9,7 @@ mod cli;
 mod compare_order;
 mod explore_order;
 mod first_line;
+mod noted;
 mod order;
 mod record_answers;
 mod replay_forms;
@@ -17,6 +18,7 @@ mod run_answers;
 mod run_order;
 mod run_reasons;
 mod sample_order;
+mod seek_order;
 mod spelling;
 mod test_order;
 

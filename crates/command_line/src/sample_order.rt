@@ -4,13 +4,16 @@ ghost use Rattle.std.specs.Prelude.{◌≡◌, ◌≢◌, ◌<◌, ◌^◌, fals
 ghost use Rattle.command_line.specs.Samplings.{ObeysSample};
 ghost use Rattle.text_io.specs.Devices.{devices};
 
+use crate::noted::obey_noted;
 use command_words::Sampling;
 use json_answers::SampleJson;
-use outcome_trace::{Status, TextIn, TextOut, obey_text};
+use outcome_trace::{Status, TextIn, TextOut};
+use reasons::TextReasons;
 use std::alloc::Global;
 
 /// Tells what schedules of a text's program come to that are drawn at random, and gives the status: that of the answer,
-/// and `Status::Fault` where a device failed or memory ran out. All but the answer is told on the last device.
+/// and `Status::Fault` where a device failed or memory ran out. All but the answer is told on the last device, also the
+/// wanted outcomes that no schedule came to.
 pub fn obey_sample<I: TextIn, O: TextOut, E: TextOut>(
     alloc: Global,
     sampling: Sampling,
@@ -28,8 +31,9 @@ pub fn obey_sample<I: TextIn, O: TextOut, E: TextOut>(
 {
     let Sampling { order, json } = sampling;
     if json {
-        obey_text(alloc, &SampleJson { order }, input, out, err)
+        let order = SampleJson { order };
+        obey_noted(alloc, &order, &TextReasons, false, input, out, err)
     } else {
-        obey_text(alloc, &order, input, out, err)
+        obey_noted(alloc, &order, &TextReasons, false, input, out, err)
     }
 }

@@ -156,6 +156,8 @@ const HELP: &[(&[&str], &str)] = &[
         \n      --progress        Write to standard error how far the search has come, while it goes on\
         \n      --timeline        Print a timeline behind each report and each fault\
         \n      --json            Print the answer as JSON, on one line\
+        \n      --first           Print the first finding alone: a fault, or an outcome of fiber 0 that is not\
+        \n                        wanted. Before the search 3000 schedules are drawn at random\
         \n      --explain         Write reasons to standard error: where a text or a schedule is refused, and\
         \n                        why a fiber of a replay or a run hasn't ended\
         \n  -h, --help            Print help\
@@ -167,6 +169,8 @@ const HELP: &[(&[&str], &str)] = &[
         \n  echo '(race (pure 1) (pure 2))' | fiber_cli explore --timeline\
         \n\nExample of a long search, which prints its progress:\
         \n  fiber_cli explore --memory 8G --progress < FILE\
+        \n\nExample of a search that stops at the first unwanted outcome:\
+        \n  fiber_cli explore --first --want \"succeeded 0\" < FILE\
         \n\n'fiber_cli --help' explains the reports. Each is below a schedule, under which replay gives it.\
         \n\nExit status:\
         \n   0  every schedule was explored, and nothing unwanted was found\

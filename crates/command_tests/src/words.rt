@@ -65,6 +65,16 @@ const APART: &[(&[&str], &str, &str)] = &[
         "json",
     ),
     (
+        &["fiber_cli", "explore", "--first", "--progress"],
+        "progress",
+        "first",
+    ),
+    (
+        &["fiber_cli", "explore", "--first", "--timeline"],
+        "timeline",
+        "first",
+    ),
+    (
         &["fiber_cli", "run", "--record", "--json"],
         "record",
         "json",

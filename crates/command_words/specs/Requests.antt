@@ -19,9 +19,10 @@ use Rattle.command_words.specs.declared.ranges.NumberRange.{NumberRange}
 use Rattle.command_words.specs.declared.replay.Replay.{Replay as ReplayFields}
 use Rattle.command_words.specs.declared.requests.Request.{Request}
 use Rattle.command_words.specs.declared.requests.Request.TheVariants.{Check, Show, Replay, Explore, Run, Sample}
-use Rattle.command_words.specs.declared.requests.Request.TheVariants.{Compare, Test, Terms}
+use Rattle.command_words.specs.declared.requests.Request.TheVariants.{Compare, Seek, Test, Terms}
 use Rattle.command_words.specs.declared.running.Running.{Running}
 use Rattle.command_words.specs.declared.sampling.Sampling.{Sampling}
+use Rattle.command_words.specs.declared.seeking.Seeking.{Seeking}
 use Rattle.command_words.specs.declared.testing.Testing.{Testing}
 use Rattle.command_words.specs.declared.testing.Translating.{Translating}
 use Rattle.command_words.specs.Memory.{SaysMemory}
@@ -87,6 +88,14 @@ pub record SaysExploring (options : List Row) (exploring : Exploring) : Type 0 w
   pub order : SaysExplore options exploring.order
   pub form : SaysExploreForm options exploring.form exploring.explain
 
+-- the search for the first finding that the options of `explore` say
+pub record SaysSeeking (options : List Row) (seeking : Seeking) : Type 0 where
+  pub first : IsGiven (codes "first") options
+  pub alone : IsLeftOut (codes "progress") options × IsLeftOut (codes "timeline") options
+  pub order : SaysExplore options seeking.order
+  pub json : SaysFlag (codes "json") options seeking.json
+  pub explain : SaysFlag (codes "explain") options seeking.explain
+
 -- the run that the options of `run` say
 pub record SaysRunning (options : List Row) (running : Running) : Type 0 where
   pub run : SaysRun options running.options
@@ -135,7 +144,9 @@ Says said (Check checking) =
     SaysFlag (codes "explain") said.1 checking.explain
 Says said (Show showing) = (said.0 ≡ codes "show") × SaysFlag (codes "explain") said.1 showing.explain
 Says said (Replay replay) = (said.0 ≡ codes "replay") × SaysReplay said.1 replay
-Says said (Explore exploring) = (said.0 ≡ codes "explore") × SaysExploring said.1 exploring
+Says said (Explore exploring) =
+    (said.0 ≡ codes "explore") × IsLeftOut (codes "first") said.1 × SaysExploring said.1 exploring
+Says said (Seek seeking) = (said.0 ≡ codes "explore") × SaysSeeking said.1 seeking
 Says said (Run running) = (said.0 ≡ codes "run") × SaysRunning said.1 running
 Says said (Sample sampling) = (said.0 ≡ codes "sample") × SaysSampling said.1 sampling
 Says said (Compare comparing) = (said.0 ≡ codes "compare") × SaysComparing said.1 comparing
@@ -155,6 +166,7 @@ TakesSchedule (Check checking) = ⊥
 TakesSchedule (Show showing) = ⊥
 TakesSchedule (Replay replay) = replay.schedule.now ≡ codes "-"
 TakesSchedule (Explore exploring) = ⊥
+TakesSchedule (Seek seeking) = ⊥
 TakesSchedule (Run running) = ⊥
 TakesSchedule (Sample sampling) = ⊥
 TakesSchedule (Compare comparing) = ⊥

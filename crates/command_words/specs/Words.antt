@@ -146,7 +146,11 @@ replay_command =
 -- with the flags that ask for another form of an exploration than a list
 abbrev pub with_explore_forms : App → App
 with_explore_forms app =
-    with_rule (with_rule (with_rule app (flag (codes "progress"))) (flag (codes "timeline"))) (flag (codes "json"))
+    with_rule (with_rule (with_rule (with_rule app
+    (flag (codes "progress")))
+    (flag (codes "timeline")))
+    (flag (codes "json")))
+    (flag (codes "first"))
 
 -- `explore` with the options for its limits and bounds
 abbrev pub explore_bounds : App

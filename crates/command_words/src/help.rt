@@ -120,6 +120,9 @@ Example of every outcome of a race, with timelines:
 Example of a long search, which prints its progress:
   fiber_cli explore --memory 8G --progress < FILE
 
+Example of a search that stops at the first unwanted outcome:
+  fiber_cli explore --first --want \"succeeded 0\" < FILE
+
 'fiber_cli --help' explains the reports. Each is below a schedule, under which replay gives it.
 
 Exit status:
@@ -303,6 +306,10 @@ pub const RUN_TIMELINE: &str =
 pub const EXPLORE_TIMELINE: &str = "Print a timeline behind each report and each fault";
 
 pub const PROGRESS: &str = "Write to standard error how far the search has come, while it goes on";
+
+pub const FIRST_FINDING: &str =
+    "Print the first finding alone: a fault, or an outcome of fiber 0 that is not
+wanted. Before the search 3000 schedules are drawn at random";
 
 pub const SVG: &str = "Print a picture of the run in place of the report, as SVG";
 

@@ -48,8 +48,18 @@ const CONFLICTS: &[Conflict] = &[
     },
     Conflict {
         subcommand: "explore",
+        first: "progress",
+        second: "first",
+    },
+    Conflict {
+        subcommand: "explore",
         first: "timeline",
         second: "json",
+    },
+    Conflict {
+        subcommand: "explore",
+        first: "timeline",
+        second: "first",
     },
     Conflict {
         subcommand: "run",

@@ -32,6 +32,8 @@ use crate::ranges::{
 use crate::replay::Replay;
 use crate::running::Running;
 use crate::sampling::Sampling;
+use crate::seek_requests::seeking_of;
+use crate::seeking::Seeking;
 use crate::test_requests::{testing_of, translating_of};
 use crate::testing::{Testing, Translating};
 use clap::ArgMatches;
@@ -51,6 +53,8 @@ pub enum Request<'a> {
     Replay(Replay<'a>),
     /// To explore every schedule of the text's program.
     Explore(Exploring),
+    /// To look for the first finding of the text's program.
+    Seek(Seeking),
     /// To run the text's program on workers, and tell what each fiber came to.
     Run(Running),
     /// To tell what schedules of the text's program come to that are drawn at random.
@@ -221,8 +225,8 @@ fn wants_said(alloc: Global, explore: &ArgMatches<'_>) -> Result<Option<Vec<Want
     }
 }
 
-// What the options of `explore` say that the text is explored under.
-fn explore_order(
+/// What the options of `explore` say that the text is explored under.
+pub(crate) fn explore_order(
     alloc: Global,
     explore: &ArgMatches<'_>,
 ) -> Result<Option<ExploreOrder>, AllocError>
@@ -354,6 +358,12 @@ fn explore_request<'a>(
 ) -> Result<Option<Request<'a>>, AllocError>
     ensures { IfOk result (GivesRequest (Some (codes "explore", rows_of (found_of options.now)))) }
 {
+    if given(options, "first") {
+        return match seeking_of(alloc, options)? {
+            Some(seeking) => Ok(Some(Request::Seek(seeking))),
+            None => Ok(None),
+        };
+    }
     match exploring_of(alloc, options)? {
         Some(exploring) => Ok(Some(Request::Explore(exploring))),
         None => Ok(None),

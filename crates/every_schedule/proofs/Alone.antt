@@ -1,5 +1,5 @@
 -- What is told of one fiber after the other: that none but one uses a number so any more.
-use Rattle.std.proofs.Common.{◌≡◌, ◌≢◌, ℕ, zero, suc, ◌+◌, ◌<◌, nat_eq, Bool, true, false, not, ◌&&◌, ◌||◌, List, [], ◌∷◌, drop, length, Some, refl, sym, ap, ◌∙◌, subst, arith}
+use Rattle.std.proofs.Common.{◌≡◌, ◌≢◌, ℕ, zero, suc, ◌+◌, ◌<◌, ◌≤◌, nat_eq, Bool, true, false, not, ◌&&◌, ◌||◌, List, [], ◌∷◌, drop, length, Some, refl, sym, ap, ◌∙◌, subst, arith}
 use Rattle.std.specs.List.{slice_get}
 use Rattle.std.proofs.lemmas.Bool.{eqb-true, eq-eqb, lt-ltb}
 use Rattle.fiber_frames.specs.declared.ask.Ask.{Ask}
@@ -34,6 +34,16 @@ module _ (p : Fiber → Bool) (f : ℕ) (gs : List Fiber) (i : ℕ) (b : Fiber) 
 
   pub one_stops : nat_eq i f || p b ≡ false → from i ≡ false
   one_stops none = turn ∙ ap (λ (t : Bool). t && from (suc i)) none
+
+drop_past : (gs : List Fiber) (i : ℕ) → length gs ≤ i → drop i gs ≡ []
+drop_past [] zero past = refl
+drop_past [] (suc i) past = refl
+drop_past (g ∷ gs) zero past = absurd (omega arith)
+drop_past (g ∷ gs) (suc i) past = drop_past gs i (omega arith)
+
+-- behind the last of them there is none
+pub none_left : (p : Fiber → Bool) (f : ℕ) (gs : List Fiber) (i : ℕ) → length gs ≤ i → others p f i (drop i gs) ≡ true
+none_left p f gs i past = ap (others p f i) (drop_past gs i past)
 
 pub itself : (i f : ℕ) (t : Bool) → i ≡ f → nat_eq i f || t ≡ true
 itself i f t e = ap (λ (b : Bool). b || t) (eq-eqb i f e)

@@ -1,5 +1,5 @@
 -- What an entry makes of the worlds that are kept.
-use Rattle.std.proofs.Common.{◌≡◌, ◌≢◌, ℕ, zero, suc, ◌≤◌, List, [], ◌∷◌, length, map, Option, Some, None, Ok, Err, Result, refl, sym, ap, ◌∙◌, subst, arith}
+use Rattle.std.proofs.Common.{◌≡◌, ◌≢◌, ℕ, zero, suc, ◌≤◌, Bool, List, [], ◌∷◌, length, map, Option, Some, None, Ok, Err, Result, refl, sym, ap, ◌∙◌, subst, arith}
 use Rattle.std.specs.Prelude.{IfOk, max}
 use Rattle.std.specs.List.{slice_get}
 use Rattle.std.proofs.lemmas.List.{length-map}
@@ -17,6 +17,7 @@ use Rattle.world_search.specs.declared.landings.Entered.TheVariants as came
 use Rattle.world_search.specs.Landings.{EntersAt, IsNext}
 use Rattle.world_search.specs.Lists.{IsMore}
 use Rattle.world_search.proofs.Lists.{more_same}
+use Rattle.every_schedule.specs.declared.leaping.AtOnce.{AtOnce}
 use Rattle.every_schedule.specs.Places.{Place, placed, report_at, stepped}
 use Rattle.every_schedule.specs.Reduced.{after_own, behind, leapt, leapt_by, or_stays, own_of, pushed, pushed_once, swept}
 use Rattle.every_schedule.specs.Private.Keeping.{IsKept}
@@ -43,23 +44,23 @@ once_limits p (Some f) = by (stepped p f) refl
     by (Ok q) e = stepped_limits p f q e
     by (Err d) e = refl
 
-swept_limits : (n : ℕ) (p : Place) → (swept n p).limits ≡ p.limits
+swept_limits : (b : Bool) (n : ℕ) (p : Place) → (swept b n p).limits ≡ p.limits
 unfolding swept
-swept_limits zero p = refl
-swept_limits (suc n) p = swept_limits n (after_own p (own_of p n)) ∙ once_limits p (own_of p n)
+swept_limits b zero p = refl
+swept_limits b (suc n) p = swept_limits b n (after_own p (own_of b p n)) ∙ once_limits p (own_of b p n)
 
-pushed_limits : (n : ℕ) (p : Place) → (pushed n p).limits ≡ p.limits
+pushed_limits : (b : Bool) (n : ℕ) (p : Place) → (pushed b n p).limits ≡ p.limits
 unfolding pushed
-pushed_limits zero p = refl
-pushed_limits (suc n) p = pushed_limits n (pushed_once p) ∙ swept_limits (length p.world.fibers) p
+pushed_limits b zero p = refl
+pushed_limits b (suc n) p = pushed_limits b n (pushed_once b p) ∙ swept_limits b (length p.world.fibers) p
 
-behind_limits : (n : ℕ) (p : Place) (f : ℕ) (y : Result Place RunError) (q : Place) → stepped p f ≡ y → behind n y ≡ Ok q → q.limits ≡ p.limits
+behind_limits : (n : AtOnce) (p : Place) (f : ℕ) (y : Result Place RunError) (q : Place) → stepped p f ≡ y → behind n y ≡ Ok q → q.limits ≡ p.limits
 behind_limits n p f (Ok x) q is e =
-    let same : pushed n x ≡ q = cc in
-    ap (λ (r : Place). r.limits) (sym same) ∙ pushed_limits n x ∙ stepped_limits p f x is
+    let same : pushed n.stores n.most x ≡ q = cc in
+    ap (λ (r : Place). r.limits) (sym same) ∙ pushed_limits n.stores n.most x ∙ stepped_limits p f x is
 behind_limits n p f (Err d) q is e = absurd (cc)
 
-leapt_limits : (n : ℕ) (p : Place) (f : ℕ) (q : Place) (o : Option Fiber) → leapt_by n p f o ≡ Ok q → q.limits ≡ p.limits
+leapt_limits : (n : AtOnce) (p : Place) (f : ℕ) (q : Place) (o : Option Fiber) → leapt_by n p f o ≡ Ok q → q.limits ≡ p.limits
 leapt_limits n p f q None e = let same : p ≡ q = cc in ap (λ (r : Place). r.limits) (sym same)
 leapt_limits n p f q (Some g) e = behind_limits n p f (stepped p f) q refl e
 
@@ -84,7 +85,7 @@ module _ (k : Limits) (fs fs' : List Fiber) (rs rs' : List PlainView) (mf : IsMo
   pub places_stay : IsMore (map (place_of k fs rs) rows) (map (place_of k fs' rs') rows)
   places_stay = subst (IsMore (map (place_of k fs rs) rows)) (places_more fs fs' rs rs' mf mr k rows worlds) (more_same (map (place_of k fs rs) rows))
 
-  module _ (a f : ℕ) (n : Numbers) (next : Place) (goes : leapt a now f ≡ Ok next) (is_next : IsWorldOf fs' rs' n next) (fits : AllFit next.world)
+  module _ (a : AtOnce) (f : ℕ) (n : Numbers) (next : Place) (goes : leapt a now f ≡ Ok next) (is_next : IsWorldOf fs' rs' n next) (fits : AllFit next.world)
       (rows' : List Numbers) (adds : MayAdd rows rows' n) where
     next_limits : next.limits ≡ k
     next_limits = leapt_limits a now f next (slice_get now.world.fibers f) goes ∙ now_limits
@@ -123,7 +124,7 @@ first_worlds k fs rs n p h l fits (suc i) m e = absurd (cc)
 
 -- reports by numbers
 module _ (k : Limits) (fs : List Fiber) (rs : List PlainView) where
-  at_picked : (n : Numbers) → IsWorld k fs rs n → AreAt fs n.fibers (picked fs n.fibers)
+  pub at_picked : (n : Numbers) → IsWorld k fs rs n → AreAt fs n.fibers (picked fs n.fibers)
   at_picked n h = subst (AreAt fs n.fibers) (sym (picked_is fs n.fibers h.place.world.fibers h.is.fibers)) h.is.fibers
 
   pub reports_alike : (m n : Numbers) → IsWorld k fs rs m → IsWorld k fs rs n → AreAlike fs m.fibers n.fibers →

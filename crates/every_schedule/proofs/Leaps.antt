@@ -1,5 +1,5 @@
 -- The reduced exploration makes own moves behind each entry, and no others.
-use Rattle.std.proofs.Common.{◌≡◌, ◌≢◌, ◌⊎◌, inl, inr, ℕ, zero, suc, ◌≤◌, Bool, true, false, length, Some, None}
+use Rattle.std.proofs.Common.{◌≡◌, ◌≢◌, ◌⊎◌, inl, inr, ℕ, zero, suc, ◌≤◌, Bool, true, false, ◌&&◌, length, Some, None}
 use Rattle.std.proofs.Common.{Option, Result, Ok, Err, refl, sym, ap, ◌∙◌, subst}
 use Rattle.std.specs.List.{slice_get}
 use Rattle.std.proofs.lemmas.Option.{slice_get_past, same_Some}
@@ -12,107 +12,115 @@ use Rattle.scheduled_core.specs.declared.wish.Wish.TheVariants.{Nothing}
 use Rattle.scheduled_core.specs.Core.{World, wish_of}
 use Rattle.every_schedule.specs.Explored.{HasMove}
 use Rattle.every_schedule.specs.Places.{Place, moves_at, stepped, wants}
-use Rattle.every_schedule.specs.Reduced.{IsOwn, after_own, behind, has_own, if_own, is_own, leapt, leapt_by, or_stays, own_of, pushed, pushed_once, swept}
-use Rattle.every_schedule.proofs.Bare.{idle_stays, own_are_free, own_from, unborn_stays}
+use Rattle.every_schedule.specs.declared.leaping.AtOnce.{AtOnce}
+use Rattle.every_schedule.specs.Reduced.{MayOwn, after_own, behind, has_own, if_own, is_made, is_own, leapt, leapt_by, may_be, none_at_once, or_stays, own_of, pushed, pushed_once, swept}
+use Rattle.every_schedule.proofs.Bare.{idle_stays, own_from, unborn_stays}
+use Rattle.every_schedule.proofs.Still.{may_are_free, two_true}
 
 -- ---- several own moves
-pub pushed_none : (p : Place) → pushed 0 p ≡ p
+pub pushed_none : (b : Bool) (p : Place) → pushed b 0 p ≡ p
 unfolding pushed
-pushed_none p = refl
+pushed_none b p = refl
 
-pub pushed_more : (n : ℕ) (p : Place) → pushed (suc n) p ≡ pushed n (pushed_once p)
+pub pushed_more : (b : Bool) (n : ℕ) (p : Place) → pushed b (suc n) p ≡ pushed b n (pushed_once b p)
 unfolding pushed
-pushed_more n p = refl
+pushed_more b n p = refl
 
-pub pushed_next : (n m : ℕ) (p q : Place) → n ≡ suc m → q ≡ pushed_once p → pushed n p ≡ pushed m q
-pushed_next n m p q e h = ap (λ i. pushed i p) e ∙ pushed_more m p ∙ ap (pushed m) (sym h)
+pub pushed_next : (b : Bool) (n m : ℕ) (p q : Place) → n ≡ suc m → q ≡ pushed_once b p → pushed b n p ≡ pushed b m q
+pushed_next b n m p q e h = ap (λ i. pushed b i p) e ∙ pushed_more b m p ∙ ap (pushed b m) (sym h)
 
 -- where no own move is made, none is made later
-pub pushed_stays : (n : ℕ) (p : Place) → pushed_once p ≡ p → pushed n p ≡ p
+pub pushed_stays : (b : Bool) (n : ℕ) (p : Place) → pushed_once b p ≡ p → pushed b n p ≡ p
 unfolding pushed
-pushed_stays zero p e = refl
-pushed_stays (suc n) p e = ap (pushed n) e ∙ pushed_stays n p e
+pushed_stays b zero p e = refl
+pushed_stays b (suc n) p e = ap (pushed b n) e ∙ pushed_stays b n p e
 
 -- ---- the own move of one fiber
 own_here : (b : Bool) (f g : ℕ) → if_own b f ≡ Some g → (f ≡ g) × (b ≡ true)
 own_here true f g e = (same_Some f g e, refl)
 own_here false f g e = absurd (cc)
 
-module _ (p : Place) (f : ℕ) where
-  pub fiber_none : has_own p.world f (slice_get p.world.fibers f) ≡ false → after_own p (own_of p f) ≡ p
-  fiber_none e = ap (λ b. after_own p (if_own b f)) e
+made_parts : (b : Bool) (w : World) (f : ℕ) → is_made b w f ≡ true → (has_own w f (slice_get w.fibers f) ≡ true) × (may_be b (slice_get w.fibers f) ≡ true)
+made_parts b w f e = two_true (has_own w f (slice_get w.fibers f)) (may_be b (slice_get w.fibers f)) e
 
-  pub fiber_made : (q : Place) → has_own p.world f (slice_get p.world.fibers f) ≡ true → stepped p f ≡ Ok q → after_own p (own_of p f) ≡ q
-  fiber_made q e goes = ap (λ b. after_own p (if_own b f)) e ∙ ap (or_stays p) goes
+module _ (b : Bool) (p : Place) (f : ℕ) where
+  pub fiber_none : is_made b p.world f ≡ false → after_own p (own_of b p f) ≡ p
+  fiber_none e = ap (λ t. after_own p (if_own t f)) e
 
-  pub fiber_refused : (d : RunError) → has_own p.world f (slice_get p.world.fibers f) ≡ true → stepped p f ≡ Err d → after_own p (own_of p f) ≡ p
-  fiber_refused d e stops = ap (λ b. after_own p (if_own b f)) e ∙ ap (or_stays p) stops
+  pub fiber_made : (q : Place) → is_made b p.world f ≡ true → stepped p f ≡ Ok q → after_own p (own_of b p f) ≡ q
+  fiber_made q e goes = ap (λ t. after_own p (if_own t f)) e ∙ ap (or_stays p) goes
 
-  pub fiber_unborn : length p.world.fibers ≤ f → after_own p (own_of p f) ≡ p
-  fiber_unborn past = fiber_none (ap (has_own p.world f) (slice_get_past p.world.fibers f past))
+  pub fiber_refused : (d : RunError) → is_made b p.world f ≡ true → stepped p f ≡ Err d → after_own p (own_of b p f) ≡ p
+  fiber_refused d e stops = ap (λ t. after_own p (if_own t f)) e ∙ ap (or_stays p) stops
 
-module _ (p : Place) where
-  led_once : (q : Place) (f : ℕ) (y : Result Place RunError) → has_own p.world f (slice_get p.world.fibers f) ≡ true → stepped p f ≡ y →
-      Leads stepped IsOwn (or_stays p y) q → Leads stepped IsOwn p q
-  led_once q f (Ok x) own e on = On p f x q (own_from p f x own e) e on
-  led_once q f (Err d) own e on = on
+  pub fiber_unborn : length p.world.fibers ≤ f → after_own p (own_of b p f) ≡ p
+  fiber_unborn past = fiber_none (ap (λ (o : Option Fiber). has_own p.world f o && may_be b o) (slice_get_past p.world.fibers f past))
 
-  led_from : (q : Place) (f : ℕ) (b : Bool) → has_own p.world f (slice_get p.world.fibers f) ≡ b → Leads stepped IsOwn (after_own p (if_own b f)) q →
-      Leads stepped IsOwn p q
+module _ (b : Bool) (p : Place) where
+  led_once : (q : Place) (f : ℕ) (y : Result Place RunError) → is_made b p.world f ≡ true → stepped p f ≡ y →
+      Leads stepped (MayOwn b) (or_stays p y) q → Leads stepped (MayOwn b) p q
+  led_once q f (Ok x) made e on =
+      let both = made_parts b p.world f made in
+      On p f x q (record { own = own_from p f x both.0 e; may = both.1 }) e on
+  led_once q f (Err d) made e on = on
+
+  led_from : (q : Place) (f : ℕ) (t : Bool) → is_made b p.world f ≡ t → Leads stepped (MayOwn b) (after_own p (if_own t f)) q →
+      Leads stepped (MayOwn b) p q
   led_from q f true e on = led_once q f (stepped p f) e refl on
   led_from q f false e on = on
 
 -- ---- those of several fibers
-pub swept_none : (p : Place) → swept 0 p ≡ p
+pub swept_none : (b : Bool) (p : Place) → swept b 0 p ≡ p
 unfolding swept
-swept_none p = refl
+swept_none b p = refl
 
-swept_more : (n : ℕ) (p : Place) → swept (suc n) p ≡ swept n (after_own p (own_of p n))
+swept_more : (b : Bool) (n : ℕ) (p : Place) → swept b (suc n) p ≡ swept b n (after_own p (own_of b p n))
 unfolding swept
-swept_more n p = refl
+swept_more b n p = refl
 
-pub swept_next : (n m : ℕ) (p q : Place) → n ≡ suc m → q ≡ after_own p (own_of p m) → swept n p ≡ swept m q
-swept_next n m p q e h = ap (λ i. swept i p) e ∙ swept_more m p ∙ ap (swept m) (sym h)
+pub swept_next : (b : Bool) (n m : ℕ) (p q : Place) → n ≡ suc m → q ≡ after_own p (own_of b p m) → swept b n p ≡ swept b m q
+swept_next b n m p q e h = ap (λ i. swept b i p) e ∙ swept_more b m p ∙ ap (swept b m) (sym h)
 
-swept_leads : (n : ℕ) (p q : Place) → Leads stepped IsOwn (swept n p) q → Leads stepped IsOwn p q
+swept_leads : (b : Bool) (n : ℕ) (p q : Place) → Leads stepped (MayOwn b) (swept b n p) q → Leads stepped (MayOwn b) p q
 unfolding swept
-swept_leads zero p q on = on
-swept_leads (suc n) p q on =
-    led_from p q n (has_own p.world n (slice_get p.world.fibers n)) refl (swept_leads n (after_own p (own_of p n)) q on)
+swept_leads b zero p q on = on
+swept_leads b (suc n) p q on =
+    led_from b p q n (is_made b p.world n) refl (swept_leads b n (after_own p (own_of b p n)) q on)
 
-pushed_leads : (n : ℕ) (p : Place) → Leads stepped IsOwn p (pushed n p)
+pushed_leads : (b : Bool) (n : ℕ) (p : Place) → Leads stepped (MayOwn b) p (pushed b n p)
 unfolding pushed
-pushed_leads zero p = Here p p refl
-pushed_leads (suc n) p = swept_leads (length p.world.fibers) p (pushed n (pushed_once p)) (pushed_leads n (pushed_once p))
+pushed_leads b zero p = Here p p refl
+pushed_leads b (suc n) p = swept_leads b (length p.world.fibers) p (pushed b n (pushed_once b p)) (pushed_leads b n (pushed_once b p))
 
-behind_leaps : (n : ℕ) (y : Result Place RunError) → Leaps stepped IsOwn y (behind n y)
-behind_leaps n (Ok q) = (pushed n q, pushed_leads n q, refl)
+behind_leaps : (n : AtOnce) (y : Result Place RunError) → Leaps stepped (MayOwn n.stores) y (behind n y)
+behind_leaps n (Ok q) = (pushed n.stores n.most q, pushed_leads n.stores n.most q, refl)
 behind_leaps n (Err e) = refl
 
-leaps_by : (n : ℕ) (p : Place) (f : ℕ) (o : Option Fiber) → slice_get p.world.fibers f ≡ o → Leaps stepped IsOwn (stepped p f) (leapt_by n p f o)
-leaps_by n p f None e = subst (λ y. Leaps stepped IsOwn y (Ok p)) (sym (unborn_stays p f e)) (p, Here p p refl, refl)
+leaps_by : (n : AtOnce) (p : Place) (f : ℕ) (o : Option Fiber) → slice_get p.world.fibers f ≡ o →
+    Leaps stepped (MayOwn n.stores) (stepped p f) (leapt_by n p f o)
+leaps_by n p f None e = subst (λ y. Leaps stepped (MayOwn n.stores) y (Ok p)) (sym (unborn_stays p f e)) (p, Here p p refl, refl)
 leaps_by n p f (Some g) e = behind_leaps n (stepped p f)
 
-pub leaps : (n : ℕ) (p : Place) (f : ℕ) → Leaps stepped IsOwn (stepped p f) (leapt n p f)
+pub leaps : (n : AtOnce) (p : Place) (f : ℕ) → Leaps stepped (MayOwn n.stores) (stepped p f) (leapt n p f)
 leaps n p f = leaps_by n p f (slice_get p.world.fibers f) refl
 
 -- it is a reduced system
-pub leapt_reduced : (n : ℕ) → IsReduced stepped (leapt n)
-leapt_reduced n = record { Free = IsOwn; free = own_are_free; leaps = leaps n }
+pub leapt_reduced : (n : AtOnce) → IsReduced stepped (leapt n)
+leapt_reduced n = record { Free = MayOwn n.stores; free = may_are_free n.stores; leaps = leaps n }
 
 -- an unborn fiber leaves all as it is
-pub leapt_rests : (n : ℕ) (p : Place) (f : ℕ) → length p.world.fibers ≤ f → leapt n p f ≡ Ok p
+pub leapt_rests : (n : AtOnce) (p : Place) (f : ℕ) → length p.world.fibers ≤ f → leapt n p f ≡ Ok p
 leapt_rests n p f past = ap (leapt_by n p f) (slice_get_past p.world.fibers f past)
 
 -- with no own moves behind it, an entry is as it was
-pub leapt_none : (p : Place) (f : ℕ) → leapt 0 p f ≡ stepped p f
+pub leapt_none : (p : Place) (f : ℕ) → leapt none_at_once p f ≡ stepped p f
 leapt_none p f = none_by (slice_get p.world.fibers f) refl
   where
-    none_behind : (y : Result Place RunError) → behind 0 y ≡ y
-    none_behind (Ok q) = ap Ok (pushed_none q)
+    none_behind : (y : Result Place RunError) → behind none_at_once y ≡ y
+    none_behind (Ok q) = ap Ok (pushed_none true q)
     none_behind (Err e) = refl
 
-    none_by : (o : Option Fiber) → slice_get p.world.fibers f ≡ o → leapt_by 0 p f o ≡ stepped p f
+    none_by : (o : Option Fiber) → slice_get p.world.fibers f ≡ o → leapt_by none_at_once p f o ≡ stepped p f
     none_by None e = sym (unborn_stays p f e)
     none_by (Some g) e = none_behind (stepped p f)
 
@@ -131,9 +139,17 @@ own_moves_by w f None e h = absurd (cc)
 own_moves_by w f (Some g) e h = (g, e, λ none. let no : is_own w f g Nothing ≡ true = subst (λ x. is_own w f g x ≡ true) none h in cc)
 
 -- a fiber that has an own move has a next move
-pub own_moves : (p : Place) (f : ℕ) → has_own p.world f (slice_get p.world.fibers f) ≡ true → HasMove p.world f
-own_moves p f own = own_moves_by p.world f (slice_get p.world.fibers f) refl own
+pub own_moves : (b : Bool) (p : Place) (f : ℕ) → is_made b p.world f ≡ true → HasMove p.world f
+own_moves b p f made = own_moves_by p.world f (slice_get p.world.fibers f) refl (made_parts b p.world f made).0
 
 -- the entry of a fiber that has none changes nothing
 pub none_stays : (p : Place) (f : ℕ) (g : Fiber) → slice_get p.world.fibers f ≡ Some g → wish_of (ask_of g) ≡ Nothing → stepped p f ≡ Ok p
 none_stays p f g at none = idle_stays p f (ap moves_at at ∙ ap wants none)
+
+-- a fiber that moves has a next move
+has_next_by : (w : World) (f : ℕ) (o : Option Fiber) → slice_get w.fibers f ≡ o → moves_at o ≡ true → HasMove w f
+has_next_by w f None e m = absurd (cc)
+has_next_by w f (Some g) e m = (g, e, λ none. let no : wants Nothing ≡ true = subst (λ x. wants x ≡ true) none m in cc)
+
+pub has_next : (w : World) (f : ℕ) → moves_at (slice_get w.fibers f) ≡ true → HasMove w f
+has_next w f m = has_next_by w f (slice_get w.fibers f) refl m

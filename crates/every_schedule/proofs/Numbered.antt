@@ -101,7 +101,7 @@ map_append : {A B : Type 0} (f : A → B) (xs ys : List A) → map f (xs ++ ys) 
 map_append f [] ys = refl
 map_append f (x ∷ xs) ys = ap (λ l. f x ∷ l) (map_append f xs ys)
 
-pub places_added : {B : Type 0} (f : Numbers → B) (old new : List Numbers) (n : Numbers) → MayAdd old new n → IsMore (map f old) (map f new)
+pub places_added : {A B : Type 0} (f : A → B) (old new : List A) (n : A) → MayAdd old new n → IsMore (map f old) (map f new)
 places_added f old new n (inl same) = subst (λ l. IsMore (map f old) (map f l)) (sym same) (more_same (map f old))
 places_added f old new n (inr one) =
     subst (λ l. IsMore (map f old) (map f l)) (sym one) (subst (IsMore (map f old)) (sym (map_append f old (n ∷ []))) (more_by (map f old) (map f (n ∷ []))))
@@ -112,7 +112,7 @@ map_get f (y ∷ xs) zero x e = ap Some (ap f (same_Some y x e))
 map_get f (y ∷ xs) (suc i) x e = map_get f xs i x e
 
 -- the row of a place
-pub row_at : {B : Type 0} (f : Numbers → B) (rows : List Numbers) (i : ℕ) → i < length (map f rows) → (n : Numbers) × (slice_get rows i ≡ Some n) ×
+pub row_at : {A B : Type 0} (f : A → B) (rows : List A) (i : ℕ) → i < length (map f rows) → (n : A) × (slice_get rows i ≡ Some n) ×
     (slice_get (map f rows) i ≡ Some (f n))
 row_at f rows i low =
     let many = length-map rows f in

@@ -14,6 +14,7 @@ use Rattle.world_search.specs.Answers as search
 use Rattle.every_schedule.specs.declared.exploration.Answer.{Answer}
 use Rattle.every_schedule.specs.Explored.{IsPastBound, IsReached, ListOnce}
 use Rattle.every_schedule.specs.Places.{Kept, Place, first_place, report_at, stepped}
+use Rattle.every_schedule.specs.declared.leaping.AtOnce.{AtOnce}
 use Rattle.every_schedule.specs.Reduced.{leapt}
 use Rattle.every_schedule.specs.Private.Keeping.{AreSingle}
 use Rattle.every_schedule.specs.Private.Telling.{AreTold, IsEnd, IsTold}
@@ -27,7 +28,7 @@ end_of : (kept : Kept) (first : Place) (s : List ℕ) (l : Landing) → search.L
 end_of kept first s (to.World j) h = (Ok (report_at h.0), (h.0, h.1, refl))
 end_of kept first s (to.Fault j) h = (Err h.0, (h.0, h.1, refl))
 
-module _ (n most : ℕ) (first : Place) (raw found : List Found) (a : Found) (each : AreUnfolded n most first raw found)
+module _ (n : AtOnce) (most : ℕ) (first : Place) (raw found : List Found) (a : Found) (each : AreUnfolded n most first raw found)
     (out : IsLeftOut n most first raw a) where
   -- with more entries, it is one of them
   all_unfolded : AreUnfolded n (most + length a.schedule.items) first raw (a ∷ found)
@@ -69,7 +70,7 @@ all_told kept found answers a one is told = record {
   each_told (suc i) f b ef eb = told.each i f b ef eb
 
 -- what is left out leads to an end that isn't listed
-pub past_bound : (code : Tree) (k : Limits) (kept : Kept) (n most : ℕ) (raw found : List Found) (answers : List Answer) (a : Found) →
+pub past_bound : (code : Tree) (k : Limits) (kept : Kept) (n : AtOnce) (most : ℕ) (raw found : List Found) (answers : List Answer) (a : Found) →
     AreTold kept found answers → AreSingle kept.faults → AreUnfolded n most (first_place code k) raw found →
     All (search.IsRight (leapt n) report_at kept.places kept.faults (first_place code k)) raw →
     search.TellOnce report_at kept.places raw → EndApart found → IsLeftOut n most (first_place code k) raw a → EndsAlone a found →

@@ -22,11 +22,13 @@ use Rattle.world_search.proofs.Closed.{run-append}
 use Rattle.world_search.proofs.Lists.{get_end, get_last, more_by, more_in}
 use Rattle.world_search.proofs.Free.{covers, goes_onward, leads_up}
 use Rattle.every_schedule.specs.Places.{Kept, Place, report_at, stepped}
-use Rattle.every_schedule.specs.Reduced.{IsOwn, leapt}
+use Rattle.every_schedule.specs.declared.leaping.AtOnce.{AtOnce}
+use Rattle.every_schedule.specs.Reduced.{MayOwn, leapt}
 use Rattle.every_schedule.specs.Explored.{HasMove}
 use Rattle.every_schedule.specs.Private.Trails.{AreMade, AreSorted, AreUnfolded, EndApart, EndsAlone, IsKeptIn}
 use Rattle.every_schedule.specs.Private.Trails.{IsTrail, IsUnfolded, IsUnfoldedOf, rank_of}
-use Rattle.every_schedule.proofs.Bare.{own_are_free, reports_grow}
+use Rattle.every_schedule.proofs.Bare.{reports_grow}
+use Rattle.every_schedule.proofs.Still.{may_are_free}
 use Rattle.every_schedule.proofs.Growing.{size}
 use Rattle.every_schedule.proofs.Leaps.{leaps}
 use Rattle.every_schedule.proofs.Told.{all_at, all_from}
@@ -73,12 +75,12 @@ trail_more old mid new p q y a b = record {
 }
 
 -- the whole trail
-pub trail_whole : (n : ℕ) (first : Place) (schedule new : List ℕ) (y : Result Place RunError) → IsTrail [] new first y →
+pub trail_whole : (n : AtOnce) (first : Place) (schedule new : List ℕ) (y : Result Place RunError) → IsTrail [] new first y →
     run (leapt n) (Ok first) schedule ≡ y → IsUnfolded n first schedule new
 trail_whole n first schedule new y t e = subst (IsUnfolded n first schedule) (sym t.is) (record { leads = t.leads ∙ sym e; few = t.few; moves = t.moves })
 
 -- ---- answers
-pub unfolded_next : (n most : ℕ) (first : Place) (found old : List Found) (a : Found) → AreUnfolded n most first found old →
+pub unfolded_next : (n : AtOnce) (most : ℕ) (first : Place) (found old : List Found) (a : Found) → AreUnfolded n most first found old →
     IsUnfoldedOf n most first found a → AreUnfolded n most first found (old ++ a ∷ [])
 unfolded_next n most first found old a h it i b e = elim (get_end old a b i e) [
   | inl early ↦ h i b early
@@ -96,7 +98,7 @@ kept_next found old i it b at same h j a low e = dite (ℕ_discrete j i)
     let k = h j a (omega arith) e in
     (k.0, more_in old (old ++ b ∷ []) k.0 (more_by old (b ∷ [])) k.1, k.2))
 
-pub unfolded_sorted : (n most : ℕ) (first : Place) (found xs ys : List Found) → IsPermutation xs ys → AreUnfolded n most first found xs →
+pub unfolded_sorted : (n : AtOnce) (most : ℕ) (first : Place) (found xs ys : List Found) → IsPermutation xs ys → AreUnfolded n most first found xs →
     AreUnfolded n most first found ys
 unfolded_sorted n most first found xs ys moved h i a e =
     all_at (IsUnfoldedOf n most first found) ys i a e
@@ -108,14 +110,14 @@ kept_sorted xs ys a moved k =
     let here = All-permutation (λ (x : Found). IsIn x ys) ys xs (IsPermutation-sym xs ys moved) there in
     (k.0, all_at (λ (x : Found). IsIn x ys) xs k.1.0 k.0 k.1.1 here, k.2)
 
-module _ (kept : Kept) (first : Place) (n most : ℕ) (found answers : List Found) (each : AreUnfolded n most first found answers) where
+module _ (kept : Kept) (first : Place) (n : AtOnce) (most : ℕ) (found answers : List Found) (each : AreUnfolded n most first found answers) where
   pub right : All (search.IsRight (leapt n) report_at kept.places kept.faults first) found →
       All (search.IsRight stepped report_at kept.places kept.faults first) answers
   right h = all_from (search.IsRight stepped report_at kept.places kept.faults first) answers (λ i a e.
       let u = each i a e in
       let there = all_at (search.IsRight (leapt n) report_at kept.places kept.faults first) found u.number u.answer u.at h in
       subst (λ (l : Landing). search.LeadsTo stepped report_at kept.places kept.faults first a.schedule.items l) (sym u.end)
-      (leads_up stepped IsOwn own_are_free (leapt n) (leaps n) report_at size reports_grow kept.places kept.faults first a.schedule.items
+      (leads_up stepped (MayOwn n.stores) (may_are_free n.stores) (leapt n) (leaps n) report_at size reports_grow kept.places kept.faults first a.schedule.items
       u.answer.schedule.items u.answer.end u.entries.leads there))
 
   pub few : All (search.IsNumbered 1000) answers
@@ -147,13 +149,13 @@ module _ (kept : Kept) (first : Place) (n most : ℕ) (found answers : List Foun
     pub all_covered : ((t : List ℕ) → search.IsCovered (leapt n) report_at kept.places kept.faults found (run (leapt n) (Ok first) t)) →
         (s : List ℕ) → search.IsCovered stepped report_at kept.places kept.faults answers (run stepped (Ok first) s)
     all_covered h s = covered_so (run stepped (Ok first) s)
-        (covers stepped IsOwn own_are_free (leapt n) (leaps n) report_at size reports_grow kept.places kept.faults found first h s)
+        (covers stepped (MayOwn n.stores) (may_are_free n.stores) (leapt n) (leaps n) report_at size reports_grow kept.places kept.faults found first h s)
 
     pub all_onward : ((t : List ℕ) → (more : List ℕ) ×
         search.IsEnd (leapt n) report_at kept.places kept.faults found (run (leapt n) (Ok first) (t ++ more))) → (s : List ℕ) → (more : List ℕ) ×
         search.IsEnd stepped report_at kept.places kept.faults answers (run stepped (Ok first) (s ++ more))
     all_onward h s =
-        let on = goes_onward stepped IsOwn own_are_free (leapt n) (leaps n) report_at size reports_grow kept.places kept.faults found first h s in
+        let on = goes_onward stepped (MayOwn n.stores) (may_are_free n.stores) (leapt n) (leaps n) report_at size reports_grow kept.places kept.faults found first h s in
         (on.0, end_so (run stepped (Ok first) (s ++ on.0)) on.1)
 
 -- ---- ends at different numbers
@@ -276,12 +278,12 @@ pub apart_sorted : (xs ys : List Found) → IsPermutation xs ys → EndApart xs 
 apart_sorted xs ys moved h = IsPermutation-keeps xs EndApart h apart_swapped ys moved
 
 -- what tells a report or a fault once names each end once
-not_apart : (k : ℕ) (kept : Kept) (first : Place) (s : List ℕ) (l : Landing) → search.LeadsTo (leapt k) report_at kept.places kept.faults first s l →
+not_apart : (k : AtOnce) (kept : Kept) (first : Place) (s : List ℕ) (l : Landing) → search.LeadsTo (leapt k) report_at kept.places kept.faults first s l →
     search.AreApart report_at kept.places l l → ⊥
 not_apart k kept first s (to.World j) h apart = apart h.0 h.0 h.1 h.1 refl
 not_apart k kept first s (to.Fault j) h apart = apart refl
 
-pub found_apart : (k : ℕ) (kept : Kept) (first : Place) (found : List Found) →
+pub found_apart : (k : AtOnce) (kept : Kept) (first : Place) (found : List Found) →
     All (search.IsRight (leapt k) report_at kept.places kept.faults first) found → search.TellOnce report_at kept.places found → EndApart found
 found_apart k kept first found right once i j a b ei ej same =
     let its = all_at (search.IsRight (leapt k) report_at kept.places kept.faults first) found in
@@ -301,7 +303,7 @@ apart_back kept (to.World i) (to.Fault j) h = tt
 apart_back kept (to.Fault i) (to.World j) h = tt
 apart_back kept (to.Fault i) (to.Fault j) h = λ same. h (sym same)
 
-pub unfolded_once : (kept : Kept) (first : Place) (n most : ℕ) (found answers : List Found) → AreUnfolded n most first found answers →
+pub unfolded_once : (kept : Kept) (first : Place) (n : AtOnce) (most : ℕ) (found answers : List Found) → AreUnfolded n most first found answers →
     search.TellOnce report_at kept.places found → EndApart answers → search.TellOnce report_at kept.places answers
 unfolded_once kept first n most found answers each once apart i j a b less ei ej =
     let u = each i a ei in

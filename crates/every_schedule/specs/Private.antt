@@ -2,6 +2,9 @@
 pub mod Telling
 pub mod Keeping
 pub mod Numbered
+pub mod Turning
+pub mod Knowing
 pub mod Standing
 pub mod Reporting
 pub mod Trails
+pub mod Seen

@@ -19,6 +19,8 @@ use Rattle.fiber_frames.specs.Uses.{is_some, used_place, uses_in}
 use Rattle.scheduled_core.specs.declared.wish.Wish.{Wish}
 use Rattle.scheduled_core.specs.declared.wish.Wish.TheVariants.{Shared, Alone, Nothing}
 use Rattle.scheduled_core.specs.Core.{World, wish_of}
+use Rattle.every_schedule.specs.declared.leaping.AtOnce.{AtOnce}
+use Rattle.every_schedule.specs.Claims.{stored_by}
 use Rattle.every_schedule.specs.Places.{Place, entering, stepped, wants}
 
 -- ---- what the other fibers can still do
@@ -118,8 +120,15 @@ abbrev pub if_own : Bool → ℕ → Option ℕ
 if_own true f = Some f
 if_own false f = None
 
-abbrev pub own_of : Place → ℕ → Option ℕ
-own_of p f = if_own (has_own p.world f (slice_get p.world.fibers f)) f
+-- a move may be made at once, where those that set a ref or change it are, or aren't
+abbrev pub may_be : Bool → Option Fiber → Bool
+may_be stores o = stores || is_none (stored_by o)
+
+abbrev pub is_made : Bool → World → ℕ → Bool
+is_made stores w f = has_own w f (slice_get w.fibers f) && may_be stores (slice_get w.fibers f)
+
+abbrev pub own_of : Bool → Place → ℕ → Option ℕ
+own_of stores p f = if_own (is_made stores p.world f) f
 
 -- such a move is made, unless its call is refused
 abbrev pub or_stays : Place → Result Place RunError → Place
@@ -131,34 +140,51 @@ after_own p None = p
 after_own p (Some f) = or_stays p (stepped p f)
 
 -- one such move of each of the first n fibers that has one, the last of them first
-unfoldable pub swept : ℕ → Place → Place
-swept zero p = p
-swept (suc n) p = swept n (after_own p (own_of p n))
+unfoldable pub swept : Bool → ℕ → Place → Place
+swept stores zero p = p
+swept stores (suc n) p = swept stores n (after_own p (own_of stores p n))
 
 -- one of each fiber
-abbrev pub pushed_once : Place → Place
-pushed_once p = swept (length p.world.fibers) p
+abbrev pub pushed_once : Bool → Place → Place
+pushed_once stores p = swept stores (length p.world.fibers) p
 
 -- at most n of them of each fiber
-unfoldable pub pushed : ℕ → Place → Place
-pushed zero p = p
-pushed (suc n) p = pushed n (pushed_once p)
+unfoldable pub pushed : Bool → ℕ → Place → Place
+pushed stores zero p = p
+pushed stores (suc n) p = pushed stores n (pushed_once stores p)
 
--- where an entry has led, with at most n such moves behind it
-abbrev pub behind : ℕ → Result Place RunError → Result Place RunError
-behind n (Ok q) = Ok (pushed n q)
+-- where an entry has led, with such moves behind it
+abbrev pub behind : AtOnce → Result Place RunError → Result Place RunError
+behind n (Ok q) = Ok (pushed n.stores n.most q)
 behind n (Err e) = Err e
 
-abbrev pub leapt_by : ℕ → Place → ℕ → Option Fiber → Result Place RunError
+abbrev pub leapt_by : AtOnce → Place → ℕ → Option Fiber → Result Place RunError
 leapt_by n p f None = Ok p
 leapt_by n p f (Some g) = behind n (stepped p f)
 
--- the entry of a fiber, if it is born, with at most n such moves behind it
-abbrev pub leapt : ℕ → Place → ℕ → Result Place RunError
+-- the entry of a fiber, if it is born, with such moves behind it
+abbrev pub leapt : AtOnce → Place → ℕ → Result Place RunError
 leapt n p f = leapt_by n p f (slice_get p.world.fibers f)
+
+-- up to a hundred moves of each fiber
+abbrev pub hundred : AtOnce
+hundred = record { most = 100; stores = true }
+
+-- up to a hundred of each, but none that sets a ref or changes it
+abbrev pub hundred_still : AtOnce
+hundred_still = record { most = 100; stores = false }
+
+-- none
+abbrev pub none_at_once : AtOnce
+none_at_once = record { most = 0; stores = true }
 
 -- the fiber's next move is such a one, and its call isn't refused
 pub record IsOwn (p : Place) (f : ℕ) : Type 0 where
   pub own : has_own p.world f (slice_get p.world.fibers f) ≡ true
   pub next : Place
   pub goes : entering p f ≡ Ok next
+
+-- and it may be made at once
+pub record MayOwn (stores : Bool) (p : Place) (f : ℕ) : Type 0 where
+  pub own : IsOwn p f
+  pub may : may_be stores (slice_get p.world.fibers f) ≡ true

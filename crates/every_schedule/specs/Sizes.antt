@@ -3,6 +3,7 @@ use Rattle.std.specs.Prelude.{ℕ, ◌+◌, ◌*◌, length, min}
 use Rattle.cell_registry.specs.Plain.{PlainView}
 use Rattle.fiber_frames.specs.Fiber.{Fiber}
 use Rattle.every_schedule.specs.Private.Numbered.{Numbers}
+use Rattle.every_schedule.specs.Private.Seen.{Marked}
 
 -- no more than fit a word
 abbrev pub capped : ℕ → ℕ
@@ -19,3 +20,7 @@ registry_size r = 160 + 32 * r.limits.fibers + 8 * r.limits.refs + 16 * r.limits
 -- the numbers of a world's states
 abbrev pub row_size : Numbers → ℕ
 row_size n = capped (4 * length n.fibers + 96)
+
+-- the number of a world, with those of refs
+abbrev pub seen_row_size : Marked → ℕ
+seen_row_size m = capped (2 * length m.seen + 64)

@@ -1,6 +1,6 @@
 //! The worlds that an exploration has found, each with a number.
 ghost use Rattle.std.specs.Prelude.{◌≡◌, ◌⊎◌, ◌++◌, ◌<◌, ◌≤◌, ℕ, [], ◌∷◌, length, max};
-ghost use Rattle.std.specs.Prelude.{IfOk, IfErr, IfSome, OnOk, OnErr, Some};
+ghost use Rattle.std.specs.Prelude.{IfOk, IfErr, IfSome, OnOk, OnErr, Some, None};
 ghost use Rattle.std.specs.Prelude.{Ok as GoesWell, Err as Fails, Result as TheResult, List};
 ghost use Rattle.std.specs.List.{All, slice_get};
 ghost use Rattle.derived_ops.specs.Expansion.{code_of};
@@ -9,24 +9,34 @@ ghost use Rattle.fiber_frames.specs.Marks.{AreLawful};
 ghost use Rattle.cell_registry.specs.Cells.{AreLimits};
 ghost use Rattle.world_search.specs.Landings.{EntersAt, IsNext};
 ghost use Rattle.world_search.specs.Lists.{IsMore};
+ghost use Rattle.fiber_frames.specs.Fiber.{Fiber};
+ghost use Rattle.every_schedule.specs.Claims.{stored_by};
 ghost use Rattle.every_schedule.specs.Places.{Place, first_place, report_at};
 ghost use Rattle.every_schedule.specs.Reduced.{leapt};
 ghost use Rattle.every_schedule.specs.Private.Keeping.{AreSingle, IsKept};
 ghost use Rattle.every_schedule.specs.Private.Numbered.{MayAdd};
 
 use crate::core_world::CoreWorld;
-use crate::current::{Current, States, begun, fibers_of, set_up};
+use crate::current::{Current, fibers_of};
 use crate::faults::Faults;
-use crate::leaping::leap;
+use crate::leaping::{AtOnce, leap};
+use crate::own_moves::stored_in;
 use crate::pool::{Pool, Pooled};
 use crate::reports::same_reports;
 use crate::row::Row;
 use cell_registry::{Limits, RunError};
 use effect_term::{Program, facts_of};
-use scheduled_core::{Report, report_of_fibers};
+use fiber_frames::Config;
+use scheduled_core::{Report, Wish, report_of_fibers};
 use std::alloc::{AllocError, Global};
 use std::marker::Model;
 use world_search::{Entered, Landing, Worlds};
+
+/// No own moves are made at once.
+pub(crate) const NONE: AtOnce = AtOnce {
+    most: 0,
+    stores: true,
+};
 
 /// All worlds and faults that were found. The states of fibers and registries are kept once, and a world is a row of
 /// their numbers.
@@ -34,16 +44,15 @@ use world_search::{Entered, Landing, Worlds};
 pub(crate) struct CoreWorlds {
     alloc: Global,
     limits: Limits,
-    states: States,
+    current: Current,
     rows: Pool<Row>,
-    current: Option<Current>,
     // The entries that led from the last world to the current one.
     trail: Vec<u16>,
     faults: Faults,
 }
 
 impl Model for CoreWorlds {
-    ghost use Rattle.std.specs.Prelude.{◌+◌, map, IfSome};
+    ghost use Rattle.std.specs.Prelude.{◌+◌, map};
     ghost use Rattle.std.specs.Coded.{codes};
     ghost use Rattle.derived_ops.specs.Stored.{tree_code};
     ghost use Rattle.fiber_frames.specs.contracts.ask.Look as the_look;
@@ -51,21 +60,19 @@ impl Model for CoreWorlds {
     ghost use Rattle.every_schedule.specs.Places.{Kept};
     ghost use Rattle.every_schedule.specs.Sizes.{capped};
     ghost use Rattle.every_schedule.specs.Private.Numbered.{AreWorlds, place_of};
-    ghost use Rattle.every_schedule.specs.Private.Standing.{IsCurrent};
 
     ghost Value = { Kept };
 
     ghost coded = { Prim.hlevel (codes, tree_code, the_look.the_row.coded, the_mark.the_row.coded) };
 
     ghost view = { λ s. record {
-      places = map (place_of s.limits s.states.fibers.items.items s.states.registries.items.items) s.rows.items.items;
+      places = map (place_of s.limits s.current.fibers s.current.registries) s.rows.items.items;
       faults = s.faults;
-      bytes = capped (s.rows.bytes + s.states.fibers.bytes + s.states.registries.bytes);
+      bytes = capped (s.rows.bytes + s.current.bytes);
     } };
 
     ghost invariant = { λ s.
-        AreWorlds s.limits s.states.fibers.items.items s.states.registries.items.items s.rows.items.items ×
-        IfSome s.current (IsCurrent s.states.fibers.items.items s.states.registries.items.items) };
+        AreWorlds s.limits s.current.fibers s.current.registries s.rows.items.items };
 }
 
 impl CoreWorlds {
@@ -79,21 +86,16 @@ impl CoreWorlds {
         ensures places { IfOk result (λ s. s.places ≡ first_place (code_of (source_of program.now)) limits ∷ []) }
         ensures faults { IfOk result (λ s. s.faults ≡ []) }
     {
-        let mut states = States {
-            fibers: Pool::new(alloc),
-            registries: Pool::new(alloc),
-        };
         let first = CoreWorld::first(alloc, program, limits)?;
-        let current = begun(alloc, first, &mut states)?;
-        let row = current.row.again(alloc)?;
+        let mut current = Current::new(alloc, first)?;
+        let row = current.row()?;
         let mut rows = Pool::new(alloc);
         rows.add(row)?;
         Ok(CoreWorlds {
             alloc,
             limits,
-            states,
+            current,
             rows,
-            current: Some(current),
             trail: Vec::new(alloc),
             faults: Faults::new(alloc),
         })
@@ -106,7 +108,7 @@ impl CoreWorlds {
         ensures lawful { IfOk result (λ it. All (λ f. AreLawful f.marks f.outcome) it.fibers) }
     {
         let row = &self.rows.items[world];
-        let fibers = fibers_of(self.alloc, &self.states.fibers, row.fibers())?;
+        let fibers = fibers_of(self.alloc, self.current.fibers(), row.fibers())?;
         report_of_fibers(self.alloc, fibers)
     }
 
@@ -134,31 +136,49 @@ impl CoreWorlds {
     {
         let row = &self.rows.items[world];
         // The registry is within its limits, and has given each of the fibers its number.
-        let registry = &self.states.registries.items[row.registry() as usize];
+        let registry = self.current.registry_of(row);
         facts_of(registry.limits());
         row.fibers().len() as u16
+    }
+
+    /// The world of this number.
+    pub(crate) fn world(&self, number: usize) -> Result<CoreWorld, AllocError>
+        requires { number < length self.now.places }
+        ensures { IfOk result (λ it. (p : Place) → slice_get self.now.places number ≡ Some p → it ≡ p) }
+    {
+        let row = &self.rows.items[number];
+        let fibers = fibers_of(self.alloc, self.current.fibers(), row.fibers())?;
+        let registry = self.current.registry_of(row).again(self.alloc)?;
+        Ok(CoreWorld::new(fibers, registry))
+    }
+
+    /// The ref that the next move of a fiber of a world sets, or changes by an addition, if it does that.
+    pub(crate) fn stored(&self, world: usize, fiber: u16) -> Option<u16>
+        requires { world < length self.now.places }
+        ensures { (p : Place) → slice_get self.now.places world ≡ Some p →
+            result ≡ stored_by (slice_get p.world.fibers fiber) }
+    {
+        let row = &self.rows.items[world];
+        stored_at(self.current.fibers(), row.fibers(), fiber)
     }
 
     /// About how many bytes the rows and the states take.
     pub(crate) fn counted(&self) -> usize
         ensures { result ≡ self.now.bytes }
     {
-        self.rows
-            .bytes
-            .saturating_add(self.states.fibers.bytes)
-            .saturating_add(self.states.registries.bytes)
+        self.rows.bytes.saturating_add(self.current.bytes())
     }
 
-    /// Makes the entry of a fiber at a world, with at most so many own moves behind it.
+    /// Makes the entry of a fiber at a world, with such own moves behind it.
     pub(crate) fn entry(
         &mut self,
         world: usize,
         fiber: u16,
         most: usize,
-        at_once: usize,
+        at_once: AtOnce,
     ) -> Result<Entered, AllocError>
         requires { world < length self.old.places }
-        ensures worlds { OnOk result (IsMore self.old.places self.new.places) }
+        ensures worlds { IsMore self.old.places self.new.places }
         ensures faults { OnOk result (IsMore self.old.faults self.new.faults) }
         ensures lands { IfOk result (λ it. (p : Place) → slice_get self.old.places world ≡ Some p →
             EntersAt self.new.places self.new.faults it (leapt at_once p fiber)) }
@@ -166,32 +186,24 @@ impl CoreWorlds {
         ensures next { IfOk result (IsNext (length self.old.places) (length self.new.places) most) }
     {
         let row = &self.rows.items[world];
-        let before = self.current.take();
-        let current = set_up(self.alloc, before, &self.states, row)?;
+        self.current.go_to(row)?;
         self.trail.clear();
-        match leap(
-            self.alloc,
-            current,
-            &mut self.states,
-            fiber,
-            at_once,
-            &mut self.trail,
-        ) {
-            Ok(next) => {
-                let kept = keep(self.alloc, &mut self.rows, &next.row, most);
-                self.current = Some(next);
-                kept
-            }
-            Err(fault) => {
-                self.current = None;
-                fault_met(&mut self.faults, fault)
-            }
+        match leap(&mut self.current, fiber, at_once, &mut self.trail) {
+            Ok(()) => {}
+            Err(fault) => return fault_met(&mut self.faults, fault),
         }
+        let row = self.current.row()?;
+        keep(self.alloc, &mut self.rows, &row, most)
     }
 }
 
-// The number of a row, which is kept unless there are so many already.
-fn keep(alloc: Global, rows: &mut Pool<Row>, row: &Row, most: usize) -> Result<Entered, AllocError>
+/// The number of a row, which is kept unless there are so many already.
+pub(crate) fn keep<T: Pooled>(
+    alloc: Global,
+    rows: &mut Pool<T>,
+    row: &T,
+    most: usize,
+) -> Result<Entered, AllocError>
     ensures adds { MayAdd rows.old.items.items rows.new.items.items row.now }
     ensures kept { IfOk result (λ it. IsKept rows.new.items.items it row.now) }
     ensures room { OnOk result (length rows.new.items.items ≤ max most (length rows.old.items.items)) }
@@ -205,6 +217,21 @@ fn keep(alloc: Global, rows: &mut Pool<Row>, row: &Row, most: usize) -> Result<E
     }
     let number = rows.add(row.again(alloc)?)?;
     Ok(Entered::At(Landing::World(number as usize)))
+}
+
+// The ref that the next move of a fiber, if it is one of these numbers, sets or changes.
+fn stored_at(pool: &Pool<Config>, numbers: &[u32], fiber: u16) -> Option<u16>
+    requires { All (λ n. n < length pool.now.items.items) numbers.now }
+    ensures none { slice_get numbers.now fiber ≡ None → result ≡ None }
+    ensures some { (n : ℕ) (g : Fiber) → slice_get numbers.now fiber ≡ Some n →
+        slice_get pool.now.items.items n ≡ Some g → result ≡ stored_by (Some g) }
+{
+    let place = usize::from(fiber);
+    if place >= numbers.len() {
+        return None;
+    }
+    let number = numbers[place];
+    stored_in(Wish::of(pool.items[number as usize].ask()))
 }
 
 // What came of an entry that ended so: the fault's number, or want of memory.
@@ -251,13 +278,13 @@ impl Worlds for CoreWorlds {
     }
 
     fn enter(&mut self, world: usize, fiber: u16, most: usize) -> Result<Entered, AllocError> {
-        self.entry(world, fiber, most, 0)
+        self.entry(world, fiber, most, NONE)
     }
 
     fn same_report(&self, one: usize, other: usize) -> bool {
         let first = &self.rows.items[one];
         let second = &self.rows.items[other];
-        same_reports(&self.states.fibers, first.fibers(), second.fibers())
+        same_reports(self.current.fibers(), first.fibers(), second.fibers())
     }
 
     fn len(&self) -> usize {

@@ -1,121 +1,381 @@
-//! The world at which an entry is made.
-ghost use Rattle.std.specs.Prelude.{◌≡◌, ◌⊎◌, ◌<◌, ◌≤◌, ◌+◌, length, IfErr, IfOk, IfSome, OnOk, Some, max};
-ghost use Rattle.std.specs.Prelude.{Ok as GoesWell, Err as Fails};
+//! The world at which entries are made.
+ghost use Rattle.std.specs.Prelude.{◌≡◌, ◌⊎◌, ◌<◌, ◌++◌, length, slice_set, true};
+ghost use Rattle.std.specs.Prelude.{IfErr, IfOk, OnErr, OnOk, Some, Ok as GoesWell, Err as Fails};
 ghost use Rattle.std.specs.List.{All, slice_get};
-ghost use Rattle.scheduled_core.specs.Fitting.{AllFit};
+ghost use Rattle.std.specs.Option.{option_to_list};
 ghost use Rattle.cell_registry.specs.declared.limits.Limits.{Limits as TheLimits};
-ghost use Rattle.every_schedule.specs.Places.{stepped};
-ghost use Rattle.every_schedule.specs.Private.Numbered.{AreAt, AreFirst, AreKnown, IsAt, IsWorld, IsWorldOf, SameBut};
-ghost use Rattle.every_schedule.specs.Private.Standing.{IsCurrent};
+ghost use Rattle.cell_registry.specs.Plain.{IsPlain};
+ghost use Rattle.fiber_frames.specs.Fiber.{Fiber, ask_of, move, waits_alone};
+ghost use Rattle.fiber_frames.specs.Uses.{is_some, uses_in};
+ghost use Rattle.fiber_frames.specs.Moves.{moved};
+ghost use Rattle.scheduled_core.specs.Core.{wish_of};
+ghost use Rattle.scheduled_core.specs.Fitting.{AllFit, Fits, cell_registered};
+ghost use Rattle.scheduled_core.specs.Private.Asking.{Asking};
+ghost use Rattle.scheduled_core.specs.Private.Moving.{Refuses, Replied, children};
 ghost use Rattle.world_search.specs.Lists.{IsMore};
+ghost use Rattle.every_schedule.specs.Places.{moves_at, stepped};
+ghost use Rattle.every_schedule.specs.Private.Numbered.{AreAt, IsWorld, IsWorldOf};
+ghost use Rattle.every_schedule.specs.Private.Standing.{IsOnward, IsSame, here};
+ghost use Rattle.every_schedule.specs.Private.Knowing.{AreKnownOf};
+ghost use Rattle.every_schedule.specs.Private.Turning.{AreTurned, IsChild, IsMoved, IsSaid, MayTurn, reply_of};
 
 use crate::core_world::CoreWorld;
+use crate::known::Known;
 use crate::pool::{Pool, Pooled};
 use crate::row::Row;
-use cell_registry::{PlainRegistry, RunError};
+use crate::turns::{Said, Turn, Turns, reply_said, told};
+use cell_registry::{Limits, PlainRegistry, RunError};
 use effect_term::facts_of;
-use fiber_frames::Config;
+use fiber_frames::{Config, Moved, Use};
+use scheduled_core::{Wish, answer, fault};
 use std::alloc::{AllocError, Global};
+use std::marker::Model;
 
-/// The states that worlds are made of.
+/// The states that worlds are made of, and the moves that lead from one state of a fiber to another.
 #[derive(Drop)]
 pub(crate) struct States {
-    pub(crate) fibers: Pool<Config>,
-    pub(crate) registries: Pool<PlainRegistry>,
+    fibers: Pool<Config>,
+    registries: Pool<PlainRegistry>,
+    turns: Turns,
+    // Of the first states of fibers, what is known of each.
+    known: Vec<Known>,
 }
 
-/// A world at which entries are made, with the numbers of its states. What the next world has in common with it needn't
-/// be copied again.
+/// A world: the numbers of its fibers' states, and its registry.
 #[derive(Drop)]
 pub(crate) struct Current {
-    pub(crate) row: Row,
-    pub(crate) world: CoreWorld,
-}
-
-/// The world of a row, made of another one if there is one.
-pub(crate) fn set_up(
     alloc: Global,
-    before: Option<Current>,
-    states: &States,
-    row: &Row,
-) -> Result<Current, AllocError>
-    requires before { IfSome before (IsCurrent states.now.fibers.items.items states.now.registries.items.items) }
-    requires row { (k : TheLimits) × IsWorld k states.now.fibers.items.items states.now.registries.items.items row.now }
-    ensures current { IfOk result (IsCurrent states.now.fibers.items.items states.now.registries.items.items) }
-    ensures row { IfOk result (λ c. c.row ≡ row.now) }
-{
-    match before {
-        Some(current) => changed(alloc, current, states, row),
-        None => fresh(alloc, states, row),
-    }
-}
-
-/// The world of a row.
-pub(crate) fn fresh(alloc: Global, states: &States, row: &Row) -> Result<Current, AllocError>
-    requires row { (k : TheLimits) × IsWorld k states.now.fibers.items.items states.now.registries.items.items row.now }
-    ensures current { IfOk result (IsCurrent states.now.fibers.items.items states.now.registries.items.items) }
-    ensures row { IfOk result (λ c. c.row ≡ row.now) }
-{
-    let fibers = fibers_of(alloc, &states.fibers, row.fibers())?;
-    let registry = states.registries.items[row.registry() as usize].again(alloc)?;
-    let row = row.again(alloc)?;
-    Ok(Current {
-        row,
-        world: CoreWorld::new(fibers, registry),
-    })
-}
-
-// The world of a row, made of another one.
-fn changed(
-    alloc: Global,
-    before: Current,
-    states: &States,
-    row: &Row,
-) -> Result<Current, AllocError>
-    requires before { IsCurrent states.now.fibers.items.items states.now.registries.items.items before }
-    requires row { (k : TheLimits) × IsWorld k states.now.fibers.items.items states.now.registries.items.items row.now }
-    ensures current { IfOk result (IsCurrent states.now.fibers.items.items states.now.registries.items.items) }
-    ensures row { IfOk result (λ c. c.row ≡ row.now) }
-{
-    let Current { row: was, world } = before;
-    let (mut fibers, registry) = world.into_parts();
-    bring(
-        alloc,
-        &mut fibers,
-        was.fibers(),
-        &states.fibers,
-        row.fibers(),
-    )?;
-    let registry = registry_of(
-        alloc,
-        registry,
-        was.registry(),
-        &states.registries,
-        row.registry(),
-    )?;
-    let row = row.again(alloc)?;
-    Ok(Current {
-        row,
-        world: CoreWorld::new(fibers, registry),
-    })
-}
-
-// The registry, whose number was that, becomes the one of this number.
-fn registry_of(
-    alloc: Global,
+    states: States,
+    numbers: Vec<u32>,
     registry: PlainRegistry,
-    was: u32,
-    pool: &Pool<PlainRegistry>,
-    number: u32,
-) -> Result<PlainRegistry, AllocError>
-    requires was { slice_get pool.now.items.items was ≡ Some registry }
-    requires number { number < length pool.now.items.items }
-    ensures { IfOk result (λ it. slice_get pool.now.items.items number ≡ Some it) }
-{
-    if was == number {
-        return Ok(registry);
+}
+
+impl Model for Current {
+    ghost use Rattle.std.specs.Prelude.{◌+◌, ◌*◌, ◌<◌, length};
+    ghost use Rattle.std.specs.List.{All};
+    ghost use Rattle.std.specs.Coded.{codes};
+    ghost use Rattle.derived_ops.specs.Stored.{tree_code};
+    ghost use Rattle.fiber_frames.specs.contracts.ask.Look as the_look;
+    ghost use Rattle.fiber_frames.specs.contracts.mark.Mark as the_mark;
+    ghost use Rattle.every_schedule.specs.Sizes.{capped};
+    ghost use Rattle.every_schedule.specs.Private.Standing.{Stand};
+    ghost use Rattle.every_schedule.specs.Private.Knowing.{AreKnownOf};
+    ghost use Rattle.every_schedule.specs.Private.Turning.{AreTurned};
+
+    ghost Value = { Stand };
+
+    ghost coded = { Prim.hlevel (codes, tree_code, the_look.the_row.coded, the_mark.the_row.coded) };
+
+    ghost view = { λ s. record {
+      fibers = s.states.fibers.items.items;
+      registries = s.states.registries.items.items;
+      numbers = s.numbers.items;
+      registry = s.registry;
+      bytes = capped (s.states.fibers.bytes + s.states.registries.bytes);
+    } };
+
+    ghost invariant = { λ s.
+        All (λ n. n < length s.states.fibers.items.items) s.numbers.items ×
+        AreTurned s.states.fibers.items.items s.states.turns.kept.items ×
+        AreKnownOf s.states.fibers.items.items s.states.known.items };
+}
+
+impl Current {
+    /// This world, alone.
+    pub(crate) fn new(alloc: Global, first: CoreWorld) -> Result<Current, AllocError>
+        ensures here { IfOk result (λ it. here it ≡ first) }
+        ensures fits { AllFit first.world }
+    {
+        // Its fibers fit.
+        facts_of(first.fibers());
+        let mut states = States {
+            fibers: Pool::new(alloc),
+            registries: Pool::new(alloc),
+            turns: Turns::new(alloc),
+            known: Vec::new(alloc),
+        };
+        let (fibers, registry) = first.into_parts();
+        let numbers = number_all(alloc, fibers.as_slice(), &mut states.fibers)?;
+        know_all(alloc, &states.fibers, registry.limits(), &mut states.known)?;
+        Ok(Current {
+            alloc,
+            states,
+            numbers,
+            registry,
+        })
     }
-    pool.items[number as usize].again(alloc)
+
+    /// The numbers of its states, under which they are kept from now on.
+    pub(crate) fn row(&mut self) -> Result<Row, AllocError>
+        ensures onward { IsOnward self.old self.new }
+        ensures here { here self.new ≡ here self.old }
+        ensures row { IfOk result (λ it. IsWorldOf self.new.fibers self.new.registries it (here self.old)) }
+    {
+        let registry = self
+            .states
+            .registries
+            .number_of(self.alloc, &self.registry)?;
+        let numbers = Vec::from_slice(self.alloc, self.numbers.as_slice())?;
+        Ok(Row::new(registry, numbers))
+    }
+
+    /// Goes to the world of this row.
+    pub(crate) fn go_to(&mut self, row: &Row) -> Result<(), AllocError>
+        requires { (k : TheLimits) × IsWorld k self.old.fibers self.old.registries row.now }
+        ensures fibers { self.new.fibers ≡ self.old.fibers }
+        ensures registries { self.new.registries ≡ self.old.registries }
+        ensures here { OnOk result (IsWorldOf self.old.fibers self.old.registries row.now (here self.new)) }
+    {
+        let numbers = Vec::from_slice(self.alloc, row.fibers())?;
+        let registry = self.states.registries.items[row.registry() as usize].again(self.alloc)?;
+        self.numbers = numbers;
+        self.registry = registry;
+        Ok(())
+    }
+
+    /// The entry of a fiber.
+    pub(crate) fn enter(&mut self, fiber: u16) -> Result<(), RunError>
+        requires { AllFit (here self.old).world }
+        ensures onward { IsOnward self.old self.new }
+        ensures goes { OnOk result (stepped (here self.old) fiber ≡ GoesWell (here self.new)) }
+        ensures fits { OnOk result (AllFit (here self.new).world) }
+        ensures stops { IfErr result (λ e. (e ≡ RunError.NoMemory) ⊎
+            ((stepped (here self.old) fiber ≡ Fails e) × (here self.new ≡ here self.old))) }
+    {
+        if !self.has_move(fiber) {
+            return Ok(());
+        }
+        let place = usize::from(fiber);
+        let state = self.numbers[place];
+        let config = &self.states.fibers.items[state as usize];
+        let said = match replied(config, &mut self.registry, fiber) {
+            Ok(said) => said,
+            Err(fault) => return Err(fault),
+        };
+        let limits = self.registry.limits();
+        let turn = turn_of(self.alloc, &mut self.states, limits, state, said)?;
+        self.registry.forget_waits();
+        put(&mut self.numbers, place, turn)?;
+        Ok(())
+    }
+
+    /// Whether the fiber of this number is born and has a next move.
+    pub(crate) fn has_move(&self, fiber: u16) -> bool
+        ensures { result ≡ moves_at (slice_get (here self.now).world.fibers fiber) }
+    {
+        let place = usize::from(fiber);
+        place < self.born() && self.wish(place) != Wish::Nothing
+    }
+
+    /// How many fibers are born.
+    pub(crate) fn born(&self) -> usize
+        ensures { result ≡ length (here self.now).world.fibers }
+    {
+        self.numbers.len()
+    }
+
+    /// The state of a fiber.
+    pub(crate) fn fiber(&self, place: usize) -> &Config
+        requires { place < length (here self.now).world.fibers }
+        ensures { slice_get (here self.now).world.fibers place ≡ Some result.now }
+    {
+        let number = self.numbers[place];
+        &self.states.fibers.items[number as usize]
+    }
+
+    /// What the next move of a fiber wants.
+    pub(crate) fn wish(&self, place: usize) -> Wish
+        requires { place < length (here self.now).world.fibers }
+        ensures { (g : Fiber) → slice_get (here self.now).world.fibers place ≡ Some g → result ≡ wish_of (ask_of g) }
+    {
+        let number = self.numbers[place] as usize;
+        match self.states.known.get(number) {
+            Some(known) => known.wish,
+            None => Wish::of(self.states.fibers.items[number].ask()),
+        }
+    }
+
+    /// Whether the next move of a fiber is a wait that never ends.
+    pub(crate) fn waits_alone(&self, place: usize) -> bool
+        requires { place < length (here self.now).world.fibers }
+        ensures { (g : Fiber) → slice_get (here self.now).world.fibers place ≡ Some g → result ≡ waits_alone g }
+    {
+        let number = self.numbers[place] as usize;
+        match self.states.known.get(number) {
+            Some(known) => known.waits_alone,
+            None => self.states.fibers.items[number].waits_alone(),
+        }
+    }
+
+    /// Whether a fiber can still use the fiber, the ref or the deferred of this number so.
+    pub(crate) fn uses(&mut self, place: usize, what: Use, number: u16) -> bool
+        requires place { place < length (here self.old).world.fibers }
+        requires fits { AllFit (here self.old).world }
+        ensures same { IsSame self.old self.new }
+        ensures uses { (g : Fiber) → slice_get (here self.old).world.fibers place ≡ Some g →
+            result ≡ is_some (uses_in what number g.running) }
+    {
+        let state = self.numbers[place] as usize;
+        let fiber = &self.states.fibers.items[state];
+        if state >= self.states.known.len() {
+            return fiber.uses(what, number);
+        }
+        self.states.known[state].uses(fiber, what, number)
+    }
+
+    /// The registry.
+    pub(crate) fn registry(&self) -> &PlainRegistry
+        ensures { result.now ≡ record { limits = (here self.now).limits; state = (here self.now).world.cells } }
+    {
+        &self.registry
+    }
+
+    /// About how many bytes the states take.
+    pub(crate) fn bytes(&self) -> usize
+        ensures { result ≡ self.now.bytes }
+    {
+        self.states
+            .fibers
+            .bytes
+            .saturating_add(self.states.registries.bytes)
+    }
+
+    /// The states of fibers.
+    pub(crate) fn fibers(&self) -> &Pool<Config>
+        ensures { result.now.items.items ≡ self.now.fibers }
+    {
+        &self.states.fibers
+    }
+
+    /// The registry of a row.
+    pub(crate) fn registry_of(&self, row: &Row) -> &PlainRegistry
+        requires { row.now.registry < length self.now.registries }
+        ensures { slice_get self.now.registries row.now.registry ≡ Some result.now }
+    {
+        &self.states.registries.items[row.registry() as usize]
+    }
+}
+
+// The registry's reply to the next move of a fiber, which it has.
+fn replied(config: &Config, registry: &mut PlainRegistry, fiber: u16) -> Result<Said, RunError>
+    requires fits { Fits (cell_registered registry.old.state fiber) config.now }
+    requires moves { moves_at (Some config.now) ≡ true }
+    ensures said { IfOk result IsSaid }
+    ensures made { IfOk result (λ said. Replied registry.old fiber config.now (reply_of said) registry.new) }
+    ensures refused { IfErr result (λ e. (registry.new ≡ registry.old) × Refuses registry.old fiber config.now e) }
+    ensures asks { Asking config.now }
+    ensures lawful { IsPlain registry.old }
+{
+    // The registry is within its limits.
+    facts_of(registry.limits());
+    match Wish::of(config.ask()) {
+        Wish::Shared(call) => match answer(registry, fiber, call) {
+            Ok(reply) => Ok(told(reply)),
+            Err(error) => Err(fault(fiber, error)),
+        },
+        Wish::Alone | Wish::Nothing => Ok(Said::Done),
+    }
+}
+
+// The fiber of this place gets its new state, and its child the next place.
+fn put(numbers: &mut Vec<u32>, place: usize, turn: Turn) -> Result<(), AllocError>
+    requires { place < length numbers.old.items }
+    ensures put { OnOk result (numbers.new.items ≡
+        slice_set (numbers.old.items ++ option_to_list turn.child) place turn.state) }
+    ensures same { OnErr result (numbers.new.items ≡ numbers.old.items) }
+{
+    if let Some(child) = turn.child {
+        numbers.push(child)?;
+    }
+    numbers[place] = turn.state;
+    Ok(())
+}
+
+// What the move of this state under this reply leads to: it is made only if it wasn't made before.
+fn turn_of(
+    alloc: Global,
+    states: &mut States,
+    limits: Limits,
+    state: u32,
+    said: Said,
+) -> Result<Turn, AllocError>
+    requires state { state < length states.old.fibers.items.items }
+    requires said { IsSaid said }
+    requires may { (g : Fiber) → slice_get states.old.fibers.items.items state ≡ Some g → MayTurn g (reply_of said) }
+    requires turns { AreTurned states.old.fibers.items.items states.old.turns.kept.items }
+    requires known { AreKnownOf states.old.fibers.items.items states.old.known.items }
+    ensures fibers { IsMore states.old.fibers.items.items states.new.fibers.items.items }
+    ensures registries { states.new.registries ≡ states.old.registries }
+    ensures turns { AreTurned states.new.fibers.items.items states.new.turns.kept.items }
+    ensures known { AreKnownOf states.new.fibers.items.items states.new.known.items }
+    ensures turned { IfOk result (λ turn. IsMoved states.new.fibers.items.items state (reply_of said) turn) }
+{
+    if let Some(turn) = states.turns.find(state, said) {
+        return Ok(turn);
+    }
+    let turn = made(alloc, &mut states.fibers, state, said)?;
+    know_all(alloc, &states.fibers, limits, &mut states.known)?;
+    states.turns.add(state, said, turn)?;
+    Ok(turn)
+}
+
+// What is known of the states of which nothing is known yet.
+fn know_all(
+    alloc: Global,
+    pool: &Pool<Config>,
+    limits: Limits,
+    known: &mut Vec<Known>,
+) -> Result<(), AllocError>
+    requires { AreKnownOf pool.now.items.items known.old.items }
+    ensures { AreKnownOf pool.now.items.items known.new.items }
+{
+    for number in known.len()..pool.items.len() {
+        known.push(Known::of(alloc, &pool.items[number], limits)?)?;
+    }
+    Ok(())
+}
+
+// The same, where it is made.
+fn made(alloc: Global, pool: &mut Pool<Config>, state: u32, said: Said) -> Result<Turn, AllocError>
+    requires state { state < length pool.old.items.items }
+    requires said { IsSaid said }
+    requires may { (g : Fiber) → slice_get pool.old.items.items state ≡ Some g → MayTurn g (reply_of said) }
+    ensures more { IsMore pool.old.items.items pool.new.items.items }
+    ensures turned { IfOk result (λ turn. IsMoved pool.new.items.items state (reply_of said) turn) }
+{
+    let mut fiber = pool.items[state as usize].again(alloc)?;
+    let child = resumed(&mut fiber, said)?;
+    let next = pool.number_of(alloc, &fiber)?;
+    let child = child_of(alloc, pool, child)?;
+    Ok(Turn { state: next, child })
+}
+
+// The move under a reply, and the child that it starts, if it starts one.
+fn resumed(fiber: &mut Config, said: Said) -> Result<Option<Config>, AllocError>
+    requires said { IsSaid said }
+    requires may { MayTurn fiber.old (reply_of said) }
+    ensures state { OnOk result (fiber.new ≡ move fiber.old (reply_of said)) }
+    ensures child { IfOk result (λ child. option_to_list child ≡ children (moved fiber.old (reply_of said))) }
+{
+    match fiber.resume(reply_said(said))? {
+        Moved::Born(child) => Ok(Some(child)),
+        Moved::Plain | Moved::Waited | Moved::Ceded | Moved::Ended(_) => Ok(None),
+    }
+}
+
+// The number of a child, if there is one.
+fn child_of(
+    alloc: Global,
+    pool: &mut Pool<Config>,
+    child: Option<Config>,
+) -> Result<Option<u32>, AllocError>
+    ensures more { IsMore pool.old.items.items pool.new.items.items }
+    ensures child { IfOk result (λ it. IsChild pool.new.items.items it (option_to_list child)) }
+{
+    match child {
+        None => Ok(None),
+        Some(it) => Ok(Some(pool.number_of(alloc, &it)?)),
+    }
 }
 
 /// The fibers of these numbers.
@@ -128,198 +388,26 @@ pub(crate) fn fibers_of(
     ensures { IfOk result (λ fibers. AreAt pool.now.items.items numbers.now fibers.items) }
 {
     let mut fibers = Vec::new(alloc);
-    bring(alloc, &mut fibers, &[], pool, numbers)?;
+    for i in 0..numbers.len() {
+        let fiber = pool.items[numbers[i] as usize].again(alloc)?;
+        fibers.push(fiber)?;
+    }
     Ok(fibers)
 }
 
-// The fibers, whose numbers were those, become those of these numbers.
-fn bring(
+// The numbers of fibers.
+fn number_all(
     alloc: Global,
-    fibers: &mut Vec<Config>,
-    was: &[u32],
-    pool: &Pool<Config>,
-    numbers: &[u32],
-) -> Result<(), AllocError>
-    requires was { AreAt pool.now.items.items was.now fibers.old.items }
-    requires numbers { All (λ n. n < length pool.now.items.items) numbers.now }
-    ensures { OnOk result (AreAt pool.now.items.items numbers.now fibers.new.items) }
-{
-    fibers.truncate(numbers.len());
-    for i in 0..numbers.len() {
-        let before = number_at(was, i);
-        bring_one(alloc, &mut *fibers, i, before, pool, numbers[i])?;
-    }
-    Ok(())
-}
-
-// The number at this place, if there is one.
-fn number_at(numbers: &[u32], i: usize) -> Option<u32>
-    ensures { IfSome result (λ n. slice_get numbers.now i ≡ Some n) }
-{
-    if i < numbers.len() {
-        Some(numbers[i])
-    } else {
-        None
-    }
-}
-
-// The same of one of them.
-fn bring_one(
-    alloc: Global,
-    fibers: &mut Vec<Config>,
-    i: usize,
-    was: Option<u32>,
-    pool: &Pool<Config>,
-    number: u32,
-) -> Result<(), AllocError>
-    requires place { i ≤ length fibers.old.items }
-    requires was { was ≡ Some number → IsAt pool.now.items.items fibers.old.items i number }
-    requires number { number < length pool.now.items.items }
-    ensures here { OnOk result (IsAt pool.now.items.items fibers.new.items i number) }
-    ensures others { OnOk result (SameBut i fibers.old.items fibers.new.items) }
-    ensures many { OnOk result (length fibers.new.items ≡ max (length fibers.old.items) (i + 1)) }
-{
-    if was == Some(number) {
-        return Ok(());
-    }
-    let fiber = pool.items[number as usize].again(alloc)?;
-    place(fibers, i, fiber)
-}
-
-// A fiber gets this place among others, or the next one behind them.
-fn place(fibers: &mut Vec<Config>, i: usize, fiber: Config) -> Result<(), AllocError>
-    requires { i ≤ length fibers.old.items }
-    ensures here { OnOk result (slice_get fibers.new.items i ≡ Some fiber) }
-    ensures others { OnOk result (SameBut i fibers.old.items fibers.new.items) }
-    ensures many { OnOk result (length fibers.new.items ≡ max (length fibers.old.items) (i + 1)) }
-{
-    if i < fibers.len() {
-        fibers[i] = fiber;
-    } else {
-        fibers.push(fiber)?;
-    }
-    Ok(())
-}
-
-/// The world to which the entry of a fiber leads.
-pub(crate) fn entered(
-    alloc: Global,
-    current: Current,
-    states: &mut States,
-    fiber: u16,
-) -> Result<Current, RunError>
-    requires { IsCurrent states.old.fibers.items.items states.old.registries.items.items current }
-    ensures fibers { IsMore states.old.fibers.items.items states.new.fibers.items.items }
-    ensures registries { IsMore states.old.registries.items.items states.new.registries.items.items }
-    ensures goes { IfOk result (λ c. stepped current.world fiber ≡ GoesWell c.world) }
-    ensures current { IfOk result (IsCurrent states.new.fibers.items.items states.new.registries.items.items) }
-    ensures fits { IfOk result (λ c. AllFit c.world.world) }
-    ensures stops { IfErr result (λ e. (e ≡ RunError.NoMemory) ⊎ (stepped current.world fiber ≡ Fails e)) }
-{
-    let Current { row, world } = current;
-    let next = world.enter(fiber)?;
-    let numbers = row.into_fibers();
-    // Its fibers fit.
-    facts_of(next.fibers());
-    let row = row_of(alloc, numbers, &next, states, usize::from(fiber))?;
-    Ok(Current { row, world: next })
-}
-
-/// The world of a program before the first move.
-pub(crate) fn begun(
-    alloc: Global,
-    first: CoreWorld,
-    states: &mut States,
-) -> Result<Current, AllocError>
-    ensures current { IfOk result (IsCurrent states.new.fibers.items.items states.new.registries.items.items) }
-    ensures world { IfOk result (λ c. c.world ≡ first) }
-    ensures fits { AllFit first.world }
-{
-    // Its fibers fit.
-    facts_of(first.fibers());
-    let row = row_of(alloc, Vec::new(alloc), &first, states, 0)?;
-    Ok(Current { row, world: first })
-}
-
-// The row of a world of which the numbers of the others than one of its fibers, and those that were born since, are
-// known.
-fn row_of(
-    alloc: Global,
-    mut numbers: Vec<u32>,
-    world: &CoreWorld,
-    states: &mut States,
-    moved: usize,
-) -> Result<Row, AllocError>
-    requires many { length numbers.items ≤ length world.now.world.fibers }
-    requires known { AreKnown states.old.fibers.items.items numbers.items world.now.world.fibers moved }
-    ensures fibers { IsMore states.old.fibers.items.items states.new.fibers.items.items }
-    ensures registries { IsMore states.old.registries.items.items states.new.registries.items.items }
-    ensures row { IfOk result (λ row.
-        IsWorldOf states.new.fibers.items.items states.new.registries.items.items row world.now) }
-{
-    number(
-        alloc,
-        &mut numbers,
-        world.fibers(),
-        &mut states.fibers,
-        moved,
-    )?;
-    let registry = states.registries.number_of(alloc, world.registry())?;
-    Ok(Row::new(registry, numbers))
-}
-
-// The numbers of fibers, of which the others than one, and those that were born since, are known.
-fn number(
-    alloc: Global,
-    numbers: &mut Vec<u32>,
     fibers: &[Config],
     pool: &mut Pool<Config>,
-    moved: usize,
-) -> Result<(), AllocError>
-    requires many { length numbers.old.items ≤ length fibers.now }
-    requires known { AreKnown pool.old.items.items numbers.old.items fibers.now moved }
+) -> Result<Vec<u32>, AllocError>
     ensures more { IsMore pool.old.items.items pool.new.items.items }
-    ensures numbers { OnOk result (AreAt pool.new.items.items numbers.new.items fibers.now) }
+    ensures numbers { IfOk result (λ it. AreAt pool.new.items.items it.items fibers.now) }
 {
-    renumber(alloc, &mut *numbers, fibers, &mut *pool, moved)?;
-    number_born(alloc, numbers, fibers, pool)
-}
-
-// The number of the one fiber.
-fn renumber(
-    alloc: Global,
-    numbers: &mut Vec<u32>,
-    fibers: &[Config],
-    pool: &mut Pool<Config>,
-    moved: usize,
-) -> Result<(), AllocError>
-    requires many { length numbers.old.items ≤ length fibers.now }
-    requires known { AreKnown pool.old.items.items numbers.old.items fibers.now moved }
-    ensures more { IsMore pool.old.items.items pool.new.items.items }
-    ensures first { OnOk result (AreFirst pool.new.items.items numbers.new.items fibers.now) }
-{
-    if moved >= numbers.len() {
-        return Ok(());
-    }
-    let number = pool.number_of(alloc, &fibers[moved])?;
-    numbers[moved] = number;
-    Ok(())
-}
-
-// The numbers of fibers, of which the first are known.
-fn number_born(
-    alloc: Global,
-    numbers: &mut Vec<u32>,
-    fibers: &[Config],
-    pool: &mut Pool<Config>,
-) -> Result<(), AllocError>
-    requires { AreFirst pool.old.items.items numbers.old.items fibers.now }
-    ensures more { IsMore pool.old.items.items pool.new.items.items }
-    ensures numbers { OnOk result (AreAt pool.new.items.items numbers.new.items fibers.now) }
-{
-    for i in numbers.len()..fibers.len() {
+    let mut numbers = Vec::new(alloc);
+    for i in 0..fibers.len() {
         let number = pool.number_of(alloc, &fibers[i])?;
         numbers.push(number)?;
     }
-    Ok(())
+    Ok(numbers)
 }

@@ -1,78 +1,77 @@
 //! Entries with own moves behind them.
 ghost use Rattle.std.specs.Prelude.{◌≡◌, ◌≢◌, ◌⊎◌, ◌++◌, ◌<◌, ◌≤◌, [], ◌∷◌, length, false, true};
-ghost use Rattle.std.specs.Prelude.{IfErr, IfOk, IfSome, OnOk, Some};
+ghost use Rattle.std.specs.Prelude.{IfErr, IfOk, OnOk};
 ghost use Rattle.std.specs.Prelude.{Ok as GoesWell, Err as Fails, Result as TheResult};
 ghost use Rattle.scheduled_core.specs.Fitting.{AllFit};
-ghost use Rattle.world_search.specs.Lists.{IsMore};
-ghost use Rattle.every_schedule.specs.Explored.{HasMove};
 ghost use Rattle.every_schedule.specs.Places.{Place, stepped};
-ghost use Rattle.std.specs.List.{slice_get};
-ghost use Rattle.every_schedule.specs.Reduced.{after_own, has_own, leapt, own_of, pushed, pushed_once};
-ghost use Rattle.every_schedule.specs.Private.Standing.{IsCurrent};
+ghost use Rattle.every_schedule.specs.Reduced.{after_own, is_made, leapt, own_of, pushed, pushed_once};
+ghost use Rattle.every_schedule.specs.Private.Standing.{IsOnward, IsSame, here};
 ghost use Rattle.every_schedule.specs.Private.Trails.{IsTrail};
 
-use crate::core_world::CoreWorld;
-use crate::current::{Current, States, entered, fresh};
-use crate::own_moves::is_own_move;
-use crate::pool::Pooled;
+use crate::current::Current;
+use crate::own_moves::{is_own_move, may_be_made};
 use cell_registry::RunError;
 use effect_term::facts_of;
-use scheduled_core::Wish;
-use std::alloc::{AllocError, Global};
+use std::alloc::AllocError;
 
-/// The world to which the entry of a fiber leads, with at most `at_once` own moves behind it. The entries that were
-/// made are added to the trail: one that ends in a fault too, and none of a fiber that isn't born or has ended.
-pub(crate) fn leap(
-    alloc: Global,
-    current: Current,
-    states: &mut States,
-    fiber: u16,
-    at_once: usize,
-    trail: &mut Vec<u16>,
-) -> Result<Current, RunError>
-    requires { IsCurrent states.old.fibers.items.items states.old.registries.items.items current }
-    ensures fibers { IsMore states.old.fibers.items.items states.new.fibers.items.items }
-    ensures registries { IsMore states.old.registries.items.items states.new.registries.items.items }
-    ensures goes { IfOk result (λ c. leapt at_once current.world fiber ≡ GoesWell c.world) }
-    ensures current { IfOk result (IsCurrent states.new.fibers.items.items states.new.registries.items.items) }
-    ensures fits { IfOk result (λ c. AllFit c.world.world) }
-    ensures trail { IfOk result (λ c. IsTrail trail.old.items trail.new.items current.world (GoesWell c.world)) }
-    ensures stops { IfErr result (λ e. (e ≡ RunError.NoMemory) ⊎
-        ((leapt at_once current.world fiber ≡ Fails e) ×
-        IsTrail trail.old.items trail.new.items current.world (Fails e))) }
-{
-    if usize::from(fiber) >= born(&current.world) {
-        return Ok(current);
-    }
-    note(&mut *trail, &current.world, fiber)?;
-    let next = entered(alloc, current, &mut *states, fiber)?;
-    let last = push(alloc, next, states, at_once, trail)?;
-    Ok(last)
+/// Which own moves are made at once behind an entry.
+#[derive(Clone, Copy)]
+pub(crate) struct AtOnce {
+    /// At most so many of each fiber.
+    pub(crate) most: usize,
+    /// Those that set a ref or change it are among them.
+    pub(crate) stores: bool,
 }
 
-// The entry of a fiber, if it has a next move: else it changes nothing.
-fn note(trail: &mut Vec<u16>, world: &CoreWorld, fiber: u16) -> Result<(), AllocError>
-    requires born { fiber < length world.now.world.fibers }
-    requires few { fiber < 1000 }
-    ensures { OnOk result ((y : TheResult Place RunError) → stepped world.now fiber ≡ y →
-        IsTrail trail.old.items trail.new.items world.now y) }
+/// The entry of a fiber, with such own moves behind it. The entries that were made are added to the trail: one that ends
+/// in a fault too, and none of a fiber that isn't born or has ended.
+pub(crate) fn leap(
+    current: &mut Current,
+    fiber: u16,
+    at_once: AtOnce,
+    trail: &mut Vec<u16>,
+) -> Result<(), RunError>
+    requires { AllFit (here current.old).world }
+    ensures onward { IsOnward current.old current.new }
+    ensures goes { OnOk result (leapt at_once (here current.old) fiber ≡ GoesWell (here current.new)) }
+    ensures fits { OnOk result (AllFit (here current.new).world) }
+    ensures trail { OnOk result (IsTrail trail.old.items trail.new.items (here current.old)
+        (GoesWell (here current.new))) }
+    ensures stops { IfErr result (λ e. (e ≡ RunError.NoMemory) ⊎
+        ((leapt at_once (here current.old) fiber ≡ Fails e) ×
+        IsTrail trail.old.items trail.new.items (here current.old) (Fails e))) }
 {
-    if has_move(world, fiber) {
-        add(trail, fiber)?;
+    if usize::from(fiber) >= few_born(&*current) {
+        return Ok(());
     }
+    note(&mut *trail, &*current, fiber)?;
+    current.enter(fiber)?;
+    push(current, at_once, trail)?;
     Ok(())
 }
 
-// Whether a fiber has a next move.
-fn has_move(world: &CoreWorld, fiber: u16) -> bool
-    requires { fiber < length world.now.world.fibers }
-    ensures yes { result ≡ true → HasMove world.now.world fiber }
-    ensures no { result ≡ false → stepped world.now fiber ≡ GoesWell world.now }
+/// How many fibers are born.
+pub(crate) fn few_born(current: &Current) -> usize
+    requires { AllFit (here current.now).world }
+    ensures born { result ≡ length (here current.now).world.fibers }
+    ensures few { result ≤ 1000 }
+    ensures within { result ≤ (here current.now).limits.fibers }
 {
-    match Wish::of(world.fibers()[usize::from(fiber)].ask()) {
-        Wish::Shared(_) | Wish::Alone => true,
-        Wish::Nothing => false,
+    // The registry is within its limits, and has given each of the fibers its number.
+    facts_of(current.registry().limits());
+    current.born()
+}
+
+// The entry of a fiber, if it has a next move: else it changes nothing.
+fn note(trail: &mut Vec<u16>, current: &Current, by: u16) -> Result<(), AllocError>
+    requires { by < 1000 }
+    ensures { OnOk result ((y : TheResult Place RunError) → stepped (here current.now) by ≡ y →
+        IsTrail trail.old.items trail.new.items (here current.now) y) }
+{
+    if current.has_move(by) {
+        add(trail, by)?;
     }
+    Ok(())
 }
 
 // One more entry.
@@ -83,72 +82,42 @@ fn add(trail: &mut Vec<u16>, fiber: u16) -> Result<(), AllocError>
     Ok(())
 }
 
-/// How many fibers are born.
-pub(crate) fn born(world: &CoreWorld) -> usize
-    ensures born { result ≡ length world.now.world.fibers }
-    ensures few { result ≤ 1000 }
-    ensures within { result ≤ world.now.limits.fibers }
-    ensures fits { AllFit world.now.world }
+// Such own moves of each fiber.
+fn push(current: &mut Current, at_once: AtOnce, trail: &mut Vec<u16>) -> Result<(), AllocError>
+    requires { AllFit (here current.old).world }
+    ensures onward { IsOnward current.old current.new }
+    ensures goes { OnOk result (here current.new ≡ pushed at_once.stores at_once.most (here current.old)) }
+    ensures fits { OnOk result (AllFit (here current.new).world) }
+    ensures trail { OnOk result (IsTrail trail.old.items trail.new.items (here current.old)
+        (GoesWell (here current.new))) }
 {
-    // The registry is within its limits, and has given each of the fibers its number.
-    facts_of(world.registry().limits());
-    world.fibers().len()
-}
-
-// At most `at_once` own moves of each fiber.
-fn push(
-    alloc: Global,
-    current: Current,
-    states: &mut States,
-    at_once: usize,
-    trail: &mut Vec<u16>,
-) -> Result<Current, AllocError>
-    requires { IsCurrent states.old.fibers.items.items states.old.registries.items.items current }
-    ensures fibers { IsMore states.old.fibers.items.items states.new.fibers.items.items }
-    ensures registries { IsMore states.old.registries.items.items states.new.registries.items.items }
-    ensures goes { IfOk result (λ c. c.world ≡ pushed at_once current.world) }
-    ensures current { IfOk result (IsCurrent states.new.fibers.items.items states.new.registries.items.items) }
-    ensures fits { AllFit current.world.world → IfOk result (λ c. AllFit c.world.world) }
-    ensures trail { IfOk result (λ c. IsTrail trail.old.items trail.new.items current.world (GoesWell c.world)) }
-{
-    let mut now = current;
-    for _move in 0..at_once {
-        let (next, moved) = push_once(alloc, now, &mut *states, &mut *trail)?;
-        now = next;
+    for _move in 0..at_once.most {
+        let moved = push_once(&mut *current, at_once.stores, &mut *trail)?;
         if !moved {
-            return Ok(now);
+            return Ok(());
         }
     }
-    Ok(now)
+    Ok(())
 }
 
 // One own move of each fiber that has one, the last fiber first. Whether any was made.
-fn push_once(
-    alloc: Global,
-    current: Current,
-    states: &mut States,
-    trail: &mut Vec<u16>,
-) -> Result<(Current, bool), AllocError>
-    requires { IsCurrent states.old.fibers.items.items states.old.registries.items.items current }
-    ensures fibers { IsMore states.old.fibers.items.items states.new.fibers.items.items }
-    ensures registries { IsMore states.old.registries.items.items states.new.registries.items.items }
-    ensures goes { IfOk result (λ r. r.0.world ≡ pushed_once current.world) }
-    ensures stays { IfOk result (λ r. r.1 ≡ false → pushed_once r.0.world ≡ r.0.world) }
-    ensures current { IfOk result (λ r.
-        IsCurrent states.new.fibers.items.items states.new.registries.items.items r.0) }
-    ensures fits { IfOk result (λ r. AllFit r.0.world.world) }
-    ensures trail { IfOk result (λ r. IsTrail trail.old.items trail.new.items current.world (GoesWell r.0.world)) }
+fn push_once(current: &mut Current, stores: bool, trail: &mut Vec<u16>) -> Result<bool, AllocError>
+    requires { AllFit (here current.old).world }
+    ensures onward { IsOnward current.old current.new }
+    ensures goes { OnOk result (here current.new ≡ pushed_once stores (here current.old)) }
+    ensures stays { IfOk result (λ it. it ≡ false → pushed_once stores (here current.new) ≡ here current.new) }
+    ensures fits { OnOk result (AllFit (here current.new).world) }
+    ensures trail { OnOk result (IsTrail trail.old.items trail.new.items (here current.old)
+        (GoesWell (here current.new))) }
 {
-    let born = born(&current.world);
-    let mut now = current;
+    let born = few_born(&*current);
     let mut moved = false;
     for done in 0..born {
         let fiber = (born - 1 - done) as u16;
-        let (next, made) = push_fiber(alloc, now, &mut *states, fiber, &mut *trail)?;
-        now = next;
+        let made = push_fiber(&mut *current, stores, fiber, &mut *trail)?;
         moved = either(moved, made);
     }
-    Ok((now, moved))
+    Ok(moved)
 }
 
 // Whether one of the two is so.
@@ -160,52 +129,45 @@ fn either(one: bool, other: bool) -> bool
 
 // An own move of this fiber, if it has one and its call isn't refused. Whether it was made.
 fn push_fiber(
-    alloc: Global,
-    current: Current,
-    states: &mut States,
+    current: &mut Current,
+    stores: bool,
     fiber: u16,
     trail: &mut Vec<u16>,
-) -> Result<(Current, bool), AllocError>
-    requires current { IsCurrent states.old.fibers.items.items states.old.registries.items.items current }
+) -> Result<bool, AllocError>
     requires few { fiber < 1000 }
-    ensures fibers { IsMore states.old.fibers.items.items states.new.fibers.items.items }
-    ensures registries { IsMore states.old.registries.items.items states.new.registries.items.items }
-    ensures goes { IfOk result (λ r. r.0.world ≡ after_own current.world (own_of current.world fiber)) }
-    ensures stays { IfOk result (λ r. r.1 ≡ false → r.0.world ≡ current.world) }
-    ensures current { IfOk result (λ r.
-        IsCurrent states.new.fibers.items.items states.new.registries.items.items r.0) }
-    ensures fits { IfOk result (λ r. AllFit r.0.world.world) }
-    ensures trail { IfOk result (λ r. IsTrail trail.old.items trail.new.items current.world (GoesWell r.0.world)) }
+    requires fits { AllFit (here current.old).world }
+    ensures onward { IsOnward current.old current.new }
+    ensures goes { OnOk result (here current.new ≡ after_own (here current.old) (own_of stores (here current.old) fiber)) }
+    ensures stays { IfOk result (λ it. it ≡ false → here current.new ≡ here current.old) }
+    ensures fits { OnOk result (AllFit (here current.new).world) }
+    ensures trail { OnOk result (IsTrail trail.old.items trail.new.items (here current.old)
+        (GoesWell (here current.new))) }
 {
-    if !has_own_move(&current.world, fiber) {
-        return Ok((current, false));
+    if !has_own_move(&mut *current, stores, fiber) {
+        return Ok(false);
     }
-    let row = current.row.again(alloc)?;
-    match entered(alloc, current, &mut *states, fiber) {
-        Ok(next) => {
-            // A wait that goes on changes nothing.
-            if next.row.is(&row) {
-                return Ok((next, false));
-            }
-            add(trail, fiber)?;
-            Ok((next, true))
-        }
+    match current.enter(fiber) {
+        Ok(()) => {}
         Err(fault) => {
             if is_memory(fault) {
                 return Err(AllocError);
             }
-            let before = fresh(alloc, &*states, &row)?;
-            Ok((before, false))
+            return Ok(false);
         }
     }
+    add(trail, fiber)?;
+    Ok(true)
 }
 
-// Whether a fiber is born and its next move is an own one.
-fn has_own_move(world: &CoreWorld, fiber: u16) -> bool
-    ensures own { result ≡ has_own world.now.world fiber (slice_get world.now.world.fibers fiber) }
-    ensures fits { AllFit world.now.world }
+// Whether a fiber is born and its next move is an own one that may be made at once.
+fn has_own_move(current: &mut Current, stores: bool, fiber: u16) -> bool
+    requires { AllFit (here current.old).world }
+    ensures same { IsSame current.old current.new }
+    ensures own { result ≡ is_made stores (here current.old).world fiber }
 {
-    usize::from(fiber) < born(world) && is_own_move(world, fiber)
+    usize::from(fiber) < few_born(&*current)
+        && is_own_move(&mut *current, fiber)
+        && may_be_made(&*current, stores, fiber)
 }
 
 /// Whether this is want of memory.

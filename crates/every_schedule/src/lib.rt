@@ -5,6 +5,10 @@
 //! that stays what it is and every fault, under any schedule, is among its answers, and that the schedule of each
 //! answer leads to it.
 //!
+//! [`search_claims`] looks at claims in each world that a schedule leads to: comparisons of the values of refs. It
+//! gives each claim that is met a schedule that leads to a world which meets it, and where it was complete, no schedule
+//! leads to a world that meets another one.
+//!
 //! A program is explored so, within limits for 3 fibers, a ref, a deferred and 1000 changes of each fiber:
 //!
 //! ```
@@ -17,20 +21,31 @@
 //! ```
 #![tactic(auto)]
 
+mod claimed;
+mod claims;
 mod core_world;
 mod core_worlds;
 mod current;
 mod exploration;
 mod explored;
+mod fair_endings;
 mod faults;
+mod known;
 mod leaping;
 mod own_moves;
 mod pool;
 mod reduced_worlds;
 mod reports;
 mod row;
+mod seen_row;
+mod seen_worlds;
+mod turns;
 mod unfolding;
 
+pub use claimed::search_claims;
+pub use claims::{Claim, ClaimWord, Comparison};
 pub use exploration::{Answer, Answers, Exploration, Schedule};
 pub use explored::{explore, explore_full, explore_watched};
-pub use world_search::{Bounds, Watcher};
+pub use fair_ends::{Cycle, Ending};
+pub use fair_endings::explore_ends;
+pub use world_search::{Bounds, Claimed, Met, Watcher};

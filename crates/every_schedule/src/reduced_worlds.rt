@@ -7,6 +7,7 @@ ghost use Rattle.every_schedule.specs.Places.{first_place};
 
 use crate::core_world::CoreWorld;
 use crate::core_worlds::CoreWorlds;
+use crate::leaping::AtOnce;
 use cell_registry::{Limits, RunError};
 use effect_term::Program;
 use scheduled_core::Report;
@@ -14,7 +15,10 @@ use std::alloc::{AllocError, Global};
 use world_search::{Entered, Worlds};
 
 /// So many own moves are made at once behind an entry.
-pub(crate) const AT_ONCE: usize = 100;
+pub(crate) const AT_ONCE: AtOnce = AtOnce {
+    most: 100,
+    stores: true,
+};
 
 /// All worlds and faults that were found, where each entry has its own moves behind it.
 #[derive(Drop)]
@@ -47,13 +51,13 @@ impl Worlds for ReducedWorlds {
     type Report = Report;
 
     ghost use Rattle.every_schedule.specs.Places.{report_at as the_report};
-    ghost use Rattle.every_schedule.specs.Reduced.{leapt};
+    ghost use Rattle.every_schedule.specs.Reduced.{hundred, leapt};
 
     ghost worlds = { λ s. s.worlds.places };
 
     ghost faults = { λ s. s.worlds.faults };
 
-    ghost step = { leapt 100 };
+    ghost step = { leapt hundred };
 
     ghost report = { the_report };
 

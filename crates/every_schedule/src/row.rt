@@ -44,14 +44,6 @@ impl Row {
     {
         self.fibers.as_slice()
     }
-
-    /// The same, given back.
-    pub(crate) fn into_fibers(self) -> Vec<u32>
-        ensures { result.items ≡ self.fibers }
-    {
-        let Row { fibers, .. } = self;
-        fibers
-    }
 }
 
 impl Pooled for Row {
@@ -71,7 +63,7 @@ impl Pooled for Row {
     }
 
     fn key(&self) -> u64 {
-        let mut key = u64::from(self.registry);
+        let mut key = u64::from(self.registry).wrapping_mul(0x9E37_79B9_7F4A_7C15);
         for number in self.fibers.iter() {
             let product = (key ^ u64::from(*number)).wrapping_mul(0x9E37_79B9_7F4A_7C15);
             key = product ^ (product >> 32);

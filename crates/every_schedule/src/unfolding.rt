@@ -11,9 +11,8 @@ ghost use Rattle.every_schedule.specs.Private.Trails.{AreSorted, AreUnfolded, En
 ghost use Rattle.every_schedule.specs.Private.Trails.{IsLeftOut, IsUnfolded, rank_of};
 
 use crate::core_world::CoreWorld;
-use crate::current::{States, begun};
-use crate::leaping::{is_memory, leap};
-use crate::pool::Pool;
+use crate::current::Current;
+use crate::leaping::{AtOnce, is_memory, leap};
 use cell_registry::{Limits, RunError};
 use effect_term::Program;
 use std::alloc::{AllocError, Global};
@@ -33,7 +32,7 @@ pub(crate) fn unfold_all(
     program: &Program,
     limits: Limits,
     found: &[Answer],
-    at_once: usize,
+    at_once: AtOnce,
     most: usize,
 ) -> Result<Unfolded, RunError>
     requires { AreLimits limits }
@@ -101,29 +100,25 @@ fn add(
     Ok(true)
 }
 
-// The entries that a schedule of the reduced search makes, one by one.
-fn unfold(
+/// The entries that a schedule of the reduced search makes, one by one.
+pub(crate) fn unfold(
     alloc: Global,
     program: &Program,
     limits: Limits,
     schedule: &[u16],
-    at_once: usize,
+    at_once: AtOnce,
 ) -> Result<Vec<u16>, RunError>
     requires { AreLimits limits }
     ensures entries { IfOk result (λ it.
         IsUnfolded at_once (first_place (code_of (source_of program.now)) limits) schedule.now it.items) }
     ensures memory { IfErr result (λ e. e ≡ RunError.NoMemory) }
 {
-    let mut states = States {
-        fibers: Pool::new(alloc),
-        registries: Pool::new(alloc),
-    };
     let first = CoreWorld::first(alloc, program, limits)?;
-    let mut current = begun(alloc, first, &mut states)?;
+    let mut current = Current::new(alloc, first)?;
     let mut trail = Vec::new(alloc);
     for fiber in schedule {
-        match leap(alloc, current, &mut states, *fiber, at_once, &mut trail) {
-            Ok(next) => current = next,
+        match leap(&mut current, *fiber, at_once, &mut trail) {
+            Ok(()) => {}
             Err(fault) => {
                 if is_memory(fault) {
                     return Err(RunError::NoMemory);

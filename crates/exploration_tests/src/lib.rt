@@ -10,7 +10,11 @@
 #[cfg(test)]
 mod answers;
 #[cfg(test)]
+mod claims;
+#[cfg(test)]
 mod families;
+#[cfg(test)]
+mod first_findings;
 #[cfg(test)]
 mod listed;
 #[cfg(test)]
@@ -37,3 +41,5 @@ mod texts;
 mod wants;
 #[cfg(test)]
 mod watched;
+#[cfg(test)]
+mod watched_claims;

@@ -35,9 +35,9 @@ pub fn sampled(alloc: Global, program: &str, seed: u64, times: u32) -> Result<An
     Ok(order(alloc, 16, seed, times, 1000).answer(alloc, program.as_bytes())?)
 }
 
-/// What is answered to a program that is explored.
-pub fn explored(alloc: Global, program: &str) -> Result<Answer, Fail> {
-    let order = ExploreOrder {
+/// The order to explore a small program.
+pub fn explore_order(alloc: Global) -> ExploreOrder {
+    ExploreOrder {
         limits: limits(16),
         bounds: Bounds {
             worlds: 100_000,
@@ -45,8 +45,12 @@ pub fn explored(alloc: Global, program: &str) -> Result<Answer, Fail> {
             memory: usize::MAX,
         },
         wants: Vec::new(alloc),
-    };
-    Ok(order.answer(alloc, program.as_bytes())?)
+    }
+}
+
+/// What is answered to a program that is explored.
+pub fn explored(alloc: Global, program: &str) -> Result<Answer, Fail> {
+    Ok(explore_order(alloc).answer(alloc, program.as_bytes())?)
 }
 
 /// What is answered to a program under a schedule.

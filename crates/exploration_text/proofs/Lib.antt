@@ -3,3 +3,5 @@ pub mod Parts
 pub mod Explored
 pub mod SampleParts
 pub mod Sampled
+pub mod FirstFindings
+pub mod MissingLines

@@ -3,3 +3,5 @@ pub mod ExplorationText
 pub mod ExploreAnswers
 pub mod SampleText
 pub mod SampleAnswers
+pub mod Findings
+pub mod Missing

@@ -15,6 +15,7 @@ use Rattle.scheduled_core.specs.Core.{core, reported}
 use Rattle.sampled_schedules.specs.declared.comings.Sample.{Sample}
 use Rattle.sampled_schedules.specs.Sampled.{IsSampleOf, StaysSo}
 use Rattle.exploration_text.specs.declared.wants.Want.{Want}
+use Rattle.exploration_text.specs.Missing.{missing_of_sample}
 use Rattle.exploration_text.specs.SampleText.{IsSampleText, sample_status}
 
 -- Of code under these limits: each answer is what its schedule leads to, no entries more change one that isn't marked
@@ -33,6 +34,13 @@ pub record IsSampledAnswer (t : Term) (limits : Limits) (times entries : ℕ) (w
     pub sampled : IsSampleAt (code_of (source_of t)) limits times entries sample
     pub text_is : IsSampleText wants sample answer
     pub status_is : status ≡ sample_status wants sample
+
+-- such a text and status, beside the lines of the wanted outcomes that nothing came to
+pub record IsNotedSample (t : Term) (limits : Limits) (times entries : ℕ) (wants : List Want) (note answer : List ℕ)
+    (status : Status) : Type 0
+  where
+    pub sampled : IsSampledAnswer t limits times entries wants answer status
+    pub note_is : note ≡ missing_of_sample wants sampled.sample
 
 -- what `sample` answers under limits, with its status: a refusal, or a sample of the schedules of the program that the
 -- text spells

@@ -9,6 +9,10 @@
 #![tactic(auto)]
 
 mod explore_texts;
+mod finding_texts;
+mod findings;
+mod missing;
+mod noted;
 mod progress;
 mod sample_texts;
 mod samples;
@@ -18,6 +22,10 @@ mod watched_texts;
 
 pub use every_schedule::Bounds;
 pub use explore_texts::ExploreOrder;
+pub use finding_texts::FirstOrder;
+pub use findings::{Finding, First, first_finding};
+pub use missing::{missing_of_exploration, missing_of_sample};
+pub use noted::{NotedAnswer, NotedOrder};
 pub use sample_texts::SampleOrder;
 pub use samples::{is_unwanted, sample_status, text_of_sample};
 pub use texts::{

@@ -2,13 +2,15 @@
 
 ghost use Rattle.std.specs.Prelude.{◌≤◌, IfOk};
 ghost use Rattle.cell_registry.specs.Cells.{AreLimits};
-ghost use Rattle.exploration_text.specs.SampleAnswers.{IsSampleAnswer, IsSampledAnswer};
+ghost use Rattle.exploration_text.specs.SampleAnswers.{IsNotedSample, IsSampleAnswer, IsSampledAnswer};
 
+use crate::missing::missing_of_sample;
+use crate::noted::{NotedAnswer, NotedOrder};
 use crate::samples::{sample_status, text_of_sample};
 use crate::wants::Want;
 use cell_registry::Limits;
 use effect_term::Program;
-use outcome_trace::{Answer, TextOrder, read_program, refusal};
+use outcome_trace::{Answer, InWords, TextOrder, read_program, refusal};
 use sampled_schedules::sample;
 use std::alloc::{AllocError, Global};
 
@@ -42,6 +44,33 @@ impl TextOrder for SampleOrder {
     }
 }
 
+impl NotedOrder for SampleOrder {
+    type Refusals = InWords;
+
+    ghost notes = { λ order note t. IsNotedSample t order.limits order.times order.entries order.wants.items note };
+
+    fn noted_answer(&self, alloc: Global, program: &Program) -> Result<NotedAnswer, AllocError> {
+        let Ok(found) = sample(
+            alloc,
+            program,
+            self.limits,
+            self.seed,
+            self.times,
+            self.entries,
+        ) else {
+            return Err(AllocError);
+        };
+        let wants = self.wants.as_slice();
+        Ok(NotedAnswer {
+            note: missing_of_sample(alloc, &found, wants)?,
+            answer: Answer {
+                text: text_of_sample(alloc, &found, wants)?,
+                status: sample_status(&found, wants),
+            },
+        })
+    }
+}
+
 // What comes of a program under schedules that are drawn.
 fn sampled_answer(
     alloc: Global,
@@ -51,19 +80,5 @@ fn sampled_answer(
     ensures { IfOk result (λ a. IsSampledAnswer program.now order.now.limits order.now.times order.now.entries
         order.now.wants.items a.text.items a.status) }
 {
-    let Ok(found) = sample(
-        alloc,
-        program,
-        order.limits,
-        order.seed,
-        order.times,
-        order.entries,
-    ) else {
-        return Err(AllocError);
-    };
-    let wants = order.wants.as_slice();
-    Ok(Answer {
-        text: text_of_sample(alloc, &found, wants)?,
-        status: sample_status(&found, wants),
-    })
+    Ok(order.noted_answer(alloc, program)?.answer)
 }

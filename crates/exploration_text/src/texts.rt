@@ -162,8 +162,8 @@ fn heading(unwanted: bool) -> &'static [u8]
     }
 }
 
-// The text of a report, or the line of a fault.
-fn end_text(alloc: Global, end: &Result<Report, RunError>) -> Result<Vec<u8>, AllocError>
+/// The text of a report, or the line of a fault.
+pub(crate) fn end_text(alloc: Global, end: &Result<Report, RunError>) -> Result<Vec<u8>, AllocError>
     ensures { IfOk result (λ text. text.items ≡ end_text end.now) }
 {
     match end {

@@ -4,3 +4,4 @@ pub mod FoundLemmas
 pub mod FoundPlain
 pub mod FoundValues
 pub mod Plain
+pub mod FindingLemmas

@@ -15,6 +15,7 @@ use Rattle.exploration_text.specs.ExplorationText.{exploration_status}
 use Rattle.exploration_text.specs.ExploreAnswers.{IsExplorationOf}
 use Rattle.sampled_schedules.specs.declared.comings.Sample.{Sample}
 use Rattle.exploration_text.specs.SampleAnswers.{IsSampleAt}
+use Rattle.exploration_text.specs.Missing.{missing_of_sample}
 use Rattle.exploration_text.specs.SampleText.{sample_status}
 use Rattle.serde_json.specs.Data.{Data}
 use Rattle.json_answers.specs.Answers.{IsJsonRefusal}
@@ -52,6 +53,13 @@ pub record IsJsonSampled (t : Term) (limits : Limits) (seed times entries : ℕ)
     pub value_is : IsSampleData wants seed sample value
     pub text_is : answer ≡ line_of_data value
     pub status_is : status ≡ sample_status wants sample
+
+-- such a value and status, beside the lines of the wanted outcomes that nothing came to
+pub record IsNotedJsonSample (t : Term) (limits : Limits) (seed times entries : ℕ) (wants : List Want)
+    (note answer : List ℕ) (status : Status) : Type 0
+  where
+    pub sampled : IsJsonSampled t limits seed times entries wants answer status
+    pub note_is : note ≡ missing_of_sample wants sampled.sample
 
 -- what `sample` answers under limits: a refusal, or a sample of the schedules of the program that the text spells
 pub data IsJsonSample (limits : Limits) (seed times entries : ℕ) (wants : List Want)

@@ -4,3 +4,4 @@ pub mod FoundAnswers
 pub mod Refusals
 pub mod ReportData
 pub mod SampleData
+pub mod FindingData

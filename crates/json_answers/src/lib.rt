@@ -9,6 +9,7 @@
 
 mod exploration_values;
 mod explore_orders;
+mod finding_orders;
 mod orders;
 mod refusals;
 mod report_values;
@@ -17,6 +18,7 @@ mod sample_values;
 mod values;
 
 pub use explore_orders::ExploreJson;
+pub use finding_orders::FirstJson;
 pub use orders::{CheckJson, ReplayJson, fault_json_answer, report_json_answer};
 pub use refusals::{InJson, refusal_answer, refusal_json};
 pub use report_values::{fault_json, report_json};

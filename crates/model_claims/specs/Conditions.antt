@@ -42,7 +42,7 @@ word_truth source c seen held (words.Said who from to) stack =
 word_truth source c seen held (words.Says who from to) stack =
     all_say source seen who (slice_range c.values.items from to)
 word_truth source c seen held (words.Late value) stack = is_late seen value
-word_truth source c seen held (words.Compares comparison number) stack = compare_held comparison held number
+word_truth source c seen held (words.Compares r comparison number) stack = compare_held comparison held number
 
 -- what a word leaves of the stack
 abbrev pub word_rest : Word → List Bool → List Bool
@@ -56,7 +56,7 @@ word_rest (words.Ends who from to) stack = stack
 word_rest (words.Said who from to) stack = stack
 word_rest (words.Says who from to) stack = stack
 word_rest (words.Late value) stack = stack
-word_rest (words.Compares comparison number) stack = stack
+word_rest (words.Compares r comparison number) stack = stack
 
 -- the stack behind a word
 abbrev pub step : Source → Condition → Seen → Option ℤ → List Bool → Word → List Bool

@@ -2,6 +2,7 @@
 
 use crate::condition::{Condition, Wanted};
 use crate::judging::Rule;
+use crate::moment::MomentWord;
 use model_terms::Probe;
 
 /// A way to end that a `want` names.
@@ -26,6 +27,8 @@ pub struct Claim {
     pub probe: Probe,
     /// What has to hold of an answer.
     pub condition: Condition,
+    /// What has to hold of each moment, or of some, where the claim is looked at in each world in place of the answers.
+    pub moment: Option<Vec<MomentWord>>,
     /// The ways to end that a `want` names, in its order; none of another claim.
     pub wants: Vec<Want>,
     /// Whether no list of answers decides it where none does so by itself.

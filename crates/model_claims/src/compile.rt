@@ -331,7 +331,7 @@ fn compares(
     if word_at(place.source, name).is_empty() {
         return Err(no_condition(alloc, place, at));
     }
-    add_ref(alloc, place, subjects, name)?;
-    condition.words.push(Word::Compares(comparison, value))?;
+    let cell = add_ref(alloc, place, subjects, name)?;
+    condition.words.push(Word::Compares(cell, comparison, value))?;
     Ok(())
 }

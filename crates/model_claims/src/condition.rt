@@ -74,8 +74,8 @@ pub enum Word {
     Says(Who, usize, usize),
     /// Whether some fiber said this value right behind [`LATE`](model_terms::LATE).
     Late(Value),
-    /// Whether the ref's value compares so with this number.
-    Compares(Comparison, Value),
+    /// Whether the ref's value compares so with this number. Before that the ref's own number, where the term tells it.
+    Compares(Option<u16>, Comparison, Value),
 }
 
 /// A condition over one answer: words that leave one truth on a stack.

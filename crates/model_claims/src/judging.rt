@@ -109,8 +109,8 @@ fn turned(verdict: Verdict) -> Verdict
     }
 }
 
-// What a verdict is where the claim has to be refuted, and where it hasn't.
-fn under(fails: bool, verdict: Verdict) -> Verdict
+/// What a verdict is where the claim has to be refuted, and where it hasn't.
+pub fn under(fails: bool, verdict: Verdict) -> Verdict
     ensures { result ≡ under fails verdict }
 {
     if fails { turned(verdict) } else { verdict }

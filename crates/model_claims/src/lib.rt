@@ -2,7 +2,8 @@
 //!
 //! It stands on the forms and items of a model file (`model_forms`, `model_text`), on the terms of its models
 //! (`model_terms`) and on the outcomes of fibers (`effect_term`). [`read_claims`] reads the claims of a model, each with
-//! what has to be put into its term and a [`Condition`] over one answer, or returns the first fault with its place;
+//! what has to be put into its term and a [`Condition`] over one answer, or with its [`MomentWord`]s where it is looked at
+//! in each world, or returns the first fault with its place;
 //! [`read_settings`] reads its bounds. [`truth_in`] returns what one answer says of a claim, and [`judge`] the verdict
 //! over all answers. No function here calls itself, so claims nest to any depth.
 //!
@@ -22,11 +23,13 @@ mod condition;
 mod faults;
 mod judging;
 mod leaf;
+mod moment;
 mod names;
 mod nearness;
 mod parts;
 mod reader;
 mod refs;
+mod straight;
 mod truth;
 mod words;
 
@@ -34,7 +37,8 @@ pub use answer::{FiberName, Seen, SeenFiber};
 pub use bounds::{Settings, read_settings};
 pub use claim::{Claim, Want};
 pub use condition::{Comparison, Condition, Wanted, Who, Word};
-pub use judging::{Judged, Rule, Truth, Verdict, judge};
+pub use judging::{Judged, Rule, Truth, Verdict, judge, under};
 pub use leaf::is_wanted;
+pub use moment::MomentWord;
 pub use reader::read_claims;
 pub use truth::{truth_in, truth_of};

@@ -19,6 +19,9 @@ pub(crate) struct Place<'a> {
     pub model: &'a Model,
     /// Its term.
     pub term: &'a ModelTerm,
+    /// How many bytes of the term make its first refs, in the order of the text
+    /// ([`straight_part`](crate::straight::straight_part)).
+    pub straight: usize,
 }
 
 /// The form with this number, if there is one.

@@ -5,29 +5,40 @@ use crate::compile::{OUTCOME_WANTED, compile};
 use crate::condition::{Condition, Wanted, Who, Word, empty_condition};
 use crate::faults::{plain_fault, quoting_fault};
 use crate::judging::Rule;
+use crate::moment::{MomentWord, moment_words};
 use crate::names::who_at;
 use crate::parts::{
     Place, behind, both_at, first_at, head_at, inside_at, number_at, only_at, outcome_at, parts_at,
     word_at,
 };
 use crate::refs::{Subjects, no_subjects, ref_fault};
+use crate::straight::straight_part;
 use crate::words::{Head, head_of};
 use effect_term::Value;
 use model_forms::{Block, form_bytes};
-use model_terms::{ModelTerm, Probe, Refused, Said, Source};
+use model_terms::{BinderName, ModelTerm, Probe, Refused, Said, Source};
 use model_text::Model;
 use std::alloc::Global;
 
 const BEFORE_WANTED: &str = "`(before (f v) (g w))` was wanted: f says v before g says w";
 
 const SEVERAL_REFS: &str =
-    "a claim on several refs at one moment isn't supported: state it of one ref";
+    "a claim on several refs at one moment speaks of refs that main makes first, each under a name of its own";
 
 const REF_AND_FIBERS: &str =
     "a claim on a ref and fibers at one moment isn't supported: state it of the ref alone";
 
 const REF_AT_THE_END: &str =
     "the value of a ref at the end isn't supported: let main read it and end with it";
+
+// What is looked at, to see whether a claim holds.
+#[derive(Drop)]
+enum Look {
+    // The answers of the term with this in it.
+    Ends(Probe),
+    // Each world of the term: whether these words hold there.
+    Worlds(Vec<MomentWord>),
+}
 
 /// The claims of a model, in the order of the file, or the first fault. The term is the model's with no probe in it.
 pub fn read_claims(
@@ -40,6 +51,7 @@ pub fn read_claims(
         source,
         model,
         term,
+        straight: straight_part(term.text.as_slice()),
     };
     let mut claims = Vec::new(alloc);
     let mut rest = model.claims;
@@ -136,13 +148,18 @@ fn plain_claim(
 ) -> Result<Claim, Refused> {
     let mut condition = empty_condition(alloc);
     let mut wants = Vec::new(alloc);
-    let (rule, probe) = read_claim(alloc, place, at, head, &mut condition, &mut wants)?;
+    let (rule, look) = read_claim(alloc, place, at, head, &mut condition, &mut wants)?;
+    let (probe, moment) = match look {
+        Look::Ends(probe) => (probe, None),
+        Look::Worlds(words) => (Probe::Nothing, Some(words)),
+    };
     Ok(Claim {
         form,
         fails,
         rule,
         probe,
         condition,
+        moment,
         wants,
         blind: false,
     })
@@ -156,7 +173,7 @@ fn read_claim(
     head: Head,
     condition: &mut Condition,
     wants: &mut Vec<Want>,
-) -> Result<(Rule, Probe), Refused> {
+) -> Result<(Rule, Look), Refused> {
     match head {
         Head::Want => want(alloc, place, at, condition, wants),
         Head::Must => at_the_end(alloc, place, at, Rule::Every, condition),
@@ -178,7 +195,7 @@ fn want(
     at: usize,
     condition: &mut Condition,
     wants: &mut Vec<Want>,
-) -> Result<(Rule, Probe), Refused> {
+) -> Result<(Rule, Look), Refused> {
     let block = parts_at(place.source, at);
     if first_at(place.source, block).is_none() {
         return Err(plain_fault(alloc, place.source, "E20", at, OUTCOME_WANTED));
@@ -186,7 +203,7 @@ fn want(
     push_wants(alloc, place, block, condition, wants)?;
     let to = condition.outcomes.len();
     condition.words.push(Word::Ends(Who::Main, 0, to))?;
-    Ok((Rule::Every, Probe::Nothing))
+    Ok((Rule::Every, Look::Ends(Probe::Nothing)))
 }
 
 // Adds the ways to end that a `want` names.
@@ -233,12 +250,12 @@ fn ended(
     at: usize,
     who: Who,
     condition: &mut Condition,
-) -> Result<(Rule, Probe), Refused> {
+) -> Result<(Rule, Look), Refused> {
     if first_at(place.source, parts_at(place.source, at)).is_some() {
         return Err(parts_fault(alloc, place, at, " has no parts"));
     }
     condition.words.push(Word::Ended(who))?;
-    Ok((Rule::Every, Probe::Nothing))
+    Ok((Rule::Every, Look::Ends(Probe::Nothing)))
 }
 
 // The fault of a claim that lacks a part, or has one too many.
@@ -276,11 +293,11 @@ fn at_the_end(
     at: usize,
     rule: Rule,
     condition: &mut Condition,
-) -> Result<(Rule, Probe), Refused> {
+) -> Result<(Rule, Look), Refused> {
     let subjects = only_condition(alloc, place, at, condition)?;
     match subjects.cell {
         Some(_) => Err(ref_fault(alloc, place, at, REF_AT_THE_END)),
-        None => Ok((rule, Probe::Nothing)),
+        None => Ok((rule, Look::Ends(Probe::Nothing))),
     }
 }
 
@@ -291,12 +308,12 @@ fn at_any_moment(
     at: usize,
     rule: Rule,
     condition: &mut Condition,
-) -> Result<(Rule, Probe), Refused> {
+) -> Result<(Rule, Look), Refused> {
     let subjects = only_condition(alloc, place, at, condition)?;
     match subjects.cell {
         Some(cell) => {
-            one_ref(alloc, place, at, subjects)?;
-            Ok((rule, Probe::Watch(cell)))
+            let look = look_at_moments(alloc, place, at, subjects, cell, condition)?;
+            Ok((rule, look))
         }
         None => Err(no_ref_spoken_of(alloc, place, at, rule)),
     }
@@ -322,15 +339,24 @@ fn moment_fault(alloc: Global, place: &Place, at: usize, words: &str) -> Refused
     )
 }
 
-// The fault of a claim on a ref that speaks of another ref or of fibers, too.
-fn one_ref(alloc: Global, place: &Place, at: usize, subjects: Subjects) -> Result<(), Refused> {
-    if subjects.several {
-        return Err(ref_fault(alloc, place, at, SEVERAL_REFS));
-    }
+// What is looked at for a condition on refs at any moment: each world, where the number of each ref is known; else what
+// a fiber reads that watches its only ref.
+fn look_at_moments(
+    alloc: Global,
+    place: &Place,
+    at: usize,
+    subjects: Subjects,
+    cell: BinderName,
+    condition: &Condition,
+) -> Result<Look, Refused> {
     if subjects.fibers {
         return Err(ref_fault(alloc, place, at, REF_AND_FIBERS));
     }
-    Ok(())
+    match moment_words(alloc, condition.words.as_slice())? {
+        Some(words) => Ok(Look::Worlds(words)),
+        None if subjects.several => Err(ref_fault(alloc, place, at, SEVERAL_REFS)),
+        None => Ok(Look::Ends(Probe::Watch(cell))),
+    }
 }
 
 // `never`: of a ref at no moment, of fibers in no answer.
@@ -339,15 +365,15 @@ fn never(
     place: &Place,
     at: usize,
     condition: &mut Condition,
-) -> Result<(Rule, Probe), Refused> {
+) -> Result<(Rule, Look), Refused> {
     let subjects = only_condition(alloc, place, at, condition)?;
     condition.words.push(Word::Not)?;
     match subjects.cell {
         Some(cell) => {
-            one_ref(alloc, place, at, subjects)?;
-            Ok((Rule::Every, Probe::Watch(cell)))
+            let look = look_at_moments(alloc, place, at, subjects, cell, condition)?;
+            Ok((Rule::Every, look))
         }
-        None => Ok((Rule::Every, Probe::Nothing)),
+        None => Ok((Rule::Every, Look::Ends(Probe::Nothing))),
     }
 }
 
@@ -357,14 +383,14 @@ fn before(
     place: &Place,
     at: usize,
     condition: &mut Condition,
-) -> Result<(Rule, Probe), Refused> {
+) -> Result<(Rule, Look), Refused> {
     let Some((one, other)) = both_at(place.source, parts_at(place.source, at)) else {
         return Err(no_order(alloc, place, at));
     };
     let first = saying(alloc, place, at, one)?;
     let second = saying(alloc, place, at, other)?;
     push_late(condition, second.value)?;
-    Ok((Rule::Every, Probe::Order(first, second)))
+    Ok((Rule::Every, Look::Ends(Probe::Order(first, second))))
 }
 
 // No fiber says this value late.

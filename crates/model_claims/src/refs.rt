@@ -3,7 +3,7 @@
 use crate::faults::{Names, plain_fault, unknown_name};
 use crate::names::{Spelled, has_spelling, is_ref, no_names, push_binder, spelled_at};
 use crate::parts::Place;
-use model_terms::{BinderName, Refused};
+use model_terms::{Binder, BinderName, Refused};
 use std::alloc::{AllocError, Global};
 
 /// What a claim speaks of.
@@ -26,25 +26,41 @@ pub(crate) fn no_subjects() -> Subjects {
     }
 }
 
-/// Adds the refs that the word with this number names, or returns the fault that none is called so.
+/// Adds the refs that the word with this number names, or returns the fault that none is called so. The number of the
+/// ref, where it is one, and the term tells it: only refs before it in the text are made before it.
 pub(crate) fn add_ref(
     alloc: Global,
     place: &Place,
     subjects: &mut Subjects,
     at: usize,
-) -> Result<(), Refused> {
+) -> Result<Option<u16>, Refused> {
     let spelled = spelled_at(place.source, at);
-    let mut found = false;
+    let mut made = 0u16;
+    let mut found = 0usize;
+    let mut number = None;
     for binder in place.term.binders.as_slice() {
-        if is_ref(binder.kind) && has_spelling(place.source, binder.name, spelled) {
-            found = true;
-            add_cell(subjects, binder.name);
+        if is_ref(binder.kind) {
+            if has_spelling(place.source, binder.name, spelled) {
+                add_cell(subjects, binder.name);
+                found = found.saturating_add(1);
+                number = number_of(place, binder, made);
+            }
+            made = made.saturating_add(1);
         }
     }
-    if found {
-        Ok(())
+    match found {
+        0 => Err(no_ref(alloc, place, at)),
+        1 => Ok(number),
+        _ => Ok(None),
+    }
+}
+
+// The number of the ref of a binder behind so many others, where each of them is made before it, and nothing else is.
+fn number_of(place: &Place, binder: &Binder, made: u16) -> Option<u16> {
+    if binder.start < place.straight {
+        Some(made)
     } else {
-        Err(no_ref(alloc, place, at))
+        None
     }
 }
 

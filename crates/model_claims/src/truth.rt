@@ -91,7 +91,7 @@ fn word_truth(
             all_say(source, seen, *who, values_of(condition, *from, *to))
         }
         Word::Late(value) => is_late(seen, value),
-        Word::Compares(comparison, number) => compare_held(*comparison, held, *number),
+        Word::Compares(_, comparison, number) => compare_held(*comparison, held, *number),
     }
 }
 

@@ -81,7 +81,7 @@ fn push_claim(
     push_word(told, "\n     at ")?;
     push_place(told, judged.file, start_of(judged.source, claim.form))?;
     told.push(b'\n')?;
-    match judged.result.searches.get(claim.search) {
+    match judged.result.search_of(claim) {
         Some(search) => push_why(told, alloc, judged, claim, search),
         None => Ok(()),
     }
@@ -143,7 +143,7 @@ fn push_failed(
             None => Ok(()),
         },
         None if claim.fails => Ok(()),
-        None => push_none_meets(told, judged, search),
+        None => push_none_meets(told, judged, claim, search),
     }
 }
 
@@ -157,13 +157,17 @@ fn gone_words(rule: Rule) -> &'static str {
     }
 }
 
-// That no schedule meets a claim, and what can come.
+// That no schedule meets a claim, and what can come; of a claim at any moment no end says more.
 fn push_none_meets(
     told: &mut Vec<u8>,
     judged: JudgedModel,
+    claim: &ClaimResult,
     search: &Search,
 ) -> Result<(), AllocError> {
     push_about(told, "     no schedule of ", search.worlds)?;
+    if claim.at_moment {
+        return push_word(told, " worlds meets it\n");
+    }
     push_word(told, " worlds meets it; what can come:\n")?;
     push_answers(told, judged.source, search)
 }

@@ -16,7 +16,7 @@ use text_io::{MOST_ENTRIES, schedule_text};
 const MOST_LISTED: usize = 20;
 
 /// An answer: what its fibers have come to, what a ref held that was watched, and the fault that ends its schedule, if
-/// one does. `AllocError` where memory is refused.
+/// one does; of a moment what refs hold there, too. `AllocError` where memory is refused.
 pub(crate) fn push_found(
     told: &mut Vec<u8>,
     source: &Source,
@@ -27,13 +27,40 @@ pub(crate) fn push_found(
     if let Some(fault) = answer.fault {
         push_fault(told, fault)?;
     }
-    push_fibers(told, source, &answer.seen, replay, answer.fault.is_some())?;
+    let held = push_held_refs(told, source, answer, replay)?;
+    push_fibers(
+        told,
+        source,
+        &answer.seen,
+        replay,
+        answer.fault.is_some() || held,
+    )?;
     if answer.came > 0 {
         push_about(told, " (", answer.came)?;
         push_about(told, " of ", search.sampled)?;
         push_word(told, " sampled schedules)")?;
     }
     Ok(())
+}
+
+// What refs hold at a moment, by the names of its replay. Whether anything is told.
+fn push_held_refs(
+    told: &mut Vec<u8>,
+    source: &Source,
+    answer: &NamedAnswer,
+    replay: Option<&Named>,
+) -> Result<bool, AllocError> {
+    let Some(replay) = replay else {
+        return Ok(false);
+    };
+    let mut behind = false;
+    for held in answer.held.iter() {
+        push_comma(told, behind)?;
+        push_ref(told, source, replay, held.number)?;
+        push_about(told, " = ", held.value.get())?;
+        behind = true;
+    }
+    Ok(behind)
 }
 
 // The fibers of an answer, each with a comma and a space before it but the first.

@@ -8,7 +8,7 @@ use crate::one_line::joined;
 use crate::verdicts::counts_of;
 use effect_term::Outcome;
 use model_claims::{FiberName, SeenFiber, Verdict};
-use model_runs::{ClaimResult, Named, NamedAnswer, Warning};
+use model_runs::{ClaimResult, HeldRef, Named, NamedAnswer, Warning};
 use reasons::Position;
 use serde_json::{Value, json};
 use std::alloc::{AllocError, Global};
@@ -131,7 +131,7 @@ fn claim_value(
 
 // The answer that decides a claim, if one does.
 fn shown_answer<'a>(judged: JudgedModel<'a>, claim: &ClaimResult) -> Option<&'a NamedAnswer> {
-    let search = judged.result.searches.get(claim.search)?;
+    let search = judged.result.search_of(claim)?;
     search.answers.get(claim.shown?)
 }
 
@@ -168,6 +168,10 @@ fn found_value(
         return Ok(Value::Null);
     };
     let mut values = Vec::new(alloc);
+    for held in answer.held.iter() {
+        let value = held_value(alloc, judged, claim.replay.as_ref(), held)?;
+        values.push(value)?;
+    }
     for (number, fiber) in answer.seen.fibers.iter().enumerate() {
         let value = fiber_value(alloc, judged, claim.replay.as_ref(), fiber, number)?;
         values.push(value)?;
@@ -220,6 +224,21 @@ fn watched_value(
         Some(Outcome::Succeeded(value)) => json!(in alloc; {"ref": name, "value": value.get()}),
         _ => json!(in alloc; {"ref": name, "value": null}),
     }
+}
+
+// The name of a ref, and what it holds at a moment.
+fn held_value(
+    alloc: Global,
+    judged: JudgedModel,
+    replay: Option<&Named>,
+    held: &HeldRef,
+) -> Result<Value, AllocError> {
+    let mut name = Vec::new(alloc);
+    if let Some(replay) = replay {
+        push_ref(&mut name, judged.source, replay, held.number)?;
+    }
+    let name = text_value(alloc, name.as_slice())?;
+    json!(in alloc; {"ref": name, "value": held.value.get()})
 }
 
 // How a fiber ended, or that it didn't.

@@ -1,20 +1,53 @@
 -- What became of a claim is what one of the searches says of it.
-use Rattle.std.proofs.Common.{◌≡◌, ℕ, List, Option, Some, Result, Ok, Err, IfOk, ap, ◌∙◌}
+use Rattle.std.proofs.Common.{◌≡◌, ℕ, List, Option, Some, None, Result, Ok, Err, IfOk, true, ap, ◌∙◌}
 use Rattle.std.specs.List.{slice_get}
+use Rattle.std.specs.Option.{is_some}
 use Rattle.model_terms.specs.declared.refused.Refused.{Refused}
 use Rattle.model_terms.specs.declared.source.Source.{Source}
+use Rattle.derived_ops.specs.Tree.{Tree}
+use Rattle.cell_registry.specs.declared.limits.Limits.{Limits}
+use Rattle.every_schedule.specs.declared.claims.ClaimWord.{ClaimWord}
 use Rattle.model_claims.specs.declared.claim.Claim.{Claim}
+use Rattle.model_runs.specs.declared.moments.Moments.{Moments}
 use Rattle.model_runs.specs.declared.result.ClaimResult.{ClaimResult}
 use Rattle.model_runs.specs.declared.result.Search.{Search}
 use Rattle.model_runs.specs.Deciding.{IsDecided, IsResultOf}
+use Rattle.model_runs.specs.Moments.{IsDecidedAtMoments, IsJudgedMoment}
+use Rattle.model_runs.specs.Private.Looking.{IsRightAt, IsRightOf}
+use Rattle.model_runs.proofs.Looks.{some_in}
 
 pub decided_by : (source : Source) (claim : Claim) (searches : List Search) (n : ℕ) (s : Search) (it : Result ClaimResult Refused) →
-    slice_get searches n ≡ Some s → IfOk it (IsResultOf source claim s) → IfOk it (λ r. r.search ≡ n) →
+    slice_get searches n ≡ Some s → claim.moment ≡ None → IfOk it (IsResultOf source claim s) → IfOk it (λ r. r.search ≡ n) →
     IfOk it (IsDecided source searches)
-decided_by source claim searches n s (Ok r) there says number = record {
+decided_by source claim searches n s (Ok r) there answers says number = record {
   claim = claim;
   search = s;
   named = ap (slice_get searches) number ∙ there;
+  of_answers = answers;
   is_result = says;
 }
-decided_by source claim searches n s (Err e) there says number = tt
+decided_by source claim searches n s (Err e) there answers says number = tt
+
+-- what moment_result says of a claim
+abbrev pub Says : Claim → ℕ → Search → Moments → Result ClaimResult Refused → Type 0
+Says claim number ends moments it =
+    (code : Tree) (k : Limits) (wanted : List (List ClaimWord)) (words : List ClaimWord) →
+    IsRightAt code k wanted moments → slice_get wanted number ≡ Some words →
+    IfOk it (IsJudgedMoment claim code k words ends moments.search)
+
+pub decided_at : (claim : Claim) (number : ℕ) (searches : List Search) (n : ℕ) (s : Search) (moments : Moments) (it : Result ClaimResult Refused) →
+    slice_get searches n ≡ Some s → is_some claim.moment ≡ true → IsRightOf claim number moments → Says claim number s moments it →
+    IfOk it (λ r. r.search ≡ n) → IfOk it (IsDecidedAtMoments searches moments.search)
+decided_at claim number searches n s moments (Ok r) there spoken right says same =
+    let words = some_in claim.moment spoken in
+    record {
+      claim = claim;
+      words = words.0;
+      spoken = words.1;
+      ends = s;
+      named = ap (slice_get searches) same ∙ there;
+      code = right.right.code;
+      limits = right.right.limits;
+      is_result = says right.right.code right.right.limits right.wanted _ right.right.right (right.there words.0 words.1);
+    }
+decided_at claim number searches n s moments (Err e) there spoken right says same = tt

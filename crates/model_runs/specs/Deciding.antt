@@ -1,5 +1,5 @@
 -- What becomes of claims by what is found.
-use Rattle.std.specs.Prelude.{◌≡◌, ◌&&◌, not, ℕ, List, map, Option, Some}
+use Rattle.std.specs.Prelude.{◌≡◌, ◌⊎◌, ◌&&◌, not, ℕ, List, map, Option, Some, None}
 use Rattle.std.specs.List.{slice_get}
 use Rattle.model_terms.specs.declared.source.Source.{Source}
 use Rattle.model_claims.specs.declared.claim.Claim.{Claim}
@@ -8,6 +8,7 @@ use Rattle.model_claims.specs.Conditions.{truth_in}
 use Rattle.model_claims.specs.Judging.{IsJudged, under}
 use Rattle.model_runs.specs.declared.result.ClaimResult.{ClaimResult}
 use Rattle.model_runs.specs.declared.result.Search.{Search}
+use Rattle.model_runs.specs.Moments.{IsDecidedAtMoments}
 
 -- the verdict of a claim by what its search has found, and the answer that is shown
 abbrev pub IsJudgedBy : Source → Claim → Search → Option ℕ → Verdict → Type 0
@@ -27,4 +28,9 @@ pub record IsDecided (source : Source) (searches : List Search) (it : ClaimResul
   pub claim : Claim
   pub search : Search
   pub named : slice_get searches it.search ≡ Some search
+  pub of_answers : claim.moment ≡ None
   pub is_result : IsResultOf source claim search it
+
+-- what became of a claim is what one of these searches says of it, or what the search for moments does
+abbrev pub IsDecidedIn : Source → List Search → Search → ClaimResult → Type 0
+IsDecidedIn source searches found it = IsDecided source searches it ⊎ IsDecidedAtMoments searches found it

@@ -1,3 +1,6 @@
 pub mod Verdicts
 pub mod Seeing
 pub mod Deciding
+pub mod Moments
+pub mod Holding
+pub mod Private

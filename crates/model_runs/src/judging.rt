@@ -1,16 +1,23 @@
 //! What becomes of a claim.
 
-ghost use Rattle.std.specs.Prelude.{◌≡◌, map, IfOk};
+ghost use Rattle.std.specs.Prelude.{◌≡◌, map, IfOk, List, Some as Somebody};
+ghost use Rattle.std.specs.List.{slice_get};
+ghost use Rattle.derived_ops.specs.Tree.{Tree};
 ghost use Rattle.cell_registry.specs.Cells.{AreLimits};
+ghost use Rattle.cell_registry.specs.declared.limits.Limits.{Limits as TheLimits};
+ghost use Rattle.every_schedule.specs.declared.claims.ClaimWord.{ClaimWord};
 ghost use Rattle.model_claims.specs.Conditions.{truth_in};
 ghost use Rattle.model_runs.specs.Deciding.{IsJudgedBy, IsResultOf};
+ghost use Rattle.model_runs.specs.Moments.{IsJudgedMoment};
+ghost use Rattle.model_runs.specs.Private.Looking.{IsRightAt};
 
+use crate::moments::{JudgedAt, Moments, judge_at};
 use crate::named::{Named, replay_named};
 use crate::plan::Plan;
 use crate::prepared::prepare;
 use crate::result::{ClaimResult, NamedAnswer, Search};
 use model_claims::{Claim, Judged, Truth, judge, truth_in};
-use model_terms::{Refused, Source};
+use model_terms::{Probe, Refused, Source};
 use model_text::Model;
 use std::alloc::{AllocError, Global};
 
@@ -64,37 +71,82 @@ pub(crate) fn claim_result(
     ensures search { IfOk result (λ it. it.search ≡ number) }
 {
     let judged = judge_claim(alloc, source, claim, search)?;
-    let replay = shown_replay(alloc, source, model, claim, plan, judged, search)?;
+    let answers = search.answers.as_slice();
+    let replay = replay_of(alloc, source, model, claim.probe, plan, judged.shown, answers)?;
     Ok(ClaimResult {
         form: claim.form,
         rule: claim.rule,
         fails: claim.fails,
         verdict: judged.verdict,
         search: number,
+        at_moment: false,
         shown: judged.shown,
         replay,
     })
 }
 
-// The replay of the answer that decides a claim, if one does.
-fn shown_replay(
+/// What became of a claim at any moment, which has this number among these, with the replay of what decides it. The
+/// exploration has that number among the searches.
+pub(crate) fn moment_result(
     alloc: Global,
     source: &Source,
     model: &Model,
     claim: &Claim,
     plan: Plan,
-    judged: Judged,
-    search: &Search,
+    number: usize,
+    search: usize,
+    ends: &Search,
+    moments: &Moments,
+) -> Result<ClaimResult, Refused>
+    requires limits { AreLimits plan.limits }
+    ensures search { IfOk result (λ it. it.search ≡ search) }
+    ensures moment { (code : Tree) (k : TheLimits) (wanted : List (List ClaimWord)) (words : List ClaimWord) →
+        IsRightAt code k wanted moments.now → slice_get wanted number ≡ Somebody words →
+        IfOk result (IsJudgedMoment claim.now code k words ends.now moments.now.search) }
+{
+    let judged = judge_at(claim, number, ends, moments);
+    let answers = decisive_answers(judged, ends, moments);
+    let replay = replay_of(alloc, source, model, claim.probe, plan, judged.shown, answers)?;
+    Ok(ClaimResult {
+        form: claim.form,
+        rule: claim.rule,
+        fails: claim.fails,
+        verdict: judged.verdict,
+        search,
+        at_moment: judged.at_moment,
+        shown: judged.shown,
+        replay,
+    })
+}
+
+// The answers among which the one counts that decides a claim.
+fn decisive_answers<'a>(judged: JudgedAt, ends: &'a Search, moments: &'a Moments) -> &'a [NamedAnswer] {
+    if judged.at_moment {
+        moments.search.answers.as_slice()
+    } else {
+        ends.answers.as_slice()
+    }
+}
+
+// The replay of the answer of this number, if there is one, of the term with this in it.
+fn replay_of(
+    alloc: Global,
+    source: &Source,
+    model: &Model,
+    probe: Probe,
+    plan: Plan,
+    shown: Option<usize>,
+    answers: &[NamedAnswer],
 ) -> Result<Option<Named>, Refused>
     requires limits { AreLimits plan.limits }
 {
-    let Some(number) = judged.shown else {
+    let Some(number) = shown else {
         return Ok(None);
     };
-    let Some(answer) = search.answers.get(number) else {
+    let Some(answer) = answers.get(number) else {
         return Ok(None);
     };
-    let prepared = prepare(alloc, source, model, claim.probe)?;
+    let prepared = prepare(alloc, source, model, probe)?;
     let replay = replay_named(alloc, &prepared, answer.schedule.as_slice(), plan.limits)?;
     Ok(Some(replay))
 }

@@ -7,10 +7,15 @@
 //! claims', that a claim's verdict is the one that the answers of its search give it, and that each answer is what its
 //! schedule comes to in the core, as far as the outcomes of its fibers go. Where a search is complete, every report that
 //! stays what it is and every fault, under any schedule, is among its answers; a claim on every answer passes there
-//! alone.
+//! alone. A claim at any moment whose refs have known numbers is looked at in each world: one on every moment passes only
+//! where no schedule leads to a world that refutes it, and fails only by a schedule that does, or by a fault; one on some
+//! moment is met by a schedule, and fails only where none meets it.
 #![tactic(auto)]
 
+mod held;
 mod judging;
+mod looking;
+mod moments;
 mod named;
 mod origins;
 mod plan;
@@ -26,6 +31,6 @@ mod word_places;
 
 pub use named::Named;
 pub use plan::SearchBounds;
-pub use result::{ClaimResult, ModelResult, NamedAnswer, Search};
+pub use result::{ClaimResult, HeldRef, ModelResult, NamedAnswer, Search};
 pub use run::{check_model, run_model};
 pub use warnings::Warning;

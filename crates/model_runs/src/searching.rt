@@ -12,7 +12,7 @@ ghost use Rattle.model_runs.specs.Seeing.{IsAllOf, IsRight, IsSeen};
 use crate::named::{Named, replay_named};
 use crate::plan::Plan;
 use crate::prepared::Prepared;
-use crate::result::{NamedAnswer, Search};
+use crate::result::{HeldRef, NamedAnswer, Search};
 use crate::seeing::seen_of;
 use cell_registry::RunError;
 use effect_term::Program;
@@ -22,11 +22,11 @@ use scheduled_core::same_end;
 use std::alloc::{AllocError, Global};
 use world_search::Bounds;
 
-// How many worlds are kept at first: most models have fewer.
-const FIRST: usize = 10_000;
+/// How many worlds are kept at first: most models have fewer.
+pub(crate) const FIRST: usize = 10_000;
 
-// How often the worlds are made ten times as many.
-const TIMES_MORE: u32 = 8;
+/// How often the worlds are made ten times as many.
+pub(crate) const TIMES_MORE: u32 = 8;
 
 /// What can come of a program, as far as the plan goes: with few worlds at first, and then with ten times as many, up
 /// to those of the plan.
@@ -216,7 +216,23 @@ fn named_answer(
     ensures seen { IfOk result (IsSeen (code_of (source_of prepared.now.program)) plan.limits) }
     ensures schedule { IfOk result (λ it. it.schedule ≡ answer.now.schedule) }
 {
-    let entries = answer.schedule.as_slice();
+    let held = Vec::new(alloc);
+    named_end(alloc, prepared, plan, answer.schedule.as_slice(), held, came)
+}
+
+/// What a schedule comes to, in the names of the file, with what refs hold there. So often it was drawn at random.
+pub(crate) fn named_end(
+    alloc: Global,
+    prepared: &Prepared,
+    plan: Plan,
+    entries: &[u16],
+    held: Vec<HeldRef>,
+    came: u32,
+) -> Result<NamedAnswer, AllocError>
+    requires limits { AreLimits plan.limits }
+    ensures seen { IfOk result (IsSeen (code_of (source_of prepared.now.program)) plan.limits) }
+    ensures schedule { IfOk result (λ it. it.schedule ≡ entries.now) }
+{
     let replay = replay_named(alloc, prepared, entries, plan.limits)?;
     let seen = seen_of(alloc, &replay)?;
     let fault = fault_of(&replay);
@@ -224,6 +240,7 @@ fn named_answer(
     let schedule = Schedule::new(kept);
     Ok(NamedAnswer {
         seen,
+        held,
         fault,
         schedule,
         came,

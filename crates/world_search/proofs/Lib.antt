@@ -9,3 +9,5 @@ pub mod Snug
 pub mod Answering
 pub mod Results
 pub mod Free
+pub mod Claiming
+pub mod Views

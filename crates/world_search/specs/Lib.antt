@@ -3,4 +3,5 @@ pub mod Systems
 pub mod Landings
 pub mod Answers
 pub mod Free
+pub mod Claims
 pub mod Private

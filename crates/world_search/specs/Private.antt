@@ -4,3 +4,4 @@ pub mod Flags
 pub mod Paths
 pub mod Graphs
 pub mod Listed
+pub mod Claimed

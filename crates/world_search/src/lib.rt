@@ -11,6 +11,7 @@
 #![tactic(auto)]
 
 mod answers;
+mod claims;
 mod expanding;
 mod graphs;
 mod landings;
@@ -22,6 +23,7 @@ mod store;
 mod watching;
 
 pub use answers::{Answer, Bounds, Found};
+pub use claims::{Claimed, Claims, Met, search_claims};
 pub use landings::{Entered, Landing};
 pub use searching::search;
 pub use store::Worlds;

@@ -76,6 +76,21 @@ pub fn search<W: Worlds, V: Watcher>(
     })
 }
 
+/// The limits of these bounds, as numbers of the graph.
+pub fn limits_of(bounds: Bounds) -> Limits
+    ensures worlds { result.worlds ≡ min bounds.worlds 4294967295 }
+    ensures entries { result.entries ≡ min bounds.entries 4294967295 }
+    ensures memory { result.memory ≡ bounds.memory }
+{
+    let worlds = capped(bounds.worlds);
+    let entries = capped(bounds.entries);
+    Limits {
+        worlds,
+        entries,
+        memory: bounds.memory,
+    }
+}
+
 // A bound as a number of the graph.
 fn capped(bound: usize) -> u32
     ensures below { result ≤ bound }

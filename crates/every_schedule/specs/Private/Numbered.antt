@@ -64,7 +64,7 @@ abbrev pub AreWorlds : Limits → List Fiber → List PlainView → List Numbers
 AreWorlds k fs rs rows = (i : ℕ) (n : Numbers) → slice_get rows i ≡ Some n → IsWorld k fs rs n
 
 -- the row may be one more
-abbrev pub MayAdd : List Numbers → List Numbers → Numbers → Type 0
+abbrev pub MayAdd : {A : Type 0} → List A → List A → A → Type 0
 MayAdd old new n = (new ≡ old) ⊎ (new ≡ old ++ n ∷ [])
 
 -- of these fibers, the first i have the states of these numbers, and those behind still have the states of those

@@ -1,10 +1,32 @@
--- The world at which an entry is made, beside the numbers of its states.
-use Rattle.std.specs.Prelude.{List}
+-- The world at which entries are made: the numbers of its fibers' states, beside its registry.
+use Rattle.std.specs.Prelude.{◌≡◌, ℕ, List}
 use Rattle.cell_registry.specs.Plain.{PlainView}
 use Rattle.fiber_frames.specs.Fiber.{Fiber}
-use Rattle.every_schedule.specs.declared.current.Current.{Current}
-use Rattle.every_schedule.specs.Private.Numbered.{IsWorldOf}
+use Rattle.scheduled_core.specs.Fitting.{world_of}
+use Rattle.world_search.specs.Lists.{IsMore}
+use Rattle.every_schedule.specs.Places.{Place}
+use Rattle.every_schedule.specs.Private.Numbered.{picked}
 
--- the numbers are those of the states
-abbrev pub IsCurrent : List Fiber → List PlainView → Current → Type 0
-IsCurrent fs rs c = IsWorldOf fs rs c.row c.world
+-- the states of fibers and registries that are kept, the numbers of the fibers' states, the registry, and how many bytes
+-- are counted for what is kept
+pub record Stand : Type 0 where
+  pub fibers : List Fiber
+  pub registries : List PlainView
+  pub numbers : List ℕ
+  pub registry : PlainView
+  pub bytes : ℕ
+
+-- the world
+abbrev pub here : Stand → Place
+here s = record { limits = s.registry.limits; world = world_of (picked s.fibers s.numbers) s.registry.state }
+
+-- each state is still the one of its number
+pub record IsOnward (old new : Stand) : Type 0 where
+  pub fibers : IsMore old.fibers new.fibers
+  pub registries : IsMore old.registries new.registries
+
+-- the same world, of the same states
+pub record IsSame (old new : Stand) : Type 0 where
+  pub fibers : new.fibers ≡ old.fibers
+  pub registries : new.registries ≡ old.registries
+  pub here : here new ≡ here old

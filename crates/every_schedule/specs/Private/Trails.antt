@@ -7,6 +7,7 @@ use Rattle.world_search.specs.Lists.{IsIn}
 use Rattle.world_search.specs.Systems.{run}
 use Rattle.world_search.specs.declared.landings.Landing.{Landing}
 use Rattle.world_search.specs.declared.landings.Landing.TheVariants as to
+use Rattle.every_schedule.specs.declared.leaping.AtOnce.{AtOnce}
 use Rattle.every_schedule.specs.Explored.{HasMove}
 use Rattle.every_schedule.specs.Places.{Place, stepped}
 use Rattle.every_schedule.specs.Reduced.{leapt}
@@ -24,14 +25,14 @@ pub record IsTrail (old new : List ℕ) (p : Place) (y : Result Place RunError) 
   pub few : All (λ f. f < 1000) added
   pub moves : AreMade p added
 
--- these entries lead to where the entries of the reduced exploration lead, each with at most n own moves behind it
-pub record IsUnfolded (n : ℕ) (first : Place) (schedule entries : List ℕ) : Type 0 where
+-- these entries lead to where the entries of the reduced exploration lead, each with such own moves behind it
+pub record IsUnfolded (n : AtOnce) (first : Place) (schedule entries : List ℕ) : Type 0 where
   pub leads : run stepped (Ok first) entries ≡ run (leapt n) (Ok first) schedule
   pub few : All (λ f. f < 1000) entries
   pub moves : AreMade first entries
 
 -- an answer that was found, with such entries, which are at most so many
-pub record IsUnfoldedOf (n most : ℕ) (first : Place) (found : List Found) (a : Found) : Type 0 where
+pub record IsUnfoldedOf (n : AtOnce) (most : ℕ) (first : Place) (found : List Found) (a : Found) : Type 0 where
   pub number : ℕ
   pub answer : Found
   pub at : slice_get found number ≡ Some answer
@@ -40,7 +41,7 @@ pub record IsUnfoldedOf (n most : ℕ) (first : Place) (found : List Found) (a :
   pub short : length a.schedule.items ≤ most
 
 -- each of these is such an answer
-abbrev pub AreUnfolded : ℕ → ℕ → Place → List Found → List Found → Type 0
+abbrev pub AreUnfolded : AtOnce → ℕ → Place → List Found → List Found → Type 0
 AreUnfolded n most first found answers =
     (i : ℕ) (a : Found) → slice_get answers i ≡ Some a → IsUnfoldedOf n most first found a
 
@@ -49,7 +50,7 @@ abbrev pub IsKeptIn : List Found → Found → Type 0
 IsKeptIn answers a = (b : Found) × IsIn b answers × (b.end ≡ a.end)
 
 -- an answer that was found, with such entries, which are more than so many
-pub record IsLeftOut (n most : ℕ) (first : Place) (found : List Found) (a : Found) : Type 0 where
+pub record IsLeftOut (n : AtOnce) (most : ℕ) (first : Place) (found : List Found) (a : Found) : Type 0 where
   pub number : ℕ
   pub answer : Found
   pub at : slice_get found number ≡ Some answer

@@ -6,4 +6,5 @@ use Rattle.command_words.proofs.words.with_explore_forms.Goals as goal
 pub returns-clause-shape : goal.returns-clause-shape
 returns-clause-shape c =
     let two = c.in_ok-timed.ensures.shape ∙ ap₂ with_rule c.in_ok-watched.ensures.shape refl in
-    IfOk-weaker c.with_flag-3.result _ _ (λ m h. h ∙ ap₂ with_rule two refl) c.with_flag-3.ensures.shape
+    let three = c.in_ok-valued.ensures.shape ∙ ap₂ with_rule two refl in
+    IfOk-weaker c.with_flag-4.result _ _ (λ m h. h ∙ ap₂ with_rule three refl) c.with_flag-4.ensures.shape

@@ -9,6 +9,7 @@ use Rattle.world_search.specs.Answers as search
 use Rattle.every_schedule.specs.declared.exploration.Answer.{Answer}
 use Rattle.every_schedule.specs.Explored.{AreInOrder, AreMoves, IsAnswered, IsCovered, IsPastBound, IsReached, ListOnce}
 use Rattle.every_schedule.specs.Places.{Place, first_place, report_at, stepped}
+use Rattle.every_schedule.specs.Reduced.{hundred}
 use Rattle.every_schedule.specs.Private.Trails.{AreUnfolded, EndApart, IsLeftOut}
 use Rattle.every_schedule.proofs.Placed.{core_run}
 use Rattle.every_schedule.proofs.Deadlocks.{none_waits}
@@ -29,9 +30,9 @@ told-requires g c =
     let raw = c.in_ok-found.found.answers.items in
     let found = c.in_ok-unfolded.unfolded.answers.items in
     let first : slice_get c.in_ok-worlds.worlds.worlds.places 0 ≡ Some start = ap (λ (l : List Place). slice_get l 0) c.in_ok-worlds.ensures.places in
-    let each : AreUnfolded 100 c.args.bounds.entries start raw found =
-    subst (λ (l : List Found). AreUnfolded 100 c.args.bounds.entries start l found) c.as_slice.ensures.value c.in_ok-unfolded.ensures.each in
-    all_within kept start found (right kept start 100 c.args.bounds.entries raw found each (c.in_ok-found.ensures.each start first))
+    let each : AreUnfolded hundred c.args.bounds.entries start raw found =
+    subst (λ (l : List Found). AreUnfolded hundred c.args.bounds.entries start l found) c.as_slice.ensures.value c.in_ok-unfolded.ensures.each in
+    all_within kept start found (right kept start hundred c.args.bounds.entries raw found each (c.in_ok-found.ensures.each start first))
 
 pub returns-clause-all : goal.returns-clause-all
 returns-clause-all g c = λ complete schedule.
@@ -42,11 +43,11 @@ returns-clause-all g c = λ complete schedule.
     let raw = c.in_ok-found.found.answers.items in
     let found = c.in_ok-unfolded.unfolded.answers.items in
     let first : slice_get c.in_ok-worlds.worlds.worlds.places 0 ≡ Some start = ap (λ (l : List Place). slice_get l 0) c.in_ok-worlds.ensures.places in
-    let each : AreUnfolded 100 c.args.bounds.entries start raw found =
-    subst (λ (l : List Found). AreUnfolded 100 c.args.bounds.entries start l found) c.as_slice.ensures.value c.in_ok-unfolded.ensures.each in
+    let each : AreUnfolded hundred c.args.bounds.entries start raw found =
+    subst (λ (l : List Found). AreUnfolded hundred c.args.bounds.entries start l found) c.as_slice.ensures.value c.in_ok-unfolded.ensures.each in
     let whole = λ (i : _) (a : Found) (at : slice_get raw i ≡ Some a). c.in_ok-unfolded.ensures.whole (c.are_both.ensures.other complete) i a
     (subst (λ (l : List Found). slice_get l i ≡ Some a) (sym c.as_slice.ensures.value) at) in
-    let all = all_covered kept start 100 c.args.bounds.entries raw found each whole
+    let all = all_covered kept start hundred c.args.bounds.entries raw found each whole
     (c.in_ok-found.ensures.all (c.are_both.ensures.one complete) start first) schedule in
     subst (λ (l : List Answer). IsCovered k l (core code k schedule)) (sym c.new-2.ensures)
     (covered kept found c.in_ok-answers.answers.items c.in_ok-answers.ensures.told k (core code k schedule)
@@ -61,11 +62,11 @@ returns-clause-each g c =
     let raw = c.in_ok-found.found.answers.items in
     let found = c.in_ok-unfolded.unfolded.answers.items in
     let first : slice_get c.in_ok-worlds.worlds.worlds.places 0 ≡ Some start = ap (λ (l : List Place). slice_get l 0) c.in_ok-worlds.ensures.places in
-    let each : AreUnfolded 100 c.args.bounds.entries start raw found =
-    subst (λ (l : List Found). AreUnfolded 100 c.args.bounds.entries start l found) c.as_slice.ensures.value c.in_ok-unfolded.ensures.each in
+    let each : AreUnfolded hundred c.args.bounds.entries start raw found =
+    subst (λ (l : List Found). AreUnfolded hundred c.args.bounds.entries start l found) c.as_slice.ensures.value c.in_ok-unfolded.ensures.each in
     subst (λ (l : List Answer). All (IsReached code k) l) (sym c.new-2.ensures)
     (reached kept found c.in_ok-answers.answers.items c.in_ok-answers.ensures.told code k
-    (right kept start 100 c.args.bounds.entries raw found each (c.in_ok-found.ensures.each start first)))
+    (right kept start hundred c.args.bounds.entries raw found each (c.in_ok-found.ensures.each start first)))
 
 pub returns-clause-onward : goal.returns-clause-onward
 returns-clause-onward g c = λ complete schedule.
@@ -76,12 +77,12 @@ returns-clause-onward g c = λ complete schedule.
     let raw = c.in_ok-found.found.answers.items in
     let found = c.in_ok-unfolded.unfolded.answers.items in
     let first : slice_get c.in_ok-worlds.worlds.worlds.places 0 ≡ Some start = ap (λ (l : List Place). slice_get l 0) c.in_ok-worlds.ensures.places in
-    let each : AreUnfolded 100 c.args.bounds.entries start raw found =
-    subst (λ (l : List Found). AreUnfolded 100 c.args.bounds.entries start l found) c.as_slice.ensures.value c.in_ok-unfolded.ensures.each in
+    let each : AreUnfolded hundred c.args.bounds.entries start raw found =
+    subst (λ (l : List Found). AreUnfolded hundred c.args.bounds.entries start l found) c.as_slice.ensures.value c.in_ok-unfolded.ensures.each in
     let whole = λ (i : _) (a : Found) (at : slice_get raw i ≡ Some a). c.in_ok-unfolded.ensures.whole (c.are_both.ensures.other complete) i a
     (subst (λ (l : List Found). slice_get l i ≡ Some a) (sym c.as_slice.ensures.value) at) in
-    let on = all_onward kept start 100 c.args.bounds.entries raw found each whole
-    (c.in_ok-found.ensures.onward (c.are_both.ensures.one complete) size (leaps_grow 100) start first) schedule in (
+    let on = all_onward kept start hundred c.args.bounds.entries raw found each whole
+    (c.in_ok-found.ensures.onward (c.are_both.ensures.one complete) size (leaps_grow hundred) start first) schedule in (
       on.0,
       subst (λ (l : List Answer). IsAnswered k l (core code k (schedule ++ on.0))) (sym c.new-2.ensures)
           (answered kept found c.in_ok-answers.answers.items c.in_ok-answers.ensures.told k (core code k (schedule ++ on.0))
@@ -97,10 +98,10 @@ returns-clause-numbers g c =
     let raw = c.in_ok-found.found.answers.items in
     let found = c.in_ok-unfolded.unfolded.answers.items in
     let first : slice_get c.in_ok-worlds.worlds.worlds.places 0 ≡ Some start = ap (λ (l : List Place). slice_get l 0) c.in_ok-worlds.ensures.places in
-    let each : AreUnfolded 100 c.args.bounds.entries start raw found =
-    subst (λ (l : List Found). AreUnfolded 100 c.args.bounds.entries start l found) c.as_slice.ensures.value c.in_ok-unfolded.ensures.each in
+    let each : AreUnfolded hundred c.args.bounds.entries start raw found =
+    subst (λ (l : List Found). AreUnfolded hundred c.args.bounds.entries start l found) c.as_slice.ensures.value c.in_ok-unfolded.ensures.each in
     subst (λ (l : List Answer). All (λ a. All (λ f. f < 1000) a.schedule) l) (sym c.new-2.ensures)
-    (numbered kept found c.in_ok-answers.answers.items c.in_ok-answers.ensures.told 1000 (few kept start 100 c.args.bounds.entries raw found each))
+    (numbered kept found c.in_ok-answers.answers.items c.in_ok-answers.ensures.told 1000 (few kept start hundred c.args.bounds.entries raw found each))
 
 pub returns-clause-short : goal.returns-clause-short
 returns-clause-short g c =
@@ -111,11 +112,11 @@ returns-clause-short g c =
     let raw = c.in_ok-found.found.answers.items in
     let found = c.in_ok-unfolded.unfolded.answers.items in
     let first : slice_get c.in_ok-worlds.worlds.worlds.places 0 ≡ Some start = ap (λ (l : List Place). slice_get l 0) c.in_ok-worlds.ensures.places in
-    let each : AreUnfolded 100 c.args.bounds.entries start raw found =
-    subst (λ (l : List Found). AreUnfolded 100 c.args.bounds.entries start l found) c.as_slice.ensures.value c.in_ok-unfolded.ensures.each in
+    let each : AreUnfolded hundred c.args.bounds.entries start raw found =
+    subst (λ (l : List Found). AreUnfolded hundred c.args.bounds.entries start l found) c.as_slice.ensures.value c.in_ok-unfolded.ensures.each in
     subst (λ (l : List Answer). All (λ a. length a.schedule ≤ c.args.bounds.entries) l) (sym c.new-2.ensures)
     (short kept found c.in_ok-answers.answers.items c.in_ok-answers.ensures.told c.args.bounds.entries
-    (brief kept start 100 c.args.bounds.entries raw found each))
+    (brief kept start hundred c.args.bounds.entries raw found each))
 
 pub returns-clause-faultless : goal.returns-clause-faultless
 returns-clause-faultless g c = λ complete none schedule e is.
@@ -145,10 +146,10 @@ returns-clause-moves g c =
     let kept = c.search.new.worlds.worlds in
     let raw = c.in_ok-found.found.answers.items in
     let found = c.in_ok-unfolded.unfolded.answers.items in
-    let each : AreUnfolded 100 c.args.bounds.entries start raw found =
-    subst (λ (l : List Found). AreUnfolded 100 c.args.bounds.entries start l found) c.as_slice.ensures.value c.in_ok-unfolded.ensures.each in
+    let each : AreUnfolded hundred c.args.bounds.entries start raw found =
+    subst (λ (l : List Found). AreUnfolded hundred c.args.bounds.entries start l found) c.as_slice.ensures.value c.in_ok-unfolded.ensures.each in
     subst (λ (l : List Answer). All (λ a. AreMoves k (first_world code k) a.schedule) l) (sym c.new-2.ensures)
-    (moving kept found c.in_ok-answers.answers.items c.in_ok-answers.ensures.told code k (made kept start 100 c.args.bounds.entries raw found each))
+    (moving kept found c.in_ok-answers.answers.items c.in_ok-answers.ensures.told code k (made kept start hundred c.args.bounds.entries raw found each))
 
 pub returns-clause-order : goal.returns-clause-order
 returns-clause-order g c =
@@ -166,14 +167,14 @@ returns-clause-once g c =
     let raw = c.in_ok-found.found.answers.items in
     let found = c.in_ok-unfolded.unfolded.answers.items in
     let first : slice_get c.in_ok-worlds.worlds.worlds.places 0 ≡ Some start = ap (λ (l : List Place). slice_get l 0) c.in_ok-worlds.ensures.places in
-    let each : AreUnfolded 100 c.args.bounds.entries start raw found =
-    subst (λ (l : List Found). AreUnfolded 100 c.args.bounds.entries start l found) c.as_slice.ensures.value c.in_ok-unfolded.ensures.each in
+    let each : AreUnfolded hundred c.args.bounds.entries start raw found =
+    subst (λ (l : List Found). AreUnfolded hundred c.args.bounds.entries start l found) c.as_slice.ensures.value c.in_ok-unfolded.ensures.each in
     let apart : EndApart found = c.in_ok-unfolded.ensures.apart
     (subst (λ (l : List Found). EndApart l) (sym c.as_slice.ensures.value)
-    (found_apart 100 kept start raw (c.in_ok-found.ensures.each start first) c.in_ok-found.ensures.once)) in
+    (found_apart hundred kept start raw (c.in_ok-found.ensures.each start first) c.in_ok-found.ensures.once)) in
     subst (λ (l : List Answer). ListOnce l) (sym c.new-2.ensures)
     (once kept found c.in_ok-answers.answers.items c.in_ok-answers.ensures.told c.told.ensures.single
-    (unfolded_once kept start 100 c.args.bounds.entries raw found each c.in_ok-found.ensures.once apart))
+    (unfolded_once kept start hundred c.args.bounds.entries raw found each c.in_ok-found.ensures.once apart))
 
 pub returns-clause-stopped : goal.returns-clause-stopped
 returns-clause-stopped g c = λ isnt.
@@ -190,15 +191,15 @@ returns-clause-stopped g c = λ isnt.
       | inl stop ↦ inl (c.in_ok-found.ensures.stopped stop alone)
       | inr cut ↦
           let same = c.as_slice.ensures.value in
-          let each : AreUnfolded 100 most start raw found =
-          subst (λ (l : List Found). AreUnfolded 100 most start l found) same c.in_ok-unfolded.ensures.each in
+          let each : AreUnfolded hundred most start raw found =
+          subst (λ (l : List Found). AreUnfolded hundred most start l found) same c.in_ok-unfolded.ensures.each in
           let its = c.in_ok-found.ensures.each start first in
           let once_raw = c.in_ok-found.ensures.once in
-          let all : EndApart raw = found_apart 100 kept start raw its once_raw in
+          let all : EndApart raw = found_apart hundred kept start raw its once_raw in
           let apart : EndApart found = c.in_ok-unfolded.ensures.apart (subst (λ (l : List Found). EndApart l) (sym same) all) in
           let out = c.in_ok-unfolded.ensures.left cut in
-          let left : IsLeftOut 100 most start raw out.0 = subst (λ (l : List Found). IsLeftOut 100 most start l out.0) same out.1 in
+          let left : IsLeftOut hundred most start raw out.0 = subst (λ (l : List Found). IsLeftOut hundred most start l out.0) same out.1 in
           inr (subst (λ (l : List Answer). IsPastBound code k most l) (sym c.new-2.ensures)
-          (past_bound code k kept 100 most raw found c.in_ok-answers.answers.items out.0 c.in_ok-answers.ensures.told c.told.ensures.single each its
+          (past_bound code k kept hundred most raw found c.in_ok-answers.answers.items out.0 c.in_ok-answers.ensures.told c.told.ensures.single each its
           once_raw apart left (out.2 (subst (λ (l : List Found). EndApart l) (sym same) all))))
     ]

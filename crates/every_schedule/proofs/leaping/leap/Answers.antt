@@ -1,9 +1,14 @@
 use Rattle.std.proofs.Common.{Ok}
+use Rattle.every_schedule.specs.Private.Standing.{here}
+use Rattle.every_schedule.proofs.Standing.{onward_on}
 use Rattle.every_schedule.proofs.Trails.{trail_more}
 use Rattle.every_schedule.proofs.leaping.leap.Goals as goal
 
 pub returns-clause-trail : goal.returns-clause-trail
 returns-clause-trail c =
-    let next = c.in_ok-next.next.world in
-    trail_more c.args.trail.now.items c.note.new.trail.items c.push.new.trail.items c.args.current.world next (Ok c.in_ok-last.last.world)
-    (c.in_ok-note.ensures (Ok next) c.in_ok-next.ensures.goes) c.in_ok-last.ensures.trail
+    let next = here c.enter.new.self in
+    trail_more c.args.trail.now.items c.note.new.trail.items c.push.new.trail.items (here c.args.current.now) next (Ok (here c.push.new.current))
+    (c.in_ok-note.ensures (Ok next) c.in_ok-enter.ensures.goes) c.in_ok-push.ensures.trail
+
+pub returns-clause-onward : goal.returns-clause-onward
+returns-clause-onward c = onward_on c.args.current.now c.enter.new.self c.push.new.current c.enter.ensures.onward c.push.ensures.onward

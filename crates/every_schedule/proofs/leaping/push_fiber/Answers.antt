@@ -1,112 +1,87 @@
 use Rattle.std.proofs.Common.{◌≡◌, ℕ, List, Ok, Err, refl, sym, ◌∙◌, subst}
+use Rattle.scheduled_core.specs.Fitting.{AllFit}
 use Rattle.every_schedule.specs.Places.{Place, stepped}
-use Rattle.every_schedule.specs.Private.Numbered.{IsWorldOf, Numbers}
+use Rattle.every_schedule.specs.Reduced.{after_own, is_made, own_of}
+use Rattle.every_schedule.specs.Private.Standing.{here}
 use Rattle.every_schedule.specs.Private.Trails.{IsTrail}
-use Rattle.every_schedule.proofs.Leaps.{fiber_made, fiber_none, fiber_refused, own_moves, refused}
-use Rattle.every_schedule.proofs.Numbered.{of_more, one_rebuilt}
+use Rattle.every_schedule.proofs.Leaps.{fiber_made, fiber_none, fiber_refused, own_moves, refused_with}
+use Rattle.every_schedule.proofs.Standing.{onward_on, same_onward}
 use Rattle.every_schedule.proofs.Trails.{trail_none, trail_one}
 use Rattle.every_schedule.proofs.leaping.push_fiber.Goals as goal
 
-pub fresh-requires : goal.fresh-requires
-fresh-requires c =
-    let fs = c.args.states.now.fibers.items.items in
-    let rs = c.args.states.now.registries.items.items in
-    let fs' = c.entered.new.states.fibers.items.items in
-    let rs' = c.entered.new.states.registries.items.items in
-    let p = c.args.current.world in
-    record {
-      row = (
-        p.limits,
-        record {
-          place = p;
-          limits = refl;
-          is = subst (λ (n : Numbers). IsWorldOf fs' rs' n p) (sym c.in_ok-row.ensures)
-              (of_more fs fs' rs rs' c.entered.ensures.fibers c.entered.ensures.registries c.args.current.row p c.requires.current);
-          fits = c.has_own_move.ensures.fits;
-        },
-      );
-    }
+pub enter-requires : goal.enter-requires
+enter-requires c = subst (λ (p : Place). AllFit p.world) (sym c.has_own_move.ensures.same.here) c.requires.fits
 
-pub returns-in-Ok-clause-trail : goal.returns-in-Ok-clause-trail
-returns-in-Ok-clause-trail c =
-    let old = c.args.trail.now.items in
-    subst (λ (l : List ℕ). IsTrail old l c.args.current.world (Ok c.in-Ok.next.world)) (sym c.in_ok-add-in-Ok.ensures)
-    (trail_one old c.args.current.world c.args.fiber (Ok c.in-Ok.next.world) c.requires.few
-    (own_moves c.args.current.world c.args.fiber (sym c.has_own_move.ensures.own ∙ c.if-not-has_own_move.false)) c.in-Ok.ensures.goes)
-
-pub returns-clause-goes : goal.returns-clause-goes
-returns-clause-goes c =
-    let fs = c.args.states.now.fibers.items.items in
-    let rs = c.args.states.now.registries.items.items in
-    let fs' = c.entered.new.states.fibers.items.items in
-    let rs' = c.entered.new.states.registries.items.items in
-    let p = c.args.current.world in
-    let last = c.in_ok-before-in-Err.before in
-    let same : last.world ≡ p = one_rebuilt fs fs' rs rs' c.entered.ensures.fibers c.entered.ensures.registries c.args.current.row c.in_ok-row.row
-    last.row p last.world c.requires.current c.in_ok-row.ensures c.in_ok-before-in-Err.ensures.row c.in_ok-before-in-Err.ensures.current in
-    let own = sym c.has_own_move.ensures.own ∙ c.if-not-has_own_move.false in
-    let stops : stepped p c.args.fiber ≡ Err c.in-Err.fault =
-    refused c.in-Err.fault (stepped p c.args.fiber) (c.is_memory.ensures c.if-is_memory.false) c.in-Err.ensures.stops in
-    same ∙ sym (fiber_refused p c.args.fiber c.in-Err.fault own stops)
-
-pub returns-clause-stays : goal.returns-clause-stays
-returns-clause-stays c = λ other.
-    let fs = c.args.states.now.fibers.items.items in
-    let rs = c.args.states.now.registries.items.items in
-    let fs' = c.entered.new.states.fibers.items.items in
-    let rs' = c.entered.new.states.registries.items.items in
-    let p = c.args.current.world in
-    let last = c.in_ok-before-in-Err.before in
-    let same : last.world ≡ p = one_rebuilt fs fs' rs rs' c.entered.ensures.fibers c.entered.ensures.registries c.args.current.row c.in_ok-row.row
-    last.row p last.world c.requires.current c.in_ok-row.ensures c.in_ok-before-in-Err.ensures.row c.in_ok-before-in-Err.ensures.current in
-    same
-
-pub returns-clause-trail : goal.returns-clause-trail
-returns-clause-trail c =
-    let fs = c.args.states.now.fibers.items.items in
-    let rs = c.args.states.now.registries.items.items in
-    let fs' = c.entered.new.states.fibers.items.items in
-    let rs' = c.entered.new.states.registries.items.items in
-    let p = c.args.current.world in
-    let last = c.in_ok-before-in-Err.before in
-    let same : last.world ≡ p = one_rebuilt fs fs' rs rs' c.entered.ensures.fibers c.entered.ensures.registries c.args.current.row c.in_ok-row.row
-    last.row p last.world c.requires.current c.in_ok-row.ensures c.in_ok-before-in-Err.ensures.row c.in_ok-before-in-Err.ensures.current in
-    subst (λ (x : Place). IsTrail c.args.trail.now.items c.args.trail.now.items p (Ok x)) (sym same) (trail_none c.args.trail.now.items p)
-
-pub returns-then-is-clause-stays : goal.returns-then-is-clause-stays
-returns-then-is-clause-stays c = λ stays.
-    let fs = c.args.states.now.fibers.items.items in
-    let rs = c.args.states.now.registries.items.items in
-    let fs' = c.entered.new.states.fibers.items.items in
-    let rs' = c.entered.new.states.registries.items.items in
-    let p = c.args.current.world in
-    let next = c.in-Ok.next in
-    let same : next.world ≡ p = one_rebuilt fs fs' rs rs' c.entered.ensures.fibers c.entered.ensures.registries c.args.current.row c.in_ok-row.row
-    next.row p next.world c.requires.current c.in_ok-row.ensures (c.is.ensures c.if-is.true) c.in-Ok.ensures.current in
-    same
-
-pub returns-then-is-clause-trail : goal.returns-then-is-clause-trail
-returns-then-is-clause-trail c =
-    let fs = c.args.states.now.fibers.items.items in
-    let rs = c.args.states.now.registries.items.items in
-    let fs' = c.entered.new.states.fibers.items.items in
-    let rs' = c.entered.new.states.registries.items.items in
-    let p = c.args.current.world in
-    let next = c.in-Ok.next in
-    let same : next.world ≡ p = one_rebuilt fs fs' rs rs' c.entered.ensures.fibers c.entered.ensures.registries c.args.current.row c.in_ok-row.row
-    next.row p next.world c.requires.current c.in_ok-row.ensures (c.is.ensures c.if-is.true) c.in-Ok.ensures.current in
-    subst (λ (x : Place). IsTrail c.args.trail.now.items c.args.trail.now.items p (Ok x)) (sym same) (trail_none c.args.trail.now.items p)
-
-pub returns-then-is-clause-goes : goal.returns-then-is-clause-goes
-returns-then-is-clause-goes c =
-    let own = sym c.has_own_move.ensures.own ∙ c.if-not-has_own_move.false in
-    sym (fiber_made c.args.current.world c.args.fiber c.in-Ok.next.world own c.in-Ok.ensures.goes)
-
-pub returns-in-Ok-clause-goes : goal.returns-in-Ok-clause-goes
-returns-in-Ok-clause-goes c =
-    let own = sym c.has_own_move.ensures.own ∙ c.if-not-has_own_move.false in
-    sym (fiber_made c.args.current.world c.args.fiber c.in-Ok.next.world own c.in-Ok.ensures.goes)
+pub returns-then-not-has_own_move-clause-onward : goal.returns-then-not-has_own_move-clause-onward
+returns-then-not-has_own_move-clause-onward c = same_onward c.args.current.now c.has_own_move.new.current c.has_own_move.ensures.same
 
 pub returns-then-not-has_own_move-clause-goes : goal.returns-then-not-has_own_move-clause-goes
 returns-then-not-has_own_move-clause-goes c =
-    sym (fiber_none c.args.current.world c.args.fiber (sym c.has_own_move.ensures.own ∙ c.if-not-has_own_move.true))
+    c.has_own_move.ensures.same.here ∙
+    sym (fiber_none c.args.stores (here c.args.current.now) c.args.fiber (sym c.has_own_move.ensures.own ∙ c.if-not-has_own_move.true))
+
+pub returns-then-not-has_own_move-clause-fits : goal.returns-then-not-has_own_move-clause-fits
+returns-then-not-has_own_move-clause-fits c = subst (λ (p : Place). AllFit p.world) (sym c.has_own_move.ensures.same.here) c.requires.fits
+
+pub returns-then-not-has_own_move-clause-stays : goal.returns-then-not-has_own_move-clause-stays
+returns-then-not-has_own_move-clause-stays c = λ e. c.has_own_move.ensures.same.here
+
+pub returns-then-not-has_own_move-clause-trail : goal.returns-then-not-has_own_move-clause-trail
+returns-then-not-has_own_move-clause-trail c =
+    let old = c.args.trail.now.items in
+    let p = here c.args.current.now in
+    subst (λ (x : Place). IsTrail old old p (Ok x)) (sym c.has_own_move.ensures.same.here) (trail_none old p)
+
+pub returns-clause-onward : goal.returns-clause-onward
+returns-clause-onward c =
+    onward_on c.args.current.now c.has_own_move.new.current c.enter.new.self
+    (same_onward c.args.current.now c.has_own_move.new.current c.has_own_move.ensures.same) c.enter.ensures.onward
+
+pub returns-clause-goes : goal.returns-clause-goes
+returns-clause-goes c =
+    let p = here c.args.current.now in
+    let q = here c.enter.new.self in
+    let own = sym c.has_own_move.ensures.own ∙ c.if-not-has_own_move.false in
+    let goes : stepped p c.args.fiber ≡ Ok q = subst (λ (x : Place). stepped x c.args.fiber ≡ Ok q) c.has_own_move.ensures.same.here c.in-Ok.ensures.goes in
+    sym (fiber_made c.args.stores p c.args.fiber q own goes)
+
+pub returns-clause-trail : goal.returns-clause-trail
+returns-clause-trail c =
+    let old = c.args.trail.now.items in
+    let p = here c.args.current.now in
+    let q = here c.enter.new.self in
+    let own = sym c.has_own_move.ensures.own ∙ c.if-not-has_own_move.false in
+    let goes : stepped p c.args.fiber ≡ Ok q = subst (λ (x : Place). stepped x c.args.fiber ≡ Ok q) c.has_own_move.ensures.same.here c.in-Ok.ensures.goes in
+    subst (λ (l : List ℕ). IsTrail old l p (Ok q)) (sym c.in_ok-add.ensures)
+    (trail_one old p c.args.fiber (Ok q) c.requires.few (own_moves c.args.stores p c.args.fiber own) goes)
+
+pub returns-in-Err-clause-onward : goal.returns-in-Err-clause-onward
+returns-in-Err-clause-onward c =
+    onward_on c.args.current.now c.has_own_move.new.current c.enter.new.self
+    (same_onward c.args.current.now c.has_own_move.new.current c.has_own_move.ensures.same) c.enter.ensures.onward
+
+pub returns-in-Err-clause-goes : goal.returns-in-Err-clause-goes
+returns-in-Err-clause-goes c =
+    let p = here c.args.current.now in
+    let own = sym c.has_own_move.ensures.own ∙ c.if-not-has_own_move.false in
+    let both = refused_with c.in-Err.fault _ (c.is_memory.ensures c.if-is_memory.false) c.in-Err.ensures.stops in
+    let stops : stepped p c.args.fiber ≡ Err c.in-Err.fault =
+    subst (λ (x : Place). stepped x c.args.fiber ≡ Err c.in-Err.fault) c.has_own_move.ensures.same.here both.0 in
+    both.1 ∙ c.has_own_move.ensures.same.here ∙ sym (fiber_refused c.args.stores p c.args.fiber c.in-Err.fault own stops)
+
+pub returns-in-Err-clause-stays : goal.returns-in-Err-clause-stays
+returns-in-Err-clause-stays c = λ e.
+    let both = refused_with c.in-Err.fault _ (c.is_memory.ensures c.if-is_memory.false) c.in-Err.ensures.stops in
+    both.1 ∙ c.has_own_move.ensures.same.here
+
+pub returns-in-Err-clause-fits : goal.returns-in-Err-clause-fits
+returns-in-Err-clause-fits c =
+    let both = refused_with c.in-Err.fault _ (c.is_memory.ensures c.if-is_memory.false) c.in-Err.ensures.stops in
+    subst (λ (p : Place). AllFit p.world) (sym (both.1 ∙ c.has_own_move.ensures.same.here)) c.requires.fits
+
+pub returns-in-Err-clause-trail : goal.returns-in-Err-clause-trail
+returns-in-Err-clause-trail c =
+    let old = c.args.trail.now.items in
+    let p = here c.args.current.now in
+    let both = refused_with c.in-Err.fault _ (c.is_memory.ensures c.if-is_memory.false) c.in-Err.ensures.stops in
+    subst (λ (x : Place). IsTrail old old p (Ok x)) (sym (both.1 ∙ c.has_own_move.ensures.same.here)) (trail_none old p)

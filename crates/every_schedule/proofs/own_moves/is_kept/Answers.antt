@@ -1,48 +1,75 @@
-use Rattle.std.proofs.Common.{◌≡◌, ◌≢◌, true, false, not, ◌||◌, nat_eq, List, Some, sym, ap, ◌∙◌, subst, arith}
+use Rattle.std.proofs.Common.{◌≡◌, ◌<◌, ◌≤◌, true, false, not, ◌||◌, nat_eq, length, refl, sym, ap, ◌∙◌, subst, arith}
+use Rattle.std.specs.Prelude.{Some}
 use Rattle.std.specs.List.{slice_get}
-use Rattle.std.proofs.lemmas.Grind.{common_steps}
-use Rattle.std.proofs.lemmas.Option.{gets}
-use Rattle.fiber_frames.specs.Fiber.{Fiber}
-use Rattle.scheduled_core.specs.Fitting.{given_by}
+use Rattle.scheduled_core.specs.Fitting.{AllFit}
+use Rattle.world_search.proofs.Lists.{get_low}
+use Rattle.every_schedule.specs.Places.{Place}
 use Rattle.every_schedule.specs.Reduced.{keeps}
-use Rattle.every_schedule.proofs.Alone.{given_kept, itself, keeps_told, one_passes, one_stops}
+use Rattle.every_schedule.specs.Private.Standing.{here}
+use Rattle.every_schedule.proofs.Alone.{given_kept, none_left, one_passes, one_stops}
+use Rattle.every_schedule.proofs.Standing.{same_none, same_on}
 use Rattle.every_schedule.proofs.own_moves.is_kept.Goals as goal
-use Rattle.every_schedule.proofs.own_moves.is_kept.Goals.{else-place-from-via-then-place-from+else-uses, else-place-from-via-else-place-from}
 
-pub returns-then-uses-clause-kept : goal.returns-then-uses-clause-kept
-returns-then-uses-clause-kept c =
-    let w = c.args.world.now.world in
+pub loop-place-init : goal.loop-place-init
+loop-place-init c = record { same = same_none c.args.current.now; spared = refl }
+
+pub spares-spared-requires-clause-place : goal.spares-spared-requires-clause-place
+spares-spared-requires-clause-place c =
+    let long = c.born-place-end.ensures in
+    let same = ap (λ (p : Place). length p.world.fibers) c.loop-place.invariant.same.here in
+    omega arith
+
+pub spares-spared-requires-clause-fits : goal.spares-spared-requires-clause-fits
+spares-spared-requires-clause-fits c = subst (λ (p : Place). AllFit p.world) (sym c.loop-place.invariant.same.here) c.requires.fits
+
+pub returns-then-not-spared-clause-same : goal.returns-then-not-spared-clause-same
+returns-then-not-spared-clause-same c =
+    same_on c.args.current.now c.loop-place.current c.spares-spared.new.current c.loop-place.invariant.same c.spares-spared.ensures.same
+
+pub returns-then-not-spared-clause-kept : goal.returns-then-not-spared-clause-kept
+returns-then-not-spared-clause-kept c =
+    let w = (here c.args.current.now).world in
     let u = c.args.what in
     let n = c.args.number in
     let f = c.args.by in
     let i = c.loop-place.place in
-    let b = c.other-item.result in
-    let fits = c.fibers-other-items.ensures.fits in
-    let found : slice_get c.fibers-other-items.result.now i ≡ Some b = grind (arith, common_steps, gets) in
-    let at : slice_get w.fibers i ≡ Some b = subst (λ (l : List Fiber). slice_get l i ≡ Some b) c.fibers-other-items.ensures.fibers found in
-    let other = c.if-place-from.true in
-    let apart : i ≢ f = λ same. other (same ∙ sym c.from.ensures) in
-    let told = c.uses.ensures.exact (given_by w.cells) (fits.each i b at).names in
-    let leaves : nat_eq i f || keeps u n b ≡ false = keeps_told u n f i b apart c.uses.result told ∙ ap not c.if-uses.true in
-    sym (given_kept u w f n c.requires ∙ c.loop-place.invariant ∙ one_stops (keeps u n) f w.fibers i b at leaves)
+    let long = c.born-place-end.ensures in
+    let low : i < length w.fibers = omega arith in
+    let b = get_low w.fibers i low in
+    let known = c.loop-place.invariant in
+    let at : slice_get (here c.loop-place.current).world.fibers i ≡ Some b.0 =
+    subst (λ (p : Place). slice_get p.world.fibers i ≡ Some b.0) (sym known.same.here) b.1 in
+    let leaves : nat_eq i f || keeps u n b.0 ≡ false = sym (c.spares-spared.ensures.spares b.0 at) ∙ c.if-not-spared.true in
+    sym (given_kept u w f n c.requires.given ∙ known.spared ∙ one_stops (keeps u n) f w.fibers i b.0 b.1 leaves)
 
 pub loop-place-preserved : goal.loop-place-preserved
 loop-place-preserved c =
-    let w = c.args.world.now.world in
+    let w = (here c.args.current.now).world in
     let u = c.args.what in
     let n = c.args.number in
     let f = c.args.by in
     let i = c.loop-place.place in
-    let b = c.other-item.result in
-    let fits = c.fibers-other-items.ensures.fits in
-    let found : slice_get c.fibers-other-items.result.now i ≡ Some b = grind (arith, common_steps, gets) in
-    let at : slice_get w.fibers i ≡ Some b = subst (λ (l : List Fiber). slice_get l i ≡ Some b) c.fibers-other-items.ensures.fibers found in
-    let passes : nat_eq i f || keeps u n b ≡ true = elim c.else-place-from.branch [
-      | else-place-from-via-then-place-from+else-uses v ↦
-          (let other = v.if-place-from.true in
-          let apart : i ≢ f = λ same. other (same ∙ sym c.from.ensures) in
-          let told = v.uses.ensures.exact (given_by w.cells) (fits.each i b at).names in
-          keeps_told u n f i b apart v.uses.result told ∙ ap not v.if-uses.false)
-      | else-place-from-via-else-place-from v ↦ itself i f (keeps u n b) (v.if-place-from.false ∙ c.from.ensures)
-    ] in
-    c.loop-place.invariant ∙ one_passes (keeps u n) f w.fibers i b at passes
+    let long = c.born-place-end.ensures in
+    let low : i < length w.fibers = omega arith in
+    let b = get_low w.fibers i low in
+    let known = c.loop-place.invariant in
+    let at : slice_get (here c.loop-place.current).world.fibers i ≡ Some b.0 =
+    subst (λ (p : Place). slice_get p.world.fibers i ≡ Some b.0) (sym known.same.here) b.1 in
+    let passes : nat_eq i f || keeps u n b.0 ≡ true = sym (c.spares-spared.ensures.spares b.0 at) ∙ c.if-not-spared.false in
+    record {
+      same = same_on c.args.current.now c.loop-place.current c.spares-spared.new.current known.same c.spares-spared.ensures.same;
+      spared = known.spared ∙ one_passes (keeps u n) f w.fibers i b.0 b.1 passes;
+    }
+
+pub returns-clause-kept : goal.returns-clause-kept
+returns-clause-kept c =
+    let w = (here c.args.current.now).world in
+    let u = c.args.what in
+    let n = c.args.number in
+    let f = c.args.by in
+    let long = c.born-place-end.ensures in
+    let past : length w.fibers ≤ c.loop-place.place = omega arith in
+    sym (given_kept u w f n c.requires.given ∙ c.loop-place.invariant.spared ∙ none_left (keeps u n) f w.fibers c.loop-place.place past)
+
+pub returns-clause-same : goal.returns-clause-same
+returns-clause-same c = c.loop-place.invariant.same

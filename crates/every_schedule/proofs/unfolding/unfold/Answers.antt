@@ -7,6 +7,8 @@ use Rattle.derived_ops.specs.Reading.{source_of}
 use Rattle.world_search.specs.Systems.{entered, run}
 use Rattle.every_schedule.specs.Places.{Place, first_place}
 use Rattle.every_schedule.specs.Reduced.{leapt}
+use Rattle.scheduled_core.specs.Fitting.{AllFit}
+use Rattle.every_schedule.specs.Private.Standing.{here}
 use Rattle.every_schedule.specs.Private.Trails.{IsTrail}
 use Rattle.every_schedule.proofs.Leaps.{refused_with}
 use Rattle.every_schedule.proofs.Trails.{trail_more, trail_none, trail_whole}
@@ -15,16 +17,16 @@ use Rattle.every_schedule.proofs.unfolding.unfold.Goals as goal
 pub loop-fiber-init : goal.loop-fiber-init
 loop-fiber-init c =
     let first = first_place (code_of (source_of c.args.program.now)) c.args.limits in
-    let same : c.in_ok-current.current.world ≡ first = c.in_ok-current.ensures.world ∙ c.in_ok-first.ensures in
+    let same : here c.in_ok-current.current ≡ first = c.in_ok-current.ensures.here ∙ c.in_ok-first.ensures in
     record {
-      current = c.in_ok-current.ensures.current;
+      fits = subst (λ (p : Place). AllFit p.world) (sym c.in_ok-current.ensures.here) c.new.ensures.fits;
       goes = ap Ok (sym same);
-      trail = subst (λ (l : List ℕ). IsTrail [] l first (Ok c.in_ok-current.current.world)) (sym c.new-trail.ensures.items)
+      trail = subst (λ (l : List ℕ). IsTrail [] l first (Ok (here c.in_ok-current.current))) (sym c.new-trail.ensures.items)
           (subst (λ (x : Place). IsTrail [] [] first (Ok x)) (sym same) (trail_none [] first));
     }
 
 pub leap-requires : goal.leap-requires
-leap-requires c = c.loop-fiber.invariant.current
+leap-requires c = c.loop-fiber.invariant.fits
 
 pub loop-fiber-preserved : goal.loop-fiber-preserved
 loop-fiber-preserved c =
@@ -33,10 +35,10 @@ loop-fiber-preserved c =
     let i = c.loop-fiber.fiber-index in
     let f = get_or c.args.schedule.now i 0 in
     record {
-      current = c.in-Ok.ensures.current;
+      fits = c.in-Ok.ensures.fits;
       goes = fold_more (entered (leapt c.args.at_once)) (Ok first) c.args.schedule.now i 0 c.loop-fiber-test.true ∙
           ap (λ x. entered (leapt c.args.at_once) x f) known.goes ∙ c.in-Ok.ensures.goes;
-      trail = trail_more [] c.loop-fiber.trail.items c.leap.new.trail.items first c.loop-fiber.current.world (Ok c.in-Ok.next.world) known.trail
+      trail = trail_more [] c.loop-fiber.trail.items c.leap.new.trail.items first (here c.loop-fiber.current) (Ok (here c.leap.new.current)) known.trail
           c.in-Ok.ensures.trail;
     }
 
@@ -48,14 +50,14 @@ returns-in-Err-clause-entries c =
     let i = c.loop-fiber.fiber-index in
     let f = get_or c.args.schedule.now i 0 in
     let fault = c.in-Err.fault in
-    let stops = refused_with fault ((leapt n c.loop-fiber.current.world f ≡ Err fault) ×
-    IsTrail c.loop-fiber.trail.items c.leap.new.trail.items c.loop-fiber.current.world (Err fault)) (c.is_memory.ensures c.if-is_memory.false)
+    let stops = refused_with fault ((leapt n (here c.loop-fiber.current) f ≡ Err fault) ×
+    IsTrail c.loop-fiber.trail.items c.leap.new.trail.items (here c.loop-fiber.current) (Err fault)) (c.is_memory.ensures c.if-is_memory.false)
     c.in-Err.ensures.stops in
     let led : run (leapt n) (Ok first) c.args.schedule.now ≡ Err fault =
     sym (fold_stuck (entered (leapt n)) (Err fault) (λ g. refl) (Ok first) c.args.schedule.now i 0 c.loop-fiber-test.true
     (ap (λ x. entered (leapt n) x f) known.goes ∙ stops.0)) in
     trail_whole n first c.args.schedule.now c.leap.new.trail.items (Err fault)
-    (trail_more [] c.loop-fiber.trail.items c.leap.new.trail.items first c.loop-fiber.current.world (Err fault) known.trail stops.1) led
+    (trail_more [] c.loop-fiber.trail.items c.leap.new.trail.items first (here c.loop-fiber.current) (Err fault) known.trail stops.1) led
 
 pub returns-clause-entries : goal.returns-clause-entries
 returns-clause-entries c =
@@ -63,6 +65,6 @@ returns-clause-entries c =
     let n = c.args.at_once in
     let first = first_place (code_of (source_of c.args.program.now)) c.args.limits in
     let past : length c.args.schedule.now ≤ c.loop-fiber.fiber-index = omega arith in
-    let led : run (leapt n) (Ok first) c.args.schedule.now ≡ Ok c.loop-fiber.current.world =
+    let led : run (leapt n) (Ok first) c.args.schedule.now ≡ Ok (here c.loop-fiber.current) =
     ap (run (leapt n) (Ok first)) (sym (take_all c.loop-fiber.fiber-index c.args.schedule.now past)) ∙ known.goes in
-    trail_whole n first c.args.schedule.now c.loop-fiber.trail.items (Ok c.loop-fiber.current.world) known.trail led
+    trail_whole n first c.args.schedule.now c.loop-fiber.trail.items (Ok (here c.loop-fiber.current)) known.trail led

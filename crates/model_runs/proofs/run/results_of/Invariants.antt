@@ -1,9 +1,13 @@
+use Rattle.std.proofs.Common.{◌≡◌, ◌≤◌, drop}
 use Rattle.std.specs.List.{All}
-use Rattle.model_runs.specs.Deciding.{IsDecided}
+use Rattle.model_runs.specs.Deciding.{IsDecidedIn}
+use Rattle.model_runs.specs.Moments.{soughts}
 use Rattle.model_runs.proofs.run.results_of.Given as goal
 
--- the claims so far are decided
+-- the claims so far are decided, and so many of them are at any moment
 abbrev pub invariant-loop-claim : goal.invariant-loop-claim
 invariant-loop-claim l = record {
-  decided : All (IsDecided l.source l.searches) l.results.items;
+  decided : All (IsDecidedIn l.source l.searches l.moments.search) l.results.items;
+  counted : drop l.number (soughts l.claims) ≡ soughts (drop l.claim-index l.claims);
+  low : l.number ≤ l.claim-index;
 }

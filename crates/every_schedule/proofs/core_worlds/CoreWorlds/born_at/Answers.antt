@@ -1,35 +1,29 @@
-use Rattle.std.proofs.Common.{slice_index_or, ◌≡◌, length, map, sym, ap, ◌∙◌, arith}
+use Rattle.std.proofs.Common.{◌≡◌, length, map, sym, ap, ◌∙◌, arith}
 use Rattle.std.specs.Prelude.{Some}
 use Rattle.std.specs.List.{slice_get}
 use Rattle.std.proofs.lemmas.Grind.{common_steps}
-use Rattle.std.proofs.lemmas.Option.{gets, slice_get-get_or}
+use Rattle.std.proofs.lemmas.Option.{gets}
 use Rattle.every_schedule.specs.Places.{Kept, Place}
 use Rattle.every_schedule.specs.Private.Numbered.{place_of}
 use Rattle.every_schedule.proofs.Numbered.{registry_there}
 use Rattle.every_schedule.proofs.Entering.{born_few, born_of, place_at}
 use Rattle.every_schedule.proofs.core_worlds.CoreWorlds.born_at.Goals as goal
 
-pub index-registry-requires : goal.index-registry-requires
-index-registry-requires c =
+pub registry_of-registry-requires : goal.registry_of-registry-requires
+registry_of-registry-requires c =
     let s = c.self.inside in
     let m = c.index-row.result.now in
     let row : slice_get s.rows.items.items c.args.world ≡ Some m = grind (arith, common_steps, gets) in
-    let there = registry_there s.limits s.states.fibers.items.items s.states.registries.items.items m (c.self.invariant.0 c.args.world m row) in
-    let same = c.registry.ensures in
-    omega arith
+    registry_there s.limits s.current.fibers s.current.registries m (c.self.invariant c.args.world m row)
 
 pub overflow_cast-result : goal.overflow_cast-result
 overflow_cast-result c =
     let s = c.self.inside in
     let m = c.index-row.result.now in
     let row : slice_get s.rows.items.items c.args.world ≡ Some m = grind (arith, common_steps, gets) in
-    let rs = s.states.registries.items.items in
-    let r = c.index-registry.result.now in
-    let low = registry_there s.limits s.states.fibers.items.items rs m (c.self.invariant.0 c.args.world m row) in
-    let there : slice_get rs m.registry ≡ Some r = slice_get-get_or rs m.registry r low ∙
-    ap Some (sym (c.index-registry.ensures ∙ ap (λ i. slice_index_or rs i r) c.registry.ensures)) in
-    let few = born_few s.limits s.states.fibers.items.items s.states.registries.items.items m c.index-registry.result.now
-    (c.self.invariant.0 c.args.world m row) there c.limits.ensures.lawful in
+    let rs = s.current.registries in
+    let few = born_few s.limits s.current.fibers rs m c.registry_of-registry.result.now
+    (c.self.invariant c.args.world m row) c.registry_of-registry.ensures c.limits.ensures.lawful in
     let long = ap length c.fibers.ensures in
     omega arith
 
@@ -38,13 +32,9 @@ returns-clause-few c =
     let s = c.self.inside in
     let m = c.index-row.result.now in
     let row : slice_get s.rows.items.items c.args.world ≡ Some m = grind (arith, common_steps, gets) in
-    let rs = s.states.registries.items.items in
-    let r = c.index-registry.result.now in
-    let low = registry_there s.limits s.states.fibers.items.items rs m (c.self.invariant.0 c.args.world m row) in
-    let there : slice_get rs m.registry ≡ Some r = slice_get-get_or rs m.registry r low ∙
-    ap Some (sym (c.index-registry.ensures ∙ ap (λ i. slice_index_or rs i r) c.registry.ensures)) in
-    let few = born_few s.limits s.states.fibers.items.items s.states.registries.items.items m c.index-registry.result.now
-    (c.self.invariant.0 c.args.world m row) there c.limits.ensures.lawful in
+    let rs = s.current.registries in
+    let few = born_few s.limits s.current.fibers rs m c.registry_of-registry.result.now
+    (c.self.invariant c.args.world m row) c.registry_of-registry.ensures c.limits.ensures.lawful in
     let long = ap length c.fibers.ensures in
     omega arith
 
@@ -52,13 +42,13 @@ pub returns-clause-born : goal.returns-clause-born
 returns-clause-born c = λ p at.
     let s = c.self.inside in
     let k = s.limits in
-    let fs = s.states.fibers.items.items in
-    let rs = s.states.registries.items.items in
+    let fs = s.current.fibers in
+    let rs = s.current.registries in
     let m = c.index-row.result.now in
     let row : slice_get s.rows.items.items c.args.world ≡ Some m = grind (arith, common_steps, gets) in
     let places : map (place_of k fs rs) s.rows.items.items ≡ c.args.self.now.places = ap (λ (x : Kept). x.places) c.self.view_is in
     let here : place_of k fs rs m ≡ p = place_at k fs rs s.rows.items.items c.args.world m p row (ap (λ l. slice_get l c.args.world) places ∙ at) in
-    let born = born_of k fs rs m (c.self.invariant.0 c.args.world m row) in
+    let born = born_of k fs rs m (c.self.invariant c.args.world m row) in
     let same : length (place_of k fs rs m).world.fibers ≡ length p.world.fibers = ap (λ (q : Place). length q.world.fibers) here in
     let long = ap length c.fibers.ensures in
     omega arith

@@ -1,7 +1,8 @@
 use Rattle.std.proofs.Common.{rules, ◌≡◌, List, [], ◌∷◌, ◌++◌, map, sym, ap, ◌∙◌, subst}
 use Rattle.scheduled_core.specs.Fitting.{AllFit}
 use Rattle.every_schedule.specs.Places.{Place}
-use Rattle.every_schedule.specs.Private.Numbered.{AreWorlds, Numbers, place_of}
+use Rattle.every_schedule.specs.Private.Numbered.{AreWorlds, IsWorldOf, Numbers, place_of}
+use Rattle.every_schedule.specs.Private.Standing.{here}
 use Rattle.every_schedule.proofs.Numbered.{world_is}
 use Rattle.every_schedule.proofs.Entering.{first_worlds}
 use Rattle.every_schedule.proofs.core_worlds.CoreWorlds.new.Goals as goal
@@ -9,27 +10,28 @@ use Rattle.every_schedule.proofs.core_worlds.CoreWorlds.new.Goals as goal
 pub invariant_of-result : goal.invariant_of-result
 invariant_of-result c =
     let k = c.args.limits in
-    let fs = c.begun.new.states.fibers.items.items in
-    let rs = c.begun.new.states.registries.items.items in
-    let n = c.in_ok-current.current.row in
-    let p = c.in_ok-current.current.world in
-    let limits : p.limits ≡ k = ap (λ (q : Place). q.limits) (c.in_ok-current.ensures.world ∙ c.in_ok-first.ensures) in
-    let fits : AllFit p.world = subst (λ (q : Place). AllFit q.world) (sym c.in_ok-current.ensures.world) c.in_ok-current.ensures.fits in
+    let fs = c.row.new.self.fibers in
+    let rs = c.row.new.self.registries in
+    let n = c.in_ok-row.row in
+    let p = here c.in_ok-current.current in
+    let first : p ≡ c.in_ok-first.first = c.in_ok-current.ensures.here in
+    let limits : p.limits ≡ k = ap (λ (q : Place). q.limits) (first ∙ c.in_ok-first.ensures) in
+    let fits : AllFit p.world = subst (λ (q : Place). AllFit q.world) (sym first) c.new.ensures.fits in
     let rows : c.add.new.self.items.items ≡ n ∷ [] = c.in_ok-add.ensures.added ∙
-    ap (λ (l : List Numbers). l ++ c.in_ok-row.row ∷ []) c.new-rows.ensures.none ∙ ap (λ (m : Numbers). m ∷ []) c.in_ok-row.ensures in
-    (subst (AreWorlds k fs rs) (sym rows) (first_worlds k fs rs n p c.in_ok-current.ensures.current limits fits), c.in_ok-current.ensures.current)
+    ap (λ (l : List Numbers). l ++ c.in_ok-row.row ∷ []) c.new-rows.ensures.none in
+    subst (AreWorlds k fs rs) (sym rows) (first_worlds k fs rs n p c.in_ok-row.ensures.row limits fits)
 
 pub returns-clause-places : goal.returns-clause-places
 returns-clause-places c =
     let k = c.args.limits in
-    let fs = c.begun.new.states.fibers.items.items in
-    let rs = c.begun.new.states.registries.items.items in
-    let n = c.in_ok-current.current.row in
-    let p = c.in_ok-current.current.world in
-    let first = c.in_ok-current.ensures.world ∙ c.in_ok-first.ensures in
+    let fs = c.row.new.self.fibers in
+    let rs = c.row.new.self.registries in
+    let n = c.in_ok-row.row in
+    let p = here c.in_ok-current.current in
+    let first = c.in_ok-current.ensures.here ∙ c.in_ok-first.ensures in
     let limits : p.limits ≡ k = ap (λ (q : Place). q.limits) first in
     let rows : c.add.new.self.items.items ≡ n ∷ [] = c.in_ok-add.ensures.added ∙
-    ap (λ (l : List Numbers). l ++ c.in_ok-row.row ∷ []) c.new-rows.ensures.none ∙ ap (λ (m : Numbers). m ∷ []) c.in_ok-row.ensures in
+    ap (λ (l : List Numbers). l ++ c.in_ok-row.row ∷ []) c.new-rows.ensures.none in
     let places : map (place_of k fs rs) c.add.new.self.items.items ≡ p ∷ [] = ap (map (place_of k fs rs)) rows ∙
-    ap (λ (q : Place). q ∷ []) (world_is k fs rs n p c.in_ok-current.ensures.current limits) in
+    ap (λ (q : Place). q ∷ []) (world_is k fs rs n p c.in_ok-row.ensures.row limits) in
     search rules

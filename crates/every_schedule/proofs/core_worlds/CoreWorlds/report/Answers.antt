@@ -16,22 +16,25 @@ use Rattle.every_schedule.proofs.core_worlds.CoreWorlds.report.Goals as goal
 pub fibers_of-requires : goal.fibers_of-requires
 fibers_of-requires c =
     let s = c.self.inside in
-    let fs = s.states.fibers.items.items in
+    let fs = s.current.fibers in
     let row : slice_get s.rows.items.items c.args.world ≡ Some c.index-row.result.now = grind (arith, common_steps, gets) in
-    subst (λ (l : List ℕ). All (λ m. m < length fs) l) (sym c.fibers.ensures)
-    (fibers_there s.limits fs s.states.registries.items.items c.index-row.result.now (c.self.invariant.0 c.args.world c.index-row.result.now row))
+    subst (λ (l : List Fiber). All (λ m. m < length l) c.fibers-2.result.now) (sym c.fibers.ensures)
+    (subst (λ (l : List ℕ). All (λ m. m < length fs) l) (sym c.fibers-2.ensures)
+    (fibers_there s.limits fs s.current.registries c.index-row.result.now (c.self.invariant c.args.world c.index-row.result.now row)))
 
 pub returns-clause-report : goal.returns-clause-report
 returns-clause-report c = IfOk-weaker c.report_of_fibers.result _ _ (λ it is. λ p at.
     let s = c.self.inside in
     let k = s.limits in
-    let fs = s.states.fibers.items.items in
-    let rs = s.states.registries.items.items in
+    let fs = s.current.fibers in
+    let rs = s.current.registries in
     let rows = s.rows.items.items in
     let m = c.index-row.result.now in
     let places : map (place_of k fs rs) rows ≡ c.args.self.now.places = ap (λ (x : Kept). x.places) c.self.view_is in
     let row : slice_get rows c.args.world ≡ Some m = grind (arith, common_steps, gets) in
     let here : place_of k fs rs m ≡ p = place_at k fs rs rows c.args.world m p row (ap (λ l. slice_get l c.args.world) places ∙ at) in
-    let are : AreAt fs m.fibers c.in_ok-fibers.fibers.items = subst (λ l. AreAt fs l c.in_ok-fibers.fibers.items) c.fibers.ensures c.in_ok-fibers.ensures in
+    let are : AreAt fs m.fibers c.in_ok-fibers.fibers.items =
+    subst (λ (l : List Fiber). AreAt l m.fibers c.in_ok-fibers.fibers.items) c.fibers.ensures
+    (subst (λ l. AreAt c.fibers.result.now.items.items l c.in_ok-fibers.fibers.items) c.fibers-2.ensures c.in_ok-fibers.ensures) in
     is ∙ ap (λ (l : List Fiber). told (map fiber_report l)) (sym (picked_is fs m.fibers c.in_ok-fibers.fibers.items are)) ∙ ap report_at here)
     (c.report_of_fibers.ensures.reports)

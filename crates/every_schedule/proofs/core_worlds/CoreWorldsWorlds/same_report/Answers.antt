@@ -3,6 +3,7 @@ use Rattle.std.specs.Prelude.{Some}
 use Rattle.std.specs.List.{All, slice_get}
 use Rattle.std.proofs.lemmas.Grind.{common_steps}
 use Rattle.std.proofs.lemmas.Option.{gets}
+use Rattle.fiber_frames.specs.Fiber.{Fiber}
 use Rattle.every_schedule.specs.Places.{Kept, report_at}
 use Rattle.every_schedule.specs.Private.Numbered.{place_of}
 use Rattle.every_schedule.specs.Private.Reporting.{AreAlike, AreOther}
@@ -13,25 +14,27 @@ use Rattle.every_schedule.proofs.core_worlds.CoreWorldsWorlds.same_report.Goals 
 pub same_reports-requires-clause-one : goal.same_reports-requires-clause-one
 same_reports-requires-clause-one c =
     let s = c.self.inside in
-    let fs = s.states.fibers.items.items in
+    let fs = s.current.fibers in
     let row : slice_get s.rows.items.items c.args.one ≡ Some c.index-first.result.now = grind (arith, common_steps, gets) in
-    subst (λ (l : List ℕ). All (λ m. m < length fs) l) (sym c.fibers.ensures)
-    (fibers_there s.limits fs s.states.registries.items.items c.index-first.result.now (c.self.invariant.0 c.args.one c.index-first.result.now row))
+    subst (λ (l : List Fiber). All (λ m. m < length l) c.fibers-2.result.now) (sym c.fibers.ensures)
+    (subst (λ (l : List ℕ). All (λ m. m < length fs) l) (sym c.fibers-2.ensures)
+    (fibers_there s.limits fs s.current.registries c.index-first.result.now (c.self.invariant c.args.one c.index-first.result.now row)))
 
 pub same_reports-requires-clause-other : goal.same_reports-requires-clause-other
 same_reports-requires-clause-other c =
     let s = c.self.inside in
-    let fs = s.states.fibers.items.items in
+    let fs = s.current.fibers in
     let row : slice_get s.rows.items.items c.args.other ≡ Some c.index-second.result.now = grind (arith, common_steps, gets) in
-    subst (λ (l : List ℕ). All (λ m. m < length fs) l) (sym c.fibers-2.ensures)
-    (fibers_there s.limits fs s.states.registries.items.items c.index-second.result.now (c.self.invariant.0 c.args.other c.index-second.result.now row))
+    subst (λ (l : List Fiber). All (λ m. m < length l) c.fibers-3.result.now) (sym c.fibers.ensures)
+    (subst (λ (l : List ℕ). All (λ m. m < length fs) l) (sym c.fibers-3.ensures)
+    (fibers_there s.limits fs s.current.registries c.index-second.result.now (c.self.invariant c.args.other c.index-second.result.now row)))
 
 pub returns-clause-yes : goal.returns-clause-yes
 returns-clause-yes c = λ yes v w first second.
     let s = c.self.inside in
     let k = s.limits in
-    let fs = s.states.fibers.items.items in
-    let rs = s.states.registries.items.items in
+    let fs = s.current.fibers in
+    let rs = s.current.registries in
     let rows = s.rows.items.items in
     let m = c.index-first.result.now in
     let n = c.index-second.result.now in
@@ -41,16 +44,17 @@ returns-clause-yes c = λ yes v w first second.
     let left : place_of k fs rs m ≡ v = place_at k fs rs rows c.args.one m v one (ap (λ l. slice_get l c.args.one) places ∙ first) in
     let right : place_of k fs rs n ≡ w = place_at k fs rs rows c.args.other n w two (ap (λ l. slice_get l c.args.other) places ∙ second) in
     let told : AreAlike fs m.fibers n.fibers =
-    subst (λ l. AreAlike fs l n.fibers) c.fibers.ensures
-    (subst (λ l. AreAlike fs c.fibers.result.now l) c.fibers-2.ensures (c.same_reports.ensures.same yes)) in
-    sym (ap report_at left) ∙ reports_alike k fs rs m n (c.self.invariant.0 c.args.one m one) (c.self.invariant.0 c.args.other n two) told ∙ ap report_at right
+    subst (λ l. AreAlike fs l n.fibers) c.fibers-2.ensures
+    (subst (λ l. AreAlike fs c.fibers-2.result.now l) c.fibers-3.ensures
+    (subst (λ (l : List Fiber). AreAlike l c.fibers-2.result.now c.fibers-3.result.now) c.fibers.ensures (c.same_reports.ensures.same yes))) in
+    sym (ap report_at left) ∙ reports_alike k fs rs m n (c.self.invariant c.args.one m one) (c.self.invariant c.args.other n two) told ∙ ap report_at right
 
 pub returns-clause-no : goal.returns-clause-no
 returns-clause-no c = λ no v w first second same.
     let s = c.self.inside in
     let k = s.limits in
-    let fs = s.states.fibers.items.items in
-    let rs = s.states.registries.items.items in
+    let fs = s.current.fibers in
+    let rs = s.current.registries in
     let rows = s.rows.items.items in
     let m = c.index-first.result.now in
     let n = c.index-second.result.now in
@@ -60,7 +64,8 @@ returns-clause-no c = λ no v w first second same.
     let left : place_of k fs rs m ≡ v = place_at k fs rs rows c.args.one m v one (ap (λ l. slice_get l c.args.one) places ∙ first) in
     let right : place_of k fs rs n ≡ w = place_at k fs rs rows c.args.other n w two (ap (λ l. slice_get l c.args.other) places ∙ second) in
     let told : AreOther fs m.fibers n.fibers =
-    subst (λ l. AreOther fs l n.fibers) c.fibers.ensures
-    (subst (λ l. AreOther fs c.fibers.result.now l) c.fibers-2.ensures (c.same_reports.ensures.other no)) in
-    reports_other k fs rs m n (c.self.invariant.0 c.args.one m one) (c.self.invariant.0 c.args.other n two) told (ap report_at left ∙ same ∙
+    subst (λ l. AreOther fs l n.fibers) c.fibers-2.ensures
+    (subst (λ l. AreOther fs c.fibers-2.result.now l) c.fibers-3.ensures
+    (subst (λ (l : List Fiber). AreOther l c.fibers-2.result.now c.fibers-3.result.now) c.fibers.ensures (c.same_reports.ensures.other no))) in
+    reports_other k fs rs m n (c.self.invariant c.args.one m one) (c.self.invariant c.args.other n two) told (ap report_at left ∙ same ∙
     sym (ap report_at right))

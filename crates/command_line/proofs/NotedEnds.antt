@@ -1,0 +1,71 @@
+-- No answer with a note ends as wrong usage does.
+use Rattle.std.proofs.Common.{◌≡◌, ◌≢◌, ◌∙◌, inl, inr, if◌then◌else◌, Bool, true, false, ℕ, List, sym}
+use Rattle.cell_registry.specs.declared.limits.Limits.{Limits}
+use Rattle.effect_term.specs.declared.term.Term.{Term}
+use Rattle.text_io.specs.declared.status.Status.{Status}
+use Rattle.text_io.specs.declared.status.Status.TheVariants as ends
+use Rattle.text_io.specs.Devices.{Devices}
+use Rattle.world_search.specs.declared.answers.Bounds.{Bounds}
+use Rattle.exploration_text.specs.declared.explore_texts.ExploreOrder.{ExploreOrder}
+use Rattle.exploration_text.specs.declared.sample_texts.SampleOrder.{SampleOrder}
+use Rattle.exploration_text.specs.declared.wants.Want.{Want}
+use Rattle.exploration_text.specs.ExplorationText.{has_failure}
+use Rattle.exploration_text.specs.Findings.{IsFirstAnswer}
+use Rattle.exploration_text.specs.SampleAnswers.{IsNotedSample}
+use Rattle.exploration_text.specs.SampleText.{has_finding}
+use Rattle.json_answers.specs.FindingData.{IsJsonFirstAnswer}
+use Rattle.json_answers.specs.FoundAnswers.{IsNotedJsonSample}
+use Rattle.command_line.specs.Noting.{IsNotedAnswer, ObeysNoted}
+use Rattle.command_line.specs.Samplings.{sample_refuses, samples_as}
+use Rattle.command_line.specs.Seekings.{seek_refuses, seeks_as}
+use Rattle.command_line.proofs.EndLemmas.{answered_ends, chosen_ends, json_refusal_ends, program_ends, refusal_ends}
+
+pub noted_ends : (Refuses : List ℕ → List ℕ → Status → Type 0) (Notes : List ℕ → Term → List ℕ → Status → Type 0)
+    (Tells : List ℕ → List ℕ → Type 0) (explain : Bool) (before after : Devices) (status : Status) →
+    ((note text answer : List ℕ) (status : Status) → IsNotedAnswer Refuses Notes note text answer status → status ≢ ends.Usage) →
+    ObeysNoted Refuses Notes Tells explain before after status → status ≢ ends.Usage
+noted_ends Refuses Notes Tells explain before after status never h =
+    λ u. answered_ends _ _ _ _ _ h.result (never h.note) h.answered (sym h.status_is ∙ u)
+
+-- ---- of samples
+two_ends : (some : Bool) → (if some then ends.Errored else ends.Succeeded) ≢ ends.Usage
+two_ends true = λ u. cc
+two_ends false = λ u. cc
+
+sampled_ends : {t : Term} {limits : Limits} {times entries : ℕ} {wants : List Want} {note answer : List ℕ} {status : Status} →
+    IsNotedSample t limits times entries wants note answer status → status ≢ ends.Usage
+sampled_ends {t} {limits} {times} {entries} {wants} h = λ u. two_ends (has_finding wants h.sampled.sample.comings) (sym h.sampled.status_is ∙ u)
+
+json_sampled_ends : {t : Term} {limits : Limits} {seed times entries : ℕ} {wants : List Want} {note answer : List ℕ} {status : Status} →
+    IsNotedJsonSample t limits seed times entries wants note answer status → status ≢ ends.Usage
+json_sampled_ends {t} {limits} {seed} {times} {entries} {wants} h =
+    λ u. two_ends (has_finding wants h.sampled.sample.comings) (sym h.sampled.status_is ∙ u)
+
+pub sample_as_ends : (json : Bool) (order : SampleOrder) (note text answer : List ℕ) (status : Status) →
+    IsNotedAnswer (sample_refuses json) (samples_as json order) note text answer status → status ≢ ends.Usage
+sample_as_ends true order note text answer status =
+    program_ends (λ text answer status h. json_refusal_ends h.0) (λ t answer status h. json_sampled_ends h)
+sample_as_ends false order note text answer status =
+    program_ends (λ text answer status h. refusal_ends h.0) (λ t answer status h. sampled_ends h)
+
+-- ---- of first findings
+firsts_end : {t : Term} {limits : Limits} {bounds : Bounds} {wants : List Want} {note answer : List ℕ} {status : Status} →
+    IsFirstAnswer t limits bounds wants note answer status → status ≢ ends.Usage
+firsts_end (inl h) = λ u. let bad : ends.Errored ≡ ends.Usage = sym h.0.status_is ∙ u in cc
+firsts_end {t} {limits} {bounds} {wants} (inr h) =
+    let e = h.unfound.explored in
+    λ u. chosen_ends (has_failure wants e.exploration.answers) e.exploration.complete (sym e.status_is ∙ u)
+
+json_firsts_end : {t : Term} {limits : Limits} {bounds : Bounds} {wants : List Want} {note answer : List ℕ} {status : Status} →
+    IsJsonFirstAnswer t limits bounds wants note answer status → status ≢ ends.Usage
+json_firsts_end (inl h) = λ u. let bad : ends.Errored ≡ ends.Usage = sym h.0.status_is ∙ u in cc
+json_firsts_end {t} {limits} {bounds} {wants} (inr h) =
+    let e = h.unfound.explored in
+    λ u. chosen_ends (has_failure wants e.exploration.answers) e.exploration.complete (sym e.status_is ∙ u)
+
+pub seek_ends : (json : Bool) (order : ExploreOrder) (note text answer : List ℕ) (status : Status) →
+    IsNotedAnswer (seek_refuses json) (seeks_as json order) note text answer status → status ≢ ends.Usage
+seek_ends true order note text answer status =
+    program_ends (λ text answer status h. json_refusal_ends h.0) (λ t answer status h. json_firsts_end h)
+seek_ends false order note text answer status =
+    program_ends (λ text answer status h. refusal_ends h.0) (λ t answer status h. firsts_end h)

@@ -1,0 +1,45 @@
+//! The first finding of a text's program.
+
+ghost use Rattle.std.specs.Prelude.{◌≡◌, ◌≢◌, ◌<◌, ◌^◌, false};
+ghost use Rattle.command_line.specs.Seekings.{ObeysSeek};
+ghost use Rattle.text_io.specs.Devices.{devices};
+
+use crate::noted::obey_noted;
+use command_words::Seeking;
+use exploration_text::FirstOrder;
+use json_answers::FirstJson;
+use outcome_trace::{Status, TextIn, TextOut};
+use reasons::TextReasons;
+use std::alloc::Global;
+
+/// Answers the first finding of a text's program, or its exploration where there is none, and gives the status: that of
+/// the answer, and `Status::Fault` where a device failed or memory ran out. All but the answer is told on the last
+/// device.
+pub fn obey_seek<I: TextIn, O: TextOut, E: TextOut>(
+    alloc: Global,
+    seeking: Seeking,
+    input: &mut I,
+    out: &mut O,
+    err: &mut E,
+) -> Status
+    requires input { (I.seen input.old).failed ≡ false }
+    requires countable { (I.seen input.old).reads < 2 ^ 63 }
+    requires out { (O.seen out.old).failed ≡ false }
+    requires err { (E.seen err.old).failed ≡ false }
+    ensures obeyed { ObeysSeek seeking (devices (I.seen input.old) (O.seen out.old) (E.seen err.old))
+        (devices (I.seen input.new) (O.seen out.new) (E.seen err.new)) result }
+    ensures ends { result ≢ Status.Usage }
+{
+    let Seeking {
+        order,
+        json,
+        explain,
+    } = seeking;
+    if json {
+        let order = FirstJson { order };
+        obey_noted(alloc, &order, &TextReasons, explain, input, out, err)
+    } else {
+        let order = FirstOrder { order };
+        obey_noted(alloc, &order, &TextReasons, explain, input, out, err)
+    }
+}

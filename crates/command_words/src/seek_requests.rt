@@ -1,0 +1,36 @@
+//! The search for the first finding that the words of a command line ask for.
+
+ghost use Rattle.std.specs.Prelude.{codes, IfNone, IfOk, IfSome};
+ghost use Rattle.clap.specs.Words.{found_of, rows_of};
+ghost use Rattle.command_words.specs.declared.seeking.Seeking.{Seeking};
+ghost use Rattle.command_words.specs.Flags.{IsGiven};
+ghost use Rattle.command_words.specs.Requests.{SaysSeeking};
+
+use crate::flags::given;
+use crate::requests::explore_order;
+use crate::seeking::Seeking;
+use clap::ArgMatches;
+use std::alloc::{AllocError, Global};
+
+/// The search for the first finding that the options of `explore` say, where they ask for it.
+pub(crate) fn seeking_of(
+    alloc: Global,
+    explore: &ArgMatches<'_>,
+) -> Result<Option<Seeking>, AllocError>
+    requires { IsGiven (codes "first") (rows_of (found_of explore.now)) }
+    ensures said { IfOk result (λ found. IfSome found (SaysSeeking (rows_of (found_of explore.now)))) }
+    ensures none { IfOk result (λ found. IfNone found ((said : Seeking) →
+        SaysSeeking (rows_of (found_of explore.now)) said → ⊥)) }
+{
+    if given(explore, "progress") || given(explore, "timeline") {
+        return Ok(None);
+    }
+    match explore_order(alloc, explore)? {
+        Some(order) => Ok(Some(Seeking {
+            order,
+            json: given(explore, "json"),
+            explain: given(explore, "explain"),
+        })),
+        None => Ok(None),
+    }
+}

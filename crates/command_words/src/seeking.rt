@@ -1,0 +1,14 @@
+//! What a search for the first finding is told.
+
+use exploration_text::ExploreOrder;
+
+/// To look for the first fault, or the first outcome that is not wanted, of the text's program.
+#[derive(Drop)]
+pub struct Seeking {
+    /// What is explored, how far, and what is wanted.
+    pub order: ExploreOrder,
+    /// Whether it is told as JSON.
+    pub json: bool,
+    /// Whether reasons are told.
+    pub explain: bool,
+}

@@ -1,0 +1,74 @@
+-- Fair schedules of a search, said of the core.
+use Rattle.std.proofs.Common.{◌≡◌, ◌≢◌, ◌++◌, ℕ, zero, suc, List, [], ◌∷◌, Result, Ok, Err, refl, sym, ap, ◌∙◌, subst, append_assoc}
+use mathlib.Core.Logic.{◌⊎◌, inl, inr}
+use Rattle.derived_ops.specs.Tree.{Tree}
+use Rattle.cell_registry.specs.declared.limits.Limits.{Limits}
+use Rattle.cell_registry.specs.declared.limits.RunError.{RunError}
+use Rattle.scheduled_core.specs.Core.{World, core, entered}
+use Rattle.scheduled_core.specs.Finals.{IsSettled}
+use Rattle.world_search.specs.Lists.{IsIn}
+use Rattle.world_search.specs.Systems as search
+use Rattle.world_search.proofs.Closed.{run-append}
+use Rattle.fair_ends.specs.Fair.{EndsUnder, IsAnswer, IsFairCycle, first_of}
+use Rattle.every_schedule.specs.Fairness.{Ends, IsForever, IsOver, repeated}
+use Rattle.every_schedule.specs.Places.{Place, bare, bared, entering, first_place, placed, report_at, stepped, unnoted}
+use Rattle.every_schedule.proofs.Bare.{bare_step}
+use Rattle.every_schedule.proofs.Placed.{core_run, settles, settles_place}
+
+-- an answer of the search is one of the core
+over : (k : Limits) (x : Result World RunError) → IsAnswer stepped report_at (bared (placed k x)) → IsOver k x
+over k (Ok w) h = settles k w h
+over k (Err e) h = tt
+
+pub ends : (code : Tree) (k : Limits) (s : ℕ → ℕ) → EndsUnder stepped report_at (first_place code k) s → Ends code k s
+ends code k s h = (h.0, over k (core code k (first_of s h.0)) (subst (IsAnswer stepped report_at) (core_run code k (first_of s h.0)) h.1))
+
+-- a world that the search has as this place
+at_place : (k : Limits) (x : Result World RunError) (p : Place) → bared (placed k x) ≡ Ok p → (w : World) × (x ≡ Ok w) ×
+    (record { limits = k; world = unnoted w } ≡ p)
+at_place k (Ok w) p h = (w, refl, (cc))
+at_place k (Err e) p h = absurd (cc)
+
+same_world : (k : Limits) (v w : World) → (let p : Place = record { limits = k; world = v } in p) ≡ record { limits = k; world = w } → v ≡ w
+same_world k v w h = ap (λ (p : Place). p.world) h
+
+-- a cycle leads back however often it is gone round
+round : (cycle : List ℕ) (p : Place) → search.run stepped (Ok p) cycle ≡ Ok p → (n : ℕ) → search.run stepped (Ok p) (repeated cycle n) ≡ Ok p
+round cycle p h zero = refl
+round cycle p h (suc n) =
+    run-append stepped (Ok p) (repeated cycle n) cycle ∙ ap (λ x. search.run stepped x cycle) (round cycle p h n) ∙ h
+
+-- an entry that changes nothing of the place changes nothing of the world but who was joined
+stays : (k : Limits) (w : World) (f : ℕ) (x : Result World RunError) → entered k (Ok w) f ≡ x →
+    stepped (bare record { limits = k; world = w }) f ≡ Ok (bare record { limits = k; world = w }) → (v : World) → x ≡ Ok v → unnoted v ≡ unnoted w
+stays k w f x is h v to =
+    let led : bared (placed k (entered k (Ok w) f)) ≡ Ok record { limits = k; world = unnoted w } =
+    sym (bare_step record { limits = k; world = w } f) ∙ h in
+    let there : bared (placed k (Ok v)) ≡ Ok record { limits = k; world = unnoted w } = subst (λ y. bared (placed k y) ≡ Ok record { limits = k; world = unnoted w })
+    (is ∙ to) led in
+    let same : record { limits = k; world = unnoted v } ≡ (let p : Place = record { limits = k; world = unnoted w } in p) = cc in
+    ap (λ (p : Place). p.world) same
+
+pub forever : (code : Tree) (k : Limits) (stem cycle exit : List ℕ) → IsFairCycle stepped report_at (first_place code k) stem cycle exit →
+    IsForever code k stem cycle
+forever code k stem cycle exit h = record {
+  world = here.0;
+  comes = here.1;
+  unsettled = λ settled. h.leaves (subst (search.IsSettled stepped report_at) here.2 (settles_place k here.0 settled) exit);
+  again = λ n. (
+    let to = at_place k (core code k (stem ++ repeated cycle n)) h.world (sym (core_run code k (stem ++ repeated cycle n)) ∙ led n) in
+    (to.0, to.1, same_world k (unnoted to.0) (unnoted here.0) (to.2 ∙ sym here.2))
+  );
+  fair = λ f. by f (h.fair f);
+}
+  where
+    here : (w : World) × (core code k stem ≡ Ok w) × ((let p : Place = record { limits = k; world = unnoted w } in p) ≡ h.world)
+    here = at_place k (core code k stem) h.world (sym (core_run code k stem) ∙ h.comes)
+    led : (n : ℕ) → search.run stepped (Ok (first_place code k)) (stem ++ repeated cycle n) ≡ Ok h.world
+    led n =
+        run-append stepped (Ok (first_place code k)) stem (repeated cycle n) ∙ ap (λ x. search.run stepped x (repeated cycle n)) h.comes ∙
+        round cycle h.world h.returns n
+    by : (f : ℕ) → IsIn f cycle ⊎ (stepped h.world f ≡ Ok h.world) →
+        IsIn f cycle ⊎ ((v : World) → entered k (Ok here.0) f ≡ Ok v → unnoted v ≡ unnoted here.0)
+    by f (inl there) = inl there
+    by f (inr rests) = inr (λ v is. stays k here.0 f (entered k (Ok here.0) f) refl (subst (λ (p : Place). stepped p f ≡ Ok p) (sym here.2) rests) v is)

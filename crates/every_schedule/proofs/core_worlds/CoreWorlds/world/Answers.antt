@@ -1,0 +1,62 @@
+use Rattle.std.proofs.Common.{◌≡◌, ◌<◌, ℕ, List, length, map, sym, ap, ◌∙◌, subst, arith}
+use Rattle.std.specs.Prelude.{Some}
+use Rattle.std.specs.List.{All, slice_get}
+use Rattle.std.proofs.lemmas.Grind.{common_steps}
+use Rattle.std.proofs.lemmas.Option.{gets}
+use Rattle.fiber_frames.specs.Fiber.{Fiber}
+use Rattle.cell_registry.specs.Plain.{PlainView}
+use Rattle.world_search.proofs.Lists.{more_same}
+use Rattle.every_schedule.specs.Places.{Kept, Place}
+use Rattle.every_schedule.specs.Private.Numbered.{AreAt, IsWorldOf, Numbers, place_of}
+use Rattle.every_schedule.proofs.Entering.{is_here}
+use Rattle.every_schedule.proofs.Numbered.{fibers_there, fits_at, is_at, registry_there}
+use Rattle.every_schedule.proofs.core_worlds.CoreWorlds.world.Goals as goal
+
+pub fibers_of-requires : goal.fibers_of-requires
+fibers_of-requires c =
+    let s = c.self.inside in
+    let fs = s.current.fibers in
+    let m = c.index-row.result.now in
+    let row : slice_get s.rows.items.items c.args.number ≡ Some m = grind (arith, common_steps, gets) in
+    subst (λ (l : List Fiber). All (λ n. n < length l) c.fibers-2.result.now) (sym c.fibers.ensures)
+    (subst (λ (l : List ℕ). All (λ n. n < length fs) l) (sym c.fibers-2.ensures)
+    (fibers_there s.limits fs s.current.registries m (c.self.invariant c.args.number m row)))
+
+pub registry_of-requires : goal.registry_of-requires
+registry_of-requires c =
+    let s = c.self.inside in
+    let m = c.index-row.result.now in
+    let row : slice_get s.rows.items.items c.args.number ≡ Some m = grind (arith, common_steps, gets) in
+    registry_there s.limits s.current.fibers s.current.registries m (c.self.invariant c.args.number m row)
+
+pub new-requires : goal.new-requires
+new-requires c =
+    let s = c.self.inside in
+    let fs = s.current.fibers in
+    let rs = s.current.registries in
+    let m = c.index-row.result.now in
+    let row : slice_get s.rows.items.items c.args.number ≡ Some m = grind (arith, common_steps, gets) in
+    let are : AreAt fs m.fibers c.in_ok-fibers.fibers.items =
+    subst (λ (l : List Fiber). AreAt l m.fibers c.in_ok-fibers.fibers.items) c.fibers.ensures
+    (subst (λ l. AreAt c.fibers.result.now.items.items l c.in_ok-fibers.fibers.items) c.fibers-2.ensures c.in_ok-fibers.ensures) in
+    let there : slice_get rs m.registry ≡ Some c.in_ok-registry.registry = c.registry_of.ensures ∙ ap Some (sym c.in_ok-registry.ensures) in
+    fits_at s.limits fs rs m c.in_ok-fibers.fibers.items c.in_ok-registry.registry (c.self.invariant c.args.number m row) are there
+
+pub returns : goal.returns
+returns c = λ p at.
+    let s = c.self.inside in
+    let k = s.limits in
+    let fs = s.current.fibers in
+    let rs = s.current.registries in
+    let rows = s.rows.items.items in
+    let m = c.index-row.result.now in
+    let row : slice_get rows c.args.number ≡ Some m = grind (arith, common_steps, gets) in
+    let are : AreAt fs m.fibers c.in_ok-fibers.fibers.items =
+    subst (λ (l : List Fiber). AreAt l m.fibers c.in_ok-fibers.fibers.items) c.fibers.ensures
+    (subst (λ l. AreAt c.fibers.result.now.items.items l c.in_ok-fibers.fibers.items) c.fibers-2.ensures c.in_ok-fibers.ensures) in
+    let there : slice_get rs m.registry ≡ Some c.in_ok-registry.registry = c.registry_of.ensures ∙ ap Some (sym c.in_ok-registry.ensures) in
+    let is_now : IsWorldOf fs rs m c.new.result =
+    subst (λ (q : Place). IsWorldOf fs rs m q) (sym c.new.ensures) (is_at fs rs m c.in_ok-fibers.fibers.items c.in_ok-registry.registry are there) in
+    let places : map (place_of k fs rs) rows ≡ c.args.self.now.places = ap (λ (x : Kept). x.places) c.self.view_is in
+    sym (is_here k fs fs rs rs (more_same fs) (more_same rs) rows c.self.invariant c.args.number m row c.new.result is_now p
+    (ap (λ l. slice_get l c.args.number) places ∙ at))

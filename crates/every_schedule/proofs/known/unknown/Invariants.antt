@@ -1,0 +1,8 @@
+use Rattle.std.proofs.Common.{◌≡◌, ℕ, Bool}
+use Rattle.std.specs.Prelude.{Option, Some, None}
+use Rattle.std.specs.List.{slice_get}
+use Rattle.every_schedule.proofs.known.unknown.Given as goal
+
+-- of no number anything is known
+abbrev pub invariant-loop-number : goal.invariant-loop-number
+invariant-loop-number l = (i : ℕ) (x : Option Bool) → slice_get l.uses.items i ≡ Some x → x ≡ None

@@ -1,0 +1,231 @@
+//! Claims of worlds, and whether a world meets one.
+ghost use Rattle.std.specs.Prelude.{◌≡◌, IfOk, OnOk, ◌++◌, [], ◌∷◌};
+ghost use Rattle.cell_registry.specs.Cells.{ref_of};
+ghost use Rattle.every_schedule.specs.Claims.{are_seen, compares, holds as the_truth, is_met as is_met_at, is_seen};
+ghost use Rattle.every_schedule.specs.Claims.{last_of, without_last, worded};
+
+use crate::core_world::CoreWorld;
+use cell_registry::PlainRegistry;
+use effect_term::Value;
+use std::alloc::{AllocError, Global};
+use std::marker::Model;
+
+/// How two values are compared.
+#[derive(Clone, Copy)]
+pub enum Comparison {
+    /// The first is the second.
+    Equal,
+    /// The first isn't the second.
+    Differs,
+    /// The first is less than the second.
+    Less,
+    /// The first is at most the second.
+    AtMost,
+    /// The first is greater than the second.
+    Greater,
+    /// The first is at least the second.
+    AtLeast,
+}
+
+/// A word of a claim. The words stand in postfix order, over a stack of truth values: a comparison puts its truth on
+/// the stack, and the others take the last one or two off and put theirs on. What is taken from an empty stack is
+/// false.
+#[derive(Clone, Copy)]
+pub enum ClaimWord {
+    /// The value of the ref of this number is compared with a value. Refs have their numbers from 0 on, in the order in
+    /// which they are made.
+    Compare(u16, Comparison, Value),
+    /// The last truth value is turned.
+    Not,
+    /// The last two truth values are both true.
+    And,
+    /// One of the last two truth values is true.
+    Or,
+}
+
+/// What is claimed of a world.
+///
+/// A world meets it where each ref that the words compare was set before, for the first time when it was made, and the
+/// last truth value on the stack is true.
+#[derive(Drop)]
+pub struct Claim {
+    words: Vec<ClaimWord>,
+}
+
+impl Model for Claim {
+    ghost use Rattle.std.specs.Prelude.{List};
+    ghost use Rattle.every_schedule.specs.declared.claims.ClaimWord.{ClaimWord};
+
+    ghost Value = { List ClaimWord };
+
+    ghost view = { λ c. c.words.items };
+}
+
+impl Claim {
+    /// The claim of these words.
+    pub fn new(words: Vec<ClaimWord>) -> Claim
+        ensures { result ≡ words.items }
+    {
+        Claim { words }
+    }
+
+    /// Its words, in postfix order.
+    pub fn words(&self) -> &[ClaimWord]
+        ensures { result.now ≡ self.now }
+    {
+        self.words.as_slice()
+    }
+}
+
+/// A world, and the refs that were set before, in the order of their first time.
+#[derive(Drop)]
+pub(crate) struct SeenWorld {
+    world: CoreWorld,
+    seen: Vec<u16>,
+}
+
+impl Model for SeenWorld {
+    ghost use Rattle.std.specs.Coded.{codes};
+    ghost use Rattle.derived_ops.specs.Stored.{tree_code};
+    ghost use Rattle.fiber_frames.specs.contracts.ask.Look as the_look;
+    ghost use Rattle.fiber_frames.specs.contracts.mark.Mark as the_mark;
+    ghost use Rattle.every_schedule.specs.Claims.{View};
+
+    ghost Value = { View };
+
+    ghost coded = { Prim.hlevel (codes, tree_code, the_look.the_row.coded, the_mark.the_row.coded) };
+
+    ghost view = { λ w. record { place = w.world; seen = w.seen.items } };
+}
+
+impl SeenWorld {
+    /// This world, with these refs.
+    pub(crate) fn new(world: CoreWorld, seen: Vec<u16>) -> SeenWorld
+        ensures { result ≡ record { place = world; seen = seen.items } }
+    {
+        SeenWorld { world, seen }
+    }
+
+    /// Whether it meets a claim.
+    pub(crate) fn meets(self, alloc: Global, claim: &Claim) -> Result<bool, AllocError>
+        ensures { IfOk result (λ it. it ≡ is_met_at self claim.now) }
+    {
+        let SeenWorld { world, seen } = self;
+        if !have_seen(claim.words(), seen.as_slice()) {
+            return Ok(false);
+        }
+        let (_fibers, registry) = world.into_parts();
+        holds(alloc, registry, claim.words())
+    }
+}
+
+// Whether the refs that these words compare are among those.
+fn have_seen(words: &[ClaimWord], seen: &[u16]) -> bool
+    ensures { result ≡ are_seen seen.now words.now }
+{
+    for word in words {
+        if !has_seen(*word, seen) {
+            return false;
+        }
+    }
+    true
+}
+
+// The same of one word.
+fn has_seen(word: ClaimWord, seen: &[u16]) -> bool
+    ensures { result ≡ is_seen seen.now word }
+{
+    match word {
+        ClaimWord::Compare(number, _, _) => seen.contains(&number),
+        ClaimWord::Not | ClaimWord::And | ClaimWord::Or => true,
+    }
+}
+
+// The truth of these words under the values of a registry.
+fn holds(
+    alloc: Global,
+    mut registry: PlainRegistry,
+    words: &[ClaimWord],
+) -> Result<bool, AllocError>
+    ensures { IfOk result (λ it. it ≡ the_truth registry.state words.now) }
+{
+    let mut stack = Vec::new(alloc);
+    for word in words {
+        step(&mut registry, &mut stack, *word)?;
+    }
+    Ok(pop(&mut stack))
+}
+
+// One word.
+fn step(
+    registry: &mut PlainRegistry,
+    stack: &mut Vec<bool>,
+    word: ClaimWord,
+) -> Result<(), AllocError>
+    ensures same { registry.new ≡ registry.old }
+    ensures stack { OnOk result (stack.new.items ≡ worded registry.old.state stack.old.items word) }
+{
+    let truth = truth_of(registry, &mut *stack, word);
+    stack.push(truth)?;
+    Ok(())
+}
+
+// The truth value that a word puts on the stack. Those that it takes off are gone.
+fn truth_of(registry: &mut PlainRegistry, stack: &mut Vec<bool>, word: ClaimWord) -> bool
+    ensures same { registry.new ≡ registry.old }
+    ensures stack { worded registry.old.state stack.old.items word ≡ stack.new.items ++ result ∷ [] }
+{
+    match word {
+        ClaimWord::Compare(number, how, value) => is_so(how, value_of(registry, number), value),
+        ClaimWord::Not => !pop(stack),
+        ClaimWord::And => {
+            let second = pop(&mut *stack);
+            let first = pop(stack);
+            first && second
+        }
+        ClaimWord::Or => {
+            let second = pop(&mut *stack);
+            let first = pop(stack);
+            first || second
+        }
+    }
+}
+
+// The last truth value, which is taken off the stack.
+fn pop(stack: &mut Vec<bool>) -> bool
+    ensures value { result ≡ last_of stack.old.items }
+    ensures rest { stack.new.items ≡ without_last stack.old.items }
+{
+    match stack.pop() {
+        Some(truth) => truth,
+        None => false,
+    }
+}
+
+// Whether a comparison is true.
+fn is_so(how: Comparison, one: Value, other: Value) -> bool
+    ensures { result ≡ compares how one other }
+{
+    let first = one.get();
+    let second = other.get();
+    match how {
+        Comparison::Equal => first <= second && second <= first,
+        Comparison::Differs => first < second || second < first,
+        Comparison::Less => first < second,
+        Comparison::AtMost => first <= second,
+        Comparison::Greater => second < first,
+        Comparison::AtLeast => second <= first,
+    }
+}
+
+// The value of a ref, or 0 where there is none of this number.
+#[tactic(auto, using(crate::proofs::RefValues::may_get, crate::proofs::RefValues::got_value, crate::proofs::RefValues::got_same, crate::proofs::RefValues::past_ref))]
+fn value_of(registry: &mut PlainRegistry, number: u16) -> Value
+    ensures value { result ≡ ref_of registry.old.state number }
+    ensures same { registry.new ≡ registry.old }
+{
+    if number >= registry.limits().refs {
+        return Value::ZERO;
+    }
+    registry.get(0, number)
+}

@@ -1,0 +1,52 @@
+//! Whether every fair schedule of a program ends.
+ghost use Rattle.std.specs.Prelude.{◌≡◌, ℕ, IfErr, IfOk};
+ghost use Rattle.derived_ops.specs.Expansion.{code_of};
+ghost use Rattle.derived_ops.specs.Reading.{source_of};
+ghost use Rattle.cell_registry.specs.Cells.{AreLimits};
+ghost use Rattle.fair_ends.specs.declared.ending.Cycle.{Cycle as TheCycle};
+ghost use Rattle.fair_ends.specs.Fair.{IsFair};
+ghost use Rattle.every_schedule.specs.Fairness.{Ends, IsForever};
+
+use crate::core_worlds::CoreWorlds;
+use cell_registry::{Limits, RunError};
+use effect_term::Program;
+use fair_ends::{Ending, decide_ends};
+use std::alloc::Global;
+use world_search::{Bounds, Watcher};
+
+/// Whether every fair schedule of a program leads to an answer: to a report that no further entry changes, or to a
+/// fault.
+///
+/// A schedule has no end here. It is fair if each fiber has an entry again and again; an entry of a fiber that waits or
+/// has ended changes nothing. So this tells a livelock from a deadlock: under a livelock some fair schedule goes on for
+/// ever, and a deadlock is an answer.
+///
+/// [`Ending::Repeats`] has the entries that lead to a cycle, and those of the cycle: `replay` takes the first, and behind
+/// them the others as often as one likes. Each entry of each fiber is made alone, without the reduction of
+/// [`explore`](crate::explore), so there are more worlds. [`Ending::Undecided`] comes at a bound: as many worlds as may
+/// be kept, or as many bytes; the bound on entries isn't used. The limits are in their ranges ([`Limits`]).
+/// [`RunError::NoMemory`] is the only error.
+///
+/// ```
+/// let program = Program::check(alloc, parse(alloc, b"(forever (cede))")?)?;
+/// let ending = explore_ends(alloc, &program, limits, bounds, &mut Unwatched)?;
+/// assert!(matches!(ending, Ending::Repeats(_)));
+/// ```
+pub fn explore_ends<V: Watcher>(
+    alloc: Global,
+    program: &Program,
+    limits: Limits,
+    bounds: Bounds,
+    watcher: &mut V,
+) -> Result<Ending, RunError>
+    requires limits { AreLimits limits }
+    ensures ends { IfOk result (λ it. it ≡ Ending.Ends → (schedule : ℕ → ℕ) → IsFair 1000 schedule →
+        Ends (code_of (source_of program.now)) limits schedule) }
+    ensures repeats { IfOk result (λ it. (c : TheCycle) → it ≡ Ending.Repeats c →
+        IsForever (code_of (source_of program.now)) limits c.stem.items c.cycle.items) }
+    ensures memory { IfErr result (λ e. e ≡ RunError.NoMemory) }
+{
+    let mut worlds = CoreWorlds::new(alloc, program, limits)?;
+    let ending = decide_ends(alloc, &mut worlds, bounds, watcher)?;
+    Ok(ending)
+}

@@ -1,0 +1,218 @@
+//! The worlds that a search for claims has found, each with the refs that were set before.
+ghost use Rattle.std.specs.Prelude.{◌≡◌, ◌++◌, ◌<◌, ◌≤◌, ◌⊎◌, [], ◌∷◌, length, max, IfOk, OnOk, Some};
+ghost use Rattle.std.specs.List.{slice_get};
+ghost use Rattle.derived_ops.specs.Expansion.{code_of};
+ghost use Rattle.derived_ops.specs.Reading.{source_of};
+ghost use Rattle.cell_registry.specs.Cells.{AreLimits};
+ghost use Rattle.world_search.specs.Landings.{IsNext};
+ghost use Rattle.every_schedule.specs.Claims.{first_view, noted};
+ghost use Rattle.every_schedule.specs.Places.{first_place};
+ghost use Rattle.every_schedule.specs.Private.Seen.{IsRowAdded, IsRowMet};
+
+use crate::claims::{Claim, SeenWorld};
+use crate::core_worlds::{CoreWorlds, keep};
+use crate::leaping::AtOnce;
+use crate::pool::Pool;
+use crate::seen_row::SeenRow;
+use cell_registry::{Limits, RunError};
+use effect_term::Program;
+use std::alloc::{AllocError, Global};
+use std::marker::Model;
+use world_search::{Claims, Entered, Landing, Worlds};
+
+/// The own moves that are made at once behind an entry: none that sets a ref or changes it, so that each of their values
+/// is one of a world that is kept.
+pub(crate) const STILL: AtOnce = AtOnce {
+    most: 100,
+    stores: false,
+};
+
+/// All worlds and faults that were found. A world of the core may be there several times, with different refs.
+#[derive(Drop)]
+pub(crate) struct SeenWorlds {
+    alloc: Global,
+    worlds: CoreWorlds,
+    rows: Pool<SeenRow>,
+}
+
+impl Model for SeenWorlds {
+    ghost use Rattle.std.specs.Prelude.{◌+◌, map};
+    ghost use Rattle.std.specs.Coded.{codes};
+    ghost use Rattle.derived_ops.specs.Stored.{tree_code};
+    ghost use Rattle.fiber_frames.specs.contracts.ask.Look as the_look;
+    ghost use Rattle.fiber_frames.specs.contracts.mark.Mark as the_mark;
+    ghost use Rattle.every_schedule.specs.Sizes.{capped};
+    ghost use Rattle.every_schedule.specs.Private.Seen.{AreThere, KeptViews, view_of};
+
+    ghost Value = { KeptViews };
+
+    ghost coded = { Prim.hlevel (codes, tree_code, the_look.the_row.coded, the_mark.the_row.coded) };
+
+    ghost view = { λ s. record {
+      views = map (view_of s.worlds.places) s.rows.items.items;
+      faults = s.worlds.faults;
+      bytes = capped (s.worlds.bytes + s.rows.bytes);
+    } };
+
+    ghost invariant = { λ s. AreThere s.worlds.places s.rows.items.items };
+}
+
+impl SeenWorlds {
+    /// The first world of a program, alone.
+    pub(crate) fn new(
+        alloc: Global,
+        program: &Program,
+        limits: Limits,
+    ) -> Result<SeenWorlds, AllocError>
+        requires { AreLimits limits }
+        ensures { IfOk result (λ s. s.views ≡
+            first_view (first_place (code_of (source_of program.now)) limits) ∷ []) }
+    {
+        let worlds = CoreWorlds::new(alloc, program, limits)?;
+        let mut rows = Pool::new(alloc);
+        let none = Vec::new(alloc);
+        let first = SeenRow::new(0, none);
+        rows.add(first)?;
+        Ok(SeenWorlds {
+            alloc,
+            worlds,
+            rows,
+        })
+    }
+}
+
+// The refs that were set before, with the one that the next move sets, if it sets one.
+fn seen_after(alloc: Global, seen: &[u16], stored: Option<u16>) -> Result<Vec<u16>, AllocError>
+    ensures { IfOk result (λ it. it.items ≡ noted seen.now stored) }
+{
+    let mut after = Vec::from_slice(alloc, seen)?;
+    note_ref(&mut after, stored)?;
+    Ok(after)
+}
+
+/// One ref more, if it isn't among them.
+pub(crate) fn note_ref(seen: &mut Vec<u16>, stored: Option<u16>) -> Result<(), AllocError>
+    ensures { OnOk result (seen.new.items ≡ noted seen.old.items stored) }
+{
+    match stored {
+        None => Ok(()),
+        Some(number) => {
+            if seen.as_slice().contains(&number) {
+                return Ok(());
+            }
+            seen.push(number)?;
+            Ok(())
+        }
+    }
+}
+
+// How many worlds of the core there may be: there is room for one more where there is for one more row.
+fn room(rows: usize, most: usize) -> usize
+    ensures none { most ≤ rows → result ≡ 0 }
+{
+    if rows < most { usize::MAX } else { 0 }
+}
+
+// What came of an entry for which there was no room: want of memory, where there is room for one more row.
+fn full(rows: usize, most: usize) -> Result<Entered, AllocError>
+    ensures next { IfOk result (λ it. IsNext rows rows most it) }
+    ensures full { IfOk result (λ it. it ≡ Entered.Full) }
+{
+    if rows < most {
+        return Err(AllocError);
+    }
+    Ok(Entered::Full)
+}
+
+// What came of an entry, by what came of it in the core and by the refs that are set now.
+fn row_met(
+    alloc: Global,
+    rows: &mut Pool<SeenRow>,
+    came: Entered,
+    seen: Vec<u16>,
+    most: usize,
+) -> Result<Entered, AllocError>
+    ensures adds { IsRowAdded rows.old.items.items rows.new.items.items came seen.items }
+    ensures met { IfOk result (λ it. IsRowMet rows.new.items.items it came seen.items) }
+    ensures room { OnOk result (length rows.new.items.items ≤ max most (length rows.old.items.items)) }
+    ensures next { IfOk result (IsNext (length rows.old.items.items) (length rows.new.items.items) most) }
+{
+    match came {
+        Entered::Full => full(rows.items.len(), most),
+        Entered::At(Landing::Fault(fault)) => Ok(Entered::At(Landing::Fault(fault))),
+        Entered::At(Landing::World(world)) => {
+            let row = SeenRow::new(world, seen);
+            keep(alloc, rows, &row, most)
+        }
+    }
+}
+
+impl Worlds for SeenWorlds {
+    type World = SeenWorld;
+
+    type Fault = RunError;
+
+    type Report = ();
+
+    ghost use Rattle.every_schedule.specs.Claims.{viewed};
+    ghost use Rattle.every_schedule.specs.Reduced.{hundred_still, leapt};
+
+    ghost worlds = { λ s. s.views };
+
+    ghost faults = { λ s. s.faults };
+
+    ghost step = { viewed (leapt hundred_still) };
+
+    ghost report = { λ v. tt };
+
+    ghost most_born = { 1000 };
+
+    ghost bytes = { λ s. s.bytes };
+
+    fn born(&self, world: usize) -> u16 {
+        let row = &self.rows.items[world];
+        let number = row.world();
+        self.worlds.born_at(number)
+    }
+
+    fn enter(&mut self, world: usize, fiber: u16, most: usize) -> Result<Entered, AllocError> {
+        let row = &self.rows.items[world];
+        let number = row.world();
+        let stored = self.worlds.stored(number, fiber);
+        let seen = seen_after(self.alloc, row.seen(), stored)?;
+        let room = room(self.rows.items.len(), most);
+        let came = self.worlds.entry(number, fiber, room, STILL)?;
+        row_met(self.alloc, &mut self.rows, came, seen, most)
+    }
+
+    fn same_report(&self, one: usize, other: usize) -> bool {
+        let _ = &self.rows.items[one];
+        let _ = &self.rows.items[other];
+        true
+    }
+
+    fn len(&self) -> usize {
+        self.rows.items.len()
+    }
+
+    fn bytes(&self) -> usize {
+        self.worlds.counted().saturating_add(self.rows.bytes)
+    }
+}
+
+impl Claims for SeenWorlds {
+    type Claim = Claim;
+
+    ghost use Rattle.every_schedule.specs.Claims.{is_met};
+
+    ghost meets = { is_met };
+
+    fn meets(&self, world: usize, claim: &Claim) -> Result<bool, AllocError> {
+        let row = &self.rows.items[world];
+        let number = row.world();
+        let core = self.worlds.world(number)?;
+        let seen = Vec::from_slice(self.alloc, row.seen())?;
+        let here = SeenWorld::new(core, seen);
+        here.meets(self.alloc, claim)
+    }
+}

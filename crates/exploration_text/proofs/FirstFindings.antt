@@ -1,0 +1,102 @@
+-- The first finding of a program.
+use Rattle.std.proofs.Common.{◌≡◌, ◌≤◌, ◌<◌, inl, inr, ℕ, Bool, true, false, List, Result, Ok, Err, IfOk, length, ap, arith, sym, ◌∙◌, subst}
+use Rattle.std.specs.Prelude.{Some, max}
+use Rattle.std.specs.List.{All, slice_get}
+use Rattle.cell_registry.specs.declared.limits.Limits.{Limits}
+use Rattle.cell_registry.specs.declared.limits.RunError.{RunError}
+use Rattle.derived_ops.specs.Tree.{Tree}
+use Rattle.effect_term.specs.declared.term.Term.{Term}
+use Rattle.outcome_trace.specs.declared.text_order.Answer.{Answer as Answered}
+use Rattle.scheduled_core.specs.Core.{World, core, reported}
+use Rattle.scheduled_core.specs.Finals.{IsSettled}
+use Rattle.every_schedule.specs.declared.exploration.Answer.{Answer}
+use Rattle.every_schedule.specs.Explored.{IsReached}
+use Rattle.every_schedule.proofs.Told.{all_at}
+use Rattle.sampled_schedules.specs.declared.comings.Coming.{Coming}
+use Rattle.world_search.specs.declared.answers.Bounds.{Bounds}
+use Rattle.exploration_text.specs.declared.findings.Finding.{Finding}
+use Rattle.exploration_text.specs.declared.findings.First.{First}
+use Rattle.exploration_text.specs.declared.findings.First.TheVariants.{Explored, Found}
+use Rattle.exploration_text.specs.declared.wants.Want.{Want}
+use Rattle.exploration_text.specs.ExplorationText.{IsSpellable}
+use Rattle.exploration_text.specs.Findings.{HasEndedFirst, IsDecided, IsFinding, IsFirst, IsLast, Shows, ended, final}
+use Rattle.exploration_text.specs.Wants.{is_failure}
+
+faulted : (k : Limits) (x : Result World RunError) (e : RunError) → reported x ≡ Err e → IfOk x (IsSettled k)
+faulted k (Ok w) e h = absurd cc
+faulted k (Err x) e h = tt
+
+reached_so : (code : Tree) (k : Limits) (most : ℕ) (a : Answer) → reported (core code k a.schedule) ≡ a.end →
+    (length a.schedule < most → IsReached code k a) → IsLast most a → IsReached code k a
+reached_so code k most a is stays (inl short) = stays short
+reached_so code k most a is stays (inr fault) = record {
+  reached = is;
+  settled = faulted k (core code k a.schedule) fault.0 (is ∙ fault.1);
+}
+
+at_most : (n a b : ℕ) → a ≤ b → n ≤ max a 1 → n ≤ max b 1
+at_most n a b low h = omega (arith, low, h)
+
+-- an answer of the same schedule, as a replay answers it, is as the one that shows it
+again : (code : Tree) (k : Limits) (wants : List Want) (b a : Answer) (last drawn : Bool) → a.schedule ≡ b.schedule →
+    reported (core code k b.schedule) ≡ a.end → reported (core code k b.schedule) ≡ b.end → is_failure wants b.end ≡ true →
+    (last ≡ true → IsReached code k b) → (last ≡ false → HasEndedFirst b.end) → IsSpellable b →
+    IsFinding code k wants record { answer = a; last = last; drawn = drawn }
+again code k wants b a last drawn same ends is unwanted stays has spelled =
+    let end : a.end ≡ b.end = sym ends ∙ is in
+    record {
+      reached = ap (λ s. reported (core code k s)) same ∙ ends;
+      unwanted = ap (is_failure wants) end ∙ unwanted;
+      last = λ h. record {
+        reached = ap (λ s. reported (core code k s)) same ∙ ends;
+        settled = subst (λ s. IfOk (core code k s) (IsSettled k)) (sym same) (stays h).settled;
+      };
+      ended = λ h. subst HasEndedFirst (sym end) (has h);
+      spelled = record {
+        numbers = subst (λ s. All (λ f. f < 1000) s) (sym same) spelled.numbers;
+        few = subst (λ s. length s ≤ 1000000) (sym same) spelled.few;
+      };
+    }
+
+-- a schedule that was drawn
+pub drawn_found : (code : Tree) (k : Limits) (wants : List Want) (most i : ℕ) (comings : List Coming) (c : Coming) (a : Answer) (last : Bool) →
+    slice_get comings i ≡ Some c → Shows wants most c.answer last →
+    All (λ (c : Coming). reported (core code k c.answer.schedule) ≡ c.answer.end) comings →
+    All (λ (c : Coming). length c.answer.schedule < most → IsReached code k c.answer) comings →
+    All (λ (c : Coming). IsSpellable c.answer) comings → a.schedule ≡ c.answer.schedule → reported (core code k c.answer.schedule) ≡ a.end →
+    IsFinding code k wants record { answer = a; last = last; drawn = true }
+drawn_found code k wants most i comings c a true there (final unwanted whole) each stays spelled same ends =
+    let is = all_at (λ (c : Coming). reported (core code k c.answer.schedule) ≡ c.answer.end) comings i c there each in
+    let stay = all_at (λ (c : Coming). length c.answer.schedule < most → IsReached code k c.answer) comings i c there stays in
+    again code k wants c.answer a true true same ends is unwanted (λ h. reached_so code k most c.answer is stay whole) (λ h. absurd cc)
+    (all_at (λ (c : Coming). IsSpellable c.answer) comings i c there spelled)
+drawn_found code k wants most i comings c a false there (ended unwanted has) each stays spelled same ends =
+    let is = all_at (λ (c : Coming). reported (core code k c.answer.schedule) ≡ c.answer.end) comings i c there each in
+    again code k wants c.answer a false true same ends is unwanted (λ h. absurd cc) (λ h. has)
+    (all_at (λ (c : Coming). IsSpellable c.answer) comings i c there spelled)
+
+-- an answer of an exploration
+pub searched_found : (code : Tree) (k : Limits) (wants : List Want) (i : ℕ) (answers : List Answer) (b a : Answer) →
+    slice_get answers i ≡ Some b → is_failure wants b.end ≡ true → All (IsReached code k) answers → All IsSpellable answers →
+    a.schedule ≡ b.schedule → reported (core code k b.schedule) ≡ a.end → IsFinding code k wants record { answer = a; last = true; drawn = false }
+searched_found code k wants i answers b a there unwanted each spelled same ends =
+    let is = all_at (IsReached code k) answers i b there each in
+    again code k wants b a true false same ends is.reached unwanted (λ h. is) (λ h. absurd cc) (all_at IsSpellable answers i b there spelled)
+
+-- a whole exploration within fewer worlds
+pub widened : (code : Tree) (k : Limits) (fewer bounds : Bounds) (wants : List Want) (first : First) → fewer.worlds ≤ bounds.worlds →
+    fewer.entries ≡ bounds.entries → fewer.memory ≡ bounds.memory → IsDecided first → IsFirst code k fewer wants first → IsFirst code k bounds wants first
+widened code k fewer bounds wants (Found f) low entries memory decided h = h
+widened code k fewer bounds wants (Explored e) low entries memory complete h = (
+  record {
+    all = h.0.all;
+    each = h.0.each;
+    once = h.0.once;
+    stopped = λ no. let bad : true ≡ false = sym complete ∙ no in absurd cc;
+    room = at_most e.worlds fewer.worlds bounds.worlds low h.0.room;
+    spare = λ is. subst (λ m. e.bytes < m) memory (h.0.spare is);
+    short = subst (λ n. All (λ (a : Answer). length a.schedule ≤ n) e.answers) entries h.0.short;
+  },
+  h.1,
+  h.2,
+)

@@ -1,0 +1,109 @@
+-- The first thing that shows that a program isn't right, and what is answered where it is looked for.
+use Rattle.std.specs.Prelude.{◌≡◌, ◌⊎◌, ◌<◌, ℕ, Bool, true, false, List, [], ◌∷◌, ◌++◌, codes, length, Option, Some}
+use Rattle.std.specs.Prelude.{Result, Ok, Err}
+use Rattle.std.specs.List.{All}
+use Rattle.cell_registry.specs.declared.limits.Limits.{Limits}
+use Rattle.cell_registry.specs.declared.limits.RunError.{RunError}
+use Rattle.derived_ops.specs.Expansion.{code_of}
+use Rattle.derived_ops.specs.Reading.{source_of}
+use Rattle.derived_ops.specs.Tree.{Tree}
+use Rattle.effect_term.specs.declared.reply.Outcome.{Outcome}
+use Rattle.effect_term.specs.declared.term.Term.{Term}
+use Rattle.text_io.specs.declared.status.Status.{Status}
+use Rattle.text_io.specs.declared.status.Status.TheVariants as ends
+use Rattle.text_io.specs.Schedule.{SpellsEntries}
+use Rattle.scheduled_core.specs.declared.report.Report.{Report}
+use Rattle.scheduled_core.specs.Core.{core, reported}
+use Rattle.every_schedule.specs.declared.exploration.Answer.{Answer}
+use Rattle.every_schedule.specs.Explored.{IsReached}
+use Rattle.world_search.specs.declared.answers.Bounds.{Bounds}
+use Rattle.exploration_text.specs.declared.findings.Finding.{Finding}
+use Rattle.exploration_text.specs.declared.findings.First.{First}
+use Rattle.exploration_text.specs.declared.findings.First.TheVariants.{Explored, Found}
+use Rattle.exploration_text.specs.declared.wants.Want.{Want}
+use Rattle.exploration_text.specs.ExplorationText.{IsSpellable, end_text, has_failure}
+use Rattle.exploration_text.specs.ExploreAnswers.{IsExplorationOf, IsExploredAnswer}
+use Rattle.exploration_text.specs.Missing.{missing_of_exploration}
+use Rattle.exploration_text.specs.Wants.{first_outcome, is_failure}
+
+-- it is a report in which fiber 0 has ended
+abbrev pub HasEndedFirst : Result Report RunError → Type 0
+HasEndedFirst (Ok r) = (o : Outcome) × (first_outcome r.fibers ≡ Some o)
+HasEndedFirst (Err e) = ⊥
+
+-- The schedule of a finding leads to its end, which is a fault, or not wanted. Either no further entry changes this
+-- end, or fiber 0 has ended in it. The schedule can be spelled.
+pub record IsFinding (code : Tree) (limits : Limits) (wants : List Want) (f : Finding) : Type 0 where
+  pub reached : reported (core code limits f.answer.schedule) ≡ f.answer.end
+  pub unwanted : is_failure wants f.answer.end ≡ true
+  pub last : f.last ≡ true → IsReached code limits f.answer
+  pub ended : f.last ≡ false → HasEndedFirst f.answer.end
+  pub spelled : IsSpellable f.answer
+
+-- a finding, or an exploration that lists none
+abbrev pub IsFirst : Tree → Limits → Bounds → List Want → First → Type 0
+IsFirst code limits bounds wants (Found f) = IsFinding code limits wants f
+IsFirst code limits bounds wants (Explored e) =
+    IsExplorationOf code limits bounds e × (has_failure wants e.answers ≡ false) × All IsSpellable e.answers
+
+-- how a finding was found
+abbrev pub source_text : Bool → List ℕ
+source_text true = codes "found at random: not wanted, "
+source_text false = codes "found by search: not wanted, "
+
+-- whether more entries can change its end
+abbrev pub extent_text : Bool → List ℕ
+extent_text true = codes "final, under "
+extent_text false = codes "others may go on, under "
+
+-- how a finding was found, whether its end is final, its schedule in quotes, and its end
+pub record IsFindingText (f : Finding) (text : List ℕ) : Type 0 where
+  pub schedule : List ℕ
+  pub spelled : SpellsEntries schedule f.answer.schedule
+  pub text_is : text ≡ source_text f.drawn ++ (extent_text f.last ++
+      (34 ∷ (schedule ++ (34 ∷ 10 ∷ end_text f.answer.end))))
+
+-- the text of a finding, with the status of what isn't wanted
+pub record IsFoundAnswer (t : Term) (limits : Limits) (wants : List Want) (answer : List ℕ) (status : Status) : Type 0
+  where
+    pub finding : Finding
+    pub found : IsFinding (code_of (source_of t)) limits wants finding
+    pub text_is : IsFindingText finding answer
+    pub status_is : status ≡ ends.Errored
+
+-- the text and the status of an exploration that lists no finding
+pub record IsUnfoundAnswer (t : Term) (limits : Limits) (bounds : Bounds) (wants : List Want) (answer : List ℕ)
+    (status : Status) : Type 0
+  where
+    pub explored : IsExploredAnswer t limits bounds wants answer status
+    pub none : has_failure wants explored.exploration.answers ≡ false
+
+-- such an answer, beside the lines of the wanted outcomes that no schedule comes to
+pub record IsNotedUnfound (t : Term) (limits : Limits) (bounds : Bounds) (wants : List Want) (note answer : List ℕ)
+    (status : Status) : Type 0
+  where
+    pub unfound : IsUnfoundAnswer t limits bounds wants answer status
+    pub note_is : note ≡ missing_of_exploration wants unfound.explored.exploration
+
+-- what is answered to a program with this note, with its status: a finding, which has no note, or an exploration that
+-- lists none
+abbrev pub IsFirstAnswer : Term → Limits → Bounds → List Want → (note : List ℕ) → List ℕ → Status → Type 0
+IsFirstAnswer t limits bounds wants note answer status =
+    (IsFoundAnswer t limits wants answer status × (note ≡ [])) ⊎ IsNotedUnfound t limits bounds wants note answer status
+
+-- ---- for private clauses
+
+-- a search with more worlds would find nothing else
+abbrev pub IsDecided : First → Type 0
+IsDecided (Found f) = Unit {0}
+IsDecided (Explored e) = e.complete ≡ true
+
+-- the schedule wasn't cut short at so many entries, or it leads to a fault
+abbrev pub IsLast : ℕ → Answer → Type 0
+IsLast most a = (length a.schedule < most) ⊎ ((e : RunError) × (a.end ≡ Err e))
+
+-- an answer whose schedule has at most so many entries shows that the program isn't right: its end is final, or
+-- fiber 0 has ended
+pub data Shows (wants : List Want) (most : ℕ) (a : Answer) : (last : Bool) → Type 0 where
+  final : is_failure wants a.end ≡ true → IsLast most a → Shows wants most a true
+  ended : is_failure wants a.end ≡ true → HasEndedFirst a.end → Shows wants most a false

@@ -1,0 +1,88 @@
+//! What comes of a text whose program is explored until something shows that it isn't right.
+
+ghost use Rattle.std.specs.Prelude.{◌≡◌, IfOk};
+ghost use Rattle.exploration_text.specs.ExplorationText.{IsSpellable};
+ghost use Rattle.exploration_text.specs.Findings.{IsFindingText, IsFirstAnswer, extent_text, source_text};
+
+use crate::explore_texts::ExploreOrder;
+use crate::findings::{Finding, First, first_finding};
+use crate::missing::missing_of_exploration;
+use crate::noted::{NotedAnswer, NotedOrder};
+use crate::texts::{end_text, exploration_status, text_of_exploration};
+use effect_term::Program;
+use outcome_trace::{Answer, InWords, Status, schedule_text};
+use std::alloc::{AllocError, Global};
+
+/// Looks for the first finding of the program that the text spells ([`first_finding`]), and answers its text with
+/// `Status::Errored`. Where there is none, the answer is what [`ExploreOrder`] answers, with a note that names the
+/// wanted outcomes to which no schedule comes. A text that is refused is answered by the line of its refusal, with
+/// `Status::Refused`.
+#[derive(Drop)]
+pub struct FirstOrder {
+    /// What is explored, how far, and what is wanted.
+    pub order: ExploreOrder,
+}
+
+impl NotedOrder for FirstOrder {
+    type Refusals = InWords;
+
+    ghost notes = { λ it note t. IsFirstAnswer t it.order.limits it.order.bounds it.order.wants.items note };
+
+    fn noted_answer(&self, alloc: Global, program: &Program) -> Result<NotedAnswer, AllocError> {
+        let wants = self.order.wants.as_slice();
+        match first_finding(alloc, program, &self.order)? {
+            First::Found(finding) => Ok(NotedAnswer {
+                answer: Answer {
+                    text: text_of_finding(alloc, &finding)?,
+                    status: Status::Errored,
+                },
+                note: Vec::new(alloc),
+            }),
+            First::Explored(exploration) => Ok(NotedAnswer {
+                answer: Answer {
+                    text: text_of_exploration(alloc, &exploration, wants)?,
+                    status: exploration_status(&exploration, wants),
+                },
+                note: missing_of_exploration(alloc, &exploration, wants)?,
+            }),
+        }
+    }
+}
+
+// The text of a finding: how it was found, whether its end is final, its schedule, and its end as a replay writes it.
+fn text_of_finding(alloc: Global, finding: &Finding) -> Result<Vec<u8>, AllocError>
+    requires { IsSpellable finding.now.answer }
+    ensures { IfOk result (λ text. IsFindingText finding.now text.items) }
+{
+    let schedule = schedule_text(alloc, finding.answer.schedule.as_slice())?;
+    let end = end_text(alloc, &finding.answer.end)?;
+    let mut text = Vec::from_slice(alloc, source_text(finding.drawn))?;
+    text.extend_from_slice(extent_text(finding.last))?;
+    text.push(b'"')?;
+    text.extend_from_slice(schedule.as_bytes())?;
+    text.extend_from_slice(b"\"\n")?;
+    text.extend_from_slice(end.as_slice())?;
+    Ok(text)
+}
+
+// How a finding was found.
+fn source_text(drawn: bool) -> &'static [u8]
+    ensures { result.now ≡ source_text drawn }
+{
+    if drawn {
+        b"found at random: not wanted, "
+    } else {
+        b"found by search: not wanted, "
+    }
+}
+
+// Whether more entries can change the end of a finding.
+fn extent_text(last: bool) -> &'static [u8]
+    ensures { result.now ≡ extent_text last }
+{
+    if last {
+        b"final, under "
+    } else {
+        b"others may go on, under "
+    }
+}

@@ -1,0 +1,289 @@
+//! The first thing that shows that a program isn't right: schedules that are drawn at random meet it soon where there
+//! are many that do, and a search of every schedule meets it where there is one.
+
+ghost use Rattle.std.specs.Prelude.{◌≡◌, ◌≤◌, ℕ, IfNone, IfOk, IfSome, Some as There, false, true};
+ghost use Rattle.std.specs.List.{slice_get};
+ghost use Rattle.cell_registry.specs.Cells.{AreLimits};
+ghost use Rattle.derived_ops.specs.Expansion.{code_of};
+ghost use Rattle.derived_ops.specs.Reading.{source_of};
+ghost use Rattle.scheduled_core.specs.Core.{core, reported};
+ghost use Rattle.exploration_text.specs.ExplorationText.{has_failure};
+ghost use Rattle.exploration_text.specs.Findings.{IsDecided, IsFinding, IsFirst, Shows};
+ghost use Rattle.exploration_text.specs.Wants.{is_failure};
+
+use crate::explore_texts::ExploreOrder;
+use crate::texts::{first_outcome, is_failure};
+use crate::wants::Want;
+use cell_registry::{Limits, RunError};
+use effect_term::Program;
+use every_schedule::{Answer, Bounds, Exploration, Schedule, explore};
+use outcome_trace::{Report, replay};
+use sampled_schedules::{Coming, sample};
+use std::alloc::{AllocError, Global};
+
+// How many samples are drawn of each length, how many schedules each has, and the lengths: how many entries a schedule
+// has at most. Short ones come first, since they are easier to read. All of them take less than a second.
+const SAMPLES: u64 = 10;
+
+const SCHEDULES: u32 = 100;
+
+const LENGTHS: &[u32] = &[64, 256, 1000];
+
+// How many worlds the searches before the last one have, so that a finding that is near is told soon.
+const SEARCHES: &[usize] = &[10_000, 1_000_000];
+
+/// A fault or an outcome of fiber 0 that is not wanted, and a schedule that leads to it.
+#[derive(Drop)]
+pub struct Finding {
+    /// The schedule, and the report or the fault that a replay under it answers.
+    pub answer: Answer,
+    /// Whether no further entry changes this end. Otherwise fiber 0 has ended, and other fibers may go on.
+    pub last: bool,
+    /// Whether the schedule was drawn at random. Otherwise the search of every schedule found it.
+    pub drawn: bool,
+}
+
+/// What the search for a finding returns.
+#[derive(Drop)]
+pub enum First {
+    /// A finding.
+    Found(Finding),
+    /// An exploration that lists none.
+    Explored(Exploration),
+}
+
+/// Draws 3,000 schedules of a program by fixed seeds, 1,000 each of at most 64, 256 and 1,000 entries, and returns the
+/// first finding among their ends. Where there is none, explores every schedule, and returns the first answer that is a
+/// finding, or the exploration. The search looks for a finding where it has 10,000 worlds, 1,000,000 worlds and at its
+/// end.
+pub fn first_finding(
+    alloc: Global,
+    program: &Program,
+    order: &ExploreOrder,
+) -> Result<First, AllocError>
+    ensures { IfOk result (IsFirst (code_of (source_of program.now)) order.now.limits order.now.bounds
+        order.now.wants.items) }
+{
+    if let Some(finding) = drawn_finding(alloc, program, order)? {
+        return Ok(First::Found(finding));
+    }
+    for worlds in SEARCHES {
+        if let Some(first) = early_finding(alloc, program, order, *worlds)? {
+            return Ok(first);
+        }
+    }
+    searched(alloc, program, order, order.bounds)
+}
+
+// What a search within so many worlds finds, if it decides.
+fn early_finding(
+    alloc: Global,
+    program: &Program,
+    order: &ExploreOrder,
+    worlds: usize,
+) -> Result<Option<First>, AllocError>
+    ensures { IfOk result (λ found. IfSome found (IsFirst (code_of (source_of program.now)) order.now.limits
+        order.now.bounds order.now.wants.items)) }
+{
+    if order.bounds.worlds <= worlds {
+        return Ok(None);
+    }
+    let bounds = Bounds {
+        worlds,
+        entries: order.bounds.entries,
+        memory: order.bounds.memory,
+    };
+    let first = searched(alloc, program, order, bounds)?;
+    if is_decided(&first) {
+        Ok(Some(first))
+    } else {
+        Ok(None)
+    }
+}
+
+// Whether a search with more worlds would find nothing else.
+fn is_decided(first: &First) -> bool
+    ensures { result ≡ true → IsDecided first.now }
+{
+    match first {
+        First::Found(_) => true,
+        First::Explored(exploration) => exploration.complete,
+    }
+}
+
+// What a search within these bounds finds.
+fn searched(
+    alloc: Global,
+    program: &Program,
+    order: &ExploreOrder,
+    bounds: Bounds,
+) -> Result<First, AllocError>
+    requires { bounds.entries ≤ 1000000 }
+    ensures { IfOk result (IsFirst (code_of (source_of program.now)) order.now.limits bounds order.now.wants.items) }
+{
+    let Ok(exploration) = explore(alloc, program, order.limits, bounds) else {
+        return Err(AllocError);
+    };
+    let wants = order.wants.as_slice();
+    let Some(answer) = first_failure(exploration.answers.as_slice(), wants) else {
+        return Ok(First::Explored(exploration));
+    };
+    let schedule = answer.schedule.as_slice();
+    Ok(First::Found(Finding {
+        answer: replayed(alloc, program, order.limits, schedule)?,
+        last: true,
+        drawn: false,
+    }))
+}
+
+// The first finding among the ends of all schedules that are drawn.
+fn drawn_finding(
+    alloc: Global,
+    program: &Program,
+    order: &ExploreOrder,
+) -> Result<Option<Finding>, AllocError>
+    ensures { IfOk result (λ found. IfSome found (IsFinding (code_of (source_of program.now)) order.now.limits
+        order.now.wants.items)) }
+{
+    for length in LENGTHS {
+        if let Some(finding) = finding_within(alloc, program, order, *length)? {
+            return Ok(Some(finding));
+        }
+    }
+    Ok(None)
+}
+
+// The first finding among the ends of the schedules that are drawn with so many entries at most.
+fn finding_within(
+    alloc: Global,
+    program: &Program,
+    order: &ExploreOrder,
+    length: u32,
+) -> Result<Option<Finding>, AllocError>
+    ensures { IfOk result (λ found. IfSome found (IsFinding (code_of (source_of program.now)) order.now.limits
+        order.now.wants.items)) }
+{
+    let entries = order.bounds.entries.min(length as usize) as u32;
+    for seed in 0..SAMPLES {
+        if let Some(finding) = finding_of_sample(alloc, program, order, seed, entries)? {
+            return Ok(Some(finding));
+        }
+    }
+    Ok(None)
+}
+
+// The first finding among the ends of the schedules that this seed draws.
+fn finding_of_sample(
+    alloc: Global,
+    program: &Program,
+    order: &ExploreOrder,
+    seed: u64,
+    entries: u32,
+) -> Result<Option<Finding>, AllocError>
+    requires { entries ≤ order.now.bounds.entries }
+    ensures { IfOk result (λ found. IfSome found (IsFinding (code_of (source_of program.now)) order.now.limits
+        order.now.wants.items)) }
+{
+    let Ok(found) = sample(alloc, program, order.limits, seed, SCHEDULES, entries) else {
+        return Err(AllocError);
+    };
+    let wants = order.wants.as_slice();
+    let Some((coming, last)) = first_shown(found.comings.as_slice(), wants, entries) else {
+        return Ok(None);
+    };
+    let schedule = coming.answer.schedule.as_slice();
+    Ok(Some(Finding {
+        answer: replayed(alloc, program, order.limits, schedule)?,
+        last,
+        drawn: true,
+    }))
+}
+
+// The first end that is a finding, and whether no further entry changes it.
+fn first_shown<'a>(
+    comings: &'a [Coming],
+    wants: &[Want],
+    entries: u32,
+) -> Option<(&'a Coming, bool)>
+    ensures { IfSome result (λ found. (i : ℕ) × (slice_get comings.now i ≡ There found.0.now) ×
+        Shows wants.now entries found.0.now.answer found.1) }
+{
+    for coming in comings {
+        if let Some(last) = shown(&coming.answer, wants, entries) {
+            return Some((coming, last));
+        }
+    }
+    None
+}
+
+// Whether no further entry changes the end of an answer, where it is a finding.
+fn shown(answer: &Answer, wants: &[Want], entries: u32) -> Option<bool>
+    ensures { IfSome result (Shows wants.now entries answer.now) }
+{
+    if !is_failure(&answer.end, wants) {
+        return None;
+    }
+    match &answer.end {
+        Ok(report) => {
+            if answer.schedule.as_slice().len() < entries as usize {
+                return Some(true);
+            }
+            match first_outcome(report) {
+                Some(_) => Some(false),
+                None => None,
+            }
+        }
+        Err(_) => Some(true),
+    }
+}
+
+// The first answer that is a fault or not wanted.
+fn first_failure<'a>(answers: &'a [Answer], wants: &[Want]) -> Option<&'a Answer>
+    ensures some { IfSome result (λ a. (i : ℕ) × (slice_get answers.now i ≡ There a.now) ×
+        (is_failure wants.now a.now.end ≡ true)) }
+    ensures none { IfNone result (has_failure wants.now answers.now ≡ false) }
+{
+    for answer in answers {
+        if is_failure(&answer.end, wants) {
+            return Some(answer);
+        }
+    }
+    None
+}
+
+// What a replay under a schedule answers, with the schedule.
+fn replayed(
+    alloc: Global,
+    program: &Program,
+    limits: Limits,
+    schedule: &[u16],
+) -> Result<Answer, AllocError>
+    requires { AreLimits limits }
+    ensures schedule { IfOk result (λ a. a.schedule ≡ schedule.now) }
+    ensures end { IfOk result (λ a.
+        reported (core (code_of (source_of program.now)) limits schedule.now) ≡ a.end) }
+{
+    let entries = Vec::from_slice(alloc, schedule)?;
+    Ok(Answer {
+        schedule: Schedule::new(entries),
+        end: replayed_end(alloc, program, limits, schedule)?,
+    })
+}
+
+// What a replay under a schedule answers. Want of memory is no answer.
+fn replayed_end(
+    alloc: Global,
+    program: &Program,
+    limits: Limits,
+    schedule: &[u16],
+) -> Result<Result<Report, RunError>, AllocError>
+    requires { AreLimits limits }
+    ensures { IfOk result (λ end.
+        reported (core (code_of (source_of program.now)) limits schedule.now) ≡ end) }
+{
+    match replay(alloc, program, schedule, limits) {
+        Ok(report) => Ok(Ok(report)),
+        Err(RunError::NoMemory) => Err(AllocError),
+        Err(fault) => Ok(Err(fault)),
+    }
+}

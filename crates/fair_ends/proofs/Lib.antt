@@ -1,0 +1,4 @@
+pub mod Fairly
+pub mod Rows
+pub mod Ranked
+pub mod Landed

@@ -1,0 +1,23 @@
+use Rattle.std.proofs.Common.{◌≡◌, ℕ, ◌<◌, sym, subst, arith, length}
+use Rattle.std.specs.Prelude.{Some}
+use Rattle.std.specs.List.{slice_get}
+use Rattle.std.proofs.lemmas.Bool.{cases_order}
+use Rattle.std.proofs.lemmas.Option.{slice_get_within}
+use mathlib.Core.Logic.{inl, inr}
+use Rattle.fair_ends.proofs.certificate.are_ranked.Goals as goal
+
+pub loop-index-preserved : goal.loop-index-preserved
+loop-index-preserved g c = λ i a w low at there. elim (cases_order i c.loop-index.index) [
+  | inl same ↦
+      c.is_ranked.ensures c.if-not-is_ranked.false a w (subst (λ (k : ℕ). slice_get c.args.ranks.now k ≡ Some a) same at)
+      (subst (λ (k : ℕ). slice_get (g.W.Worlds.worlds c.args.worlds.now) k ≡ Some w) same there)
+  | inr order ↦ elim order [
+    | inl less ↦ c.loop-index.invariant i a w less at there
+    | inr more ↦ absurd (omega arith)
+  ]
+]
+
+pub returns-clause-ranked : goal.returns-clause-ranked
+returns-clause-ranked g c = λ yes i a w at there.
+    let low = slice_get_within c.args.ranks.now i a at in
+    c.loop-index.invariant i a w (omega arith) at there

@@ -1,0 +1,6 @@
+use Rattle.std.proofs.Common.{ℕ, ◌<◌}
+use Rattle.world_search.specs.Lists.{IsIn}
+use Rattle.fair_ends.proofs.walking.has_all.Given as goal
+
+abbrev pub invariant-loop-fiber : goal.invariant-loop-fiber
+invariant-loop-fiber l = (f : ℕ) → f < l.fiber → IsIn f l.schedule

@@ -1,0 +1,33 @@
+-- Infinite schedules: which of them are fair, and which lead to an answer.
+use Rattle.std.specs.Prelude.{◌≡◌, ◌≢◌, ◌⊎◌, ℕ, zero, suc, ◌<◌, ◌≤◌, ◌++◌, List, [], ◌∷◌, Result, Ok, Err}
+use Rattle.world_search.specs.Lists.{IsIn}
+use Rattle.world_search.specs.Systems.{run, reported, IsSettled}
+
+-- the first n entries of an infinite schedule
+abbrev pub first_of : (ℕ → ℕ) → ℕ → List ℕ
+first_of s zero = []
+first_of s (suc n) = first_of s n ++ (s n ∷ [])
+
+-- each fiber below `many` comes again and again
+abbrev pub IsFair : ℕ → (ℕ → ℕ) → Type 0
+IsFair many s = (f n : ℕ) → f < many → (m : ℕ) × (n ≤ m) × (s m ≡ f)
+
+module _ {W E R : Type 0} (step : W → ℕ → Result W E) (report : W → R) where
+  -- a fault, or a world whose report no further entry changes
+  abbrev pub IsAnswer : Result W E → Type 0
+  IsAnswer (Ok w) = IsSettled step report w
+  IsAnswer (Err e) = Unit {0}
+
+  -- some first entries of the schedule lead from this world to an answer
+  abbrev pub EndsUnder : W → (ℕ → ℕ) → Type 0
+  EndsUnder first s = (n : ℕ) × IsAnswer (run step (Ok first) (first_of s n))
+
+  -- A cycle that a fair schedule can repeat for ever: the entries of `stem` lead to a world, those of `cycle` lead back
+  -- to it, each fiber has an entry among these or changes nothing at that world, and under the entries of `exit` the
+  -- report still changes, or a fault comes: so no world of the cycle is an answer
+  pub record IsFairCycle (first : W) (stem cycle exit : List ℕ) : Type 0 where
+    pub world : W
+    pub comes : run step (Ok first) stem ≡ Ok world
+    pub returns : run step (Ok world) cycle ≡ Ok world
+    pub fair : (f : ℕ) → IsIn f cycle ⊎ (step world f ≡ Ok world)
+    pub leaves : reported step report (run step (Ok world) exit) ≢ Ok (report world)

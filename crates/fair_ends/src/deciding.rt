@@ -1,0 +1,99 @@
+//! Whether every fair schedule ends.
+
+ghost use Rattle.std.specs.Prelude.{◌≡◌, ℕ, ◌<◌, length, IfOk, OnOk, Some};
+ghost use Rattle.std.specs.List.{slice_get};
+ghost use Rattle.world_search.specs.Lists.{IsMore};
+ghost use Rattle.fair_ends.specs.declared.ending.Cycle.{Cycle as TheCycle};
+ghost use Rattle.fair_ends.specs.Fair.{EndsUnder, IsFair, IsFairCycle};
+ghost use Rattle.fair_ends.specs.Private.Tables.{IsTable};
+
+use crate::certificate::are_ranked;
+use crate::components::components_of;
+use crate::cycles::cycle_in;
+use crate::ending::{Cycle, Ending};
+use crate::ranking::rank_all;
+use crate::table::{Row, table_of};
+use crate::walking::is_fair_cycle;
+use std::alloc::{AllocError, Global};
+use world_search::{Bounds, Watcher, Worlds};
+
+/// Whether every fair schedule from the first world of a store, the one of number 0, leads to an answer: to a fault, or
+/// to a world whose report no further entry changes.
+///
+/// A schedule has no end here. It is fair where the entry of each fiber comes again and again; an entry of a fiber that
+/// waits, has ended or isn't born changes nothing. Each world is met by single entries, and each entry is made once. A
+/// world's rank is the number of its strongly connected component, and its helpful fiber one whose entries all lead out
+/// of it; where a component has none, a fair schedule can stay in it.
+///
+/// Whatever the answer, it was checked at each world, or along the cycle. [`Ending::Undecided`] comes where as many
+/// worlds were met as may be kept, or as many bytes are counted as may be ([`Bounds`]; the bound on entries isn't used).
+/// The watcher is called at each ten-thousandth world. `AllocError` where memory is refused.
+pub fn decide_ends<W: Worlds, V: Watcher>(
+    alloc: Global,
+    worlds: &mut W,
+    bounds: Bounds,
+    watcher: &mut V,
+) -> Result<Ending, AllocError>
+    requires { 0 < length (W.worlds worlds.old) }
+    ensures grows { OnOk result (IsMore (W.worlds worlds.old) (W.worlds worlds.new)) }
+    ensures ends { IfOk result (λ it. it ≡ Ending.Ends → (first : W.World) →
+        slice_get (W.worlds worlds.old) 0 ≡ Some first → (schedule : ℕ → ℕ) → IsFair W.most_born schedule →
+        EndsUnder W.step W.report first schedule) }
+    ensures repeats { IfOk result (λ it. (c : TheCycle) → it ≡ Ending.Repeats c → (first : W.World) →
+        slice_get (W.worlds worlds.old) 0 ≡ Some first →
+        IsFairCycle W.step W.report first c.stem.items c.cycle.items c.exit.items) }
+{
+    match table_of(alloc, &mut *worlds, bounds, watcher)? {
+        None => Ok(Ending::Undecided),
+        Some(rows) => judge(alloc, &*worlds, rows.as_slice()),
+    }
+}
+
+// The same, by the table of all worlds.
+fn judge<W: Worlds>(alloc: Global, worlds: &W, rows: &[Row]) -> Result<Ending, AllocError>
+    requires table { IsTable W.step W.most_born (W.worlds worlds.now) rows.now }
+    requires some { 0 < length rows.now }
+    ensures ends { IfOk result (λ it. it ≡ Ending.Ends → (first : W.World) →
+        slice_get (W.worlds worlds.now) 0 ≡ Some first → (schedule : ℕ → ℕ) → IsFair W.most_born schedule →
+        EndsUnder W.step W.report first schedule) }
+    ensures repeats { IfOk result (λ it. (c : TheCycle) → it ≡ Ending.Repeats c → (first : W.World) →
+        slice_get (W.worlds worlds.now) 0 ≡ Some first →
+        IsFairCycle W.step W.report first c.stem.items c.cycle.items c.exit.items) }
+{
+    let components = components_of(alloc, rows)?;
+    let ranking = rank_all(alloc, worlds, rows, components.as_slice())?;
+    match ranking.stuck {
+        Some(component) => {
+            let found = cycle_in(alloc, worlds, rows, components.as_slice(), component)?;
+            Ok(checked(worlds, rows, found))
+        }
+        None => {
+            if are_ranked(worlds, rows, ranking.ranks.as_slice()) {
+                Ok(Ending::Ends)
+            } else {
+                Ok(Ending::Undecided)
+            }
+        }
+    }
+}
+
+// A cycle, if it is one that a fair schedule can repeat.
+fn checked<W: Worlds>(worlds: &W, rows: &[Row], found: Option<Cycle>) -> Ending
+    requires table { IsTable W.step W.most_born (W.worlds worlds.now) rows.now }
+    requires some { 0 < length rows.now }
+    ensures ends { result ≡ Ending.Ends → ⊥ }
+    ensures repeats { (c : TheCycle) → result ≡ Ending.Repeats c → (first : W.World) →
+        slice_get (W.worlds worlds.now) 0 ≡ Some first →
+        IsFairCycle W.step W.report first c.stem.items c.cycle.items c.exit.items }
+{
+    match found {
+        None => Ending::Undecided,
+        Some(cycle) => {
+            if is_fair_cycle(worlds, rows, &cycle) {
+                Ending::Repeats(cycle)
+            } else {
+                Ending::Undecided
+            }
+        }
+    }
+}

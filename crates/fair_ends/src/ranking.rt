@@ -1,0 +1,214 @@
+//! Ranks, found by the components of a table: the rank of a world is the number of its component.
+
+use crate::components::number_at;
+use crate::rank::Rank;
+use crate::table::{FAULT, Row};
+use std::alloc::{AllocError, Global};
+use world_search::Worlds;
+
+/// A world, and the component in which it is.
+#[derive(Clone, Copy)]
+struct Member {
+    component: u32,
+    world: u32,
+}
+
+/// The ranks of all worlds, and a component that has no helpful fiber, if there is one.
+#[derive(Drop)]
+pub struct Ranking {
+    /// The rank of each world.
+    pub ranks: Vec<Rank>,
+    /// In this component a fair schedule can stay for ever.
+    pub stuck: Option<u32>,
+}
+
+/// Ranks, found by components.
+pub fn rank_all<W: Worlds>(
+    alloc: Global,
+    worlds: &W,
+    rows: &[Row],
+    components: &[u32],
+) -> Result<Ranking, AllocError> {
+    let members = members_of(alloc, components)?;
+    let mut ranking = Ranking {
+        ranks: begun(alloc, components)?,
+        stuck: None,
+    };
+    let mut start = 0;
+    for end in 1..members.len().saturating_add(1) {
+        if component_at(members.as_slice(), end) != component_at(members.as_slice(), start) {
+            rank_one(worlds, rows, components, members.as_slice(), start, end, &mut ranking);
+            start = end;
+        }
+    }
+    Ok(ranking)
+}
+
+// The members of all components, by the numbers of these.
+fn members_of(alloc: Global, components: &[u32]) -> Result<Vec<Member>, AllocError> {
+    let mut members = Vec::new(alloc);
+    let mut world: u32 = 0;
+    for component in components {
+        members.push(Member {
+            component: *component,
+            world,
+        })?;
+        world = world.saturating_add(1);
+    }
+    members.sort_by_key(|it: &Member| it.component)?;
+    Ok(members)
+}
+
+// The ranks before anything is known of quiet worlds and of helpful fibers.
+fn begun(alloc: Global, components: &[u32]) -> Result<Vec<Rank>, AllocError> {
+    let mut ranks = Vec::new(alloc);
+    for component in components {
+        ranks.push(Rank {
+            quiet: false,
+            rank: *component,
+            helper: 0,
+        })?;
+    }
+    Ok(ranks)
+}
+
+// The component of a member, if there is one.
+fn component_at(members: &[Member], place: usize) -> Option<u32> {
+    let member = members.get(place)?;
+    Some(member.component)
+}
+
+// The ranks of one component, whose members are from one place on and before another.
+fn rank_one<W: Worlds>(
+    worlds: &W,
+    rows: &[Row],
+    components: &[u32],
+    members: &[Member],
+    start: usize,
+    end: usize,
+    ranking: &mut Ranking,
+) {
+    let quiet = is_quiet(worlds, rows, ranking.ranks.as_slice(), members, start, end);
+    let helper = helper_of(rows, components, members, start, end);
+    if !quiet && helper.is_none() && ranking.stuck.is_none() {
+        ranking.stuck = component_at(members, start);
+    }
+    for place in start..end {
+        if let Some(member) = members.get(place) {
+            set_rank(&mut ranking.ranks, member.world, quiet, helper.unwrap_or(0));
+        }
+    }
+}
+
+// What is known of a world.
+fn set_rank(ranks: &mut Vec<Rank>, world: u32, quiet: bool, helper: u16) {
+    if (world as usize) < ranks.len() {
+        let rank = ranks[world as usize].rank;
+        ranks[world as usize] = Rank {
+            quiet,
+            rank,
+            helper,
+        };
+    }
+}
+
+// Whether the entries at all members keep the report, and lead to members or to quiet worlds.
+fn is_quiet<W: Worlds>(
+    worlds: &W,
+    rows: &[Row],
+    ranks: &[Rank],
+    members: &[Member],
+    start: usize,
+    end: usize,
+) -> bool {
+    for place in start..end {
+        if let Some(member) = members.get(place) {
+            if !keeps(worlds, rows, ranks, *member) {
+                return false;
+            }
+        }
+    }
+    true
+}
+
+// The same of one member.
+fn keeps<W: Worlds>(worlds: &W, rows: &[Row], ranks: &[Rank], member: Member) -> bool {
+    let from = member.world as usize;
+    if let Some(row) = rows.get(from) {
+        for to in row.targets.as_slice() {
+            if !keeps_at(worlds, ranks, member, *to) {
+                return false;
+            }
+        }
+    }
+    true
+}
+
+// The same of one entry.
+fn keeps_at<W: Worlds>(worlds: &W, ranks: &[Rank], member: Member, to: u32) -> bool {
+    let from = member.world as usize;
+    if to == FAULT || to as usize >= worlds.len() || from >= worlds.len() {
+        return false;
+    }
+    match ranks.get(to as usize) {
+        None => false,
+        Some(rank) => {
+            (rank.quiet || rank.rank == member.component) && worlds.same_report(to as usize, from)
+        }
+    }
+}
+
+// The first fiber whose entries all lead out of the component.
+fn helper_of(
+    rows: &[Row],
+    components: &[u32],
+    members: &[Member],
+    start: usize,
+    end: usize,
+) -> Option<u16> {
+    let first = members.get(start)?;
+    let row = rows.get(first.world as usize)?;
+    let mut fiber: u16 = 0;
+    for _ in 0..row.targets.len() {
+        if helps(rows, components, members, start, end, fiber) {
+            return Some(fiber);
+        }
+        fiber = fiber.saturating_add(1);
+    }
+    None
+}
+
+// Whether all entries of this fiber lead out of the component.
+fn helps(
+    rows: &[Row],
+    components: &[u32],
+    members: &[Member],
+    start: usize,
+    end: usize,
+    fiber: u16,
+) -> bool {
+    for place in start..end {
+        if let Some(member) = members.get(place) {
+            if stays(rows, components, member.world, fiber) {
+                return false;
+            }
+        }
+    }
+    true
+}
+
+/// Whether the entry of a fiber leads from a world to one of the same component.
+pub fn stays(rows: &[Row], components: &[u32], world: u32, fiber: u16) -> bool {
+    match target_at(rows, world, fiber) {
+        None => true,
+        Some(to) => {
+            to != FAULT && number_at(components, to, FAULT) == number_at(components, world, FAULT)
+        }
+    }
+}
+
+/// Where the entry of a fiber leads, if the fiber is born.
+pub fn target_at(rows: &[Row], world: u32, fiber: u16) -> Option<u32> {
+    let row = rows.get(world as usize)?;
+    row.targets.get(usize::from(fiber)).copied()
+}

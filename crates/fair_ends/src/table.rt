@@ -1,0 +1,105 @@
+//! The table of a system: all its worlds, and where the entries at each of them lead.
+
+ghost use Rattle.std.specs.Prelude.{◌≡◌, ℕ, ◌<◌, ◌≤◌, length, Some, IfOk, IfSome, OnOk};
+ghost use Rattle.std.specs.List.{slice_get};
+ghost use Rattle.world_search.specs.Lists.{IsMore};
+ghost use Rattle.fair_ends.specs.Private.Tables.{IsRow, IsTable, IsTarget, fault};
+
+use std::alloc::{AllocError, Global};
+use world_search::{Bounds, Entered, Landing, Watcher, Worlds};
+
+/// What stands in the place of a world's number where an entry ends in a fault.
+pub const FAULT: u32 = u32::MAX;
+
+// The watcher is called once in this many worlds.
+const TOLD_EACH: usize = 10_000;
+
+/// Where the entries at one world lead, by the number of the fiber.
+#[derive(Drop)]
+pub struct Row {
+    /// The number of a world, or [`FAULT`].
+    pub targets: Vec<u32>,
+}
+
+/// The rows of all worlds that any schedule leads to. None where a bound was met.
+pub fn table_of<W: Worlds, V: Watcher>(
+    alloc: Global,
+    worlds: &mut W,
+    bounds: Bounds,
+    watcher: &mut V,
+) -> Result<Option<Vec<Row>>, AllocError>
+    ensures grows { OnOk result (IsMore (W.worlds worlds.old) (W.worlds worlds.new)) }
+    ensures rows { IfOk result (λ it. IfSome it (λ rows.
+        IsTable W.step W.most_born (W.worlds worlds.new) rows.items)) }
+{
+    let mut rows = Vec::new(alloc);
+    let mut bytes: usize = 0;
+    for index in 0..bounds.worlds {
+        if index >= worlds.len() {
+            return Ok(Some(rows));
+        }
+        if worlds.bytes().saturating_add(bytes) >= bounds.memory {
+            return Ok(None);
+        }
+        tell(&mut *watcher, &*worlds, index);
+        match row_at(alloc, &mut *worlds, index, bounds.worlds)? {
+            None => return Ok(None),
+            Some(row) => {
+                bytes = bytes.saturating_add(size_of_row(&row));
+                rows.push(row)?;
+            }
+        }
+    }
+    Ok(None)
+}
+
+// About how many bytes a row takes.
+fn size_of_row(row: &Row) -> usize {
+    row.targets.len().saturating_mul(4).saturating_add(40)
+}
+
+// The watcher is told of a world, if it is its turn.
+fn tell<W: Worlds, V: Watcher>(watcher: &mut V, worlds: &W, index: usize) {
+    if index % TOLD_EACH == TOLD_EACH - 1 {
+        watcher.tell(worlds.len(), index);
+    }
+}
+
+// Where the entries at a world lead. None where one of them leads to a world for which there is no room.
+fn row_at<W: Worlds>(
+    alloc: Global,
+    worlds: &mut W,
+    index: usize,
+    most: usize,
+) -> Result<Option<Row>, AllocError>
+    requires { index < length (W.worlds worlds.old) }
+    ensures grows { OnOk result (IsMore (W.worlds worlds.old) (W.worlds worlds.new)) }
+    ensures row { IfOk result (λ it. IfSome it (λ row. (w : W.World) → slice_get (W.worlds worlds.new) index ≡ Some w →
+        IsRow W.step W.most_born (W.worlds worlds.new) w row)) }
+{
+    let born = worlds.born(index);
+    let mut targets = Vec::new(alloc);
+    for fiber in 0..born {
+        match target(worlds.enter(index, fiber, most)?) {
+            None => return Ok(None),
+            Some(to) => targets.push(to)?,
+        }
+    }
+    Ok(Some(Row { targets }))
+}
+
+// The number of where an entry leads, if there is one below that of a fault.
+fn target(entered: Entered) -> Option<u32>
+    ensures { IfSome result (λ t. IsTarget entered t) }
+{
+    match entered {
+        Entered::Full => None,
+        Entered::At(Landing::Fault(_)) => Some(FAULT),
+        Entered::At(Landing::World(to)) => {
+            if to >= FAULT as usize {
+                return None;
+            }
+            Some(to as u32)
+        }
+    }
+}

@@ -1,0 +1,70 @@
+-- A finding as JSON, and what is answered in JSON where one is looked for. The members of an object stand in the order
+-- of their keys.
+use Rattle.std.specs.Prelude.{◌≡◌, ◌⊎◌, ℕ, Bool, true, false, List, [], codes, Result, Ok, Err}
+use Rattle.cell_registry.specs.declared.limits.Limits.{Limits}
+use Rattle.cell_registry.specs.declared.limits.RunError.{RunError}
+use Rattle.derived_ops.specs.Expansion.{code_of}
+use Rattle.derived_ops.specs.Reading.{source_of}
+use Rattle.effect_term.specs.declared.term.Term.{Term}
+use Rattle.text_io.specs.declared.status.Status.{Status}
+use Rattle.text_io.specs.declared.status.Status.TheVariants as ends
+use Rattle.text_io.specs.Schedule.{SpellsEntries}
+use Rattle.scheduled_core.specs.declared.report.Report.{Report}
+use Rattle.world_search.specs.declared.answers.Bounds.{Bounds}
+use Rattle.exploration_text.specs.declared.findings.Finding.{Finding}
+use Rattle.exploration_text.specs.declared.wants.Want.{Want}
+use Rattle.exploration_text.specs.ExplorationText.{has_failure}
+use Rattle.exploration_text.specs.Findings.{IsFinding}
+use Rattle.exploration_text.specs.Missing.{missing_of_exploration}
+use Rattle.serde_json.specs.Data.{Data, boolean, string, object, no_members, member}
+use Rattle.json_answers.specs.FoundAnswers.{IsJsonExplored}
+use Rattle.json_answers.specs.ReportData.{fault_data, line_of_data, report_data}
+
+-- how a finding was found
+abbrev pub source_name : Bool → List ℕ
+source_name true = codes "random"
+source_name false = codes "search"
+
+-- a report or a fault, the text of its schedule, whether it is final, and how it was found
+abbrev pub finding_data : List ℕ → (drawn last : Bool) → Result Report RunError → Data
+finding_data schedule drawn last (Ok r) = object (member (codes "answer") (string (codes "finding"))
+    (member (codes "final") (boolean last) (member (codes "found") (string (source_name drawn))
+    (member (codes "report") (report_data r.fibers) (member (codes "schedule") (string schedule) no_members)))))
+finding_data schedule drawn last (Err e) = object (member (codes "answer") (string (codes "finding"))
+    (member (codes "fault") (fault_data e) (member (codes "final") (boolean last)
+    (member (codes "found") (string (source_name drawn)) (member (codes "schedule") (string schedule) no_members)))))
+
+pub record IsFindingData (f : Finding) (d : Data) : Type 0 where
+  pub schedule : List ℕ
+  pub spelled : SpellsEntries schedule f.answer.schedule
+  pub data_is : d ≡ finding_data schedule f.drawn f.last f.answer.end
+
+-- the value of a finding, with the status of what isn't wanted
+pub record IsJsonFound (t : Term) (limits : Limits) (wants : List Want) (answer : List ℕ) (status : Status) : Type 0
+  where
+    pub finding : Finding
+    pub found : IsFinding (code_of (source_of t)) limits wants finding
+    pub value : Data
+    pub value_is : IsFindingData finding value
+    pub text_is : answer ≡ line_of_data value
+    pub status_is : status ≡ ends.Errored
+
+-- the value and the status of an exploration that lists no finding
+pub record IsJsonUnfound (t : Term) (limits : Limits) (bounds : Bounds) (wants : List Want) (answer : List ℕ)
+    (status : Status) : Type 0
+  where
+    pub explored : IsJsonExplored t limits bounds wants answer status
+    pub none : has_failure wants explored.exploration.answers ≡ false
+
+-- such an answer, beside the lines of the wanted outcomes that no schedule comes to
+pub record IsNotedJsonUnfound (t : Term) (limits : Limits) (bounds : Bounds) (wants : List Want) (note answer : List ℕ)
+    (status : Status) : Type 0
+  where
+    pub unfound : IsJsonUnfound t limits bounds wants answer status
+    pub note_is : note ≡ missing_of_exploration wants unfound.explored.exploration
+
+-- what is answered to a program with this note, with its status: a finding, which has no note, or an exploration that
+-- lists none
+abbrev pub IsJsonFirstAnswer : Term → Limits → Bounds → List Want → (note : List ℕ) → List ℕ → Status → Type 0
+IsJsonFirstAnswer t limits bounds wants note answer status =
+    (IsJsonFound t limits wants answer status × (note ≡ [])) ⊎ IsNotedJsonUnfound t limits bounds wants note answer status

@@ -1,0 +1,102 @@
+//! Texts whose programs are explored until something shows that they aren't right, answered in JSON.
+
+ghost use Rattle.std.specs.Prelude.{◌≡◌, IfOk};
+ghost use Rattle.serde_json.specs.View.{view};
+ghost use Rattle.exploration_text.specs.ExplorationText.{IsSpellable};
+ghost use Rattle.json_answers.specs.FindingData.{IsFindingData, IsJsonFirstAnswer, finding_data, source_name};
+
+use crate::exploration_values::exploration_json;
+use crate::refusals::InJson;
+use crate::report_values::{fault_json, report_json};
+use crate::values::value_answer;
+use cell_registry::RunError;
+use effect_term::Program;
+use exploration_text::{
+    ExploreOrder, Finding, First, NotedAnswer, NotedOrder, exploration_status, first_finding,
+    missing_of_exploration,
+};
+use outcome_trace::{Report, Status, schedule_text};
+use serde_json::{Value, json};
+use std::alloc::{AllocError, Global};
+
+/// Answers in JSON as `FirstOrder` does in words: the first finding of the program that the text spells, or else its
+/// exploration, or why the text is refused, with the same status.
+#[derive(Drop)]
+pub struct FirstJson {
+    /// What is explored, how far, and what is wanted.
+    pub order: ExploreOrder,
+}
+
+impl NotedOrder for FirstJson {
+    type Refusals = InJson;
+
+    ghost notes = { λ it note t. IsJsonFirstAnswer t it.order.limits it.order.bounds it.order.wants.items note };
+
+    fn noted_answer(&self, alloc: Global, program: &Program) -> Result<NotedAnswer, AllocError> {
+        let wants = self.order.wants.as_slice();
+        match first_finding(alloc, program, &self.order)? {
+            First::Found(finding) => {
+                let value = finding_json(alloc, &finding)?;
+                Ok(NotedAnswer {
+                    answer: value_answer(alloc, &value, Status::Errored)?,
+                    note: Vec::new(alloc),
+                })
+            }
+            First::Explored(exploration) => {
+                let value = exploration_json(alloc, &exploration, wants)?;
+                let status = exploration_status(&exploration, wants);
+                Ok(NotedAnswer {
+                    answer: value_answer(alloc, &value, status)?,
+                    note: missing_of_exploration(alloc, &exploration, wants)?,
+                })
+            }
+        }
+    }
+}
+
+// A finding: its report or fault, its schedule, whether it is final, and how it was found.
+fn finding_json(alloc: Global, finding: &Finding) -> Result<Value, AllocError>
+    requires { IsSpellable finding.now.answer }
+    ensures { IfOk result (λ value. IsFindingData finding.now (view value)) }
+{
+    let schedule = schedule_text(alloc, finding.answer.schedule.as_slice())?;
+    finding_value(
+        alloc,
+        schedule.as_str(),
+        finding.drawn,
+        finding.last,
+        &finding.answer.end,
+    )
+}
+
+// The value of a finding under the schedule of this text.
+fn finding_value(
+    alloc: Global,
+    schedule: &str,
+    drawn: bool,
+    last: bool,
+    end: &Result<Report, RunError>,
+) -> Result<Value, AllocError>
+    ensures { IfOk result (λ value. view value ≡ finding_data schedule.now drawn last end.now) }
+{
+    let source = source_name(drawn);
+    match end {
+        Ok(report) => {
+            let report = report_json(alloc, report)?;
+            json!(in alloc; {"answer": "finding", "final": last, "found": source, "report": report,
+                "schedule": schedule})
+        }
+        Err(error) => {
+            let fault = fault_json(alloc, *error)?;
+            json!(in alloc; {"answer": "finding", "fault": fault, "final": last, "found": source,
+                "schedule": schedule})
+        }
+    }
+}
+
+// How a finding was found.
+fn source_name(drawn: bool) -> &'static str
+    ensures { result.now ≡ source_name drawn }
+{
+    if drawn { "random" } else { "search" }
+}

@@ -1,0 +1,149 @@
+//! Searches that look at each world for what claims at any moment speak of.
+
+ghost use Rattle.std.specs.Prelude.{◌≡◌, ◌++◌, map, IfOk, OnOk};
+ghost use Rattle.derived_ops.specs.Expansion.{code_of};
+ghost use Rattle.derived_ops.specs.Reading.{source_of};
+ghost use Rattle.cell_registry.specs.Cells.{AreLimits};
+ghost use Rattle.model_runs.specs.Moments.{AreMet, claim_comparison, claim_word, sought, sought_in, turning};
+ghost use Rattle.model_runs.specs.Moments.{soughts as all_soughts};
+
+use crate::plan::Plan;
+use crate::searching::{FIRST, TIMES_MORE};
+use cell_registry::RunError;
+use effect_term::Program;
+use every_schedule::{Claim as Sought, ClaimWord, Claimed, Comparison as SoughtComparison, search_claims};
+use model_claims::{Claim, Comparison, MomentWord, Rule};
+use std::alloc::{AllocError, Global};
+use world_search::{Bounds, Unwatched};
+
+// How a search compares two values.
+fn sought_comparison(comparison: Comparison) -> SoughtComparison
+    ensures { result ≡ claim_comparison comparison }
+{
+    match comparison {
+        Comparison::Equal => SoughtComparison::Equal,
+        Comparison::Unequal => SoughtComparison::Differs,
+        Comparison::Below => SoughtComparison::Less,
+        Comparison::AtMost => SoughtComparison::AtMost,
+        Comparison::Above => SoughtComparison::Greater,
+        Comparison::AtLeast => SoughtComparison::AtLeast,
+    }
+}
+
+// A word, as a search takes it.
+fn sought_word(word: MomentWord) -> ClaimWord
+    ensures { result ≡ claim_word word }
+{
+    match word {
+        MomentWord::Compares(number, comparison, value) => {
+            ClaimWord::Compare(number, sought_comparison(comparison), value)
+        }
+        MomentWord::Not => ClaimWord::Not,
+        MomentWord::And => ClaimWord::And,
+        MomentWord::Or => ClaimWord::Or,
+    }
+}
+
+// Words, as a search takes them.
+fn sought_words(alloc: Global, words: &[MomentWord]) -> Result<Vec<ClaimWord>, AllocError>
+    ensures { IfOk result (λ it. it.items ≡ map claim_word words.now) }
+{
+    let mut sought = Vec::new(alloc);
+    for word in words {
+        sought.push(sought_word(*word))?;
+    }
+    Ok(sought)
+}
+
+// Turns the words of a claim on every moment round, so that they are true where the claim is refuted.
+fn turn(words: &mut Vec<ClaimWord>, rule: Rule) -> Result<(), AllocError>
+    ensures { OnOk result (words.new.items ≡ words.old.items ++ turning rule) }
+{
+    match rule {
+        Rule::Every => {
+            words.push(ClaimWord::Not)?;
+            Ok(())
+        }
+        Rule::Some => Ok(()),
+    }
+}
+
+// What decides a claim by itself.
+fn sought_of(alloc: Global, rule: Rule, words: &[MomentWord]) -> Result<Sought, AllocError>
+    ensures { IfOk result (λ it. it ≡ sought rule words.now) }
+{
+    let mut sought = sought_words(alloc, words)?;
+    turn(&mut sought, rule)?;
+    Ok(Sought::new(sought))
+}
+
+// Adds what decides a claim by itself, if it is one at any moment.
+fn add_sought(alloc: Global, claim: &Claim, wanted: &mut Vec<Sought>) -> Result<(), AllocError>
+    ensures { OnOk result (wanted.new.items ≡ wanted.old.items ++ sought_in claim.now.rule claim.now.moment) }
+{
+    match &claim.moment {
+        None => Ok(()),
+        Some(words) => {
+            wanted.push(sought_of(alloc, claim.rule, words.as_slice())?)?;
+            Ok(())
+        }
+    }
+}
+
+/// What decides the claims at any moment among these, each by itself, in their order.
+pub(crate) fn soughts(alloc: Global, claims: &[Claim]) -> Result<Vec<Sought>, AllocError>
+    ensures { IfOk result (λ it. it.items ≡ all_soughts claims.now) }
+{
+    let mut wanted = Vec::new(alloc);
+    for claim in claims {
+        add_sought(alloc, claim, &mut wanted)?;
+    }
+    Ok(wanted)
+}
+
+/// Which of these some world meets, as far as the plan goes: with few worlds at first, and then with ten times as many,
+/// until the search is complete or each is met.
+pub(crate) fn search_by_plan(
+    alloc: Global,
+    program: &Program,
+    plan: Plan,
+    wanted: &[Sought],
+) -> Result<Claimed, RunError>
+    requires limits { AreLimits plan.limits }
+    ensures { IfOk result (λ it.
+        AreMet (code_of (source_of program.now)) plan.limits wanted.now it.complete it.met.items) }
+{
+    let mut worlds = FIRST;
+    for _ in 0..TIMES_MORE {
+        if worlds >= plan.worlds {
+            break;
+        }
+        let found = search_with(alloc, program, plan, wanted, worlds)?;
+        if found.complete || found.met.len() >= wanted.len() || found.worlds < worlds {
+            return Ok(found);
+        }
+        worlds = worlds.saturating_mul(10);
+    }
+    search_with(alloc, program, plan, wanted, plan.worlds)
+}
+
+// The same, with at most this number of worlds.
+fn search_with(
+    alloc: Global,
+    program: &Program,
+    plan: Plan,
+    wanted: &[Sought],
+    worlds: usize,
+) -> Result<Claimed, RunError>
+    requires limits { AreLimits plan.limits }
+    ensures { IfOk result (λ it.
+        AreMet (code_of (source_of program.now)) plan.limits wanted.now it.complete it.met.items) }
+{
+    let bounds = Bounds {
+        worlds,
+        entries: plan.entries as usize,
+        memory: plan.memory,
+    };
+    let found = search_claims(alloc, program, plan.limits, bounds, wanted, &mut Unwatched)?;
+    Ok(found)
+}

@@ -1,0 +1,272 @@
+//! What becomes of the claims at any moment.
+
+ghost use Rattle.std.specs.Prelude.{◌≡◌, map, IfNone, IfOk, IfSome, List, Some as Somebody, true};
+ghost use Rattle.std.specs.List.{slice_get};
+ghost use Rattle.std.specs.Option.{is_some};
+ghost use Rattle.derived_ops.specs.Expansion.{code_of};
+ghost use Rattle.derived_ops.specs.Reading.{source_of};
+ghost use Rattle.derived_ops.specs.Tree.{Tree};
+ghost use Rattle.cell_registry.specs.Cells.{AreLimits};
+ghost use Rattle.cell_registry.specs.declared.limits.Limits.{Limits as TheLimits};
+ghost use Rattle.world_search.specs.Claims.{IsFound};
+ghost use Rattle.every_schedule.specs.declared.claims.ClaimWord.{ClaimWord};
+ghost use Rattle.model_claims.specs.declared.judging.Verdict.{Verdict as TheVerdict};
+ghost use Rattle.model_claims.specs.Judging.{under as under_fails};
+ghost use Rattle.model_runs.specs.Moments.{AreMet, IsJudgedAt, IsShownAt, has_fault, soughts as all_soughts};
+ghost use Rattle.model_runs.specs.Private.Looking.{IsMetAt, IsRightAt, IsRightAtSome, by_search};
+ghost use Rattle.model_runs.specs.Private.Looking.{moment_verdict as the_verdict};
+
+use crate::held::held_refs;
+use crate::looking::{search_by_plan, soughts};
+use crate::plan::Plan;
+use crate::prepared::{Prepared, prepare};
+use crate::result::{NamedAnswer, Search};
+use crate::searching::named_end;
+use cell_registry::RunError;
+use every_schedule::{Claim as Sought, Claimed, Met};
+use model_claims::{Claim, Rule, Verdict, under};
+use model_terms::{Probe, Refused, Source};
+use model_text::Model;
+use std::alloc::{AllocError, Global};
+
+/// What a search has found that looks at each world.
+#[derive(Drop)]
+pub(crate) struct Moments {
+    /// The claims that a moment decides, by their numbers among those at any moment, each with a schedule to it.
+    pub met: Vec<Met>,
+    /// What is reported of it: an answer for each of them.
+    pub search: Search,
+}
+
+/// Looks at each world of a model's term for what decides the claims at any moment. Nothing is looked at where there
+/// are none.
+pub(crate) fn moments_of(
+    alloc: Global,
+    source: &Source,
+    model: &Model,
+    plan: Plan,
+    claims: &[Claim],
+) -> Result<Moments, Refused>
+    requires limits { AreLimits plan.limits }
+    ensures right { IfOk result (IsRightAtSome (all_soughts claims.now)) }
+{
+    let prepared = prepare(alloc, source, model, Probe::Nothing)?;
+    match look(alloc, &prepared, plan, claims) {
+        Ok(found) => Ok(found),
+        Err(_) => Err(Refused::NoMemory),
+    }
+}
+
+// The same, of the term.
+fn look(
+    alloc: Global,
+    prepared: &Prepared,
+    plan: Plan,
+    claims: &[Claim],
+) -> Result<Moments, RunError>
+    requires limits { AreLimits plan.limits }
+    ensures { IfOk result
+        (IsRightAt (code_of (source_of prepared.now.program)) plan.limits (all_soughts claims.now)) }
+{
+    let wanted = soughts(alloc, claims)?;
+    if wanted.is_empty() {
+        return Ok(nothing_found(alloc));
+    }
+    let found = search_by_plan(alloc, &prepared.program, plan, wanted.as_slice())?;
+    let answers = answers_of(alloc, prepared, plan, wanted.as_slice(), found.met.as_slice())?;
+    Ok(found_moments(found, answers))
+}
+
+// What was found where nothing was looked at.
+fn nothing_found(alloc: Global) -> Moments
+    ensures { (code : Tree) (k : TheLimits) (wanted : List (List ClaimWord)) → IsRightAt code k wanted result }
+{
+    let met = Vec::new(alloc);
+    let answers = Vec::new(alloc);
+    Moments {
+        met,
+        search: Search {
+            complete: false,
+            worlds: 0,
+            sampled: 0,
+            answers,
+        },
+    }
+}
+
+// What was found, with these answers.
+fn found_moments(found: Claimed, answers: Vec<NamedAnswer>) -> Moments
+    ensures met { result.met.items ≡ found.met.items }
+    ensures complete { result.search.complete ≡ found.complete }
+    ensures answers { result.search.answers.items ≡ answers.items }
+{
+    let complete = found.complete;
+    let worlds = found.worlds;
+    Moments {
+        met: found.met,
+        search: Search {
+            complete,
+            worlds,
+            sampled: 0,
+            answers,
+        },
+    }
+}
+
+// Each moment that decides a claim, as it is reported.
+fn answers_of(
+    alloc: Global,
+    prepared: &Prepared,
+    plan: Plan,
+    wanted: &[Sought],
+    met: &[Met],
+) -> Result<Vec<NamedAnswer>, AllocError>
+    requires limits { AreLimits plan.limits }
+    ensures { IfOk result (λ it. map (λ a. a.schedule) it.items ≡ map (λ m. m.schedule.items) met.now) }
+{
+    let mut answers = Vec::new(alloc);
+    for one in met {
+        answers.push(answer_of(alloc, prepared, plan, wanted, one)?)?;
+    }
+    Ok(answers)
+}
+
+// A moment that decides a claim, as it is reported.
+fn answer_of(
+    alloc: Global,
+    prepared: &Prepared,
+    plan: Plan,
+    wanted: &[Sought],
+    met: &Met,
+) -> Result<NamedAnswer, AllocError>
+    requires limits { AreLimits plan.limits }
+    ensures { IfOk result (λ it. it.schedule ≡ met.now.schedule.items) }
+{
+    let entries = met.schedule.as_slice();
+    let held = match wanted.get(met.claim) {
+        Some(sought) => held_refs(
+            alloc,
+            &prepared.program,
+            plan.limits,
+            entries,
+            sought.words(),
+        )?,
+        None => Vec::new(alloc),
+    };
+    named_end(alloc, prepared, plan, entries, held, 0)
+}
+
+// Which of these is the claim of this number.
+fn met_number(met: &[Met], claim: usize) -> Option<usize>
+    ensures some { IfSome result (IsMetAt met.now claim) }
+    ensures none { IfNone result (IsFound claim met.now → ⊥) }
+{
+    for number in 0..met.len() {
+        if met[number].claim == claim {
+            return Some(number);
+        }
+    }
+    None
+}
+
+// The first of these answers that is a fault.
+fn fault_number(answers: &[NamedAnswer]) -> Option<usize>
+    ensures { is_some result ≡ has_fault answers.now }
+{
+    for number in 0..answers.len() {
+        if answers[number].seen.faulty {
+            return Some(number);
+        }
+    }
+    None
+}
+
+// The verdict where no moment decides a claim, by whether there are others.
+fn verdict_by_search(rule: Rule, complete: bool) -> Verdict
+    ensures { result ≡ by_search rule complete }
+{
+    if !complete {
+        return Verdict::Undecided;
+    }
+    match rule {
+        Rule::Every => Verdict::Passed,
+        Rule::Some => Verdict::Failed,
+    }
+}
+
+// The verdict of a claim that isn't under `fails`: whether an answer is a fault, whether a moment decides the claim,
+// whether the exploration is complete, and whether the search for moments is.
+fn moment_verdict(rule: Rule, faulty: bool, met: bool, explored: bool, searched: bool) -> Verdict
+    ensures { result ≡ the_verdict rule faulty met explored searched }
+{
+    match rule {
+        Rule::Every => {
+            if faulty || met {
+                Verdict::Failed
+            } else {
+                verdict_by_search(rule, explored && searched)
+            }
+        }
+        Rule::Some => {
+            if met {
+                Verdict::Passed
+            } else {
+                verdict_by_search(rule, searched)
+            }
+        }
+    }
+}
+
+/// The verdict of a claim at any moment, and what decides it.
+#[derive(Clone, Copy)]
+pub(crate) struct JudgedAt {
+    /// The verdict.
+    pub verdict: Verdict,
+    /// Whether what decides it is a moment, and not a fault.
+    pub at_moment: bool,
+    /// Its number among the answers of that search.
+    pub shown: Option<usize>,
+}
+
+// What decides a claim: a fault, or a moment.
+fn decider(rule: Rule, fault: Option<usize>, met: Option<usize>, verdict: Verdict) -> JudgedAt
+    ensures verdict { result.verdict ≡ verdict }
+    ensures moment { result.at_moment ≡ true → result.shown ≡ met }
+{
+    match rule {
+        Rule::Every if fault.is_some() => JudgedAt {
+            verdict,
+            at_moment: false,
+            shown: fault,
+        },
+        _ => JudgedAt {
+            verdict,
+            at_moment: true,
+            shown: met,
+        },
+    }
+}
+
+/// The verdict of a claim that has this number among those at any moment, by an exploration of the term and by a search
+/// for moments.
+pub(crate) fn judge_at(claim: &Claim, number: usize, ends: &Search, moments: &Moments) -> JudgedAt
+    ensures judged { (code : Tree) (k : TheLimits) (wanted : List (List ClaimWord)) (words : List ClaimWord) →
+        IsRightAt code k wanted moments.now → slice_get wanted number ≡ Somebody words →
+        (v : TheVerdict) × (result.verdict ≡ under_fails claim.now.fails v) ×
+        IsJudgedAt code k words claim.now.rule (has_fault ends.now.answers.items) ends.now.complete
+        moments.now.search.complete v }
+    ensures shown { (code : Tree) (k : TheLimits) (wanted : List (List ClaimWord)) (words : List ClaimWord) →
+        IsRightAt code k wanted moments.now → slice_get wanted number ≡ Somebody words →
+        IsShownAt code k words moments.now.search.answers.items result.at_moment result.shown }
+{
+    let fault = fault_number(ends.answers.as_slice());
+    let met = met_number(moments.met.as_slice(), number);
+    let plain = moment_verdict(
+        claim.rule,
+        fault.is_some(),
+        met.is_some(),
+        ends.complete,
+        moments.search.complete,
+    );
+    decider(claim.rule, fault, met, under(claim.fails, plain))
+}

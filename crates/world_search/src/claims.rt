@@ -1,0 +1,164 @@
+//! Claims of worlds, which are looked at in each world that was met.
+
+ghost use Rattle.std.specs.Prelude.{◌≡◌, ℕ, ◌<◌, ◌≤◌, List, Bool, length, true, false, max, Ok as GoesWell};
+ghost use Rattle.std.specs.Prelude.{IfNone, IfOk, IfSome, OnOk, Some};
+ghost use Rattle.std.specs.List.{slice_get, All};
+ghost use Rattle.world_search.specs.Answers.{IsAtBound};
+ghost use Rattle.world_search.specs.Claims.{IsMetBy, IsFound, IsFew, IsBrief};
+ghost use Rattle.world_search.specs.Lists.{IsMore};
+ghost use Rattle.world_search.specs.Systems.{run};
+ghost use Rattle.world_search.specs.Private.Claimed.{AddsMet, AreLooked, AreListedMet, MeetsNone};
+ghost use Rattle.world_search.specs.Private.Paths.{AreChained};
+
+use crate::answers::Bounds;
+use crate::expanding::{bytes_of, explore};
+use crate::graphs::{Node, begin};
+use crate::schedules::schedule_to;
+use crate::searching::limits_of;
+use crate::store::Worlds;
+use crate::watching::Watcher;
+use std::alloc::{AllocError, Global};
+
+/// A store of worlds that may meet claims.
+pub trait Claims: Worlds {
+    /// What is claimed of a world.
+    type Claim;
+
+    // Whether a world meets a claim.
+    ghost meets: { Self.World → Self.Claim → Bool };
+
+    /// Whether the world of this number meets a claim. `AllocError` where memory is refused.
+    fn meets(&self, world: usize, claim: &Self::Claim) -> Result<bool, AllocError>
+        requires { world < length (Self.worlds self.now) }
+        ensures { IfOk result (λ it. (w : Self.World) → slice_get (Self.worlds self.now) world ≡ Some w →
+            it ≡ meets w claim.now) };
+}
+
+/// A claim that a world meets, and a schedule that leads there.
+#[derive(Drop)]
+pub struct Met {
+    /// The number of the claim.
+    pub claim: usize,
+    /// The fibers whose entries are made, in turn.
+    pub schedule: Vec<u16>,
+}
+
+/// What a search found of claims.
+#[derive(Drop)]
+pub struct Claimed {
+    /// The claims that some world meets, in their order, each with the schedule to the first such world that was found.
+    pub met: Vec<Met>,
+    /// Every schedule was searched: no schedule leads to a world that meets another of the claims.
+    pub complete: bool,
+    /// How many worlds the store has.
+    pub worlds: usize,
+    /// How many bytes are counted for what is kept, as in [`Found`](crate::Found).
+    pub bytes: usize,
+}
+
+/// Searches every schedule from the first world of a store for worlds that meet claims.
+///
+/// The worlds are those that [`search`](crate::search) meets; each claim is looked at in each of them, until one meets
+/// it. The watcher is called, and memory is bounded, as there.
+pub fn search_claims<W: Claims, V: Watcher>(
+    alloc: Global,
+    worlds: &mut W,
+    claims: &[W::Claim],
+    bounds: Bounds,
+    watcher: &mut V,
+) -> Result<Claimed, AllocError>
+    requires { 0 < length (W.worlds worlds.old) }
+    ensures grows { OnOk result (IsMore (W.worlds worlds.old) (W.worlds worlds.new)) }
+    ensures met { IfOk result (λ it. (first : W.World) → slice_get (W.worlds worlds.old) 0 ≡ Some first →
+        All (IsMetBy W.step W.meets first claims.now) it.met.items) }
+    ensures unmet { IfOk result (λ it. it.complete ≡ true → (first : W.World) →
+        slice_get (W.worlds worlds.old) 0 ≡ Some first → (i : ℕ) (c : W.Claim) → slice_get claims.now i ≡ Some c →
+        (IsFound i it.met.items → ⊥) → (schedule : List ℕ) (w : W.World) →
+        run W.step (GoesWell first) schedule ≡ GoesWell w → W.meets w c ≡ false) }
+    ensures numbers { IfOk result (λ it. All (IsFew W.most_born) it.met.items) }
+    ensures short { IfOk result (λ it. All (IsBrief bounds.entries) it.met.items) }
+    ensures room { OnOk result (length (W.worlds worlds.new) ≤ max bounds.worlds (length (W.worlds worlds.old))) }
+    ensures count { IfOk result (λ it. it.worlds ≡ length (W.worlds worlds.new)) }
+    ensures stopped { IfOk result (λ it. it.complete ≡ false → length (W.worlds worlds.old) ≡ 1 →
+        IsAtBound bounds it.worlds it.bytes) }
+    ensures spare { IfOk result (λ it. it.complete ≡ true → it.bytes < bounds.memory) }
+{
+    let mut graph = begin(alloc)?;
+    let complete = explore(&mut *worlds, &mut graph, limits_of(bounds), watcher)?;
+    let met = list_met(alloc, &*worlds, graph.nodes.as_slice(), claims)?;
+    Ok(Claimed {
+        met,
+        complete,
+        worlds: worlds.len(),
+        bytes: bytes_of(&*worlds, &graph),
+    })
+}
+
+// The claims that worlds of these nodes meet.
+fn list_met<W: Claims>(
+    alloc: Global,
+    worlds: &W,
+    nodes: &[Node],
+    claims: &[W::Claim],
+) -> Result<Vec<Met>, AllocError>
+    requires chained { AreChained nodes.now }
+    requires known { length nodes.now ≤ length (W.worlds worlds.now) }
+    ensures listed { IfOk result (λ it. AreListedMet W.meets (W.worlds worlds.now) nodes.now claims.now it.items) }
+    ensures looked { IfOk result (λ it. AreLooked W.meets (W.worlds worlds.now) (length nodes.now) claims.now
+        (length claims.now) it.items) }
+{
+    let mut met = Vec::new(alloc);
+    for number in 0..claims.len() {
+        look_for(alloc, worlds, nodes, claims, number, &mut met)?;
+    }
+    Ok(met)
+}
+
+// Adds the claim of this number, if a world meets it.
+fn look_for<W: Claims>(
+    alloc: Global,
+    worlds: &W,
+    nodes: &[Node],
+    claims: &[W::Claim],
+    number: usize,
+    met: &mut Vec<Met>,
+) -> Result<(), AllocError>
+    requires chained { AreChained nodes.now }
+    requires known { length nodes.now ≤ length (W.worlds worlds.now) }
+    requires low { number < length claims.now }
+    ensures adds { OnOk result (AddsMet W.meets (W.worlds worlds.now) nodes.now claims.now number met.old.items
+        met.new.items) }
+{
+    match first_meeting(worlds, nodes.len(), &claims[number])? {
+        None => Ok(()),
+        Some(world) => {
+            let last = nodes[world];
+            let schedule = schedule_to(alloc, nodes, last)?;
+            met.push(Met {
+                claim: number,
+                schedule,
+            })?;
+            Ok(())
+        }
+    }
+}
+
+// The first of so many worlds that meets a claim.
+fn first_meeting<W: Claims>(
+    worlds: &W,
+    many: usize,
+    claim: &W::Claim,
+) -> Result<Option<usize>, AllocError>
+    requires { many ≤ length (W.worlds worlds.now) }
+    ensures within { IfOk result (λ it. IfSome it (λ j. j < many)) }
+    ensures meets { IfOk result (λ it. IfSome it (λ j. (w : W.World) → slice_get (W.worlds worlds.now) j ≡ Some w →
+        W.meets w claim.now ≡ true)) }
+    ensures none { IfOk result (λ it. IfNone it (MeetsNone W.meets (W.worlds worlds.now) many claim.now)) }
+{
+    for world in 0..many {
+        if worlds.meets(world, claim)? {
+            return Ok(Some(world));
+        }
+    }
+    Ok(None)
+}
