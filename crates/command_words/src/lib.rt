@@ -34,6 +34,6 @@ pub use replay::{AnswerForm, Replay};
 pub use requests::{Request, request_of};
 pub use running::{RunForm, Running, limits_of};
 pub use sampling::Sampling;
-pub use testing::{TestForm, Testing, Translating};
+pub use testing::{Coloring, TestForm, Testing, Translating};
 pub use words::all_words;
 pub use wrong_words::refuse_words;
