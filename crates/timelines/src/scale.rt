@@ -2,7 +2,7 @@
 
 use fiber_events::Event;
 
-/// How far from the left the first entry is: behind the names of the fibers.
+/// How far from the left the first entry is at least.
 pub(crate) const LEFT: usize = 84;
 
 /// How far from the top the first lane is.
@@ -30,6 +30,8 @@ pub(crate) struct Scale {
     pub(crate) entries: usize,
     /// How many fibers were born.
     pub(crate) born: usize,
+    /// How far from the left the first entry is: behind the names of the fibers.
+    pub(crate) left: usize,
 }
 
 impl Scale {
@@ -51,10 +53,11 @@ impl Scale {
     /// How far from the left an entry is. The first entry is number 1; at 0 nothing has moved.
     pub(crate) fn at(self, entry: usize) -> usize {
         if self.entries <= ROOMY {
-            LEFT.saturating_add(entry.saturating_mul(STEP))
+            self.left.saturating_add(entry.saturating_mul(STEP))
         } else {
             let wide = entry.saturating_mul(ROOMY * STEP);
-            LEFT.saturating_add(wide.checked_div(self.entries).unwrap_or(0))
+            self.left
+                .saturating_add(wide.checked_div(self.entries).unwrap_or(0))
         }
     }
 
@@ -65,7 +68,7 @@ impl Scale {
 
     /// How far from the left the lanes end.
     pub(crate) fn right(self) -> usize {
-        LEFT.saturating_add(self.width()).saturating_add(STEP)
+        self.left.saturating_add(self.width()).saturating_add(STEP)
     }
 
     /// How far from the top the bar of a fiber is.
