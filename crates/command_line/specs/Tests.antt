@@ -1,5 +1,7 @@
 -- What it comes to, to test the models of files.
-use Rattle.std.specs.Prelude.{◌≡◌, ◌≢◌, false}
+use Rattle.std.specs.Prelude.{◌≡◌, ◌≢◌, Bool, true, false}
+use Rattle.command_words.specs.declared.testing.Coloring.{Coloring}
+use Rattle.command_words.specs.declared.testing.Coloring.TheVariants.{Auto, Always, Never}
 use Rattle.text_io.specs.declared.status.Status.{Status}
 use Rattle.text_io.specs.declared.status.Status.TheVariants.{Succeeded, Errored, Canceled, Unended, Usage, Refused, Fault}
 use Rattle.text_io.specs.Devices.{Devices}
@@ -13,6 +15,12 @@ IsTestStatus Unended = Unit {0}
 IsTestStatus Usage = ⊥
 IsTestStatus Refused = Unit {0}
 IsTestStatus Fault = Unit {0}
+
+-- whether verdicts have colours, by what the words say and by whether the output takes them
+abbrev pub are_colored : Coloring → Bool → Bool
+are_colored Auto takes = takes
+are_colored Always takes = true
+are_colored Never takes = false
 
 -- The input isn't read. Where the status tells no fault, all that was to go out has gone out.
 pub record ObeysTest (before after : Devices) (status : Status) : Type 0 where

@@ -53,6 +53,7 @@ fn usage<O: TextOut, E: TextOut>(alloc: Global, error: &Error, out: &mut O, err:
 fn obey_request<R, I, O, E>(
     rt: &R,
     request: Request<'_>,
+    colors: bool,
     input: &mut I,
     out: &mut O,
     err: &mut E,
@@ -81,7 +82,7 @@ where
         Request::Run(running) => obey_run(rt, rt.alloc(), running, input, out, err),
         Request::Sample(sampling) => obey_sample(rt.alloc(), sampling, input, out, err),
         Request::Compare(comparing) => obey_compare(rt, rt.alloc(), comparing, out, err),
-        Request::Test(testing) => obey_test(rt, rt.alloc(), testing, out, err),
+        Request::Test(testing) => obey_test(rt, rt.alloc(), testing, colors, out, err),
         Request::Terms(translating) => obey_terms(rt, rt.alloc(), translating, out, err),
     }
 }
@@ -104,10 +105,11 @@ fn refuse_request<E: TextOut>(alloc: Global, matches: &ArgMatches<'_>, err: &mut
 /// where memory ran out or a device failed.
 ///
 /// What was asked for goes to the output, what is wrong with the words to the last device, both in
-/// `clap`'s words.
+/// `clap`'s words. `colors` is whether verdicts have colours where the words leave that open.
 pub fn command<'a, R, S, I, O, E>(
     rt: &R,
     words: &'a [S],
+    colors: bool,
     input: &mut I,
     out: &mut O,
     err: &mut E,
@@ -135,7 +137,7 @@ where
     };
     match all.try_get_matches_from(words) {
         Ok(matches) => match request_of(alloc, &matches) {
-            Ok(Some(request)) => obey_request(rt, request, input, out, err),
+            Ok(Some(request)) => obey_request(rt, request, colors, input, out, err),
             Ok(None) => refuse_request(alloc, &matches, err),
             Err(_) => tell_fault(TextFault::NoMemory, err),
         },

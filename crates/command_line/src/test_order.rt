@@ -1,24 +1,28 @@
 //! The test of model files, over devices.
 
-ghost use Rattle.std.specs.Prelude.{◌≡◌, ◌≢◌, false};
-ghost use Rattle.command_line.specs.Tests.{IsTestStatus};
+ghost use Rattle.std.specs.Prelude.{◌≡◌, ◌≢◌, ◌<◌, false};
+ghost use Rattle.command_line.specs.Tests.{IsTestStatus, are_colored};
 ghost use Rattle.text_io.specs.Text.{OnlyOutFaults, is_write_fault};
 
-use command_words::{TestForm, Testing, Translating};
-use model_suites::{Suite, SuiteForm, SuiteOrder};
+use command_words::{Coloring, TestForm, Testing, Translating};
+use model_suites::{Board, Suite, SuiteForm, SuiteOrder, Told};
 use outcome_trace::{Status, TextFault, TextOut, ToWrite, tell_fault, write_text};
-use std::alloc::Global;
-use std::fs;
+use std::alloc::{AllocError, Global};
 use std::rt::Files;
+use std::sync::Wait;
+use std::thread::{Threads, join_mut};
 use std::time::Clock;
+use std::{fs, thread};
 
 /// Tests the models of files, and gives the status: `Status::Succeeded` where all passed, `Status::Errored` where one
 /// failed, `Status::Unended` where none failed and one is undecided, `Status::Refused` where a file has a fault, which
-/// is written to the last device, and `Status::Fault` where a device failed or memory ran out.
-pub fn obey_test<R: Files + Clock, O: TextOut, E: TextOut>(
+/// is written to the last device, and `Status::Fault` where a device failed or memory ran out. `colors` is whether
+/// verdicts have colours where the words leave that open.
+pub fn obey_test<R: Files + Clock + Threads + Wait + Sync, O: TextOut, E: TextOut>(
     rt: &R,
     alloc: Global,
     testing: Testing<'_>,
+    colors: bool,
     out: &mut O,
     err: &mut E,
 ) -> Status
@@ -31,22 +35,28 @@ pub fn obey_test<R: Files + Clock, O: TextOut, E: TextOut>(
         files,
         filter,
         junit,
+        html,
         worlds,
         memory,
+        jobs,
         form,
+        color,
     } = testing;
+    let reports = Reports { junit, html };
     let order = SuiteOrder {
         filter,
         worlds,
         memory,
         form: suite_form(form),
         junit: junit.is_some(),
+        html: html.is_some(),
+        color: has_colors(color, colors),
     };
     let Ok(suite) = Suite::open(rt, alloc, order, files.as_slice()) else {
         return tell_fault(TextFault::NoMemory, err);
     };
     if suite.faults().is_empty() {
-        test_suite(rt, suite, junit, out, err)
+        test_suite(rt, &suite, job_count(rt, jobs), reports, out, err)
     } else {
         refuse_suite(&suite, err)
     }
@@ -62,6 +72,33 @@ fn suite_form(form: TestForm) -> SuiteForm {
     }
 }
 
+// Whether verdicts have colours.
+fn has_colors(color: Coloring, colors: bool) -> bool
+    ensures { result ≡ are_colored color colors }
+{
+    match color {
+        Coloring::Auto => colors,
+        Coloring::Always => true,
+        Coloring::Never => false,
+    }
+}
+
+// How many models are explored side by side: as many as asked for, or one for each processor where that is 0.
+fn job_count<R: Threads>(rt: &R, asked: u64) -> usize
+    ensures { 0 < asked → result ≡ asked }
+{
+    if asked > 0 {
+        return asked as usize;
+    }
+    match thread::available_parallelism(rt) {
+        Ok(processors) => processors.get().min(MOST_JOBS),
+        Err(_) => 1,
+    }
+}
+
+// How many models are explored side by side where nothing says how many, at most.
+const MOST_JOBS: usize = 64;
+
 // Tells the faults of files.
 fn refuse_suite<E: TextOut>(suite: &Suite<'_>, err: &mut E) -> Status
     requires { (E.seen err.old).failed ≡ false }
@@ -71,11 +108,21 @@ fn refuse_suite<E: TextOut>(suite: &Suite<'_>, err: &mut E) -> Status
     Status::Refused
 }
 
-// Tests the models of a suite without faults.
-fn test_suite<R: Files + Clock, O: TextOut, E: TextOut>(
+// Where the reports of a test go, besides what is printed: the paths of their files.
+#[derive(Clone, Copy)]
+struct Reports<'a> {
+    // The report for CI.
+    junit: Option<&'a str>,
+    // The page of HTML.
+    html: Option<&'a str>,
+}
+
+// Tests the models of a suite without faults, so many side by side.
+fn test_suite<R: Files + Clock + Threads + Wait + Sync, O: TextOut, E: TextOut>(
     rt: &R,
-    suite: Suite<'_>,
-    junit: Option<&str>,
+    suite: &Suite<'_>,
+    jobs: usize,
+    reports: Reports<'_>,
     out: &mut O,
     err: &mut E,
 ) -> Status
@@ -84,17 +131,19 @@ fn test_suite<R: Files + Clock, O: TextOut, E: TextOut>(
     ensures whole { result ≢ Status.Fault → (O.seen out.new).failed ≡ false }
     ensures status { IsTestStatus result }
 {
-    let mut suite = suite;
-    match write_models(rt, &mut suite, out) {
-        Ok(()) => end_suite(rt, &mut suite, junit, out, err),
+    let mut told = suite.told();
+    match write_models(rt, suite, jobs, &mut told, out) {
+        Ok(()) => end_suite(rt, suite, told, reports, out, err),
         Err(fault) => tell_fault(fault, err),
     }
 }
 
-// Tests the models one after another, and writes the report of each as soon as it is known.
-fn write_models<C: Clock, O: TextOut>(
-    clock: &C,
-    suite: &mut Suite<'_>,
+// Tests the models, and writes the report of each as soon as those before it are written.
+fn write_models<R: Clock + Threads + Wait + Sync, O: TextOut>(
+    rt: &R,
+    suite: &Suite<'_>,
+    jobs: usize,
+    told: &mut Told,
     out: &mut O,
 ) -> Result<(), TextFault>
     requires { (O.seen out.old).failed ≡ false }
@@ -104,25 +153,72 @@ fn write_models<C: Clock, O: TextOut>(
     let Ok(opening) = suite.opening() else {
         return Err(TextFault::NoMemory);
     };
+    let Ok(board) = suite.board() else {
+        return Err(TextFault::NoMemory);
+    };
     match write_text(opening.as_slice(), out) {
-        Ok(()) => write_tested(clock, suite, out),
+        Ok(()) => write_jobs(rt, suite, &board, jobs.min(suite.len()), told, out),
         Err(fault) => Err(fault),
     }
 }
 
-// The same behind what is written before all models.
-fn write_tested<C: Clock, O: TextOut>(
-    clock: &C,
-    suite: &mut Suite<'_>,
+// The same behind what is written before all models. This thread does a part of the jobs.
+fn write_jobs<R: Clock + Threads + Wait + Sync, O: TextOut>(
+    rt: &R,
+    suite: &Suite<'_>,
+    board: &Board,
+    jobs: usize,
+    told: &mut Told,
     out: &mut O,
 ) -> Result<(), TextFault>
     requires { (O.seen out.old).failed ≡ false }
     ensures failed { (O.seen out.new).failed ≡ is_write_fault result }
     ensures only { OnlyOutFaults result }
 {
-    let count = suite.len();
-    for index in 0..count {
-        let Ok(text) = suite.test_model(clock, index) else {
+    if jobs < 2 {
+        return write_tested(rt, suite, board, told, out);
+    }
+    let threads = jobs - 1;
+    let mut others = || suite.help(rt, board, threads);
+    let mut own = || -> Result<(), TextFault>
+        requires { (O.seen out.now).failed ≡ false }
+        ensures { ((O.seen out.exit.now).failed ≡ is_write_fault result) × OnlyOutFaults result }
+    { write_tested(rt, suite, board, told, out) };
+    let (_, written) = join_mut(rt, &mut others, &mut own);
+    written
+}
+
+// Writes the report of each model in its turn, and takes no more models where a write fails.
+fn write_tested<R: Clock + Wait, O: TextOut>(
+    rt: &R,
+    suite: &Suite<'_>,
+    board: &Board,
+    told: &mut Told,
+    out: &mut O,
+) -> Result<(), TextFault>
+    requires { (O.seen out.old).failed ≡ false }
+    ensures failed { (O.seen out.new).failed ≡ is_write_fault result }
+    ensures only { OnlyOutFaults result }
+{
+    let written = write_each(rt, suite, board, told, out);
+    board.close();
+    written
+}
+
+// Writes the report of each model in its turn.
+fn write_each<R: Clock + Wait, O: TextOut>(
+    rt: &R,
+    suite: &Suite<'_>,
+    board: &Board,
+    told: &mut Told,
+    out: &mut O,
+) -> Result<(), TextFault>
+    requires { (O.seen out.old).failed ≡ false }
+    ensures failed { (O.seen out.new).failed ≡ is_write_fault result }
+    ensures only { OnlyOutFaults result }
+{
+    for index in 0..suite.len() {
+        let Ok(text) = tell_next(rt, suite, board, told, index) else {
             return Err(TextFault::NoMemory);
         };
         match write_text(text.as_slice(), out) {
@@ -133,12 +229,25 @@ fn write_tested<C: Clock, O: TextOut>(
     Ok(())
 }
 
-// Writes what is printed behind all models, and the report for CI, where one is asked for.
+// What is printed of a model at once.
+fn tell_next<R: Clock + Wait>(
+    rt: &R,
+    suite: &Suite<'_>,
+    board: &Board,
+    told: &mut Told,
+    index: usize,
+) -> Result<Vec<u8>, AllocError> {
+    let tested = suite.tested(rt, board, index)?;
+    suite.tell(told, tested)
+}
+
+// Writes what is printed behind all models, and the reports that are asked for.
 #[tactic(auto, using(crate::proofs::TestLemmas::suite_status))]
 fn end_suite<R: Files, O: TextOut, E: TextOut>(
     rt: &R,
-    suite: &mut Suite<'_>,
-    junit: Option<&str>,
+    suite: &Suite<'_>,
+    told: Told,
+    reports: Reports<'_>,
     out: &mut O,
     err: &mut E,
 ) -> Status
@@ -147,24 +256,37 @@ fn end_suite<R: Files, O: TextOut, E: TextOut>(
     ensures whole { result ≢ Status.Fault → (O.seen out.new).failed ≡ false }
     ensures status { IsTestStatus result }
 {
-    let Ok(text) = suite.ending() else {
+    let mut told = told;
+    let Ok(text) = suite.ending(&mut told) else {
         return tell_fault(TextFault::NoMemory, err);
     };
     match write_text(text.as_slice(), out) {
-        Ok(()) => match write_junit(rt, &*suite, junit) {
-            Ok(()) => suite.status(),
+        Ok(()) => match write_reports(rt, &told, reports) {
+            Ok(()) => told.status(),
             Err(fault) => tell_fault(fault, err),
         },
         Err(fault) => tell_fault(fault, err),
     }
 }
 
-// Writes the report for CI to a file, where one is asked for.
-fn write_junit<R: Files>(rt: &R, suite: &Suite<'_>, junit: Option<&str>) -> Result<(), TextFault> {
-    let Some(path) = junit else {
-        return Ok(());
-    };
-    let Ok(text) = suite.junit() else {
+// Writes the reports that are asked for, each to its file.
+fn write_reports<R: Files>(rt: &R, told: &Told, reports: Reports<'_>) -> Result<(), TextFault> {
+    if let Some(path) = reports.junit {
+        write_report(rt, path, told.junit())?;
+    }
+    match reports.html {
+        Some(path) => write_report(rt, path, told.html()),
+        None => Ok(()),
+    }
+}
+
+// Writes a report to a file.
+fn write_report<R: Files>(
+    rt: &R,
+    path: &str,
+    report: Result<Vec<u8>, AllocError>,
+) -> Result<(), TextFault> {
+    let Ok(text) = report else {
         return Err(TextFault::NoMemory);
     };
     let Ok(file) = fs::create(rt, path) else {
@@ -194,6 +316,8 @@ pub fn obey_terms<R: Files, O: TextOut, E: TextOut>(
         memory: 1,
         form: SuiteForm::Report,
         junit: false,
+        html: false,
+        color: false,
     };
     let Ok(suite) = Suite::open(rt, alloc, order, &files) else {
         return tell_fault(TextFault::NoMemory, err);

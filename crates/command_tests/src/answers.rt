@@ -31,6 +31,7 @@ pub fn told<
     let status = command(
         rt,
         words,
+        false,
         &mut FromRead::new(input),
         &mut ToWrite::new(out),
         &mut ToWrite::new(&mut err),

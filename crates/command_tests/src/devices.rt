@@ -21,6 +21,13 @@ const RUN: &[&str] = &["fiber_cli", "run"];
 
 const RUN_WHY: &[&str] = &["fiber_cli", "run", "--explain"];
 
+// Tests of a file that has no models, by one thread and by several.
+const TEST_NOTHING: &[&str] = &["fiber_cli", "test", "--jobs", "1", "/dev/null"];
+
+const TEST_BESIDE: &[&str] = &["fiber_cli", "test", "--jobs", "3", "/dev/null"];
+
+const NOTHING_TESTED: &str = "0 models\n\n0 passed, 0 failed, 0 undecided\n";
+
 // The words of a replay whose schedule is the first line of the input.
 const FROM_INPUT: &[&str] = &["fiber_cli", "replay", "--schedule", "-"];
 
@@ -182,6 +189,38 @@ const WRITING: &[(&[&str], usize)] = &[
     (RUN_WHY, "fiber 0 succeeded 7\n".len()),
 ];
 
+// How many bytes a test writes at first. What it writes behind its models is a text of its own.
+const HEADING: usize = "0 models\n".len();
+
+#[test]
+fn tells_failed_writers_of_tests(rt: HostRuntime) -> Result<(), Fail> {
+    for words in [TEST_NOTHING, TEST_BESIDE] {
+        for room in 0..NOTHING_TESTED.len() {
+            let written = if room < HEADING { room } else { room - HEADING };
+            let line = format!(in rt.alloc(); "fault 24 WriteFault {written}\n")?;
+            let narrow = Narrow { room, fails: true };
+            let (err, status) = told(&rt, words, b"".as_slice(), narrow);
+            assert_eq!(&rt; (status, err.as_slice()), (70, line.as_bytes()));
+        }
+    }
+    Ok(())
+}
+
+// Tests whose reports go to a full device, or to a file that can't be made.
+const UNREPORTED: &[&[&str]] = &[
+    &["fiber_cli", "test", "--junit", "/dev/full", "/dev/null"],
+    &["fiber_cli", "test", "--html", "/dev/full", "/dev/null"],
+    &["fiber_cli", "test", "--html", "/dev/null/page", "/dev/null"],
+];
+
+#[test]
+fn tells_reports_that_cannot_be_written(rt: HostRuntime) {
+    for words in UNREPORTED {
+        let err = "fault 24 WriteFault 0\n";
+        expect_of(&rt, words, b"".as_slice(), 70, NOTHING_TESTED, err);
+    }
+}
+
 #[test]
 fn tells_failed_writers(rt: HostRuntime) -> Result<(), Fail> {
     for (words, bytes) in WRITING {
@@ -203,6 +242,7 @@ fn keeps_the_status_where_a_usage_fault_cannot_be_told(rt: HostRuntime) {
     let status = command(
         &rt,
         &["fiber_cli", "walk"],
+        false,
         &mut FromRead::new(b"(pure 7)".as_slice()),
         &mut ToWrite::new(&mut out),
         &mut ToWrite::new(Narrow {

@@ -304,20 +304,26 @@ const HELP: &[(&[&str], &str)] = &[
         \n\nOptions:\
         \n      --filter <TEXT>   Test only the models whose names contain this text\
         \n      --junit <FILE>    Write a report for CI to this file, in the format of JUnit\
+        \n      --html <FILE>     Write a page of HTML to this file, with timelines and pictures\
         \n      --worlds <N>      How many worlds are kept of a model that sets no bound of its own,\
         \n                        1 to 100000000 [default: 1000000]\
         \n      --memory <BYTES>  At how many bytes of memory the search stops, by an estimate: 1 to\
         \n                        10000000000, and behind it k, M or G for 1024, 1024^2 or 1024^3\
         \n                        [default: 4G]\
+        \n      --jobs <N>        How many models are explored side by side, 0 to 64; 0: one for each\
+        \n                        processor. --memory holds for each of them [default: 0]\
         \n      --list            Print the models with their places, and explore none\
         \n      --json            Print the answer as JSON, on one line\
         \n      --tap             Print the answer in the Test Anything Protocol\
+        \n      --color <WHEN>    When the verdicts have colours: auto (where the output is a terminal,\
+        \n                        and NO_COLOR is not set), always or never [default: auto]\
         \n  -h, --help            Print help\
         \n\nA model file has comments, definitions and models; each model has claims, and a program that is\
         \nexplored under every schedule. All faults of all files are told before any model is explored.\
         \n\nExamples:\
         \n  fiber_cli test models/*.fm\
         \n  fiber_cli test --filter mutex --junit report.xml models/*.fm\
+        \n  fiber_cli test --html report.html models/*.fm\
         \n\nA model that fails is printed with its claim, what was found, its schedule and its timeline.\
         \n\nExit status:\
         \n   0  every model passed\

@@ -19,6 +19,8 @@ mod inputs;
 #[cfg(test)]
 mod laws;
 #[cfg(test)]
+mod models;
+#[cfg(test)]
 mod records;
 #[cfg(test)]
 mod runs;

@@ -1,10 +1,12 @@
 -- Options of `test` that say two forms at once say none.
-use Rattle.std.proofs.Common.{◌≡◌, ◌∙◌, List, [], ap, codes, map, sym}
+use Rattle.std.proofs.Common.{◌≡◌, ◌∙◌, List, [], Some, ap, codes, map, sym}
 use Rattle.std.specs.Borrow.{Bor}
 use Rattle.clap.specs.Words.{Row, Text}
+use Rattle.command_words.specs.declared.testing.Coloring.{Coloring}
+use Rattle.command_words.specs.declared.testing.Coloring.TheVariants.{Auto, Always, Never}
 use Rattle.command_words.specs.declared.testing.TestForm.{TestForm}
 use Rattle.command_words.specs.declared.testing.TestForm.TheVariants as forms
-use Rattle.command_words.specs.Flags.{IsGiven, SaysTestForm}
+use Rattle.command_words.specs.Flags.{IsGiven, SaysColoring, SaysTestForm}
 
 pub list_with_json : (options : List Row) → IsGiven (codes "list") options → IsGiven (codes "json") options → (form : TestForm) →
     SaysTestForm options form → ⊥
@@ -26,6 +28,13 @@ json_with_tap options json tap forms.Report says = says.1 json
 json_with_tap options json tap forms.List says = says.1 json
 json_with_tap options json tap forms.Json says = says.2 tap
 json_with_tap options json tap forms.Tap says = says.1 json
+
+-- a text that is none of three words says nothing of colours
+pub no_color : (text : Text) → (text ≡ codes "auto" → ⊥) → (text ≡ codes "always" → ⊥) → (text ≡ codes "never" → ⊥) → (color : Coloring) →
+    SaysColoring (Some text) color → ⊥
+no_color text auto always never Auto says = auto says
+no_color text auto always never Always says = always says
+no_color text auto always never Never says = never says
 
 -- where there are no texts, none are copied
 pub nothing_copied : (copy : List (Bor Text)) (texts : List Text) → copy ≡ [] → texts ≡ [] → map (λ s. s.now) copy ≡ texts

@@ -1,5 +1,5 @@
 -- The flags that stand in the words, and the forms that they say.
-use Rattle.std.specs.Prelude.{◌≡◌, Bool, true, false, List, Some, codes}
+use Rattle.std.specs.Prelude.{◌≡◌, Bool, true, false, List, None, Option, Some, codes}
 use Rattle.clap.specs.Words.{Row, Text, first_of}
 use Rattle.command_words.specs.declared.exploring.ExploreForm.{ExploreForm}
 use Rattle.command_words.specs.declared.exploring.ExploreForm.TheVariants as explores
@@ -7,6 +7,8 @@ use Rattle.command_words.specs.declared.replay.AnswerForm.{AnswerForm}
 use Rattle.command_words.specs.declared.replay.AnswerForm.TheVariants.{Report, Timeline, Picture, Json}
 use Rattle.command_words.specs.declared.running.RunForm.{RunForm}
 use Rattle.command_words.specs.declared.running.RunForm.TheVariants as runs
+use Rattle.command_words.specs.declared.testing.Coloring.{Coloring}
+use Rattle.command_words.specs.declared.testing.Coloring.TheVariants.{Auto, Always, Never}
 use Rattle.command_words.specs.declared.testing.TestForm.{TestForm}
 use Rattle.command_words.specs.declared.testing.TestForm.TheVariants as tests
 
@@ -79,3 +81,12 @@ SaysTestForm options tests.Json =
     IsLeftOut (codes "list") options × IsGiven (codes "json") options × IsLeftOut (codes "tap") options
 SaysTestForm options tests.Tap =
     IsLeftOut (codes "list") options × IsLeftOut (codes "json") options × IsGiven (codes "tap") options
+
+-- when the text of an option says that verdicts have colours: where a terminal takes them, unless it says another
+abbrev pub SaysColoring : Option Text → Coloring → Type 0
+SaysColoring None Auto = Unit {0}
+SaysColoring None Always = ⊥
+SaysColoring None Never = ⊥
+SaysColoring (Some text) Auto = text ≡ codes "auto"
+SaysColoring (Some text) Always = text ≡ codes "always"
+SaysColoring (Some text) Never = text ≡ codes "never"

@@ -28,9 +28,10 @@ use Rattle.command_words.specs.declared.testing.Translating.{Translating}
 use Rattle.command_words.specs.Memory.{SaysMemory}
 use Rattle.command_words.specs.Numbers.{SaysNumber}
 use Rattle.command_words.specs.Flags.{IsGiven, IsLeftOut, SaysExploreForm, SaysFlag, SaysForm, SaysRunForm}
-use Rattle.command_words.specs.Flags.{SaysTestForm}
+use Rattle.command_words.specs.Flags.{SaysColoring, SaysTestForm}
 use Rattle.command_words.specs.Words.{band_range, budget_range, count_range, entries_range, few_range, moves_range}
-use Rattle.command_words.specs.Words.{model_worlds_range, program, seed_range, times_range, workers_range, worlds_range}
+use Rattle.command_words.specs.Words.{jobs_range, model_worlds_range, program, seed_range, times_range, workers_range}
+use Rattle.command_words.specs.Words.{worlds_range}
 
 -- the limits that the options of `replay`, of `explore`, of `run` or of `sample` say, with this range of fibers, refs
 -- and deferreds
@@ -129,9 +130,12 @@ pub record SaysTesting (options : List Row) (testing : Testing) : Type 0 where
   pub files_are : map (λ s. s.now) testing.files.items ≡ texts_said (codes "files") options
   pub filter_is : option_map (λ s. s.now) testing.filter ≡ first_of (codes "filter") options
   pub junit_is : option_map (λ s. s.now) testing.junit ≡ first_of (codes "junit") options
+  pub html_is : option_map (λ s. s.now) testing.html ≡ first_of (codes "html") options
   pub worlds_are : SaysNumber model_worlds_range (first_of (codes "worlds") options) testing.worlds
   pub memory_is : SaysMemory (first_of (codes "memory") options) testing.memory
+  pub jobs_are : SaysNumber jobs_range (first_of (codes "jobs") options) testing.jobs
   pub form_is : SaysTestForm options testing.form
+  pub color_is : SaysColoring (first_of (codes "color") options) testing.color
 
 -- the translation of a model file that the options of `terms` say
 pub record SaysTranslating (options : List Row) (translating : Translating) : Type 0 where

@@ -38,6 +38,10 @@ worlds_range = record { least = 1; most = 100000000; usual = 10000000 }
 abbrev pub model_worlds_range : NumberRange
 model_worlds_range = record { least = 1; most = 100000000; usual = 1000000 }
 
+-- of models that are explored side by side
+abbrev pub jobs_range : NumberRange
+jobs_range = record { least = 0; most = 64; usual = 0 }
+
 -- before the unit of the bytes at which an exploration stops; the usual number is of bytes
 abbrev pub memory_range : NumberRange
 memory_range = record { least = 1; most = 10000000000; usual = 4294967296 }
@@ -219,13 +223,16 @@ compare_command = with_rule (with_rule compare_options (flag (codes "all"))) (fl
 -- `test` with its files, and which models of them
 abbrev pub test_files : App
 test_files =
-    with_rule (with_rule (with_rule (new_app (codes "test")) files_argument)
+    with_rule (with_rule (with_rule (with_rule (new_app (codes "test")) files_argument)
     (text_option (codes "filter")))
-    (text_option (codes "junit"))
+    (text_option (codes "junit")))
+    (text_option (codes "html"))
 
 -- `test` without its flags
 abbrev pub test_bounds : App
-test_bounds = with_rule (with_rule test_files (number_option (codes "worlds") model_worlds_range)) memory_option
+test_bounds =
+    with_rule (with_rule (with_rule test_files (number_option (codes "worlds") model_worlds_range)) memory_option)
+    (number_option (codes "jobs") jobs_range)
 
 -- with the flags that ask for another form of a test than a report
 abbrev pub with_test_forms : App → App
@@ -233,7 +240,7 @@ with_test_forms app =
     with_rule (with_rule (with_rule app (flag (codes "list"))) (flag (codes "json"))) (flag (codes "tap"))
 
 abbrev pub test_command : App
-test_command = with_test_forms test_bounds
+test_command = with_rule (with_test_forms test_bounds) (text_option (codes "color"))
 
 abbrev pub terms_command : App
 terms_command = with_rule (new_app (codes "terms")) (file_argument (codes "file"))

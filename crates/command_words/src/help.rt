@@ -207,6 +207,7 @@ explored under every schedule. All faults of all files are told before any model
 Examples:
   fiber_cli test models/*.fm
   fiber_cli test --filter mutex --junit report.xml models/*.fm
+  fiber_cli test --html report.html models/*.fm
 
 A model that fails is printed with its claim, what was found, its schedule and its timeline.
 
@@ -322,6 +323,14 @@ pub const MODEL_FILE: &str = "The model file";
 pub const FILTER: &str = "Test only the models whose names contain this text";
 
 pub const JUNIT: &str = "Write a report for CI to this file, in the format of JUnit";
+
+pub const HTML: &str = "Write a page of HTML to this file, with timelines and pictures";
+
+pub const JOBS: &str = "How many models are explored side by side, 0 to 64; 0: one for each
+processor. --memory holds for each of them [default: 0]";
+
+pub const COLOR: &str = "When the verdicts have colours: auto (where the output is a terminal,
+and NO_COLOR is not set), always or never [default: auto]";
 
 pub const LIST: &str = "Print the models with their places, and explore none";
 

@@ -37,6 +37,6 @@ pub use requests::{Request, request_of};
 pub use running::{RunForm, Running, limits_of};
 pub use sampling::Sampling;
 pub use seeking::Seeking;
-pub use testing::{TestForm, Testing, Translating};
+pub use testing::{Coloring, TestForm, Testing, Translating};
 pub use words::all_words;
 pub use wrong_words::refuse_words;

@@ -2,6 +2,7 @@
 
 use crate::flags::{given, text_of};
 use crate::memory::bytes_of;
+use crate::test_requests::coloring;
 use clap::ArgMatches;
 use exploration_text::read_want;
 use std::alloc::{AllocError, Global};
@@ -113,6 +114,14 @@ pub fn no_request_reason(alloc: Global, matches: &ArgMatches<'_>) -> Result<Stri
             "expected 'succeeded V', 'errored C', 'canceled' or 'unended'",
         );
     }
+    if let Some(text) = wrong_color(options) {
+        return value_reason(
+            alloc,
+            text,
+            "--color <WHEN>",
+            "expected 'auto', 'always' or 'never'",
+        );
+    }
     memory_reason(alloc, options)
 }
 
@@ -148,6 +157,16 @@ fn wrong_want<'a>(options: &ArgMatches<'a>) -> Option<&'a str> {
         }
     }
     None
+}
+
+// The text of `--color`, where it says nothing of colours.
+fn wrong_color<'a>(options: &ArgMatches<'a>) -> Option<&'a str> {
+    let text = text_of(options, "color")?;
+    if coloring(text).is_none() {
+        Some(text)
+    } else {
+        None
+    }
 }
 
 // That a number of bytes is none.

@@ -66,6 +66,13 @@ pub const MODEL_WORLDS: NumberRange = NumberRange {
     usual: 1_000_000,
 };
 
+/// How many models are explored side by side; 0 stands for one for each processor.
+pub const JOBS: NumberRange = NumberRange {
+    least: 0,
+    most: 64,
+    usual: 0,
+};
+
 /// The number before the unit of the bytes at which an exploration stops. The usual one stands where the option isn't
 /// given, with no unit: 4 times 2^30 bytes.
 pub const MEMORY: NumberRange = NumberRange {

@@ -1,17 +1,18 @@
 //! The test of model files that the words of a command line ask for.
 
-ghost use Rattle.std.specs.Prelude.{◌≡◌, ◌++◌, codes, IfNone, IfOk, IfSome, map, option_map};
+ghost use Rattle.std.specs.Prelude.{◌≡◌, ◌++◌, codes, IfNone, IfOk, IfSome, Some, map, option_map};
 ghost use Rattle.clap.specs.Words.{first_of, found_of, rows_of};
 ghost use Rattle.command_words.specs.declared.testing.TestForm.{TestForm};
 ghost use Rattle.command_words.specs.declared.testing.Testing.{Testing};
 ghost use Rattle.command_words.specs.declared.testing.Translating.{Translating};
-ghost use Rattle.command_words.specs.Flags.{SaysTestForm};
+ghost use Rattle.command_words.specs.declared.testing.Coloring.{Coloring};
+ghost use Rattle.command_words.specs.Flags.{SaysColoring, SaysTestForm};
 ghost use Rattle.command_words.specs.Requests.{SaysTesting, SaysTranslating, texts_said};
 
 use crate::flags::{given, text_of};
-use crate::ranges::MODEL_WORLDS;
+use crate::ranges::{JOBS, MODEL_WORLDS};
 use crate::requests::{memory_of, number_of};
-use crate::testing::{TestForm, Testing, Translating};
+use crate::testing::{Coloring, TestForm, Testing, Translating};
 use clap::ArgMatches;
 use std::alloc::{AllocError, Global};
 
@@ -61,6 +62,32 @@ fn files_said<'a>(alloc: Global, test: &ArgMatches<'a>) -> Result<Vec<&'a str>, 
     }
 }
 
+/// When a text says that verdicts have colours, if it says so.
+#[tactic(auto, using(crate::proofs::TestLemmas::no_color))]
+pub(crate) fn coloring(text: &str) -> Option<Coloring>
+    ensures said { IfSome result (SaysColoring (Some text.now)) }
+    ensures none { IfNone result ((color : Coloring) → SaysColoring (Some text.now) color → ⊥) }
+{
+    match text {
+        "auto" => Some(Coloring::Auto),
+        "always" => Some(Coloring::Always),
+        "never" => Some(Coloring::Never),
+        _ => None,
+    }
+}
+
+// When the options of `test` say that verdicts have colours.
+fn coloring_of(test: &ArgMatches<'_>) -> Option<Coloring>
+    ensures said { IfSome result (SaysColoring (first_of (codes "color") (rows_of (found_of test.now)))) }
+    ensures none { IfNone result ((color : Coloring) →
+        SaysColoring (first_of (codes "color") (rows_of (found_of test.now))) color → ⊥) }
+{
+    match text_of(test, "color") {
+        Some(text) => coloring(text),
+        None => Some(Coloring::Auto),
+    }
+}
+
 /// The test that the options of `test` say.
 pub(crate) fn testing_of<'a>(
     alloc: Global,
@@ -79,16 +106,26 @@ pub(crate) fn testing_of<'a>(
     let Some(memory) = memory_of(test) else {
         return Ok(None);
     };
+    let Some(jobs) = number_of(test, "jobs", JOBS) else {
+        return Ok(None);
+    };
+    let Some(color) = coloring_of(test) else {
+        return Ok(None);
+    };
     let files = files_said(alloc, test)?;
     let filter = text_of(test, "filter");
     let junit = text_of(test, "junit");
+    let html = text_of(test, "html");
     Ok(Some(Testing {
         files,
         filter,
         junit,
+        html,
         worlds,
         memory,
+        jobs,
         form,
+        color,
     }))
 }
 

@@ -8,7 +8,7 @@ ghost use Rattle.command_words.specs.Words.{file_argument, text_option, with_tes
 
 use crate::compare_words::file_argument;
 use crate::help;
-use crate::ranges::MODEL_WORLDS;
+use crate::ranges::{JOBS, MODEL_WORLDS};
 use crate::words::{memory_option, new_command, number_option, with_flag};
 use clap::{Arg, ArgAction, Command};
 use std::alloc::{AllocError, Global};
@@ -59,7 +59,8 @@ fn test_files<'a>(alloc: Global) -> Result<Command<'a>, AllocError>
 {
     let command = new_command(alloc, "test", help::TEST).arg(files_argument(alloc))?;
     let command = with_text(alloc, command, "filter", "TEXT", help::FILTER)?;
-    with_text(alloc, command, "junit", "FILE", help::JUNIT)
+    let command = with_text(alloc, command, "junit", "FILE", help::JUNIT)?;
+    with_text(alloc, command, "html", "FILE", help::HTML)
 }
 
 // `test` without its flags.
@@ -69,7 +70,8 @@ fn test_bounds<'a>(alloc: Global) -> Result<Command<'a>, AllocError>
 {
     let command = test_files(alloc)?;
     let command = command.arg(number_option(alloc, "worlds", help::MODEL_WORLDS, MODEL_WORLDS))?;
-    command.arg(memory_option(alloc))
+    let command = command.arg(memory_option(alloc))?;
+    command.arg(number_option(alloc, "jobs", help::JOBS, JOBS))
 }
 
 // Adds the flags that ask for another form of a test than a report.
@@ -87,8 +89,8 @@ pub(crate) fn test_command<'a>(alloc: Global) -> Result<Command<'a>, AllocError>
     ensures shape { IfOk result (λ c. app_of c ≡ test_command) }
     ensures local { IfOk result (λ c. (out-Command c).has_globals ≡ false) }
 {
-    let command = test_bounds(alloc)?;
-    with_test_forms(alloc, command)
+    let command = with_test_forms(alloc, test_bounds(alloc)?)?;
+    with_text(alloc, command, "color", "WHEN", help::COLOR)
 }
 
 /// `terms`, with all that its words may be.

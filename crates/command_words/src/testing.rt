@@ -13,6 +13,17 @@ pub enum TestForm {
     Tap,
 }
 
+/// When the words of verdicts have colours.
+#[derive(Clone, Copy)]
+pub enum Coloring {
+    /// Where the output is a terminal that takes them.
+    Auto,
+    /// Always.
+    Always,
+    /// Never.
+    Never,
+}
+
 /// To test the models of files.
 #[derive(Drop)]
 pub struct Testing<'a> {
@@ -22,12 +33,18 @@ pub struct Testing<'a> {
     pub filter: Option<&'a str>,
     /// The path of the file to which a report for CI is written.
     pub junit: Option<&'a str>,
+    /// The path of the file to which a page of HTML is written.
+    pub html: Option<&'a str>,
     /// How many worlds are kept of a model that sets no bound of its own.
     pub worlds: u64,
     /// At how many bytes of memory the search stops, for each model.
     pub memory: u64,
+    /// How many models are explored side by side; 0: one for each processor.
+    pub jobs: u64,
     /// What is printed.
     pub form: TestForm,
+    /// When the words of verdicts have colours.
+    pub color: Coloring,
 }
 
 /// To print the terms of the models of a file.

@@ -7,11 +7,22 @@ use command_line::{command, refuse_words};
 use outcome_trace::{FromRead, TextFault, ToWrite, tell_fault};
 use std::alloc::AllocError;
 use std::env;
-use std::io::ErrorKind;
+use std::env::VarError;
+use std::io::{ErrorKind, IsTerminal};
 use std::process::ExitCode;
+use std::rt::Env;
 
 // What is told of words that aren't text, which `clap` isn't given here, in its own terms.
 const NOT_TEXT: &str = "invalid UTF-8 was detected in one or more arguments";
+
+// Whether the environment has a text under this name, other than the empty one.
+fn is_set<R: Env + Alloc>(rt: &R, name: &str) -> bool {
+    match env::var(rt, name) {
+        Ok(text) => !text.is_empty(),
+        Err(VarError::NotPresent) => false,
+        Err(_) => true,
+    }
+}
 
 fn main(rt: HostRuntime) -> ExitCode {
     let mut input = FromRead::new(rt.stdin());
@@ -25,8 +36,16 @@ fn main(rt: HostRuntime) -> ExitCode {
             return ExitCode::from(status.code());
         }
     };
+    let colors = rt.stdout().is_terminal() && !is_set(&rt, "NO_COLOR");
     let status = match words {
-        Ok(words) => command(&rt, words.as_slice(), &mut input, &mut out, &mut err),
+        Ok(words) => command(
+            &rt,
+            words.as_slice(),
+            colors,
+            &mut input,
+            &mut out,
+            &mut err,
+        ),
         Err(_) => tell_fault(TextFault::NoMemory, &mut err),
     };
     ExitCode::from(status.code())

@@ -332,6 +332,8 @@ fn compares(
         return Err(no_condition(alloc, place, at));
     }
     let cell = add_ref(alloc, place, subjects, name)?;
-    condition.words.push(Word::Compares(cell, comparison, value))?;
+    condition
+        .words
+        .push(Word::Compares(cell, comparison, value))?;
     Ok(())
 }

@@ -30,8 +30,8 @@ pub fn model_details(alloc: Global, judged: JudgedModel) -> Result<Vec<u8>, Allo
     Ok(told)
 }
 
-// A warning, with its place.
-fn push_warning(
+/// A warning, with its place, as a line. `AllocError` where memory is refused.
+pub(crate) fn push_warning(
     told: &mut Vec<u8>,
     alloc: Global,
     judged: JudgedModel,
@@ -87,7 +87,7 @@ fn push_claim(
     }
 }
 
-// Why a claim doesn't pass.
+// Why a claim doesn't pass, and a timeline.
 fn push_why(
     told: &mut Vec<u8>,
     alloc: Global,
@@ -95,11 +95,38 @@ fn push_why(
     claim: &ClaimResult,
     search: &Search,
 ) -> Result<(), AllocError> {
+    push_reasons(told, alloc, judged, claim, search)?;
+    match (claim.verdict, &claim.replay) {
+        (Verdict::Failed, Some(replay)) => {
+            told.push(b'\n')?;
+            push_timeline(told, alloc, judged.file, judged.source, replay)
+        }
+        _ => Ok(()),
+    }
+}
+
+/// Why a claim has its verdict, in lines: of one that fails what refutes it, of one that is undecided the bound that
+/// was met, and of one that passes the answer that decides it, if one does. `AllocError` where memory is refused.
+pub(crate) fn push_reasons(
+    told: &mut Vec<u8>,
+    alloc: Global,
+    judged: JudgedModel,
+    claim: &ClaimResult,
+    search: &Search,
+) -> Result<(), AllocError> {
     match claim.verdict {
-        Verdict::Passed => Ok(()),
+        Verdict::Passed => match answer_of(claim, search) {
+            Some(answer) => push_shown_answer(told, alloc, judged, claim, search, answer),
+            None => Ok(()),
+        },
         Verdict::Undecided => push_undecided(told, claim.rule, search),
         Verdict::Failed => push_failed(told, alloc, judged, claim, search),
     }
+}
+
+// The answer that decides a claim, if one does.
+fn answer_of<'a>(claim: &ClaimResult, search: &'a Search) -> Option<&'a NamedAnswer> {
+    search.answers.get(claim.shown?)
 }
 
 // That a claim is undecided.
@@ -172,7 +199,7 @@ fn push_none_meets(
     push_answers(told, judged.source, search)
 }
 
-// The answer that decides a claim: what was found, its schedule and its timeline.
+// The answer that decides a claim: what was found, and its schedule.
 fn push_shown_answer(
     told: &mut Vec<u8>,
     alloc: Global,
@@ -186,12 +213,5 @@ fn push_shown_answer(
     push_found(told, judged.source, search, answer, claim.replay.as_ref())?;
     push_word(told, "\n     under \"")?;
     push_word(told, schedule.as_str())?;
-    push_word(told, "\"\n")?;
-    match &claim.replay {
-        Some(replay) => {
-            told.push(b'\n')?;
-            push_timeline(told, alloc, judged.file, judged.source, replay)
-        }
-        None => Ok(()),
-    }
+    push_word(told, "\"\n")
 }

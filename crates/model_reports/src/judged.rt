@@ -40,15 +40,13 @@ pub(crate) fn name_of<'a>(source: &'a Source, model: &Model) -> &'a [u8] {
 }
 
 /// The line of a model that is done: its name, its verdict, how many worlds were found, how many seconds that took, and
-/// how many claims it has. `AllocError` where memory is refused.
-pub fn model_line(alloc: Global, judged: JudgedModel) -> Result<Vec<u8>, AllocError> {
+/// how many claims it has. The verdict has a colour where one is asked for. `AllocError` where memory is refused.
+pub fn model_line(alloc: Global, judged: JudgedModel, color: bool) -> Result<Vec<u8>, AllocError> {
     let mut told = Vec::new(alloc);
     push_shown(&mut told, name_of(judged.source, judged.model))?;
     push_up_to(&mut told, NAME)?;
     told.push(b' ')?;
-    let verdict = verdict_word(judged.result.verdict);
-    push_word(&mut told, verdict)?;
-    push_times(&mut told, b' ', VERDICT.saturating_sub(verdict.len()))?;
+    push_verdict(&mut told, judged.result.verdict, color)?;
     told.push(b' ')?;
     push_worlds(&mut told, judged.result.worlds)?;
     push_word(&mut told, " worlds ")?;
@@ -68,6 +66,31 @@ pub fn model_line(alloc: Global, judged: JudgedModel) -> Result<Vec<u8>, AllocEr
 fn push_up_to(told: &mut Vec<u8>, width: usize) -> Result<(), AllocError> {
     push_times(told, b' ', width.saturating_sub(told.len()))
 }
+
+// A verdict in its column: with a colour, or without.
+fn push_verdict(told: &mut Vec<u8>, verdict: Verdict, color: bool) -> Result<(), AllocError> {
+    let word = verdict_word(verdict);
+    if color {
+        push_word(told, color_of(verdict))?;
+        push_word(told, word)?;
+        push_word(told, PLAIN)?;
+    } else {
+        push_word(told, word)?;
+    }
+    push_times(told, b' ', VERDICT.saturating_sub(word.len()))
+}
+
+// What sets the colour of a verdict in a terminal: green, red or yellow.
+fn color_of(verdict: Verdict) -> &'static str {
+    match verdict {
+        Verdict::Passed => "\u{1b}[32m",
+        Verdict::Failed => "\u{1b}[31m",
+        Verdict::Undecided => "\u{1b}[33m",
+    }
+}
+
+// What ends a colour in a terminal.
+const PLAIN: &str = "\u{1b}[0m";
 
 // The number of worlds at the right of its column.
 fn push_worlds(told: &mut Vec<u8>, worlds: u64) -> Result<(), AllocError> {

@@ -2,6 +2,7 @@
 
 use crate::claim_details::model_details;
 use crate::digits::{push_about, push_seconds, push_word};
+use crate::escaped::push_escaped;
 use crate::judged::{JudgedModel, name_of};
 use crate::verdicts::counts_of;
 use model_claims::Verdict;
@@ -79,27 +80,4 @@ fn push_element(
     push_word(told, element.start)?;
     push_escaped(told, alloc, details.as_slice())?;
     push_word(told, element.end)
-}
-
-// Bytes as text of an XML document. What is no UTF-8, or no character of XML, is replaced by U+FFFD.
-fn push_escaped(told: &mut Vec<u8>, alloc: Global, bytes: &[u8]) -> Result<(), AllocError> {
-    let text = String::from_utf8_lossy(alloc, bytes)?;
-    let mut escaped = String::new(alloc);
-    for character in text.chars() {
-        push_character(&mut escaped, character)?;
-    }
-    told.extend_from_slice(escaped.as_bytes())
-}
-
-// A character as text of an XML document.
-fn push_character(escaped: &mut String, character: char) -> Result<(), AllocError> {
-    match character {
-        '&' => escaped.push_str("&amp;"),
-        '<' => escaped.push_str("&lt;"),
-        '>' => escaped.push_str("&gt;"),
-        '"' => escaped.push_str("&quot;"),
-        '\n' => escaped.push('\n'),
-        '\0'..='\u{1f}' | '\u{fffe}' | '\u{ffff}' => escaped.push('\u{fffd}'),
-        other => escaped.push(other),
-    }
 }

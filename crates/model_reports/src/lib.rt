@@ -1,14 +1,20 @@
-//! What is told of the models of a file: faults, verdicts and timelines, as text, as JSON, and in the formats of the
-//! Test Anything Protocol and of JUnit.
+//! What is told of the models of a file: faults, verdicts and timelines, as text, as JSON, as a page of HTML, and in
+//! the formats of the Test Anything Protocol and of JUnit.
 //!
 //! It stands on what became of a model (`model_runs`), and tells it in the names and the places of the file
-//! (`model_terms`). It promises the status that verdicts come to. What the texts say is shown by tests.
+//! (`model_terms`), on a page with pictures (`timelines`). It promises the status that verdicts come to. What the texts
+//! say is shown by tests.
 #![tactic(auto)]
 
 mod claim_details;
 mod digits;
+mod escaped;
 mod event_words;
 mod found;
+mod html_models;
+mod html_page;
+mod html_style;
+mod html_timeline;
 mod json_models;
 mod judged;
 mod junit;
@@ -24,6 +30,7 @@ mod timeline_table;
 mod verdicts;
 
 pub use claim_details::model_details;
+pub use html_page::HtmlPage;
 pub use json_models::{json_report, model_json};
 pub use judged::{JudgedModel, listed_model, model_line, named_term};
 pub use junit::{junit_case, junit_document};

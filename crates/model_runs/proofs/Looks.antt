@@ -98,9 +98,12 @@ shown_by code k wanted words it n right there true None at some same = tt
 shown_by code k wanted words it n right there true (Some i) None some same = absurd (let e : Some i ≡ None = same refl in cc)
 shown_by code k wanted words it n right there true (Some i) (Some j) some same =
     let is : IsMetAt it.met.items n i = subst (λ (x : ℕ). IsMetAt it.met.items n x) (sym (same_Some i j (same refl))) some in
-    let a = answer_at it.search.answers.items it.met.items i is.0 right.same is.1 in
-    (a.0, a.1, subst (λ (s : List ℕ). Meets code k words s) (sym a.2)
-    (meets_at code k wanted words it.met.items n i right.met.each there is))
+    let a = answer_at it.search.answers.items it.met.items i is.0 right.same is.1 in (
+      a.0,
+      a.1,
+      subst (λ (s : List ℕ). Meets code k words s) (sym a.2)
+          (meets_at code k wanted words it.met.items n i right.met.each there is),
+    )
 
 -- two lists of which each has one more, with the same of both
 pub one_more_alike : {A B S : Type 0} (f : A → S) (g : B → S) (xs ys : List A) (bs : List B) (i : ℕ) (a : A) (b : B) →

@@ -72,7 +72,15 @@ pub(crate) fn claim_result(
 {
     let judged = judge_claim(alloc, source, claim, search)?;
     let answers = search.answers.as_slice();
-    let replay = replay_of(alloc, source, model, claim.probe, plan, judged.shown, answers)?;
+    let replay = replay_of(
+        alloc,
+        source,
+        model,
+        claim.probe,
+        plan,
+        judged.shown,
+        answers,
+    )?;
     Ok(ClaimResult {
         form: claim.form,
         rule: claim.rule,
@@ -106,7 +114,15 @@ pub(crate) fn moment_result(
 {
     let judged = judge_at(claim, number, ends, moments);
     let answers = decisive_answers(judged, ends, moments);
-    let replay = replay_of(alloc, source, model, claim.probe, plan, judged.shown, answers)?;
+    let replay = replay_of(
+        alloc,
+        source,
+        model,
+        claim.probe,
+        plan,
+        judged.shown,
+        answers,
+    )?;
     Ok(ClaimResult {
         form: claim.form,
         rule: claim.rule,
@@ -120,7 +136,11 @@ pub(crate) fn moment_result(
 }
 
 // The answers among which the one counts that decides a claim.
-fn decisive_answers<'a>(judged: JudgedAt, ends: &'a Search, moments: &'a Moments) -> &'a [NamedAnswer] {
+fn decisive_answers<'a>(
+    judged: JudgedAt,
+    ends: &'a Search,
+    moments: &'a Moments,
+) -> &'a [NamedAnswer] {
     if judged.at_moment {
         moments.search.answers.as_slice()
     } else {

@@ -11,7 +11,9 @@ use crate::plan::Plan;
 use crate::searching::{FIRST, TIMES_MORE};
 use cell_registry::RunError;
 use effect_term::Program;
-use every_schedule::{Claim as Sought, ClaimWord, Claimed, Comparison as SoughtComparison, search_claims};
+use every_schedule::{
+    Claim as Sought, ClaimWord, Claimed, Comparison as SoughtComparison, search_claims,
+};
 use model_claims::{Claim, Comparison, MomentWord, Rule};
 use std::alloc::{AllocError, Global};
 use world_search::{Bounds, Unwatched};

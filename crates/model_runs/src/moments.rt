@@ -73,7 +73,13 @@ fn look(
         return Ok(nothing_found(alloc));
     }
     let found = search_by_plan(alloc, &prepared.program, plan, wanted.as_slice())?;
-    let answers = answers_of(alloc, prepared, plan, wanted.as_slice(), found.met.as_slice())?;
+    let answers = answers_of(
+        alloc,
+        prepared,
+        plan,
+        wanted.as_slice(),
+        found.met.as_slice(),
+    )?;
     Ok(found_moments(found, answers))
 }
 

@@ -221,9 +221,7 @@ fn decided_at_moments(
         return Err(Refused::NoMemory);
     };
     match searches.get(at) {
-        Some(ends) => moment_result(
-            alloc, source, model, claim, plan, number, at, ends, moments,
-        ),
+        Some(ends) => moment_result(alloc, source, model, claim, plan, number, at, ends, moments),
         None => Err(Refused::NoMemory),
     }
 }

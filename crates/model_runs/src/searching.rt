@@ -217,7 +217,14 @@ fn named_answer(
     ensures schedule { IfOk result (λ it. it.schedule ≡ answer.now.schedule) }
 {
     let held = Vec::new(alloc);
-    named_end(alloc, prepared, plan, answer.schedule.as_slice(), held, came)
+    named_end(
+        alloc,
+        prepared,
+        plan,
+        answer.schedule.as_slice(),
+        held,
+        came,
+    )
 }
 
 /// What a schedule comes to, in the names of the file, with what refs hold there. So often it was drawn at random.

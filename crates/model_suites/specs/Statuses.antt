@@ -1,4 +1,10 @@
 -- The statuses of a suite whose models were tested.
+use Rattle.std.specs.Prelude.{◌==◌, ◌∷◌, ℕ, List, [], if◌then◌else◌}
+use Rattle.model_claims.specs.declared.judging.Verdict.{Verdict}
+use Rattle.model_claims.specs.declared.judging.Verdict.TheVariants.{Failed}
+use Rattle.model_reports.specs.Verdicts.{status_of}
+use Rattle.model_suites.specs.declared.tested.Became.{Became}
+use Rattle.model_suites.specs.declared.tested.Became.TheVariants as ways
 use Rattle.text_io.specs.declared.status.Status.{Status}
 use Rattle.text_io.specs.declared.status.Status.TheVariants.{Succeeded, Errored, Canceled, Unended, Usage, Refused, Fault}
 
@@ -11,3 +17,13 @@ IsSuiteStatus Unended = Unit {0}
 IsSuiteStatus Usage = ⊥
 IsSuiteStatus Refused = ⊥
 IsSuiteStatus Fault = ⊥
+
+-- the verdict that a model came to: failed where its term was refused; none where it was listed alone
+abbrev pub verdict_in : Became → List Verdict
+verdict_in ways.Listed = []
+verdict_in (ways.Refused fault) = Failed ∷ []
+verdict_in (ways.Explored explored) = explored.result.verdict ∷ []
+
+-- the status of so many models with these verdicts: 1 where there are none to be tested, else that of the verdicts
+abbrev pub suite_status : ℕ → List Verdict → Status
+suite_status models verdicts = if models == 0 then Errored else status_of verdicts

@@ -1,22 +1,25 @@
 //! The models of files that are tested.
 
-ghost use Rattle.model_suites.specs.Statuses.{IsSuiteStatus};
+ghost use Rattle.std.specs.Prelude.{◌≡◌, ◌++◌, [], IfOk, OnOk};
+ghost use Rattle.model_suites.specs.Statuses.{verdict_in};
 
+use crate::board::Board;
+use crate::exploring::{help_all, tested_at};
 use crate::reading::{ReadProblem, read_path};
 use crate::terms::push_terms;
+use crate::tested::Tested;
 use crate::told::Told;
 use itoa::Buffer;
 use model_forms::form_bytes;
-use model_reports::{
-    JudgedModel, NamedFile, fault_text, listed_model, status_of, tap_head, unread_text,
-};
-use model_runs::{ModelResult, SearchBounds, check_model, run_model};
+use model_reports::{NamedFile, fault_text, tap_head, unread_text};
+use model_runs::check_model;
 use model_terms::{Refused, Source, SourceFault, read_source};
 use model_text::{Item, Model};
 use std::alloc::{AllocError, Global};
 use std::rt::Files;
-use std::time::{Clock, Instant};
-use text_io::Status;
+use std::sync::Wait;
+use std::thread::Threads;
+use std::time::Clock;
 
 /// What is printed of the models.
 #[derive(Clone, Copy, PartialEq, Eq, Debug)]
@@ -44,28 +47,39 @@ pub struct SuiteOrder<'a> {
     pub form: SuiteForm,
     /// Whether a report for CI is wanted.
     pub junit: bool,
+    /// Whether a page is wanted.
+    pub html: bool,
+    /// Whether the words of verdicts have colours.
+    pub color: bool,
 }
 
-// A file that was read.
+/// A file that was read.
 #[derive(Drop)]
-struct SuiteFile<'a> {
-    name: &'a str,
-    source: Source,
+pub(crate) struct SuiteFile<'a> {
+    /// The path that it was opened under.
+    pub(crate) name: &'a str,
+    /// What it has.
+    pub(crate) source: Source,
 }
 
-// A model that is tested, and the number of its file.
+/// A model that is tested.
 #[derive(Clone, Copy)]
-struct Entry {
-    file: usize,
-    model: Model,
+pub(crate) struct Entry {
+    /// The number of its file.
+    pub(crate) file: usize,
+    /// The model.
+    pub(crate) model: Model,
 }
 
-// The files that were read, and their models.
+/// The files that were read, and their models.
 #[derive(Drop)]
-struct Models<'a> {
-    order: SuiteOrder<'a>,
-    files: Vec<SuiteFile<'a>>,
-    entries: Vec<Entry>,
+pub(crate) struct Models<'a> {
+    /// How they are tested.
+    pub(crate) order: SuiteOrder<'a>,
+    /// The files.
+    pub(crate) files: Vec<SuiteFile<'a>>,
+    /// The models that are tested.
+    pub(crate) entries: Vec<Entry>,
     // How many models the files have in all.
     all: usize,
     // The texts of the faults of files.
@@ -77,7 +91,6 @@ struct Models<'a> {
 pub struct Suite<'a> {
     alloc: Global,
     models: Models<'a>,
-    told: Told,
 }
 
 impl<'a> Suite<'a> {
@@ -98,12 +111,7 @@ impl<'a> Suite<'a> {
         for name in files {
             add_file(rt, alloc, &mut models, *name)?;
         }
-        let told = Told::new(alloc);
-        Ok(Suite {
-            alloc,
-            models,
-            told,
-        })
+        Ok(Suite { alloc, models })
     }
 
     /// The texts of the faults of files; nothing where they have none. Where they have some, no model is tested.
@@ -125,32 +133,51 @@ impl<'a> Suite<'a> {
         }
     }
 
-    /// Tests the model of this number, and returns what is printed of it. Each is tested once, in the order of their
+    /// What is told of the models: of none so far.
+    pub fn told(&self) -> Told
+        ensures { result.verdicts.items ≡ [] }
+    {
+        Told::new(self.alloc, self.models.entries.len())
+    }
+
+    /// A board for what becomes of the models. `AllocError` where memory runs out.
+    pub fn board(&self) -> Result<Board, AllocError> {
+        Board::new(self.alloc, self.models.entries.len())
+    }
+
+    /// Explores models that nobody explores yet, in so many threads, and puts what becomes of them on the board, until
+    /// there are none left or memory runs out.
+    pub fn help<R: Clock + Threads + Wait + Sync>(&self, rt: &R, board: &Board, threads: usize) {
+        help_all(rt, self.alloc, &self.models, board, threads);
+    }
+
+    /// What became of the model of this number: taken from the board, or found by exploring. While another thread
+    /// explores it, this one explores others, and then waits. Each is asked for once. `AllocError` where memory runs
+    /// out.
+    pub fn tested<R: Clock + Wait>(
+        &self,
+        rt: &R,
+        board: &Board,
+        index: usize,
+    ) -> Result<Tested, AllocError>
+        ensures { IfOk result (λ it. it.index ≡ index) }
+    {
+        tested_at(rt, self.alloc, &self.models, board, index)
+    }
+
+    /// Takes in what became of a model, and returns what is printed of it at once. They come in the order of their
     /// numbers. `AllocError` where memory runs out.
-    pub fn test_model<C: Clock>(&mut self, clock: &C, index: usize) -> Result<Vec<u8>, AllocError> {
-        test_entry(clock, self.alloc, &self.models, &mut self.told, index)
+    pub fn tell(&self, told: &mut Told, tested: Tested) -> Result<Vec<u8>, AllocError>
+        ensures { OnOk result (told.new.verdicts.items ≡ told.old.verdicts.items ++ verdict_in tested.became) }
+    {
+        told.add(self.alloc, &self.models, tested)
     }
 
     /// What is printed behind all models. `AllocError` where memory runs out.
-    pub fn ending(&mut self) -> Result<Vec<u8>, AllocError> {
-        self.told.ending(self.alloc, self.models.order.form)
-    }
-
-    /// The report for CI. `AllocError` where memory runs out.
-    pub fn junit(&self) -> Result<Vec<u8>, AllocError> {
-        self.told.junit(self.alloc)
-    }
-
-    /// The status of the models that were tested: 1 where one failed, or where there was none to be tested, else 3 where
-    /// one is undecided, else 0; and 0 where models were listed alone.
-    #[tactic(auto, using(crate::proofs::Known::known))]
-    pub fn status(&self) -> Status
-        ensures { IsSuiteStatus result }
+    pub fn ending(&self, told: &mut Told) -> Result<Vec<u8>, AllocError>
+        ensures { told.new.verdicts.items ≡ told.old.verdicts.items }
     {
-        if self.models.entries.is_empty() {
-            return Status::Errored;
-        }
-        status_of(self.told.verdicts.as_slice())
+        told.ending(self.alloc, self.models.order.form)
     }
 
     /// The terms of the models. `AllocError` where memory runs out.
@@ -165,8 +192,8 @@ impl<'a> Suite<'a> {
     }
 }
 
-// The name and the bytes of a file.
-fn named<'b>(file: &'b SuiteFile<'_>) -> NamedFile<'b> {
+/// The name and the bytes of a file.
+pub(crate) fn named<'b>(file: &'b SuiteFile<'_>) -> NamedFile<'b> {
     let bytes = file.source.text.get(file.source.prelude..).unwrap_or(&[]);
     NamedFile {
         name: file.name.as_bytes(),
@@ -319,88 +346,4 @@ fn heading(alloc: Global, tested: usize, all: usize) -> Result<Vec<u8>, AllocErr
     }
     text.extend_from_slice(if all == 1 { b" model\n" } else { b" models\n" })?;
     Ok(text)
-}
-
-// Tests a model, and returns what is printed of it.
-fn test_entry<C: Clock>(
-    clock: &C,
-    alloc: Global,
-    models: &Models<'_>,
-    told: &mut Told,
-    index: usize,
-) -> Result<Vec<u8>, AllocError> {
-    let Some(entry) = models.entries.get(index) else {
-        return Ok(Vec::new(alloc));
-    };
-    let Some(file) = models.files.get(entry.file) else {
-        return Ok(Vec::new(alloc));
-    };
-    match models.order.form {
-        SuiteForm::List => listed_model(alloc, named(file), &file.source, &entry.model),
-        SuiteForm::Report | SuiteForm::Json | SuiteForm::Tap => {
-            explore_entry(clock, alloc, &models.order, file, &entry.model, told)
-        }
-    }
-}
-
-// Explores and judges a model, and returns what is printed of it.
-fn explore_entry<C: Clock>(
-    clock: &C,
-    alloc: Global,
-    order: &SuiteOrder<'_>,
-    file: &SuiteFile<'_>,
-    model: &Model,
-    told: &mut Told,
-) -> Result<Vec<u8>, AllocError> {
-    let begun = Instant::now(clock).ok();
-    let bounds = SearchBounds {
-        worlds: order.worlds as usize,
-        memory: order.memory as usize,
-    };
-    match run_model(alloc, &file.source, model, bounds) {
-        Ok(result) => {
-            let milliseconds = milliseconds_since(clock, begun);
-            tell_result(alloc, order, file, model, &result, milliseconds, told)
-        }
-        Err(Refused::NoMemory) => Err(AllocError),
-        Err(Refused::Fault(fault)) => {
-            let reason = fault_text(alloc, named(file), &fault)?;
-            told.add_refused(reason.as_slice())?;
-            Ok(Vec::new(alloc))
-        }
-    }
-}
-
-// Takes in what became of a model, and returns what is printed of it.
-fn tell_result(
-    alloc: Global,
-    order: &SuiteOrder<'_>,
-    file: &SuiteFile<'_>,
-    model: &Model,
-    became: &ModelResult,
-    milliseconds: u64,
-    told: &mut Told,
-) -> Result<Vec<u8>, AllocError> {
-    let judged = JudgedModel {
-        file: named(file),
-        source: &file.source,
-        model,
-        result: became,
-        milliseconds,
-    };
-    told.add(alloc, order.form, order.junit, judged)
-}
-
-// How many milliseconds have passed; 0 where the clock fails.
-fn milliseconds_since<C: Clock>(clock: &C, begun: Option<Instant>) -> u64 {
-    let Some(begun) = begun else {
-        return 0;
-    };
-    match begun.elapsed(clock) {
-        Ok(time) => time
-            .as_secs()
-            .saturating_mul(1000)
-            .saturating_add(u64::from(time.subsec_millis())),
-        Err(_) => 0,
-    }
 }

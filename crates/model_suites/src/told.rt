@@ -1,35 +1,54 @@
 //! The reports of the models that were tested so far.
 
-use crate::suite::SuiteForm;
+ghost use Rattle.std.specs.Prelude.{◌≡◌, ◌++◌, ◌∷◌, [], OnOk};
+ghost use Rattle.model_suites.specs.Statuses.{IsSuiteStatus, suite_status, verdict_in};
+
+use crate::suite::{Models, SuiteFile, SuiteForm, SuiteOrder, named};
+use crate::tested::{Became, Explored, Tested};
 use model_claims::Verdict;
+use model_forms::form_bytes;
 use model_reports::{
-    JudgedModel, json_report, junit_case, junit_document, model_details, model_json, model_line,
-    summary, tap_model,
+    HtmlPage, JudgedModel, fault_text, json_report, junit_case, junit_document, listed_model,
+    model_details, model_json, model_line, status_of, summary, tap_model,
 };
+use model_terms::SourceFault;
+use model_text::Model;
 use serde_json::Value;
 use std::alloc::{AllocError, Global};
+use text_io::Status;
 
 /// The reports of the models that were tested so far, as far as they aren't printed at once.
 #[derive(Drop)]
-pub(crate) struct Told {
-    /// The verdict of each.
-    pub(crate) verdicts: Vec<Verdict>,
+pub struct Told {
+    /// How many models are tested in all.
+    pub models: usize,
+    /// The verdict of each that was tested so far, in their order. Where they are listed alone, there are none.
+    pub verdicts: Vec<Verdict>,
+    alloc: Global,
     // What stands behind all lines.
     details: Vec<u8>,
     // Each model as JSON.
     values: Vec<Value>,
     // Each model as a test case of JUnit.
     cases: Vec<u8>,
+    // The page of the models.
+    page: HtmlPage,
 }
 
 impl Told {
-    /// No model was tested so far.
-    pub(crate) fn new(alloc: Global) -> Told {
+    /// No model was tested so far, of so many.
+    pub(crate) fn new(alloc: Global, models: usize) -> Told
+        ensures models { result.models ≡ models }
+        ensures none { result.verdicts.items ≡ [] }
+    {
         Told {
+            models,
             verdicts: Vec::new(alloc),
+            alloc,
             details: Vec::new(alloc),
             values: Vec::new(alloc),
             cases: Vec::new(alloc),
+            page: HtmlPage::new(alloc),
         }
     }
 
@@ -37,20 +56,83 @@ impl Told {
     pub(crate) fn add(
         &mut self,
         alloc: Global,
-        form: SuiteForm,
-        junit: bool,
+        models: &Models<'_>,
+        tested: Tested,
+    ) -> Result<Vec<u8>, AllocError>
+        ensures { OnOk result (self.new.verdicts.items ≡ self.old.verdicts.items ++ verdict_in tested.became) }
+    {
+        let Some(entry) = models.entries.get(tested.index) else {
+            return Err(AllocError);
+        };
+        let Some(file) = models.files.get(entry.file) else {
+            return Err(AllocError);
+        };
+        match tested.became {
+            Became::Listed => listed_model(alloc, named(file), &file.source, &entry.model),
+            Became::Refused(fault) => self.add_refused(alloc, file, &entry.model, &fault),
+            Became::Explored(explored) => {
+                self.add_explored(alloc, &models.order, file, &entry.model, &explored)
+            }
+        }
+    }
+
+    // Takes in what became of a model that was explored.
+    fn add_explored(
+        &mut self,
+        alloc: Global,
+        order: &SuiteOrder<'_>,
+        file: &SuiteFile<'_>,
+        model: &Model,
+        explored: &Explored,
+    ) -> Result<Vec<u8>, AllocError>
+        ensures { OnOk result (self.new.verdicts.items ≡
+            self.old.verdicts.items ++ explored.now.result.verdict ∷ []) }
+    {
+        let judged = JudgedModel {
+            file: named(file),
+            source: &file.source,
+            model,
+            result: &explored.result,
+            milliseconds: explored.milliseconds,
+        };
+        self.verdicts.push(explored.result.verdict)?;
+        self.add_reports(alloc, order, judged)?;
+        self.add_form(alloc, order, judged)
+    }
+
+    // Adds a model to the reports that are asked for besides what is printed.
+    fn add_reports(
+        &mut self,
+        alloc: Global,
+        order: &SuiteOrder<'_>,
         judged: JudgedModel<'_>,
-    ) -> Result<Vec<u8>, AllocError> {
-        self.verdicts.push(judged.result.verdict)?;
-        if junit {
+    ) -> Result<(), AllocError>
+        ensures { self.new.verdicts.items ≡ self.old.verdicts.items }
+    {
+        if order.junit {
             let case = junit_case(alloc, judged)?;
             self.cases.extend_from_slice(case.as_slice())?;
         }
-        match form {
+        if order.html {
+            self.page.add(judged)?;
+        }
+        Ok(())
+    }
+
+    // Adds a model to what is printed, and returns what is printed at once.
+    fn add_form(
+        &mut self,
+        alloc: Global,
+        order: &SuiteOrder<'_>,
+        judged: JudgedModel<'_>,
+    ) -> Result<Vec<u8>, AllocError>
+        ensures { self.new.verdicts.items ≡ self.old.verdicts.items }
+    {
+        match order.form {
             SuiteForm::Report => {
                 let details = model_details(alloc, judged)?;
                 self.details.extend_from_slice(details.as_slice())?;
-                model_line(alloc, judged)
+                model_line(alloc, judged, order.color)
             }
             SuiteForm::Json => {
                 let value = model_json(alloc, judged)?;
@@ -62,14 +144,29 @@ impl Told {
         }
     }
 
-    /// Takes in that a model was refused, for this reason.
-    pub(crate) fn add_refused(&mut self, reason: &[u8]) -> Result<(), AllocError> {
+    // Takes in that a model of a file was refused, for this fault.
+    fn add_refused(
+        &mut self,
+        alloc: Global,
+        file: &SuiteFile<'_>,
+        model: &Model,
+        fault: &SourceFault,
+    ) -> Result<Vec<u8>, AllocError>
+        ensures { OnOk result (self.new.verdicts.items ≡ self.old.verdicts.items ++ Verdict.Failed ∷ []) }
+    {
+        let reason = fault_text(alloc, named(file), fault)?;
+        let name = form_bytes(file.source.text.as_slice(), model.name);
         self.verdicts.push(Verdict::Failed)?;
-        self.details.extend_from_slice(reason)
+        self.page
+            .add_refused(file.name.as_bytes(), name, reason.as_slice())?;
+        self.details.extend_from_slice(reason.as_slice())?;
+        Ok(Vec::new(alloc))
     }
 
     /// What is printed behind all models.
-    pub(crate) fn ending(&mut self, alloc: Global, form: SuiteForm) -> Result<Vec<u8>, AllocError> {
+    pub(crate) fn ending(&mut self, alloc: Global, form: SuiteForm) -> Result<Vec<u8>, AllocError>
+        ensures { self.new.verdicts.items ≡ self.old.verdicts.items }
+    {
         match form {
             SuiteForm::Report => {
                 let last = summary(alloc, self.verdicts.as_slice())?;
@@ -85,8 +182,26 @@ impl Told {
         }
     }
 
-    /// The report for CI.
-    pub(crate) fn junit(&self, alloc: Global) -> Result<Vec<u8>, AllocError> {
-        junit_document(alloc, self.verdicts.as_slice(), self.cases.as_slice())
+    /// The report for CI. `AllocError` where memory runs out.
+    pub fn junit(&self) -> Result<Vec<u8>, AllocError> {
+        junit_document(self.alloc, self.verdicts.as_slice(), self.cases.as_slice())
+    }
+
+    /// The page of the models that were tested. `AllocError` where memory runs out.
+    pub fn html(&self) -> Result<Vec<u8>, AllocError> {
+        self.page.document(self.verdicts.as_slice())
+    }
+
+    /// The status of the models that were tested: 1 where one failed, or where there was none to be tested, else 3
+    /// where one is undecided, else 0; and 0 where models were listed alone.
+    #[tactic(auto, using(crate::proofs::Known::known))]
+    pub fn status(&self) -> Status
+        ensures verdicts { result ≡ suite_status self.now.models self.now.verdicts.items }
+        ensures known { IsSuiteStatus result }
+    {
+        if self.models == 0 {
+            return Status::Errored;
+        }
+        status_of(self.verdicts.as_slice())
     }
 }

@@ -3,11 +3,15 @@
 use crate::arrows::push_arrows;
 use crate::lanes::push_lanes;
 use crate::legend::{HEIGHT, WIDTH, push_axis, push_legend, push_missing};
-use crate::scale::Scale;
+use crate::scale::{LEFT, MOST_LANES, Scale};
 use crate::sights::born;
 use crate::style::STYLE;
-use fiber_events::Told;
+use crate::wording::{Numbered, Wording};
+use fiber_events::{Event, Told};
 use std::alloc::{AllocError, Global};
+
+// How wide a letter of a name is at most, but for a few.
+const LETTER: usize = 7;
 
 /// The picture of a replay: one SVG document, without scripts.
 ///
@@ -19,19 +23,65 @@ pub fn picture(alloc: Global, told: &Told) -> Result<String, AllocError> {
     let scale = Scale {
         entries: told.made,
         born: born(events),
+        left: LEFT,
     };
     let mut text = String::new(alloc);
     push_head(alloc, &mut text, scale)?;
-    push_axis(&mut text, scale)?;
-    push_lanes(alloc, &mut text, scale, events)?;
-    push_arrows(alloc, &mut text, scale, events)?;
-    push_missing(&mut text, scale)?;
-    push_legend(&mut text, scale.bottom().saturating_add(20))?;
-    text.push_str("</svg>\n")?;
+    text.push_str(STYLE)?;
+    push_shapes(alloc, &mut text, scale, events, &Numbered)?;
     Ok(text)
 }
 
-// What stands before the shapes: the size of the picture, its style, and its ground.
+/// The picture of these events, of so many entries, as [`picture`] draws it, for a page that has its style ([`STYLE`],
+/// once, inside an `svg`), in these words. `AllocError` where memory runs out.
+pub fn drawn<W: Wording>(
+    alloc: Global,
+    events: &[Event],
+    entries: usize,
+    wording: &W,
+) -> Result<String, AllocError> {
+    let born = born(events);
+    let scale = Scale {
+        entries,
+        born,
+        left: names_end(alloc, born, wording)?,
+    };
+    let mut text = String::new(alloc);
+    push_head(alloc, &mut text, scale)?;
+    push_shapes(alloc, &mut text, scale, events, wording)?;
+    Ok(text)
+}
+
+// How far from the left the names of the fibers end, and the first entry is.
+fn names_end<W: Wording>(alloc: Global, born: usize, wording: &W) -> Result<usize, AllocError> {
+    let mut widest = LEFT;
+    let mut name = String::new(alloc);
+    for fiber in 0..born.min(MOST_LANES) {
+        name.clear();
+        wording.push_fiber(&mut name, fiber)?;
+        widest = widest.max(name.len().saturating_mul(LETTER).saturating_add(32));
+    }
+    Ok(widest)
+}
+
+// All that is drawn, and the end of the picture.
+fn push_shapes<W: Wording>(
+    alloc: Global,
+    text: &mut String,
+    scale: Scale,
+    events: &[Event],
+    wording: &W,
+) -> Result<(), AllocError> {
+    text.push_str("<rect class=\"paper\" width=\"100%\" height=\"100%\"/>\n")?;
+    push_axis(text, scale)?;
+    push_lanes(alloc, text, scale, events, wording)?;
+    push_arrows(alloc, text, scale, events)?;
+    push_missing(text, scale)?;
+    push_legend(text, scale.bottom().saturating_add(20))?;
+    text.push_str("</svg>\n")
+}
+
+// What stands before the style: the size of the picture, and its title.
 fn push_head(alloc: Global, text: &mut String, scale: Scale) -> Result<(), AllocError> {
     let width = scale.right().saturating_add(200).max(WIDTH);
     let height = scale.bottom().saturating_add(20 + HEIGHT);
@@ -39,7 +89,5 @@ fn push_head(alloc: Global, text: &mut String, scale: Scale) -> Result<(), Alloc
         "<svg xmlns=\"http://www.w3.org/2000/svg\" width=\"{width}\" height=\"{height}\" \
         viewBox=\"0 0 {width} {height}\" role=\"img\">\n<title>What the fibers of a run did</title>\n"
     )?;
-    text.push_str(head.as_str())?;
-    text.push_str(STYLE)?;
-    text.push_str("<rect class=\"paper\" width=\"100%\" height=\"100%\"/>\n")
+    text.push_str(head.as_str())
 }

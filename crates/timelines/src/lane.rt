@@ -1,7 +1,7 @@
 //! The lane of one fiber.
 
 use crate::scale::{BAR, Scale};
-use crate::shapes::{Place, push_bar, push_event_sign, push_words};
+use crate::shapes::{Place, begin_sign, push_bar, push_title, push_words};
 use crate::sights::{is_seen, waits};
 use cell_registry::Call;
 use effect_term::Outcome;
@@ -64,12 +64,13 @@ impl Lane {
         }
     }
 
-    /// One event of the fiber, in the order of the entries.
+    /// One event of the fiber, of which these words are said, in the order of the entries.
     pub(crate) fn push(
         &mut self,
         text: &mut String,
         scale: Scale,
         event: &Event,
+        words: &str,
     ) -> Result<(), AllocError> {
         if !is_seen(event) {
             return Ok(());
@@ -85,7 +86,7 @@ impl Lane {
         if let Some(mark) = event.mark {
             self.push_mark(text, scale, x, mark)?;
         }
-        self.note_end(text, scale, x, event)
+        self.note_end(text, scale, x, event, words)
     }
 
     // Draws a wait up to here, if there was one.
@@ -184,6 +185,7 @@ impl Lane {
         scale: Scale,
         x: usize,
         event: &Event,
+        words: &str,
     ) -> Result<(), AllocError> {
         if let Some(outcome) = end_of(event) {
             self.outcome = Some(outcome);
@@ -194,17 +196,18 @@ impl Lane {
             y: scale.top(self.fiber),
         };
         push_said(&mut self.signs, scale, place, event)?;
-        self.push_sign(place, event)
+        self.push_sign(place, event, words)
     }
 
     // The sign of an event, unless one stands there already.
-    fn push_sign(&mut self, place: Place, event: &Event) -> Result<(), AllocError> {
+    fn push_sign(&mut self, place: Place, event: &Event, words: &str) -> Result<(), AllocError> {
         let sign = sign_of(event);
         if place.x == self.signed && sign.class == "tick" {
             return Ok(());
         }
         self.signed = place.x;
-        push_event_sign(&mut self.signs, sign.class, place, sign.drawing, event)
+        begin_sign(&mut self.signs, sign.class, place, sign.drawing)?;
+        push_title(&mut self.signs, event.entry, words)
     }
 
     /// Appends the signs and words, after all bars.

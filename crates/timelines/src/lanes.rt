@@ -2,7 +2,8 @@
 
 use crate::lane::Lane;
 use crate::scale::Scale;
-use crate::shapes::{Place, push_counted, push_words};
+use crate::shapes::{Place, push_words};
+use crate::wording::Wording;
 use crate::words::push_outcome;
 use cell_registry::Call;
 use effect_term::{Outcome, Reply};
@@ -10,40 +11,53 @@ use fiber_events::{Deed, Event};
 use std::alloc::{AllocError, Global};
 
 /// The lanes, one below the other.
-pub(crate) fn push_lanes(
+pub(crate) fn push_lanes<W: Wording>(
     alloc: Global,
     text: &mut String,
     scale: Scale,
     events: &[Event],
+    wording: &W,
 ) -> Result<(), AllocError> {
     for fiber in 0..scale.lanes() {
-        push_name(text, scale, fiber)?;
-        push_lane(alloc, text, scale, events, fiber)?;
+        push_name(alloc, text, scale, fiber, wording)?;
+        push_lane(alloc, text, scale, events, fiber, wording)?;
     }
     Ok(())
 }
 
 // The name of a fiber, before its lane.
-fn push_name(text: &mut String, scale: Scale, fiber: usize) -> Result<(), AllocError> {
+fn push_name<W: Wording>(
+    alloc: Global,
+    text: &mut String,
+    scale: Scale,
+    fiber: usize,
+    wording: &W,
+) -> Result<(), AllocError> {
     let at = Place {
         x: 16,
         y: scale.middle(fiber).saturating_add(4),
     };
-    push_counted(text, "name", at, "fiber ", fiber)
+    let mut name = String::new(alloc);
+    wording.push_fiber(&mut name, fiber)?;
+    push_words(text, "name", at, name.as_str())
 }
 
 // The lane of a fiber, and how it ended.
-fn push_lane(
+fn push_lane<W: Wording>(
     alloc: Global,
     text: &mut String,
     scale: Scale,
     events: &[Event],
     fiber: usize,
+    wording: &W,
 ) -> Result<(), AllocError> {
     let mut lane = Lane::new(alloc, fiber, scale.at(birth(events, fiber)));
+    let mut words = String::new(alloc);
     for event in events {
         if usize::from(event.fiber) == fiber {
-            lane.push(text, scale, event)?;
+            words.clear();
+            wording.push_event(&mut words, event)?;
+            lane.push(text, scale, event, words.as_str())?;
         }
     }
     if lane.outcome.is_none() {

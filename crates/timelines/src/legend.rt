@@ -1,6 +1,6 @@
 //! The meanings of the shades, signs and arrows of a picture, and the numbers of the entries.
 
-use crate::scale::{BAR, LEFT, Scale, TOP};
+use crate::scale::{BAR, Scale, TOP};
 use crate::shapes::{Place, push_bar, push_counted, push_line, push_sign, push_words};
 use std::alloc::AllocError;
 
@@ -157,7 +157,7 @@ pub(crate) fn push_missing(text: &mut String, scale: Scale) -> Result<(), AllocE
         return Ok(());
     }
     let at = Place {
-        x: LEFT,
+        x: scale.left,
         y: scale.bottom(),
     };
     push_counted(text, "faint", at, "fibers without a lane: ", missing)

@@ -23,10 +23,13 @@ mod sights;
 mod style;
 mod timeline_order;
 mod timeline_rows;
+mod wording;
 mod words;
 
-pub use drawing::picture;
+pub use drawing::{drawn, picture};
 pub use explore_timelines::ExploreTimelineOrder;
 pub use picture_order::PictureOrder;
+pub use style::STYLE;
 pub use timeline_order::TimelineOrder;
 pub use timeline_rows::timeline;
+pub use wording::Wording;

@@ -2,7 +2,7 @@
 
 use fiber_events::Event;
 
-/// How far from the left the first entry is: behind the names of the fibers.
+/// How far from the left the first entry is at least.
 pub(crate) const LEFT: usize = 84;
 
 /// The distance of the first lane from the top.
@@ -30,6 +30,8 @@ pub(crate) struct Scale {
     pub(crate) entries: usize,
     /// The number of fibers that were started.
     pub(crate) born: usize,
+    /// How far from the left the first entry is: behind the names of the fibers.
+    pub(crate) left: usize,
 }
 
 impl Scale {
@@ -51,10 +53,11 @@ impl Scale {
     /// The distance of an entry from the left. The first entry is number 1; at 0 nothing has moved.
     pub(crate) fn at(self, entry: usize) -> usize {
         if self.entries <= ROOMY {
-            LEFT.saturating_add(entry.saturating_mul(STEP))
+            self.left.saturating_add(entry.saturating_mul(STEP))
         } else {
             let wide = entry.saturating_mul(ROOMY * STEP);
-            LEFT.saturating_add(wide.checked_div(self.entries).unwrap_or(0))
+            self.left
+                .saturating_add(wide.checked_div(self.entries).unwrap_or(0))
         }
     }
 
@@ -65,7 +68,7 @@ impl Scale {
 
     /// The distance of the end of the lanes from the left.
     pub(crate) fn right(self) -> usize {
-        LEFT.saturating_add(self.width()).saturating_add(STEP)
+        self.left.saturating_add(self.width()).saturating_add(STEP)
     }
 
     /// The distance of a fiber's bar from the top.

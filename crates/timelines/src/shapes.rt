@@ -1,7 +1,5 @@
 //! The shapes of a picture, each as one line of its text.
 
-use crate::words::push_event;
-use fiber_events::Event;
 use itoa::Buffer;
 use std::alloc::AllocError;
 
@@ -98,23 +96,21 @@ pub(crate) fn push_sign(
     text.push_str("/>\n")
 }
 
-/// A sign that stands for an event, whose words it shows to who points at it.
-pub(crate) fn push_event_sign(
+/// The end of a sign that stands for the event of an entry, whose words it shows to who points at it.
+pub(crate) fn push_title(text: &mut String, entry: usize, words: &str) -> Result<(), AllocError> {
+    push_number(text, "><title>", entry)?;
+    text.push_str(": ")?;
+    text.push_str(words)?;
+    text.push_str("</title></path>\n")
+}
+
+/// A sign up to the end of its opening tag.
+pub(crate) fn begin_sign(
     text: &mut String,
     class: &str,
     at: Place,
     drawing: &str,
-    event: &Event,
 ) -> Result<(), AllocError> {
-    begin_sign(text, class, at, drawing)?;
-    push_number(text, "><title>", event.entry)?;
-    text.push_str(": ")?;
-    push_event(text, event)?;
-    text.push_str("</title></path>\n")
-}
-
-// A sign up to the end of its opening tag.
-fn begin_sign(text: &mut String, class: &str, at: Place, drawing: &str) -> Result<(), AllocError> {
     text.push_str("<path class=\"")?;
     text.push_str(class)?;
     push_number(text, "\" d=\"M", at.x)?;

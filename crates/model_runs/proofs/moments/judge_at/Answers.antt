@@ -15,9 +15,11 @@ returns-clause-judged c = λ code k wanted words right there.
     let ends = c.args.ends.now in
     let at = c.met_number-met.result in
     let some = subst (λ (ms : List Met). IfSome at (IsMetAt ms c.args.number)) c.as_slice-2.ensures.value c.met_number-met.ensures.some in
-    let none = subst (λ (ms : List Met). IfNone at (IsFound c.args.number ms → ⊥)) c.as_slice-2.ensures.value c.met_number-met.ensures.none in
-    (moment_verdict claim.rule (has_fault ends.answers.items) (is_some at) ends.complete it.search.complete, cc,
-    judged code k wanted words it c.args.number right there claim.rule (has_fault ends.answers.items) ends.complete at some none)
+    let none = subst (λ (ms : List Met). IfNone at (IsFound c.args.number ms → ⊥)) c.as_slice-2.ensures.value c.met_number-met.ensures.none in (
+      moment_verdict claim.rule (has_fault ends.answers.items) (is_some at) ends.complete it.search.complete,
+      cc,
+      judged code k wanted words it c.args.number right there claim.rule (has_fault ends.answers.items) ends.complete at some none,
+    )
 
 pub returns-clause-shown : goal.returns-clause-shown
 returns-clause-shown c = λ code k wanted words right there.

@@ -12,6 +12,8 @@ returns-clause-none c =
 
 pub returns-then-met-number-clause-some : goal.returns-then-met-number-clause-some
 returns-then-met-number-clause-some c =
-    let met = c.args.met.now in
-    (get_or met c.loop-number.number c.index-met-number.result,
-    slice_get-get_or met c.loop-number.number c.index-met-number.result c.loop-number-test.true, c.if-met-number.true)
+    let met = c.args.met.now in (
+      get_or met c.loop-number.number c.index-met-number.result,
+      slice_get-get_or met c.loop-number.number c.index-met-number.result c.loop-number-test.true,
+      c.if-met-number.true,
+    )

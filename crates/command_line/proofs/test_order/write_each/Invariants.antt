@@ -1,5 +1,5 @@
 use Rattle.std.proofs.Common.{◌≡◌, false}
-use Rattle.command_line.proofs.test_order.write_tested.Given as goal
+use Rattle.command_line.proofs.test_order.write_each.Given as goal
 
 -- no write has failed so far
 abbrev pub invariant-loop-index : goal.invariant-loop-index

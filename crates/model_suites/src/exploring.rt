@@ -1,0 +1,144 @@
+//! The exploration of models, by one thread or several.
+
+ghost use Rattle.std.specs.Prelude.{◌≡◌, IfOk};
+ghost use Rattle.model_runs.specs.Verdicts.{worst};
+
+use crate::board::Board;
+use crate::suite::{Models, SuiteForm};
+use crate::tested::{Became, Explored, Tested};
+use model_runs::{ModelResult, SearchBounds, run_model};
+use model_terms::{Refused, Source};
+use model_text::Model;
+use std::alloc::{AllocError, Global};
+use std::sync::Wait;
+use std::thread;
+use std::thread::Threads;
+use std::time::{Clock, Instant};
+
+// What becomes of the model of this number.
+fn explore<C: Clock>(
+    clock: &C,
+    alloc: Global,
+    models: &Models<'_>,
+    index: usize,
+) -> Result<Became, AllocError> {
+    let Some(entry) = models.entries.get(index) else {
+        return Ok(Became::Listed);
+    };
+    let Some(file) = models.files.get(entry.file) else {
+        return Ok(Became::Listed);
+    };
+    let bounds = SearchBounds {
+        worlds: models.order.worlds as usize,
+        memory: models.order.memory as usize,
+    };
+    match models.order.form {
+        SuiteForm::List => Ok(Became::Listed),
+        SuiteForm::Report | SuiteForm::Json | SuiteForm::Tap => {
+            explore_model(clock, alloc, &file.source, &entry.model, bounds)
+        }
+    }
+}
+
+// Explores and judges a model.
+fn explore_model<C: Clock>(
+    clock: &C,
+    alloc: Global,
+    source: &Source,
+    model: &Model,
+    bounds: SearchBounds,
+) -> Result<Became, AllocError> {
+    let begun = Instant::now(clock).ok();
+    match run_model(alloc, source, model, bounds) {
+        Ok(result) => {
+            let milliseconds = milliseconds_since(clock, begun);
+            Ok(Became::Explored(explored(result, milliseconds)))
+        }
+        Err(Refused::NoMemory) => Err(AllocError),
+        Err(Refused::Fault(fault)) => Ok(Became::Refused(fault)),
+    }
+}
+
+// A model that was explored, in so many milliseconds.
+fn explored(found: ModelResult, milliseconds: u64) -> Explored
+    requires { found.verdict ≡ worst found.claims.items }
+{
+    Explored {
+        result: found,
+        milliseconds,
+    }
+}
+
+// How many milliseconds have passed; 0 where the clock fails.
+fn milliseconds_since<C: Clock>(clock: &C, begun: Option<Instant>) -> u64 {
+    let Some(begun) = begun else {
+        return 0;
+    };
+    match begun.elapsed(clock) {
+        Ok(time) => time
+            .as_secs()
+            .saturating_mul(1000)
+            .saturating_add(u64::from(time.subsec_millis())),
+        Err(_) => 0,
+    }
+}
+
+// Explores models that nobody explores yet, until there are none left.
+fn help<R: Clock + Wait>(rt: &R, alloc: Global, models: &Models<'_>, board: &Board) {
+    for _ in 0..models.entries.len() {
+        let Some(index) = board.claim() else {
+            return;
+        };
+        board.put(rt, index, explore(rt, alloc, models, index));
+    }
+}
+
+/// The same in so many threads. Where memory runs out, there are fewer.
+pub(crate) fn help_all<R: Clock + Threads + Wait + Sync>(
+    rt: &R,
+    alloc: Global,
+    models: &Models<'_>,
+    board: &Board,
+    threads: usize,
+) {
+    let _ = thread::map_indices(rt, alloc, threads, &|_| help(rt, alloc, models, board));
+}
+
+/// What became of the model of this number: taken from the board, or found by exploring. While another thread explores
+/// it, this one explores others, and then waits.
+pub(crate) fn tested_at<R: Clock + Wait>(
+    rt: &R,
+    alloc: Global,
+    models: &Models<'_>,
+    board: &Board,
+    index: usize,
+) -> Result<Tested, AllocError>
+    ensures { IfOk result (λ it. it.index ≡ index) }
+{
+    let became = became_at(rt, alloc, models, board, index)?;
+    Ok(Tested { index, became })
+}
+
+// The same without its number.
+fn became_at<R: Clock + Wait>(
+    rt: &R,
+    alloc: Global,
+    models: &Models<'_>,
+    board: &Board,
+    index: usize,
+) -> Result<Became, AllocError> {
+    for _ in 0..models.entries.len() {
+        if board.has(rt, index) {
+            return board.take(rt, index);
+        }
+        let Some(free) = board.claim() else {
+            return board.take(rt, index);
+        };
+        let found = explore(rt, alloc, models, free);
+        if free == index {
+            return found;
+        }
+        board.put(rt, free, found);
+    }
+    board.take(rt, index)
+}
