@@ -21,14 +21,14 @@ const RUN: &[&str] = &["fiber_cli", "run"];
 
 const RUN_WHY: &[&str] = &["fiber_cli", "run", "--explain"];
 
-// Tests of a file that has no models, by one thread and by several.
+// Tests of a file without models, on one thread and on several.
 const TEST_NOTHING: &[&str] = &["fiber_cli", "test", "--jobs", "1", "/dev/null"];
 
 const TEST_BESIDE: &[&str] = &["fiber_cli", "test", "--jobs", "3", "/dev/null"];
 
 const NOTHING_TESTED: &str = "0 models\n\n0 passed, 0 failed, 0 undecided\n";
 
-// The words of a replay whose schedule is the first line of the input.
+// A replay whose schedule is the first line of the input.
 const FROM_INPUT: &[&str] = &["fiber_cli", "replay", "--schedule", "-"];
 
 // A reader that gives one byte for each read, and fails after a number of bytes.
@@ -206,7 +206,7 @@ fn tells_failed_writers_of_tests(rt: HostRuntime) -> Result<(), Fail> {
     Ok(())
 }
 
-// Tests whose reports go to a full device, or to a file that can't be made.
+// Tests whose reports are written to a full device, or to a file that can't be created.
 const UNREPORTED: &[&[&str]] = &[
     &["fiber_cli", "test", "--junit", "/dev/full", "/dev/null"],
     &["fiber_cli", "test", "--html", "/dev/full", "/dev/null"],

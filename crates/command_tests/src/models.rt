@@ -3,10 +3,10 @@
 use crate::answers::expect;
 use std::alloc::AllocError;
 
-// What is told behind the reason why words give no request, or of a number that is none.
+// The text behind the reason why words give no request, or why a number isn't one.
 const BEHIND: &str = "\n\nFor more information, try '--help'.\n";
 
-// What is told of a file that there isn't.
+// The text for a file that doesn't exist.
 const NO_FILE: &str = "error[E00]: no-such-file: can't be read\n";
 
 const JOBS: &[&str] = &[

@@ -10,7 +10,7 @@ use crate::wording::{Numbered, Wording};
 use fiber_events::{Event, Told};
 use std::alloc::{AllocError, Global};
 
-// How wide a letter of a name is at most, but for a few.
+// The greatest width of a letter of a name, apart from a few letters.
 const LETTER: usize = 7;
 
 /// The picture of a replay: one SVG document, without scripts.
@@ -32,8 +32,8 @@ pub fn picture(alloc: Global, told: &Told) -> Result<String, AllocError> {
     Ok(text)
 }
 
-/// The picture of these events, of so many entries, as [`picture`] draws it, for a page that has its style ([`STYLE`],
-/// once, inside an `svg`), in these words. `AllocError` where memory runs out.
+/// The picture of these events, which are those of `entries` entries, as [`picture`] draws it, with this wording. The
+/// page has the style ([`STYLE`]) once, inside an `svg`. Returns `AllocError` if memory runs out.
 pub fn drawn<W: Wording>(
     alloc: Global,
     events: &[Event],
@@ -64,7 +64,7 @@ fn names_end<W: Wording>(alloc: Global, born: usize, wording: &W) -> Result<usiz
     Ok(widest)
 }
 
-// All that is drawn, and the end of the picture.
+// All shapes, and the end of the picture.
 fn push_shapes<W: Wording>(
     alloc: Global,
     text: &mut String,
@@ -81,7 +81,7 @@ fn push_shapes<W: Wording>(
     text.push_str("</svg>\n")
 }
 
-// What stands before the style: the size of the picture, and its title.
+// The text before the style: the size of the picture, and its title.
 fn push_head(alloc: Global, text: &mut String, scale: Scale) -> Result<(), AllocError> {
     let width = scale.right().saturating_add(200).max(WIDTH);
     let height = scale.bottom().saturating_add(20 + HEIGHT);

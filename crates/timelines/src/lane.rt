@@ -64,7 +64,7 @@ impl Lane {
         }
     }
 
-    /// One event of the fiber, of which these words are said, in the order of the entries.
+    /// Draws one event of the fiber, with these words, in the order of the entries.
     pub(crate) fn push(
         &mut self,
         text: &mut String,
@@ -199,7 +199,7 @@ impl Lane {
         self.push_sign(place, event, words)
     }
 
-    // The sign of an event, unless one stands there already.
+    // Draws the sign of an event, unless there is one at its place already.
     fn push_sign(&mut self, place: Place, event: &Event, words: &str) -> Result<(), AllocError> {
         let sign = sign_of(event);
         if place.x == self.signed && sign.class == "tick" {

@@ -42,7 +42,7 @@ fn push_name<W: Wording>(
     push_words(text, "name", at, name.as_str())
 }
 
-// The lane of a fiber, and how it ended.
+// The lane of a fiber, and its outcome.
 fn push_lane<W: Wording>(
     alloc: Global,
     text: &mut String,

@@ -2,7 +2,7 @@
 
 use fiber_events::Event;
 
-/// How far from the left the first entry is at least.
+/// The least distance of the first entry from the left.
 pub(crate) const LEFT: usize = 84;
 
 /// The distance of the first lane from the top.
@@ -30,7 +30,7 @@ pub(crate) struct Scale {
     pub(crate) entries: usize,
     /// The number of fibers that were started.
     pub(crate) born: usize,
-    /// How far from the left the first entry is: behind the names of the fibers.
+    /// The distance of the first entry from the left, behind the names of the fibers.
     pub(crate) left: usize,
 }
 

@@ -96,7 +96,7 @@ pub(crate) fn push_sign(
     text.push_str("/>\n")
 }
 
-/// The end of a sign that stands for the event of an entry, whose words it shows to who points at it.
+/// The end of the sign of an entry's event, with the words that it shows when the pointer is on it.
 pub(crate) fn push_title(text: &mut String, entry: usize, words: &str) -> Result<(), AllocError> {
     push_number(text, "><title>", entry)?;
     text.push_str(": ")?;

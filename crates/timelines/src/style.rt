@@ -1,7 +1,7 @@
 //! The style of a picture: its colours, for light and dark display.
 
-/// The style of the shapes, and what they are filled and headed with: elements of an `svg`, for a page with pictures
-/// that [`drawn`](crate::drawn) draws.
+/// The style, the fillings and the markers of the shapes: elements of an `svg`, for a page with pictures that
+/// [`drawn`](crate::drawn) draws.
 pub const STYLE: &str = "<style>\n\
 svg { --paper: #ffffff; --ink: #1c2128; --faint: #6b7480; --grid: #e4e7eb; --runs: #c9d3df; --masked: #7186b8; \
 --polled: #a5d6b7; --final: #e0a94f; --span: #3d5a99; --bad: #c03535; --good: #2c8554; \

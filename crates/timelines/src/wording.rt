@@ -5,17 +5,17 @@ use fiber_events::Event;
 use itoa::Buffer;
 use std::alloc::AllocError;
 
-/// What a picture calls fibers, and says of events. Its words are text of an XML document: where they have a character
-/// of markup, it is escaped.
+/// The names of fibers and the words for events in a picture. They are text of an XML document, in which characters of
+/// markup are escaped.
 pub trait Wording {
-    /// Writes what a fiber is called behind a text. `AllocError` where memory is refused.
+    /// Appends the name of a fiber to a text. Returns `AllocError` if memory is refused.
     fn push_fiber(&self, text: &mut String, fiber: usize) -> Result<(), AllocError>;
 
-    /// Writes what is said of an event behind a text. `AllocError` where memory is refused.
+    /// Appends the words for an event to a text. Returns `AllocError` if memory is refused.
     fn push_event(&self, text: &mut String, event: &Event) -> Result<(), AllocError>;
 }
 
-/// Fibers, refs and deferreds by their numbers.
+/// Names fibers, refs and deferreds by their numbers.
 #[derive(Clone, Copy, Debug)]
 pub(crate) struct Numbered;
 
