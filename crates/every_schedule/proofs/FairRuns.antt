@@ -56,18 +56,20 @@ forever code k stem cycle exit h = record {
   comes = here.1;
   unsettled = λ settled. h.leaves (subst (search.IsSettled stepped report_at) here.2 (settles_place k here.0 settled) exit);
   again = λ n. (
-    let to = at_place k (core code k (stem ++ repeated cycle n)) h.world (sym (core_run code k (stem ++ repeated cycle n)) ∙ led n) in
-    (to.0, to.1, same_world k (unnoted to.0) (unnoted here.0) (to.2 ∙ sym here.2))
-  );
+      let to = at_place k (core code k (stem ++ repeated cycle n)) h.world (sym (core_run code k (stem ++ repeated cycle n)) ∙ led n) in
+      (to.0, to.1, same_world k (unnoted to.0) (unnoted here.0) (to.2 ∙ sym here.2))
+      );
   fair = λ f. by f (h.fair f);
 }
   where
     here : (w : World) × (core code k stem ≡ Ok w) × ((let p : Place = record { limits = k; world = unnoted w } in p) ≡ h.world)
     here = at_place k (core code k stem) h.world (sym (core_run code k stem) ∙ h.comes)
+
     led : (n : ℕ) → search.run stepped (Ok (first_place code k)) (stem ++ repeated cycle n) ≡ Ok h.world
     led n =
         run-append stepped (Ok (first_place code k)) stem (repeated cycle n) ∙ ap (λ x. search.run stepped x (repeated cycle n)) h.comes ∙
         round cycle h.world h.returns n
+
     by : (f : ℕ) → IsIn f cycle ⊎ (stepped h.world f ≡ Ok h.world) →
         IsIn f cycle ⊎ ((v : World) → entered k (Ok here.0) f ≡ Ok v → unnoted v ≡ unnoted here.0)
     by f (inl there) = inl there

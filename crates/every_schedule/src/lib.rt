@@ -46,6 +46,6 @@ pub use claimed::search_claims;
 pub use claims::{Claim, ClaimWord, Comparison};
 pub use exploration::{Answer, Answers, Exploration, Schedule};
 pub use explored::{explore, explore_full, explore_watched};
-pub use fair_ends::{Cycle, Ending};
 pub use fair_endings::explore_ends;
+pub use fair_ends::{Cycle, Ending};
 pub use world_search::{Bounds, Claimed, Met, Watcher};

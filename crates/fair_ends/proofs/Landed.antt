@@ -52,6 +52,7 @@ module _ {W E : Type 0} (step : W → ℕ → Result W E) (most : ℕ) (ws : Lis
       past : length row.targets.items ≤ f → LandsOn step most ws u (step x f)
       past over =
           subst (LandsOn step most ws u) (sym ((rows x on.0).rests f over)) (subst (λ k. LandsOn step most ws k (Ok x)) (sym (rests over)) on)
+
       by : (f ≡ length row.targets.items) ⊎ ((f < length row.targets.items) ⊎ (length row.targets.items < f)) → LandsOn step most ws u (step x f)
       by (inl same) = past (omega arith)
       by (inr (inl less)) = (rows x on.0).lands f u (born less)

@@ -27,6 +27,7 @@ module _ {W E R : Type 0} (step : W → ℕ → Result W E) (report : W → R) (
       past f over =
           subst (Leads step report most ws ranks a f w) (sym (row_is.rests f over))
           (stays_by a.quiet i a f w refl at there (λ q same. let low = helped q in omega arith))
+
       by : (f : ℕ) → (f ≡ length row.targets.items) ⊎ ((f < length row.targets.items) ⊎ (length row.targets.items < f)) →
           Leads step report most ws ranks a f w (step w f)
       by f (inl same) = past f (omega arith)

@@ -79,7 +79,5 @@ fn falls(rank: Rank, fiber: usize, next: Rank) -> bool
     ensures { result ≡ true → Falls rank fiber next }
 {
     next.rank < rank.rank
-        || next.rank == rank.rank
-            && next.helper == rank.helper
-            && fiber != usize::from(rank.helper)
+        || next.rank == rank.rank && next.helper == rank.helper && fiber != usize::from(rank.helper)
 }

@@ -83,7 +83,11 @@ fn exit_of<W: Worlds>(
 }
 
 // A schedule, and the entry behind it that changes the report or ends in a fault.
-fn with_exit<W: Worlds>(worlds: &W, rows: &[Row], found: Path) -> Result<Option<Vec<u16>>, AllocError> {
+fn with_exit<W: Worlds>(
+    worlds: &W,
+    rows: &[Row],
+    found: Path,
+) -> Result<Option<Vec<u16>>, AllocError> {
     let Path { mut schedule, end } = found;
     match first_exit(worlds, rows, end) {
         None => Ok(None),
@@ -137,7 +141,13 @@ fn round(
         }
         fiber = fiber.saturating_add(1);
     }
-    match shortest(alloc, rows, inside, at, goal_at(alloc, rows.len(), begins)?.as_slice())? {
+    match shortest(
+        alloc,
+        rows,
+        inside,
+        at,
+        goal_at(alloc, rows.len(), begins)?.as_slice(),
+    )? {
         None => Ok(None),
         Some(found) => {
             append(&mut cycle, found.schedule.as_slice())?;

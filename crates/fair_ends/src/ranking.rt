@@ -37,7 +37,15 @@ pub fn rank_all<W: Worlds>(
     let mut start = 0;
     for end in 1..members.len().saturating_add(1) {
         if component_at(members.as_slice(), end) != component_at(members.as_slice(), start) {
-            rank_one(worlds, rows, components, members.as_slice(), start, end, &mut ranking);
+            rank_one(
+                worlds,
+                rows,
+                components,
+                members.as_slice(),
+                start,
+                end,
+                &mut ranking,
+            );
             start = end;
         }
     }
