@@ -1,14 +1,14 @@
 -- Where worlds have ranks, each fair schedule leads to an answer.
-use Rattle.std.proofs.Common.{◌≡◌, ◌≢◌, ℕ, zero, suc, ◌+◌, ◌-◌, ◌<◌, ◌≤◌, Bool, true, false, List, [], ◌∷◌, ◌++◌, length, Some, Result}
+use Rattle.std.proofs.Common.{◌≡◌, ◌≢◌, ℕ, zero, suc, ◌+◌, ◌-◌, ◌<◌, ◌≤◌, Bool, true, false, List, [], ◌∷◌, length, Some, Result}
 use Rattle.std.proofs.Common.{Ok, Err, refl, sym, ap, ◌∙◌, subst, arith}
 use Rattle.std.specs.List.{slice_get}
-use mathlib.Core.Logic.{◌⊎◌, inl, inr}
+use mathlib.Core.Logic.{inl, inr}
 use Rattle.world_search.specs.Systems.{run, IsSettled}
 use Rattle.world_search.proofs.Closed.{StaysIn, run-append, settled}
 use Rattle.world_search.proofs.Lists.{get_low}
 use Rattle.fair_ends.specs.declared.rank.Rank.{Rank}
 use Rattle.fair_ends.specs.Fair.{first_of, IsFair, IsAnswer, EndsUnder}
-use Rattle.fair_ends.specs.Private.Ranks.{Falls, Passes, Leads, IsRanked, AreRanked}
+use Rattle.fair_ends.specs.Private.Ranks.{Leads, AreRanked}
 
 module _ {W E R : Type 0} (step : W → ℕ → Result W E) (report : W → R) (most : ℕ) (ws : List W) (ranks : List Rank)
     (ranked : AreRanked step report most ws ranks) where

@@ -1,11 +1,11 @@
 -- Ranks of worlds, from the rows of a table.
-use Rattle.std.proofs.Common.{◌≡◌, ◌≢◌, ℕ, ◌+◌, ◌<◌, ◌≤◌, Bool, true, false, List, length, Some, Result, Ok, Err, refl, sym, ◌∙◌, subst, arith}
+use Rattle.std.proofs.Common.{◌≡◌, ◌≢◌, ℕ, ◌<◌, ◌≤◌, Bool, true, false, List, length, Some, Result, Ok, refl, sym, subst, arith}
 use Rattle.std.specs.List.{slice_get}
 use Rattle.std.proofs.lemmas.Bool.{cases_order}
 use mathlib.Core.Logic.{◌⊎◌, inl, inr}
 use Rattle.fair_ends.specs.declared.rank.Rank.{Rank}
 use Rattle.fair_ends.specs.declared.table.Row.{Row}
-use Rattle.fair_ends.specs.Private.Ranks.{Leads, Passes, IsRanked}
+use Rattle.fair_ends.specs.Private.Ranks.{Leads, IsRanked}
 use Rattle.fair_ends.specs.Private.Tables.{IsRow}
 
 module _ {W E R : Type 0} (step : W → ℕ → Result W E) (report : W → R) (most : ℕ) (ws : List W) (ranks : List Rank) where

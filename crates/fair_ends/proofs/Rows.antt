@@ -1,8 +1,8 @@
 -- Rows of a table, as worlds are added.
-use Rattle.std.proofs.Common.{◌≡◌, ℕ, ◌+◌, ◌<◌, ◌≤◌, List, [], ◌∷◌, ◌++◌, length, Some, Result, Ok, Err, refl, sym, ap, ◌∙◌, subst, arith, length-append}
+use Rattle.std.proofs.Common.{◌≡◌, ℕ, ◌+◌, ◌<◌, ◌≤◌, List, [], ◌∷◌, ◌++◌, length, Some, Result, Ok, Err, sym, ◌∙◌, subst, arith, length-append}
 use Rattle.std.specs.List.{slice_get}
-use mathlib.Core.Logic.{◌⊎◌, inl, inr}
-use Rattle.world_search.specs.Landings.{EntersAt, LandsAt}
+use mathlib.Core.Logic.{inl, inr}
+use Rattle.world_search.specs.Landings.{EntersAt}
 use Rattle.world_search.specs.declared.landings.Landing.TheVariants as to
 use Rattle.world_search.specs.declared.landings.Entered.{Entered}
 use Rattle.world_search.specs.declared.landings.Entered.TheVariants as came
@@ -10,7 +10,7 @@ use Rattle.world_search.specs.Lists.{IsMore}
 use Rattle.std.proofs.lemmas.Option.{slice_get_within}
 use Rattle.world_search.proofs.Lists.{get_end, more_back, more_get}
 use Rattle.fair_ends.specs.declared.table.Row.{Row}
-use Rattle.fair_ends.specs.Private.Tables.{fault, IsTarget, LandsOn, AreTargets, IsRow, AreRows}
+use Rattle.fair_ends.specs.Private.Tables.{IsTarget, LandsOn, AreTargets, IsRow, AreRows}
 
 module _ {W E : Type 0} (step : W → ℕ → Result W E) (most : ℕ) where
   pub lands_on : (ws : List W) (es : List E) (it : Entered) (t : ℕ) (y : Result W E) → IsTarget it t → EntersAt ws es it y → LandsOn step most ws t y

@@ -1,4 +1,4 @@
-use Rattle.std.proofs.Common.{◌≡◌, ℕ, Result, Ok, Err}
+use Rattle.std.proofs.Common.{Result, Ok, Err}
 use Rattle.std.specs.Prelude.{IfOk}
 use Rattle.world_search.proofs.Lists.{more_get}
 use Rattle.fair_ends.proofs.deciding.decide_ends.Goals as goal

@@ -1,5 +1,4 @@
-use Rattle.std.proofs.Common.{◌≡◌, ◌<◌, length, arith}
-use Rattle.fair_ends.specs.declared.rank.Rank.{Rank}
+use Rattle.std.proofs.Common.{arith}
 use Rattle.fair_ends.proofs.Fairly.{all_end}
 use Rattle.fair_ends.proofs.deciding.judge.Goals as goal
 

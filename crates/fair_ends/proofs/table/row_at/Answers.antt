@@ -1,6 +1,4 @@
-use Rattle.std.proofs.Common.{◌≡◌, ℕ, ◌+◌, ◌<◌, ◌≤◌, List, ◌++◌, [], ◌∷◌, sym, subst, arith, length}
-use Rattle.std.specs.Prelude.{Some}
-use Rattle.std.specs.List.{slice_get}
+use Rattle.std.proofs.Common.{ℕ, ◌+◌, List, sym, subst, arith}
 use Rattle.world_search.proofs.Lists.{more_back, more_long, more_more}
 use Rattle.fair_ends.specs.Private.Tables.{AreTargets}
 use Rattle.fair_ends.proofs.Rows.{lands_on, row_of, targets_more, targets_next}

@@ -1,4 +1,4 @@
-use Rattle.std.proofs.Common.{◌≡◌, ℕ, ◌≤◌, ◌<◌, Some, length}
+use Rattle.std.proofs.Common.{◌≡◌, ◌<◌, Some, length}
 use Rattle.std.specs.List.{slice_get}
 use Rattle.world_search.specs.Lists.{IsMore}
 use Rattle.fair_ends.specs.Private.Tables.{AreTargets}

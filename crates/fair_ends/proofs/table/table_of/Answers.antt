@@ -1,4 +1,4 @@
-use Rattle.std.proofs.Common.{◌≡◌, ℕ, ◌+◌, ◌<◌, ◌≤◌, List, ◌++◌, [], ◌∷◌, sym, ap, ◌∙◌, subst, arith, length, length-append}
+use Rattle.std.proofs.Common.{◌≡◌, ℕ, List, [], ◌∷◌, sym, ap, subst, arith, length, length-append}
 use Rattle.std.specs.Prelude.{Some, Option, IfSome}
 use Rattle.std.specs.List.{slice_get}
 use Rattle.world_search.proofs.Lists.{more_long, more_more}

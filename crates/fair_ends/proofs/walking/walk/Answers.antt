@@ -1,4 +1,4 @@
-use Rattle.std.proofs.Common.{◌≡◌, ℕ, ◌+◌, ◌<◌, ◌≤◌, get_or, take, sym, ap, refl, subst, arith, length, Ok}
+use Rattle.std.proofs.Common.{◌≤◌, get_or, take, refl, subst, arith, length, Ok}
 use Rattle.std.proofs.lemmas.List.{take_all}
 use Rattle.world_search.specs.Systems.{run}
 use Rattle.fair_ends.specs.Private.Tables.{LandsOn}
