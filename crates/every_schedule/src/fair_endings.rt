@@ -18,8 +18,8 @@ use world_search::{Bounds, Watcher};
 /// fault.
 ///
 /// A schedule has no end here. It is fair if each fiber has an entry again and again; an entry of a fiber that waits or
-/// has ended changes nothing. So this tells a livelock from a deadlock: under a livelock some fair schedule goes on for
-/// ever, and a deadlock is an answer.
+/// has ended changes nothing. A deadlock is an answer, and so is a loop whose report no entry can change. No answer is
+/// a loop that an entry at the right moment would end, if a fair schedule can miss that moment for ever.
 ///
 /// [`Ending::Repeats`] has the entries that lead to a cycle, and those of the cycle: `replay` takes the first, and behind
 /// them the others as often as one likes. Each entry of each fiber is made alone, without the reduction of
@@ -28,9 +28,9 @@ use world_search::{Bounds, Watcher};
 /// [`RunError::NoMemory`] is the only error.
 ///
 /// ```
-/// let program = Program::check(alloc, parse(alloc, b"(forever (cede))")?)?;
+/// let program = Program::check(alloc, parse(alloc, b"(race (pure 4) (never))")?)?;
 /// let ending = explore_ends(alloc, &program, limits, bounds, &mut Unwatched)?;
-/// assert!(matches!(ending, Ending::Repeats(_)));
+/// assert!(matches!(ending, Ending::Ends));
 /// ```
 pub fn explore_ends<V: Watcher>(
     alloc: Global,
