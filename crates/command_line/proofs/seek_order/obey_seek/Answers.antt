@@ -9,3 +9,9 @@ returns-then-json-clause-ends g c =
 pub returns-else-json-clause-ends : goal.returns-else-json-clause-ends
 returns-else-json-clause-ends g c =
     noted_ends _ _ _ c.args.seeking.explain _ _ _ (seek_ends false c.args.seeking.order) c.obey_noted-else-json.ensures
+
+pub returns-then-json-clause-obeyed : goal.returns-then-json-clause-obeyed
+returns-then-json-clause-obeyed g c = rw c.if-json.true c.obey_noted.ensures
+
+pub returns-else-json-clause-obeyed : goal.returns-else-json-clause-obeyed
+returns-else-json-clause-obeyed g c = rw c.if-json.false c.obey_noted-else-json.ensures
