@@ -45,13 +45,7 @@ const APART: &[(&[&str], &str, &str)] = &[
         "explain",
     ),
     (
-        &[
-            "fiber_cli",
-            "explore",
-            "--explain",
-            "--json",
-            "--progress",
-        ],
+        &["fiber_cli", "explore", "--explain", "--json", "--progress"],
         "progress",
         "explain",
     ),

@@ -269,7 +269,8 @@ pub const MEMORY: &str = "At how many bytes of memory the search stops, by an es
 
 pub const ENTRIES: &str = "How many entries a schedule has at most, 1 to 1000000 [default: 10000]";
 
-pub const SECONDS: &str = "After how many seconds the search stops, 1 to 1000000000 [default: no such
+pub const SECONDS: &str =
+    "After how many seconds the search stops, 1 to 1000000000 [default: no such
 bound]";
 
 pub const WANT: &str = "An outcome of fiber 0 that is wanted, as a report spells it:

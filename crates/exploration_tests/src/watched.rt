@@ -90,16 +90,33 @@ fn failing() -> Steps {
     }
 }
 
-// A watcher that ends the search when it is asked for the time of this number, and keeps what it heard last.
+/// A watcher that ends the search when it is asked for the time of this number, and keeps what it heard last.
 #[derive(Drop)]
-struct Ends {
+pub struct Ends {
     most: usize,
     asked: usize,
     heard: (usize, usize),
 }
 
+impl Ends {
+    /// One that is asked this number of times.
+    pub fn new(most: usize) -> Ends {
+        Ends {
+            most,
+            asked: 0,
+            heard: (0, 0),
+        }
+    }
+
+    /// How often it was asked.
+    pub fn asked(&self) -> usize {
+        self.asked
+    }
+}
+
 impl Watcher for Ends {
     ghost can_stop = { λ it. true };
+
     ghost has_stopped = { λ it. true };
 
     fn goes_on(&mut self, worlds: usize, depth: usize) -> bool {
@@ -201,7 +218,10 @@ fn an_exploration_ends_when_its_time_is_over(rt: HostRuntime) {
     let mut out = Vec::new(rt.alloc());
     let mut err = Vec::new(rt.alloc());
     let status = watched(rt.alloc(), LONG, &steps(15), Some(2), &mut out, &mut err);
-    assert_eq!(rt; (status, err.as_slice()), (Status::Unended, TOLD_IN_TIME.as_bytes()));
+    assert_eq!(rt;
+        (status, err.as_slice()),
+        (Status::Unended, TOLD_IN_TIME.as_bytes())
+    );
     assert!(rt; out.as_slice().starts_with(OUT_OF_TIME.as_bytes()));
 }
 
@@ -242,14 +262,16 @@ fn found_while<V: Watcher>(alloc: Global, watcher: &mut V) -> Result<Exploration
 #[test]
 fn a_watcher_ends_the_search(rt: HostRuntime) -> Result<(), Fail> {
     for most in [1, 3, 205] {
-        let mut ends = Ends {
-            most,
-            asked: 0,
-            heard: (0, 0),
-        };
+        let mut ends = Ends::new(most);
         let found = found_while(rt.alloc(), &mut ends)?;
-        assert_eq!(rt; (found.complete, found.halted, found.worlds), (false, true, most * 100));
-        assert_eq!(rt; (ends.asked, ends.heard), (most, (most * 100, most * 100 - 1)));
+        assert_eq!(rt;
+            (found.complete, found.halted, found.worlds),
+            (false, true, most * 100)
+        );
+        assert_eq!(rt;
+            (ends.asked(), ends.heard),
+            (most, (most * 100, most * 100 - 1))
+        );
     }
     Ok(())
 }
@@ -257,9 +279,15 @@ fn a_watcher_ends_the_search(rt: HostRuntime) -> Result<(), Fail> {
 #[test]
 fn a_search_that_nobody_ends_goes_on_to_its_bound(rt: HostRuntime) -> Result<(), Fail> {
     let found = found_while(rt.alloc(), &mut Unwatched)?;
-    assert_eq!(rt; (found.complete, found.halted, found.worlds), (false, false, 20_500));
+    assert_eq!(rt;
+        (found.complete, found.halted, found.worlds),
+        (false, false, 20_500)
+    );
     let clock = steps(1000);
     let found = found_while(rt.alloc(), &mut TimeLimit::new(&clock, None))?;
-    assert_eq!(rt; (found.complete, found.halted, found.worlds), (false, false, 20_500));
+    assert_eq!(rt;
+        (found.complete, found.halted, found.worlds),
+        (false, false, 20_500)
+    );
     Ok(())
 }

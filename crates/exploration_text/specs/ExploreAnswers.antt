@@ -19,17 +19,18 @@ use Rattle.exploration_text.specs.ExplorationText.{IsExplorationText, exploratio
 -- An exploration of code under these limits, within these bounds, whose time was limited or wasn't. Where it is
 -- complete, the end of every schedule is listed. Where it isn't, a bound was met, or its time was over, which it says.
 -- Each answer is the end of its schedule, and no end is listed twice.
-pub record IsExplorationOf (code : Tree) (limits : Limits) (bounds : Bounds) (timed : Bool) (e : Exploration) : Type 0
-where
-  pub all : e.complete ≡ true → (schedule : List ℕ) → IsCovered limits e.answers (core code limits schedule)
-  pub each : All (IsReached code limits) e.answers
-  pub once : ListOnce e.answers
-  pub stopped : e.complete ≡ false → e.halted ≡ false →
-      IsAtBound bounds e.worlds e.bytes ⊎ IsPastBound code limits bounds.entries e.answers
-  pub halted : e.halted ≡ true → timed ≡ true
-  pub room : e.worlds ≤ max bounds.worlds 1
-  pub spare : e.complete ≡ true → e.bytes < bounds.memory
-  pub short : All (λ a. length a.schedule ≤ bounds.entries) e.answers
+pub record IsExplorationOf (code : Tree) (limits : Limits) (bounds : Bounds) (timed : Bool) (e : Exploration)
+    : Type 0
+  where
+    pub all : e.complete ≡ true → (schedule : List ℕ) → IsCovered limits e.answers (core code limits schedule)
+    pub each : All (IsReached code limits) e.answers
+    pub once : ListOnce e.answers
+    pub stopped : e.complete ≡ false → e.halted ≡ false →
+        IsAtBound bounds e.worlds e.bytes ⊎ IsPastBound code limits bounds.entries e.answers
+    pub halted : e.halted ≡ true → timed ≡ true
+    pub room : e.worlds ≤ max bounds.worlds 1
+    pub spare : e.complete ≡ true → e.bytes < bounds.memory
+    pub short : All (λ a. length a.schedule ≤ bounds.entries) e.answers
 
 -- the text and the status of an exploration of the program within the bounds, whose time was limited or wasn't
 pub record IsExploredAnswer (t : Term) (limits : Limits) (bounds : Bounds) (timed : Bool) (wants : List Want)

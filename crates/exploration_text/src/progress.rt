@@ -53,6 +53,7 @@ impl<'c, 'e, C: Clock, E: TextOut> Progress<'c, 'e, C, E> {
 
 impl<'c, 'e, C: Clock, E: TextOut> Watcher for Progress<'c, 'e, C, E> {
     ghost can_stop = { λ it. is_some it.limit.seconds };
+
     ghost has_stopped = { λ it. it.limit.stopped };
 
     fn goes_on(&mut self, worlds: usize, depth: usize) -> bool {

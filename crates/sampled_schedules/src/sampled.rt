@@ -61,15 +61,7 @@ pub fn sample(
     ensures lawful { IfOk result (λ it. All (λ c. HasLawfulMarks c.answer) it.comings) }
     ensures memory { IfErr result (λ e. e ≡ RunError.NoMemory) }
 {
-    sample_watched(
-        alloc,
-        program,
-        limits,
-        seed,
-        times,
-        entries,
-        &mut Unwatched,
-    )
+    sample_watched(alloc, program, limits, seed, times, entries, &mut Unwatched)
 }
 
 /// The same ([`sample`]), while it is watched: the watcher hears before each schedule how many were drawn, and can end

@@ -57,6 +57,7 @@ impl<'c, C: Clock> TimeLimit<'c, C> {
 
 impl<'c, C: Clock> Watcher for TimeLimit<'c, C> {
     ghost can_stop = { λ it. is_some it.seconds };
+
     ghost has_stopped = { λ it. it.stopped };
 
     fn goes_on(&mut self, _worlds: usize, _depth: usize) -> bool {

@@ -23,6 +23,7 @@ pub struct Unwatched;
 
 impl Watcher for Unwatched {
     ghost can_stop = { λ it. false };
+
     ghost has_stopped = { λ it. false };
 
     fn goes_on(&mut self, _worlds: usize, _depth: usize) -> bool {
