@@ -41,13 +41,13 @@ fn ran<V: Watcher>(alloc: Global, watcher: &mut V) -> Result<ModelResult, Fail> 
 // What was found of the only term of a model, and its verdict.
 fn expect<R: Abort + AllocGlobal>(
     rt: &R,
-    result: &ModelResult,
+    became: &ModelResult,
     halted: bool,
     worlds: usize,
     sampled: u32,
 ) {
-    assert!(rt; result.verdict == Verdict::Undecided);
-    for search in result.searches.iter() {
+    assert!(rt; became.verdict == Verdict::Undecided);
+    for search in became.searches.iter() {
         assert_eq!(rt;
             (
                 search.complete,
@@ -58,7 +58,7 @@ fn expect<R: Abort + AllocGlobal>(
             (false, halted, worlds, sampled)
         );
     }
-    assert_eq!(rt; result.searches.len(), 1);
+    assert_eq!(rt; became.searches.len(), 1);
 }
 
 // The watcher is asked at each hundredth world. So it ends the search at a hundred worlds, and is asked once more, before
