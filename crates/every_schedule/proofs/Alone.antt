@@ -17,7 +17,7 @@ use Rattle.scheduled_core.specs.Fitting.{AllFit, given_by}
 use Rattle.every_schedule.specs.Reduced.{IsNamed, is_another, is_kept, is_left_alone, keeps, next_of, others}
 use Rattle.every_schedule.proofs.OwnKept.{and_true, ask_for, asked_so, same_not}
 
-drop_suc : (gs : List Fiber) (i : ℕ) (b : Fiber) → slice_get gs i ≡ Some b → drop i gs ≡ b ∷ drop (suc i) gs
+pub drop_suc : (gs : List Fiber) (i : ℕ) (b : Fiber) → slice_get gs i ≡ Some b → drop i gs ≡ b ∷ drop (suc i) gs
 drop_suc [] i b e = absurd (cc)
 drop_suc (x ∷ gs) zero b e = let same : x ≡ b = cc in ap (λ (y : Fiber). y ∷ gs) same
 drop_suc (x ∷ gs) (suc i) b e = drop_suc gs i b e

@@ -14,6 +14,8 @@ pub mod Commuting
 pub mod Growing
 pub mod Bare
 pub mod Still
+pub mod Standstills
+pub mod Steady
 pub mod Leaps
 pub mod Trails
 pub mod PastBound

@@ -12,10 +12,13 @@ use Rattle.scheduled_core.specs.Core.{World, core, entered, first_world}
 use Rattle.world_search.specs.Systems.{run}
 use Rattle.world_search.proofs.Free.{run_fault}
 use Rattle.every_schedule.specs.declared.claims.ClaimWord.{ClaimWord}
-use Rattle.every_schedule.specs.declared.claims.ClaimWord.TheVariants.{Compare, Not, And, Or}
-use Rattle.every_schedule.specs.Claims.{Compares, Meets, View, WasSet, are_seen, first_view, has, holds, is_met, is_seen, last_of, noted, seeing, stored_by, viewed, worded}
+use Rattle.every_schedule.specs.declared.claims.ClaimWord.TheVariants.{Compare, Deadlock, Left, Not, And, Or}
+use Rattle.every_schedule.specs.declared.standstill.Standstill.{Standstill}
+use Rattle.every_schedule.specs.Claims.{Compares, Meets, View, WasSet, are_seen, first_view, has, holds, is_seen, last_of, noted, seeing, stored_by, viewed, worded}
 use Rattle.every_schedule.specs.Places.{Place, bare, bared, first_place, placed, stepped, unnoted}
+use Rattle.every_schedule.specs.Private.Standstills.{is_met, standstill_of}
 use Rattle.every_schedule.proofs.Bare.{bare_step}
+use Rattle.every_schedule.proofs.Standstills.{standstill_bare, stands_alike, stands_so}
 use Rattle.every_schedule.proofs.Placed.{first_bare}
 use Rattle.every_schedule.proofs.OwnKept.{and_true, or_second}
 
@@ -51,6 +54,8 @@ refs_seen seen words h = all_if (is_seen seen) words by
   where
     by : (i : ℕ) (word : ClaimWord) → slice_get words i ≡ Some word → is_seen seen word ≡ true
     by i (Compare r how v) at = h r (i, how, v, at)
+    by i Deadlock at = refl
+    by i Left at = refl
     by i Not at = refl
     by i And at = refl
     by i Or at = refl
@@ -104,19 +109,27 @@ noted_back r seen (Some n) h = by (has n seen) h
     by false e = elim (has_back r n seen e) [ inl before ↦ inl before | inr is ↦ inr (ap Some is) ]
 
 -- ---- the values of refs, without the notes of joins
-worded_bare : (s : Cells) (stack : List Bool) (word : ClaimWord) → worded (without_waits s) stack word ≡ worded s stack word
-worded_bare s stack (Compare r how v) = refl
-worded_bare s stack Not = refl
-worded_bare s stack And = refl
-worded_bare s stack Or = refl
+worded_bare : (t : Standstill) (s : Cells) (stack : List Bool) (word : ClaimWord) → worded t (without_waits s) stack word ≡ worded t s stack word
+worded_bare t s stack (Compare r how v) = refl
+worded_bare t s stack Deadlock = refl
+worded_bare t s stack Left = refl
+worded_bare t s stack Not = refl
+worded_bare t s stack And = refl
+worded_bare t s stack Or = refl
 
-words_bare : (s : Cells) (words : List ClaimWord) (stack : List Bool) → fold (worded (without_waits s)) stack words ≡ fold (worded s) stack words
-words_bare s [] stack = refl
-words_bare s (word ∷ words) stack =
-    ap (λ t. fold (worded (without_waits s)) t words) (worded_bare s stack word) ∙ words_bare s words (worded s stack word)
+words_bare : (t : Standstill) (s : Cells) (words : List ClaimWord) (stack : List Bool) →
+    fold (worded t (without_waits s)) stack words ≡ fold (worded t s) stack words
+words_bare t s [] stack = refl
+words_bare t s (word ∷ words) stack =
+    ap (λ l. fold (worded t (without_waits s)) l words) (worded_bare t s stack word) ∙ words_bare t s words (worded t s stack word)
 
-holds_bare : (s : Cells) (words : List ClaimWord) → holds (without_waits s) words ≡ holds s words
-holds_bare s words = ap last_of (words_bare s words [])
+-- the truth of words in a world
+abbrev true_in : World → List ClaimWord → Bool
+true_in w words = holds (standstill_of w) w.cells words
+
+holds_bare : (w : World) (words : List ClaimWord) → true_in (unnoted w) words ≡ true_in w words
+holds_bare w words =
+    ap (λ t. holds t (without_waits w.cells) words) (standstill_bare w) ∙ ap last_of (words_bare (standstill_of w) w.cells words [])
 
 -- ---- where entries lead
 core_fault : (k : Limits) (e : RunError) (s : List ℕ) → fold (entered k) (Err e) s ≡ Err e
@@ -216,12 +229,14 @@ module _ (code : Tree) (k : Limits) (words : List ClaimWord) where
   unfolding core
   met_core s u led met =
       let c = sound k s (first_world code k) [] u (ap (λ v. run (viewed stepped) (Ok v) s) (sym first_same) ∙ led) in
-      let both = two_true (are_seen u.seen words) (holds u.place.world.cells words) met in
+      let both = two_true (are_seen u.seen words) (true_in u.place.world words) met in
       record {
         world = c.world;
         leads = c.led;
         set = λ r is. elim (c.set r (seen_refs u.seen words both.0 r is)) [ inl none ↦ absurd (cc) | inr set ↦ set ];
-        truth = sym (holds_bare c.world.cells words) ∙ ap (λ (p : Place). holds p.world.cells words) (sym c.place) ∙ both.1;
+        standstill = standstill_of c.world;
+        stands = stands_so c.world;
+        truth = sym (holds_bare c.world words) ∙ ap (λ (p : Place). true_in p.world words) (sym c.place) ∙ both.1;
       }
 
   pub core_met : (s : List ℕ) → Meets code k words s →
@@ -232,7 +247,8 @@ module _ (code : Tree) (k : Limits) (words : List ClaimWord) where
       (
         l.0,
         ap (λ v. run (viewed stepped) (Ok v) s) first_same ∙ l.1,
-        and_true (are_seen l.0.seen words) (holds l.0.place.world.cells words)
+        and_true (are_seen l.0.seen words) (true_in l.0.place.world words)
             (refs_seen l.0.seen words (λ r is. l.3 r (inr (h.set r is))))
-            (ap (λ (p : Place). holds p.world.cells words) l.2 ∙ holds_bare h.world.cells words ∙ h.truth),
+            (ap (λ (p : Place). true_in p.world words) l.2 ∙ holds_bare h.world words ∙
+            ap (λ t. holds t h.world.cells words) (stands_alike h.world (standstill_of h.world) h.standstill (stands_so h.world) h.stands) ∙ h.truth),
       )

@@ -21,14 +21,19 @@ use Rattle.world_search.specs.Free.Leads.{Here, On}
 use Rattle.world_search.specs.Systems.{run}
 use Rattle.world_search.proofs.Views.{unmet_up}
 use Rattle.every_schedule.specs.declared.claims.ClaimWord.{ClaimWord}
-use Rattle.every_schedule.specs.declared.claims.ClaimWord.TheVariants.{Compare, Not, And, Or}
-use Rattle.every_schedule.specs.Claims.{View, are_seen, holds, is_met, last_of, noted, seeing, stored_by, stored_in, viewed, worded}
+use Rattle.every_schedule.specs.declared.claims.ClaimWord.TheVariants.{Compare, Deadlock, Left, Not, And, Or}
+use Rattle.every_schedule.specs.declared.standstill.Standstill.{Standstill}
+use Rattle.every_schedule.specs.Claims.{View, are_seen, holds, last_of, noted, seeing, stored_by, stored_in, viewed, worded}
 use Rattle.every_schedule.specs.Places.{Place, bare, placed, stepped}
 use Rattle.every_schedule.specs.Reduced.{MayOwn, has_own, hundred_still, is_own, is_own_call, leapt, may_be}
+use Rattle.every_schedule.specs.Private.Standstills.{is_met, is_steady, standstill_of}
 use Rattle.every_schedule.proofs.Bare.{Enters, enters, unborn_stays}
 use Rattle.every_schedule.proofs.Bare.Enters.{Stays, Goes}
 use Rattle.every_schedule.proofs.Leaps.{leaps}
-use Rattle.every_schedule.proofs.Still.{may_are_free, other_stays}
+use Rattle.every_schedule.proofs.OwnKept.{and_true}
+use Rattle.every_schedule.proofs.Standstills.{standstill_stays}
+use Rattle.every_schedule.proofs.Steady.{holds_more}
+use Rattle.every_schedule.proofs.Still.{may_are_free, other_stays, two_true}
 
 -- ---- own moves start no fiber
 no_child : (w : World) (f : ℕ) (b : Fiber) (d : Call) (q : Reply) → is_own_call w f d ≡ true → born b d q ≡ []
@@ -119,19 +124,21 @@ refs_stay p q f still e = elim (enters p f q e) [
 ]
 
 -- the truth of words is one of the values of refs
-worded_refs : (s t : Cells) → s.refs ≡ t.refs → (stack : List Bool) (word : ClaimWord) → worded s stack word ≡ worded t stack word
-worded_refs s t same stack (Compare r how v) = ap (λ (l : List ℤ). worded (record { next_fiber = 0; next_ref = 0; next_deferred = 0; cells = []; refs = l; deferreds = [] }) stack (Compare r how v)) same
-worded_refs s t same stack Not = refl
-worded_refs s t same stack And = refl
-worded_refs s t same stack Or = refl
+worded_refs : (x : Standstill) (s t : Cells) → s.refs ≡ t.refs → (stack : List Bool) (word : ClaimWord) → worded x s stack word ≡ worded x t stack word
+worded_refs x s t same stack (Compare r how v) = ap (λ (l : List ℤ). worded x (record { next_fiber = 0; next_ref = 0; next_deferred = 0; cells = []; refs = l; deferreds = [] }) stack (Compare r how v)) same
+worded_refs x s t same stack Deadlock = refl
+worded_refs x s t same stack Left = refl
+worded_refs x s t same stack Not = refl
+worded_refs x s t same stack And = refl
+worded_refs x s t same stack Or = refl
 
-words_refs : (s t : Cells) → s.refs ≡ t.refs → (words : List ClaimWord) (stack : List Bool) → fold (worded s) stack words ≡ fold (worded t) stack words
-words_refs s t same [] stack = refl
-words_refs s t same (word ∷ words) stack =
-    ap (λ l. fold (worded s) l words) (worded_refs s t same stack word) ∙ words_refs s t same words (worded t stack word)
+words_refs : (x : Standstill) (s t : Cells) → s.refs ≡ t.refs → (words : List ClaimWord) (stack : List Bool) → fold (worded x s) stack words ≡ fold (worded x t) stack words
+words_refs x s t same [] stack = refl
+words_refs x s t same (word ∷ words) stack =
+    ap (λ l. fold (worded x s) l words) (worded_refs x s t same stack word) ∙ words_refs x s t same words (worded x t stack word)
 
-holds_refs : (s t : Cells) → s.refs ≡ t.refs → (words : List ClaimWord) → holds s words ≡ holds t words
-holds_refs s t same words = ap last_of (words_refs s t same words [])
+holds_refs : (x : Standstill) (s t : Cells) → s.refs ≡ t.refs → (words : List ClaimWord) → holds x s words ≡ holds x t words
+holds_refs x s t same words = ap last_of (words_refs x s t same words [])
 
 -- ---- views
 no_store : (o : Option Fiber) → may_be false o ≡ true → stored_by o ≡ None
@@ -206,16 +213,20 @@ leaps_views : (v : View) (f : ℕ) → Leaps (viewed stepped) IsFree (viewed ste
 leaps_views v f =
     leaps_seeing (noted v.seen (stored_by (slice_get v.place.world.fibers f))) (stepped v.place f) (leapt hundred_still v.place f) (leaps hundred_still v.place f)
 
-keeps_claims : (words : List ClaimWord) (v : View) (f : ℕ) (x : View) → IsFree v f → viewed stepped v f ≡ Ok x → is_met x words ≡ is_met v words
-keeps_claims words v f x h e =
+keeps_claims : (words : List ClaimWord) → is_steady words ≡ true → (v : View) (f : ℕ) (x : View) → IsFree v f → viewed stepped v f ≡ Ok x →
+    is_met v words ≡ true → is_met x words ≡ true
+keeps_claims words steady v f x h e met =
     let is = free_is v f x h e in
-    ap₂ (λ (seen : List ℕ) (t : Bool). are_seen seen words && t) is.1
-    (holds_refs x.place.world.cells v.place.world.cells
-    (refs_stay v.place x.place f (no_store (slice_get v.place.world.fibers f) h.may) is.0) words)
+    let w = v.place.world in
+    let y = x.place.world in
+    let both = two_true (are_seen v.seen words) (holds (standstill_of w) w.cells words) met in
+    and_true (are_seen x.seen words) (holds (standstill_of y) y.cells words) (ap (λ (l : List ℕ). are_seen l words) is.1 ∙ both.0)
+    (holds_more y.cells (standstill_of w) (standstill_of y) (standstill_stays v.place x.place f is.0) words steady
+    (holds_refs (standstill_of w) y.cells w.cells (refs_stay v.place x.place f (no_store (slice_get w.fibers f) h.may) is.0) words ∙ both.1))
 
 -- what no world of the reduced search meets, no world meets
-pub unmet_all : (words : List ClaimWord) (first : View) →
+pub unmet_all : (words : List ClaimWord) → is_steady words ≡ true → (first : View) →
     ((t : List ℕ) (w : View) → run (viewed (leapt hundred_still)) (Ok first) t ≡ Ok w → is_met w words ≡ false) →
     (s : List ℕ) (w : View) → run (viewed stepped) (Ok first) s ≡ Ok w → is_met w words ≡ false
-unmet_all words first none s w led =
-    unmet_up (viewed stepped) IsFree free_views (viewed (leapt hundred_still)) leaps_views (λ v. is_met v words) (keeps_claims words) first none s w led
+unmet_all words steady first none s w led =
+    unmet_up (viewed stepped) IsFree free_views (viewed (leapt hundred_still)) leaps_views (λ v. is_met v words) (keeps_claims words steady) first none s w led

@@ -12,12 +12,37 @@ use Rattle.fiber_frames.specs.Fiber.{Fiber, ask_of}
 use Rattle.scheduled_core.specs.declared.wish.Wish.{Wish}
 use Rattle.scheduled_core.specs.declared.wish.Wish.TheVariants.{Shared}
 use Rattle.scheduled_core.specs.Core.{World, core, entered, first_world, wish_of}
+use Rattle.scheduled_core.specs.Finals.{HasEnded, IsFinal}
 use Rattle.every_schedule.specs.declared.claims.ClaimWord.{ClaimWord}
-use Rattle.every_schedule.specs.declared.claims.ClaimWord.TheVariants.{Compare, Not, And, Or}
+use Rattle.every_schedule.specs.declared.claims.ClaimWord.TheVariants.{Compare, Deadlock, Left, Not, And, Or}
 use Rattle.every_schedule.specs.declared.claims.Comparison.{Comparison}
 use Rattle.every_schedule.specs.declared.claims.Comparison.TheVariants as is
+use Rattle.every_schedule.specs.declared.standstill.Standstill.{Standstill}
 use Rattle.every_schedule.specs.Places.{Place}
 use Rattle.world_search.specs.declared.claims.Met.{Met}
+
+-- ---- worlds in which no fiber can go on
+-- the fiber of this number is born and has ended
+abbrev pub HasEndedIn : World → ℕ → Type 0
+HasEndedIn w f = (g : Fiber) × (slice_get w.fibers f ≡ Some g) × HasEnded g
+
+-- no fiber can go on, and fiber 0 hasn't ended
+abbrev pub IsDeadlock : World → Type 0
+IsDeadlock w = IsFinal w × (HasEndedIn w 0 → ⊥)
+
+-- no fiber can go on, fiber 0 has ended, and another one hasn't
+abbrev pub IsLeft : World → Type 0
+IsLeft w = IsFinal w × HasEndedIn w 0 × ((f : ℕ) × (g : Fiber) × (slice_get w.fibers f ≡ Some g) × (HasEnded g → ⊥))
+
+-- it is the truth value of this
+abbrev pub IsTruth : Bool → Type 0 → Type 0
+IsTruth true P = P
+IsTruth false P = P → ⊥
+
+-- which of the two the world is
+pub record StandsSo (w : World) (t : Standstill) : Type 0 where
+  pub deadlock : IsTruth t.deadlock (IsDeadlock w)
+  pub left : IsTruth t.left (IsLeft w)
 
 -- ---- the truth of a claim's words
 abbrev pub compares : Comparison → ℤ → ℤ → Bool
@@ -36,17 +61,19 @@ abbrev pub without_last : List Bool → List Bool
 without_last stack = take (length stack - 1) stack
 
 -- the stack behind a word
-abbrev pub worded : Cells → List Bool → ClaimWord → List Bool
-worded s stack (Compare r how v) = stack ++ compares how (ref_of s r) v ∷ []
-worded s stack Not = without_last stack ++ not (last_of stack) ∷ []
-worded s stack And =
+abbrev pub worded : Standstill → Cells → List Bool → ClaimWord → List Bool
+worded t s stack (Compare r how v) = stack ++ compares how (ref_of s r) v ∷ []
+worded t s stack Deadlock = stack ++ t.deadlock ∷ []
+worded t s stack Left = stack ++ t.left ∷ []
+worded t s stack Not = without_last stack ++ not (last_of stack) ∷ []
+worded t s stack And =
     without_last (without_last stack) ++ (last_of (without_last stack) && last_of stack) ∷ []
-worded s stack Or =
+worded t s stack Or =
     without_last (without_last stack) ++ (last_of (without_last stack) || last_of stack) ∷ []
 
--- the truth of these words, under the values of these refs
-abbrev pub holds : Cells → List ClaimWord → Bool
-holds s words = last_of (fold (worded s) [] words)
+-- the truth of these words, where the fibers stand so, under the values of these refs
+abbrev pub holds : Standstill → Cells → List ClaimWord → Bool
+holds t s words = last_of (fold (worded t s) [] words)
 
 -- ---- refs that were set
 -- the number is among these
@@ -82,12 +109,14 @@ abbrev pub Compares : List ClaimWord → ℕ → Type 0
 Compares words r = (i : ℕ) × (how : Comparison) × (v : ℤ) × (slice_get words i ≡ Some (Compare r how v))
 
 -- The schedule leads to a world that meets the claim: each ref that its words compare was set by an entry of the
--- schedule, and the words are true under the values of the refs there
+-- schedule, and the words are true of how the fibers stand there and under the values of the refs
 pub record Meets (code : Tree) (k : Limits) (words : List ClaimWord) (schedule : List ℕ) : Type 0 where
   pub world : World
   pub leads : core code k schedule ≡ Ok world
   pub set : (r : ℕ) → Compares words r → WasSet k r (first_world code k) schedule
-  pub truth : holds world.cells words ≡ true
+  pub standstill : Standstill
+  pub stands : StandsSo world standstill
+  pub truth : holds standstill world.cells words ≡ true
 
 -- ---- worlds as a search for claims keeps them: each with the refs that were set before, in the order of their first time
 pub record View : Type 0 where
@@ -106,9 +135,6 @@ seeing seen (Err e) = Err e
 -- the entry of a fiber, where this is what the place does
 abbrev pub viewed : (Place → ℕ → Result Place RunError) → View → ℕ → Result View RunError
 viewed step v f = seeing (noted v.seen (stored_by (slice_get v.place.world.fibers f))) (step v.place f)
-
-abbrev pub is_met : View → List ClaimWord → Bool
-is_met v words = are_seen v.seen words && holds v.place.world.cells words
 
 -- that of a program before the first move
 abbrev pub first_view : Place → View

@@ -6,3 +6,4 @@ pub mod Standing
 pub mod Reporting
 pub mod Trails
 pub mod Seen
+pub mod Standstills

@@ -1,6 +1,6 @@
 //! Which claims worlds meet, under every schedule.
 ghost use Rattle.std.specs.Prelude.{◌≡◌, ◌++◌, ◌<◌, ◌≤◌, ℕ, List, [], ◌∷◌, max, IfErr, IfOk, OnOk, Some, true, false};
-ghost use Rattle.std.specs.List.{All, slice_get};
+ghost use Rattle.std.specs.List.{All, list_all, slice_get};
 ghost use Rattle.derived_ops.specs.Expansion.{code_of};
 ghost use Rattle.derived_ops.specs.Reading.{source_of};
 ghost use Rattle.cell_registry.specs.Cells.{AreLimits};
@@ -8,8 +8,9 @@ ghost use Rattle.world_search.specs.declared.claims.Met.{Met as TheMet};
 ghost use Rattle.world_search.specs.Claims.{IsFew, IsFound};
 ghost use Rattle.every_schedule.specs.declared.claims.ClaimWord.{ClaimWord as TheClaimWord};
 ghost use Rattle.every_schedule.specs.Claims.{IsMetIn, Meets};
+ghost use Rattle.every_schedule.specs.Private.Standstills.{is_plain, is_steady as stays_true, is_straight};
 
-use crate::claims::{Claim, SeenWorld};
+use crate::claims::{Claim, ClaimWord, SeenWorld};
 use crate::core_world::CoreWorld;
 use crate::explored::are_both;
 use crate::leaping::is_memory;
@@ -29,7 +30,8 @@ use world_search::{Bounds, Claimed, Met, Watcher};
 /// that compares it isn't met, whatever else it says.
 ///
 /// Where the search is complete, no schedule leads to a world that meets another of the claims. Where it isn't, what was
-/// met is met all the same.
+/// met is met all the same. With a claim that has [`ClaimWord::Not`] beside a word for a standstill it isn't: a
+/// standstill may come of moves that are made at once, behind a world that isn't one.
 ///
 /// It is the reduced search of [`explore`](crate::explore), but that no move which sets a ref or changes it is made at
 /// once: each view of the refs that a schedule leads to is that of a world which is kept. The bound of entries counts
@@ -58,13 +60,65 @@ pub fn search_claims<V: Watcher>(
     let mut worlds = SeenWorlds::new(alloc, program, limits)?;
     let found = world_search::search_claims(alloc, &mut worlds, claims, bounds, watcher)?;
     let certified = certify_all(alloc, program, limits, claims, found.met.as_slice())?;
-    let complete = are_both(found.complete, certified.whole);
+    let searched = are_both(found.complete, certified.whole);
+    let complete = are_both(searched, are_steady(claims));
     Ok(Claimed {
         met: certified.met,
         complete,
         worlds: found.worlds,
         bytes: found.bytes,
     })
+}
+
+// Whether own moves keep each of these claims true.
+fn are_steady(claims: &[Claim]) -> bool
+    ensures { result ≡ true → (i : ℕ) (words : List TheClaimWord) → slice_get claims.now i ≡ Some words →
+        stays_true words ≡ true }
+{
+    for claim in claims {
+        if !is_steady(claim.words()) {
+            return false;
+        }
+    }
+    true
+}
+
+// Whether no standstill is named beside a word that turns: a standstill may come of own moves that are made at once, so
+// the world before them may be left out.
+fn is_steady(words: &[ClaimWord]) -> bool
+    ensures { result ≡ stays_true words.now }
+{
+    are_plain(words) || are_straight(words)
+}
+
+// Whether no word names a standstill.
+fn are_plain(words: &[ClaimWord]) -> bool
+    ensures { result ≡ list_all is_plain words.now }
+{
+    for word in words {
+        match word {
+            ClaimWord::Deadlock | ClaimWord::Left => return false,
+            ClaimWord::Compare(_, _, _) | ClaimWord::Not | ClaimWord::And | ClaimWord::Or => {}
+        }
+    }
+    true
+}
+
+// Whether no word turns a truth value.
+fn are_straight(words: &[ClaimWord]) -> bool
+    ensures { result ≡ list_all is_straight words.now }
+{
+    for word in words {
+        match word {
+            ClaimWord::Not => return false,
+            ClaimWord::Compare(_, _, _)
+            | ClaimWord::Deadlock
+            | ClaimWord::Left
+            | ClaimWord::And
+            | ClaimWord::Or => {}
+        }
+    }
+    true
 }
 
 // Claims that are met, each with a schedule in which each entry is one move.

@@ -1,10 +1,12 @@
 //! Claims of worlds, and whether a world meets one.
 ghost use Rattle.std.specs.Prelude.{◌≡◌, IfOk, OnOk, ◌++◌, [], ◌∷◌};
 ghost use Rattle.cell_registry.specs.Cells.{ref_of};
-ghost use Rattle.every_schedule.specs.Claims.{are_seen, compares, holds as the_truth, is_met as is_met_at, is_seen};
+ghost use Rattle.every_schedule.specs.Claims.{are_seen, compares, holds as the_truth, is_seen};
+ghost use Rattle.every_schedule.specs.Private.Standstills.{is_met as is_met_at};
 ghost use Rattle.every_schedule.specs.Claims.{last_of, without_last, worded};
 
 use crate::core_world::CoreWorld;
+use crate::standstill::{Standstill, standstill_of};
 use cell_registry::PlainRegistry;
 use effect_term::Value;
 use std::alloc::{AllocError, Global};
@@ -34,7 +36,11 @@ pub enum ClaimWord {
     /// The value of the ref of this number is compared with a value. Refs have their numbers from 0 on, in the order in
     /// which they are made.
     Compare(u16, Comparison, Value),
-    /// The last truth value is turned.
+    /// No fiber can go on, and fiber 0 hasn't ended.
+    Deadlock,
+    /// No fiber can go on, fiber 0 has ended, and another one hasn't.
+    Left,
+    /// The last truth value is turned. A search with `Not` beside `Deadlock` or `Left` in one claim isn't complete.
     Not,
     /// The last two truth values are both true.
     And,
@@ -113,8 +119,9 @@ impl SeenWorld {
         if !have_seen(claim.words(), seen.as_slice()) {
             return Ok(false);
         }
+        let standstill = standstill_of(&world);
         let (_fibers, registry) = world.into_parts();
-        holds(alloc, registry, claim.words())
+        holds(alloc, registry, standstill, claim.words())
     }
 }
 
@@ -136,42 +143,59 @@ fn has_seen(word: ClaimWord, seen: &[u16]) -> bool
 {
     match word {
         ClaimWord::Compare(number, _, _) => seen.contains(&number),
-        ClaimWord::Not | ClaimWord::And | ClaimWord::Or => true,
+        ClaimWord::Deadlock
+        | ClaimWord::Left
+        | ClaimWord::Not
+        | ClaimWord::And
+        | ClaimWord::Or => true,
     }
 }
 
-// The truth of these words under the values of a registry.
+// The truth of these words, where the fibers stand so, under the values of a registry.
 fn holds(
     alloc: Global,
     mut registry: PlainRegistry,
+    standstill: Standstill,
     words: &[ClaimWord],
 ) -> Result<bool, AllocError>
-    ensures { IfOk result (λ it. it ≡ the_truth registry.state words.now) }
+    ensures { IfOk result (λ it. it ≡ the_truth standstill registry.state words.now) }
 {
     let mut stack = Vec::new(alloc);
     for word in words {
-        step(&mut registry, &mut stack, *word)?;
+        step(&mut registry, standstill, &mut stack, *word)?;
     }
     Ok(pop(&mut stack))
 }
 
 // One word.
-fn step(registry: &mut PlainRegistry, stack: &mut Vec<bool>, word: ClaimWord) -> Result<(), AllocError>
+fn step(
+    registry: &mut PlainRegistry,
+    standstill: Standstill,
+    stack: &mut Vec<bool>,
+    word: ClaimWord,
+) -> Result<(), AllocError>
     ensures same { registry.new ≡ registry.old }
-    ensures stack { OnOk result (stack.new.items ≡ worded registry.old.state stack.old.items word) }
+    ensures stack { OnOk result (stack.new.items ≡ worded standstill registry.old.state stack.old.items word) }
 {
-    let truth = truth_of(registry, &mut *stack, word);
+    let truth = truth_of(registry, standstill, &mut *stack, word);
     stack.push(truth)?;
     Ok(())
 }
 
 // The truth value that a word puts on the stack. Those that it takes off are gone.
-fn truth_of(registry: &mut PlainRegistry, stack: &mut Vec<bool>, word: ClaimWord) -> bool
+fn truth_of(
+    registry: &mut PlainRegistry,
+    standstill: Standstill,
+    stack: &mut Vec<bool>,
+    word: ClaimWord,
+) -> bool
     ensures same { registry.new ≡ registry.old }
-    ensures stack { worded registry.old.state stack.old.items word ≡ stack.new.items ++ result ∷ [] }
+    ensures stack { worded standstill registry.old.state stack.old.items word ≡ stack.new.items ++ result ∷ [] }
 {
     match word {
         ClaimWord::Compare(number, how, value) => is_so(how, value_of(registry, number), value),
+        ClaimWord::Deadlock => standstill.deadlock,
+        ClaimWord::Left => standstill.left,
         ClaimWord::Not => !pop(stack),
         ClaimWord::And => {
             let second = pop(&mut *stack);

@@ -5,9 +5,9 @@
 //! that stays what it is and every fault, under any schedule, is among its answers, and that the schedule of each
 //! answer leads to it.
 //!
-//! [`search_claims`] looks at claims in each world that a schedule leads to: comparisons of the values of refs. It gives
-//! each claim that is met a schedule that leads to a world which meets it, and where it was complete, no schedule leads to
-//! a world that meets another one.
+//! [`search_claims`] looks at claims in each world that a schedule leads to: comparisons of the values of refs, and whether
+//! no fiber can go on. It gives each claim that is met a schedule that leads to a world which meets it, and where it was
+//! complete, no schedule leads to a world that meets another one.
 //!
 //! A program is explored so, within limits for 3 fibers, a ref, a deferred and 1000 changes of each fiber:
 //!
@@ -37,6 +37,7 @@ mod reports;
 mod row;
 mod seen_row;
 mod seen_worlds;
+mod standstill;
 mod unfolding;
 
 pub use claimed::search_claims;

@@ -207,7 +207,7 @@ impl Worlds for SeenWorlds {
 impl Claims for SeenWorlds {
     type Claim = Claim;
 
-    ghost use Rattle.every_schedule.specs.Claims.{is_met};
+    ghost use Rattle.every_schedule.specs.Private.Standstills.{is_met};
 
     ghost meets = { is_met };
 

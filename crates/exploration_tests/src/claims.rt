@@ -29,6 +29,8 @@ struct Program<'a> {
 enum Word {
     // The ref of this number is compared with a value.
     Ref(u16, Comparison, i32),
+    Deadlock,
+    Left,
     Not,
     And,
     Or,
@@ -41,6 +43,8 @@ impl Word {
             Word::Ref(number, how, value) => {
                 ClaimWord::Compare(number, how, Value::from_i32(value))
             }
+            Word::Deadlock => ClaimWord::Deadlock,
+            Word::Left => ClaimWord::Left,
             Word::Not => ClaimWord::Not,
             Word::And => ClaimWord::And,
             Word::Or => ClaimWord::Or,
@@ -238,6 +242,114 @@ const PROGRAMS: &[Program<'static>] = &[
         ],
     },
     Program {
+        rule: "a request that comes while the fiber is masked leaves it at its wait, and who cancels it waits for it",
+        text: "(ref r 0 (deferred d (start f (uncancelable p (seq (set r 1) (await d))) (seq (cancel f) (complete d 1)))))",
+        rows: &[
+            Row {
+                claim: "deadlock",
+                words: &[Word::Deadlock],
+                is_met: true,
+            },
+            Row {
+                claim: "deadlock and r = 1",
+                words: &[
+                    Word::Deadlock,
+                    Word::Ref(0, Comparison::Equal, 1),
+                    Word::And,
+                ],
+                is_met: true,
+            },
+            Row {
+                claim: "deadlock and r = 0",
+                words: &[
+                    Word::Deadlock,
+                    Word::Ref(0, Comparison::Equal, 0),
+                    Word::And,
+                ],
+                is_met: false,
+            },
+            Row {
+                claim: "left",
+                words: &[Word::Left],
+                is_met: false,
+            },
+        ],
+    },
+    Program {
+        rule: "each of two fibers waits for the other",
+        text: "(deferred d (deferred e (start f (seq (await d) (complete e 1)) (seq (await e) (complete d 1)))))",
+        rows: &[
+            Row {
+                claim: "deadlock",
+                words: &[Word::Deadlock],
+                is_met: true,
+            },
+            Row {
+                claim: "left or deadlock",
+                words: &[Word::Left, Word::Deadlock, Word::Or],
+                is_met: true,
+            },
+            Row {
+                claim: "left",
+                words: &[Word::Left],
+                is_met: false,
+            },
+        ],
+    },
+    Program {
+        rule: "a fiber that waits without end is left, once fiber 0 has ended",
+        text: "(ref r 0 (start f (never) (set r 1)))",
+        rows: &[
+            Row {
+                claim: "deadlock",
+                words: &[Word::Deadlock],
+                is_met: false,
+            },
+            Row {
+                claim: "left and r = 1",
+                words: &[Word::Left, Word::Ref(0, Comparison::Equal, 1), Word::And],
+                is_met: true,
+            },
+            Row {
+                claim: "left and r = 0",
+                words: &[Word::Left, Word::Ref(0, Comparison::Equal, 0), Word::And],
+                is_met: false,
+            },
+        ],
+    },
+    Program {
+        rule: "a fiber that goes round without end, and one that is canceled at its wait, aren't left",
+        text: "(start f (forever (cede)) (start g (never) (cancel g)))",
+        rows: &[
+            Row {
+                claim: "left",
+                words: &[Word::Left],
+                is_met: false,
+            },
+            Row {
+                claim: "deadlock",
+                words: &[Word::Deadlock],
+                is_met: false,
+            },
+        ],
+    },
+    Program {
+        rule: "a program whose fibers all end stands still in no way",
+        text: "(start f (pure 1) (join f x (pure x) y (pure 8) (pure 9)))",
+        rows: &[
+            Row {
+                claim: "deadlock",
+                words: &[Word::Deadlock],
+                is_met: false,
+            },
+            Row {
+                claim: "left",
+                words: &[Word::Left],
+                is_met: false,
+            },
+        ],
+    },
+    Program {
         rule: "a claim without a word isn't met",
         text: "(pure 1)",
         rows: &[
@@ -326,6 +438,16 @@ fn claims_are_met_by_the_worlds_of_small_programs(rt: HostRuntime) -> Result<(),
             assert!(rt; false, "{}: {}", it.rule, it.rows[number].claim);
         }
     }
+    Ok(())
+}
+
+// A claim that turns a standstill is left open where no world that was kept meets it.
+#[test]
+fn a_standstill_that_is_turned_stays_open(rt: HostRuntime) -> Result<(), Fail> {
+    let words = vec![in rt.alloc(); ClaimWord::Deadlock, ClaimWord::Not, ClaimWord::Left, ClaimWord::And]?;
+    let claims = vec![in rt.alloc(); Claim::new(words)]?;
+    let claimed = searched(rt.alloc(), "(pure 1)", claims.as_slice(), 100)?;
+    assert!(rt; !claimed.complete && claimed.met.as_slice().is_empty());
     Ok(())
 }
 

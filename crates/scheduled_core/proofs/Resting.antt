@@ -100,6 +100,43 @@ row_is_due g r e =
     let s = at_stays g.number g.next r g.running e in
     (λ j. record { number = g.number; running = s.becomes j; look = Due; next = s.next j; marks = (ap (λ m. g.marks ++ m) s.marks ∙ append-nil g.marks) j })
 
+-- ---- what a wait wants
+-- the call of a wait, which this reply doesn't serve
+abbrev pub IsUnmet : Ask → Reply → Type 0
+IsUnmet (ask.Join f) r = outcome_in r ≡ None
+IsUnmet (ask.Read d) r = read_in r ≡ None
+IsUnmet ask.Silent r = Unit {0}
+IsUnmet _ r = ⊥
+
+module _ (i n m : ℕ) (r s : Reply) where
+  action_unmet : (a : Action) → (action_row i n r a).kind ≡ Waited → IsUnmet (action_row i m s a).call r
+  action_unmet Never e = tt
+  action_unmet (Ending f) e = none_ended (outcome_in r) e
+  action_unmet (Await d) e = none_read (read_in r) e
+  action_unmet _ e = absurd (cc)
+
+  word_unmet : (up : List Mask) (t : Tree) → (word_row i n r up t).kind ≡ Waited → IsUnmet (word_row i m s up t).call r
+  word_unmet up (Act a) e = action_unmet a e
+  word_unmet up (Join f x w y k c) e = none_ended (outcome_in r) e
+  word_unmet up (Make (New_ref v) x k) e = absurd (cc)
+  word_unmet up (Make New_deferred x k) e = absurd (cc)
+  word_unmet up _ e = absurd (cc)
+
+  row_unmet : (b : Root) (p : List PathStep) (t : Tree) → (row i n r b p t).kind ≡ Waited → IsUnmet (row i m s b p t).call r
+  row_unmet b p (Pure v) e = absurd (value_goes i n r b v p e)
+  row_unmet b p (Raise c) e = absurd (error_goes i n r b c p e)
+  row_unmet b p t e = word_unmet (active i b p) t e
+
+  at_unmet : (w : Running) → (row_at i n r (focus w) w).kind ≡ Waited → IsUnmet (row_at i m s (focus w) w).call r
+  at_unmet (Runs t) e = row_unmet At_term (path t []) (leaf t) e
+  at_unmet (Final k (g ∷ gs)) e = row_unmet (At_final k gs) (path g []) (leaf g) e
+  at_unmet (Final k []) e = absurd (cc)
+  at_unmet (Over o) e = absurd (cc)
+  at_unmet Broken e = absurd (cc)
+
+pub call_unmet : (g : Fiber) (r s : Reply) → (row_of g r).kind ≡ Waited → IsUnmet (row_of g s).call r
+call_unmet g r s e = at_unmet g.number g.next g.next r s g.running e
+
 -- ---- the calls of waits
 pub data IsWait (a : Ask) : Type 0 where
   Silently : a ≡ ask.Silent → IsWait a

@@ -1,6 +1,6 @@
 -- What a reduced search tells of each world: where free moves keep what is looked at, each world to which a schedule
 -- leads looks as one to which the reduced system leads.
-use Rattle.std.proofs.Common.{◌≡◌, ℕ, zero, suc, ◌<◌, ◌≤◌, Bool, false, List, [], ◌∷◌, length, Result, Ok, Err, refl, sym, ap, ◌∙◌, subst, arith}
+use Rattle.std.proofs.Common.{◌≡◌, ℕ, zero, suc, ◌<◌, ◌≤◌, Bool, true, false, List, [], ◌∷◌, length, Result, Ok, Err, refl, sym, ap, ◌∙◌, subst, arith}
 use mathlib.Core.Logic.{dite}
 use native.Mathlib.Decide.{ℕ_discrete}
 use Rattle.world_search.specs.Free.{AreFree, Commutes, Leads, Leaps}
@@ -13,11 +13,11 @@ module _ {W E : Type 0} (step : W → ℕ → Result W E) (Free : W → ℕ → 
   leads_on a b c (Here x y same) on = subst (λ z. Leads step Free z c) (sym same) on
   leads_on a b c (On x f y z h q first) on = On x f y c h q (leads_on y z c first on)
 
-  -- what free moves keep is the same where several of them lead
-  pub leads_keep : {A : Type 0} (look : W → A) → ((w : W) (f : ℕ) (x : W) → Free w f → step w f ≡ Ok x → look x ≡ look w) → (w v : W) →
-      Leads step Free w v → look v ≡ look w
-  leads_keep look keeps w v (Here a b same) = ap look (sym same)
-  leads_keep look keeps w v (On a f x b h q on) = leads_keep look keeps x b on ∙ keeps a f x h q
+  -- what a free move keeps is so where several of them lead
+  pub leads_keep : (look : W → Bool) → ((w : W) (f : ℕ) (x : W) → Free w f → step w f ≡ Ok x → look w ≡ true → look x ≡ true) → (w v : W) →
+      Leads step Free w v → look w ≡ true → look v ≡ true
+  leads_keep look keeps w v (Here a b same) e = ap look (sym same) ∙ e
+  leads_keep look keeps w v (On a f x b h q on) e = leads_keep look keeps x b on (keeps a f x h q e)
 
   -- other entries lead from the one world to where free moves lead from the other, and there are no more of them
   abbrev Joins : W → W → ℕ → Type 0
@@ -69,8 +69,12 @@ module _ {W E : Type 0} (step : W → ℕ → Result W E) (Free : W → ℕ → 
       caught (suc n) w (f ∷ s) long u led = caught_next n w f s (omega arith) (caught n) (step w f) (leaps w f) u led
 
       -- what no world of the reduced system looks like, no world of the full one does
-      pub unmet_up : (look : W → Bool) → ((w : W) (f : ℕ) (x : W) → Free w f → step w f ≡ Ok x → look x ≡ look w) → (first : W) →
+      pub unmet_up : (look : W → Bool) → ((w : W) (f : ℕ) (x : W) → Free w f → step w f ≡ Ok x → look w ≡ true → look x ≡ true) → (first : W) →
           ((t : List ℕ) (w : W) → run leap (Ok first) t ≡ Ok w → look w ≡ false) → (s : List ℕ) (w : W) → run step (Ok first) s ≡ Ok w → look w ≡ false
-      unmet_up look keeps first none s w led =
-          let c = caught (length s) first s (omega arith) w led in
-          sym (leads_keep look keeps w c.1 c.3) ∙ none c.0 c.1 c.2
+      unmet_up look keeps first none s w led = by (look w) refl
+        where
+          by : (b : Bool) → look w ≡ b → look w ≡ false
+          by false e = e
+          by true e =
+              let c = caught (length s) first s (omega arith) w led in
+              let no : true ≡ false = sym (leads_keep look keeps w c.1 c.3 e) ∙ none c.0 c.1 c.2 in absurd (cc)

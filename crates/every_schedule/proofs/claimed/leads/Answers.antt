@@ -4,7 +4,8 @@ use Rattle.std.proofs.lemmas.List.Sums.{fold_more}
 use Rattle.derived_ops.specs.Expansion.{code_of}
 use Rattle.derived_ops.specs.Reading.{source_of}
 use Rattle.world_search.specs.Systems.{entered, run}
-use Rattle.every_schedule.specs.Claims.{View, first_view, is_met, noted, seeing, viewed}
+use Rattle.every_schedule.specs.Claims.{View, first_view, noted, seeing, viewed}
+use Rattle.every_schedule.specs.Private.Standstills.{is_met}
 use Rattle.every_schedule.specs.Places.{Place, first_place, stepped}
 use Rattle.every_schedule.proofs.Seeing.{met_core}
 use Rattle.every_schedule.proofs.claimed.leads.Goals as goal

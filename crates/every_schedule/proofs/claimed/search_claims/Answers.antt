@@ -16,13 +16,15 @@ returns-clause-unmet c = λ complete i words at unfound schedule met.
     let code = code_of (source_of c.args.program.now) in
     let k = c.args.limits in
     let first = first_view (first_place code k) in
+    let searched = c.are_both-complete.ensures.one complete in
+    let steady = c.are_steady.ensures (c.are_both-complete.ensures.other complete) i words at in
     let raw : List Met = c.in_ok-found.found.met.items in
     let there : slice_get c.in_ok-worlds.worlds.views 0 ≡ Some first = ap (λ (l : List View). slice_get l 0) c.in_ok-worlds.ensures in
-    let whole = c.in_ok-certified.ensures.whole (c.are_both-complete.ensures.other complete) in
+    let whole = c.in_ok-certified.ensures.whole (c.are_both-searched.ensures.other searched) in
     let none = λ (f : IsFound i raw).
     unfound (subst (λ n. IsFound n c.in_ok-certified.certified.met.items) f.2
     (whole f.1.0 f.0 (subst (λ (l : List Met). slice_get l f.1.0 ≡ Some f.0) (sym c.as_slice.ensures.value) f.1.1))) in
-    let reduced = c.in_ok-found.ensures.unmet (c.are_both-complete.ensures.one complete) first there i words at none in
+    let reduced = c.in_ok-found.ensures.unmet (c.are_both-searched.ensures.one searched) first there i words at none in
     let core = core_met code k words schedule met in
-    let no : true ≡ false = sym core.2 ∙ unmet_all words first reduced schedule core.0 core.1 in
+    let no : true ≡ false = sym core.2 ∙ unmet_all words steady first reduced schedule core.0 core.1 in
     absurd (cc)

@@ -11,7 +11,7 @@ is_requested-requires c =
     omega arith
 
 pub returns-then-is_masked : goal.returns-then-is_masked
-returns-then-is_masked c e = inl (c.is_masked.ensures c.if-is_masked.true)
+returns-then-is_masked c e = inl (c.is_masked.ensures.some c.if-is_masked.true)
 
 pub returns : goal.returns
 returns c e = inr (ap (λ n. (cell_of c.args.registry.now.state n).request) (sym c.number.ensures) ∙ sym c.is_requested.ensures.request ∙

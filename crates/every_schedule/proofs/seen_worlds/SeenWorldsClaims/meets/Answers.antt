@@ -5,7 +5,8 @@ use Rattle.std.proofs.lemmas.Grind.{common_steps}
 use Rattle.std.proofs.lemmas.Option.{gets}
 use Rattle.std.proofs.lemmas.Result.{IfOk-weaker}
 use Rattle.world_search.proofs.Lists.{get_low}
-use Rattle.every_schedule.specs.Claims.{View, is_met}
+use Rattle.every_schedule.specs.Claims.{View}
+use Rattle.every_schedule.specs.Private.Standstills.{is_met}
 use Rattle.every_schedule.specs.Places.{Place}
 use Rattle.every_schedule.specs.Private.Seen.{KeptViews, view_of}
 use Rattle.every_schedule.proofs.SeenRows.{view_at, view_is}
