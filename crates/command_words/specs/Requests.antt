@@ -26,9 +26,9 @@ use Rattle.command_words.specs.declared.seeking.Seeking.{Seeking}
 use Rattle.command_words.specs.declared.testing.Testing.{Testing}
 use Rattle.command_words.specs.declared.testing.Translating.{Translating}
 use Rattle.command_words.specs.Memory.{SaysMemory}
-use Rattle.command_words.specs.Numbers.{SaysNumber}
-use Rattle.command_words.specs.Flags.{IsGiven, IsLeftOut, SaysExploreForm, SaysFlag, SaysForm, SaysRunForm}
-use Rattle.command_words.specs.Flags.{SaysTestForm}
+use Rattle.command_words.specs.Numbers.{SaysNumber, SaysSeconds}
+use Rattle.command_words.specs.Flags.{IsGiven, IsLeftOut, SaysBeside, SaysExploreForm, SaysFlag, SaysForm}
+use Rattle.command_words.specs.Flags.{SaysRunForm, SaysTestForm}
 use Rattle.command_words.specs.Words.{band_range, budget_range, count_range, entries_range, few_range, moves_range}
 use Rattle.command_words.specs.Words.{model_worlds_range, program, seed_range, times_range, workers_range, worlds_range}
 
@@ -86,7 +86,9 @@ pub record SaysReplay (options : List Row) (replay : ReplayFields) : Type 0 wher
 -- the exploration that the options of `explore` say
 pub record SaysExploring (options : List Row) (exploring : Exploring) : Type 0 where
   pub order : SaysExplore options exploring.order
-  pub form : SaysExploreForm options exploring.form exploring.explain
+  pub form : SaysExploreForm options exploring.form
+  pub seconds_are : SaysSeconds (first_of (codes "seconds") options) exploring.seconds
+  pub beside : SaysBeside options exploring.beside
 
 -- the search for the first finding that the options of `explore` say
 pub record SaysSeeking (options : List Row) (seeking : Seeking) : Type 0 where

@@ -34,16 +34,6 @@ const CONFLICTS: &[Conflict] = &[
     Conflict {
         subcommand: "explore",
         first: "progress",
-        second: "timeline",
-    },
-    Conflict {
-        subcommand: "explore",
-        first: "progress",
-        second: "json",
-    },
-    Conflict {
-        subcommand: "explore",
-        first: "progress",
         second: "explain",
     },
     Conflict {

@@ -33,4 +33,4 @@ mod unfolding;
 
 pub use exploration::{Answer, Answers, Exploration, Schedule};
 pub use explored::{explore, explore_full, explore_watched};
-pub use world_search::{Bounds, Watcher};
+pub use world_search::{Bounds, TimeLimit, Unwatched, Watcher};

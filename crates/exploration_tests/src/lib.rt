@@ -39,3 +39,5 @@ mod texts;
 mod wants;
 #[cfg(test)]
 mod watched;
+#[cfg(test)]
+mod watched_models;

@@ -1,34 +1,33 @@
 //! The exploration of a text, which tells how far it has come while it goes.
 
-ghost use Rattle.std.specs.Prelude.{◌≡◌, ◌<◌, ◌^◌, false, IfOk, Result as TheResult};
+ghost use Rattle.std.specs.Prelude.{◌≡◌, ◌<◌, ◌^◌, false, IfOk, Result as TheResult, is_some};
 ghost use Rattle.text_io.specs.declared.fault.TextFault.{TextFault as TheFault};
 ghost use Rattle.text_io.specs.declared.status.Status.{Status as TheStatus};
 ghost use Rattle.text_io.specs.Exchange.{IsAnswered};
 ghost use Rattle.text_io.specs.Telling.{status_of};
-ghost use Rattle.exploration_text.specs.ExploreAnswers.{IsExploreAnswer, IsExploredAnswer};
+ghost use Rattle.outcome_trace.specs.Answers.{IsProgramAnswer};
 
-use crate::explore_texts::ExploreOrder;
 use crate::progress::Progress;
-use crate::texts::{exploration_status, text_of_exploration};
-use effect_term::Program;
-use every_schedule::{Watcher, explore_watched};
+use crate::watched_orders::WatchedOrder;
+use every_schedule::{TimeLimit, Watcher};
 use outcome_trace::{
-    Answer, Status, TextFault, TextIn, TextOut, read_program, read_text, refusal, write_text,
+    Answer, RefusalForm, Status, TextFault, TextIn, TextOut, read_program, read_text, write_text,
 };
 use std::alloc::{AllocError, Global};
-use std::time::{Clock, Instant};
+use std::time::{Clock, Duration};
 
-/// Reads a text, and writes what its program comes to under every schedule, exactly as `obey_text` does with the order;
-/// meanwhile a line goes to the last device at each ten-thousandth world, as
-/// `explored 120000 worlds, 61000 a second, depth 48`.
+/// Reads a text, and writes what its program comes to under every schedule, exactly as `obey_text` does with a
+/// [`TimedOrder`](crate::TimedOrder) of these seconds; meanwhile a line goes to the last device at most once a second,
+/// from the first second on, as `explored 120000 worlds, 61000 a second, depth 48`.
 ///
 /// Gives the answer's status, or `Status::Fault` where a device failed, the input didn't end within `TEXT_BOUND`
 /// reads, or memory ran out, which is told on the last device, unless a write there has failed. That device may
 /// fail: it changes nothing else.
-pub fn obey_explore_watched<C: Clock, I: TextIn, O: TextOut, E: TextOut>(
+pub fn obey_watched<C: Clock, W: WatchedOrder, I: TextIn, O: TextOut, E: TextOut>(
     clock: &C,
     alloc: Global,
-    order: &ExploreOrder,
+    order: &W,
+    seconds: Option<u64>,
     input: &mut I,
     out: &mut O,
     err: &mut E,
@@ -37,14 +36,14 @@ pub fn obey_explore_watched<C: Clock, I: TextIn, O: TextOut, E: TextOut>(
     requires countable { (I.seen input.old).reads < 2 ^ 63 }
     requires out { (O.seen out.old).failed ≡ false }
     requires err { (E.seen err.old).failed ≡ false }
-    ensures { (outcome : TheResult TheStatus TheFault) × IsAnswered (IsExploreAnswer order.now.limits
-        order.now.bounds order.now.wants.items) (I.seen input.old) (I.seen input.new) (O.seen out.old)
+    ensures { (outcome : TheResult TheStatus TheFault) × IsAnswered (IsProgramAnswer W.Refusals.refuses
+        (W.finds order.now (is_some seconds))) (I.seen input.old) (I.seen input.new) (O.seen out.old)
         (O.seen out.new) outcome × (result ≡ status_of outcome) }
 {
     let mut progress = Progress {
         alloc,
-        clock,
-        begun: Instant::now(clock).ok(),
+        limit: TimeLimit::new(clock, seconds),
+        told: Duration::ZERO,
         err,
         failed: false,
     };
@@ -54,10 +53,10 @@ pub fn obey_explore_watched<C: Clock, I: TextIn, O: TextOut, E: TextOut>(
     }
 }
 
-// Reads a text, and writes its answer, while the watcher is told.
-fn watched_text<I: TextIn, O: TextOut, V: Watcher>(
+// Reads a text, and writes its answer, while its search is watched.
+fn watched_text<W: WatchedOrder, I: TextIn, O: TextOut, V: Watcher>(
     alloc: Global,
-    order: &ExploreOrder,
+    order: &W,
     input: &mut I,
     out: &mut O,
     watcher: &mut V,
@@ -65,7 +64,7 @@ fn watched_text<I: TextIn, O: TextOut, V: Watcher>(
     requires input { (I.seen input.old).failed ≡ false }
     requires countable { (I.seen input.old).reads < 2 ^ 63 }
     requires out { (O.seen out.old).failed ≡ false }
-    ensures { IsAnswered (IsExploreAnswer order.now.limits order.now.bounds order.now.wants.items)
+    ensures { IsAnswered (IsProgramAnswer W.Refusals.refuses (W.finds order.now (V.can_stop watcher.old)))
         (I.seen input.old) (I.seen input.new) (O.seen out.old) (O.seen out.new) result }
 {
     let text = read_text(alloc, input)?;
@@ -75,38 +74,17 @@ fn watched_text<I: TextIn, O: TextOut, V: Watcher>(
 }
 
 // The answer to a text.
-fn read_answer<V: Watcher>(
+fn read_answer<W: WatchedOrder, V: Watcher>(
     alloc: Global,
     text: &[u8],
-    order: &ExploreOrder,
+    order: &W,
     watcher: &mut V,
 ) -> Result<Answer, AllocError>
-    ensures { IfOk result (λ a. IsExploreAnswer order.now.limits order.now.bounds order.now.wants.items text.now
-        a.text.items a.status) }
+    ensures { IfOk result (λ a. IsProgramAnswer W.Refusals.refuses (W.finds order.now (V.can_stop watcher.old))
+        text.now a.text.items a.status) }
 {
     match read_program(alloc, text) {
-        Ok(program) => watched_answer(alloc, &program, order, watcher),
-        Err(refused) => refusal(alloc, refused),
+        Ok(program) => order.answer_watched(alloc, &program, watcher),
+        Err(refused) => W::Refusals::refused_answer(alloc, text, refused),
     }
-}
-
-// What comes of a program under every schedule.
-fn watched_answer<V: Watcher>(
-    alloc: Global,
-    program: &Program,
-    order: &ExploreOrder,
-    watcher: &mut V,
-) -> Result<Answer, AllocError>
-    ensures { IfOk result (λ a. IsExploredAnswer program.now order.now.limits order.now.bounds order.now.wants.items
-        a.text.items a.status) }
-{
-    let Ok(exploration) = explore_watched(alloc, program, order.limits, order.bounds, watcher)
-    else {
-        return Err(AllocError);
-    };
-    let wants = order.wants.as_slice();
-    Ok(Answer {
-        text: text_of_exploration(alloc, &exploration, wants)?,
-        status: exploration_status(&exploration, wants),
-    })
 }

@@ -40,16 +40,18 @@ pub record IsToldExploration (wants : List Want) (e : Exploration) (text : List 
   pub unwanted_is : IsToldPart true wants e.answers unwanted
   pub others_are : IsToldPart false wants e.answers others
 
--- the text of an exploration of the program, with timelines, and the status of the exploration
-pub record IsToldExplored (t : Term) (limits : Limits) (bounds : Bounds) (wants : List Want) (answer : List ℕ)
-    (status : Status) : Type 0
+-- the text of an exploration of the program, with timelines, and the status of the exploration, whose time was limited
+-- or wasn't
+pub record IsToldExplored (t : Term) (limits : Limits) (bounds : Bounds) (timed : Bool) (wants : List Want)
+    (answer : List ℕ) (status : Status) : Type 0
   where
     pub exploration : Exploration
-    pub explored : IsExplorationOf (code_of (source_of t)) limits bounds exploration
+    pub explored : IsExplorationOf (code_of (source_of t)) limits bounds timed exploration
     pub text_is : IsToldExploration wants exploration answer
     pub status_is : status ≡ exploration_status wants exploration
 
 -- what is answered to a text under limits, with its status: a refusal, or the exploration of the program that the text
 -- spells, with timelines
-abbrev pub IsExploreTimeline : Limits → Bounds → List Want → List ℕ → List ℕ → Status → Type 0
-IsExploreTimeline limits bounds wants = IsProgramAnswer IsRefusalAnswer (λ t. IsToldExplored t limits bounds wants)
+abbrev pub IsExploreTimeline : Limits → Bounds → (timed : Bool) → List Want → List ℕ → List ℕ → Status → Type 0
+IsExploreTimeline limits bounds timed wants =
+    IsProgramAnswer IsRefusalAnswer (λ t. IsToldExplored t limits bounds timed wants)

@@ -19,10 +19,12 @@ mod schedules;
 mod searching;
 mod spread;
 mod store;
+mod time_limit;
 mod watching;
 
 pub use answers::{Answer, Bounds, Found};
 pub use landings::{Entered, Landing};
 pub use searching::search;
 pub use store::Worlds;
+pub use time_limit::TimeLimit;
 pub use watching::{Unwatched, Watcher};
