@@ -13,30 +13,17 @@ use Rattle.text_io.specs.Telling.{Answered, status_of}
 use Rattle.scheduled_core.specs.declared.report.FiberReport.{FiberReport}
 use Rattle.outcome_trace.specs.Answers.{IsCheckAnswer, IsProgramAnswer, IsRefusalAnswer, IsShowAnswer, no_program, no_term, refuses, runs}
 use Rattle.outcome_trace.specs.ReplayAnswers.{IsReplayAnswer, IsRunAnswer, outcome_status, report_status, faults, reports}
-use Rattle.world_search.specs.declared.answers.Bounds.{Bounds}
-use Rattle.exploration_text.specs.declared.wants.Want.{Want}
-use Rattle.exploration_text.specs.ExplorationText.{has_failure}
-use Rattle.exploration_text.specs.ExploreAnswers.{IsExploreAnswer}
 use Rattle.reasons.specs.Explained.{Explained}
 use Rattle.json_answers.specs.Answers.{IsJsonCheck, IsJsonRefusal, IsJsonReplay, IsJsonRun, reports as reports_json}
 use Rattle.json_answers.specs.Answers.{faults as faults_json, no_program as no_program_json, no_term as no_term_json}
 use Rattle.timelines.specs.PictureAnswers.{IsPictureAnswer, IsPicturedAnswer, faults as faults_drawn, pictures}
-use Rattle.json_answers.specs.FoundAnswers.{IsJsonExplore}
-use Rattle.timelines.specs.ExploreTimelines.{IsExploreTimeline}
 use Rattle.timelines.specs.TimelineAnswers.{IsTimelineAnswer}
 use Rattle.steal_pool.specs.declared.options.Options.{Options}
 use Rattle.command_words.specs.declared.replay.AnswerForm.{AnswerForm}
 use Rattle.command_words.specs.declared.replay.AnswerForm.TheVariants.{Report, Timeline, Picture, Json}
 use Rattle.command_words.specs.declared.running.RunForm.{RunForm}
 use Rattle.command_words.specs.declared.running.RunForm.TheVariants as ran
-use Rattle.exploration_text.specs.declared.explore_texts.ExploreOrder.{ExploreOrder}
-use Rattle.reasons.specs.Refusals.{IsTextReasons}
-use Rattle.command_words.specs.declared.exploring.Beside.{Beside}
-use Rattle.command_words.specs.declared.exploring.Beside.TheVariants as told
-use Rattle.command_words.specs.declared.exploring.ExploreForm.{ExploreForm}
-use Rattle.command_words.specs.declared.exploring.ExploreForm.TheVariants as explored
 use Rattle.command_line.specs.Checks.{checks_as}
-use Rattle.command_line.specs.Explorings.{ObeysBeside, explores_as}
 use Rattle.command_line.specs.Orders.{ObeysOrder}
 use Rattle.command_line.specs.Recording.{IsRecordedWith, IsTimedAnswer, alone, timed, reports as reports_recorded, faults as faults_recorded}
 use Rattle.command_line.specs.Replays.{answers_as}
@@ -89,11 +76,6 @@ pub chosen_ends : (failed complete : Bool) → (if failed then ends.Errored else
 chosen_ends true complete = λ u. cc
 chosen_ends false true = λ u. cc
 chosen_ends false false = λ u. cc
-
-explore_ends : {limits : Limits} {bounds : Bounds} {by_time : Bool} {wants : List Want} {text answer : List ℕ} {status : Status} →
-    IsExploreAnswer limits bounds by_time wants text answer status → status ≢ ends.Usage
-explore_ends {limits} {bounds} {by_time} {wants} = program_ends (λ text answer status h. refusal_ends h)
-    (λ t answer status h u. chosen_ends (has_failure wants h.exploration.answers) h.exploration.complete (sym h.status_is ∙ u))
 
 timeline_ends : {schedule : List ℕ} {limits : Limits} {text answer : List ℕ} {status : Status} →
     IsTimelineAnswer schedule limits text answer status → status ≢ ends.Usage
@@ -158,30 +140,6 @@ order_ends Answers Tells false before after status never h = told_ends never h
 pub check_as_ends : (json : Bool) (text answer : List ℕ) (status : Status) → checks_as json text answer status → status ≢ ends.Usage
 check_as_ends true text answer status h = json_check_ends h
 check_as_ends false text answer status h = check_ends h
-
--- ---- of explorations
-explore_timeline_ends : {limits : Limits} {bounds : Bounds} {by_time : Bool} {wants : List Want} {text answer : List ℕ} {status : Status} →
-    IsExploreTimeline limits bounds by_time wants text answer status → status ≢ ends.Usage
-explore_timeline_ends {limits} {bounds} {by_time} {wants} = program_ends (λ text answer status h. refusal_ends h)
-    (λ t answer status h u. chosen_ends (has_failure wants h.exploration.answers) h.exploration.complete (sym h.status_is ∙ u))
-
-json_explore_ends : {limits : Limits} {bounds : Bounds} {by_time : Bool} {wants : List Want} {text answer : List ℕ} {status : Status} →
-    IsJsonExplore limits bounds by_time wants text answer status → status ≢ ends.Usage
-json_explore_ends {limits} {bounds} {by_time} {wants} = program_ends (λ text answer status h. json_refusal_ends h)
-    (λ t answer status h u. chosen_ends (has_failure wants h.exploration.answers) h.exploration.complete (sym h.status_is ∙ u))
-
-pub explored_ends : (form : ExploreForm) (order : ExploreOrder) (by_time : Bool) (text answer : List ℕ) (status : Status) →
-    explores_as form order by_time text answer status → status ≢ ends.Usage
-explored_ends explored.Report order by_time text answer status h = explore_ends h
-explored_ends explored.Timeline order by_time text answer status h = explore_timeline_ends h
-explored_ends explored.Json order by_time text answer status h = json_explore_ends h
-
-pub beside_ends : (Answers : List ℕ → List ℕ → Status → Type 0) (beside : Beside) (before after : Devices) (status : Status) →
-    ((text answer : List ℕ) (status : Status) → Answers text answer status → status ≢ ends.Usage) →
-    ObeysBeside beside Answers before after status → status ≢ ends.Usage
-beside_ends Answers told.Nothing before after status never h = order_ends Answers IsTextReasons false before after status never h
-beside_ends Answers told.Progress before after status never h = λ u. answered_ends _ _ _ _ _ h.0 never h.1 (sym h.2 ∙ u)
-beside_ends Answers told.Reasons before after status never h = order_ends Answers IsTextReasons true before after status never h
 
 -- ---- of runs on workers
 refused_ends : (form : RunForm) (text answer : List ℕ) (status : Status) → refused_as form text answer status → status ≢ ends.Usage

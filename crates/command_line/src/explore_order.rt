@@ -1,16 +1,13 @@
 //! What comes of a text whose program is explored.
 
-ghost use Rattle.std.specs.Prelude.{◌≡◌, ◌≢◌, ◌<◌, ◌^◌, false, is_some};
-ghost use Rattle.command_line.specs.Explorings.{ObeysBeside, ObeysExplore};
-ghost use Rattle.outcome_trace.specs.Answers.{IsProgramAnswer};
+ghost use Rattle.std.specs.Prelude.{◌≡◌, ◌≢◌, ◌<◌, ◌^◌, false};
+ghost use Rattle.command_line.specs.Explorings.{ObeysExplore};
 ghost use Rattle.text_io.specs.Devices.{devices};
 
-use crate::order::obey_order;
-use command_words::{Beside, ExploreForm, Exploring};
-use exploration_text::{TimedOrder, WatchedOrder, obey_watched};
+use crate::watched_forms::obey_form;
+use command_words::{ExploreForm, Exploring};
 use json_answers::ExploreJson;
 use outcome_trace::{Status, TextIn, TextOut};
-use reasons::TextReasons;
 use std::alloc::Global;
 use std::time::Clock;
 use timelines::ExploreTimelineOrder;
@@ -50,36 +47,5 @@ pub fn obey_explore<C: Clock, I: TextIn, O: TextOut, E: TextOut>(
             let told = ExploreJson { order };
             obey_form(clock, alloc, told, seconds, beside, input, out, err)
         }
-    }
-}
-
-// Answers a text in one of the forms.
-fn obey_form<C: Clock, W: WatchedOrder + Drop, I: TextIn, O: TextOut, E: TextOut>(
-    clock: &C,
-    alloc: Global,
-    order: W,
-    seconds: Option<u64>,
-    beside: Beside,
-    input: &mut I,
-    out: &mut O,
-    err: &mut E,
-) -> Status
-    requires input { (I.seen input.old).failed ≡ false }
-    requires countable { (I.seen input.old).reads < 2 ^ 63 }
-    requires out { (O.seen out.old).failed ≡ false }
-    requires err { (E.seen err.old).failed ≡ false }
-    ensures { ObeysBeside beside (IsProgramAnswer W.Refusals.refuses (W.finds order (is_some seconds)))
-        (devices (I.seen input.old) (O.seen out.old) (E.seen err.old))
-        (devices (I.seen input.new) (O.seen out.new) (E.seen err.new)) result }
-{
-    let timed = TimedOrder {
-        clock,
-        seconds,
-        order,
-    };
-    match beside {
-        Beside::Nothing => obey_order(alloc, &timed, &TextReasons, false, input, out, err),
-        Beside::Progress => obey_watched(clock, alloc, &timed.order, seconds, input, out, err),
-        Beside::Reasons => obey_order(alloc, &timed, &TextReasons, true, input, out, err),
     }
 }

@@ -60,11 +60,6 @@ const APART: &[(&[&str], &str, &str)] = &[
         "json",
     ),
     (
-        &["fiber_cli", "explore", "--first", "--progress"],
-        "progress",
-        "first",
-    ),
-    (
         &["fiber_cli", "explore", "--first", "--timeline"],
         "timeline",
         "first",

@@ -93,10 +93,11 @@ pub record SaysExploring (options : List Row) (exploring : Exploring) : Type 0 w
 -- the search for the first finding that the options of `explore` say
 pub record SaysSeeking (options : List Row) (seeking : Seeking) : Type 0 where
   pub first : IsGiven (codes "first") options
-  pub alone : IsLeftOut (codes "progress") options × IsLeftOut (codes "timeline") options
+  pub alone : IsLeftOut (codes "timeline") options
   pub order : SaysExplore options seeking.order
   pub json : SaysFlag (codes "json") options seeking.json
-  pub explain : SaysFlag (codes "explain") options seeking.explain
+  pub seconds_are : SaysSeconds (first_of (codes "seconds") options) seeking.seconds
+  pub beside : SaysBeside options seeking.beside
 
 -- the run that the options of `run` say
 pub record SaysRunning (options : List Row) (running : Running) : Type 0 where

@@ -38,11 +38,6 @@ const CONFLICTS: &[Conflict] = &[
     },
     Conflict {
         subcommand: "explore",
-        first: "progress",
-        second: "first",
-    },
-    Conflict {
-        subcommand: "explore",
         first: "timeline",
         second: "json",
     },

@@ -80,15 +80,16 @@ searched_found code k wants i answers b a there unwanted each spelled same ends 
     again code k wants b a true false same ends is.reached unwanted (λ h. is) (λ h. absurd cc) (all_at IsSpellable answers i b there spelled)
 
 -- a whole exploration within fewer worlds
-pub widened : (code : Tree) (k : Limits) (fewer bounds : Bounds) (wants : List Want) (first : First) → fewer.worlds ≤ bounds.worlds →
-    fewer.entries ≡ bounds.entries → fewer.memory ≡ bounds.memory → IsDecided first → IsFirst code k fewer wants first → IsFirst code k bounds wants first
-widened code k fewer bounds wants (Found f) low entries memory decided h = h
-widened code k fewer bounds wants (Explored e) low entries memory complete h = (
+pub widened : (code : Tree) (k : Limits) (fewer bounds : Bounds) (timed : Bool) (wants : List Want) (first : First) → fewer.worlds ≤ bounds.worlds →
+    fewer.entries ≡ bounds.entries → fewer.memory ≡ bounds.memory → IsDecided first → IsFirst code k fewer timed wants first → IsFirst code k bounds timed wants first
+widened code k fewer bounds timed wants (Found f) low entries memory decided h = h
+widened code k fewer bounds timed wants (Explored e) low entries memory complete h = (
   record {
     all = h.0.all;
     each = h.0.each;
     once = h.0.once;
-    stopped = λ no. let bad : true ≡ false = sym complete ∙ no in absurd cc;
+    stopped = λ no _. let bad : true ≡ false = sym complete ∙ no in absurd cc;
+    halted = h.0.halted;
     room = at_most e.worlds fewer.worlds bounds.worlds low h.0.room;
     spare = λ is. subst (λ m. e.bytes < m) memory (h.0.spare is);
     short = subst (λ n. All (λ (a : Answer). length a.schedule ≤ n) e.answers) entries h.0.short;

@@ -14,6 +14,7 @@ use Rattle.world_search.specs.declared.answers.Bounds.{Bounds}
 use Rattle.world_search.specs.Answers.{IsAtBound}
 use Rattle.every_schedule.specs.Explored.{IsCovered, IsPastBound, IsReached, ListOnce}
 use Rattle.exploration_text.specs.declared.wants.Want.{Want}
+use Rattle.exploration_text.specs.Missing.{missing_of_exploration}
 use Rattle.exploration_text.specs.ExplorationText.{IsExplorationText, exploration_status}
 
 -- An exploration of code under these limits, within these bounds, whose time was limited or wasn't. Where it is
@@ -40,6 +41,13 @@ pub record IsExploredAnswer (t : Term) (limits : Limits) (bounds : Bounds) (time
     pub explored : IsExplorationOf (code_of (source_of t)) limits bounds timed exploration
     pub text_is : IsExplorationText wants exploration answer
     pub status_is : status ≡ exploration_status wants exploration
+
+-- such a text and status, beside the lines of the wanted outcomes to which no answer comes
+pub record IsNotedExplored (t : Term) (limits : Limits) (bounds : Bounds) (timed : Bool) (wants : List Want)
+    (note answer : List ℕ) (status : Status) : Type 0
+  where
+    pub explored : IsExploredAnswer t limits bounds timed wants answer status
+    pub note_is : note ≡ missing_of_exploration wants explored.exploration
 
 -- what `explore` answers under limits, with its status: a refusal, or the exploration of the program that the text
 -- spells

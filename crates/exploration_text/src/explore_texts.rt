@@ -2,8 +2,10 @@
 
 ghost use Rattle.std.specs.Prelude.{◌≤◌, false};
 ghost use Rattle.cell_registry.specs.Cells.{AreLimits};
-ghost use Rattle.exploration_text.specs.ExploreAnswers.{IsExploredAnswer};
+ghost use Rattle.exploration_text.specs.ExploreAnswers.{IsExploredAnswer, IsNotedExplored};
 
+use crate::missing::missing_of_exploration;
+use crate::noted::NotedAnswer;
 use crate::texts::{exploration_status, text_of_exploration};
 use crate::wants::Want;
 use crate::watched_orders::WatchedOrder;
@@ -33,22 +35,26 @@ pub struct ExploreOrder {
 impl WatchedOrder for ExploreOrder {
     type Refusals = InWords;
 
-    ghost finds = { λ order timed t. IsExploredAnswer t order.limits order.bounds timed order.wants.items };
+    ghost finds = { λ order timed note t.
+        IsNotedExplored t order.limits order.bounds timed order.wants.items note };
 
     fn answer_watched<V: Watcher>(
         &self,
         alloc: Global,
         program: &Program,
         watcher: &mut V,
-    ) -> Result<Answer, AllocError> {
+    ) -> Result<NotedAnswer, AllocError> {
         let Ok(exploration) = explore_watched(alloc, program, self.limits, self.bounds, watcher)
         else {
             return Err(AllocError);
         };
         let wants = self.wants.as_slice();
-        Ok(Answer {
-            text: text_of_exploration(alloc, &exploration, wants)?,
-            status: exploration_status(&exploration, wants),
+        Ok(NotedAnswer {
+            note: missing_of_exploration(alloc, &exploration, wants)?,
+            answer: Answer {
+                text: text_of_exploration(alloc, &exploration, wants)?,
+                status: exploration_status(&exploration, wants),
+            },
         })
     }
 }
@@ -59,6 +65,6 @@ impl ProgramOrder for ExploreOrder {
     ghost comes = { λ order t. IsExploredAnswer t order.limits order.bounds false order.wants.items };
 
     fn answer_program(&self, alloc: Global, program: &Program) -> Result<Answer, AllocError> {
-        self.answer_watched(alloc, program, &mut Unwatched)
+        Ok(self.answer_watched(alloc, program, &mut Unwatched)?.answer)
     }
 }

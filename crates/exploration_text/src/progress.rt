@@ -39,6 +39,17 @@ impl<'c, 'e, C: Clock, E: TextOut> Progress<'c, 'e, C, E> {
         }
     }
 
+    /// Tells a note, where there is one, unless a write has failed already.
+    pub(crate) fn tell_note(&mut self, note: &[u8]) {
+        if self.failed || note.is_empty() {
+            return;
+        }
+        self.failed = true;
+        if write_text(note, &mut *self.err).is_ok() {
+            self.failed = false;
+        }
+    }
+
     /// Tells of a fault, unless a write has failed already.
     pub(crate) fn tell_fault(&mut self, fault: TextFault) -> Status
         ensures { result ≡ Status.Fault }

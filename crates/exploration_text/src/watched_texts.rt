@@ -1,17 +1,19 @@
 //! The exploration of a text, which tells how far it has come while it goes.
 
-ghost use Rattle.std.specs.Prelude.{◌≡◌, ◌<◌, ◌^◌, false, IfOk, Result as TheResult, is_some};
+ghost use Rattle.std.specs.Prelude.{◌≡◌, ◌<◌, ◌^◌, ℕ, List, false, Err as Fails, IfErr, IfOk, Ok as GoesWell};
+ghost use Rattle.std.specs.Prelude.{Result as TheResult, is_some};
 ghost use Rattle.text_io.specs.declared.fault.TextFault.{TextFault as TheFault};
 ghost use Rattle.text_io.specs.declared.status.Status.{Status as TheStatus};
 ghost use Rattle.text_io.specs.Exchange.{IsAnswered};
 ghost use Rattle.text_io.specs.Telling.{status_of};
-ghost use Rattle.outcome_trace.specs.Answers.{IsProgramAnswer};
+ghost use Rattle.exploration_text.specs.Noting.{IsNotedAnswer};
 
+use crate::noted::NotedAnswer;
 use crate::progress::Progress;
 use crate::watched_orders::WatchedOrder;
 use every_schedule::{TimeLimit, Watcher};
 use outcome_trace::{
-    Answer, RefusalForm, Status, TextFault, TextIn, TextOut, read_program, read_text, write_text,
+    RefusalForm, Status, TextFault, TextIn, TextOut, read_program, read_text, write_text,
 };
 use std::alloc::{AllocError, Global};
 use std::time::{Clock, Duration};
@@ -36,8 +38,8 @@ pub fn obey_watched<C: Clock, W: WatchedOrder, I: TextIn, O: TextOut, E: TextOut
     requires countable { (I.seen input.old).reads < 2 ^ 63 }
     requires out { (O.seen out.old).failed ≡ false }
     requires err { (E.seen err.old).failed ≡ false }
-    ensures { (outcome : TheResult TheStatus TheFault) × IsAnswered (IsProgramAnswer W.Refusals.refuses
-        (W.finds order.now (is_some seconds))) (I.seen input.old) (I.seen input.new) (O.seen out.old)
+    ensures { (note : List ℕ) × (outcome : TheResult TheStatus TheFault) × IsAnswered (IsNotedAnswer W.Refusals.refuses
+        (W.finds order.now (is_some seconds)) note) (I.seen input.old) (I.seen input.new) (O.seen out.old)
         (O.seen out.new) outcome × (result ≡ status_of outcome) }
 {
     let mut progress = Progress {
@@ -48,9 +50,19 @@ pub fn obey_watched<C: Clock, W: WatchedOrder, I: TextIn, O: TextOut, E: TextOut
         failed: false,
     };
     match watched_text(alloc, order, input, out, &mut progress) {
-        Ok(status) => status,
+        Ok(watched) => {
+            progress.tell_note(watched.note.as_slice());
+            watched.status
+        }
         Err(fault) => progress.tell_fault(fault),
     }
+}
+
+// An answer that went out: its note and its status.
+#[derive(Drop)]
+struct Watched {
+    note: Vec<u8>,
+    status: Status,
 }
 
 // Reads a text, and writes its answer, while its search is watched.
@@ -60,31 +72,41 @@ fn watched_text<W: WatchedOrder, I: TextIn, O: TextOut, V: Watcher>(
     input: &mut I,
     out: &mut O,
     watcher: &mut V,
-) -> Result<Status, TextFault>
+) -> Result<Watched, TextFault>
     requires input { (I.seen input.old).failed ≡ false }
     requires countable { (I.seen input.old).reads < 2 ^ 63 }
     requires out { (O.seen out.old).failed ≡ false }
-    ensures { IsAnswered (IsProgramAnswer W.Refusals.refuses (W.finds order.now (V.can_stop watcher.old)))
-        (I.seen input.old) (I.seen input.new) (O.seen out.old) (O.seen out.new) result }
+    ensures watched { IfOk result (λ w. IsAnswered (IsNotedAnswer W.Refusals.refuses
+        (W.finds order.now (V.can_stop watcher.old)) w.note.items)
+        (I.seen input.old) (I.seen input.new) (O.seen out.old) (O.seen out.new) (GoesWell w.status)) }
+    ensures fault { IfErr result (λ e. (note : List ℕ) × IsAnswered (IsNotedAnswer W.Refusals.refuses
+        (W.finds order.now (V.can_stop watcher.old)) note)
+        (I.seen input.old) (I.seen input.new) (O.seen out.old) (O.seen out.new) (Fails e)) }
 {
     let text = read_text(alloc, input)?;
-    let answer = read_answer(alloc, text.as_slice(), order, watcher)?;
+    let NotedAnswer { answer, note } = read_answer(alloc, text.as_slice(), order, watcher)?;
     write_text(answer.text.as_slice(), out)?;
-    Ok(answer.status)
+    Ok(Watched {
+        note,
+        status: answer.status,
+    })
 }
 
-// The answer to a text.
+// The answer to a text, with its note. A refusal has none.
 fn read_answer<W: WatchedOrder, V: Watcher>(
     alloc: Global,
     text: &[u8],
     order: &W,
     watcher: &mut V,
-) -> Result<Answer, AllocError>
-    ensures { IfOk result (λ a. IsProgramAnswer W.Refusals.refuses (W.finds order.now (V.can_stop watcher.old))
-        text.now a.text.items a.status) }
+) -> Result<NotedAnswer, AllocError>
+    ensures { IfOk result (λ n. IsNotedAnswer W.Refusals.refuses (W.finds order.now (V.can_stop watcher.old))
+        n.note.items text.now n.answer.text.items n.answer.status) }
 {
     match read_program(alloc, text) {
         Ok(program) => order.answer_watched(alloc, &program, watcher),
-        Err(refused) => W::Refusals::refused_answer(alloc, text, refused),
+        Err(refused) => Ok(NotedAnswer {
+            answer: W::Refusals::refused_answer(alloc, text, refused)?,
+            note: Vec::new(alloc),
+        }),
     }
 }

@@ -16,7 +16,7 @@ use Rattle.exploration_text.specs.ExplorationText.{exploration_status}
 use Rattle.exploration_text.specs.ExploreAnswers.{IsExplorationOf}
 use Rattle.sampled_schedules.specs.declared.comings.Sample.{Sample}
 use Rattle.exploration_text.specs.SampleAnswers.{IsSampleAt}
-use Rattle.exploration_text.specs.Missing.{missing_of_sample}
+use Rattle.exploration_text.specs.Missing.{missing_of_exploration, missing_of_sample}
 use Rattle.exploration_text.specs.SampleText.{sample_status}
 use Rattle.serde_json.specs.Data.{Data}
 use Rattle.json_answers.specs.Answers.{IsJsonRefusal}
@@ -34,6 +34,13 @@ pub record IsJsonExplored (t : Term) (limits : Limits) (bounds : Bounds) (timed 
     pub value_is : IsExplorationData wants exploration value
     pub text_is : answer ≡ line_of_data value
     pub status_is : status ≡ exploration_status wants exploration
+
+-- such a value and status, beside the lines of the wanted outcomes to which no answer comes
+pub record IsNotedJsonExplored (t : Term) (limits : Limits) (bounds : Bounds) (timed : Bool) (wants : List Want)
+    (note answer : List ℕ) (status : Status) : Type 0
+  where
+    pub explored : IsJsonExplored t limits bounds timed wants answer status
+    pub note_is : note ≡ missing_of_exploration wants explored.exploration
 
 -- what `explore` answers under limits: a refusal, or the exploration of the program that the text spells
 abbrev pub IsJsonExplore : Limits → Bounds → (timed : Bool) → List Want → List ℕ → List ℕ → Status → Type 0

@@ -1,14 +1,16 @@
 //! Texts whose programs are explored, answered in JSON.
 
 ghost use Rattle.std.specs.Prelude.{false};
-ghost use Rattle.json_answers.specs.FoundAnswers.{IsJsonExplored};
+ghost use Rattle.json_answers.specs.FoundAnswers.{IsJsonExplored, IsNotedJsonExplored};
 
 use crate::exploration_values::exploration_json;
 use crate::refusals::InJson;
 use crate::values::value_answer;
 use effect_term::Program;
 use every_schedule::{Unwatched, Watcher, explore_watched};
-use exploration_text::{ExploreOrder, WatchedOrder, exploration_status};
+use exploration_text::{
+    ExploreOrder, NotedAnswer, WatchedOrder, exploration_status, missing_of_exploration,
+};
 use outcome_trace::{Answer, ProgramOrder};
 use std::alloc::{AllocError, Global};
 
@@ -23,14 +25,15 @@ pub struct ExploreJson {
 impl WatchedOrder for ExploreJson {
     type Refusals = InJson;
 
-    ghost finds = { λ it timed t. IsJsonExplored t it.order.limits it.order.bounds timed it.order.wants.items };
+    ghost finds = { λ it timed note t.
+        IsNotedJsonExplored t it.order.limits it.order.bounds timed it.order.wants.items note };
 
     fn answer_watched<V: Watcher>(
         &self,
         alloc: Global,
         program: &Program,
         watcher: &mut V,
-    ) -> Result<Answer, AllocError> {
+    ) -> Result<NotedAnswer, AllocError> {
         let order = &self.order;
         let Ok(exploration) = explore_watched(alloc, program, order.limits, order.bounds, watcher)
         else {
@@ -38,7 +41,10 @@ impl WatchedOrder for ExploreJson {
         };
         let wants = order.wants.as_slice();
         let value = exploration_json(alloc, &exploration, wants)?;
-        value_answer(alloc, &value, exploration_status(&exploration, wants))
+        Ok(NotedAnswer {
+            note: missing_of_exploration(alloc, &exploration, wants)?,
+            answer: value_answer(alloc, &value, exploration_status(&exploration, wants))?,
+        })
     }
 }
 
@@ -48,6 +54,6 @@ impl ProgramOrder for ExploreJson {
     ghost comes = { λ it t. IsJsonExplored t it.order.limits it.order.bounds false it.order.wants.items };
 
     fn answer_program(&self, alloc: Global, program: &Program) -> Result<Answer, AllocError> {
-        self.answer_watched(alloc, program, &mut Unwatched)
+        Ok(self.answer_watched(alloc, program, &mut Unwatched)?.answer)
     }
 }

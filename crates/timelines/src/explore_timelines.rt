@@ -4,7 +4,7 @@ ghost use Rattle.std.specs.Prelude.{IfOk, false};
 ghost use Rattle.std.specs.List.{All};
 ghost use Rattle.cell_registry.specs.Cells.{AreLimits};
 ghost use Rattle.exploration_text.specs.ExplorationText.{IsSpellable};
-ghost use Rattle.timelines.specs.ExploreTimelines.{IsToldExploration, IsToldExplored, IsToldPart, IsToldText};
+ghost use Rattle.timelines.specs.ExploreTimelines.{IsNotedTold, IsToldExploration, IsToldExplored, IsToldPart, IsToldText};
 
 use crate::timeline_order::push_rows;
 use crate::timeline_rows::timeline;
@@ -12,7 +12,8 @@ use cell_registry::Limits;
 use effect_term::Program;
 use every_schedule::{Answer, Exploration, Unwatched, Watcher, explore_watched};
 use exploration_text::{
-    ExploreOrder, Want, WatchedOrder, exploration_status, first_line, is_listed_so, text_of_answer,
+    ExploreOrder, NotedAnswer, Want, WatchedOrder, exploration_status, first_line, is_listed_so,
+    missing_of_exploration, text_of_answer,
 };
 use fiber_events::replay_events;
 use outcome_trace::{InWords, ProgramOrder};
@@ -31,14 +32,15 @@ pub struct ExploreTimelineOrder {
 impl WatchedOrder for ExploreTimelineOrder {
     type Refusals = InWords;
 
-    ghost finds = { λ it timed t. IsToldExplored t it.order.limits it.order.bounds timed it.order.wants.items };
+    ghost finds = { λ it timed note t.
+        IsNotedTold t it.order.limits it.order.bounds timed it.order.wants.items note };
 
     fn answer_watched<V: Watcher>(
         &self,
         alloc: Global,
         program: &Program,
         watcher: &mut V,
-    ) -> Result<outcome_trace::Answer, AllocError> {
+    ) -> Result<NotedAnswer, AllocError> {
         let ExploreOrder {
             limits,
             bounds,
@@ -47,9 +49,13 @@ impl WatchedOrder for ExploreTimelineOrder {
         let Ok(exploration) = explore_watched(alloc, program, *limits, *bounds, watcher) else {
             return Err(AllocError);
         };
-        Ok(outcome_trace::Answer {
-            text: told_exploration(alloc, program, *limits, &exploration, wants.as_slice())?,
-            status: exploration_status(&exploration, wants.as_slice()),
+        let wants = wants.as_slice();
+        Ok(NotedAnswer {
+            note: missing_of_exploration(alloc, &exploration, wants)?,
+            answer: outcome_trace::Answer {
+                text: told_exploration(alloc, program, *limits, &exploration, wants)?,
+                status: exploration_status(&exploration, wants),
+            },
         })
     }
 }
@@ -64,7 +70,7 @@ impl ProgramOrder for ExploreTimelineOrder {
         alloc: Global,
         program: &Program,
     ) -> Result<outcome_trace::Answer, AllocError> {
-        self.answer_watched(alloc, program, &mut Unwatched)
+        Ok(self.answer_watched(alloc, program, &mut Unwatched)?.answer)
     }
 }
 
