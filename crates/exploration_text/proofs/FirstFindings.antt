@@ -19,7 +19,7 @@ use Rattle.exploration_text.specs.declared.findings.First.{First}
 use Rattle.exploration_text.specs.declared.findings.First.TheVariants.{Explored, Found}
 use Rattle.exploration_text.specs.declared.wants.Want.{Want}
 use Rattle.exploration_text.specs.ExplorationText.{IsSpellable}
-use Rattle.exploration_text.specs.Findings.{HasEndedFirst, IsDecided, IsFinding, IsFirst, IsLast, Shows}
+use Rattle.exploration_text.specs.Findings.{HasEndedFirst, IsDecided, IsFinding, IsFirst, IsLast, Shows, ended, final}
 use Rattle.exploration_text.specs.Wants.{is_failure}
 
 faulted : (k : Limits) (x : Result World RunError) (e : RunError) → reported x ≡ Err e → IfOk x (IsSettled k)
@@ -42,16 +42,16 @@ again : (code : Tree) (k : Limits) (wants : List Want) (b a : Answer) (last draw
     reported (core code k b.schedule) ≡ a.end → reported (core code k b.schedule) ≡ b.end → is_failure wants b.end ≡ true →
     (last ≡ true → IsReached code k b) → (last ≡ false → HasEndedFirst b.end) → IsSpellable b →
     IsFinding code k wants record { answer = a; last = last; drawn = drawn }
-again code k wants b a last drawn same ends is unwanted final ended spelled =
+again code k wants b a last drawn same ends is unwanted stays has spelled =
     let end : a.end ≡ b.end = sym ends ∙ is in
     record {
       reached = ap (λ s. reported (core code k s)) same ∙ ends;
       unwanted = ap (is_failure wants) end ∙ unwanted;
       last = λ h. record {
         reached = ap (λ s. reported (core code k s)) same ∙ ends;
-        settled = subst (λ s. IfOk (core code k s) (IsSettled k)) (sym same) (final h).settled;
+        settled = subst (λ s. IfOk (core code k s) (IsSettled k)) (sym same) (stays h).settled;
       };
-      ended = λ h. subst HasEndedFirst (sym end) (ended h);
+      ended = λ h. subst HasEndedFirst (sym end) (has h);
       spelled = record {
         numbers = subst (λ s. All (λ f. f < 1000) s) (sym same) spelled.numbers;
         few = subst (λ s. length s ≤ 1000000) (sym same) spelled.few;
@@ -65,10 +65,14 @@ pub drawn_found : (code : Tree) (k : Limits) (wants : List Want) (most i : ℕ) 
     All (λ (c : Coming). length c.answer.schedule < most → IsReached code k c.answer) comings →
     All (λ (c : Coming). IsSpellable c.answer) comings → a.schedule ≡ c.answer.schedule → reported (core code k c.answer.schedule) ≡ a.end →
     IsFinding code k wants record { answer = a; last = last; drawn = true }
-drawn_found code k wants most i comings c a last there shows each stays spelled same ends =
+drawn_found code k wants most i comings c a true there (final unwanted whole) each stays spelled same ends =
     let is = all_at (λ (c : Coming). reported (core code k c.answer.schedule) ≡ c.answer.end) comings i c there each in
     let stay = all_at (λ (c : Coming). length c.answer.schedule < most → IsReached code k c.answer) comings i c there stays in
-    again code k wants c.answer a last true same ends is shows.unwanted (λ h. reached_so code k most c.answer is stay (shows.last h)) shows.ended
+    again code k wants c.answer a true true same ends is unwanted (λ h. reached_so code k most c.answer is stay whole) (λ h. absurd cc)
+    (all_at (λ (c : Coming). IsSpellable c.answer) comings i c there spelled)
+drawn_found code k wants most i comings c a false there (ended unwanted has) each stays spelled same ends =
+    let is = all_at (λ (c : Coming). reported (core code k c.answer.schedule) ≡ c.answer.end) comings i c there each in
+    again code k wants c.answer a false true same ends is unwanted (λ h. absurd cc) (λ h. has)
     (all_at (λ (c : Coming). IsSpellable c.answer) comings i c there spelled)
 
 -- an answer of an exploration

@@ -104,7 +104,6 @@ IsLast most a = (length a.schedule < most) ⊎ ((e : RunError) × (a.end ≡ Err
 
 -- an answer whose schedule has at most so many entries shows that the program isn't right: its end is final, or
 -- fiber 0 has ended
-pub record Shows (wants : List Want) (most : ℕ) (a : Answer) (last : Bool) : Type 0 where
-  pub unwanted : is_failure wants a.end ≡ true
-  pub last : last ≡ true → IsLast most a
-  pub ended : last ≡ false → HasEndedFirst a.end
+pub data Shows (wants : List Want) (most : ℕ) (a : Answer) : (last : Bool) → Type 0 where
+  final : is_failure wants a.end ≡ true → IsLast most a → Shows wants most a true
+  ended : is_failure wants a.end ≡ true → HasEndedFirst a.end → Shows wants most a false

@@ -17,7 +17,7 @@ use crate::wants::Want;
 use cell_registry::{Limits, RunError};
 use effect_term::Program;
 use every_schedule::{Answer, Bounds, Exploration, Schedule, Watcher, explore_watched};
-use outcome_trace::replay;
+use outcome_trace::{Report, replay};
 use sampled_schedules::{Coming, sample};
 use std::alloc::{AllocError, Global};
 
@@ -232,11 +232,11 @@ fn shown(answer: &Answer, wants: &[Want], entries: u32) -> Option<bool>
     match &answer.end {
         Ok(report) => {
             if answer.schedule.as_slice().len() < entries as usize {
-                Some(true)
-            } else if first_outcome(report).is_some() {
-                Some(false)
-            } else {
-                None
+                return Some(true);
+            }
+            match first_outcome(report) {
+                Some(_) => Some(false),
+                None => None,
             }
         }
         Err(_) => Some(true),
@@ -270,11 +270,26 @@ fn replayed(
         reported (core (code_of (source_of program.now)) limits schedule.now) ≡ a.end) }
 {
     let entries = Vec::from_slice(alloc, schedule)?;
+    Ok(Answer {
+        schedule: Schedule::new(entries),
+        end: replayed_end(alloc, program, limits, schedule)?,
+    })
+}
+
+// What a replay under a schedule answers. Want of memory is no answer.
+fn replayed_end(
+    alloc: Global,
+    program: &Program,
+    limits: Limits,
+    schedule: &[u16],
+) -> Result<Result<Report, RunError>, AllocError>
+    requires { AreLimits limits }
+    ensures { IfOk result (λ end.
+        reported (core (code_of (source_of program.now)) limits schedule.now) ≡ end) }
+{
     match replay(alloc, program, schedule, limits) {
+        Ok(report) => Ok(Ok(report)),
         Err(RunError::NoMemory) => Err(AllocError),
-        end => Ok(Answer {
-            schedule: Schedule::new(entries),
-            end,
-        }),
+        Err(fault) => Ok(Err(fault)),
     }
 }
