@@ -10,13 +10,13 @@ use Rattle.exploration_text.proofs.Parts.{from_here}
 abbrev pub IsFront : Bool → (Want → Bool) → List Want → ℕ → List ℕ → Type 0
 IsFront all comes wants i text = text ++ missing_lines all comes (drop i wants) ≡ missing_lines all comes wants
 
-pub passed_over : (all : Bool) (comes : Want → Bool) (wants : List Want) (i : ℕ) (w : Want) (text : List ℕ) → i < length wants → w ≡ get_or wants i w →
-    comes w ≡ true → IsFront all comes wants i text → IsFront all comes wants (i + 1) text
-passed_over all comes wants i w text low at so front =
+pub passed_over : (all : Bool) (comes : Want → Bool) (wants : List Want) (i : ℕ) (w : Want) (text new : List ℕ) → i < length wants →
+    w ≡ get_or wants i w → comes w ≡ true → new ≡ text → IsFront all comes wants i text → IsFront all comes wants (i + 1) new
+passed_over all comes wants i w text new low at so is front =
     let rest = missing_lines all comes (drop (i + 1) wants) in
     let here : missing_lines all comes (drop i wants) ≡ rest =
     ap (missing_lines all comes) (from_here wants i w low at) ∙ ap (λ b. if b then rest else missing_line all w ++ rest) so in
-    ap (λ t. text ++ t) (sym here) ∙ front
+    ap (λ t. t ++ rest) is ∙ ap (λ t. text ++ t) (sym here) ∙ front
 
 pub named : (all : Bool) (comes : Want → Bool) (wants : List Want) (i : ℕ) (w : Want) (text new : List ℕ) → i < length wants → w ≡ get_or wants i w →
     comes w ≡ false → new ≡ text ++ missing_line all w → IsFront all comes wants i text → IsFront all comes wants (i + 1) new

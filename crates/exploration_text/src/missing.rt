@@ -1,7 +1,9 @@
 //! The wanted outcomes of fiber 0 that nothing comes to.
 
-ghost use Rattle.std.specs.Prelude.{◌≡◌, ◌++◌, IfOk, OnOk};
+ghost use Rattle.std.specs.Prelude.{◌≡◌, ◌++◌, IfOk, OnOk, Some};
+ghost use Rattle.std.specs.Fmt.{signed_decimal};
 ghost use Rattle.std.specs.List.{list_any};
+ghost use Rattle.outcome_trace.specs.ReportText.{outcome_text};
 ghost use Rattle.exploration_text.specs.Missing.{has_outcome, missing_front, missing_line, missing_of_exploration};
 ghost use Rattle.exploration_text.specs.Missing.{missing_of_sample};
 ghost use Rattle.exploration_text.specs.Wants.{want_text};
@@ -27,7 +29,7 @@ pub fn missing_of_exploration(
 {
     let mut text = Vec::new(alloc);
     for want in wants {
-        if !answer_has(exploration.answers.as_slice(), *want) {
+        if !answer_has(exploration.answers.as_slice(), want) {
             push_line(&mut text, exploration.complete, *want)?;
         }
     }
@@ -44,7 +46,7 @@ pub fn missing_of_sample(
 {
     let mut text = Vec::new(alloc);
     for want in wants {
-        if !coming_has(sample.comings.as_slice(), *want) {
+        if !coming_has(sample.comings.as_slice(), want) {
             push_line(&mut text, false, *want)?;
         }
     }
@@ -52,8 +54,8 @@ pub fn missing_of_sample(
 }
 
 // Whether an answer has a wanted outcome.
-fn answer_has(answers: &[Answer], want: Want) -> bool
-    ensures { result ≡ list_any (λ a. has_outcome want a.end) answers.now }
+fn answer_has(answers: &[Answer], want: &Want) -> bool
+    ensures { result ≡ list_any (λ a. has_outcome want.now a.end) answers.now }
 {
     for answer in answers {
         if has_outcome(&answer.end, want) {
@@ -64,8 +66,8 @@ fn answer_has(answers: &[Answer], want: Want) -> bool
 }
 
 // Whether one of the ends of a sample has a wanted outcome.
-fn coming_has(comings: &[Coming], want: Want) -> bool
-    ensures { result ≡ list_any (λ c. has_outcome want c.answer.end) comings.now }
+fn coming_has(comings: &[Coming], want: &Want) -> bool
+    ensures { result ≡ list_any (λ c. has_outcome want.now c.answer.end) comings.now }
 {
     for coming in comings {
         if has_outcome(&coming.answer.end, want) {
@@ -76,8 +78,8 @@ fn coming_has(comings: &[Coming], want: Want) -> bool
 }
 
 // Whether an end is a report whose fiber 0 is as wanted.
-fn has_outcome(end: &Result<Report, RunError>, want: Want) -> bool
-    ensures { result ≡ has_outcome want end.now }
+fn has_outcome(end: &Result<Report, RunError>, want: &Want) -> bool
+    ensures { result ≡ has_outcome want.now end.now }
 {
     match end {
         Ok(report) => want.is_met(first_outcome(report)),
@@ -109,17 +111,28 @@ fn missing_front(all: bool) -> &'static [u8]
 fn push_want(text: &mut Vec<u8>, want: Want) -> Result<(), AllocError>
     ensures { OnOk result (text.new.items ≡ text.old.items ++ want_text want) }
 {
-    let mut digits = Buffer::new();
     match want {
-        Want::Ended(Outcome::Succeeded(value)) => {
-            text.extend_from_slice(b"succeeded ")?;
-            text.extend_from_slice(digits.format(value.get()).as_bytes())
-        }
-        Want::Ended(Outcome::Errored(code)) => {
-            text.extend_from_slice(b"errored ")?;
-            text.extend_from_slice(digits.format(code.get()).as_bytes())
-        }
-        Want::Ended(Outcome::Canceled) => text.extend_from_slice(b"canceled"),
+        Want::Ended(outcome) => push_outcome(text, outcome),
         Want::Unended => text.extend_from_slice(b"unended"),
     }
+}
+
+// Writes an outcome as a report spells it.
+fn push_outcome(text: &mut Vec<u8>, outcome: Outcome) -> Result<(), AllocError>
+    ensures { OnOk result (text.new.items ≡ text.old.items ++ outcome_text (Some outcome)) }
+{
+    match outcome {
+        Outcome::Succeeded(value) => push_number(text, b"succeeded ", value.get()),
+        Outcome::Errored(code) => push_number(text, b"errored ", code.get()),
+        Outcome::Canceled => text.extend_from_slice(b"canceled"),
+    }
+}
+
+// Writes a word and a number.
+fn push_number(text: &mut Vec<u8>, word: &[u8], number: i64) -> Result<(), AllocError>
+    ensures { OnOk result (text.new.items ≡ text.old.items ++ (word.now ++ signed_decimal number)) }
+{
+    let mut digits = Buffer::new();
+    text.extend_from_slice(word)?;
+    text.extend_from_slice(digits.format(number).as_bytes())
 }

@@ -14,15 +14,11 @@ use Rattle.world_search.specs.declared.answers.Bounds.{Bounds}
 use Rattle.exploration_text.specs.declared.wants.Want.{Want}
 use Rattle.exploration_text.specs.ExplorationText.{exploration_status}
 use Rattle.exploration_text.specs.ExploreAnswers.{IsExplorationOf}
-use Rattle.sampled_schedules.specs.declared.comings.Sample.{Sample}
-use Rattle.exploration_text.specs.SampleAnswers.{IsSampleAt}
-use Rattle.exploration_text.specs.SampleText.{sample_status}
 use Rattle.serde_json.specs.Data.{Data}
 use Rattle.json_answers.specs.Answers.{IsJsonRefusal}
 use Rattle.json_answers.specs.ExplorationData.{IsExplorationData}
 use Rattle.json_answers.specs.FoundAnswers.{IsJsonExplored, IsJsonSample, IsJsonSampled, samples, unsampled}
 use Rattle.json_answers.specs.ReportData.{line_of_data}
-use Rattle.json_answers.specs.SampleData.{IsSampleData}
 
 pub exploration_answers : {E : Type 0} (t : Term) (limits : Limits) (bounds : Bounds) (timed : Bool) (wants seen : List Want) (e : Exploration) (d : Data) (status : Status)
     (a : Result Answer E) → seen ≡ wants → IsExplorationOf (code_of (source_of t)) limits bounds timed e → IsExplorationData seen e d →
@@ -37,20 +33,6 @@ exploration_answers t limits bounds timed wants seen e d status (Ok a) same expl
   status_is = subst (λ ws. a.status ≡ exploration_status ws e) same (so ∙ ends);
 }
 exploration_answers t limits bounds timed wants seen e d status (Err x) same explored is ends line so = tt
-
-pub sample_answers : {E : Type 0} (t : Term) (limits : Limits) (seed times entries : ℕ) (wants seen : List Want) (s : Sample) (d : Data)
-    (status : Status) (a : Result Answer E) → seen ≡ wants → IsSampleAt (code_of (source_of t)) limits times entries s →
-    IsSampleData seen seed s d → status ≡ sample_status seen s → IfOk a (λ a. a.text.items ≡ line_of_data d) → IfOk a (λ a. a.status ≡ status) →
-    IfOk a (λ a. IsJsonSampled t limits seed times entries wants a.text.items a.status)
-sample_answers t limits seed times entries wants seen s d status (Ok a) same sampled is ends line so = record {
-  sample = s;
-  sampled = sampled;
-  value = d;
-  value_is = subst (λ ws. IsSampleData ws seed s d) same is;
-  text_is = line;
-  status_is = subst (λ ws. a.status ≡ sample_status ws s) same (so ∙ ends);
-}
-sample_answers t limits seed times entries wants seen s d status (Err x) same sampled is ends line so = tt
 
 pub program_sampled : {E : Type 0} (text : List ℕ) (limits : Limits) (seed times entries : ℕ) (wants : List Want) (t : Term) (a : Result Answer E) →
     reading text ≡ Ok (atoms_of t) → IsProgram t → IfOk a (λ a. IsJsonSampled t limits seed times entries wants a.text.items a.status) →
