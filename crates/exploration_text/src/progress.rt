@@ -6,7 +6,7 @@ use every_schedule::{TimeLimit, Watcher};
 use itoa::Buffer;
 use outcome_trace::{Status, TextFault, TextOut, tell_fault, write_text};
 use std::alloc::{AllocError, Global};
-use std::time::{Clock, Duration};
+use std::time::{Clock, Duration, Instant};
 
 /// Writes a line at most once a second, from the first second on: how many worlds were found, how many of them a second
 /// since it began, and how long the schedules are. Where the clock fails no line is written, and after a write that
@@ -14,7 +14,10 @@ use std::time::{Clock, Duration};
 #[derive(Drop)]
 pub(crate) struct Progress<'c, 'e, C: Clock, E: TextOut> {
     pub(crate) alloc: Global,
-    pub(crate) limit: TimeLimit<'c, C>,
+    pub(crate) clock: &'c C,
+    pub(crate) begun: Option<Instant>,
+    pub(crate) seconds: Option<u64>,
+    pub(crate) stopped: bool,
     pub(crate) told: Duration,
     pub(crate) err: &'e mut E,
     pub(crate) failed: bool,
@@ -24,7 +27,7 @@ pub(crate) struct Progress<'c, 'e, C: Clock, E: TextOut> {
 impl<'c, 'e, C: Clock, E: TextOut> Progress<'c, 'e, C, E> {
     // Writes how far it has come by now, unless a line was written within the last second.
     fn tell(&mut self, worlds: usize, depth: usize, time: Duration)
-        ensures { self.new.limit ≡ self.old.limit }
+        ensures { self.new.seconds ≡ self.old.seconds }
     {
         if self.failed || !is_second(self.told, time) {
             return;
@@ -63,16 +66,24 @@ impl<'c, 'e, C: Clock, E: TextOut> Progress<'c, 'e, C, E> {
 }
 
 impl<'c, 'e, C: Clock, E: TextOut> Watcher for Progress<'c, 'e, C, E> {
-    ghost can_stop = { λ it. is_some it.limit.seconds };
+    ghost can_stop = { λ it. is_some it.seconds };
 
-    ghost has_stopped = { λ it. it.limit.stopped };
+    ghost has_stopped = { λ it. it.stopped };
 
     fn goes_on(&mut self, worlds: usize, depth: usize) -> bool {
-        let time = self.limit.elapsed();
+        let mut limit = TimeLimit {
+            clock: self.clock,
+            begun: self.begun,
+            seconds: self.seconds,
+            stopped: self.stopped,
+        };
+        let time = limit.elapsed();
         if let Some(time) = time {
             self.tell(worlds, depth, time);
         }
-        self.limit.goes_on_at(time)
+        let goes_on = limit.goes_on_at(time);
+        self.stopped = limit.stopped;
+        goes_on
     }
 }
 

@@ -11,12 +11,12 @@ ghost use Rattle.exploration_text.specs.Noting.{IsNotedAnswer};
 use crate::noted::NotedAnswer;
 use crate::progress::Progress;
 use crate::watched_orders::WatchedOrder;
-use every_schedule::{TimeLimit, Watcher};
+use every_schedule::Watcher;
 use outcome_trace::{
     RefusalForm, Status, TextFault, TextIn, TextOut, read_program, read_text, write_text,
 };
 use std::alloc::{AllocError, Global};
-use std::time::{Clock, Duration};
+use std::time::{Clock, Duration, Instant};
 
 /// Reads a text, and writes what its program comes to under every schedule, exactly as `obey_text` does with a
 /// [`TimedOrder`](crate::TimedOrder) of these seconds; meanwhile a line goes to the last device at most once a second,
@@ -44,7 +44,10 @@ pub fn obey_watched<C: Clock, W: WatchedOrder, I: TextIn, O: TextOut, E: TextOut
 {
     let mut progress = Progress {
         alloc,
-        limit: TimeLimit::new(clock, seconds),
+        clock,
+        begun: Instant::now(clock).ok(),
+        seconds,
+        stopped: false,
         told: Duration::ZERO,
         err,
         failed: false,

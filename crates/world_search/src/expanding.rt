@@ -1,6 +1,6 @@
 //! The entries at each world that was met, in turn.
 
-ghost use Rattle.std.specs.Prelude.{◌≡◌, ◌⊎◌, ℕ, ◌+◌, ◌*◌, ◌<◌, ◌≤◌, length, true, false, max, IfOk, OnOk, Some};
+ghost use Rattle.std.specs.Prelude.{◌≡◌, ◌≢◌, ◌⊎◌, ℕ, ◌+◌, ◌*◌, ◌<◌, ◌≤◌, length, true, false, max, IfOk, OnOk, Some};
 ghost use Rattle.std.specs.List.{slice_get};
 ghost use Rattle.world_search.specs.declared.graphs.Node.{Node};
 ghost use Rattle.world_search.specs.Answers.{bytes_of};
@@ -111,8 +111,8 @@ pub fn explore<W: Worlds, V: Watcher>(
         }
         index += 1;
     }
-    if whole && is_all(&*worlds, &*graph, index, limits) {
-        Ok(Closing::Whole)
+    if whole {
+        Ok(closing_at(&*worlds, &*graph, index, limits))
     } else {
         Ok(Closing::Bounded)
     }
@@ -138,15 +138,21 @@ fn has_room<W: Worlds>(worlds: &W, graph: &Graph, index: usize, limits: Limits) 
     index < limits.worlds as usize && bytes_of(worlds, graph) < limits.memory
 }
 
-// Whether this is the number of all worlds that were met, and the memory is within its limit.
-fn is_all<W: Worlds>(worlds: &W, graph: &Graph, index: usize, limits: Limits) -> bool
-    ensures all { result ≡ true → length graph.now.nodes.items ≤ index }
-    ensures spare { result ≡ true → bytes_of (length (W.worlds worlds.now)) (length graph.now.edges.items)
+// How the making of entries ended, by whether this is the number of all worlds that were met, and the memory is within
+// its limit.
+fn closing_at<W: Worlds>(worlds: &W, graph: &Graph, index: usize, limits: Limits) -> Closing
+    ensures all { result ≡ Closing.Whole → length graph.now.nodes.items ≤ index }
+    ensures spare { result ≡ Closing.Whole → bytes_of (length (W.worlds worlds.now)) (length graph.now.edges.items)
         (W.bytes worlds.now) < limits.memory }
-    ensures isnt { result ≡ false → (index < length graph.now.nodes.items) ⊎
+    ensures goes { result ≢ Closing.Halted }
+    ensures isnt { result ≡ Closing.Bounded → (index < length graph.now.nodes.items) ⊎
         (limits.memory ≤ bytes_of (length (W.worlds worlds.now)) (length graph.now.edges.items) (W.bytes worlds.now)) }
 {
-    index >= graph.nodes.len() && bytes_of(worlds, graph) < limits.memory
+    if index >= graph.nodes.len() && bytes_of(worlds, graph) < limits.memory {
+        Closing::Whole
+    } else {
+        Closing::Bounded
+    }
 }
 
 // Whether the watcher lets the search go on, if it is asked at the world of this number.
