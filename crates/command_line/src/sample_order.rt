@@ -12,8 +12,8 @@ use reasons::TextReasons;
 use std::alloc::Global;
 
 /// Tells what schedules of a text's program come to that are drawn at random, and gives the status: that of the answer,
-/// and `Status::Fault` where a device failed or memory ran out. All but the answer is told on the last device, the wanted
-/// outcomes that no schedule came to, too.
+/// and `Status::Fault` where a device failed or memory ran out. All but the answer is told on the last device, also the
+/// wanted outcomes that no schedule came to.
 pub fn obey_sample<I: TextIn, O: TextOut, E: TextOut>(
     alloc: Global,
     sampling: Sampling,

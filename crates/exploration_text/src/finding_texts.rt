@@ -16,8 +16,8 @@ use outcome_trace::{Answer, InWords, Status, schedule_text};
 use std::alloc::{AllocError, Global};
 
 /// Looks for the first finding of the program that the text spells ([`first_finding`]), and answers its text with
-/// `Status::Errored`. Where there is none, the answer is what [`ExploreOrder`] answers, with a note that names the wanted
-/// outcomes to which no schedule comes. A text that is refused is answered by the line of its refusal, with
+/// `Status::Errored`. Where there is none, the answer is what [`ExploreOrder`] answers, with a note that names the
+/// wanted outcomes to which no schedule comes. A text that is refused is answered by the line of its refusal, with
 /// `Status::Refused`.
 #[derive(Drop)]
 pub struct FirstOrder {

@@ -21,8 +21,8 @@ use outcome_trace::{Report, replay};
 use sampled_schedules::{Coming, sample};
 use std::alloc::{AllocError, Global};
 
-// How many samples are drawn of each length, how many schedules each has, and the lengths: how many entries a schedule has
-// at most. Short ones come first, since they are easier to read. All of them take less than a second.
+// How many samples are drawn of each length, how many schedules each has, and the lengths: how many entries a schedule
+// has at most. Short ones come first, since they are easier to read. All of them take less than a second.
 const SAMPLES: u64 = 10;
 
 const SCHEDULES: u32 = 100;
