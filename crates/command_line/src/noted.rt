@@ -22,9 +22,9 @@ struct Answered {
     status: Status,
 }
 
-/// Reads a text and writes the answer to its program, and then tells the note on the last device. Where there is none,
-/// the reasons of the text are told there, if they are asked for. Where there is a fault, it is told alone. Where the
-/// last device fails, nothing more is said.
+/// Reads a text, writes the answer to its program, and then writes the note to the last device. If there is no note,
+/// the reasons of the text are written there, if they are asked for. A fault is written alone. If the last device
+/// fails, nothing more is written.
 pub fn obey_noted<A: NotedOrder, X: Reasons, I: TextIn, O: TextOut, E: TextOut>(
     alloc: Global,
     order: &A,

@@ -11,9 +11,9 @@ use outcome_trace::{Status, TextIn, TextOut};
 use reasons::TextReasons;
 use std::alloc::Global;
 
-/// Tells what schedules of a text's program come to that are drawn at random, and gives the status: that of the answer,
-/// and `Status::Fault` where a device failed or memory ran out. All but the answer is told on the last device, also the
-/// wanted outcomes that no schedule came to.
+/// Answers with what schedules of a text's program, drawn at random, lead to. Returns the status of the answer, or
+/// `Status::Fault` if a device failed or memory ran out. All but the answer goes to the last device, also the wanted
+/// outcomes to which no schedule came.
 pub fn obey_sample<I: TextIn, O: TextOut, E: TextOut>(
     alloc: Global,
     sampling: Sampling,

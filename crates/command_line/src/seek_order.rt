@@ -12,9 +12,8 @@ use outcome_trace::{Status, TextIn, TextOut};
 use reasons::TextReasons;
 use std::alloc::Global;
 
-/// Answers the first finding of a text's program, or its exploration where there is none, and gives the status: that of
-/// the answer, and `Status::Fault` where a device failed or memory ran out. All but the answer is told on the last
-/// device.
+/// Answers the first finding of a text's program, or its exploration if there is none. Returns the status of the
+/// answer, or `Status::Fault` if a device failed or memory ran out. All but the answer goes to the last device.
 pub fn obey_seek<I: TextIn, O: TextOut, E: TextOut>(
     alloc: Global,
     seeking: Seeking,
