@@ -117,7 +117,7 @@ struct Reports<'a> {
     html: Option<&'a str>,
 }
 
-// Tests the models of a suite without faults, so many side by side.
+// Tests the models of a suite without faults, `jobs` of them side by side.
 fn test_suite<R: Files + Clock + Threads + Wait + Sync, O: TextOut, E: TextOut>(
     rt: &R,
     suite: &Suite<'_>,

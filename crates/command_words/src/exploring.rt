@@ -22,6 +22,6 @@ pub struct Exploring {
     pub order: ExploreOrder,
     /// In what form it is told.
     pub form: ExploreForm,
-    /// Whether reasons are told.
+    /// Whether reasons are written.
     pub explain: bool,
 }

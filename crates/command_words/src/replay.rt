@@ -24,7 +24,7 @@ pub struct Replay<'a> {
     pub schedule: &'a str,
     /// In what form it is told.
     pub form: AnswerForm,
-    /// Whether reasons are told.
+    /// Whether reasons are written.
     pub explain: bool,
     /// How many fibers, refs and deferreds there may be, and how often a fiber may change its own state.
     pub limits: Limits,

@@ -27,7 +27,7 @@ pub struct Running {
     pub options: Options,
     /// In what form it is told.
     pub form: RunForm,
-    /// Whether reasons are told, which is so beside a report alone.
+    /// Whether reasons are written; only beside a report.
     pub explain: bool,
     pub ghost ranges: { AreLimits (limits_of options) },
     pub ghost room: { 1 < options.budget },

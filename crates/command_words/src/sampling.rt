@@ -7,6 +7,6 @@ use exploration_text::SampleOrder;
 pub struct Sampling {
     /// What is sampled, by which seed, how often and how far.
     pub order: SampleOrder,
-    /// Whether it is told as JSON.
+    /// Whether the answer is JSON.
     pub json: bool,
 }

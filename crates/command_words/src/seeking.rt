@@ -1,4 +1,4 @@
-//! What a search for the first finding is told.
+//! The request to look for the first finding.
 
 use exploration_text::ExploreOrder;
 
@@ -7,8 +7,8 @@ use exploration_text::ExploreOrder;
 pub struct Seeking {
     /// What is explored, how far, and what is wanted.
     pub order: ExploreOrder,
-    /// Whether it is told as JSON.
+    /// Whether the answer is JSON.
     pub json: bool,
-    /// Whether reasons are told.
+    /// Whether reasons are written.
     pub explain: bool,
 }

@@ -35,7 +35,7 @@ use world_search::{Bounds, Claimed, Met, Watcher};
 /// once: the values of the refs in each world to which a schedule leads are those in a world that is kept. The bound of
 /// entries counts those of the search alone, without the moves behind them.
 ///
-/// The limits are in their ranges ([`Limits`]). The watcher is told as in
+/// The limits are in their ranges ([`Limits`]). The watcher is called as in
 /// [`explore_watched`](crate::explore_watched). [`RunError::NoMemory`] is the only error.
 pub fn search_claims<V: Watcher>(
     alloc: Global,
