@@ -2,6 +2,7 @@
 
 use crate::binder::{BinderName, NameKind};
 use crate::look::value;
+use crate::name_says::name_value;
 use crate::reading::Reading;
 use crate::scope::{FiberName, Here, Operand};
 use crate::task::Task;
@@ -30,6 +31,14 @@ pub(crate) fn watch(
     out.then(Task::Close(1))?;
     out.lets = out.lets.saturating_add(1);
     Ok(())
+}
+
+/// Opens a `seq` in which a fiber says the value for its name first.
+pub(crate) fn say_name(out: &mut Writing, at: usize, fiber: FiberName) -> Result<(), Stop> {
+    out.then(Task::Open(Word::Seq, at))?;
+    out.then(Task::Open(Word::Say, at))?;
+    out.then(Task::Operand(Operand::Number(name_value(fiber))))?;
+    out.then(Task::Close(1))
 }
 
 // Whether a spelling is that of a name of a row: the row's name, a dot and a number.
