@@ -8,8 +8,12 @@ use crate::translation::LATE;
 // The least value that a fiber says for its name.
 const FIRST: i64 = 4611686000000000000;
 
-/// Whether a fiber says this value for its name, under [`Probe::Names`](crate::Probe::Names): it is from
-/// 4611686000000000000 to 4611686018427387900. A file that says such a value itself hides it from its claims.
+/// The value that a fiber says which watches a ref.
+pub(crate) const WATCHER: i64 = FIRST + 2;
+
+/// Whether a fiber says this value for its name ([`Probe::Names`](crate::Probe::Names)), or says it to show that it
+/// watches a ref. Such a value is from 4611686000000000000 to 4611686018427387900. A file that says one itself hides it
+/// from its claims.
 pub fn is_name(value: i64) -> bool
     ensures { IsTrue result ↔ (4611686000000000000 ≤ value) × (value < 4611686018427387901) }
 {
@@ -21,7 +25,7 @@ pub(crate) fn name_value(fiber: FiberName) -> i64 {
     match fiber {
         FiberName::Left => FIRST,
         FiberName::Right => FIRST.saturating_add(1),
-        FiberName::Main => FIRST.saturating_add(2),
+        FiberName::Main => FIRST.saturating_add(3),
         FiberName::Word(form) => spelled_value(form, 0),
         FiberName::Row(form, number) => spelled_value(form, number),
     }
