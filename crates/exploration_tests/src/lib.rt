@@ -18,8 +18,6 @@ mod families;
 #[cfg(test)]
 mod first_findings;
 #[cfg(test)]
-mod listed;
-#[cfg(test)]
 mod places;
 #[cfg(test)]
 mod random;
@@ -37,8 +35,6 @@ mod sample_texts;
 mod samples_found;
 #[cfg(test)]
 mod searches;
-#[cfg(test)]
-mod texts;
 #[cfg(test)]
 mod wants;
 #[cfg(test)]
