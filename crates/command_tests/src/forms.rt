@@ -114,6 +114,40 @@ const FOUND: &[(&str, &[&str], &str, u8, &str, &str)] = &[
         "",
     ),
     (
+        "a short search with timelines ends before its progress is told",
+        &["fiber_cli", "explore", "--progress", "--timeline"],
+        "(raise 7)",
+        0,
+        "explored 2 worlds: 1 report, 0 faults\n\nunder \"0*2\"\nfiber 0 errored 7\n\n\
+            \x20entry  fiber 0\n\
+            \x20    2  ends: errored 7\n",
+        "",
+    ),
+    (
+        "a short search ends as JSON before its progress is told, and long before its time is over",
+        &[
+            "fiber_cli",
+            "explore",
+            "--progress",
+            "--json",
+            "--seconds=1000000000",
+        ],
+        "(raise 7)",
+        0,
+        "{\"answer\":\"exploration\",\"answers\":[{\"report\":{\"answer\":\"report\",\"fibers\":\
+            [{\"fiber\":0,\"marks\":[],\"outcome\":{\"errored\":7}}]},\"schedule\":\"0*2\",\"wanted\":true}],\
+            \"complete\":true,\"worlds\":2}\n",
+        "",
+    ),
+    (
+        "a short search ends long before its time is over",
+        &["fiber_cli", "explore", "--seconds", "600", "--explain"],
+        "(raise 7)",
+        0,
+        "explored 2 worlds: 1 report, 0 faults\n\nunder \"0*2\"\nfiber 0 errored 7\n",
+        "",
+    ),
+    (
         "an exploration with timelines",
         &["fiber_cli", "explore", "--timeline"],
         "(raise 7)",

@@ -150,10 +150,12 @@ const HELP: &[(&[&str], &str)] = &[
         \n      --memory <BYTES>  At how many bytes of memory the search stops, by an estimate: 1 to\
         \n                        10000000000, and behind it k, M or G for 1024, 1024^2 or 1024^3\
         \n                        [default: 4G]\
+        \n      --seconds <N>     After how many seconds the search stops, 1 to 1000000000 [default: no such\
+        \n                        bound]\
         \n      --want <OUTCOME>  An outcome of fiber 0 that is wanted, as a report spells it:\
         \n                        \"succeeded V\", \"errored C\", canceled or unended. It can be given more\
         \n                        than once. A report with another outcome, and a fault, is then not wanted\
-        \n      --progress        Write to standard error how far the search has come, while it goes on\
+        \n      --progress        Write to standard error how far the search has come, once a second\
         \n      --timeline        Print a timeline behind each report and each fault\
         \n      --json            Print the answer as JSON, on one line\
         \n      --first           Print the first finding alone: a fault, or an outcome of fiber 0 that is not\
@@ -167,8 +169,8 @@ const HELP: &[(&[&str], &str)] = &[
         \n    (seq (cancel f) (get r))))' | fiber_cli explore --want \"succeeded 0\"\
         \n\nExample of every outcome of a race, with timelines:\
         \n  echo '(race (pure 1) (pure 2))' | fiber_cli explore --timeline\
-        \n\nExample of a long search, which prints its progress:\
-        \n  fiber_cli explore --memory 8G --progress < FILE\
+        \n\nExample of a long search, which prints its progress, and ends within ten minutes:\
+        \n  fiber_cli explore --memory 8G --seconds 600 --progress < FILE\
         \n\nExample of a search that stops at the first unwanted outcome:\
         \n  fiber_cli explore --first --want \"succeeded 0\" < FILE\
         \n\n'fiber_cli --help' explains the reports. Each is below a schedule, under which replay gives it.\

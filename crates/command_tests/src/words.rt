@@ -45,14 +45,9 @@ const APART: &[(&[&str], &str, &str)] = &[
         "explain",
     ),
     (
-        &["fiber_cli", "explore", "--timeline", "--progress"],
+        &["fiber_cli", "explore", "--explain", "--json", "--progress"],
         "progress",
-        "timeline",
-    ),
-    (
-        &["fiber_cli", "explore", "--progress", "--json"],
-        "progress",
-        "json",
+        "explain",
     ),
     (
         &["fiber_cli", "explore", "--json", "--timeline"],
@@ -63,11 +58,6 @@ const APART: &[(&[&str], &str, &str)] = &[
         &["fiber_cli", "explore", "--json", "--explain", "--timeline"],
         "timeline",
         "json",
-    ),
-    (
-        &["fiber_cli", "explore", "--first", "--progress"],
-        "progress",
-        "first",
     ),
     (
         &["fiber_cli", "explore", "--first", "--timeline"],
@@ -374,6 +364,12 @@ const EXPLORING: &[Numbers] = &[
         taken: &["100", "0100", "+100", "1000000"],
         refused: &["0", "1000001", "4294967396"],
         range: "1..=1000000",
+    },
+    Numbers {
+        name: "seconds",
+        taken: &["600", "0600", "+600", "1000000000"],
+        refused: &["0", "1000000001", "4294967896"],
+        range: "1..=1000000000",
     },
 ];
 

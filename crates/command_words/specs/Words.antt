@@ -46,6 +46,10 @@ jobs_range = record { least = 0; most = 64; usual = 0 }
 abbrev pub memory_range : NumberRange
 memory_range = record { least = 1; most = 10000000000; usual = 4294967296 }
 
+-- of seconds after which an exploration ends; the usual number has no use, since no option means no such bound
+abbrev pub seconds_range : NumberRange
+seconds_range = record { least = 1; most = 1000000000; usual = 1000000000 }
+
 -- of entries that the schedules of an exploration have, and those of a sample
 abbrev pub entries_range : NumberRange
 entries_range = record { least = 1; most = 1000000; usual = 10000 }
@@ -166,7 +170,8 @@ explore_bounds =
 
 -- without its flags
 abbrev pub explore_options : App
-explore_options = with_rule explore_bounds want_option
+explore_options =
+    with_rule (with_rule explore_bounds (number_option (codes "seconds") seconds_range)) want_option
 
 abbrev pub explore_command : App
 explore_command = with_rule (with_explore_forms explore_options) (flag (codes "explain"))

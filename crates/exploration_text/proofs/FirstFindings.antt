@@ -1,5 +1,5 @@
 -- The first finding of a program.
-use Rattle.std.proofs.Common.{◌≡◌, ◌≤◌, ◌<◌, inl, inr, ℕ, Bool, true, false, List, Result, Ok, Err, IfOk, length, ap, arith, sym, ◌∙◌, subst}
+use Rattle.std.proofs.Common.{◌≡◌, ◌≤◌, ◌<◌, ◌⊎◌, inl, inr, ℕ, Bool, true, false, List, Result, Ok, Err, IfOk, length, ap, arith, sym, ◌∙◌, subst}
 use Rattle.std.specs.Prelude.{Some, max}
 use Rattle.std.specs.List.{All, slice_get}
 use Rattle.cell_registry.specs.declared.limits.Limits.{Limits}
@@ -10,6 +10,7 @@ use Rattle.outcome_trace.specs.declared.text_order.Answer.{Answer as Answered}
 use Rattle.scheduled_core.specs.Core.{World, core, reported}
 use Rattle.scheduled_core.specs.Finals.{IsSettled}
 use Rattle.every_schedule.specs.declared.exploration.Answer.{Answer}
+use Rattle.every_schedule.specs.declared.exploration.Exploration.{Exploration}
 use Rattle.every_schedule.specs.Explored.{IsReached}
 use Rattle.every_schedule.proofs.Told.{all_at}
 use Rattle.sampled_schedules.specs.declared.comings.Coming.{Coming}
@@ -83,16 +84,22 @@ searched_found code k wants i answers b a there unwanted each spelled same ends 
     let is = all_at (IsReached code k) answers i b there each in
     again code k wants b a true false same ends is.reached unwanted (λ h. is) (λ h. absurd cc) (all_at IsSpellable answers i b there spelled)
 
--- a whole exploration within fewer worlds
-pub widened : (code : Tree) (k : Limits) (fewer bounds : Bounds) (wants : List Want) (first : First) → fewer.worlds ≤ bounds.worlds →
-    fewer.entries ≡ bounds.entries → fewer.memory ≡ bounds.memory → IsDecided first → IsFirst code k fewer wants first → IsFirst code k bounds wants first
-widened code k fewer bounds wants (Found f) low entries memory decided h = h
-widened code k fewer bounds wants (Explored e) low entries memory complete h = (
+-- a search that is whole or was ended can't have met a bound
+no_bound : {C : Type 0} (e : Exploration) → (e.complete ≡ true) ⊎ (e.halted ≡ true) → e.complete ≡ false → e.halted ≡ false → C
+no_bound e (inl whole) no going = let bad : true ≡ false = sym whole ∙ no in absurd cc
+no_bound e (inr ended) no going = let bad : true ≡ false = sym ended ∙ going in absurd cc
+
+-- an exploration within fewer worlds that is whole or was ended
+pub widened : (code : Tree) (k : Limits) (fewer bounds : Bounds) (timed : Bool) (wants : List Want) (first : First) → fewer.worlds ≤ bounds.worlds →
+    fewer.entries ≡ bounds.entries → fewer.memory ≡ bounds.memory → IsDecided first → IsFirst code k fewer timed wants first → IsFirst code k bounds timed wants first
+widened code k fewer bounds timed wants (Found f) low entries memory decided h = h
+widened code k fewer bounds timed wants (Explored e) low entries memory decided h = (
   record {
     all = h.0.all;
     each = h.0.each;
     once = h.0.once;
-    stopped = λ no. let bad : true ≡ false = sym complete ∙ no in absurd cc;
+    stopped = no_bound e decided;
+    halted = h.0.halted;
     room = at_most e.worlds fewer.worlds bounds.worlds low h.0.room;
     spare = λ is. subst (λ m. e.bytes < m) memory (h.0.spare is);
     short = subst (λ n. All (λ (a : Answer). length a.schedule ≤ n) e.answers) entries h.0.short;

@@ -16,7 +16,7 @@ use crate::texts::{first_outcome, is_failure};
 use crate::wants::Want;
 use cell_registry::{Limits, RunError};
 use effect_term::Program;
-use every_schedule::{Answer, Bounds, Exploration, Schedule, explore};
+use every_schedule::{Answer, Bounds, Exploration, Schedule, Watcher, explore_watched};
 use outcome_trace::{Report, replay};
 use sampled_schedules::{Coming, sample};
 use std::alloc::{AllocError, Global};
@@ -56,34 +56,37 @@ pub enum First {
 /// first finding among their ends. Where there is none, explores every schedule, and returns the first answer that is a
 /// finding, or the exploration. The search looks for a finding where it has 10,000 worlds, 1,000,000 worlds and at its
 /// end.
-pub fn first_finding(
+pub fn first_finding<V: Watcher>(
     alloc: Global,
     program: &Program,
     order: &ExploreOrder,
+    watcher: &mut V,
 ) -> Result<First, AllocError>
     ensures { IfOk result (IsFirst (code_of (source_of program.now)) order.now.limits order.now.bounds
-        order.now.wants.items) }
+        (V.can_stop watcher.old) order.now.wants.items) }
 {
     if let Some(finding) = drawn_finding(alloc, program, order)? {
         return Ok(First::Found(finding));
     }
     for worlds in SEARCHES {
-        if let Some(first) = early_finding(alloc, program, order, *worlds)? {
+        if let Some(first) = early_finding(alloc, program, order, *worlds, watcher)? {
             return Ok(first);
         }
     }
-    searched(alloc, program, order, order.bounds)
+    searched(alloc, program, order, order.bounds, watcher)
 }
 
 // What a search within so many worlds finds, if it decides.
-fn early_finding(
+fn early_finding<V: Watcher>(
     alloc: Global,
     program: &Program,
     order: &ExploreOrder,
     worlds: usize,
+    watcher: &mut V,
 ) -> Result<Option<First>, AllocError>
-    ensures { IfOk result (λ found. IfSome found (IsFirst (code_of (source_of program.now)) order.now.limits
-        order.now.bounds order.now.wants.items)) }
+    ensures found { IfOk result (λ found. IfSome found (IsFirst (code_of (source_of program.now)) order.now.limits
+        order.now.bounds (V.can_stop watcher.old) order.now.wants.items)) }
+    ensures watcher { V.can_stop watcher.new ≡ V.can_stop watcher.old }
 {
     if order.bounds.worlds <= worlds {
         return Ok(None);
@@ -93,7 +96,7 @@ fn early_finding(
         entries: order.bounds.entries,
         memory: order.bounds.memory,
     };
-    let first = searched(alloc, program, order, bounds)?;
+    let first = searched(alloc, program, order, bounds, watcher)?;
     if is_decided(&first) {
         Ok(Some(first))
     } else {
@@ -101,27 +104,30 @@ fn early_finding(
     }
 }
 
-// Whether a search with more worlds would find nothing else.
+// Whether a search with more worlds would find nothing else, or its watcher has ended it.
 fn is_decided(first: &First) -> bool
     ensures { result ≡ true → IsDecided first.now }
 {
     match first {
         First::Found(_) => true,
-        First::Explored(exploration) => exploration.complete,
+        First::Explored(exploration) => exploration.complete || exploration.halted,
     }
 }
 
 // What a search within these bounds finds.
-fn searched(
+fn searched<V: Watcher>(
     alloc: Global,
     program: &Program,
     order: &ExploreOrder,
     bounds: Bounds,
+    watcher: &mut V,
 ) -> Result<First, AllocError>
     requires { bounds.entries ≤ 1000000 }
-    ensures { IfOk result (IsFirst (code_of (source_of program.now)) order.now.limits bounds order.now.wants.items) }
+    ensures found { IfOk result (IsFirst (code_of (source_of program.now)) order.now.limits bounds
+        (V.can_stop watcher.old) order.now.wants.items) }
+    ensures watcher { V.can_stop watcher.new ≡ V.can_stop watcher.old }
 {
-    let Ok(exploration) = explore(alloc, program, order.limits, bounds) else {
+    let Ok(exploration) = explore_watched(alloc, program, order.limits, bounds, watcher) else {
         return Err(AllocError);
     };
     let wants = order.wants.as_slice();
