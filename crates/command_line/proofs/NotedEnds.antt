@@ -81,11 +81,14 @@ seek_ends false order timed note text answer status =
 pub explored_ends : (form : ExploreForm) (order : ExploreOrder) (timed : Bool) (note text answer : List ℕ) (status : Status) →
     IsNotedAnswer (explore_refuses form) (explores_as form order timed) note text answer status → status ≢ ends.Usage
 explored_ends explored.Report order timed note text answer status = program_ends (λ text answer status h. refusal_ends h.0)
-    (λ t answer status h u. chosen_ends (has_failure order.wants.items h.explored.exploration.answers) h.explored.exploration.complete (sym h.explored.status_is ∙ u))
+    (λ t answer status h u. let e = h.explored in
+    chosen_ends (has_failure order.wants.items e.exploration.answers) e.exploration.complete (sym e.status_is ∙ u))
 explored_ends explored.Timeline order timed note text answer status = program_ends (λ text answer status h. refusal_ends h.0)
-    (λ t answer status h u. chosen_ends (has_failure order.wants.items h.told.exploration.answers) h.told.exploration.complete (sym h.told.status_is ∙ u))
+    (λ t answer status h u. let e = h.told in
+    chosen_ends (has_failure order.wants.items e.exploration.answers) e.exploration.complete (sym e.status_is ∙ u))
 explored_ends explored.Json order timed note text answer status = program_ends (λ text answer status h. json_refusal_ends h.0)
-    (λ t answer status h u. chosen_ends (has_failure order.wants.items h.explored.exploration.answers) h.explored.exploration.complete (sym h.explored.status_is ∙ u))
+    (λ t answer status h u. let e = h.explored in
+    chosen_ends (has_failure order.wants.items e.exploration.answers) e.exploration.complete (sym e.status_is ∙ u))
 
 pub beside_ends : (Refuses : List ℕ → List ℕ → Status → Type 0) (Notes : List ℕ → Term → List ℕ → Status → Type 0) (beside : Beside)
     (before after : Devices) (status : Status) →

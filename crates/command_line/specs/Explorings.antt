@@ -33,14 +33,14 @@ explore_refuses Report = IsRefusalAnswer
 explore_refuses Timeline = IsRefusalAnswer
 explore_refuses Json = IsJsonRefusal
 
--- the text is answered; of what is told on the last device nothing is said
+-- the text is answered; nothing is said of what is written to the last device
 abbrev pub ObeysWatched : (List ℕ → List ℕ → Status → Type 0) → (List ℕ → Term → List ℕ → Status → Type 0) → Devices →
     Devices → Status → Type 0
 ObeysWatched Refuses Notes before after status = (note : List ℕ) × (outcome : Result Status TextFault) ×
     IsAnswered (IsNotedAnswer Refuses Notes note) before.input after.input before.out after.out outcome ×
     (status ≡ status_of outcome)
 
--- the text is answered, and beside the answer its note and this is told
+-- the text is answered, and beside the answer its note and this are written
 abbrev pub ObeysBeside : Beside → (List ℕ → List ℕ → Status → Type 0) → (List ℕ → Term → List ℕ → Status → Type 0) →
     Devices → Devices → Status → Type 0
 ObeysBeside Nothing Refuses Notes before after status = ObeysNoted Refuses Notes IsTextReasons false before after status

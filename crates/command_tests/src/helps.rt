@@ -312,6 +312,8 @@ const HELP: &[(&[&str], &str)] = &[
         \n      --memory <BYTES>  At how many bytes of memory the search stops, by an estimate: 1 to\
         \n                        10000000000, and behind it k, M or G for 1024, 1024^2 or 1024^3\
         \n                        [default: 4G]\
+        \n      --seconds <N>     After how many seconds the search of each model stops, 1 to 1000000000\
+        \n                        [default: no such bound]\
         \n      --jobs <N>        How many models are explored side by side, 0 to 64; 0: one for each\
         \n                        processor. --memory holds for each of them [default: 0]\
         \n      --list            Print the models with their places, and explore none\

@@ -340,6 +340,10 @@ pub const LIST: &str = "Print the models with their places, and explore none";
 
 pub const TAP: &str = "Print the answer in the Test Anything Protocol";
 
+pub const MODEL_SECONDS: &str =
+    "After how many seconds the search of each model stops, 1 to 1000000000
+[default: no such bound]";
+
 pub const MODEL_WORLDS: &str = "How many worlds are kept of a model that sets no bound of its own,
 1 to 100000000 [default: 1000000]";
 

@@ -179,7 +179,7 @@ pub(crate) fn memory_of(explore: &ArgMatches<'_>) -> Option<u64>
     }
 }
 
-// The seconds after which the options of `explore` say that the search ends, if they say so.
+/// The seconds after which the options of `explore` or of `test` say that a search ends, if they say so.
 pub(crate) fn seconds_of(explore: &ArgMatches<'_>) -> Option<Option<u64>>
     ensures said { IfSome result (SaysSeconds (first_of (codes "seconds") (rows_of (found_of explore.now)))) }
     ensures none { IfNone result ((seconds : Option ℕ) →

@@ -1,4 +1,4 @@
-//! What is told of an exploration while it goes, and explorations that are ended by their watcher.
+//! The lines that are written while an exploration goes, and explorations that are ended by their watcher.
 //!
 //! A fiber alone has one way on, so each entry leads, with the moves that are made at once behind it, to one world
 //! more: at the world with the number n, counted from 0, n + 1 worlds are known, and n entries lead there. A request for
@@ -28,14 +28,14 @@ const SHORT: &str = "explored 2 worlds: 1 report, 0 faults\n\nunder \"0*2\"\nfib
 
 const REFUSED: &str = "refused 6 UnknownWord at 1\n";
 
-// What is told of it, by a clock that has gone on by 15 milliseconds at each look. It is looked at once at the beginning,
-// and then each time the watcher is asked. The first line comes at the 67th time, after 1,005 milliseconds, the next one
-// at the 134th, a second later, and so on; 15 milliseconds for a hundred worlds are 6,666 worlds a second.
+// The lines that are written, by a clock that goes on by 15 milliseconds at each look. It is looked at once at the
+// beginning, and then each time the watcher is asked. The first line comes at the 67th time, after 1,005 milliseconds, the
+// next one at the 134th, a second later, and so on; 15 milliseconds for a hundred worlds are 6,666 worlds a second.
 const TOLD: &str = "explored 6700 worlds, 6666 a second, depth 6699\n\
     explored 13400 worlds, 6666 a second, depth 13399\n\
     explored 20100 worlds, 6666 a second, depth 20099\n";
 
-// What is told of it until two seconds have passed, which is so at the 134th time.
+// The lines until two seconds have passed, which is so at the 134th time.
 const TOLD_IN_TIME: &str = "explored 6700 worlds, 6666 a second, depth 6699\n\
     explored 13400 worlds, 6666 a second, depth 13399\n";
 
@@ -49,7 +49,7 @@ const OUT_OF_TIME: &str = "stopped by time at 13400 worlds: 0 reports, 0 faults,
 // request. Each takes 160 bytes and 32 for the fiber, 8 for each of 16 refs and 16 for each of 16 deferreds.
 const STOPPED: &str = "stopped at 20500 worlds: 0 reports, 0 faults, 32986684 bytes\n";
 
-// A clock that goes on by so many milliseconds at each look, or fails.
+// A clock that goes on by this number of milliseconds at each look, or fails.
 #[derive(Drop)]
 struct Steps {
     step: u64,
@@ -72,7 +72,7 @@ impl Clock for Steps {
     }
 }
 
-// A clock that goes on by so many milliseconds at each look.
+// A clock that goes on by this number of milliseconds at each look.
 fn steps(step: u64) -> Steps {
     Steps {
         step,

@@ -61,8 +61,8 @@ fn expect<R: Abort + AllocGlobal>(
     assert_eq!(rt; became.searches.len(), 1);
 }
 
-// The watcher is asked at each hundredth world. So it ends the search at a hundred worlds, and is asked once more, before
-// the first schedule that would be drawn.
+// The watcher is asked at each hundredth world. So it ends the search at a hundred worlds. Then 200 schedules are drawn,
+// and it isn't asked any more.
 #[test]
 fn a_model_whose_time_is_over_is_undecided(rt: HostRuntime) -> Result<(), Fail> {
     let mut ends = Ends::new(1);
@@ -71,9 +71,9 @@ fn a_model_whose_time_is_over_is_undecided(rt: HostRuntime) -> Result<(), Fail> 
         Some(search) => search.worlds,
         None => 0,
     };
-    expect(&rt, &result, true, worlds, 0);
+    expect(&rt, &result, true, worlds, 200);
     assert!(rt; worlds >= 100 && worlds < 2000);
-    assert_eq!(rt; ends.asked(), 2);
+    assert_eq!(rt; ends.asked(), 1);
     Ok(())
 }
 

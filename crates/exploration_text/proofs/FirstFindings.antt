@@ -91,7 +91,8 @@ no_bound e (inr ended) no going = let bad : true ≡ false = sym ended ∙ going
 
 -- an exploration within fewer worlds that is whole or was ended
 pub widened : (code : Tree) (k : Limits) (fewer bounds : Bounds) (timed : Bool) (wants : List Want) (first : First) → fewer.worlds ≤ bounds.worlds →
-    fewer.entries ≡ bounds.entries → fewer.memory ≡ bounds.memory → IsDecided first → IsFirst code k fewer timed wants first → IsFirst code k bounds timed wants first
+    fewer.entries ≡ bounds.entries → fewer.memory ≡ bounds.memory → IsDecided first → IsFirst code k fewer timed wants first →
+    IsFirst code k bounds timed wants first
 widened code k fewer bounds timed wants (Found f) low entries memory decided h = h
 widened code k fewer bounds timed wants (Explored e) low entries memory decided h = (
   record {

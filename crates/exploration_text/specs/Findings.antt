@@ -72,24 +72,26 @@ pub record IsFoundAnswer (t : Term) (limits : Limits) (wants : List Want) (answe
     pub status_is : status ≡ ends.Errored
 
 -- the text and the status of an exploration that lists no finding
-pub record IsUnfoundAnswer (t : Term) (limits : Limits) (bounds : Bounds) (timed : Bool) (wants : List Want) (answer : List ℕ)
-    (status : Status) : Type 0
+pub record IsUnfoundAnswer (t : Term) (limits : Limits) (bounds : Bounds) (timed : Bool) (wants : List Want)
+    (answer : List ℕ) (status : Status) : Type 0
   where
     pub explored : IsExploredAnswer t limits bounds timed wants answer status
     pub none : has_failure wants explored.exploration.answers ≡ false
 
 -- such an answer, beside the lines of the wanted outcomes that no schedule comes to
-pub record IsNotedUnfound (t : Term) (limits : Limits) (bounds : Bounds) (timed : Bool) (wants : List Want) (note answer : List ℕ)
-    (status : Status) : Type 0
+pub record IsNotedUnfound (t : Term) (limits : Limits) (bounds : Bounds) (timed : Bool) (wants : List Want)
+    (note answer : List ℕ) (status : Status) : Type 0
   where
     pub unfound : IsUnfoundAnswer t limits bounds timed wants answer status
     pub note_is : note ≡ missing_of_exploration wants unfound.explored.exploration
 
 -- what is answered to a program with this note, with its status: a finding, which has no note, or an exploration that
 -- lists none
-abbrev pub IsFirstAnswer : Term → Limits → Bounds → (timed : Bool) → List Want → (note : List ℕ) → List ℕ → Status → Type 0
+abbrev pub IsFirstAnswer : Term → Limits → Bounds → (timed : Bool) → List Want → (note : List ℕ) → List ℕ → Status →
+    Type 0
 IsFirstAnswer t limits bounds timed wants note answer status =
-    (IsFoundAnswer t limits wants answer status × (note ≡ [])) ⊎ IsNotedUnfound t limits bounds timed wants note answer status
+    (IsFoundAnswer t limits wants answer status × (note ≡ [])) ⊎
+    IsNotedUnfound t limits bounds timed wants note answer status
 
 -- ---- for private clauses
 

@@ -4,7 +4,7 @@ use Rattle.effect_term.specs.declared.term.Term.{Term}
 use Rattle.outcome_trace.specs.Answers.{IsProgramAnswer}
 use Rattle.text_io.specs.declared.status.Status.{Status}
 
--- what is answered to a text with this note, with its status: a refusal, which has none, or what comes of its program
+-- the answer to a text with this note, with its status: a refusal, which has no note, or the answer to its program
 abbrev pub IsNotedAnswer : (List ℕ → List ℕ → Status → Type 0) → (List ℕ → Term → List ℕ → Status → Type 0) →
     (note : List ℕ) → List ℕ → List ℕ → Status → Type 0
 IsNotedAnswer Refuses Notes note =

@@ -42,7 +42,7 @@ impl<'c, 'e, C: Clock, E: TextOut> Progress<'c, 'e, C, E> {
         }
     }
 
-    /// Tells a note, where there is one, unless a write has failed already.
+    /// Writes a note, where there is one, unless a write has failed already.
     pub(crate) fn tell_note(&mut self, note: &[u8]) {
         if self.failed || note.is_empty() {
             return;

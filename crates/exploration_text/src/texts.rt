@@ -173,8 +173,8 @@ pub(crate) fn end_text(alloc: Global, end: &Result<Report, RunError>) -> Result<
 }
 
 /// The first line of the text of an exploration: whether all was explored or its time was over before, how many worlds
-/// were found, how many reports and faults are listed, and, where not all was explored, how many bytes were counted. `AllocError` where memory is
-/// refused.
+/// were found, how many reports and faults are listed, and, where not all was explored, how many bytes were counted.
+/// `AllocError` where memory is refused.
 pub fn first_line(alloc: Global, exploration: &Exploration) -> Result<String, AllocError>
     ensures { IfOk result (λ line. string_bytes line ≡ first_line exploration.now) }
 {

@@ -31,14 +31,14 @@ pub trait WatchedOrder {
 }
 
 /// An order whose search ends after this number of seconds by a clock, if one is given. What was found until then is
-/// told.
+/// answered.
 #[derive(Drop)]
 pub struct TimedOrder<'c, C: Clock, W: WatchedOrder + Drop> {
     /// The clock.
     pub clock: &'c C,
     /// After how many seconds the search ends, if it does.
     pub seconds: Option<u64>,
-    /// What is explored, and how it is told.
+    /// What is explored, and how it is written.
     pub order: W,
 }
 

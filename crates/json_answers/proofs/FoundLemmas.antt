@@ -20,7 +20,8 @@ use Rattle.json_answers.specs.ExplorationData.{IsExplorationData}
 use Rattle.json_answers.specs.FoundAnswers.{IsJsonExplored, IsJsonSample, IsJsonSampled, samples, unsampled}
 use Rattle.json_answers.specs.ReportData.{line_of_data}
 
-pub exploration_answers : {E : Type 0} (t : Term) (limits : Limits) (bounds : Bounds) (timed : Bool) (wants seen : List Want) (e : Exploration) (d : Data) (status : Status)
+pub exploration_answers : {E : Type 0} (t : Term) (limits : Limits) (bounds : Bounds) (timed : Bool) (wants seen : List Want) (e : Exploration)
+    (d : Data) (status : Status)
     (a : Result Answer E) → seen ≡ wants → IsExplorationOf (code_of (source_of t)) limits bounds timed e → IsExplorationData seen e d →
     status ≡ exploration_status seen e → IfOk a (λ a. a.text.items ≡ line_of_data d) → IfOk a (λ a. a.status ≡ status) →
     IfOk a (λ a. IsJsonExplored t limits bounds timed wants a.text.items a.status)

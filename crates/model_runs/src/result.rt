@@ -40,7 +40,7 @@ pub struct Search {
     pub halted: bool,
     /// How many worlds were found.
     pub worlds: usize,
-    /// How many schedules were drawn at random; 0 where every schedule was explored, and where the watcher has ended it.
+    /// How many schedules were drawn at random; 0 where every schedule was explored.
     pub sampled: u32,
     /// What can come.
     pub answers: Vec<NamedAnswer>,

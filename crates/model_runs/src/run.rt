@@ -46,8 +46,8 @@ pub fn run_model(
 }
 
 /// The same ([`run_model`]), while all searches of the model are watched. Where the watcher ends one, what was found
-/// until then decides, as at a bound: a claim that it doesn't decide is undecided. A [`TimeLimit`] for each model limits
-/// the time of its explorations and of the schedules that are drawn, together.
+/// until then decides, as at a bound, and at most 200 schedules are drawn: a claim that they don't decide is undecided.
+/// With a [`TimeLimit`] for each model its explorations end by the limit, together.
 pub fn run_model_watched<V: Watcher>(
     alloc: Global,
     source: &Source,

@@ -17,7 +17,7 @@ use crate::seeing::seen_of;
 use cell_registry::RunError;
 use effect_term::Program;
 use every_schedule::{Answer, Exploration, Schedule, Watcher, explore_watched};
-use sampled_schedules::{Coming, sample_watched};
+use sampled_schedules::{Coming, Sample, sample, sample_watched};
 use scheduled_core::same_end;
 use std::alloc::{AllocError, Global};
 use world_search::Bounds;
@@ -27,6 +27,9 @@ pub(crate) const FIRST: usize = 10_000;
 
 /// How often the worlds are made ten times as many.
 pub(crate) const TIMES_MORE: u32 = 8;
+
+// How many schedules are drawn at most where the watcher has ended the exploration.
+const FEW_TIMES: u32 = 200;
 
 /// What can come of a program, as far as the plan goes: with few worlds at first, and then with ten times as many, up
 /// to those of the plan.
@@ -76,8 +79,8 @@ fn explore_with<V: Watcher>(
     explore_watched(alloc, program, plan.limits, bounds, watcher)
 }
 
-/// What can come of a term, as far as the plan goes and the watcher lets it. Where not every schedule was explored, some
-/// are drawn at random.
+/// What can come of a term, as far as the plan goes and the watcher lets it. Where not every schedule was explored,
+/// some are drawn at random.
 pub(crate) fn search_term<V: Watcher>(
     alloc: Global,
     prepared: &Prepared,
@@ -92,19 +95,37 @@ pub(crate) fn search_term<V: Watcher>(
     if found.complete {
         return Ok(search_of(&found, 0, answers));
     }
-    let drawn = sample_watched(
+    let drawn = drawn_by_plan(alloc, &prepared.program, plan, found.halted, watcher)?;
+    let known = found.answers.as_slice();
+    let comings = drawn.comings.as_slice();
+    let more = with_drawn(alloc, prepared, plan, known, comings, answers)?;
+    Ok(search_of(&found, drawn.schedules, more))
+}
+
+// The schedules that are drawn where an exploration isn't complete: those of the plan, while the watcher lets them.
+// Where the watcher has ended the exploration, they are few, and it isn't asked.
+fn drawn_by_plan<V: Watcher>(
+    alloc: Global,
+    program: &Program,
+    plan: Plan,
+    halted: bool,
+    watcher: &mut V,
+) -> Result<Sample, RunError>
+    requires limits { AreLimits plan.limits }
+{
+    if halted {
+        let times = plan.times.min(FEW_TIMES);
+        return sample(alloc, program, plan.limits, plan.seed, times, plan.entries);
+    }
+    sample_watched(
         alloc,
-        &prepared.program,
+        program,
         plan.limits,
         plan.seed,
         plan.times,
         plan.entries,
         watcher,
-    )?;
-    let known = found.answers.as_slice();
-    let comings = drawn.comings.as_slice();
-    let more = with_drawn(alloc, prepared, plan, known, comings, answers)?;
-    Ok(search_of(&found, drawn.schedules, more))
+    )
 }
 
 // The answers of an exploration.

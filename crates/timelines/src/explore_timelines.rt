@@ -4,7 +4,8 @@ ghost use Rattle.std.specs.Prelude.{IfOk, false};
 ghost use Rattle.std.specs.List.{All};
 ghost use Rattle.cell_registry.specs.Cells.{AreLimits};
 ghost use Rattle.exploration_text.specs.ExplorationText.{IsSpellable};
-ghost use Rattle.timelines.specs.ExploreTimelines.{IsNotedTold, IsToldExploration, IsToldExplored, IsToldPart, IsToldText};
+ghost use Rattle.timelines.specs.ExploreTimelines.{IsNotedTold, IsToldExploration, IsToldExplored};
+ghost use Rattle.timelines.specs.ExploreTimelines.{IsToldPart, IsToldText};
 
 use crate::timeline_order::push_rows;
 use crate::timeline_rows::timeline;
