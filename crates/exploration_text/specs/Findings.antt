@@ -1,6 +1,6 @@
 -- The first thing that shows that a program isn't right, and what is answered where it is looked for.
 use Rattle.std.specs.Prelude.{◌≡◌, ◌⊎◌, ◌<◌, ℕ, Bool, true, false, List, [], ◌∷◌, ◌++◌, codes, length, Option, Some}
-use Rattle.std.specs.Prelude.{Result, Ok, Err}
+use Rattle.std.specs.Prelude.{Result, Ok, Err, min}
 use Rattle.std.specs.List.{All}
 use Rattle.cell_registry.specs.declared.limits.Limits.{Limits}
 use Rattle.cell_registry.specs.declared.limits.RunError.{RunError}
@@ -15,6 +15,7 @@ use Rattle.text_io.specs.Schedule.{SpellsEntries}
 use Rattle.scheduled_core.specs.declared.report.Report.{Report}
 use Rattle.scheduled_core.specs.Core.{core, reported}
 use Rattle.every_schedule.specs.declared.exploration.Answer.{Answer}
+use Rattle.every_schedule.specs.declared.exploration.Exploration.{Exploration}
 use Rattle.every_schedule.specs.Explored.{IsReached}
 use Rattle.world_search.specs.declared.answers.Bounds.{Bounds}
 use Rattle.exploration_text.specs.declared.findings.Finding.{Finding}
@@ -99,6 +100,16 @@ IsFirstAnswer t limits bounds timed wants note answer status =
 abbrev pub IsDecided : First → Type 0
 IsDecided (Found f) = Unit {0}
 IsDecided (Explored e) = (e.complete ≡ true) ⊎ (e.halted ≡ true)
+
+-- these bounds, with at most this number of worlds
+abbrev pub bounds_within : Bounds → ℕ → Bounds
+bounds_within bounds worlds = record bounds { worlds = min bounds.worlds worlds }
+
+-- of two searches the later one, or, where its watcher has ended it, the one before, as ended with it
+abbrev pub IsOfMore : (before later result : First) → Type 0
+IsOfMore before later result = (result ≡ later) ⊎
+    ((e : Exploration) × (last : Exploration) × (before ≡ Explored e) × (later ≡ Explored last) ×
+    (last.halted ≡ true) × (result ≡ Explored (record e { halted = true })))
 
 -- the schedule wasn't cut short at so many entries, or it leads to a fault
 abbrev pub IsLast : ℕ → Answer → Type 0
