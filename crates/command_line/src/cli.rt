@@ -78,7 +78,7 @@ where
         Request::Show(showing) => obey_show(rt.alloc(), showing, input, out, err),
         Request::Replay(replay) => obey_replay(rt.alloc(), replay, input, out, err),
         Request::Explore(exploring) => obey_explore(rt, rt.alloc(), exploring, input, out, err),
-        Request::Seek(seeking) => obey_seek(rt.alloc(), seeking, input, out, err),
+        Request::Seek(seeking) => obey_seek(rt, rt.alloc(), seeking, input, out, err),
         Request::Run(running) => obey_run(rt, rt.alloc(), running, input, out, err),
         Request::Sample(sampling) => obey_sample(rt.alloc(), sampling, input, out, err),
         Request::Compare(comparing) => obey_compare(rt, rt.alloc(), comparing, out, err),

@@ -21,6 +21,7 @@ mod sample_order;
 mod seek_order;
 mod spelling;
 mod test_order;
+mod watched_forms;
 
 pub use cli::command;
 pub use command_words::refuse_words;

@@ -26,8 +26,8 @@ use Rattle.command_words.specs.declared.seeking.Seeking.{Seeking}
 use Rattle.command_words.specs.declared.testing.Testing.{Testing}
 use Rattle.command_words.specs.declared.testing.Translating.{Translating}
 use Rattle.command_words.specs.Memory.{SaysMemory}
-use Rattle.command_words.specs.Numbers.{SaysNumber}
-use Rattle.command_words.specs.Flags.{IsGiven, IsLeftOut, SaysExploreForm, SaysFlag, SaysForm, SaysRunForm}
+use Rattle.command_words.specs.Numbers.{SaysNumber, SaysSeconds}
+use Rattle.command_words.specs.Flags.{IsGiven, IsLeftOut, SaysBeside, SaysExploreForm, SaysFlag, SaysForm, SaysRunForm}
 use Rattle.command_words.specs.Flags.{SaysColoring, SaysTestForm}
 use Rattle.command_words.specs.Words.{band_range, budget_range, count_range, entries_range, few_range, moves_range}
 use Rattle.command_words.specs.Words.{jobs_range, model_worlds_range, program, seed_range, times_range, workers_range}
@@ -87,15 +87,18 @@ pub record SaysReplay (options : List Row) (replay : ReplayFields) : Type 0 wher
 -- the exploration that the options of `explore` say
 pub record SaysExploring (options : List Row) (exploring : Exploring) : Type 0 where
   pub order : SaysExplore options exploring.order
-  pub form : SaysExploreForm options exploring.form exploring.explain
+  pub form : SaysExploreForm options exploring.form
+  pub seconds_are : SaysSeconds (first_of (codes "seconds") options) exploring.seconds
+  pub beside : SaysBeside options exploring.beside
 
 -- the search for the first finding that the options of `explore` say
 pub record SaysSeeking (options : List Row) (seeking : Seeking) : Type 0 where
   pub first : IsGiven (codes "first") options
-  pub alone : IsLeftOut (codes "progress") options × IsLeftOut (codes "timeline") options
+  pub alone : IsLeftOut (codes "timeline") options
   pub order : SaysExplore options seeking.order
   pub json : SaysFlag (codes "json") options seeking.json
-  pub explain : SaysFlag (codes "explain") options seeking.explain
+  pub seconds_are : SaysSeconds (first_of (codes "seconds") options) seeking.seconds
+  pub beside : SaysBeside options seeking.beside
 
 -- the run that the options of `run` say
 pub record SaysRunning (options : List Row) (running : Running) : Type 0 where
@@ -133,6 +136,7 @@ pub record SaysTesting (options : List Row) (testing : Testing) : Type 0 where
   pub html_is : option_map (λ s. s.now) testing.html ≡ first_of (codes "html") options
   pub worlds_are : SaysNumber model_worlds_range (first_of (codes "worlds") options) testing.worlds
   pub memory_is : SaysMemory (first_of (codes "memory") options) testing.memory
+  pub seconds_are : SaysSeconds (first_of (codes "seconds") options) testing.seconds
   pub jobs_are : SaysNumber jobs_range (first_of (codes "jobs") options) testing.jobs
   pub form_is : SaysTestForm options testing.form
   pub color_is : SaysColoring (first_of (codes "color") options) testing.color

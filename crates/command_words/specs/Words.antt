@@ -46,6 +46,11 @@ jobs_range = record { least = 0; most = 64; usual = 0 }
 abbrev pub memory_range : NumberRange
 memory_range = record { least = 1; most = 10000000000; usual = 4294967296 }
 
+-- of seconds after which an exploration ends, or the searches of a model; the usual number has no use, since no option
+-- means no such bound
+abbrev pub seconds_range : NumberRange
+seconds_range = record { least = 1; most = 1000000000; usual = 1000000000 }
+
 -- of entries that the schedules of an exploration have, and those of a sample
 abbrev pub entries_range : NumberRange
 entries_range = record { least = 1; most = 1000000; usual = 10000 }
@@ -166,7 +171,8 @@ explore_bounds =
 
 -- without its flags
 abbrev pub explore_options : App
-explore_options = with_rule explore_bounds want_option
+explore_options =
+    with_rule (with_rule explore_bounds (number_option (codes "seconds") seconds_range)) want_option
 
 abbrev pub explore_command : App
 explore_command = with_rule (with_explore_forms explore_options) (flag (codes "explain"))
@@ -231,7 +237,10 @@ test_files =
 -- `test` without its flags
 abbrev pub test_bounds : App
 test_bounds =
-    with_rule (with_rule (with_rule test_files (number_option (codes "worlds") model_worlds_range)) memory_option)
+    with_rule (with_rule (with_rule (with_rule test_files
+    (number_option (codes "worlds") model_worlds_range))
+    memory_option)
+    (number_option (codes "seconds") seconds_range))
     (number_option (codes "jobs") jobs_range)
 
 -- with the flags that ask for another form of a test than a report

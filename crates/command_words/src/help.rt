@@ -117,8 +117,8 @@ Example, which finds a release that is lost:
 Example of every outcome of a race, with timelines:
   echo '(race (pure 1) (pure 2))' | fiber_cli explore --timeline
 
-Example of a long search, which prints its progress:
-  fiber_cli explore --memory 8G --progress < FILE
+Example of a long search, which prints its progress, and ends within ten minutes:
+  fiber_cli explore --memory 8G --seconds 600 --progress < FILE
 
 Example of a search that stops at the first unwanted outcome:
   fiber_cli explore --first --want \"succeeded 0\" < FILE
@@ -273,6 +273,10 @@ pub const MEMORY: &str = "At how many bytes of memory the search stops, by an es
 
 pub const ENTRIES: &str = "How many entries a schedule has at most, 1 to 1000000 [default: 10000]";
 
+pub const SECONDS: &str =
+    "After how many seconds the search stops, 1 to 1000000000 [default: no such
+bound]";
+
 pub const WANT: &str = "An outcome of fiber 0 that is wanted, as a report spells it:
 \"succeeded V\", \"errored C\", canceled or unended. It can be given more
 than once. A report with another outcome, and a fault, is then not wanted";
@@ -306,7 +310,7 @@ pub const RUN_TIMELINE: &str =
 
 pub const EXPLORE_TIMELINE: &str = "Print a timeline behind each report and each fault";
 
-pub const PROGRESS: &str = "Write to standard error how far the search has come, while it goes on";
+pub const PROGRESS: &str = "Write to standard error how far the search has come, once a second";
 
 pub const FIRST_FINDING: &str =
     "Print the first finding alone: a fault, or an outcome of fiber 0 that is not
@@ -335,6 +339,10 @@ and NO_COLOR is not set), always or never [default: auto]";
 pub const LIST: &str = "Print the models with their places, and explore none";
 
 pub const TAP: &str = "Print the answer in the Test Anything Protocol";
+
+pub const MODEL_SECONDS: &str =
+    "After how many seconds the search of each model stops, 1 to 1000000000
+[default: no such bound]";
 
 pub const MODEL_WORLDS: &str = "How many worlds are kept of a model that sets no bound of its own,
 1 to 100000000 [default: 1000000]";

@@ -30,7 +30,7 @@ mod wrong_words;
 
 pub use checking::{Checking, Showing};
 pub use comparing::Comparing;
-pub use exploring::{ExploreForm, Exploring};
+pub use exploring::{Beside, ExploreForm, Exploring};
 pub use no_request::no_request_reason;
 pub use replay::{AnswerForm, Replay};
 pub use requests::{Request, request_of};

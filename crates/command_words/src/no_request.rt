@@ -35,22 +35,7 @@ const CONFLICTS: &[Conflict] = &[
     Conflict {
         subcommand: "explore",
         first: "progress",
-        second: "timeline",
-    },
-    Conflict {
-        subcommand: "explore",
-        first: "progress",
-        second: "json",
-    },
-    Conflict {
-        subcommand: "explore",
-        first: "progress",
         second: "explain",
-    },
-    Conflict {
-        subcommand: "explore",
-        first: "progress",
-        second: "first",
     },
     Conflict {
         subcommand: "explore",

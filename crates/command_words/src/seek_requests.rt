@@ -6,8 +6,8 @@ ghost use Rattle.command_words.specs.declared.seeking.Seeking.{Seeking};
 ghost use Rattle.command_words.specs.Flags.{IsGiven};
 ghost use Rattle.command_words.specs.Requests.{SaysSeeking};
 
-use crate::flags::given;
-use crate::requests::explore_order;
+use crate::flags::{beside, given};
+use crate::requests::{explore_order, seconds_of};
 use crate::seeking::Seeking;
 use clap::ArgMatches;
 use std::alloc::{AllocError, Global};
@@ -22,14 +22,21 @@ pub(crate) fn seeking_of(
     ensures none { IfOk result (λ found. IfNone found ((said : Seeking) →
         SaysSeeking (rows_of (found_of explore.now)) said → ⊥)) }
 {
-    if given(explore, "progress") || given(explore, "timeline") {
+    if given(explore, "timeline") {
         return Ok(None);
     }
+    let Some(beside) = beside(explore) else {
+        return Ok(None);
+    };
+    let Some(seconds) = seconds_of(explore) else {
+        return Ok(None);
+    };
     match explore_order(alloc, explore)? {
         Some(order) => Ok(Some(Seeking {
             order,
             json: given(explore, "json"),
-            explain: given(explore, "explain"),
+            seconds,
+            beside,
         })),
         None => Ok(None),
     }

@@ -11,7 +11,7 @@ ghost use Rattle.command_words.specs.Requests.{SaysTesting, SaysTranslating, tex
 
 use crate::flags::{given, text_of};
 use crate::ranges::{JOBS, MODEL_WORLDS};
-use crate::requests::{memory_of, number_of};
+use crate::requests::{memory_of, number_of, seconds_of};
 use crate::testing::{Coloring, TestForm, Testing, Translating};
 use clap::ArgMatches;
 use std::alloc::{AllocError, Global};
@@ -106,6 +106,9 @@ pub(crate) fn testing_of<'a>(
     let Some(memory) = memory_of(test) else {
         return Ok(None);
     };
+    let Some(seconds) = seconds_of(test) else {
+        return Ok(None);
+    };
     let Some(jobs) = number_of(test, "jobs", JOBS) else {
         return Ok(None);
     };
@@ -123,6 +126,7 @@ pub(crate) fn testing_of<'a>(
         html,
         worlds,
         memory,
+        seconds,
         jobs,
         form,
         color,

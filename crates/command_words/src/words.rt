@@ -13,7 +13,7 @@ use crate::compare_words::compare_command;
 use crate::help;
 use crate::help::{CommandHelp, LimitsHelp};
 use crate::ranges::{
-    BAND, BUDGET, COUNT, ENTRIES, MOVES, NumberRange, SEED, TIMES, WORKERS, WORLDS,
+    BAND, BUDGET, COUNT, ENTRIES, MOVES, NumberRange, SECONDS, SEED, TIMES, WORKERS, WORLDS,
 };
 use crate::test_words::{terms_command, test_command};
 use clap::{Arg, ArgAction, Command, value_parser};
@@ -216,6 +216,7 @@ fn explore_options<'a>(alloc: Global) -> Result<Command<'a>, AllocError>
     ensures local { IfOk result (λ c. (out-Command c).has_globals ≡ false) }
 {
     let command = explore_bounds(alloc)?;
+    let command = command.arg(number_option(alloc, "seconds", help::SECONDS, SECONDS))?;
     command.arg(want_option(alloc))
 }
 

@@ -24,8 +24,8 @@ use world_search::{Bounds, Watcher};
 /// [`Ending::Repeats`] has the entries that lead to a cycle, and those of the cycle: `replay` takes the first, and behind
 /// them the others as often as one likes. Each entry of each fiber is made alone, without the reduction of
 /// [`explore`](crate::explore), so there are more worlds. [`Ending::Undecided`] comes at a bound: as many worlds as may
-/// be kept, or as many bytes; the bound on entries isn't used. The limits are in their ranges ([`Limits`]).
-/// [`RunError::NoMemory`] is the only error.
+/// be kept, or as many bytes; the bound on entries isn't used. It also comes if the watcher ends the search. The limits
+/// are in their ranges ([`Limits`]). [`RunError::NoMemory`] is the only error.
 ///
 /// ```
 /// let program = Program::check(alloc, parse(alloc, b"(race (pure 4) (never))")?)?;
@@ -44,6 +44,7 @@ pub fn explore_ends<V: Watcher>(
         Ends (code_of (source_of program.now)) limits schedule) }
     ensures repeats { IfOk result (λ it. (c : TheCycle) → it ≡ Ending.Repeats c →
         IsForever (code_of (source_of program.now)) limits c.stem.items c.cycle.items) }
+    ensures watches { V.can_stop watcher.new ≡ V.can_stop watcher.old }
     ensures memory { IfErr result (λ e. e ≡ RunError.NoMemory) }
 {
     let mut worlds = CoreWorlds::new(alloc, program, limits)?;

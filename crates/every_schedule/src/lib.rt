@@ -48,4 +48,4 @@ pub use exploration::{Answer, Answers, Exploration, Schedule};
 pub use explored::{explore, explore_full, explore_watched};
 pub use fair_endings::explore_ends;
 pub use fair_ends::{Cycle, Ending};
-pub use world_search::{Bounds, Claimed, Met, Watcher};
+pub use world_search::{Bounds, Claimed, Met, TimeLimit, Unwatched, Watcher};

@@ -41,3 +41,5 @@ mod wants;
 mod watched;
 #[cfg(test)]
 mod watched_claims;
+#[cfg(test)]
+mod watched_models;

@@ -27,7 +27,8 @@ use world_search::{Bounds, Watcher, Worlds};
 ///
 /// Whatever the answer, it was checked at each world, or along the cycle. [`Ending::Undecided`] comes where as many
 /// worlds were met as may be kept, or as many bytes are counted as may be ([`Bounds`]; the bound on entries isn't used).
-/// The watcher is called at each ten-thousandth world. `AllocError` where memory is refused.
+/// It also comes where the watcher ends the search; the watcher is asked at each hundredth world whether it goes on.
+/// `AllocError` where memory is refused.
 pub fn decide_ends<W: Worlds, V: Watcher>(
     alloc: Global,
     worlds: &mut W,
@@ -42,6 +43,7 @@ pub fn decide_ends<W: Worlds, V: Watcher>(
     ensures repeats { IfOk result (λ it. (c : TheCycle) → it ≡ Ending.Repeats c → (first : W.World) →
         slice_get (W.worlds worlds.old) 0 ≡ Some first →
         IsFairCycle W.step W.report first c.stem.items c.cycle.items c.exit.items) }
+    ensures watches { V.can_stop watcher.new ≡ V.can_stop watcher.old }
 {
     match table_of(alloc, &mut *worlds, bounds, watcher)? {
         None => Ok(Ending::Undecided),

@@ -7,7 +7,7 @@ pub enum Ending {
     Ends,
     /// A fair schedule repeats this cycle for ever, and no answer comes.
     Repeats(Cycle),
-    /// A bound was met before it was decided.
+    /// A bound was met, or the watcher ended the search, before it was decided.
     Undecided,
 }
 

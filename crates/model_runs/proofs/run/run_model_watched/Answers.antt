@@ -2,10 +2,10 @@ use Rattle.std.proofs.Common.{All, List, sym, subst}
 use Rattle.model_runs.specs.declared.result.ClaimResult.{ClaimResult}
 use Rattle.model_runs.specs.declared.result.Search.{Search}
 use Rattle.model_runs.specs.Deciding.{IsDecidedIn}
-use Rattle.model_runs.proofs.run.run_model.Goals as goal
+use Rattle.model_runs.proofs.run.run_model_watched.Goals as goal
 
 pub returns-clause-claims : goal.returns-clause-claims
-returns-clause-claims c =
+returns-clause-claims g c =
     let source = c.args.source.now in
     let moments = c.in_ok-moments.moments.search in
     let all : All (IsDecidedIn source c.in_ok-searches.searches.items moments) c.in_ok-results.results.items =
