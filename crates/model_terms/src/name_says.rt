@@ -1,6 +1,6 @@
 //! Values that fibers say for their names.
 
-ghost use Rattle.std.specs.Prelude.{◌↔◌, ◌<◌, ◌≤◌, IsTrue};
+ghost use Rattle.std.specs.Prelude.{◌↔◌, ◌<ℤ◌, ◌≤ℤ◌, pos, IsTrue};
 
 use crate::scope::FiberName;
 use crate::translation::LATE;
@@ -15,7 +15,7 @@ pub(crate) const WATCHER: i64 = FIRST + 2;
 /// watches a ref. Such a value is from 4611686000000000000 to 4611686018427387900. A file that says one itself hides it
 /// from its claims.
 pub fn is_name(value: i64) -> bool
-    ensures { IsTrue result ↔ (4611686000000000000 ≤ value) × (value < 4611686018427387901) }
+    ensures { IsTrue result ↔ (pos 4611686000000000000 ≤ℤ value) × (value <ℤ pos 4611686018427387901) }
 {
     FIRST <= value && value < LATE
 }
