@@ -40,7 +40,7 @@ pub(crate) fn rows_of(alloc: Global, replay: &Named) -> Result<Vec<Row>, AllocEr
     let mut rows = Vec::new(alloc);
     for (number, event) in replay.events.as_slice().iter().enumerate() {
         let is_new = is_new(waits.as_mut_slice(), event);
-        let is_hidden = is_of_watcher(replay, event)
+        let is_unseen = is_of_watcher(replay, event)
             || is_of_hidden_ref(replay, event)
             || is_of_name(event);
         if is_new && !is_unseen {
