@@ -3,6 +3,11 @@
 use crate::answers::answered;
 use command_line::refuse_words;
 use outcome_trace::ToWrite;
+use std::process::Abort;
+use std::rt::Files;
+use std::sync::Wait;
+use std::thread::Threads;
+use std::time::Clock;
 
 // A replay whose schedule is the first line of the input.
 const FROM_INPUT: &[&str] = &["fiber_cli", "replay", "--schedule", "-"];
@@ -19,14 +24,23 @@ const INPUTS: &[(&[u8], &str)] = &[
     (b"0 1*3\r\n(pure 7)", "fault 27 BadSchedule 2\n"),
 ];
 
+// Replays an input, and checks that it is refused with this text.
+fn expect_refusal<R: Abort + AllocGlobal + Clock + Files + Threads + Wait + Sync>(
+    rt: &R,
+    input: &[u8],
+    err: &str,
+) {
+    let answer = answered(rt, FROM_INPUT, input);
+    assert_eq!(rt;
+        (answer.status, answer.out.len(), answer.err.as_slice()),
+        (64, 0, err.as_bytes())
+    );
+}
+
 #[test]
 fn a_first_line_that_is_no_schedule_is_a_usage_fault(rt: HostRuntime) {
     for (input, err) in INPUTS {
-        let answer = answered(&rt, FROM_INPUT, *input);
-        assert_eq!(rt;
-            (answer.status, answer.out.len(), answer.err.as_slice()),
-            (64, 0, err.as_bytes())
-        );
+        expect_refusal(&rt, *input, err);
     }
 }
 
