@@ -458,10 +458,10 @@ const NO_MEMORY: &[&str] = &[
     "1.5G",
 ];
 
-// Before any entry, a world takes 13 bytes. In the store it takes 96 bytes for its row, 4 for its fiber's number, 480
+// Before any entry, a world takes 13 bytes. In the store it takes 36 bytes for its row, 8 for its fiber's number, 480
 // for the state of this fiber, and for the registry 160, 32 for each of 16 fibers, 8 for each of 16 refs and 16 for
 // each of 16 deferreds.
-const STOPPED: &str = "stopped at 1 world: 0 reports, 0 faults, 1649 bytes\n";
+const STOPPED: &str = "stopped at 1 world: 0 reports, 0 faults, 1593 bytes\n";
 
 #[test]
 fn takes_bytes_of_memory(rt: HostRuntime) -> Result<(), AllocError> {
@@ -476,7 +476,7 @@ fn takes_bytes_of_memory(rt: HostRuntime) -> Result<(), AllocError> {
         let err = refusal(&rt, reason.as_str())?;
         expect_number(&rt, EXPLORE, ("memory", *text), 64, "", err.as_str())?;
     }
-    for text in ["1", "1649", "1k"] {
+    for text in ["1", "1593", "1k"] {
         expect_number(&rt, EXPLORE, ("memory", text), 3, STOPPED, "")?;
     }
     Ok(())

@@ -4,6 +4,7 @@ pub mod FairRuns
 pub mod Listing
 pub mod Laws
 pub mod Numbered
+pub mod Packed
 pub mod Knowing
 pub mod Turning
 pub mod Standing

@@ -36,9 +36,10 @@ mod own_moves;
 mod pool;
 mod reduced_worlds;
 mod reports;
-mod row;
+mod rows;
 mod seen_row;
 mod seen_worlds;
+mod table;
 mod turns;
 mod unfolding;
 

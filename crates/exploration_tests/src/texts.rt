@@ -54,9 +54,9 @@ const EXPLORED: &[Explored<'static>] = &[
         worlds: 1,
         wants: &[],
         status: Status::Unended,
-        // A world of 13 bytes with a row of 96 and 4, three states of the fiber of 480, as the end is made, and two of
+        // A world of 13 bytes with a row of 36 and 8, three states of the fiber of 480, as the end is made, and two of
         // the cells, each of 160 and 16 times 32, 8 and 16.
-        text: "stopped at 1 world: 0 reports, 0 faults, 3665 bytes\n",
+        text: "stopped at 1 world: 0 reports, 0 faults, 3609 bytes\n",
     },
     Explored {
         rule: "a start where there may be one fiber",

@@ -21,12 +21,12 @@ const LONG: &str = "(uncancelable p (repeat 90000 (canceled)))";
 const TOLD: &str = "explored 10000 worlds, 0 a second, depth 9999\n\
     explored 20000 worlds, 0 a second, depth 19999\n";
 
-// A world takes 13 bytes, and its row in the store 96 and 4 for its one fiber; each entry but the last one leads to
+// A world takes 13 bytes, and its row in the store 36 and 8 for its one fiber; each entry but the last one leads to
 // another world, which takes 8. Each entry brings three states of the fiber: the one that it makes, and two behind the
 // moves that are made at once. With the first one they are 61,501 states of 480 bytes, and all but the first two have
 // the mark of the mask, which takes 16. The cells have three states: as they begin, under the mask, and with the
 // request. Each takes 160 bytes and 32 for the fiber, 8 for each of 16 refs and 16 for each of 16 deferreds.
-const STOPPED: &str = "stopped at 20500 worlds: 0 reports, 0 faults, 32986684 bytes\n";
+const STOPPED: &str = "stopped at 20500 worlds: 0 reports, 0 faults, 31838684 bytes\n";
 
 // A clock that stands still, or fails.
 #[derive(Drop)]

@@ -102,10 +102,10 @@ const EXPLORED: &[(&str, usize, &[&str], &str, Status)] = &[
         "(pure 1)",
         1,
         &[],
-        // A world of 13 bytes with a row of 96 and 4. There are three states of the fiber, of 480 bytes each, while the
+        // A world of 13 bytes with a row of 36 and 8. There are three states of the fiber, of 480 bytes each, while the
         // end is made, and two of the cells, each of 160, 32 for each of 16 fibers, 8 for the ref and 16 for each of 16
         // deferreds.
-        "{\"answer\":\"exploration\",\"answers\":[],\"bytes\":3425,\"complete\":false,\"worlds\":1}\n",
+        "{\"answer\":\"exploration\",\"answers\":[],\"bytes\":3369,\"complete\":false,\"worlds\":1}\n",
         Status::Unended,
     ),
     (
