@@ -5,6 +5,7 @@ pub mod Unrest
 pub mod Listing
 pub mod Laws
 pub mod Numbered
+pub mod Packed
 pub mod Knowing
 pub mod Turning
 pub mod Standing

@@ -37,9 +37,10 @@ mod pool;
 mod reduced_worlds;
 mod reports;
 mod resting;
-mod row;
+mod rows;
 mod seen_row;
 mod seen_worlds;
+mod table;
 mod turns;
 mod unfolding;
 

@@ -42,12 +42,12 @@ const TOLD_IN_TIME: &str = "explored 6700 worlds, 6666 a second, depth 6699\n\
 // What is answered then; behind it stand the bytes.
 const OUT_OF_TIME: &str = "stopped by time at 13400 worlds: 0 reports, 0 faults, ";
 
-// A world takes 13 bytes, and its row in the store 96 and 4 for its one fiber; each entry but the last one leads to
+// A world takes 13 bytes, and its row in the store 36 and 8 for its one fiber; each entry but the last one leads to
 // another world, which takes 8. Each entry brings three states of the fiber: the one that it makes, and two behind the
 // moves that are made at once. With the first one they are 61,501 states of 480 bytes, and all but the first two have
 // the mark of the mask, which takes 16. The cells have three states: as they begin, under the mask, and with the
 // request. Each takes 160 bytes and 32 for the fiber, 8 for each of 16 refs and 16 for each of 16 deferreds.
-const STOPPED: &str = "stopped at 20500 worlds: 0 reports, 0 faults, 32986684 bytes\n";
+const STOPPED: &str = "stopped at 20500 worlds: 0 reports, 0 faults, 31838684 bytes\n";
 
 // A clock that goes on by this number of milliseconds at each look, or fails.
 #[derive(Drop)]

@@ -1,7 +1,7 @@
 use Rattle.std.proofs.Common.{◌≡◌, drop}
 use Rattle.every_schedule.specs.Reduced.{keeps, others}
 use Rattle.every_schedule.specs.Private.Standing.{IsSame, here}
-use Rattle.every_schedule.proofs.own_moves.is_kept.Given as goal
+use Rattle.every_schedule.proofs.own_moves.all_spare.Given as goal
 
 -- the fibers so far don't use the number so
 abbrev pub invariant-loop-place : goal.invariant-loop-place
