@@ -104,8 +104,8 @@ ended_so code k bounds timed wants e limited h = (
 
 -- a search that is whole or was ended can't have met a bound
 no_bound : {C : Type 0} (e : Exploration) → (e.complete ≡ true) ⊎ (e.halted ≡ true) → e.complete ≡ false → e.halted ≡ false → C
-no_bound e (inl whole) no going = let bad : true ≡ false = sym whole ∙ no in absurd cc
-no_bound e (inr ended) no going = let bad : true ≡ false = sym ended ∙ going in absurd cc
+no_bound e (inl whole) part going = let bad : true ≡ false = sym whole ∙ part in absurd cc
+no_bound e (inr halted) part going = let bad : true ≡ false = sym halted ∙ going in absurd cc
 
 -- an exploration within fewer worlds that is whole or was ended
 pub widened : (code : Tree) (k : Limits) (fewer bounds : Bounds) (timed : Bool) (wants : List Want) (first : First) → fewer.worlds ≤ bounds.worlds →
@@ -127,6 +127,12 @@ widened code k fewer bounds timed wants (Explored e) low entries memory decided 
   h.2,
 )
 
+pub min_low : (n most : ℕ) → min n most ≤ n
+min_low n most = omega arith
+
+pub fewer_worlds : (n : ℕ) → min n 10000 ≤ min n 1000000
+fewer_worlds n = omega arith
+
 -- bounds that allow no more worlds stay as they are
 same_bounds : (bounds : Bounds) (n : ℕ) → bounds.worlds ≤ n → bounds_within bounds n ≡ bounds
 same_bounds bounds n low =
@@ -137,7 +143,7 @@ same_bounds bounds n low =
 pub last_first : (code : Tree) (k : Limits) (bounds : Bounds) (n : ℕ) (timed : Bool) (wants : List Want) (first : First) →
     IsDecided first ⊎ bounds.worlds ≤ n → IsFirst code k (bounds_within bounds n) timed wants first → IsFirst code k bounds timed wants first
 last_first code k bounds n timed wants first (inl decided) h =
-    widened code k (bounds_within bounds n) bounds timed wants first (omega arith) refl refl decided h
+    widened code k (bounds_within bounds n) bounds timed wants first (min_low bounds.worlds n) refl refl decided h
 last_first code k bounds n timed wants first (inr low) h = subst (λ (b : Bounds). IsFirst code k b timed wants first) (same_bounds bounds n low) h
 
 -- of two searches the one that has found more

@@ -20,21 +20,6 @@ use Rattle.json_answers.specs.ExplorationData.{IsExplorationData}
 use Rattle.json_answers.specs.FoundAnswers.{IsJsonExplored, IsJsonSample, IsJsonSampled, samples, unsampled}
 use Rattle.json_answers.specs.ReportData.{line_of_data}
 
-pub exploration_answers : {E : Type 0} (t : Term) (limits : Limits) (bounds : Bounds) (timed : Bool) (wants seen : List Want) (e : Exploration)
-    (d : Data) (status : Status)
-    (a : Result Answer E) → seen ≡ wants → IsExplorationOf (code_of (source_of t)) limits bounds timed e → IsExplorationData seen e d →
-    status ≡ exploration_status seen e → IfOk a (λ a. a.text.items ≡ line_of_data d) → IfOk a (λ a. a.status ≡ status) →
-    IfOk a (λ a. IsJsonExplored t limits bounds timed wants a.text.items a.status)
-exploration_answers t limits bounds timed wants seen e d status (Ok a) same explored is ends line so = record {
-  exploration = e;
-  explored = explored;
-  value = d;
-  value_is = subst (λ ws. IsExplorationData ws e d) same is;
-  text_is = line;
-  status_is = subst (λ ws. a.status ≡ exploration_status ws e) same (so ∙ ends);
-}
-exploration_answers t limits bounds timed wants seen e d status (Err x) same explored is ends line so = tt
-
 pub program_sampled : {E : Type 0} (text : List ℕ) (limits : Limits) (seed times entries : ℕ) (wants : List Want) (t : Term) (a : Result Answer E) →
     reading text ≡ Ok (atoms_of t) → IsProgram t → IfOk a (λ a. IsJsonSampled t limits seed times entries wants a.text.items a.status) →
     IfOk a (λ a. IsJsonSample limits seed times entries wants text a.text.items a.status)
