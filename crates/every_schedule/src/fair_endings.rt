@@ -14,12 +14,12 @@ use fair_ends::{Ending, decide_ends};
 use std::alloc::Global;
 use world_search::{Bounds, Watcher};
 
-/// Whether every fair schedule of a program leads to an answer: to a report that no further entry changes, or to a
-/// fault.
+/// Whether every fair schedule of a program comes to an end: to a final world, in which each fiber has ended or waits for
+/// what can't come, or to a fault.
 ///
 /// A schedule has no end here. It is fair if each fiber has an entry again and again; an entry of a fiber that waits or
-/// has ended changes nothing. A deadlock is an answer, and so is a loop whose report no entry can change. No answer is
-/// a loop that an entry at the right moment would end, if a fair schedule can miss that moment for ever.
+/// has ended changes nothing. A deadlock is an end. A loop that nothing ends is none, whether or not its marks go on, and
+/// neither is one that an entry at the right moment would end, if a fair schedule can miss that moment for ever.
 ///
 /// [`Ending::Repeats`] has the entries that lead to a cycle, and those of the cycle: `replay` takes the first, and behind
 /// them the others as often as one likes. Each entry of each fiber is made alone, without the reduction of

@@ -36,6 +36,7 @@ mod own_moves;
 mod pool;
 mod reduced_worlds;
 mod reports;
+mod resting;
 mod row;
 mod seen_row;
 mod seen_worlds;
