@@ -10,6 +10,8 @@ mod checking;
 mod compare_requests;
 mod compare_words;
 mod comparing;
+mod decide_requests;
+mod deciding;
 mod exploring;
 mod flags;
 mod help;
@@ -30,6 +32,7 @@ mod wrong_words;
 
 pub use checking::{Checking, Showing};
 pub use comparing::Comparing;
+pub use deciding::Deciding;
 pub use exploring::{Beside, ExploreForm, Exploring};
 pub use no_request::no_request_reason;
 pub use replay::{AnswerForm, Replay};

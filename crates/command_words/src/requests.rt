@@ -23,6 +23,8 @@ ghost use Rattle.command_words.specs.Requests.{SaysRunning, SaysSample, SaysSamp
 use crate::checking::{Checking, Showing};
 use crate::compare_requests::comparing_of;
 use crate::comparing::Comparing;
+use crate::decide_requests::deciding_of;
+use crate::deciding::Deciding;
 use crate::exploring::Exploring;
 use crate::flags::{beside, explore_form, given, replay_form, run_form, text_of};
 use crate::memory::bytes_of;
@@ -56,6 +58,8 @@ pub enum Request<'a> {
     Explore(Exploring),
     /// To look for the first finding of the text's program.
     Seek(Seeking),
+    /// To explore every schedule of the text's program, and to decide whether every fair one ends.
+    Decide(Deciding),
     /// To run the text's program on workers, and tell what each fiber came to.
     Run(Running),
     /// To tell what schedules of the text's program come to that are drawn at random.
@@ -378,6 +382,12 @@ fn explore_request<'a>(
 ) -> Result<Option<Request<'a>>, AllocError>
     ensures { IfOk result (GivesRequest (Some (codes "explore", rows_of (found_of options.now)))) }
 {
+    if given(options, "ends") {
+        return match deciding_of(alloc, options)? {
+            Some(deciding) => Ok(Some(Request::Decide(deciding))),
+            None => Ok(None),
+        };
+    }
     if given(options, "first") {
         return match seeking_of(alloc, options)? {
             Some(seeking) => Ok(Some(Request::Seek(seeking))),

@@ -103,7 +103,8 @@ fn with_explore_forms<'a>(alloc: Global, command: Command<'a>) -> Result<Command
     let watched = with_flag(alloc, command, "progress", help::PROGRESS)?;
     let timed = with_flag(alloc, watched, "timeline", help::EXPLORE_TIMELINE)?;
     let valued = with_flag(alloc, timed, "json", help::JSON)?;
-    with_flag(alloc, valued, "first", help::FIRST_FINDING)
+    let found = with_flag(alloc, valued, "first", help::FIRST_FINDING)?;
+    with_flag(alloc, found, "ends", help::ENDS)
 }
 
 // Adds the flags that ask for another form of a run than a report.

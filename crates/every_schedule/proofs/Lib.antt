@@ -1,6 +1,7 @@
 pub mod Placed
 pub mod Told
 pub mod FairRuns
+pub mod Unrest
 pub mod Listing
 pub mod Laws
 pub mod Numbered

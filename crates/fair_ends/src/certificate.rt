@@ -12,11 +12,7 @@ use crate::table::{FAULT, Row};
 use std::alloc::AllocError;
 
 /// Whether each world has a rank that is right.
-pub fn are_ranked<W: Resting>(
-    worlds: &W,
-    rows: &[Row],
-    ranks: &[Rank],
-) -> Result<bool, AllocError>
+pub fn are_ranked<W: Resting>(worlds: &W, rows: &[Row], ranks: &[Rank]) -> Result<bool, AllocError>
     requires { IsTable W.step W.most_born (W.worlds worlds.now) rows.now }
     ensures even { IfOk result (λ it. it ≡ true → length ranks.now ≡ length rows.now) }
     ensures ranked { IfOk result (λ it. it ≡ true →
@@ -80,13 +76,7 @@ fn falls_everywhere<W: Resting>(worlds: &W, row: &Row, ranks: &[Rank], index: us
 }
 
 // Whether the entry of a fiber at a world of this rank, which leads to this target, is right.
-fn passes<W: Resting>(
-    worlds: &W,
-    ranks: &[Rank],
-    rank: Rank,
-    fiber: usize,
-    target: u32,
-) -> bool
+fn passes<W: Resting>(worlds: &W, ranks: &[Rank], rank: Rank, fiber: usize, target: u32) -> bool
     requires { length ranks.now ≡ length (W.worlds worlds.now) }
     ensures { result ≡ true → (y : TheResult W.World W.Fault) →
         LandsOn W.step W.most_born (W.worlds worlds.now) target y →

@@ -18,7 +18,7 @@ use std::alloc::{AllocError, Global};
 /// An exploration: its answers, those that aren't wanted first, whether they are all, how many worlds were found, and
 /// where the answers may not be all, how many bytes were counted, and whether the time was over. `AllocError` where
 /// memory ran out.
-pub(crate) fn exploration_json(
+pub fn exploration_json(
     alloc: Global,
     exploration: &Exploration,
     wants: &[Want],
