@@ -7,6 +7,7 @@
 mod check_order;
 mod cli;
 mod compare_order;
+mod decide_order;
 mod explore_order;
 mod first_line;
 mod noted;

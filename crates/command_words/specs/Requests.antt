@@ -14,12 +14,13 @@ use Rattle.compared_ends.specs.declared.basis.Basis.{Basis}
 use Rattle.compared_ends.specs.declared.basis.Basis.TheVariants.{AllFibers, FirstFiber}
 use Rattle.comparison_answers.specs.declared.pairs.CompareOrder.{CompareOrder}
 use Rattle.command_words.specs.declared.comparing.Comparing.{Comparing}
+use Rattle.command_words.specs.declared.deciding.Deciding.{Deciding}
 use Rattle.command_words.specs.declared.exploring.Exploring.{Exploring}
 use Rattle.command_words.specs.declared.ranges.NumberRange.{NumberRange}
 use Rattle.command_words.specs.declared.replay.Replay.{Replay as ReplayFields}
 use Rattle.command_words.specs.declared.requests.Request.{Request}
 use Rattle.command_words.specs.declared.requests.Request.TheVariants.{Check, Show, Replay, Explore, Run, Sample}
-use Rattle.command_words.specs.declared.requests.Request.TheVariants.{Compare, Seek, Test, Terms}
+use Rattle.command_words.specs.declared.requests.Request.TheVariants.{Compare, Decide, Seek, Test, Terms}
 use Rattle.command_words.specs.declared.running.Running.{Running}
 use Rattle.command_words.specs.declared.sampling.Sampling.{Sampling}
 use Rattle.command_words.specs.declared.seeking.Seeking.{Seeking}
@@ -100,6 +101,15 @@ pub record SaysSeeking (options : List Row) (seeking : Seeking) : Type 0 where
   pub seconds_are : SaysSeconds (first_of (codes "seconds") options) seeking.seconds
   pub beside : SaysBeside options seeking.beside
 
+-- the decision on fair schedules that the options of `explore` say
+pub record SaysDeciding (options : List Row) (deciding : Deciding) : Type 0 where
+  pub ends : IsGiven (codes "ends") options
+  pub alone : IsLeftOut (codes "first") options × IsLeftOut (codes "timeline") options
+  pub order : SaysExplore options deciding.order
+  pub json : SaysFlag (codes "json") options deciding.json
+  pub seconds_are : SaysSeconds (first_of (codes "seconds") options) deciding.seconds
+  pub beside : SaysBeside options deciding.beside
+
 -- the run that the options of `run` say
 pub record SaysRunning (options : List Row) (running : Running) : Type 0 where
   pub run : SaysRun options running.options
@@ -153,8 +163,11 @@ Says said (Check checking) =
 Says said (Show showing) = (said.0 ≡ codes "show") × SaysFlag (codes "explain") said.1 showing.explain
 Says said (Replay replay) = (said.0 ≡ codes "replay") × SaysReplay said.1 replay
 Says said (Explore exploring) =
-    (said.0 ≡ codes "explore") × IsLeftOut (codes "first") said.1 × SaysExploring said.1 exploring
-Says said (Seek seeking) = (said.0 ≡ codes "explore") × SaysSeeking said.1 seeking
+    (said.0 ≡ codes "explore") × IsLeftOut (codes "first") said.1 × IsLeftOut (codes "ends") said.1 ×
+    SaysExploring said.1 exploring
+Says said (Seek seeking) =
+    (said.0 ≡ codes "explore") × IsLeftOut (codes "ends") said.1 × SaysSeeking said.1 seeking
+Says said (Decide deciding) = (said.0 ≡ codes "explore") × SaysDeciding said.1 deciding
 Says said (Run running) = (said.0 ≡ codes "run") × SaysRunning said.1 running
 Says said (Sample sampling) = (said.0 ≡ codes "sample") × SaysSampling said.1 sampling
 Says said (Compare comparing) = (said.0 ≡ codes "compare") × SaysComparing said.1 comparing
@@ -175,6 +188,7 @@ TakesSchedule (Show showing) = ⊥
 TakesSchedule (Replay replay) = replay.schedule.now ≡ codes "-"
 TakesSchedule (Explore exploring) = ⊥
 TakesSchedule (Seek seeking) = ⊥
+TakesSchedule (Decide deciding) = ⊥
 TakesSchedule (Run running) = ⊥
 TakesSchedule (Sample sampling) = ⊥
 TakesSchedule (Compare comparing) = ⊥

@@ -155,11 +155,12 @@ replay_command =
 -- with the flags that ask for another form of an exploration than a list
 abbrev pub with_explore_forms : App → App
 with_explore_forms app =
-    with_rule (with_rule (with_rule (with_rule app
+    with_rule (with_rule (with_rule (with_rule (with_rule app
     (flag (codes "progress")))
     (flag (codes "timeline")))
     (flag (codes "json")))
-    (flag (codes "first"))
+    (flag (codes "first")))
+    (flag (codes "ends"))
 
 -- `explore` with the options for its limits and bounds
 abbrev pub explore_bounds : App

@@ -123,11 +123,15 @@ Example of a long search, which prints its progress, and ends within ten minutes
 Example of a search that stops at the first unwanted outcome:
   fiber_cli explore --first --want \"succeeded 0\" < FILE
 
+Example that finds a lock for which a fiber waits for ever:
+  echo '(ref lock 1 (forever (get lock)))' | fiber_cli explore --ends
+
 'fiber_cli --help' explains the reports. Each is below a schedule, under which replay gives it.
 
 Exit status:
    0  every schedule was explored, and nothing unwanted was found
-   1  something unwanted was found; without --want, a fault
+   1  something unwanted was found: a fault, with --want another outcome, or
+      with --ends a fair schedule that goes on for ever
    3  a bound was reached, and nothing unwanted was found
   64  the words are wrong
   65  the text is refused
@@ -315,6 +319,9 @@ pub const PROGRESS: &str = "Write to standard error how far the search has come,
 pub const FIRST_FINDING: &str =
     "Print the first finding alone: a fault, or an outcome of fiber 0 that is not
 wanted. Before the search 3000 schedules are drawn at random";
+
+pub const ENDS: &str = "Print behind the answer whether every fair schedule ends, in which each
+fiber that can go on does so again and again, or else a cycle that goes on";
 
 pub const SVG: &str = "Print a picture of the run in place of the report, as SVG";
 

@@ -48,6 +48,16 @@ const CONFLICTS: &[Conflict] = &[
         second: "first",
     },
     Conflict {
+        subcommand: "explore",
+        first: "timeline",
+        second: "ends",
+    },
+    Conflict {
+        subcommand: "explore",
+        first: "first",
+        second: "ends",
+    },
+    Conflict {
         subcommand: "run",
         first: "record",
         second: "json",
