@@ -279,6 +279,15 @@ const FOUND: &[(&str, &[&str], &str, u8, &str, &str)] = &[
             no schedule was found that comes to `unended`\n",
     ),
     (
+        "that every fair schedule ends, and a wanted outcome that doesn't come",
+        &["fiber_cli", "explore", "--ends", "--want=errored 7", "--want=canceled"],
+        "(raise 7)",
+        0,
+        "explored 2 worlds: 1 report, 0 faults\n\nunder \"0*2\"\nfiber 0 errored 7\n\n\
+            ends under every fair schedule\n",
+        "no schedule comes to `canceled`\n",
+    ),
+    (
         "a text of which nothing is looked for",
         &["fiber_cli", "explore", "--first"],
         "(pur 1)",

@@ -160,6 +160,8 @@ const HELP: &[(&[&str], &str)] = &[
         \n      --json            Print the answer as JSON, on one line\
         \n      --first           Print the first finding alone: a fault, or an outcome of fiber 0 that is not\
         \n                        wanted. Before the search 3000 schedules are drawn at random\
+        \n      --ends            Print behind the answer whether every fair schedule ends, in which each\
+        \n                        fiber that can go on does so again and again, or else a cycle that goes on\
         \n      --explain         Write reasons to standard error: where a text or a schedule is refused, and\
         \n                        why a fiber of a replay or a run hasn't ended\
         \n  -h, --help            Print help\
@@ -173,10 +175,13 @@ const HELP: &[(&[&str], &str)] = &[
         \n  fiber_cli explore --memory 8G --seconds 600 --progress < FILE\
         \n\nExample of a search that stops at the first unwanted outcome:\
         \n  fiber_cli explore --first --want \"succeeded 0\" < FILE\
+        \n\nExample that finds a lock for which a fiber waits for ever:\
+        \n  echo '(ref lock 1 (forever (get lock)))' | fiber_cli explore --ends\
         \n\n'fiber_cli --help' explains the reports. Each is below a schedule, under which replay gives it.\
         \n\nExit status:\
         \n   0  every schedule was explored, and nothing unwanted was found\
-        \n   1  something unwanted was found; without --want, a fault\
+        \n   1  something unwanted was found: a fault, with --want another outcome, or\
+        \n      with --ends a fair schedule that goes on for ever\
         \n   3  a bound was reached, and nothing unwanted was found\
         \n  64  the words are wrong\
         \n  65  the text is refused\

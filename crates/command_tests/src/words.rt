@@ -65,6 +65,16 @@ const APART: &[(&[&str], &str, &str)] = &[
         "first",
     ),
     (
+        &["fiber_cli", "explore", "--ends", "--json", "--first"],
+        "first",
+        "ends",
+    ),
+    (
+        &["fiber_cli", "explore", "--ends", "--timeline"],
+        "timeline",
+        "ends",
+    ),
+    (
         &["fiber_cli", "run", "--record", "--json"],
         "record",
         "json",
