@@ -3,6 +3,7 @@ ghost use Rattle.std.specs.Prelude.{◌≡◌, ◌<◌, ◌≤◌, ◌⊎◌, �
 ghost use Rattle.std.specs.List.{All};
 ghost use Rattle.derived_ops.specs.Expansion.{code_of};
 ghost use Rattle.derived_ops.specs.Reading.{source_of};
+ghost use Rattle.exploration_text.specs.ExplorationText.{IsSpellable};
 ghost use Rattle.exploration_text.specs.ExploreAnswers.{IsExplorationOf};
 ghost use Rattle.ending_answers.specs.Decisions.{IsEndingOf, IsShort};
 
@@ -32,6 +33,7 @@ pub fn decide<V: Watcher>(
 ) -> Result<Decided, AllocError>
     ensures explored { IfOk result (λ it. IsExplorationOf (code_of (source_of program.now)) order.now.limits
         order.now.bounds (V.can_stop watcher.old) it.exploration) }
+    ensures spellable { IfOk result (λ it. All IsSpellable it.exploration.answers) }
     ensures ending { IfOk result (λ it. IsEndingOf (code_of (source_of program.now)) order.now.limits it.ending) }
     ensures short { IfOk result (λ it. IsShort order.now.bounds.entries it.ending) }
 {

@@ -34,12 +34,12 @@ impl WatchedOrder for EndsOrder {
     ) -> Result<NotedAnswer, AllocError> {
         let decided = decide(alloc, program, &self.order, watcher)?;
         let wants = self.order.wants.as_slice();
+        let note = missing_of_exploration(alloc, &decided.exploration, wants)?;
+        let text = text_of_decided(alloc, &decided, wants)?;
+        let status = decided_status(&decided, wants);
         Ok(NotedAnswer {
-            note: missing_of_exploration(alloc, &decided.exploration, wants)?,
-            answer: Answer {
-                text: text_of_decided(alloc, &decided, wants)?,
-                status: decided_status(&decided, wants),
-            },
+            answer: Answer { text, status },
+            note,
         })
     }
 }
@@ -65,10 +65,9 @@ impl WatchedOrder for EndsJson {
     ) -> Result<NotedAnswer, AllocError> {
         let decided = decide(alloc, program, &self.order, watcher)?;
         let wants = self.order.wants.as_slice();
+        let note = missing_of_exploration(alloc, &decided.exploration, wants)?;
         let value = decided_json(alloc, &decided, wants)?;
-        Ok(NotedAnswer {
-            answer: value_answer(alloc, &value, decided_status(&decided, wants))?,
-            note: missing_of_exploration(alloc, &decided.exploration, wants)?,
-        })
+        let answer = value_answer(alloc, &value, decided_status(&decided, wants))?;
+        Ok(NotedAnswer { answer, note })
     }
 }
