@@ -280,7 +280,13 @@ const FOUND: &[(&str, &[&str], &str, u8, &str, &str)] = &[
     ),
     (
         "that every fair schedule ends, and a wanted outcome that doesn't come",
-        &["fiber_cli", "explore", "--ends", "--want=errored 7", "--want=canceled"],
+        &[
+            "fiber_cli",
+            "explore",
+            "--ends",
+            "--want=errored 7",
+            "--want=canceled",
+        ],
         "(raise 7)",
         0,
         "explored 2 worlds: 1 report, 0 faults\n\nunder \"0*2\"\nfiber 0 errored 7\n\n\

@@ -1,5 +1,5 @@
 -- What is decided of the fair schedules of a program.
-use Rattle.std.specs.Prelude.{◌<◌, ◌≤◌, ◌×◌, ℕ, length}
+use Rattle.std.specs.Prelude.{◌<◌, ◌≤◌, ℕ, length}
 use Rattle.std.specs.List.{All}
 use Rattle.cell_registry.specs.declared.limits.Limits.{Limits}
 use Rattle.derived_ops.specs.Tree.{Tree}

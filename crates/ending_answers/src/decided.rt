@@ -37,8 +37,7 @@ pub fn decide<V: Watcher>(
     ensures ending { IfOk result (λ it. IsEndingOf (code_of (source_of program.now)) order.now.limits it.ending) }
     ensures short { IfOk result (λ it. IsShort order.now.bounds.entries it.ending) }
 {
-    let Ok(exploration) =
-        explore_watched(alloc, program, order.limits, order.bounds, &mut *watcher)
+    let Ok(exploration) = explore_watched(alloc, program, order.limits, order.bounds, &mut *watcher)
     else {
         return Err(AllocError);
     };
