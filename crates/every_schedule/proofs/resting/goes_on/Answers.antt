@@ -1,7 +1,11 @@
-use Rattle.std.proofs.Common.{◌∙◌, sym, arith, subst}
+use Rattle.std.proofs.Common.{◌≡◌, ◌∙◌, Bool, false, true, Option, Some, None, refl, sym, ap, arith, rules, subst}
+use Rattle.std.specs.Option.{is_some}
+use Rattle.effect_term.specs.declared.reply.Outcome.{Outcome}
+use Rattle.fiber_frames.specs.declared.ask.Ask.TheVariants as ask
+use Rattle.fiber_frames.specs.Fiber.{outcome_of}
 use Rattle.fiber_frames.specs.Naming.{AskNamed}
 use Rattle.scheduled_core.specs.Fitting.{given_by}
-use Rattle.scheduled_core.proofs.Settling.{word_named}
+use Rattle.scheduled_core.proofs.Settling.{not_true, word_named}
 use Rattle.every_schedule.proofs.Unrest.{goes_on}
 use Rattle.every_schedule.proofs.resting.goes_on.Goals as goal
 
@@ -18,3 +22,16 @@ is_empty-requires c =
     let named = word_named (given_by c.args.registry.now.state) c.args.config.now c.requires.names in
     let low = subst (AskNamed (given_by c.args.registry.now.state) c.args.config.now.number) (sym c.word_ask.ensures ∙ c.in-Read.is) named in
     omega arith
+
+pub returns-in-Join : goal.returns-in-Join
+returns-in-Join c = λ yes.
+    let g = c.args.config.now in
+    let unended : outcome_of g ≡ None = search rules in
+    goes_on c.args.registry.now.state g.number g (ask.Join c.in-Join.fiber) (sym c.in-Join.is ∙ c.word_ask.ensures) (sym c.has_ended.ensures.ended ∙ yes) unended
+
+pub returns-in-Read : goal.returns-in-Read
+returns-in-Read c = λ yes.
+    let g = c.args.config.now in
+    let unended : outcome_of g ≡ None = search rules in
+    goes_on c.args.registry.now.state g.number g (ask.Read c.in-Read.number) (sym c.in-Read.is ∙ c.word_ask.ensures)
+    (sym c.is_empty.ensures.empty ∙ not_true c.is_empty.result yes) unended
