@@ -32,7 +32,7 @@ pub struct AskFault<'a> {
     /// What is asked of the claim.
     pub rule: Rule,
     /// The text.
-    pub text: &'a [u8],
+    pub text: &'a str,
     /// What is wrong with it.
     pub fault: ClaimFault,
 }
@@ -48,10 +48,15 @@ pub fn read_asked<'a>(
         asked_texts rule (map (λ s. s.now) texts.now)) }
 {
     for text in texts {
-        let text = text.as_bytes();
-        match one_asked(alloc, rule, text, &mut *asked) {
+        match one_asked(alloc, rule, text.as_bytes(), &mut *asked) {
             Ok(()) => {}
-            Err(fault) => return Err(AskFault { rule, text, fault }),
+            Err(fault) => {
+                return Err(AskFault {
+                    rule,
+                    text: *text,
+                    fault,
+                });
+            }
         }
     }
     Ok(())

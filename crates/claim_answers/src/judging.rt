@@ -5,6 +5,7 @@ ghost use Rattle.std.specs.List.{slice_get};
 ghost use Rattle.derived_ops.specs.Expansion.{code_of};
 ghost use Rattle.derived_ops.specs.Reading.{source_of};
 ghost use Rattle.derived_ops.specs.Tree.{Tree};
+ghost use Rattle.cell_registry.specs.Cells.{AreLimits};
 ghost use Rattle.cell_registry.specs.declared.limits.Limits.{Limits as TheLimits};
 ghost use Rattle.world_search.specs.Claims.{IsFound};
 ghost use Rattle.every_schedule.specs.declared.claims.ClaimWord.{ClaimWord as TheWord};
@@ -12,13 +13,11 @@ ghost use Rattle.claim_answers.specs.Claims.{IsDecided, IsSought, Pairwise, turn
 ghost use Rattle.claim_answers.specs.Private.Met.{AreMet, IsMetAt};
 
 use crate::asked::{Asked, Rule};
-use cell_registry::RunError;
+use cell_registry::Limits;
 use claim_words::{NumberFault, number_claim};
 use effect_term::Program;
-use every_schedule::{Claim, ClaimWord, Claimed, Met, search_claims};
-use exploration_text::ExploreOrder;
+use every_schedule::{Bounds, Claim, ClaimWord, Claimed, Met, Unwatched, search_claims};
 use std::alloc::{AllocError, Global};
-use world_search::Unwatched;
 
 /// What a search has found of a claim, by what decides it: of a claim on every moment a world that doesn't meet it, and
 /// of another claim a world that does.
@@ -88,13 +87,15 @@ fn turn(words: &mut Vec<ClaimWord>, rule: Rule) -> Result<(), AllocError>
 pub(crate) fn judge(
     alloc: Global,
     program: &Program,
-    order: &ExploreOrder,
+    limits: Limits,
+    bounds: Bounds,
     soughts: &[Claim],
 ) -> Result<Vec<Verdict>, AllocError>
+    requires { AreLimits limits }
     ensures { IfOk result (λ it.
-        Pairwise (IsDecided (code_of (source_of program.now)) order.now.limits) soughts.now it.items) }
+        Pairwise (IsDecided (code_of (source_of program.now)) limits) soughts.now it.items) }
 {
-    let found = search(alloc, program, order, soughts)?;
+    let found = search(alloc, program, limits, bounds, soughts)?;
     let mut verdicts = Vec::new(alloc);
     for number in 0..soughts.len() {
         verdicts.push(verdict_of(alloc, &found, number)?)?;
@@ -106,20 +107,15 @@ pub(crate) fn judge(
 fn search(
     alloc: Global,
     program: &Program,
-    order: &ExploreOrder,
+    limits: Limits,
+    bounds: Bounds,
     soughts: &[Claim],
 ) -> Result<Claimed, AllocError>
+    requires { AreLimits limits }
     ensures { IfOk result (λ it.
-        AreMet (code_of (source_of program.now)) order.now.limits soughts.now it.complete it.met.items) }
+        AreMet (code_of (source_of program.now)) limits soughts.now it.complete it.met.items) }
 {
-    match search_claims(
-        alloc,
-        program,
-        order.limits,
-        order.bounds,
-        soughts,
-        &mut Unwatched,
-    ) {
+    match search_claims(alloc, program, limits, bounds, soughts, &mut Unwatched) {
         Ok(found) => Ok(found),
         Err(_) => Err(AllocError),
     }

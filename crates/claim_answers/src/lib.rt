@@ -12,7 +12,7 @@ mod judging;
 mod lines;
 mod statuses;
 
-pub use answering::{ClaimForm, ClaimsFault, answer_claims};
+pub use answering::{ClaimForm, answer_claims};
 pub use asked::{AskFault, Asked, Rule, read_asked};
-pub use claim_words::{ClaimFault, RefFault};
+pub use claim_words::ClaimFault;
 pub use judging::Verdict;

@@ -1,6 +1,6 @@
 //! How the program ends behind the verdicts.
 
-ghost use Rattle.std.specs.Prelude.{◌≡◌};
+ghost use Rattle.std.specs.Prelude.{◌≡◌, length};
 ghost use Rattle.claim_answers.specs.Verdicts.{claims_status, is_refuted, one_refuted, one_undecided, is_undecided};
 ghost use Rattle.claim_answers.specs.Verdicts.{worse};
 
@@ -20,6 +20,7 @@ pub(crate) fn is_refuted(rule: Rule, verdict: &Verdict) -> bool
 
 /// `Status::Errored` where a claim is refuted, else `Status::Unended` where one is undecided, else `Status::Succeeded`.
 pub(crate) fn claims_status(asked: &[Asked<'_>], verdicts: &[Verdict]) -> Status
+    requires { length asked.now ≡ length verdicts.now }
     ensures { result ≡ claims_status asked.now verdicts.now }
 {
     if one_refuted(asked, verdicts) {
@@ -33,10 +34,11 @@ pub(crate) fn claims_status(asked: &[Asked<'_>], verdicts: &[Verdict]) -> Status
 
 // Whether one of the claims is refuted.
 fn one_refuted(asked: &[Asked<'_>], verdicts: &[Verdict]) -> bool
+    requires { length asked.now ≡ length verdicts.now }
     ensures { result ≡ one_refuted asked.now verdicts.now }
 {
-    for (one, verdict) in asked.iter().zip(verdicts.iter()) {
-        if is_refuted(one.rule, verdict) {
+    for at in 0..asked.len() {
+        if is_refuted(asked[at].rule, &verdicts[at]) {
             return true;
         }
     }

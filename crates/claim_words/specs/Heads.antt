@@ -1,6 +1,5 @@
 -- The refs at the head of a program's text, and the claims that name them.
-use Rattle.std.specs.Prelude.{◌≡◌, ◌==◌, ◌+◌, ◌||◌, not, ⊤, ℕ, Bool, true, if◌then◌else◌, List, [], ◌∷◌, ◌++◌, codes}
-use Rattle.std.specs.Prelude.{Some, length, take}
+use Rattle.std.specs.Prelude.{◌≡◌, ◌==◌, ◌||◌, not, ⊤, ℕ, Bool, true, List, [], ◌∷◌, ◌++◌, Some, codes}
 use Rattle.std.specs.List.{list_all, slice_get}
 use Rattle.every_schedule.specs.declared.claims.ClaimWord.{ClaimWord}
 use Rattle.every_schedule.specs.declared.claims.ClaimWord.TheVariants as its
@@ -32,17 +31,14 @@ pub data IsHead : List ℕ → List (List ℕ) → Type 0 where
   a_deferred : (t : List ℕ) (names : List (List ℕ)) (g : List ℕ) → IsHead t names → list_all is_plain g ≡ true →
       IsHead (t ++ deferred_head g) names
 
--- the text begins with these bytes
-abbrev pub BeginsWith : List ℕ → List ℕ → Type 0
-BeginsWith front text = take (length front) text ≡ front
-
 -- The name is that of the ref of this number: the text begins with a row of heads, in which it is the name of the ref
 -- behind so many others.
 pub record IsRefOf (text name : List ℕ) (number : ℕ) : Type 0 where
   pub front : List ℕ
+  pub behind : List ℕ
   pub names : List (List ℕ)
   pub head : IsHead front names
-  pub begins : BeginsWith front text
+  pub text_is : text ≡ front ++ behind
   pub named : slice_get names number ≡ Some name
 
 -- these are the numbers of the refs of these names

@@ -1,9 +1,9 @@
 //! The refs at the head of a program's text, which the first fiber makes before anything else.
 
-ghost use Rattle.std.specs.Prelude.{◌≡◌, ◌≤◌, ◌||◌, ◌==◌, not, ℕ, IfOk, IfSome, true, take, drop, length};
+ghost use Rattle.std.specs.Prelude.{◌≡◌, ◌≤◌, ◌+◌, ◌++◌, IfOk, IfSome, Some as There, codes, length, option_map, true};
 ghost use Rattle.std.specs.List.{list_all};
-ghost use Rattle.claim_words.specs.Heads.{BeginsWith, IsRefOf, is_plain};
-ghost use Rattle.claim_words.specs.Private.Steps.{IsHeadOf, IsPlainFront};
+ghost use Rattle.claim_words.specs.Heads.{IsRefOf, is_plain};
+ghost use Rattle.claim_words.specs.Private.Steps.{IsNextHead, IsPlainFront, made};
 
 /// Why a name has no number.
 #[derive(Clone, Copy, PartialEq, Eq, Debug)]
@@ -16,11 +16,18 @@ pub enum RefFault {
     Several,
 }
 
-// A head of a text: how long it is, and the name of the ref that it makes, if it makes one.
+// A head of a text: the name of the ref that it makes, if it makes one, and all behind the head.
 #[derive(Clone, Copy)]
 pub(crate) struct Head<'a> {
-    length: usize,
     name: Option<&'a [u8]>,
+    rest: &'a [u8],
+}
+
+// A word of a text, and all behind the space that follows it.
+#[derive(Clone, Copy)]
+pub(crate) struct Taken<'a> {
+    word: &'a [u8],
+    rest: &'a [u8],
 }
 
 /// The number of the ref of this name, if the text has one binder of this name that makes refs, and this is at its
@@ -43,49 +50,61 @@ pub fn number_of(text: &[u8], name: &[u8]) -> Result<u16, RefFault>
 fn binders(text: &[u8], name: &[u8]) -> usize {
     let mut many = 0usize;
     for at in 0..text.len() {
-        let behind = behind_word(&text[at..], b"(ref ");
-        if is_name_of(behind, name) {
+        if is_binder_of(&text[at..], name) {
             many = many.saturating_add(1);
         }
     }
     many
 }
 
-// What is behind this word, if the text begins with it; nothing otherwise.
-fn behind_word<'a>(text: &'a [u8], word: &[u8]) -> &'a [u8] {
-    match text.strip_prefix(word) {
-        Some(behind) => behind,
-        None => &[],
+// Whether the text begins with such a form.
+fn is_binder_of(text: &[u8], name: &[u8]) -> bool {
+    match behind(text, b"(ref ") {
+        Some(rest) => is_same(&rest[..plain_front(rest)], name),
+        None => false,
     }
-}
-
-// Whether the text begins with this name.
-fn is_name_of(text: &[u8], name: &[u8]) -> bool {
-    &text[..plain_front(text)] == name
 }
 
 // The number of the ref of this name at the head of the text.
 fn head_number(text: &[u8], name: &[u8]) -> Option<u16>
     ensures { IfSome result (IsRefOf text.now name.now) }
 {
-    let mut at = 0usize;
+    let mut rest = text;
     let mut number = 0u16;
     for _ in 0..text.len() {
-        let head = next_head(&text[at..])?;
-        at += head.length;
-        if let Some(found) = head.name {
-            if found == name {
-                return Some(number);
-            }
-            number = number.checked_add(1)?;
+        let head = next_head(rest)?;
+        if is_named(head.name, name) {
+            return Some(number);
         }
+        number = counted(number, head.name)?;
+        rest = head.rest;
     }
     None
 }
 
+// Whether a head makes a ref of this name.
+fn is_named(found: Option<&[u8]>, name: &[u8]) -> bool
+    ensures { result ≡ true → option_map (λ x. x.now) found ≡ There name.now }
+{
+    match found {
+        Some(found) => is_same(found, name),
+        None => false,
+    }
+}
+
+// How many refs there are, with that of a head, if it makes one.
+fn counted(number: u16, found: Option<&[u8]>) -> Option<u16>
+    ensures { IfSome result (λ it. it ≡ number + made (option_map (λ x. x.now) found)) }
+{
+    match found {
+        Some(_) => number.checked_add(1),
+        None => Some(number),
+    }
+}
+
 // The head with which the text begins, if it begins with one.
 fn next_head(text: &[u8]) -> Option<Head<'_>>
-    ensures { IfSome result (IsHeadOf text.now) }
+    ensures { IfSome result (λ head. IsNextHead text.now (option_map (λ x. x.now) head.name) head.rest.now) }
 {
     match ref_head(text) {
         Some(head) => Some(head),
@@ -95,34 +114,66 @@ fn next_head(text: &[u8]) -> Option<Head<'_>>
 
 // The same, if it makes a ref.
 fn ref_head(text: &[u8]) -> Option<Head<'_>>
-    ensures { IfSome result (IsHeadOf text.now) }
+    ensures { IfSome result (λ head. IsNextHead text.now (option_map (λ x. x.now) head.name) head.rest.now) }
 {
-    let behind = text.strip_prefix(b"(ref ")?;
-    let name = plain_front(behind);
-    let rest = behind[name..].strip_prefix(b" ")?;
-    let value = plain_front(rest);
-    let _body = rest[value..].strip_prefix(b" ")?;
+    let inside = behind(text, b"(ref ")?;
+    let name = word_and_space(inside)?;
+    let value = word_and_space(name.rest)?;
     Some(Head {
-        length: 5 + name + 1 + value + 1,
-        name: Some(&behind[..name]),
+        name: Some(name.word),
+        rest: value.rest,
     })
 }
 
 // The same, if it makes a deferred.
 fn deferred_head(text: &[u8]) -> Option<Head<'_>>
-    ensures { IfSome result (IsHeadOf text.now) }
+    ensures { IfSome result (λ head. IsNextHead text.now (option_map (λ x. x.now) head.name) head.rest.now) }
 {
-    let behind = text.strip_prefix(b"(deferred ")?;
-    let name = plain_front(behind);
-    let _body = behind[name..].strip_prefix(b" ")?;
+    let inside = behind(text, b"(deferred ")?;
+    let name = word_and_space(inside)?;
     Some(Head {
-        length: 10 + name + 1,
         name: None,
+        rest: name.rest,
     })
 }
 
-/// How many bytes the text begins with that are neither a bracket nor a space.
-pub(crate) fn plain_front(text: &[u8]) -> usize
+// The word with which the text begins, if a space follows it.
+fn word_and_space(text: &[u8]) -> Option<Taken<'_>>
+    ensures text { IfSome result (λ it. text.now ≡ it.word.now ++ (codes " " ++ it.rest.now)) }
+    ensures plain { IfSome result (λ it. list_all is_plain it.word.now ≡ true) }
+{
+    let end = plain_front(text);
+    let rest = behind(&text[end..], b" ")?;
+    Some(Taken {
+        word: &text[..end],
+        rest,
+    })
+}
+
+// All behind these bytes, if the text begins with them.
+fn behind<'a>(text: &'a [u8], front: &[u8]) -> Option<&'a [u8]>
+    ensures { IfSome result (λ rest. text.now ≡ front.now ++ rest.now) }
+{
+    if text.len() < front.len() {
+        return None;
+    }
+    for at in 0..front.len() {
+        if text[at] != front[at] {
+            return None;
+        }
+    }
+    Some(&text[front.len()..])
+}
+
+/// Whether two texts are one.
+pub(crate) fn is_same(one: &[u8], other: &[u8]) -> bool
+    ensures { result ≡ true → one.now ≡ other.now }
+{
+    one == other
+}
+
+// How many bytes the text begins with that are neither a bracket nor a space.
+fn plain_front(text: &[u8]) -> usize
     ensures within { result ≤ length text.now }
     ensures plain { IsPlainFront text.now result }
 {

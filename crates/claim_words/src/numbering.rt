@@ -77,7 +77,7 @@ fn numbered(
     let mut next = 0;
     for word in words {
         all.push(claim_word(*word, numbers, next))?;
-        if is_named(*word) && next < numbers.len() {
+        if is_named(*word) {
             next += 1;
         }
     }

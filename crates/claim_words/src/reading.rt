@@ -1,8 +1,9 @@
 //! The claim that a text spells.
 
-ghost use Rattle.std.specs.Prelude.{◌≡◌, IfOk, true};
+ghost use Rattle.std.specs.Prelude.{◌≡◌, IfOk};
 ghost use Rattle.claim_words.specs.Spacing.{spaced_text};
 
+use crate::heads::is_same;
 use crate::scanning::{Scanner, Subject, comparison_of, subject_of, value_of};
 use crate::spacing::spaced_text;
 use crate::spelled::{
@@ -72,13 +73,6 @@ pub fn read_claim<'a>(alloc: Global, text: &'a [u8]) -> Result<Spelled<'a>, Clai
         return Err(ClaimFault::Expected(PLAIN, 0));
     }
     Ok(claim)
-}
-
-// Whether two texts are one.
-fn is_same(one: &[u8], other: &[u8]) -> bool
-    ensures { result ≡ true → one.now ≡ other.now }
-{
-    one == other
 }
 
 // The claim that begins here. Each round takes a bracket at least.

@@ -13,3 +13,4 @@ pub mod Seekings
 pub mod Tests
 pub mod Workers
 pub mod Comparings
+pub mod Judgings

@@ -9,6 +9,7 @@ mod cli;
 mod compare_order;
 mod explore_order;
 mod first_line;
+mod judge_order;
 mod noted;
 mod order;
 mod record_answers;

@@ -120,6 +120,9 @@ Example of every outcome of a race, with timelines:
 Example of a long search, which prints its progress, and ends within ten minutes:
   fiber_cli explore --memory 8G --seconds 600 --progress < FILE
 
+Example of a claim that no schedule may break:
+  echo '(ref r 0 (start f (modify r 1) (modify r 1)))' | fiber_cli explore --never '(= r 2)'
+
 Example of a search that stops at the first unwanted outcome:
   fiber_cli explore --first --want \"succeeded 0\" < FILE
 
@@ -127,9 +130,9 @@ Example of a search that stops at the first unwanted outcome:
 
 Exit status:
    0  every schedule was explored, and nothing unwanted was found
-   1  something unwanted was found; without --want, a fault
+   1  something unwanted was found, as a claim that is refuted; without --want, a fault
    3  a bound was reached, and nothing unwanted was found
-  64  the words are wrong
+  64  the words are wrong, or a claim
   65  the text is refused
   70  a device failed, or memory ran out",
 };
@@ -315,6 +318,13 @@ pub const PROGRESS: &str = "Write to standard error how far the search has come,
 pub const FIRST_FINDING: &str =
     "Print the first finding alone: a fault, or an outcome of fiber 0 that is not
 wanted. Before the search 3000 schedules are drawn at random";
+
+pub const ALWAYS: &str = "A claim that is to hold at every moment, as '(<= inside 1)'; may be given several times";
+
+pub const NEVER: &str =
+    "A claim that is to hold at no moment, as '(and (= a 1) (= b 1))'; may be given several times";
+
+pub const REACH: &str = "A claim that is to hold at some moment; may be given several times";
 
 pub const SVG: &str = "Print a picture of the run in place of the report, as SVG";
 

@@ -16,6 +16,7 @@ ghost use Rattle.steal_pool.specs.declared.options.Options.{Options};
 ghost use Rattle.steal_pool.specs.Runs.{limits_of};
 ghost use Rattle.command_words.specs.Memory.{SaysMemory};
 ghost use Rattle.command_words.specs.Numbers.{IsNumberOf, SaysNumber, SaysSeconds};
+ghost use Rattle.command_words.specs.Requests.{HasNoClaims};
 ghost use Rattle.command_words.specs.Requests.{AreWants, GivesRequest, Says, SaysBounds, SaysExplore};
 ghost use Rattle.command_words.specs.Requests.{SaysExploring, SaysLimits, SaysReplay, SaysRun};
 ghost use Rattle.command_words.specs.Requests.{SaysRunning, SaysSample, SaysSampling, texts_said};
@@ -25,6 +26,8 @@ use crate::compare_requests::comparing_of;
 use crate::comparing::Comparing;
 use crate::exploring::Exploring;
 use crate::flags::{beside, explore_form, given, replay_form, run_form, text_of};
+use crate::judge_requests::{has_claims, judging_of};
+use crate::judging::Judging;
 use crate::memory::bytes_of;
 use crate::ranges::{
     BAND, BUDGET, COUNT, ENTRIES, FEW, MEMORY, MOVES, NumberRange, SECONDS, SEED, TIMES, WORKERS,
@@ -56,6 +59,8 @@ pub enum Request<'a> {
     Explore(Exploring),
     /// To look for the first finding of the text's program.
     Seek(Seeking),
+    /// To explore every schedule of the text's program, and to judge claims of each moment.
+    Judge(Judging<'a>),
     /// To run the text's program on workers, and tell what each fiber came to.
     Run(Running),
     /// To tell what schedules of the text's program come to that are drawn at random.
@@ -265,6 +270,7 @@ pub(crate) fn explore_order(
 
 // The exploration that the options of `explore` say.
 fn exploring_of(alloc: Global, explore: &ArgMatches<'_>) -> Result<Option<Exploring>, AllocError>
+    requires { HasNoClaims (rows_of (found_of explore.now)) }
     ensures said { IfOk result (λ found. IfSome found (SaysExploring (rows_of (found_of explore.now)))) }
     ensures none { IfOk result (λ found. IfNone found ((said : Exploring) →
         SaysExploring (rows_of (found_of explore.now)) said → ⊥)) }
@@ -378,6 +384,12 @@ fn explore_request<'a>(
 ) -> Result<Option<Request<'a>>, AllocError>
     ensures { IfOk result (GivesRequest (Some (codes "explore", rows_of (found_of options.now)))) }
 {
+    if has_claims(alloc, options)? {
+        return match judging_of(alloc, options)? {
+            Some(judging) => Ok(Some(Request::Judge(judging))),
+            None => Ok(None),
+        };
+    }
     if given(options, "first") {
         return match seeking_of(alloc, options)? {
             Some(seeking) => Ok(Some(Request::Seek(seeking))),

@@ -1,11 +1,9 @@
 -- The heads of a text, one after another.
-use Rattle.std.specs.Prelude.{◌≡◌, ◌≤◌, true, false, Bool, ℕ, List, [], ◌∷◌, Option, Some, None, length, option_map, take}
+use Rattle.std.specs.Prelude.{◌≡◌, ◌++◌, true, false, Bool, ℕ, List, [], ◌∷◌, Option, Some, None, length, take}
 use Rattle.std.specs.List.{list_all}
-use Rattle.claim_words.specs.Heads.{deferred_head, is_plain, ref_head}
+use Rattle.claim_words.specs.Heads.{IsHead, deferred_head, is_plain, joint_word, ref_head}
 use Rattle.every_schedule.specs.declared.claims.ClaimWord.{ClaimWord}
 use Rattle.every_schedule.specs.declared.claims.ClaimWord.TheVariants as its
-use Rattle.claim_words.specs.Heads.{joint_word}
-use Rattle.claim_words.specs.declared.heads.Head.{Head}
 use Rattle.claim_words.specs.declared.words.SpelledWord.{SpelledWord}
 use Rattle.claim_words.specs.declared.words.SpelledWord.TheVariants.{Numbered, Named, Not, Join}
 
@@ -18,10 +16,24 @@ pub data IsHeadText : List ℕ → Option (List ℕ) → Type 0 where
   of_ref : (x v : List ℕ) → list_all is_plain x ≡ true → list_all is_plain v ≡ true → IsHeadText (ref_head x v) (Some x)
   of_deferred : (g : List ℕ) → list_all is_plain g ≡ true → IsHeadText (deferred_head g) None
 
--- the head with which the text begins
-pub record IsHeadOf (text : List ℕ) (head : Head) : Type 0 where
-  pub within : head.length ≤ length text
-  pub is : IsHeadText (take head.length text) (option_map (λ x. x.now) head.name)
+-- the text is a head, which makes a ref of this name, if it makes one, and the rest
+pub record IsNextHead (text : List ℕ) (name : Option (List ℕ)) (rest : List ℕ) : Type 0 where
+  pub front : List ℕ
+  pub is : IsHeadText front name
+  pub text_is : text ≡ front ++ rest
+
+-- how many refs a head makes
+abbrev pub made : Option (List ℕ) → ℕ
+made None = 0
+made (Some x) = 1
+
+-- the text is a row of heads, which make so many refs, and the rest
+pub record AreHeads (text rest : List ℕ) (number : ℕ) : Type 0 where
+  pub front : List ℕ
+  pub names : List (List ℕ)
+  pub head : IsHead front names
+  pub text_is : text ≡ front ++ rest
+  pub many : length names ≡ number
 
 -- the first number, or 0 where there is none
 abbrev pub first_of : List ℕ → ℕ
