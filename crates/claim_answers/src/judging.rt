@@ -10,7 +10,7 @@ ghost use Rattle.cell_registry.specs.declared.limits.Limits.{Limits as TheLimits
 ghost use Rattle.world_search.specs.Claims.{IsFound};
 ghost use Rattle.every_schedule.specs.declared.claims.ClaimWord.{ClaimWord as TheWord};
 ghost use Rattle.claim_answers.specs.Claims.{IsDecided, IsSought, Pairwise, turning};
-ghost use Rattle.claim_answers.specs.Private.Met.{AreMet, IsMetAt};
+ghost use Rattle.claim_answers.specs.Private.Met.{AreMet, IsMetAt, IsVerdictOf, unmet_verdict};
 
 use crate::asked::{Asked, Rule};
 use cell_registry::Limits;
@@ -121,23 +121,39 @@ fn search(
     }
 }
 
-// What was found of the claim of this number. A schedule that is too long to be spelled decides nothing.
+// What was found of the claim of this number.
 fn verdict_of(alloc: Global, found: &Claimed, number: usize) -> Result<Verdict, AllocError>
     ensures { IfOk result (λ v. (code : Tree) (k : TheLimits) (wanted : List (List TheWord)) (words : List TheWord) →
         AreMet code k wanted found.now.complete found.now.met.items → slice_get wanted number ≡ Somebody words →
         IsDecided code k words v) }
 {
-    match met_number(found.met.as_slice(), number) {
-        Some(at) => {
-            let schedule = found.met[at].schedule.as_slice();
-            if schedule.len() <= MOST_ENTRIES {
-                Ok(Verdict::Moment(Vec::from_slice(alloc, schedule)?))
-            } else {
-                Ok(Verdict::Undecided)
-            }
-        }
-        None if found.complete => Ok(Verdict::NoMoment),
-        None => Ok(Verdict::Undecided),
+    let met = found.met.as_slice();
+    match met_number(met, number) {
+        Some(at) => met_verdict(alloc, &met[at]),
+        None => Ok(unmet_verdict(found.complete)),
+    }
+}
+
+// The verdict on a claim that is met so. A schedule that is too long to be spelled decides nothing.
+fn met_verdict(alloc: Global, met: &Met) -> Result<Verdict, AllocError>
+    ensures { IfOk result (IsVerdictOf met.now) }
+{
+    let schedule = met.schedule.as_slice();
+    if schedule.len() <= MOST_ENTRIES {
+        Ok(Verdict::Moment(Vec::from_slice(alloc, schedule)?))
+    } else {
+        Ok(Verdict::Undecided)
+    }
+}
+
+// The verdict on a claim that isn't met, by whether the search was complete.
+fn unmet_verdict(complete: bool) -> Verdict
+    ensures { result ≡ unmet_verdict complete }
+{
+    if complete {
+        Verdict::NoMoment
+    } else {
+        Verdict::Undecided
     }
 }
 

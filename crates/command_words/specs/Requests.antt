@@ -1,5 +1,5 @@
 -- The request that the words of a command line give.
-use Rattle.std.specs.Prelude.{◌≡◌, ◌≢◌, ◌≤◌, ◌++◌, ⊤, ℕ, List, [], map, Option, Some, None, codes, option_map}
+use Rattle.std.specs.Prelude.{◌≡◌, ◌≤◌, ⊤, ℕ, List, [], map, Option, Some, None, codes, option_map}
 use Rattle.std.specs.List.{All}
 use Rattle.std.specs.Option.{unwrap_or}
 use Rattle.clap.specs.Words.{Row, Text, all_of, first_of, subcommand_of}
@@ -71,16 +71,13 @@ pub record SaysExplore (options : List Row) (order : ExploreOrder) : Type 0 wher
   pub bounds : SaysBounds options order.bounds.worlds order.bounds.entries order.bounds.memory
   pub wants : AreWants (texts_said (codes "want") options) order.wants.items
 
--- the texts of all claims
-abbrev pub claims_said : List Row → List Text
-claims_said options =
-    texts_said (codes "always") options ++ (texts_said (codes "never") options ++ texts_said (codes "reach") options)
-
+-- no claim stands in the words
 abbrev pub HasNoClaims : List Row → Type 0
-HasNoClaims options = claims_said options ≡ []
+HasNoClaims options = (texts_said (codes "always") options ≡ []) × (texts_said (codes "never") options ≡ []) ×
+    (texts_said (codes "reach") options ≡ [])
 
 abbrev pub HasClaims : List Row → Type 0
-HasClaims options = claims_said options ≢ []
+HasClaims options = HasNoClaims options → ⊥
 
 -- no option is given that claims don't go with
 abbrev pub AreAlone : List Row → Type 0

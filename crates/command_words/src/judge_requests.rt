@@ -1,9 +1,9 @@
 //! The verdicts on claims that the words of a command line ask for.
 
-ghost use Rattle.std.specs.Prelude.{◌≡◌, false, IfNone, IfOk, IfSome, true};
-ghost use Rattle.clap.specs.Words.{found_of, rows_of};
+ghost use Rattle.std.specs.Prelude.{◌≡◌, ◌≢◌, [], codes, false, IfNone, IfOk, IfSome, None, true};
+ghost use Rattle.clap.specs.Words.{first_of, found_of, rows_of};
 ghost use Rattle.command_words.specs.declared.judging.Judging.{Judging};
-ghost use Rattle.command_words.specs.Requests.{AreAlone, HasClaims, HasNoClaims, SaysJudging};
+ghost use Rattle.command_words.specs.Requests.{AreAlone, HasClaims, HasNoClaims, SaysJudging, texts_said};
 
 use crate::flags::{explore_form, given, text_of};
 use crate::judging::Judging;
@@ -13,14 +13,22 @@ use clap::ArgMatches;
 use std::alloc::{AllocError, Global};
 
 /// Whether the options of `explore` have claims.
-pub(crate) fn has_claims(alloc: Global, explore: &ArgMatches<'_>) -> Result<bool, AllocError>
-    ensures claims { IfOk result (λ it. it ≡ true → HasClaims (rows_of (found_of explore.now))) }
-    ensures none { IfOk result (λ it. it ≡ false → HasNoClaims (rows_of (found_of explore.now))) }
+pub(crate) fn has_claims(explore: &ArgMatches<'_>) -> bool
+    ensures claims { result ≡ true → HasClaims (rows_of (found_of explore.now)) }
+    ensures none { result ≡ false → HasNoClaims (rows_of (found_of explore.now)) }
 {
-    let always = texts_of(alloc, explore, "always")?;
-    let never = texts_of(alloc, explore, "never")?;
-    let reach = texts_of(alloc, explore, "reach")?;
-    Ok(!(always.is_empty() && never.is_empty() && reach.is_empty()))
+    has_texts(explore, "always") || has_texts(explore, "never") || has_texts(explore, "reach")
+}
+
+// Whether an option is given that can be given several times.
+fn has_texts(options: &ArgMatches<'_>, name: &str) -> bool
+    ensures some { result ≡ true → texts_said name.now (rows_of (found_of options.now)) ≢ [] }
+    ensures none { result ≡ false → texts_said name.now (rows_of (found_of options.now)) ≡ [] }
+{
+    match options.get_strs(name) {
+        Some(texts) => !texts.is_empty(),
+        None => false,
+    }
 }
 
 /// The verdicts that the options of `explore` ask for, if they go together.
@@ -59,5 +67,13 @@ fn is_with_others(explore: &ArgMatches<'_>) -> bool
     given(explore, "first")
         || given(explore, "progress")
         || given(explore, "explain")
-        || text_of(explore, "seconds").is_some()
+        || has_seconds(explore)
+}
+
+// Whether the seconds of the search are limited.
+fn has_seconds(explore: &ArgMatches<'_>) -> bool
+    ensures some { result ≡ true → first_of (codes "seconds") (rows_of (found_of explore.now)) ≢ None }
+    ensures none { result ≡ false → first_of (codes "seconds") (rows_of (found_of explore.now)) ≡ None }
+{
+    text_of(explore, "seconds").is_some()
 }

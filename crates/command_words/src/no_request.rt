@@ -133,7 +133,7 @@ fn claims_conflict(
     subcommand: &str,
     options: &ArgMatches<'_>,
 ) -> Result<Option<String>, AllocError> {
-    if subcommand != "explore" || !has_claims(alloc, options)? {
+    if subcommand != "explore" || !has_claims(options) {
         return Ok(None);
     }
     for other in ["first", "progress", "explain"] {

@@ -384,7 +384,7 @@ fn explore_request<'a>(
 ) -> Result<Option<Request<'a>>, AllocError>
     ensures { IfOk result (GivesRequest (Some (codes "explore", rows_of (found_of options.now)))) }
 {
-    if has_claims(alloc, options)? {
+    if has_claims(options) {
         return match judging_of(alloc, options)? {
             Some(judging) => Ok(Some(Request::Judge(judging))),
             None => Ok(None),

@@ -171,8 +171,10 @@ fn with_claims<'a>(alloc: Global, command: Command<'a>) -> Result<Command<'a>, A
     ensures shape { IfOk result (λ c. app_of c ≡ with_claims (app_of command.entry)) }
     ensures local { IfOk result (λ c. (out-Command c).has_globals ≡ (out-Command command.entry).has_globals) }
 {
-    let command = command.arg(claim_option(alloc, "always", help::ALWAYS))?;
-    let command = command.arg(claim_option(alloc, "never", help::NEVER))?;
+    let always = claim_option(alloc, "always", help::ALWAYS);
+    let command = command.arg(always)?;
+    let never = claim_option(alloc, "never", help::NEVER);
+    let command = command.arg(never)?;
     command.arg(claim_option(alloc, "reach", help::REACH))
 }
 

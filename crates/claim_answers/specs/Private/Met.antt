@@ -1,5 +1,5 @@
 -- What a search for claims has found.
-use Rattle.std.specs.Prelude.{◌≡◌, ◌<◌, ◌≤◌, ⊤, ℕ, Bool, true, List, Some, length}
+use Rattle.std.specs.Prelude.{◌≡◌, ◌<◌, ◌≤◌, ⊤, ℕ, Bool, true, false, List, Some, length}
 use Rattle.std.specs.declared.alloc.Global.{Global}
 use Rattle.std.specs.declared.vec.Vec.{Vec}
 use Rattle.std.specs.List.{All, slice_get}
@@ -26,6 +26,17 @@ pub record AreMet (code : Tree) (k : Limits) (wanted : List (List ClaimWord)) (c
 -- the claim of this number is the one that is met there
 abbrev pub IsMetAt : List Met → ℕ → ℕ → Type 0
 IsMetAt met n i = (m : Met) × (slice_get met i ≡ Some m) × (m.claim ≡ n)
+
+-- the verdict on a claim that is met so
+abbrev pub IsVerdictOf : Met → Verdict → Type 0
+IsVerdictOf met (Moment schedule) = (schedule.items ≡ met.schedule.items) × (length schedule.items ≤ 1000000)
+IsVerdictOf met NoMoment = ⊥
+IsVerdictOf met Undecided = ⊤
+
+-- the verdict on a claim that isn't met, by whether the search was complete
+abbrev pub unmet_verdict : Bool → Verdict
+unmet_verdict true = NoMoment
+unmet_verdict false = Undecided
 
 -- its schedule can be spelled, if it has one
 abbrev pub IsSpellable : Verdict → Type 0
