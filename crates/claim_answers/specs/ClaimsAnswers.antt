@@ -61,8 +61,8 @@ pub record IsJudgedAnswer (form : ClaimForm) (o : ExploreOrder) (asked : List As
 abbrev pub IsUnnamedAnswer : (answer : List ℕ) → Status → Type 0
 IsUnnamedAnswer answer status = (answer ≡ []) × (status ≡ ends.Usage)
 
--- what is answered to a text with its status and this note: the refusal of the text, the verdicts on its program, or that
--- a claim names a ref whose number isn't known
+-- what is answered to a text with its status and this note: the refusal of the text, the verdicts on its program, or
+-- that a claim names a ref whose number isn't known
 abbrev pub IsClaimsAnswer : ClaimForm → ExploreOrder → List Asked → (note : List ℕ) → List ℕ → List ℕ → Status → Type 0
 IsClaimsAnswer form o asked note text answer status = IsNotedAnswer (refuses_as form)
     (λ note t answer status. IsJudgedAnswer form o asked text note t answer status ⊎ IsUnnamedAnswer answer status)

@@ -18,8 +18,8 @@ rule_text Always = codes "always"
 rule_text Never = codes "never"
 rule_text Reach = codes "reach"
 
--- a claim on every moment, or on none, is refuted by a world, and holds where none decides it; one on some moment is met
--- by a world, and refuted where there is none
+-- a claim on every moment, or on none, is refuted by a world, and holds where none decides it; one on some moment is
+-- met by a world, and refuted where there is none
 abbrev pub verdict_text : Rule → Verdict → List ℕ
 verdict_text Always (Moment schedule) = codes "refuted"
 verdict_text Never (Moment schedule) = codes "refuted"

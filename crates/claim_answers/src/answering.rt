@@ -25,13 +25,21 @@ use timelines::ExploreTimelineOrder;
 
 pub use crate::lines::ClaimForm;
 
-/// Answers a text about claims: a line for each, in their order, and then what `explore` answers without claims, with its
-/// note. The status is `Status::Errored` where a claim is refuted or something unwanted was found, else `Status::Unended`
-/// where a claim is undecided or a bound was reached, else `Status::Succeeded`. A text that is refused is answered by its
-/// refusal alone.
+// Verdicts on claims, and what is written of them.
+#[derive(Drop)]
+struct Judged {
+    verdicts: Vec<Verdict>,
+    lines: Vec<u8>,
+}
+
+/// Answers a text about claims: a line for each, in their order, and then what `explore` answers without claims, with
+/// its note. The status is `Status::Errored` where a claim is refuted or something unwanted was found, else
+/// `Status::Unended` where a claim is undecided or a bound was reached, else `Status::Succeeded`. A text that is
+/// refused is answered by its refusal alone.
 ///
-/// Each claim is looked at in every world to which a schedule leads, within the bounds of the order. Where a claim names a
-/// ref whose number isn't known ([`RefFault`]), the answer is empty, its status is `Status::Usage`, and the note says so.
+/// Each claim is looked at in every world to which a schedule leads, within the bounds of the order. Where a claim
+/// names a ref whose number isn't known ([`RefFault`]), the answer is empty, its status is `Status::Usage`, and the
+/// note says so.
 pub fn answer_claims<'a>(
     alloc: Global,
     order: ExploreOrder,
@@ -100,10 +108,11 @@ fn sought_answer(
     ensures { IfOk result (λ n. (text : List ℕ) → Pairwise (IsSought (spaced_text text)) asked.now soughts.now →
         IsJudgedAnswer form order asked.now text n.note.items program.now n.answer.text.items n.answer.status) }
 {
-    let (verdicts, lines) = verdicts_of(alloc, &order, form, asked, program, soughts)?;
-    let status = claims_status(asked, verdicts.as_slice());
+    let judged = verdicts_of(alloc, &order, form, asked, program, soughts)?;
+    let status = claims_status(asked, judged.verdicts.as_slice());
     let rest = explored_answer(alloc, order, form, program)?;
-    with_lines(form, lines, status, rest)
+    let answer = with_lines(form, judged.lines, status, rest)?;
+    Ok(answer)
 }
 
 // The answer where a claim names a ref whose number isn't known.
@@ -133,7 +142,7 @@ fn ref_reason(fault: RefFault) -> &'static [u8] {
     match fault {
         RefFault::NoRef => b"', and the program has no ref of this name",
         RefFault::NotAtHead => {
-            b"', which isn't at the head of the program: a claim can name refs that the program\nmakes before any other form, and deferreds between them; others by their numbers"
+            b"', which isn't at the head of the program: name the ref by its number"
         }
         RefFault::Several => {
             b"', and the program has several binders of this name: name the ref by its number"
@@ -149,22 +158,17 @@ fn verdicts_of(
     asked: &[Asked<'_>],
     program: &Program,
     soughts: &[Claim],
-) -> Result<(Vec<Verdict>, Vec<u8>), AllocError>
+) -> Result<Judged, AllocError>
     requires { length asked.now ≡ length soughts.now }
     ensures decided { IfOk result (λ it.
-        Pairwise (IsDecided (code_of (source_of program.now)) order.now.limits) soughts.now it.0.items) }
-    ensures lines { IfOk result (λ it. AreLines form asked.now it.0.items it.1.items) }
+        Pairwise (IsDecided (code_of (source_of program.now)) order.now.limits) soughts.now it.verdicts.items) }
+    ensures lines { IfOk result (λ it. AreLines form asked.now it.verdicts.items it.lines.items) }
+    ensures length { IfOk result (λ it. length asked.now ≡ length it.verdicts.items) }
 {
     let verdicts = judge(alloc, program, order.limits, order.bounds, soughts)?;
-    let lines = claim_lines(
-        alloc,
-        program,
-        order.limits,
-        form,
-        asked,
-        verdicts.as_slice(),
-    )?;
-    Ok((verdicts, lines))
+    let slice = verdicts.as_slice();
+    let lines = claim_lines(alloc, program, order.limits, form, asked, slice)?;
+    Ok(Judged { verdicts, lines })
 }
 
 // What `explore` answers without claims.

@@ -62,7 +62,8 @@ numbered (Not ∷ ws) ns = its.Not ∷ numbered ws ns
 numbered (Join j ∷ ws) ns = joint_word j ∷ numbered ws ns
 
 -- The words of a claim are those that it spells, with the numbers of the refs that it names.
-pub record IsNumberedBy (text : List ℕ) (words : List SpelledWord) (names : List (List ℕ)) (it : List ClaimWord) : Type 0
+pub record IsNumberedBy (text : List ℕ) (words : List SpelledWord) (names : List (List ℕ)) (it : List ClaimWord)
+    : Type 0
   where
     pub numbers : List ℕ
     pub are : AreNumbersOf text names numbers

@@ -57,8 +57,8 @@ const A_CLOSING: &str = "a closing bracket";
 const THE_END: &str = "the end of the claim";
 const PLAIN: &str = "numbers without zeros or a plus sign in front";
 
-/// The claim that a text spells: `(= REF V)`, with `!=`, `<`, `<=`, `>` or `>=` as well; or `(and CLAIM ..)`,
-/// `(or CLAIM ..)` or `(not CLAIM)`. REF is a name or a number up to 999, V a value. The spaces around brackets, and how
+/// The claim that a text spells: `(= REF V)`, with `!=`, `<`, `<=`, `>` or `>=` as well; or `(and CLAIM ..)`, `(or
+/// CLAIM ..)` or `(not CLAIM)`. REF is a name or a number up to 999, V a value. The spaces around brackets, and how
 /// many there are between words, mean nothing. Claims can nest to any depth.
 pub fn read_claim<'a>(alloc: Global, text: &'a [u8]) -> Result<Spelled<'a>, ClaimFault>
     ensures { IfOk result (λ claim. claim.text.items ≡ spaced_text text.now) }

@@ -56,7 +56,8 @@ impl<'a> Scanner<'a> {
         }
     }
 
-    /// The next word, which is taken: the bytes up to a bracket or a space. It is empty before a bracket and at the end.
+    /// The next word, which is taken: the bytes up to a bracket or a space. It is empty before a bracket and at the
+    /// end.
     pub(crate) fn word(&mut self) -> &'a [u8] {
         let place = self.place();
         let rest = self.text.get(place..).unwrap_or(&[]);

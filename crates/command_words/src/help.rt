@@ -319,12 +319,11 @@ pub const FIRST_FINDING: &str =
     "Print the first finding alone: a fault, or an outcome of fiber 0 that is not
 wanted. Before the search 3000 schedules are drawn at random";
 
-pub const ALWAYS: &str = "A claim that is to hold at every moment, as '(<= inside 1)'; may be given several times";
+pub const ALWAYS: &str = "A claim that is to hold at every moment, as '(<= inside 1)'; repeatable";
 
-pub const NEVER: &str =
-    "A claim that is to hold at no moment, as '(and (= a 1) (= b 1))'; may be given several times";
+pub const NEVER: &str = "A claim that is to hold at no moment, as '(= inside 2)'; repeatable";
 
-pub const REACH: &str = "A claim that is to hold at some moment; may be given several times";
+pub const REACH: &str = "A claim that is to hold at some moment; repeatable";
 
 pub const SVG: &str = "Print a picture of the run in place of the report, as SVG";
 
