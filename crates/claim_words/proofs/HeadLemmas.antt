@@ -1,6 +1,6 @@
 -- The heads of a text, one more at a time.
 use Rattle.std.proofs.Common.{◌≡◌, ℕ, ◌+◌, ◌<◌, ◌≤◌, true, List, [], ◌∷◌, ◌++◌, length, take, drop, codes, refl, sym, ap, ◌∙◌, subst}
-use Rattle.std.proofs.Common.{append_assoc, append_nil, arith, length-append}
+use Rattle.std.proofs.Common.{append_assoc, arith, length-append}
 use Rattle.std.specs.Prelude.{Option, Some, None}
 use Rattle.std.specs.List.{list_all, slice_get}
 use Rattle.std.proofs.lemmas.List.{take-append-drop}
@@ -11,7 +11,7 @@ use Rattle.claim_words.specs.Private.Steps.{AreHeads, IsHeadText, IsNextHead, ma
 pub heads_none : (text : List ℕ) → AreHeads text text 0
 heads_none text = record { front = []; names = []; head = no_head; text_is = refl; many = refl }
 
-with_name : List (List ℕ) → Option (List ℕ) → List (List ℕ)
+abbrev with_name : List (List ℕ) → Option (List ℕ) → List (List ℕ)
 with_name names (Some x) = names ++ x ∷ []
 with_name names None = names
 

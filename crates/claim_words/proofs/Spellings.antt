@@ -12,12 +12,12 @@ use Rattle.claim_words.specs.Spelling.{by_number, by_name, negates, joins, first
 pub spelled_number : (n : ℕ) (how : Comparison) (v : ℤ) (subject text : List ℕ) (before words : List SpelledWord) (names : List (List ℕ)) →
     text ≡ compared_text subject how v → subject ≡ decimal n → words ≡ before ++ Numbered n how v ∷ [] → before ≡ [] → names ≡ [] →
     IsSpelling claim text words names
-spelled_number n how v subject text before words names t s w b x = rw (t, s, w, b, x) ∣ by_number n how v ∣₁
+spelled_number n how v subject text before words names t s w b x = rw (t, s, w, b, x) (∣ by_number n how v ∣₁)
 
 pub spelled_name : (name : List ℕ) (how : Comparison) (v : ℤ) (text : List ℕ) (before words : List SpelledWord) (names : List (List ℕ)) →
     text ≡ compared_text name how v → words ≡ before ++ Named how v ∷ [] → before ≡ [] → names ≡ name ∷ [] →
     IsSpelling claim text words names
-spelled_name name how v text before words names t w b x = rw (t, w, b, x) ∣ by_name name how v ∣₁
+spelled_name name how v text before words names t w b x = rw (t, w, b, x) (∣ by_name name how v ∣₁)
 
 pub spelled_not : (t text : List ℕ) (ws words : List SpelledWord) (names : List (List ℕ)) → IsSpelling claim t ws names →
     text ≡ codes "(not " ++ (t ++ codes ")") → words ≡ ws ++ Not ∷ [] → IsSpelling claim text words names

@@ -76,7 +76,8 @@ fn head_number(text: &[u8], name: &[u8]) -> Option<u16>
         if is_named(head.name, name) {
             return Some(number);
         }
-        number = counted(number, head.name)?;
+        let next = counted(number, head.name)?;
+        number = next;
         rest = head.rest;
     }
     None
@@ -84,7 +85,7 @@ fn head_number(text: &[u8], name: &[u8]) -> Option<u16>
 
 // Whether a head makes a ref of this name.
 fn is_named(found: Option<&[u8]>, name: &[u8]) -> bool
-    ensures { result ≡ true → option_map (λ x. x.now) found ≡ There name.now }
+    ensures { result ≡ true → option_map (λ x. x.now) found.entry ≡ There name.now }
 {
     match found {
         Some(found) => is_same(found, name),
@@ -94,7 +95,7 @@ fn is_named(found: Option<&[u8]>, name: &[u8]) -> bool
 
 // How many refs there are, with that of a head, if it makes one.
 fn counted(number: u16, found: Option<&[u8]>) -> Option<u16>
-    ensures { IfSome result (λ it. it ≡ number + made (option_map (λ x. x.now) found)) }
+    ensures { IfSome result (λ it. it ≡ number + made (option_map (λ x. x.now) found.entry)) }
 {
     match found {
         Some(_) => number.checked_add(1),

@@ -76,7 +76,7 @@ fn numbered(
     let mut all = Vec::new(alloc);
     let mut next = 0;
     for word in words {
-        all.push(claim_word(*word, numbers, next))?;
+        all.push(claim_word(word, numbers, next))?;
         if is_named(*word) {
             next += 1;
         }
@@ -92,13 +92,13 @@ fn is_named(word: SpelledWord) -> bool
 }
 
 // A word, where the number of the ref that it names is the one at this place.
-fn claim_word(word: SpelledWord, numbers: &[u16], next: usize) -> ClaimWord
-    ensures { result ≡ claim_word (drop next numbers.now) word }
+fn claim_word(word: &SpelledWord, numbers: &[u16], next: usize) -> ClaimWord
+    ensures { result ≡ claim_word (drop next numbers.now) word.now }
 {
     match word {
-        SpelledWord::Numbered(number, how, value) => ClaimWord::Compare(number, how, value),
+        SpelledWord::Numbered(number, how, value) => ClaimWord::Compare(*number, *how, *value),
         SpelledWord::Named(how, value) => {
-            ClaimWord::Compare(number_at(numbers, next), how, value)
+            ClaimWord::Compare(number_at(numbers, next), *how, *value)
         }
         SpelledWord::Not => ClaimWord::Not,
         SpelledWord::Join(Joint::And) => ClaimWord::And,

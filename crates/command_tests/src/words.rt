@@ -136,6 +136,24 @@ const WRONG: &[(&str, &[&str], &str)] = &[
         "fault 27 BadSchedule 0\n",
     ),
     (
+        "a claim without its number",
+        &["fiber_cli", "explore", "--never", "(= inside)"],
+        "error: invalid value '(= inside)' for '--never <CLAIM>': expected a number at 9\
+            \n\nUsage: fiber_cli <COMMAND>\n\nFor more information, try '--help'.\n",
+    ),
+    (
+        "an unknown word of a claim, the second one",
+        &["fiber_cli", "explore", "--reach=(= x 1)", "--reach=(nor (= x 1))"],
+        "error: invalid value '(nor (= x 1))' for '--reach <CLAIM>': expected =, !=, <, <=, >, >=, and, or, or not at 1\
+            \n\nUsage: fiber_cli <COMMAND>\n\nFor more information, try '--help'.\n",
+    ),
+    (
+        "claims and a search for the first finding",
+        &["fiber_cli", "explore", "--always=(= x 1)", "--first"],
+        "error: the arguments '--always', '--never' and '--reach' cannot be used with '--first'\
+            \n\nUsage: fiber_cli <COMMAND>\n\nFor more information, try '--help'.\n",
+    ),
+    (
         "a schedule is required",
         &["fiber_cli", "replay"],
         "error: the following required arguments were not provided:\

@@ -1,4 +1,5 @@
 use Rattle.std.proofs.Common.{◌∙◌, ◌++◌, List, ap, ap₂, codes, map, refl, ℕ}
+use Rattle.std.specs.Borrow.{Bor}
 use Rattle.std.proofs.lemmas.List.{map-append}
 use Rattle.claim_words.proofs.Spellings.{spelled_more}
 use Rattle.claim_words.proofs.spelled.more_operands.Goals as goal
@@ -11,6 +12,6 @@ invariant_of-result c =
           (c.in_ok-text.ensures ∙ ap₂ (λ s t. s ++ (codes " " ++ t)) c.as_slice.ensures.value c.as_slice-2.ensures.value)
           (c.in_ok-extend_from_slice.ensures.items ∙ ap (λ l. before.words.items ++ l) c.as_slice-3.ensures.value)
           c.in_ok-push.ensures.items
-          (ap (map (λ x. x.now)) (c.in_ok-extend_from_slice-2.ensures.items ∙ ap (λ l. before.names.items ++ l) c.as_slice-4.ensures.value)
-              ∙ map-append (λ x. x.now) before.names.items part.names.items);
+          (ap (map (λ (x : Bor (List ℕ)). x.now)) (c.in_ok-extend_from_slice-2.ensures.items ∙ ap (λ l. before.names.items ++ l) c.as_slice-4.ensures.value)
+              ∙ map-append (λ (x : Bor (List ℕ)). x.now) before.names.items part.names.items);
     }
