@@ -12,7 +12,7 @@ use Rattle.every_schedule.specs.declared.claims.ClaimWord.{ClaimWord}
 use Rattle.every_schedule.specs.Claims.{IsMetIn, Meets}
 use Rattle.claim_answers.specs.declared.judging.Verdict.{Verdict}
 use Rattle.claim_answers.specs.declared.judging.Verdict.TheVariants.{Moment, NoMoment, Undecided}
-use Rattle.claim_answers.specs.Claims.{IsDecided, IsMoment, Pairwise, more, none}
+use Rattle.claim_answers.specs.Claims.{IsDecided, IsMoment, Pairwise, a_pair, no_pair}
 use Rattle.claim_answers.specs.Private.Met.{AreMet, IsMetAt, IsSpellable, IsVerdictOf, unmet_verdict}
 
 all_at : {A : Type 0} (P : A → Type 0) (xs : List A) (i : ℕ) (x : A) → slice_get xs i ≡ Some x → All P xs → P x
@@ -31,7 +31,7 @@ moment_at : (code : Tree) (k : Limits) (wanted : List (List ClaimWord)) (words :
 moment_at code k wanted words complete met n i m right there f at schedule so few =
     let is : IsMetIn code k wanted f.0 = all_at (IsMetIn code k wanted) met i f.0 f.1 right.each in
     let same : is.0 ≡ words = same_Some is.0 words (sym is.1 ∙ ap (slice_get wanted) f.2 ∙ there) in
-    let one : f.0 ≡ m = sym (at ∙ get_or_from_slice_get met i m f.0 f.1) in
+    let one : f.0 ≡ m = sym (at ∙ get_or_from_slice_get met i f.0 m f.1) in
     let its : f.0.schedule.items ≡ schedule = ap (λ (x : Met). x.schedule.items) one ∙ sym so in record {
       meets = subst (λ (s : List ℕ). Meets code k words s) its (subst (λ (ws : List ClaimWord). Meets code k ws f.0.schedule.items) same is.2);
       numbers = subst (λ (s : List ℕ). All (λ f. f < 1000) s) its (all_at (IsFew 1000) met i f.0 f.1 right.numbers);
@@ -61,6 +61,6 @@ spellable code k words Undecided is = tt
 -- the schedules of all verdicts can be spelled
 pub all_spellable : (code : Tree) (k : Limits) (wanted : List (List ClaimWord)) (vs : List Verdict) → Pairwise (IsDecided code k) wanted vs →
     All IsSpellable vs
-all_spellable code k wanted vs none = λ i d low. absurd (omega arith)
-all_spellable code k wanted vs (more xs ys words v h is) =
+all_spellable code k wanted vs no_pair = λ i d low. absurd (omega arith)
+all_spellable code k wanted vs (a_pair xs ys words v h is) =
     All-push IsSpellable ys v (all_spellable code k xs ys h) (spellable code k words v is)

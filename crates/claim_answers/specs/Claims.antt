@@ -60,6 +60,6 @@ IsDecided code k words Undecided = ⊤
 
 -- ---- two lists of the same length, whose elements belong together
 pub data Pairwise {A B : Type 0} (R : A → B → Type 0) : List A → List B → Type 0 where
-  none : Pairwise R [] []
-  more : (xs : List A) (ys : List B) (x : A) (y : B) → Pairwise R xs ys → R x y →
+  no_pair : Pairwise R [] []
+  a_pair : (xs : List A) (ys : List B) (x : A) (y : B) → Pairwise R xs ys → R x y →
       Pairwise R (xs ++ x ∷ []) (ys ++ y ∷ [])

@@ -51,10 +51,16 @@ json_schedule NoMoment text = codes "null"
 json_schedule Undecided text = codes "null"
 
 -- the same as an object of JSON. No character of a claim or of a schedule is one that JSON escapes.
+abbrev pub json_front : Rule → (claim : List ℕ) → List ℕ
+json_front rule claim =
+    codes "{\"answer\":\"claim\",\"claim\":\"" ++ (claim ++ (codes "\",\"rule\":\"" ++ rule_text rule))
+
+abbrev pub json_back : Rule → Verdict → (schedule : List ℕ) → List ℕ
+json_back rule v schedule = codes "\",\"schedule\":" ++ (json_schedule v schedule ++ (codes ",\"verdict\":\"" ++
+    (verdict_text rule v ++ codes "\"}\n")))
+
 abbrev pub json_line : Rule → (claim : List ℕ) → Verdict → (schedule : List ℕ) → List ℕ
-json_line rule claim v schedule = codes "{\"answer\":\"claim\",\"claim\":\"" ++ (claim ++ (codes "\",\"rule\":\"" ++
-    (rule_text rule ++ (codes "\",\"schedule\":" ++ (json_schedule v schedule ++ (codes ",\"verdict\":\"" ++
-    (verdict_text rule v ++ codes "\"}\n")))))))
+json_line rule claim v schedule = json_front rule claim ++ json_back rule v schedule
 
 -- a blank line and a timeline behind a schedule, and nothing where there is none
 abbrev pub IsTimed : Verdict → List ℕ → Type 0
@@ -74,8 +80,8 @@ IsLine forms.Timeline a v line = (text : List ℕ) × (rows : List ℕ) × IsSho
 -- of all of them, one behind the other
 pub data AreLines (form : ClaimForm) : List Asked → List Verdict → List ℕ → Type 0 where
   no_line : AreLines form [] [] []
-  a_line : (as : List Asked) (vs : List Verdict) (text : List ℕ) (a : Asked) (v : Verdict) (line : List ℕ) →
-      AreLines form as vs text → IsLine form a v line → AreLines form (as ++ a ∷ []) (vs ++ v ∷ []) (text ++ line)
+  a_line : (all : List Asked) (vs : List Verdict) (text : List ℕ) (a : Asked) (v : Verdict) (line : List ℕ) →
+      AreLines form all vs text → IsLine form a v line → AreLines form (all ++ a ∷ []) (vs ++ v ∷ []) (text ++ line)
 
 -- what is between the claims and the rest: a blank line behind lines in words
 abbrev pub gap : ClaimForm → List ℕ
@@ -101,16 +107,16 @@ is_undecided Undecided = true
 -- one of the claims is refuted
 abbrev pub one_refuted : List Asked → List Verdict → Bool
 one_refuted [] vs = false
-one_refuted (a ∷ as) [] = false
-one_refuted (a ∷ as) (v ∷ vs) = is_refuted a.rule v || one_refuted as vs
+one_refuted (a ∷ all) [] = false
+one_refuted (a ∷ all) (v ∷ vs) = is_refuted a.rule v || one_refuted all vs
 
 abbrev pub one_undecided : List Verdict → Bool
 one_undecided vs = list_any is_undecided vs
 
 -- as of an exploration: of a claim that is refuted, else of one that is undecided
 abbrev pub claims_status : List Asked → List Verdict → Status
-claims_status as vs =
-    if one_refuted as vs then ends.Errored else (if one_undecided vs then ends.Unended else ends.Succeeded)
+claims_status all vs =
+    if one_refuted all vs then ends.Errored else (if one_undecided vs then ends.Unended else ends.Succeeded)
 
 -- the status of both: that of what is unwanted, else that of what is undecided
 abbrev pub beside_undecided : Status → Status

@@ -12,6 +12,7 @@ ghost use Rattle.claim_answers.specs.Verdicts.{AreLines, gap, worse};
 
 use crate::asked::Asked;
 use crate::judging::{Verdict, judge, soughts_of};
+pub use crate::lines::ClaimForm;
 use crate::lines::claim_lines;
 use crate::statuses::{claims_status, worse};
 use claim_words::{NumberFault, RefFault, spaced_text};
@@ -22,8 +23,6 @@ use json_answers::{ExploreJson, InJson};
 use outcome_trace::{Answer, InWords, RefusalForm, Refused, Status, read_program};
 use std::alloc::{AllocError, Global};
 use timelines::ExploreTimelineOrder;
-
-pub use crate::lines::ClaimForm;
 
 // Verdicts on claims, and what is written of them.
 #[derive(Drop)]

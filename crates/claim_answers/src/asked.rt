@@ -81,7 +81,7 @@ fn one_asked<'a>(
 
 // Adds a claim.
 fn push_asked<'a>(asked: &mut Vec<Asked<'a>>, one: Asked<'a>) -> Result<(), AllocError>
-    ensures { OnOk result (asked.new.items ≡ asked.old.items ++ one ∷ []) }
+    ensures { OnOk result (asked.new.items ≡ asked.old.items ++ one.entry ∷ []) }
 {
     asked.push(one)?;
     Ok(())

@@ -50,11 +50,7 @@ pub(crate) fn soughts_of<'a>(
 }
 
 // What decides a claim.
-fn sought_of<'a>(
-    alloc: Global,
-    text: &[u8],
-    asked: &Asked<'a>,
-) -> Result<Claim, NumberFault<'a>>
+fn sought_of<'a>(alloc: Global, text: &[u8], asked: &Asked<'a>) -> Result<Claim, NumberFault<'a>>
     ensures { IfOk result (IsSought text.now asked.now) }
 {
     let mut words = number_claim(alloc, text, &asked.claim)?;

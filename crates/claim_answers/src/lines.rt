@@ -5,7 +5,7 @@ ghost use Rattle.std.specs.List.{All};
 ghost use Rattle.cell_registry.specs.Cells.{AreLimits};
 ghost use Rattle.claim_answers.specs.Private.Met.{IsLineOf, IsSpellable};
 ghost use Rattle.claim_answers.specs.Verdicts.{AreLines, IsShown, IsTimed, json_line, json_schedule, rule_text, under};
-ghost use Rattle.claim_answers.specs.Verdicts.{verdict_text, word_line};
+ghost use Rattle.claim_answers.specs.Verdicts.{json_back, json_front, verdict_text, word_line};
 
 use crate::asked::{Asked, Rule};
 use crate::judging::Verdict;
@@ -153,16 +153,36 @@ fn json_line(
     ensures { IfOk result (λ line. line.items ≡ json_line asked.now.rule asked.now.claim.text.items verdict.now
         schedule.now) }
 {
+    let mut line = json_front(alloc, asked)?;
+    push_json_back(&mut line, asked.rule, verdict, schedule)?;
+    Ok(line)
+}
+
+// Its front, with the claim and what is asked of it.
+fn json_front(alloc: Global, asked: &Asked<'_>) -> Result<Vec<u8>, AllocError>
+    ensures { IfOk result (λ line. line.items ≡ json_front asked.now.rule asked.now.claim.text.items) }
+{
     let mut line = Vec::from_slice(alloc, b"{\"answer\":\"claim\",\"claim\":\"")?;
     line.extend_from_slice(asked.claim.text.as_slice())?;
     line.extend_from_slice(b"\",\"rule\":\"")?;
     line.extend_from_slice(rule_text(asked.rule))?;
-    line.extend_from_slice(b"\",\"schedule\":")?;
-    push_json_schedule(&mut line, verdict, schedule)?;
-    line.extend_from_slice(b",\"verdict\":\"")?;
-    line.extend_from_slice(verdict_text(asked.rule, verdict))?;
-    line.extend_from_slice(b"\"}\n")?;
     Ok(line)
+}
+
+// Writes its end, with the schedule and the verdict.
+fn push_json_back(
+    line: &mut Vec<u8>,
+    rule: Rule,
+    verdict: &Verdict,
+    schedule: &[u8],
+) -> Result<(), AllocError>
+    ensures { OnOk result (line.new.items ≡ line.old.items ++ json_back rule verdict.now schedule.now) }
+{
+    line.extend_from_slice(b"\",\"schedule\":")?;
+    push_json_schedule(&mut *line, verdict, schedule)?;
+    line.extend_from_slice(b",\"verdict\":\"")?;
+    line.extend_from_slice(verdict_text(rule, verdict))?;
+    line.extend_from_slice(b"\"}\n")
 }
 
 // Writes the schedule as a string of JSON, or that there is none.

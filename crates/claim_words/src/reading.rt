@@ -50,11 +50,17 @@ enum Step<'a> {
 }
 
 const A_CLAIM: &str = "a claim in brackets";
+
 const A_WORD: &str = "=, !=, <, <=, >, >=, and, or, or not";
+
 const A_REF: &str = "the name or the number of a ref";
+
 const A_NUMBER: &str = "a number";
+
 const A_CLOSING: &str = "a closing bracket";
+
 const THE_END: &str = "the end of the claim";
+
 const PLAIN: &str = "numbers without zeros or a plus sign in front";
 
 /// The claim that a text spells: `(= REF V)`, with `!=`, `<`, `<=`, `>` or `>=` as well; or `(and CLAIM ..)`, `(or

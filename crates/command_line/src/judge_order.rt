@@ -8,9 +8,7 @@ ghost use Rattle.command_words.specs.Telling.{LacksMemory, TellsWrong};
 ghost use Rattle.text_io.specs.Devices.{devices};
 ghost use Rattle.text_io.specs.Exchange.{IsAnswered};
 
-use claim_answers::{
-    AskFault, Asked, ClaimFault, ClaimForm, Rule, answer_claims, read_asked,
-};
+use claim_answers::{AskFault, Asked, ClaimFault, ClaimForm, Rule, answer_claims, read_asked};
 use command_words::{ExploreForm, Judging, refuse_words, value_reason};
 use exploration_text::{ExploreOrder, NotedAnswer};
 use itoa::Buffer;

@@ -143,7 +143,12 @@ const WRONG: &[(&str, &[&str], &str)] = &[
     ),
     (
         "an unknown word of a claim, the second one",
-        &["fiber_cli", "explore", "--reach=(= x 1)", "--reach=(nor (= x 1))"],
+        &[
+            "fiber_cli",
+            "explore",
+            "--reach=(= x 1)",
+            "--reach=(nor (= x 1))",
+        ],
         "error: invalid value '(nor (= x 1))' for '--reach <CLAIM>': expected =, !=, <, <=, >, >=, and, or, or not at 1\
             \n\nUsage: fiber_cli <COMMAND>\n\nFor more information, try '--help'.\n",
     ),

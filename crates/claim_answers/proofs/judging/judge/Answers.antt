@@ -1,12 +1,15 @@
-use Rattle.std.proofs.Common.{arith}
+use Rattle.std.proofs.Common.{List, [], arith, subst, sym}
 use Rattle.derived_ops.specs.Expansion.{code_of}
 use Rattle.derived_ops.specs.Reading.{source_of}
-use Rattle.claim_answers.specs.Claims.{IsDecided, none}
+use Rattle.claim_answers.specs.declared.judging.Verdict.{Verdict}
+use Rattle.claim_answers.specs.Claims.{IsDecided, Pairwise, no_pair}
 use Rattle.claim_answers.proofs.Pairs.{pairs_all, pairs_found}
 use Rattle.claim_answers.proofs.judging.judge.Goals as goal
 
 pub loop-number-init : goal.loop-number-init
-loop-number-init c = rw c.new-verdicts.ensures.items none
+loop-number-init c =
+    subst (λ (vs : List Verdict). Pairwise (IsDecided (code_of (source_of c.args.program.now)) c.args.limits) [] vs) (sym c.new-verdicts.ensures.items)
+    no_pair
 
 pub loop-number-preserved : goal.loop-number-preserved
 loop-number-preserved c =

@@ -6,4 +6,4 @@ use Rattle.claim_answers.proofs.judging.judge.Given as goal
 
 -- the verdicts so far
 abbrev pub invariant-loop-number : goal.invariant-loop-number
-invariant-loop-number l = Pairwise (IsDecided (code_of (source_of l.program)) l.limits) (take l.number l.soughts) l.verdicts.items
+invariant-loop-number l = Pairwise (IsDecided (code_of (source_of l.program)) l.fn.limits) (take l.number l.soughts) l.verdicts.items

@@ -1,10 +1,12 @@
-use Rattle.std.proofs.Common.{arith}
-use Rattle.claim_answers.specs.Claims.{IsSought, none}
+use Rattle.std.proofs.Common.{List, [], arith, subst, sym}
+use Rattle.every_schedule.specs.declared.claims.ClaimWord.{ClaimWord}
+use Rattle.claim_answers.specs.Claims.{IsSought, Pairwise, no_pair}
 use Rattle.claim_answers.proofs.Pairs.{pairs_all, pairs_more}
 use Rattle.claim_answers.proofs.judging.soughts_of.Goals as goal
 
 pub loop-one-init : goal.loop-one-init
-loop-one-init c = rw c.new-soughts.ensures.items none
+loop-one-init c =
+    subst (λ (ss : List (List ClaimWord)). Pairwise (IsSought c.args.text.now) [] ss) (sym c.new-soughts.ensures.items) no_pair
 
 pub loop-one-preserved : goal.loop-one-preserved
 loop-one-preserved c =

@@ -11,9 +11,9 @@ returns-in-Some c =
     let met = c.as_slice-met.result.now in
     IfOk-weaker c.met_verdict.result _ _
     (λ v h. λ code k wanted words right there.
-        decided_met code k wanted words it.complete met c.args.number c.in-Some.at c.index-met-at.result
-        (subst (λ (ms : List Met). AreMet code k wanted it.complete ms) (sym c.as_slice-met.ensures.value) right) there c.in-Some.ensures.some
-        c.index-met-at.is v h)
+    decided_met code k wanted words it.complete met c.args.number c.in-Some.at c.index-met-at.result
+    (subst (λ (ms : List Met). AreMet code k wanted it.complete ms) (sym c.as_slice-met.ensures.value) right) there c.in-Some.ensures.some
+    c.index-met-at.is v h)
     c.met_verdict.ensures
 
 pub returns-in-None : goal.returns-in-None
@@ -22,4 +22,4 @@ returns-in-None c = λ code k wanted words right there.
     let met = c.as_slice-met.result.now in
     rw c.unmet_verdict.ensures
     (decided_unmet code k wanted words it.complete met c.args.number
-        (subst (λ (ms : List Met). AreMet code k wanted it.complete ms) (sym c.as_slice-met.ensures.value) right) there c.in-None.ensures.none)
+    (subst (λ (ms : List Met). AreMet code k wanted it.complete ms) (sym c.as_slice-met.ensures.value) right) there c.in-None.ensures.none)

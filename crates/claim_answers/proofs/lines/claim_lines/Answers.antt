@@ -1,12 +1,12 @@
-use Rattle.std.proofs.Common.{◌∙◌, ◌++◌, ap, arith, sym, subst}
+use Rattle.std.proofs.Common.{◌∙◌, ◌++◌, ℕ, List, [], ap, arith, sym, subst}
 use Rattle.std.proofs.lemmas.List.Elements.{All-get_or}
 use Rattle.claim_answers.specs.Private.Met.{IsSpellable}
-use Rattle.claim_answers.specs.Verdicts.{no_line}
+use Rattle.claim_answers.specs.Verdicts.{AreLines, no_line}
 use Rattle.claim_answers.proofs.Pairs.{lines_all, lines_more}
 use Rattle.claim_answers.proofs.lines.claim_lines.Goals as goal
 
 pub loop-at-init : goal.loop-at-init
-loop-at-init c = rw c.new-text.ensures.items no_line
+loop-at-init c = subst (λ (t : List ℕ). AreLines c.args.form [] [] t) (sym c.new-text.ensures.items) no_line
 
 pub claim_line-requires-clause-spelled : goal.claim_line-requires-clause-spelled
 claim_line-requires-clause-spelled c =

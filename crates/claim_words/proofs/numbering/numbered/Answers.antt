@@ -10,17 +10,17 @@ loop-word-preserved c =
     let ns = c.args.numbers.now in
     elim c.if-is_named.branch [
       | then-is_named w ↦ record {
-          low = omega arith;
-          all_are = one_word c.loop-word.all.items _ _ ws c.loop-word.word-index c.word-item.result c.claim_word.result (drop c.loop-word.next ns) _
-              (omega arith) c.word-item.is c.claim_word.ensures c.in_ok-push.ensures.items
-              (left_named (is_named c.word-item.result) c.loop-word.next c.if-is_named.next ns (sym c.is_named.ensures ∙ w.if-is_named.true) w.next-is)
-              c.loop-word.invariant.all_are;
-        }
+        low = omega arith;
+        all_are = one_word c.loop-word.all.items _ _ ws c.loop-word.word-index c.word-item.result c.claim_word.result (drop c.loop-word.next ns) _
+            (omega arith) c.word-item.is c.claim_word.ensures c.in_ok-push.ensures.items
+            (left_named (is_named c.word-item.result) c.loop-word.next c.if-is_named.next ns (sym c.is_named.ensures ∙ w.if-is_named.true) w.next-is)
+            c.loop-word.invariant.all_are;
+      }
       | else-is_named w ↦ record {
-          low = omega arith;
-          all_are = one_word c.loop-word.all.items _ _ ws c.loop-word.word-index c.word-item.result c.claim_word.result (drop c.loop-word.next ns) _
-              (omega arith) c.word-item.is c.claim_word.ensures c.in_ok-push.ensures.items
-              (left_other (is_named c.word-item.result) c.loop-word.next c.if-is_named.next ns (sym c.is_named.ensures ∙ w.if-is_named.false) w.next-is)
-              c.loop-word.invariant.all_are;
-        }
+        low = omega arith;
+        all_are = one_word c.loop-word.all.items _ _ ws c.loop-word.word-index c.word-item.result c.claim_word.result (drop c.loop-word.next ns) _
+            (omega arith) c.word-item.is c.claim_word.ensures c.in_ok-push.ensures.items
+            (left_other (is_named c.word-item.result) c.loop-word.next c.if-is_named.next ns (sym c.is_named.ensures ∙ w.if-is_named.false) w.next-is)
+            c.loop-word.invariant.all_are;
+      }
     ]

@@ -13,5 +13,5 @@ invariant_of-result c =
           (c.in_ok-extend_from_slice.ensures.items ∙ ap (λ l. before.words.items ++ l) c.as_slice-3.ensures.value)
           c.in_ok-push.ensures.items
           (ap (map (λ (x : Bor (List ℕ)). x.now)) (c.in_ok-extend_from_slice-2.ensures.items ∙ ap (λ l. before.names.items ++ l) c.as_slice-4.ensures.value)
-              ∙ map-append (λ (x : Bor (List ℕ)). x.now) before.names.items part.names.items);
+          ∙ map-append (λ (x : Bor (List ℕ)). x.now) before.names.items part.names.items);
     }
