@@ -1,9 +1,8 @@
 -- The heads of a text, one more at a time.
-use Rattle.std.proofs.Common.{◌≡◌, ℕ, ◌+◌, ◌<◌, ◌≤◌, true, List, [], ◌∷◌, ◌++◌, length, take, drop, codes, refl, sym, ap, ◌∙◌, subst}
+use Rattle.std.proofs.Common.{◌≡◌, ℕ, ◌+◌, true, List, [], ◌∷◌, ◌++◌, length, codes, refl, sym, ap, ◌∙◌, subst}
 use Rattle.std.proofs.Common.{append_assoc, arith, length-append}
 use Rattle.std.specs.Prelude.{Option, Some, None}
 use Rattle.std.specs.List.{list_all, slice_get}
-use Rattle.std.proofs.lemmas.List.{take-append-drop}
 use Rattle.claim_words.specs.Heads.{IsHead, IsRefOf, a_deferred, a_ref, deferred_head, is_plain, no_head, ref_head}
 use Rattle.claim_words.specs.Private.Steps.{AreHeads, IsHeadText, IsNextHead, made, of_deferred, of_ref}
 

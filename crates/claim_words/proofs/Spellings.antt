@@ -6,7 +6,7 @@ use Rattle.every_schedule.specs.declared.claims.Comparison.{Comparison}
 use Rattle.claim_words.specs.declared.words.Joint.{Joint}
 use Rattle.claim_words.specs.declared.words.SpelledWord.{SpelledWord}
 use Rattle.claim_words.specs.declared.words.SpelledWord.TheVariants.{Numbered, Named, Not, Join}
-use Rattle.claim_words.specs.Spelling.{IsSpelling, Part, Spells, claim, compared_text, joint_text, operands}
+use Rattle.claim_words.specs.Spelling.{IsSpelling, Spells, claim, compared_text, joint_text, operands}
 use Rattle.claim_words.specs.Spelling.{by_number, by_name, negates, joins, first, more}
 
 pub spelled_number : (n : ℕ) (how : Comparison) (v : ℤ) (subject text : List ℕ) (before words : List SpelledWord) (names : List (List ℕ)) →

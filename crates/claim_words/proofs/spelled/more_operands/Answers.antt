@@ -1,4 +1,4 @@
-use Rattle.std.proofs.Common.{◌∙◌, ◌++◌, List, ap, ap₂, codes, map, refl, ℕ}
+use Rattle.std.proofs.Common.{◌∙◌, ◌++◌, List, ap, ap₂, codes, map, ℕ}
 use Rattle.std.specs.Borrow.{Bor}
 use Rattle.std.proofs.lemmas.List.{map-append}
 use Rattle.claim_words.proofs.Spellings.{spelled_more}
