@@ -1,3 +1,3 @@
 pub mod Answered
-pub mod Decided
+pub mod Endings
 pub mod Statuses

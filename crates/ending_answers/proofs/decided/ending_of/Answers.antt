@@ -1,6 +1,6 @@
 use Rattle.derived_ops.specs.Expansion.{code_of}
 use Rattle.derived_ops.specs.Reading.{source_of}
-use Rattle.ending_answers.proofs.Decided.{ending_is, ending_short}
+use Rattle.ending_answers.proofs.Endings.{ending_is, ending_short}
 use Rattle.ending_answers.proofs.decided.ending_of.Goals as goal
 
 pub returns-clause-ending : goal.returns-clause-ending
