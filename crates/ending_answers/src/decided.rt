@@ -41,29 +41,27 @@ pub fn decide<V: Watcher>(
     else {
         return Err(AllocError);
     };
-    if !exploration.complete {
-        return Ok(Decided {
-            exploration,
-            ending: Ending::Undecided,
-        });
-    }
-    let ending = ending_of(alloc, program, order, watcher)?;
+    let ending = ending_of(alloc, program, order, exploration.complete, watcher)?;
     Ok(Decided {
         exploration,
         ending,
     })
 }
 
-// Whether every fair schedule of a program ends.
+// Whether every fair schedule of a program ends. Undecided where its exploration isn't complete.
 fn ending_of<V: Watcher>(
     alloc: Global,
     program: &Program,
     order: &ExploreOrder,
+    complete: bool,
     watcher: &mut V,
 ) -> Result<Ending, AllocError>
     ensures ending { IfOk result (IsEndingOf (code_of (source_of program.now)) order.now.limits) }
     ensures short { IfOk result (IsShort order.now.bounds.entries) }
 {
+    if !complete {
+        return Ok(Ending::Undecided);
+    }
     let Ok(ending) = explore_ends(alloc, program, order.limits, order.bounds, watcher) else {
         return Err(AllocError);
     };
