@@ -3,8 +3,8 @@ use Rattle.claim_answers.specs.ClaimsAnswers.{explored_as}
 use Rattle.claim_answers.specs.Verdicts.{claims_status, worse}
 use Rattle.claim_answers.proofs.answering.sought_answer.Goals as goal
 
-pub claims_status-requires : goal.claims_status-requires
-claims_status-requires c = c.in_ok-judged.ensures.length ∙ ap length (sym c.as_slice.ensures.value)
+pub claims_status-status-requires : goal.claims_status-status-requires
+claims_status-status-requires c = c.in_ok-judged.ensures.length ∙ ap length (sym c.as_slice.ensures.value)
 
 pub returns : goal.returns
 returns c = λ text sought.
@@ -24,5 +24,5 @@ returns c = λ text sought.
           (sym c.in_ok-answer.ensures.note) c.in_ok-rest.ensures;
       answer_is = c.in_ok-answer.ensures.text;
       status_is = c.in_ok-answer.ensures.status
-          ∙ ap (λ s. worse s rest.answer.status) (c.claims_status.ensures ∙ ap (claims_status c.args.asked.now) c.as_slice.ensures.value);
+          ∙ ap (λ s. worse s rest.answer.status) (c.claims_status-status.ensures ∙ ap (claims_status c.args.asked.now) c.as_slice.ensures.value);
     }
