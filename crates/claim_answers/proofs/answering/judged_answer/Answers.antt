@@ -16,7 +16,7 @@ returns-in-Ok c =
     let spaced = c.as_slice.ensures.value ∙ c.in_ok-spaced.ensures in
     let sought = subst (λ (s : List ℕ). Pairwise (IsSought s) asked c.in-Ok.soughts.items) spaced c.in-Ok.ensures in
     let here =
-        subst (λ (ss : List (List ClaimWord)). Pairwise (IsSought (spaced_text text)) asked ss) (sym c.as_slice-in-Ok.ensures.value) sought in
+    subst (λ (ss : List (List ClaimWord)). Pairwise (IsSought (spaced_text text)) asked ss) (sym c.as_slice-in-Ok.ensures.value) sought in
     IfOk-weaker c.sought_answer.result _ _ (λ n h. inl (h text here)) c.sought_answer.ensures
 
 pub returns-in-Err-Unknown : goal.returns-in-Err-Unknown
