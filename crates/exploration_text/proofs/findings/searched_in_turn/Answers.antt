@@ -25,9 +25,9 @@ returns-then-is_last-2 g c =
     let timed = g.V.Watcher.can_stop c.args.watcher.now in
     let near = subst (λ (b : Bounds). IsFirst code k b timed wants c.in_ok-near.near) c.within.ensures c.in_ok-near.ensures.found in
     let found = subst (λ (b : Bounds). IsFirst code k b timed wants c.in_ok-found.found) c.within-2.ensures
-        (subst (λ (t : Bool). IsFirst code k c.within-2.result t wants c.in_ok-found.found) c.searched.ensures.watcher c.in_ok-found.ensures.found) in
+    (subst (λ (t : Bool). IsFirst code k c.within-2.result t wants c.in_ok-found.found) c.searched.ensures.watcher c.in_ok-found.ensures.found) in
     let far = more_first code k (bounds_within order.bounds 10000) (bounds_within order.bounds 1000000) timed wants c.in_ok-near.near c.in_ok-found.found
-        c.of_more-far.result (fewer_worlds order.bounds.worlds) refl refl c.of_more-far.ensures near found in
+    c.of_more-far.result (fewer_worlds order.bounds.worlds) refl refl c.of_more-far.ensures near found in
     last_first code k order.bounds 1000000 timed wants c.of_more-far.result (c.is_last-2.ensures c.if-is_last-2.true) far
 
 pub returns : goal.returns
@@ -39,10 +39,10 @@ returns g c =
     let timed = g.V.Watcher.can_stop c.args.watcher.now in
     let near = subst (λ (b : Bounds). IsFirst code k b timed wants c.in_ok-near.near) c.within.ensures c.in_ok-near.ensures.found in
     let found = subst (λ (b : Bounds). IsFirst code k b timed wants c.in_ok-found.found) c.within-2.ensures
-        (subst (λ (t : Bool). IsFirst code k c.within-2.result t wants c.in_ok-found.found) c.searched.ensures.watcher c.in_ok-found.ensures.found) in
+    (subst (λ (t : Bool). IsFirst code k c.within-2.result t wants c.in_ok-found.found) c.searched.ensures.watcher c.in_ok-found.ensures.found) in
     let far = more_first code k (bounds_within order.bounds 10000) (bounds_within order.bounds 1000000) timed wants c.in_ok-near.near c.in_ok-found.found
-        c.of_more-far.result (fewer_worlds order.bounds.worlds) refl refl c.of_more-far.ensures near found in
+    c.of_more-far.result (fewer_worlds order.bounds.worlds) refl refl c.of_more-far.ensures near found in
     let last = subst (λ (t : Bool). IsFirst code k order.bounds t wants c.in_ok-found-2.found) (c.searched-2.ensures.watcher ∙ c.searched.ensures.watcher)
-        c.in_ok-found-2.ensures.found in
+    c.in_ok-found-2.ensures.found in
     more_first code k (bounds_within order.bounds 1000000) order.bounds timed wants c.of_more-far.result c.in_ok-found-2.found
     c.of_more.result (min_low order.bounds.worlds 1000000) refl refl c.of_more.ensures far last
