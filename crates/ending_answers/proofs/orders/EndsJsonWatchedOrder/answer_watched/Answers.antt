@@ -1,4 +1,4 @@
-use Rattle.std.proofs.Common.{true, arith}
+use Rattle.std.proofs.Common.{◌∙◌, true, arith}
 use Rattle.serde_json.specs.View.{view}
 use Rattle.ending_answers.proofs.Answered.{answered, decided_plain}
 use Rattle.ending_answers.proofs.Endings.{short_more}
@@ -12,8 +12,8 @@ decided_json-requires-clause-short g c =
 pub value_answer-requires : goal.value_answer-requires
 value_answer-requires g c = decided_plain _ _ _ c.in_ok-value.ensures
 
-pub returns-in_ok-answer : goal.returns-in_ok-answer
-returns-in_ok-answer g c =
+pub returns : goal.returns
+returns g c =
     let order = c.args.self.now.order in
     let told = c.in_ok-decided.ensures in
     let value = view c.in_ok-value.value in

@@ -8,8 +8,8 @@ text_of_decided-requires-clause-short g c =
     let order = c.args.self.now.order in
     short_more order.bounds.entries 1000000 order.entries c.in_ok-decided.decided.ending c.in_ok-decided.ensures.short
 
-pub returns-in_ok-text : goal.returns-in_ok-text
-returns-in_ok-text g c =
+pub returns : goal.returns
+returns g c =
     let order = c.args.self.now.order in
     let told = c.in_ok-decided.ensures in
     answered false c.args.program.now order.limits order.bounds (g.V.Watcher.can_stop c.args.watcher.now) order.wants.items _ _ _ _ c.in_ok-decided.decided
