@@ -14,8 +14,8 @@ returns-in-Timeline c =
     (λ (f : ClaimForm). IfOk c.answer_watched-in-Timeline.result (λ n. explored_as f c.args.order n.note.items c.args.program.now n.answer.text.items n.answer.status))
     (sym c.in-Timeline.is) c.answer_watched-in-Timeline.ensures
 
-pub returns : goal.returns
-returns c =
+pub returns-in-Json : goal.returns-in-Json
+returns-in-Json c =
     subst
     (λ (f : ClaimForm). IfOk c.answer_watched-in-Json.result (λ n. explored_as f c.args.order n.note.items c.args.program.now n.answer.text.items n.answer.status))
     (sym c.in-Json.is) c.answer_watched-in-Json.ensures
