@@ -37,3 +37,5 @@ pub mod UnusedMoves
 pub mod NamedUses
 pub mod WordHits
 pub mod PathHits
+pub mod Renumbering
+pub mod Spines

@@ -17,3 +17,4 @@ pub mod Leading
 pub mod Naming
 pub mod Uses
 pub mod Hits
+pub mod Unmarked

@@ -25,6 +25,7 @@
 #![tactic(auto)]
 
 mod ask;
+mod alike;
 mod asks;
 mod config;
 mod copies;
