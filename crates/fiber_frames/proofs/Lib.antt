@@ -39,3 +39,4 @@ pub mod WordHits
 pub mod PathHits
 pub mod Renumbering
 pub mod Spines
+pub mod RenumberedMoves

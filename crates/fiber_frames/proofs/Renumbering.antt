@@ -32,10 +32,10 @@ Each P [] = Unit {0}
 Each P (x ∷ xs) = P x × Each P xs
 
 module _ (i : ℕ) (to : ℕ → ℕ → Mask) (closed : (p : Put) (g m : ℕ) → mask_at p (to g m) ≡ to g m) where
-  abbrev R : Tree → Tree
+  abbrev pub R : Tree → Tree
   R t = renumbered i to t
 
-  abbrev Q : Mask → Mask
+  abbrev pub Q : Mask → Mask
   Q q = mask_to i to q
 
   -- ---- a put
@@ -143,7 +143,7 @@ module _ (i : ℕ) (to : ℕ → ℕ → Mask) (closed : (p : Put) (g m : ℕ) �
   without_to [] = refl
   without_to (a ∷ up) = refl
 
-  undone_to : (q : Mask) (up : List Mask) → Each IsKept up → undone (Q q) (masks_to up) ≡ masks_to (undone q up)
+  pub undone_to : (q : Mask) (up : List Mask) → Each IsKept up → undone (Q q) (masks_to up) ≡ masks_to (undone q up)
   undone_to q up h =
       ap (λ b. if b then without_first (masks_to up) else masks_to up) (effective_to q up h)
       ∙ elim (is_effective q up) as (λ b. (if b then without_first (masks_to up) else masks_to up) ≡ masks_to (if b then without_first up else up)) [
@@ -151,7 +151,7 @@ module _ (i : ℕ) (to : ℕ → ℕ → Mask) (closed : (p : Put) (g m : ℕ) �
         | false ↦ refl
       ]
 
-  kept_undone : (q : Mask) (up : List Mask) → Each IsKept up → Each IsKept (undone q up)
+  pub kept_undone : (q : Mask) (up : List Mask) → Each IsKept up → Each IsKept (undone q up)
   kept_undone q up h =
       elim (is_effective q up) as (λ b. Each IsKept (if b then without_first up else up)) [ true ↦ rest up h | false ↦ h ]
     where
@@ -270,10 +270,10 @@ module _ (i : ℕ) (to : ℕ → ℕ → Mask) (closed : (p : Put) (g m : ℕ) �
           | false ↦ refl
         ]
 
-    own_up : (m : ℕ) (up up' : List Mask) → up' ≡ masks_to up → Pair i (number_to i to m) ∷ up' ≡ masks_to (Pair i m ∷ up)
+    pub own_up : (m : ℕ) (up up' : List Mask) → up' ≡ masks_to up → Pair i (number_to i to m) ∷ up' ≡ masks_to (Pair i m ∷ up)
     own_up m up up' q = ap₂ (λ (a : Mask) (l : List Mask). a ∷ l) (sym (own m)) q
 
-    abbrev Taken : Row Tree → Type 0
+    abbrev pub Taken : Row Tree → Type 0
     Taken a = a.next ≡ next + 1 → to i next ≡ Pair i next'
 
     taken_in : (up : List Mask) (s : PathStep) (E : End) (a : Row Tree) → Taken (under i next up s E a) → E ≡ Works → Taken a
