@@ -40,3 +40,8 @@ pub mod PathHits
 pub mod Renumbering
 pub mod Spines
 pub mod RenumberedMoves
+pub mod MoveSpines
+pub mod Composing
+pub mod Placing
+pub mod Freshness
+pub mod Unmarking

@@ -10,7 +10,7 @@ use Rattle.fiber_frames.specs.Path.{In_guarded, In_handle, In_let, In_masked, In
 use Rattle.fiber_frames.specs.Rows.{Row, branch, is_positive, is_zero, looped, number_in, number_of, one_less, outcome_in, unit}
 use Rattle.fiber_frames.specs.Unmarked.{masks_on}
 use Rattle.fiber_frames.proofs.Walk.{End, Gives, Throws, Works, end_of, under, walk}
-use Rattle.fiber_frames.proofs.Marks.Actions.{Simple, a_value, action_case, an_action, an_error}
+use Rattle.fiber_frames.proofs.Marks.Actions.{If_born, Simple, a_value, action_case, an_action, an_error, none_born, wait_none}
 use Rattle.fiber_frames.proofs.Marks.Cutting.{Live, Static}
 use Rattle.fiber_frames.proofs.Marks.Regions.{static_put}
 use Rattle.fiber_frames.proofs.Renumbering.{Each}
@@ -27,7 +27,7 @@ static_on (Guarded e fin) h = absurd h
 static_on _ h = refl
 
 module _ (P : ℕ → Type 0) where
-  static_each : (t : Tree) → Static t → Each P (masks_on t)
+  pub static_each : (t : Tree) → Static t → Each P (masks_on t)
   static_each t h = subst (Each P) (sym (static_on t h)) tt
 
   put_each : (p : Put) → Runtime p → (t : Tree) → Static t → Each P (masks_on (put p t))
@@ -38,6 +38,7 @@ module _ (P : ℕ → Type 0) where
     pub record RowOn (a : Row Tree) : Type 0 where
       pub on : Each P (masks_on a.becomes)
       pub rises : (a.next ≡ next) ⊎ (a.next ≡ next + 1)
+      pub born : If_born a.kind Static
 
     abbrev StepOn : PathStep → Type 0
     StepOn (In_let x k) = Static k
@@ -48,24 +49,24 @@ module _ (P : ℕ → Type 0) where
     StepOn (In_polled q) = Unit {0}
 
     under_on : (up : List Mask) (s : PathStep) (E : End) (a : Row Tree) → StepOn s → RowOn a → RowOn (under i next up s E a)
-    under_on up (In_let x k) (Gives v) a h w = record { on = put_each (Put_value x (number_of v)) (value_runtime x (number_of v)) k h; rises = inl refl }
-    under_on up (In_seq o k) (Gives v) a h w = record { on = static_each k h; rises = inl refl }
-    under_on up (In_handle x k) (Gives v) a h w = record { on = tt; rises = inl refl }
-    under_on up (In_guarded fin) (Gives v) a h w = record { on = tt; rises = inl refl }
-    under_on up (In_masked m) (Gives v) a h w = record { on = tt; rises = inl refl }
-    under_on up (In_polled q) (Gives v) a h w = record { on = tt; rises = inl refl }
-    under_on up (In_let x k) (Throws v) a h w = record { on = tt; rises = inl refl }
-    under_on up (In_seq o k) (Throws v) a h w = record { on = tt; rises = inl refl }
-    under_on up (In_handle x k) (Throws v) a h w = record { on = put_each (Put_value x (number_of v)) (value_runtime x (number_of v)) k h; rises = inl refl }
-    under_on up (In_guarded fin) (Throws v) a h w = record { on = tt; rises = inl refl }
-    under_on up (In_masked m) (Throws v) a h w = record { on = tt; rises = inl refl }
-    under_on up (In_polled q) (Throws v) a h w = record { on = tt; rises = inl refl }
-    under_on up (In_let x k) Works a h w = record { on = w.on; rises = w.rises }
-    under_on up (In_seq o k) Works a h w = record { on = w.on; rises = w.rises }
-    under_on up (In_handle x k) Works a h w = record { on = w.on; rises = w.rises }
-    under_on up (In_guarded fin) Works a h w = record { on = w.on; rises = w.rises }
-    under_on up (In_masked m) Works a h w = record { on = (h, w.on); rises = w.rises }
-    under_on up (In_polled q) Works a h w = record { on = w.on; rises = w.rises }
+    under_on up (In_let x k) (Gives v) a h w = record { on = put_each (Put_value x (number_of v)) (value_runtime x (number_of v)) k h; rises = inl refl; born = tt }
+    under_on up (In_seq o k) (Gives v) a h w = record { on = static_each k h; rises = inl refl; born = tt }
+    under_on up (In_handle x k) (Gives v) a h w = record { on = tt; rises = inl refl; born = tt }
+    under_on up (In_guarded fin) (Gives v) a h w = record { on = tt; rises = inl refl; born = tt }
+    under_on up (In_masked m) (Gives v) a h w = record { on = tt; rises = inl refl; born = tt }
+    under_on up (In_polled q) (Gives v) a h w = record { on = tt; rises = inl refl; born = tt }
+    under_on up (In_let x k) (Throws v) a h w = record { on = tt; rises = inl refl; born = tt }
+    under_on up (In_seq o k) (Throws v) a h w = record { on = tt; rises = inl refl; born = tt }
+    under_on up (In_handle x k) (Throws v) a h w = record { on = put_each (Put_value x (number_of v)) (value_runtime x (number_of v)) k h; rises = inl refl; born = tt }
+    under_on up (In_guarded fin) (Throws v) a h w = record { on = tt; rises = inl refl; born = tt }
+    under_on up (In_masked m) (Throws v) a h w = record { on = tt; rises = inl refl; born = tt }
+    under_on up (In_polled q) (Throws v) a h w = record { on = tt; rises = inl refl; born = tt }
+    under_on up (In_let x k) Works a h w = record { on = w.on; rises = w.rises; born = w.born }
+    under_on up (In_seq o k) Works a h w = record { on = w.on; rises = w.rises; born = w.born }
+    under_on up (In_handle x k) Works a h w = record { on = w.on; rises = w.rises; born = w.born }
+    under_on up (In_guarded fin) Works a h w = record { on = w.on; rises = w.rises; born = w.born }
+    under_on up (In_masked m) Works a h w = record { on = (h, w.on); rises = w.rises; born = w.born }
+    under_on up (In_polled q) Works a h w = record { on = w.on; rises = w.rises; born = w.born }
 
     simple_on : (t : Tree) → Simple t → Each P (masks_on t)
     simple_on _ (a_value v) = tt
@@ -88,26 +89,27 @@ module _ (P : ℕ → Type 0) where
         ]
 
     pub walk_on : (t : Tree) (up : List Mask) → Live t → Each P (masks_on t) → RowOn (walk i next r up t)
-    walk_on (Pure v) up h g = record { on = tt; rises = inl refl }
-    walk_on (Raise v) up h g = record { on = tt; rises = inl refl }
-    walk_on (Act c) up h g = action_case i next r RowOn (λ a t ms k s says none. record { on = simple_on t s; rises = inl refl }) c
-    walk_on (Note e q) up h g = record { on = tt; rises = inl refl }
-    walk_on (Cancel f) up h g = record { on = (new, tt); rises = inr refl }
+    walk_on (Pure v) up h g = record { on = tt; rises = inl refl; born = tt }
+    walk_on (Raise v) up h g = record { on = tt; rises = inl refl; born = tt }
+    walk_on (Act c) up h g = action_case i next r RowOn (λ a t ms k s says none. record { on = simple_on t s; rises = inl refl; born = none_born k Static none }) c
+    walk_on (Note e q) up h g = record { on = tt; rises = inl refl; born = tt }
+    walk_on (Cancel f) up h g = record { on = (new, tt); rises = inr refl; born = tt }
     walk_on (Let e x k) up h g = under_on up (In_let x k) (end_of e) (walk i next r up e) h.1 (walk_on e up h.0 g)
     walk_on (Seq o e k) up h g = under_on up (In_seq o k) (end_of e) (walk i next r up e) h.1 (walk_on e up h.0 g)
     walk_on (Handled e x k) up h g = under_on up (In_handle x k) (end_of e) (walk i next r up e) h.1 (walk_on e up h.0 g)
     walk_on (If0 v s e) up h g = record {
       on = elim (is_zero v) as (λ t. Each P (masks_on (if t then s else e))) [ true ↦ static_each s h.0 | false ↦ static_each e h.1 ];
       rises = inl refl;
+      born = tt;
     }
-    walk_on (Join f x s y e c) up h g = record { on = branch_on (outcome_in r) f x s y e c h; rises = inl refl }
-    walk_on (Make (New_ref w) x k) up h g = record { on = tt; rises = inl refl }
-    walk_on (Make New_deferred x k) up h g = record { on = put_each (Put_handle x (number_in r)) (handle_runtime x (number_in r)) k h; rises = inl refl }
-    walk_on (Start x e k) up h g = record { on = put_each (Put_handle x (number_in r)) (handle_runtime x (number_in r)) k h.1; rises = inl refl }
-    walk_on (Loop m e) up h g = record { on = looped_on m e h; rises = inl refl }
-    walk_on (Uncancelable x e) up h g = record { on = (new, put_each (Put_mask x i next) (mask_runtime x i next) e h.0); rises = inr refl }
-    walk_on (Poll q e) up h g = record { on = static_each e h; rises = inl refl }
-    walk_on (On_cancel e fin) up h g = record { on = static_each e h.0; rises = inl refl }
+    walk_on (Join f x s y e c) up h g = record { on = branch_on (outcome_in r) f x s y e c h; rises = inl refl; born = none_born _ Static (wait_none (outcome_in r)) }
+    walk_on (Make (New_ref w) x k) up h g = record { on = tt; rises = inl refl; born = tt }
+    walk_on (Make New_deferred x k) up h g = record { on = put_each (Put_handle x (number_in r)) (handle_runtime x (number_in r)) k h; rises = inl refl; born = tt }
+    walk_on (Start x e k) up h g = record { on = put_each (Put_handle x (number_in r)) (handle_runtime x (number_in r)) k h.1; rises = inl refl; born = h.0 }
+    walk_on (Loop m e) up h g = record { on = looped_on m e h; rises = inl refl; born = tt }
+    walk_on (Uncancelable x e) up h g = record { on = (new, put_each (Put_mask x i next) (mask_runtime x i next) e h.0); rises = inr refl; born = tt }
+    walk_on (Poll q e) up h g = record { on = static_each e h; rises = inl refl; born = tt }
+    walk_on (On_cancel e fin) up h g = record { on = static_each e h.0; rises = inl refl; born = tt }
     walk_on (Masked m e) up h g = under_on up (In_masked m) (end_of e) (walk i next r (Pair i m ∷ up) e) g.0 (walk_on e (Pair i m ∷ up) h g.1)
     walk_on (Polled q e) up h g = under_on up (In_polled q) (end_of e) (walk i next r (undone q up) e) tt (walk_on e (undone q up) h g)
     walk_on (Guarded e fin) up h g = under_on up (In_guarded fin) (end_of e) (walk i next r up e) h.1 (walk_on e up h.0 g)
