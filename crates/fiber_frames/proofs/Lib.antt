@@ -45,3 +45,5 @@ pub mod Composing
 pub mod Placing
 pub mod Freshness
 pub mod Unmarking
+pub mod Shaping
+pub mod PlaceFinding

@@ -18,3 +18,4 @@ pub mod Naming
 pub mod Uses
 pub mod Hits
 pub mod Unmarked
+pub mod Shapes

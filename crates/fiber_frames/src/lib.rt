@@ -25,7 +25,6 @@
 #![tactic(auto)]
 
 mod ask;
-mod alike;
 mod asks;
 mod config;
 mod copies;
@@ -41,6 +40,7 @@ mod results;
 mod row;
 mod rows;
 mod sameness;
+mod shapes;
 mod slots;
 mod stack;
 mod table;
@@ -50,4 +50,5 @@ pub use ask::{Ask, Look};
 pub use config::{Config, Moved};
 pub use effect_term::Reply;
 pub use mark::Mark;
+pub use shapes::FiberShape;
 pub use uses::Use;

@@ -1,0 +1,43 @@
+-- The outcomes that a program can have under every schedule, whatever the count of changes.
+use Rattle.std.specs.Prelude.{◌≡◌, ◌≢◌, ℕ, ◌<◌, ◌≤◌, ◌++◌, List, length, Option, Some, Result, Ok, Err, map}
+use Rattle.std.specs.List.{slice_get}
+use Rattle.effect_term.specs.declared.reply.Outcome.{Outcome}
+use Rattle.derived_ops.specs.Tree.{Tree}
+use Rattle.fiber_frames.specs.Fiber.{outcome_of}
+use Rattle.cell_registry.specs.declared.limits.Limits.{Limits}
+use Rattle.cell_registry.specs.declared.limits.RunError.{RunError}
+use Rattle.cell_registry.specs.declared.limits.RunError.TheVariants as run
+use Rattle.scheduled_core.specs.Core.{World, core}
+use Rattle.scheduled_core.specs.Finals.{IsSettled}
+use Rattle.every_outcome.specs.declared.outcomes.OutcomeAnswer.{OutcomeAnswer}
+
+-- the limits with this count of changes
+abbrev pub counted : Limits → ℕ → Limits
+counted k n = record k { count = n }
+
+-- the outcomes of the fibers of a world, `None` for one that hasn't ended; or the fault
+abbrev pub outcomes : Result World RunError → Result (List (Option Outcome)) RunError
+outcomes (Ok w) = Ok (map outcome_of w.fibers)
+outcomes (Err e) = Err e
+
+-- one of the answers ends so
+abbrev pub IsListed : List OutcomeAnswer → Result (List (Option Outcome)) RunError → Type 0
+IsListed answers end = (i : ℕ) × (a : OutcomeAnswer) × (slice_get answers i ≡ Some a) × (a.end ≡ end)
+
+-- what a schedule has led to is listed: the outcomes of a settled world, and that the numbers of a band are used up
+abbrev pub IsCovered : Limits → List OutcomeAnswer → Result World RunError → Type 0
+IsCovered k answers (Ok w) = IsSettled k w → IsListed answers (outcomes (Ok w))
+IsCovered k answers (Err (run.Full band n)) = IsListed answers (Err (run.Full band n))
+IsCovered k answers (Err e) = Unit {0}
+
+-- Under each count that is at least the number of entries, the schedule of an answer leads to its end; and whatever
+-- entries follow, under whatever count, the outcomes stay.
+pub record IsReached (code : Tree) (k : Limits) (a : OutcomeAnswer) : Type 0 where
+  pub leads : (count : ℕ) → length a.schedule ≤ count → outcomes (core code (counted k count) a.schedule) ≡ a.end
+  pub stays : (count : ℕ) (more : List ℕ) (w : World) → core code (counted k count) (a.schedule ++ more) ≡ Ok w →
+      outcomes (Ok w) ≡ a.end
+
+-- no two answers end alike
+abbrev pub ListOnce : List OutcomeAnswer → Type 0
+ListOnce answers = (i j : ℕ) (a b : OutcomeAnswer) → i < j → slice_get answers i ≡ Some a →
+    slice_get answers j ≡ Some b → a.end ≢ b.end
