@@ -47,3 +47,4 @@ pub mod Freshness
 pub mod Unmarking
 pub mod Shaping
 pub mod PlaceFinding
+pub mod MaskGathering

@@ -2,7 +2,7 @@
 
 ghost use Rattle.std.specs.Prelude.{◌≡◌, ◌++◌, ◌∷◌, [], ℕ, map, true, IfOk, OnOk};
 ghost use Rattle.effect_term.specs.declared.reply.Reply.{Reply};
-ghost use Rattle.fiber_frames.specs.Fiber.{ask_of, child, move};
+ghost use Rattle.fiber_frames.specs.Fiber.{ask_of, child, move, outcome_of};
 ghost use Rattle.fiber_frames.specs.Machines.{fiber_in};
 ghost use Rattle.fiber_frames.specs.Shapes.{entry_placed, frame_placed, idle_placed, numbers_in, path_masks};
 ghost use Rattle.fiber_frames.specs.Shapes.{stage_placed};
@@ -45,10 +45,11 @@ impl FiberShape {
     ///
     /// The fiber and its shape ask for the same and have the same outcome, and after a move under any reply they have
     /// the same shape again, and so have their children.
-    #[tactic(auto, using(crate::proofs::Unmarking::ask_unmarked, crate::proofs::Unmarking::move_unmarked, crate::proofs::Unmarking::child_unmarked))]
+    #[tactic(auto, using(crate::proofs::Unmarking::ask_unmarked, crate::proofs::Unmarking::move_unmarked, crate::proofs::Unmarking::child_unmarked, crate::proofs::Unmarking::unmarked_outcome))]
     pub fn of(alloc: Global, fiber: &Config) -> Result<FiberShape, AllocError>
         ensures shape { IfOk result (λ it. it ≡ unmarked fiber.now) }
         ensures asks { IfOk result (λ it. ask_of it ≡ ask_of fiber.now) }
+        ensures ends { IfOk result (λ it. outcome_of it ≡ outcome_of fiber.now) }
         ensures moves { IfOk result (λ it. (reply : Reply) →
             unmarked (move it reply) ≡ unmarked (move fiber.now reply)) }
         ensures children { IfOk result (λ it. (number : ℕ) →
@@ -59,18 +60,18 @@ impl FiberShape {
         Ok(FiberShape { machine })
     }
 
+    /// A hash: equal for shapes that are the [`same`](FiberShape::same), and seldom equal for others. The hash is for
+    /// lookups, and nothing else is promised of it.
+    pub fn digest(&self) -> u64 {
+        self.machine.digest()
+    }
+
     /// Whether two shapes are equal, as far as their stored parts show: `true` means that they are. The result can be
     /// `false` for two equal shapes that came about by different moves.
     pub fn same(&self, other: &FiberShape) -> bool
         ensures { result ≡ true → self.now ≡ other.now }
     {
         self.machine.same(&*other.machine)
-    }
-
-    /// A hash: equal for shapes that are the [`same`](FiberShape::same), and seldom equal for others. The hash is for
-    /// lookups, and nothing else is promised of it.
-    pub fn digest(&self) -> u64 {
-        self.machine.digest()
     }
 }
 
