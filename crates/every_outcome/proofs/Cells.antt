@@ -163,3 +163,15 @@ count_after s by (call.Set r v) m h f = let a = h f in omega arith
 count_after s by (call.Modify r v) m h f = let a = h f in omega arith
 count_after s by (call.Complete d v) m h f = let a = h f in omega arith
 count_after s by (call.Read d) m h f = let a = h f in omega arith
+
+-- some number is at least each count
+bounded : (cs : List Cell) → (m : ℕ) × ((f : ℕ) → (get_or cs f fresh).count ≤ m)
+bounded [] = (0, λ f. omega arith)
+bounded (c ∷ cs) = let rest = bounded cs in (c.count + rest.0, each rest.0 rest.1)
+  where
+    each : (m : ℕ) → ((f : ℕ) → (get_or cs f fresh).count ≤ m) → (f : ℕ) → (get_or (c ∷ cs) f fresh).count ≤ c.count + m
+    each m h zero = omega arith
+    each m h (suc f) = let low = h f in omega arith
+
+pub some_bound : (s : Cells) → (m : ℕ) × AtMost m s
+some_bound s = bounded s.cells

@@ -1,5 +1,5 @@
 -- An entry leads on from a world as from the same world without marks, counts and notes.
-use Rattle.std.proofs.Common.{◌≡◌, ◌<◌, ℕ, zero, suc, List, [], ◌∷◌, ◌++◌, map, set, option_map, Option, Some, None, Result, Ok, Err, refl, sym, ap, ap₂, ◌∙◌, subst}
+use Rattle.std.proofs.Common.{◌≡◌, ◌<◌, ◌≤◌, ℕ, zero, suc, length, arith, List, [], ◌∷◌, ◌++◌, map, set, option_map, Option, Some, None, Result, Ok, Err, refl, sym, ap, ap₂, ◌∙◌, subst}
 use Rattle.std.specs.List.{slice_get}
 use Rattle.std.proofs.lemmas.List.{map-append, map-set}
 use Rattle.effect_term.specs.declared.reply.Outcome.{Outcome}
@@ -148,8 +148,13 @@ module _ (k : Limits) (some : 0 < k.count) (w : World) (f : ℕ) (h : (g : Fiber
   step_full b m e = subst (λ x. Same k k.count some w f x (stepped here f)) e here_same
 
 -- a fiber that isn't born changes nothing
-pub unborn_stays : (k : Limits) (w : World) (f : ℕ) → slice_get (unmarked_world w).fibers f ≡ None →
+get_past : (gs : List Fiber) (f : ℕ) → length gs ≤ f → slice_get gs f ≡ None
+get_past [] f l = refl
+get_past (g ∷ gs) zero l = absurd (omega arith)
+get_past (g ∷ gs) (suc f) l = get_past gs f (omega arith)
+
+pub unborn_stays : (k : Limits) (w : World) (f : ℕ) → length w.fibers ≤ f →
     stepped record { limits = k; world = unmarked_world w } f ≡ Ok record { limits = k; world = unmarked_world w }
-unborn_stays k w f e =
-    ap (λ (o : Option Fiber). unmarked_after k (turned k (unmarked_world w) f o)) e
+unborn_stays k w f past =
+    ap (λ (o : Option Fiber). unmarked_after k (turned k (unmarked_world w) f o)) (get_unmarked w.fibers f None (get_past w.fibers f past))
     ∙ ap (λ (v : World). Ok (let q : Place = record { limits = k; world = v } in q)) (world_again w)

@@ -22,11 +22,13 @@ use Rattle.world_search.specs.Answers as search
 use Rattle.world_search.specs.Systems as systems
 use Rattle.world_search.proofs.Closed.{run-append}
 use Rattle.every_outcome.specs.declared.outcomes.OutcomeAnswer.{OutcomeAnswer}
-use Rattle.every_outcome.specs.Outcomes.{IsCovered, IsListed, IsReached, counted, outcomes}
+use Rattle.every_outcome.specs.Outcomes.{Agrees, IsCovered, IsListed, IsReached, KeepsOutcomes, ListOnce, counted, outcomes}
 use Rattle.every_outcome.specs.Places.{Kept, Place, first_place, outcomes_at, stepped, unmarked_world}
+use Rattle.every_outcome.specs.Private.Keeping.{AreSingle}
 use Rattle.every_outcome.specs.Private.Telling.{AreTold, IsEnd, IsTold, IsWithin}
 use Rattle.every_outcome.proofs.Stepping.{outcomes_stay}
-use Rattle.every_outcome.proofs.Running.{Fully, Lawful, Led, bare_place, core_fully, core_lawful, core_led, led}
+use Rattle.every_outcome.proofs.Running.{Fully, Lawful, Led, bare_place, core_fully, core_lawful, core_led, fully, led}
+use Rattle.every_outcome.proofs.Cells.{some_bound}
 
 pub all_at : {A : Type 0} (P : A → Type 0) (xs : List A) (i : ℕ) (x : A) → slice_get xs i ≡ Some x → All P xs → P x
 all_at P xs i x e h = subst P (get_or_from_slice_get xs i x x e) (All-get_or P xs i x (slice_get_within xs i x e) h)
@@ -49,6 +51,23 @@ pub all_within : (kept : Kept) (first : Place) (found : List Found) → All (sea
     All (λ a. IsWithin kept a.end) found
 all_within kept first found right = all_from (λ a. IsWithin kept a.end) found (λ i f e.
     within kept first f.schedule.items f.end (all_at (search.IsRight stepped outcomes_at kept.places kept.faults first) found i f e right))
+
+-- ---- ends that are apart are told otherwise
+same_ok : (r s : List (Option Outcome)) → (let x : Result (List (Option Outcome)) RunError = Ok r in x) ≡ Ok s → r ≡ s
+same_ok r s e = cc
+
+same_err : (d e : RunError) → (let x : Result (List (Option Outcome)) RunError = Err d in x) ≡ Err e → d ≡ e
+same_err d e h = cc
+
+ends_apart : (kept : Kept) → AreSingle kept.faults → (l m : Landing) (x y : Result (List (Option Outcome)) RunError) →
+    search.AreApart outcomes_at kept.places l m → IsEnd kept l x → IsEnd kept m y → x ≢ y
+ends_apart kept single (to.World i) (to.World j) x y apart e f = λ same.
+    apart e.0 f.0 e.1 f.1 (same_ok (outcomes_at e.0) (outcomes_at f.0) (sym e.2 ∙ same ∙ f.2))
+ends_apart kept single (to.World i) (to.Fault j) x y apart e f = λ same. let no : Ok (outcomes_at e.0) ≡ Err f.0 = sym e.2 ∙ same ∙ f.2 in cc
+ends_apart kept single (to.Fault i) (to.World j) x y apart e f = λ same. let no : Err e.0 ≡ Ok (outcomes_at f.0) = sym e.2 ∙ same ∙ f.2 in cc
+ends_apart kept single (to.Fault i) (to.Fault j) x y apart e f = λ same.
+    let is : f.0 ≡ e.0 = sym (same_err e.0 f.0 (sym e.2 ∙ same ∙ f.2)) in
+    apart (single i j e.0 e.1 (subst (λ (d : RunError). slice_get kept.faults j ≡ Some d) is f.1))
 
 -- ---- a settled world has settled outcomes
 outcomes_told : (gs : List Fiber) → map (λ (r : FiberReport). r.outcome) (map fiber_report gs) ≡ map outcome_of gs
@@ -73,6 +92,25 @@ module _ (k : Limits) (n : ℕ) (some : 0 < k.count) where
 
   settles : (w : World) → Lawful w → IsSettled (counted k n) w → systems.IsSettled stepped outcomes_at (bare w)
   settles w law h = λ s. settled_at w (fold (entered (counted k n)) (Ok w) s) (systems.run stepped (Ok (bare w)) s) (led k n some s w law) (h s)
+
+  -- so do outcomes that stay
+  kept_at : (w : World) (x : Result World RunError) (y : Result Place RunError) → Fully k n some x y → Agrees (outcomes (Ok w)) x →
+      systems.reported stepped outcomes_at y ≡ Ok (outcomes_at (bare w))
+  kept_at w (Ok v) y h e =
+      ap (systems.reported stepped outcomes_at) h
+      ∙ ap Ok (outcomes_stay k v) ∙ e ∙ ap Ok (sym (outcomes_stay k w))
+  kept_at w (Err (run.Full b m)) y h e = absurd (cc)
+  kept_at w (Err run.NoMemory) y h e = absurd h
+  kept_at w (Err (run.Spent g)) y h e = absurd h
+  kept_at w (Err (run.Lost g)) y h e = absurd h
+  kept_at w (Err run.NoWorker) y h e = absurd h
+
+keeps : (k : Limits) (n : ℕ) (some : 0 < k.count) (w : World) → Lawful w → KeepsOutcomes k w → systems.IsSettled stepped outcomes_at (bare_place k n some w)
+keeps k n some w law h = λ s.
+    let m = some_bound w.cells in
+    let most = m.0 + length s in
+    kept_at k most some w (fold (entered (counted k most)) (Ok w) s) (systems.run stepped (Ok (bare_place k n some w)) s)
+    (fully k most some s m.0 (omega arith) w law m.1) (h most s)
 
 module _ (kept : Kept) (found : List Found) (answers : List OutcomeAnswer) (told : AreTold kept found answers) where
   abbrev End : Type 0
@@ -116,28 +154,45 @@ module _ (kept : Kept) (found : List Found) (answers : List OutcomeAnswer) (told
       let it = found_at i a e in
       subst (λ s. length s ≤ most) (sym it.2.schedule) (all_at (search.IsShort most) found i it.0 it.1 h))
 
+  pub once : AreSingle kept.faults → search.TellOnce outcomes_at kept.places found → ListOnce answers
+  once single h i j a b less ati atj =
+      let f = found_at i a ati in
+      let g = found_at j b atj in
+      ends_apart kept single f.0.end g.0.end a.end b.end (h i j f.0 g.0 less f.1 g.1) f.2.ends g.2.ends
+
   module _ (code : Tree) (k : Limits) (some : 0 < k.count) (first : Reached (begins 0 code)) where
     abbrev start : Place
     start = first_place code k
 
+    abbrev Covers : Result Place RunError → Type 0
+    Covers y = search.IsCovered stepped outcomes_at kept.places kept.faults found y
+
+    -- what stays is listed
+    listed_at : (n : ℕ) (w : World) (y : Result Place RunError) → y ≡ Ok (bare_place k n some w) → Covers y →
+        systems.IsSettled stepped outcomes_at (bare_place k n some w) → IsListed answers (outcomes (Ok w))
+    listed_at n w y h c settled =
+        let here : Covers (Ok (bare_place k n some w)) = subst Covers h c in
+        subst (IsListed answers) (ap Ok (outcomes_stay k w)) (listed (Ok (bare_place k n some w)) (here settled))
+
     -- what any schedule leads to is covered
     covered_at : (n : ℕ) (x : Result World RunError) (y : Result Place RunError) → Led k n some x y → ((w : World) → x ≡ Ok w → Lawful w) →
-        search.IsCovered stepped outcomes_at kept.places kept.faults found y → IsCovered (counted k n) answers x
-    covered_at n (Ok w) y h law c = λ settled.
-        let here : search.IsCovered stepped outcomes_at kept.places kept.faults found (Ok (bare_place k n some w)) =
-        subst (search.IsCovered stepped outcomes_at kept.places kept.faults found) h c in
-        subst (IsListed answers) (ap Ok (outcomes_stay k w)) (listed (Ok (bare_place k n some w)) (here (settles k n some w (law w refl) settled)))
-    covered_at n (Err (run.Full b m)) y h law c =
-        listed (Err (run.Full b m)) (subst (search.IsCovered stepped outcomes_at kept.places kept.faults found) h c)
+        Covers y → IsCovered k answers x
+    covered_at n (Ok w) y h law c = λ stays. listed_at n w y h c (keeps k n some w (law w refl) stays)
+    covered_at n (Err (run.Full b m)) y h law c = listed (Err (run.Full b m)) (subst Covers h c)
     covered_at n (Err run.NoMemory) y h law c = tt
     covered_at n (Err (run.Spent g)) y h law c = tt
     covered_at n (Err (run.Lost g)) y h law c = tt
     covered_at n (Err run.NoWorker) y h law c = tt
 
-    pub covered : (n : ℕ) (s : List ℕ) → search.IsCovered stepped outcomes_at kept.places kept.faults found (systems.run stepped (Ok start) s) →
-        IsCovered (counted k n) answers (core code (counted k n) s)
+    pub covered : (n : ℕ) (s : List ℕ) → Covers (systems.run stepped (Ok start) s) → IsCovered k answers (core code (counted k n) s)
     covered n s c =
         covered_at n (core code (counted k n) s) (systems.run stepped (Ok start) s) (core_led code k some first n s) (core_lawful code k some first n s) c
+
+    pub settled : (n : ℕ) (s : List ℕ) (w : World) → Covers (systems.run stepped (Ok start) s) → core code (counted k n) s ≡ Ok w → IsSettled (counted k n) w →
+        IsListed answers (outcomes (Ok w))
+    settled n s w c e h =
+        listed_at n w (systems.run stepped (Ok start) s) (subst (λ x. Led k n some x (systems.run stepped (Ok start) s)) e (core_led code k some first n s)) c
+        (settles k n some w (core_lawful code k some first n s w e) h)
 
     -- where a schedule leads that is found
     leads_at : (n : ℕ) (s : List ℕ) (l : Landing) (end : End) → search.LeadsTo stepped outcomes_at kept.places kept.faults start s l → IsEnd kept l end →
@@ -158,22 +213,35 @@ module _ (kept : Kept) (found : List Found) (answers : List OutcomeAnswer) (told
     leads_at n s l end h e (Err run.NoWorker) f = absurd f
 
     -- and what more entries lead to
+    fault_stays : (e : RunError) (t : List ℕ) → systems.run stepped (Err e) t ≡ Err e
+    fault_stays e [] = refl
+    fault_stays e (g ∷ t) = fault_stays e t
+
+    on_world : (s more : List ℕ) (p : Place) → systems.run stepped (Ok start) s ≡ Ok p → systems.IsSettled stepped outcomes_at p →
+        systems.reported stepped outcomes_at (systems.run stepped (Ok start) (s ++ more)) ≡ Ok (outcomes_at p)
+    on_world s more p h settled =
+        ap (systems.reported stepped outcomes_at) (run-append stepped (Ok start) s more ∙ ap (λ y. systems.run stepped y more) h) ∙ settled more
+
+    on_fault : (s more : List ℕ) (e : RunError) → systems.run stepped (Ok start) s ≡ Err e → systems.run stepped (Ok start) (s ++ more) ≡ Err e
+    on_fault s more e h = run-append stepped (Ok start) s more ∙ ap (λ y. systems.run stepped y more) h ∙ fault_stays e more
+
     stays_at : (n : ℕ) (s more : List ℕ) (l : Landing) (end : End) → search.LeadsTo stepped outcomes_at kept.places kept.faults start s l → IsEnd kept l end →
-        (w : World) → systems.run stepped (Ok start) (s ++ more) ≡ Ok (bare_place k n some w) → outcomes (Ok w) ≡ end
-    stays_at n s more (to.World j) end h e w f =
-        let on : systems.run stepped (Ok h.0) more ≡ Ok (bare_place k n some w) =
-        ap (λ y. systems.run stepped y more) (sym h.2) ∙ sym (run-append stepped (Ok start) s more) ∙ f in
-        let told : Ok (outcomes_at (bare_place k n some w)) ≡ Ok (outcomes_at h.0) = sym (ap (systems.reported stepped outcomes_at) on) ∙ h.3 more in
+        (x : Result World RunError) → Led k n some x (systems.run stepped (Ok start) (s ++ more)) → Agrees end x
+    stays_at n s more (to.World j) end h e (Ok w) f =
         let same : e.0 ≡ h.0 = same_Some e.0 h.0 (sym e.1 ∙ h.1) in
-        ap Ok (sym (outcomes_stay k w)) ∙ told ∙ ap Ok (ap outcomes_at (sym same)) ∙ sym e.2
-    stays_at n s more (to.Fault j) end h e w f =
-        let on : Err h.0 ≡ Ok (bare_place k n some w) =
-        sym (stays_fault more) ∙ ap (λ y. systems.run stepped y more) (sym h.2) ∙ sym (run-append stepped (Ok start) s more) ∙ f in
-        absurd (cc)
-      where
-        stays_fault : (t : List ℕ) → systems.run stepped (Err h.0) t ≡ Err h.0
-        stays_fault [] = refl
-        stays_fault (g ∷ t) = stays_fault t
+        ap Ok (sym (outcomes_stay k w)) ∙ sym (ap (systems.reported stepped outcomes_at) f) ∙ on_world s more h.0 h.2 h.3 ∙ ap Ok (ap outcomes_at (sym same)) ∙ sym e.2
+    stays_at n s more (to.World j) end h e (Err (run.Full b m)) f =
+        let no : Err (run.Full b m) ≡ Ok (outcomes_at h.0) = sym (ap (systems.reported stepped outcomes_at) f) ∙ on_world s more h.0 h.2 h.3 in absurd (cc)
+    stays_at n s more (to.Fault j) end h e (Ok w) f =
+        let no : Err h.0 ≡ Ok (bare_place k n some w) = sym (on_fault s more h.0 h.2) ∙ f in absurd (cc)
+    stays_at n s more (to.Fault j) end h e (Err (run.Full b m)) f =
+        let here : h.0 ≡ run.Full b m = (let q : Err h.0 ≡ Err (run.Full b m) = sym (on_fault s more h.0 h.2) ∙ f in cc) in
+        let same : e.0 ≡ h.0 = same_Some e.0 h.0 (sym e.1 ∙ h.1) in
+        ap Err (sym (same ∙ here)) ∙ sym e.2
+    stays_at n s more l end h e (Err run.NoMemory) f = tt
+    stays_at n s more l end h e (Err (run.Spent g)) f = tt
+    stays_at n s more l end h e (Err (run.Lost g)) f = tt
+    stays_at n s more l end h e (Err run.NoWorker) f = tt
 
     pub reached : All (search.IsRight stepped outcomes_at kept.places kept.faults start) found → All (IsReached code k) answers
     reached right = all_from (IsReached code k) answers (λ i a e.
@@ -182,6 +250,5 @@ module _ (kept : Kept) (found : List Found) (answers : List OutcomeAnswer) (told
         let s = it.0.schedule.items in
         subst (λ t. IsReached code k record { schedule = t; end = a.end }) (sym it.2.schedule) (record {
           leads = λ n l. leads_at n s it.0.end a.end h it.2.ends (core code (counted k n) s) (core_fully code k some first n s l);
-          stays = λ n more w leads. stays_at n s more it.0.end a.end h it.2.ends w
-              (subst (λ x. Led k n some x (systems.run stepped (Ok start) (s ++ more))) leads (core_led code k some first n (s ++ more)));
+          stays = λ n more. stays_at n s more it.0.end a.end h it.2.ends (core code (counted k n) (s ++ more)) (core_led code k some first n (s ++ more));
         }))

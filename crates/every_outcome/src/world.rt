@@ -1,5 +1,5 @@
 //! One world of the core, as a search of outcomes sees it.
-ghost use Rattle.std.specs.Prelude.{◌≡◌, ◌≢◌, ◌⊎◌, ◌≤◌, length, map, IfOk, IfErr, Some, true, false};
+ghost use Rattle.std.specs.Prelude.{◌≡◌, ◌≢◌, ◌⊎◌, ◌≤◌, ℕ, map, IfOk, IfErr, Some, true, false};
 ghost use Rattle.std.specs.Prelude.{Ok as GoesWell, Err as Fails};
 ghost use Rattle.std.specs.List.{slice_get};
 ghost use Rattle.derived_ops.specs.Expansion.{code_of};
@@ -93,9 +93,9 @@ impl SeenWorld {
         })
     }
 
-    /// How many fibers are born.
+    /// How many fibers are born. An entry of another number changes nothing.
     pub(crate) fn born(&self) -> u16
-        ensures many { result ≡ length self.now.world.fibers }
+        ensures rests { (f : ℕ) → result ≤ f → stepped self.now f ≡ GoesWell self.now }
         ensures most { result ≤ 1000 }
     {
         // The registry is within its limits, and has given each of them its number.

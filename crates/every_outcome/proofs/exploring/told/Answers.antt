@@ -31,8 +31,8 @@ loop-it-preserved c =
           omega arith;
     }
 
-pub returns : goal.returns
-returns c =
+pub returns-clause-told : goal.returns-clause-told
+returns-clause-told c =
     let at = c.loop-it in
     let empty : into_iter_items at.it-iterator ≡ [] = nothing_left _ (sym at.invariant.left ∙ c.in-None.ensures.steps.0) in
     all_told c.args.worlds.now c.args.found.items at.answers.items
