@@ -66,9 +66,9 @@ module _ (w : World) (f : ℕ) (g : Fiber) (h : Lawful w) (at : slice_get w.fibe
   moved_fiber r i x e = elim (set_get w.fibers f i (move g r) x e) [
     | inl old ↦ (h.reached i x old, h.own i x old)
     | inr new ↦ (
-        subst Reached new.1 (reached.moved r (h.reached f g at)),
-        ap (λ (y : Fiber). y.number) (sym new.1) ∙ move_number g r ∙ h.own f g at ∙ sym new.0,
-      )
+      subst Reached new.1 (reached.moved r (h.reached f g at)),
+      ap (λ (y : Fiber). y.number) (sym new.1) ∙ move_number g r ∙ h.own f g at ∙ sym new.0,
+    )
   ]
 
   -- a child gets the next number

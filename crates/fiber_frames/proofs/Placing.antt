@@ -99,7 +99,7 @@ module _ (i : ℕ) (number : ℕ → ℕ → ℕ) where
       ap (λ (t : Bool). if t then 1 else one_on (place_in (map (number i) ms) (number g m))) (h.0 g m)
       ∙ ap (λ (j : ℕ). if nat_eq g i && nat_eq m a then 1 else one_on j) (place_to ms h.1 g m)
       ∙ elim (nat_eq g i) as (λ t. ◌≡◌ {A = ℕ} (if t && nat_eq m a then 1 else one_on (if t then place_in ms m else 0))
-          (if t then (if nat_eq m a then 1 else one_on (place_in ms m)) else 0)) [
+      (if t then (if nat_eq m a then 1 else one_on (place_in ms m)) else 0)) [
         | true ↦ refl
         | false ↦ refl
       ]
@@ -125,7 +125,7 @@ same_unmarked a b number h n w l =
     ap (λ (i : ℕ). make i (run_unmarked i b.running) b.look (suc (length (masks_of b.running)))) n
     ∙ ap (λ (w : Running). make a.number (run_unmarked a.number w) b.look (suc (length (masks_of w)))) w
     ∙ ap (λ (l : Look). make a.number (run_unmarked a.number (run_renumbered a.number (all_own a.number number) a.running)) l
-        (suc (length (masks_of (run_renumbered a.number (all_own a.number number) a.running))))) l
+    (suc (length (masks_of (run_renumbered a.number (all_own a.number number) a.running))))) l
     ∙ ap₂ (λ (w : Running) (k : ℕ). make a.number w a.look (suc k)) (run_places a.number number a.running h) (many_to a.number number a.running)
 
 -- one more mask

@@ -139,7 +139,7 @@ module _ (i : ℕ) (to : ℕ → ℕ → Mask) (closed : (p : Put) (g m : ℕ) �
         let ended : RunAlike (root_row i next b (end_of t) a) (root_row i n b' (end_of (renumbered i to t)) a') =
         subst (λ E. RunAlike (root_row i next b (end_of t) a) (root_row i n b' E a')) (sym (end_to i to closed own next n r t)) rooted in
         subst (λ x. RunAlike x (row_at i n r (focus (Final (number_to i to m) (renumbered i to t ∷ all_renumbered i to gs)))
-            (Final (number_to i to m) (renumbered i to t ∷ all_renumbered i to gs)))) (sym here)
+        (Final (number_to i to m) (renumbered i to t ∷ all_renumbered i to gs)))) (sym here)
         (subst (RunAlike (root_row i next b (end_of t) a)) (sym there) ended)
     run_alike (Over o) g h = record { call = refl; becomes = refl; kind = refl }
     run_alike Broken g h = record { call = refl; becomes = refl; kind = refl }

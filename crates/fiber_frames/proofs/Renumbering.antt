@@ -265,7 +265,7 @@ module _ (i : ℕ) (to : ℕ → ℕ → Mask) (closed : (p : Put) (g m : ℕ) �
     looped_to Always e = refl
     looped_to (Times v) e =
         elim (is_positive v) as (λ t. (if t then Seq Last (R e) (Loop (Times (one_less v)) (R e)) else unit) ≡
-            R (if t then Seq Last e (Loop (Times (one_less v)) e) else unit)) [
+        R (if t then Seq Last e (Loop (Times (one_less v)) e) else unit)) [
           | true ↦ refl
           | false ↦ refl
         ]

@@ -379,8 +379,8 @@ module _ (m n : Machine) where
       let es = map (entry_placed m.own ms) m.env.items in
       let s = stage_placed m.own ms m.stage in
       let running : run_unmarked m.own (running_of (state_of m)) ≡
-          running_in s (whole (map (step_of m.words.value es m.own) (reverse fs)) (leaf_of m.words.value es (leaf_in m.place)))
-          (map (finalizer_of m.words.value es) (reverse m.finalizers.items)) =
+      running_in s (whole (map (step_of m.words.value es m.own) (reverse fs)) (leaf_of m.words.value es (leaf_in m.place)))
+      (map (finalizer_of m.words.value es) (reverse m.finalizers.items)) =
       ap (λ (k : List ℕ). run_renumbered m.own (placed_in m.own k) (running_of (state_of m)))
       (run_masks m.own m.words.value m.env.items m.stage m.frames.items (leaf_in m.place) (finalizers_of (state_of m)))
       ∙ made_to m.own ms m.words.value m.env.items m.stage m.frames.items (leaf_in m.place) (reverse m.finalizers.items) in

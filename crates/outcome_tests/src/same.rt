@@ -68,8 +68,11 @@ fn is_same_fault(one: RunError, other: RunError) -> bool {
 
 // Whether each answer with marks has one without, and the other way round.
 fn are_alike(ones: &[Answer], others: &[OutcomeAnswer]) -> bool {
-    ones.iter().all(|one| others.iter().any(|other| is_alike(one, other)))
-        && others.iter().all(|other| ones.iter().any(|one| is_alike(one, other)))
+    ones.iter()
+        .all(|one| others.iter().any(|other| is_alike(one, other)))
+        && others
+            .iter()
+            .all(|other| ones.iter().any(|one| is_alike(one, other)))
 }
 
 #[test]
@@ -92,7 +95,11 @@ fn programs_that_end_have_the_same_outcomes(rt: HostRuntime) -> Result<(), Fail>
         };
         assert!(rt; full.complete && found.complete, "{}", text);
         assert!(rt; found.worlds <= full.worlds, "{}", text);
-        assert!(rt; are_alike(full.answers.as_slice(), found.answers.as_slice()), "{}", text);
+        assert!(rt;
+            are_alike(full.answers.as_slice(), found.answers.as_slice()),
+            "{}",
+            text
+        );
     }
     Ok(())
 }
