@@ -8,7 +8,7 @@ use Rattle.effect_term.specs.declared.reply.Reply.{Reply}
 use Rattle.effect_term.specs.declared.reply.Reply.TheVariants as reply
 use Rattle.fiber_frames.specs.Fiber.{Cuts, Fiber, Looks, Move_case, Reduces, Rests, ask_of, begins, child, move, move_case, move_in, outcome_of, silent_move}
 use Rattle.fiber_frames.specs.Reached.{Reached}
-use Rattle.fiber_frames.specs.Reached as reached
+use Rattle.fiber_frames.specs.Reached as steps
 use Rattle.fiber_frames.specs.Rows.{number_in}
 use Rattle.cell_registry.specs.declared.limits.Limits.{Limits}
 use Rattle.cell_registry.specs.declared.limits.CellError.{CellError}
@@ -66,7 +66,7 @@ module _ (w : World) (f : ℕ) (g : Fiber) (h : Lawful w) (at : slice_get w.fibe
   moved_fiber r i x e = elim (set_get w.fibers f i (move g r) x e) [
     | inl old ↦ (h.reached i x old, h.own i x old)
     | inr new ↦ (
-      subst Reached new.1 (reached.moved r (h.reached f g at)),
+      subst Reached new.1 (steps.moved r (h.reached f g at)),
       ap (λ (y : Fiber). y.number) (sym new.1) ∙ move_number g r ∙ h.own f g at ∙ sym new.0,
     )
   ]
@@ -76,7 +76,7 @@ module _ (w : World) (f : ℕ) (g : Fiber) (h : Lawful w) (at : slice_get w.fibe
   child_fiber n e =
       let low = slice_get_within w.fibers f g at in
       let own = h.own f g at in
-      reached.born n (omega (arith, e, own, low)) (h.reached f g at)
+      steps.born n (omega (arith, e, own, low)) (h.reached f g at)
 
   lawful_alone : Lawful record { fibers = set w.fibers f (silent_move g); cells = w.cells }
   lawful_alone = record {

@@ -74,9 +74,14 @@ outcomes_told : (gs : List Fiber) → map (λ (r : FiberReport). r.outcome) (map
 outcomes_told [] = refl
 outcomes_told (g ∷ gs) = ap (λ (l : List (Option Outcome)). outcome_of g ∷ l) (outcomes_told gs)
 
+reports : Result Report RunError → List FiberReport
+reports (Ok r) = r.fibers
+reports (Err e) = []
+
 same_outcomes : (v w : World) → reported (Ok v) ≡ reported (Ok w) → map outcome_of v.fibers ≡ map outcome_of w.fibers
+unfolding reports
 same_outcomes v w e =
-    let same : map fiber_report v.fibers ≡ map fiber_report w.fibers = cc in
+    let same : map fiber_report v.fibers ≡ map fiber_report w.fibers = ap reports e in
     sym (outcomes_told v.fibers) ∙ ap (map (λ (r : FiberReport). r.outcome)) same ∙ outcomes_told w.fibers
 
 module _ (k : Limits) (n : ℕ) (some : 0 < k.count) where

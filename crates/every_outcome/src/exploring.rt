@@ -1,5 +1,5 @@
 //! The outcomes that a program can have under every schedule.
-ghost use Rattle.std.specs.Prelude.{◌≡◌, ◌<◌, ◌≤◌, ℕ, List, length, max, IfOk, IfErr, true};
+ghost use Rattle.std.specs.Prelude.{◌≡◌, ◌<◌, ◌≤◌, ℕ, List, length, max, IfOk, IfErr, true, false};
 ghost use Rattle.std.specs.Prelude.{Ok as GoesWell};
 ghost use Rattle.std.specs.List.{All};
 ghost use Rattle.derived_ops.specs.Expansion.{code_of};
@@ -7,6 +7,7 @@ ghost use Rattle.derived_ops.specs.Reading.{source_of};
 ghost use Rattle.cell_registry.specs.Cells.{AreLimits};
 ghost use Rattle.scheduled_core.specs.Core.{World, core};
 ghost use Rattle.scheduled_core.specs.Finals.{IsSettled};
+ghost use Rattle.world_search.specs.Answers.{IsAtBound};
 ghost use Rattle.every_outcome.specs.Outcomes.{IsCovered, IsListed, IsReached, ListOnce, counted};
 ghost use Rattle.every_outcome.specs.Outcomes.{outcomes};
 ghost use Rattle.every_outcome.specs.Private.Keeping.{AreSingle};
@@ -50,6 +51,7 @@ pub fn explore_outcomes<V: Watcher>(
         IsSettled (counted limits count) w → IsListed it.answers.items (outcomes (GoesWell w))) }
     ensures each { IfOk result (λ it. All (IsReached (code_of (source_of program.now)) limits) it.answers.items) }
     ensures once { IfOk result (λ it. ListOnce it.answers.items) }
+    ensures stopped { IfOk result (λ it. it.complete ≡ false → IsAtBound bounds it.worlds it.bytes) }
     ensures room { IfOk result (λ it. it.worlds ≤ max bounds.worlds 1) }
     ensures spare { IfOk result (λ it. it.complete ≡ true → it.bytes < bounds.memory) }
     ensures numbers { IfOk result (λ it. All (λ a. All (λ f. f < 1000) a.schedule) it.answers.items) }

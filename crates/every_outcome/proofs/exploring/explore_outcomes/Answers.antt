@@ -51,3 +51,7 @@ pub returns-clause-short : goal.returns-clause-short
 returns-clause-short g c =
     short c.search.new.worlds c.in_ok-found.found.answers.items c.in_ok-answers.answers.items c.in_ok-answers.ensures.told c.args.bounds.entries
     c.in_ok-found.ensures.short
+
+pub returns-clause-stopped : goal.returns-clause-stopped
+returns-clause-stopped g c = λ incomplete.
+    c.in_ok-found.ensures.stopped incomplete (ap (λ (l : List Place). length l) c.in_ok-worlds.ensures.places)
