@@ -45,7 +45,6 @@ impl FiberShape {
     ///
     /// The fiber and its shape ask for the same and have the same outcome, and after a move under any reply they have
     /// the same shape again, and so have their children.
-    #[tactic(auto, using(crate::proofs::Unmarking::ask_unmarked, crate::proofs::Unmarking::move_unmarked, crate::proofs::Unmarking::child_unmarked, crate::proofs::Unmarking::unmarked_outcome))]
     pub fn of(alloc: Global, fiber: &Config) -> Result<FiberShape, AllocError>
         ensures shape { IfOk result (λ it. it ≡ unmarked fiber.now) }
         ensures asks { IfOk result (λ it. ask_of it ≡ ask_of fiber.now) }
@@ -77,7 +76,6 @@ impl FiberShape {
 
 impl Machine {
     // The machine of the fiber without its marks.
-    #[tactic(auto, using(crate::proofs::Shaping::shape_unmarked))]
     fn shape(&self, alloc: Global) -> Result<Machine, AllocError>
         ensures { IfOk result (λ it. fiber_in it ≡ unmarked (fiber_in self.now)) }
     {
