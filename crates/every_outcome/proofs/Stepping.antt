@@ -23,6 +23,7 @@ use Rattle.scheduled_core.specs.declared.wish.Wish.TheVariants.{Shared, Alone, N
 use Rattle.scheduled_core.specs.Core.{World, answered, born, called, entered, turned, wish_of, wished}
 use Rattle.every_outcome.specs.Outcomes.{counted}
 use Rattle.every_outcome.specs.Places.{Place, outcomes_at, stepped, unmarked_after, unmarked_place, unmarked_world}
+use Rattle.every_outcome.specs.Private.Keeping.{IsFull}
 use Rattle.every_outcome.proofs.Cells.{Refused, plain_after, plain_cells, plain_is, plain_refusal, plain_reply, plain_twice}
 
 -- ---- fibers
@@ -112,10 +113,8 @@ module _ (k : Limits) (n : ℕ) (some : 0 < k.count) (w : World) (f : ℕ) where
       sym (map-set unmarked w.fibers f (silent_move g)))
       (plain_twice w.cells)
       ∙ sym (plain_world (set w.fibers f (silent_move g)) w.cells))
-  wished_same g h Nothing = stays
-    where
-      stays : Ok (let q : Place = record { limits = k; world = unmarked_world bare } in q) ≡ Ok record { limits = k; world = unmarked_world w }
-      stays = ap (λ (v : World). Ok (let q : Place = record { limits = k; world = v } in q)) (ap unmarked_world (sym (plain_world w.fibers w.cells)) ∙ world_again w)
+  wished_same g h Nothing =
+      ap (λ (v : World). Ok (let q : Place = record { limits = k; world = v } in q)) (ap unmarked_world (sym (plain_world w.fibers w.cells)) ∙ world_again w)
 
   turned_same : ((g : Fiber) → slice_get w.fibers f ≡ Some g → Reached g) → (o : Option Fiber) → slice_get w.fibers f ≡ o →
       Same (turned (counted k n) w f o) (unmarked_after k (turned k bare f (option_map unmarked o)))
@@ -144,8 +143,12 @@ module _ (k : Limits) (some : 0 < k.count) (w : World) (f : ℕ) (h : (g : Fiber
   pub step_goes : (v : World) → entered k (Ok w) f ≡ Ok v → stepped here f ≡ Ok record { limits = k; world = unmarked_world v }
   step_goes v e = subst (λ x. Same k k.count some w f x (stepped here f)) e here_same
 
-  pub step_full : (b : _) (m : ℕ) → entered k (Ok w) f ≡ Err (run.Full b m) → stepped here f ≡ Err (run.Full b m)
-  step_full b m e = subst (λ x. Same k k.count some w f x (stepped here f)) e here_same
+  pub step_full : (e : RunError) → IsFull e → entered k (Ok w) f ≡ Err e → stepped here f ≡ Err e
+  step_full (run.Full b m) full e = subst (λ x. Same k k.count some w f x (stepped here f)) e here_same
+  step_full run.NoMemory full e = absurd full
+  step_full (run.Spent g) full e = absurd full
+  step_full (run.Lost g) full e = absurd full
+  step_full run.NoWorker full e = absurd full
 
 -- a fiber that isn't born changes nothing
 get_past : (gs : List Fiber) (f : ℕ) → length gs ≤ f → slice_get gs f ≡ None

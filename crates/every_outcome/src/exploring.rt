@@ -106,7 +106,7 @@ fn end(worlds: &SeenWorlds, found: Landing) -> Result<Result<Outcomes, RunError>
     ensures { IfOk result (λ end. IsEnd worlds.now found end) }
 {
     match found {
-        Landing::World(world) => Ok(Ok(Outcomes::new(worlds.outcomes(world)?))),
+        Landing::World(world) => Ok(Ok(worlds.outcomes(world)?)),
         Landing::Fault(number) => Ok(Err(worlds.fault(number))),
     }
 }

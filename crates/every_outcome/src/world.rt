@@ -8,6 +8,7 @@ ghost use Rattle.fiber_frames.specs.Fiber.{Fiber, begins, outcome_of};
 ghost use Rattle.fiber_frames.specs.Reached.{Reached};
 ghost use Rattle.cell_registry.specs.Cells.{AreLimits};
 ghost use Rattle.scheduled_core.specs.Fitting.{AllFit, world_of};
+ghost use Rattle.every_outcome.specs.Private.Keeping.{IsFull};
 ghost use Rattle.every_outcome.specs.Places.{first_place, outcomes_at, stepped, unmarked_world};
 
 use crate::shape::WorldShape;
@@ -116,8 +117,7 @@ impl SeenWorld {
         let mut registry = self.registry.copy(alloc)?;
         match enter(&mut fibers, &mut registry, fiber) {
             Ok(()) => Ok(SeenWorld::new(alloc, fibers, registry)?),
-            Err(RunError::Full(band, limit)) => Err(RunError::Full(band, limit)),
-            Err(_) => Err(RunError::NoMemory),
+            Err(fault) => Err(full_or_memory(fault)),
         }
     }
 
@@ -167,6 +167,18 @@ const FIBER: usize = 480;
 // About how many bytes a registry takes.
 fn size_of_registry(limits: Limits) -> usize {
     160 + 32 * limits.fibers as usize + 8 * limits.refs as usize + 16 * limits.deferreds as usize
+}
+
+// The fault, if the numbers of a band are used up, and else that memory ran out.
+fn full_or_memory(fault: RunError) -> RunError
+    ensures { (result ≡ RunError.NoMemory) ⊎ ((result ≡ fault) × IsFull fault) }
+{
+    match fault {
+        RunError::Full(_, _) => fault,
+        RunError::Spent(_) | RunError::NoMemory | RunError::Lost(_) | RunError::NoWorker => {
+            RunError::NoMemory
+        }
+    }
 }
 
 // The fiber of this number, if it is born, is one that a program's can become.

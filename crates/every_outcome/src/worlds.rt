@@ -15,7 +15,7 @@ use crate::faults::Faults;
 use crate::outcomes::Outcomes;
 use crate::world::SeenWorld;
 use cell_registry::{Limits, RunError};
-use effect_term::{Outcome, Program};
+use effect_term::Program;
 use std::alloc::{AllocError, Global};
 use std::collections::HashMap;
 use std::marker::Model;
@@ -121,12 +121,12 @@ impl SeenWorlds {
     }
 
     /// The outcomes of a world's fibers.
-    pub(crate) fn outcomes(&self, world: usize) -> Result<Vec<Option<Outcome>>, AllocError>
+    pub(crate) fn outcomes(&self, world: usize) -> Result<Outcomes, AllocError>
         requires { world < length self.now.places }
-        ensures { IfOk result (λ it. (p : Place) → slice_get self.now.places world ≡ Some p →
-            it.items ≡ outcomes_at p) }
+        ensures { IfOk result (λ it. (p : Place) → slice_get self.now.places world ≡ Some p → it ≡ outcomes_at p) }
     {
-        self.worlds[world].outcomes(self.alloc)
+        let outcomes = self.worlds[world].outcomes(self.alloc)?;
+        Ok(Outcomes::new(outcomes))
     }
 
     /// A fault that was met.

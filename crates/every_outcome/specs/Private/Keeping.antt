@@ -1,6 +1,8 @@
 -- What becomes of a world that is to be kept.
 use Rattle.std.specs.Prelude.{◌≡◌, ℕ, List, Some}
 use Rattle.std.specs.List.{slice_get}
+use Rattle.cell_registry.specs.declared.limits.RunError.{RunError}
+use Rattle.cell_registry.specs.declared.limits.RunError.TheVariants as run
 use Rattle.world_search.specs.declared.landings.Landing.TheVariants as to
 use Rattle.world_search.specs.declared.landings.Entered.{Entered}
 use Rattle.world_search.specs.declared.landings.Entered.TheVariants as came
@@ -15,3 +17,8 @@ IsKept ps came.Full p = Unit {0}
 -- none of them is there twice
 abbrev pub AreSingle : {A : Type 0} → List A → Type 0
 AreSingle xs = (i j : ℕ) (x : _) → slice_get xs i ≡ Some x → slice_get xs j ≡ Some x → i ≡ j
+
+-- the numbers of a band are used up
+abbrev pub IsFull : RunError → Type 0
+IsFull (run.Full band n) = Unit {0}
+IsFull _ = ⊥

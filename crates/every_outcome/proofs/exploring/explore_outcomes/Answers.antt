@@ -19,7 +19,7 @@ returns-clause-all g c = λ complete count schedule.
     let start = first_place code c.args.limits in
     let first : slice_get c.in_ok-worlds.worlds.places 0 ≡ Some start = ap (λ (l : List Place). slice_get l 0) c.in_ok-worlds.ensures.places in
     covered c.search.new.worlds c.in_ok-found.found.answers.items c.in_ok-answers.answers.items c.in_ok-answers.ensures.told code c.args.limits
-    c.requires.some_count c.in_ok-worlds.ensures.reached count schedule (c.in_ok-found.ensures.all complete start first schedule)
+    c.requires.limits.some_count c.in_ok-worlds.ensures.reached count schedule (c.in_ok-found.ensures.all complete start first schedule)
 
 pub returns-clause-settled : goal.returns-clause-settled
 returns-clause-settled g c = λ complete count schedule w leads stays.
@@ -27,7 +27,7 @@ returns-clause-settled g c = λ complete count schedule w leads stays.
     let start = first_place code c.args.limits in
     let first : slice_get c.in_ok-worlds.worlds.places 0 ≡ Some start = ap (λ (l : List Place). slice_get l 0) c.in_ok-worlds.ensures.places in
     settled c.search.new.worlds c.in_ok-found.found.answers.items c.in_ok-answers.answers.items c.in_ok-answers.ensures.told code c.args.limits
-    c.requires.some_count c.in_ok-worlds.ensures.reached count schedule w (c.in_ok-found.ensures.all complete start first schedule) leads stays
+    c.requires.limits.some_count c.in_ok-worlds.ensures.reached count schedule w (c.in_ok-found.ensures.all complete start first schedule) leads stays
 
 pub returns-clause-each : goal.returns-clause-each
 returns-clause-each g c =
@@ -35,7 +35,7 @@ returns-clause-each g c =
     let start = first_place code c.args.limits in
     let first : slice_get c.in_ok-worlds.worlds.places 0 ≡ Some start = ap (λ (l : List Place). slice_get l 0) c.in_ok-worlds.ensures.places in
     reached c.search.new.worlds c.in_ok-found.found.answers.items c.in_ok-answers.answers.items c.in_ok-answers.ensures.told code c.args.limits
-    c.requires.some_count c.in_ok-worlds.ensures.reached (c.in_ok-found.ensures.each start first)
+    c.requires.limits.some_count c.in_ok-worlds.ensures.reached (c.in_ok-found.ensures.each start first)
 
 pub returns-clause-once : goal.returns-clause-once
 returns-clause-once g c =
