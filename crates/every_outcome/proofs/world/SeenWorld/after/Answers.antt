@@ -12,8 +12,8 @@ use Rattle.every_outcome.specs.Private.Keeping.{IsFull}
 use Rattle.every_outcome.proofs.Stepping.{step_full, step_goes}
 use Rattle.every_outcome.proofs.world.SeenWorld.after.Goals as goal
 
-pub returns-in-Ok-clause-goes : goal.returns-in-Ok-clause-goes
-returns-in-Ok-clause-goes c =
+pub returns-in_ok-new-in-Ok-clause-goes : goal.returns-in_ok-new-in-Ok-clause-goes
+returns-in_ok-new-in-Ok-clause-goes c =
     let s = c.self.inside in
     let k : Limits = s.registry.limits in
     let w : World = world_of s.fibers.items s.registry.state in
