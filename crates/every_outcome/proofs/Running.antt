@@ -1,30 +1,28 @@
 -- A schedule leads on from a world of the core as from the same world without marks, counts and notes.
-use Rattle.std.proofs.Common.{◌≡◌, ◌≢◌, ◌⊎◌, inl, inr, ◌<◌, ◌≤◌, ℕ, zero, suc, ◌+◌, List, [], ◌∷◌, ◌++◌, length, map, set, Option, Some, None, Result, Ok, Err, refl, sym, ap, ap₂, ◌∙◌, subst, arith, get_or, replicate, length-append}
+use Rattle.std.proofs.Common.{◌≡◌, ◌⊎◌, inl, inr, ◌<◌, ◌≤◌, ℕ, zero, suc, ◌+◌, List, [], ◌∷◌, ◌++◌, length, set, Option, Some, None, Result, Ok, Err, refl, sym, ap, ◌∙◌, subst, arith, get_or, replicate, length-append}
 use Rattle.std.specs.List.{fold, slice_get}
 use Rattle.std.proofs.lemmas.Option.{same_Some, slice_get_within}
 use Rattle.derived_ops.specs.Tree.{Tree}
-use Rattle.effect_term.specs.declared.reply.Outcome.{Outcome}
 use Rattle.effect_term.specs.declared.reply.Reply.{Reply}
 use Rattle.effect_term.specs.declared.reply.Reply.TheVariants as reply
-use Rattle.fiber_frames.specs.Fiber.{Cuts, Fiber, Looks, Move_case, Reduces, Rests, ask_of, begins, child, move, move_case, move_in, outcome_of, silent_move}
+use Rattle.fiber_frames.specs.Fiber.{Cuts, Fiber, Looks, Move_case, Reduces, Rests, ask_of, begins, child, move, move_case, move_in, silent_move}
 use Rattle.fiber_frames.specs.Reached.{Reached}
 use Rattle.fiber_frames.specs.Reached as steps
 use Rattle.fiber_frames.specs.Rows.{number_in}
 use Rattle.cell_registry.specs.declared.limits.Limits.{Limits}
 use Rattle.cell_registry.specs.declared.limits.CellError.{CellError}
-use Rattle.cell_registry.specs.declared.limits.CellError.TheVariants as cell
 use Rattle.cell_registry.specs.declared.limits.RunError.{RunError}
 use Rattle.cell_registry.specs.declared.limits.RunError.TheVariants as run
 use Rattle.cell_registry.specs.declared.call.Call.{Call}
 use Rattle.cell_registry.specs.declared.call.Call.TheVariants as call
-use Rattle.cell_registry.specs.Cells.{Cells, after, cell_of, fresh, opening, refusal, reply_of}
+use Rattle.cell_registry.specs.Cells.{after, cell_of, fresh, refusal, reply_of}
 use Rattle.scheduled_core.specs.declared.wish.Wish.{Wish}
 use Rattle.scheduled_core.specs.declared.wish.Wish.TheVariants.{Shared, Alone, Nothing}
-use Rattle.scheduled_core.specs.Core.{World, answered, born, called, core, entered, fault_of, first_world, turned, wish_of, wished}
+use Rattle.scheduled_core.specs.Core.{World, answered, born, called, core, entered, first_world, turned, wish_of, wished}
 use Rattle.scheduled_core.proofs.Lists.{parted}
 use Rattle.world_search.specs.Systems as search
 use Rattle.every_outcome.specs.Outcomes.{counted}
-use Rattle.every_outcome.specs.Places.{Place, first_place, stepped, unmarked_after, unmarked_world}
+use Rattle.every_outcome.specs.Places.{Place, first_place, stepped, unmarked_world}
 use Rattle.every_outcome.proofs.Cells.{AtMost, count_after}
 use Rattle.every_outcome.proofs.Stepping.{Same, step_same}
 

@@ -5,7 +5,7 @@ use Rattle.std.proofs.lemmas.List.{map-append, map-set}
 use Rattle.effect_term.specs.declared.reply.Outcome.{Outcome}
 use Rattle.effect_term.specs.declared.reply.Reply.{Reply}
 use Rattle.effect_term.specs.declared.reply.Reply.TheVariants as reply
-use Rattle.fiber_frames.specs.Fiber.{Fiber, ask_of, child, move, outcome_of, silent_move}
+use Rattle.fiber_frames.specs.Fiber.{Fiber, ask_of, move, outcome_of, silent_move}
 use Rattle.fiber_frames.specs.Reached.{Reached}
 use Rattle.fiber_frames.specs.Rows.{number_in}
 use Rattle.fiber_frames.specs.Unmarked.{unmarked}
@@ -17,12 +17,12 @@ use Rattle.cell_registry.specs.declared.limits.RunError.{RunError}
 use Rattle.cell_registry.specs.declared.limits.RunError.TheVariants as run
 use Rattle.cell_registry.specs.declared.call.Call.{Call}
 use Rattle.cell_registry.specs.declared.call.Call.TheVariants as call
-use Rattle.cell_registry.specs.Cells.{Cells, after, cell_of, refusal, reply_of, without_counts, without_waits}
+use Rattle.cell_registry.specs.Cells.{Cells, after, cell_of, refusal, reply_of}
 use Rattle.scheduled_core.specs.declared.wish.Wish.{Wish}
 use Rattle.scheduled_core.specs.declared.wish.Wish.TheVariants.{Shared, Alone, Nothing}
 use Rattle.scheduled_core.specs.Core.{World, answered, born, called, entered, turned, wish_of, wished}
 use Rattle.every_outcome.specs.Outcomes.{counted}
-use Rattle.every_outcome.specs.Places.{Place, outcomes_at, stepped, unmarked_after, unmarked_place, unmarked_world}
+use Rattle.every_outcome.specs.Places.{Place, outcomes_at, stepped, unmarked_after, unmarked_world}
 use Rattle.every_outcome.specs.Private.Keeping.{IsFull}
 use Rattle.every_outcome.proofs.Cells.{Refused, plain_after, plain_cells, plain_is, plain_refusal, plain_reply, plain_twice}
 

@@ -1,5 +1,5 @@
 -- What a search promises of its answers, said of the answers that are told.
-use Rattle.std.proofs.Common.{◌≡◌, ◌≢◌, inl, inr, ℕ, ◌+◌, ◌<◌, ◌≤◌, List, [], ◌∷◌, ◌++◌, length, map, refl, Option, Result, Ok, Err, sym, ap, ap₂, ◌∙◌, subst, arith, get_or}
+use Rattle.std.proofs.Common.{◌≡◌, ◌≢◌, inl, inr, ℕ, ◌+◌, ◌<◌, ◌≤◌, List, [], ◌∷◌, ◌++◌, length, map, refl, Option, Result, Ok, Err, sym, ap, ◌∙◌, subst, arith, get_or}
 use Rattle.std.specs.Prelude.{Some}
 use Rattle.std.specs.List.{All, fold, slice_get}
 use Rattle.std.proofs.lemmas.Option.{get_or_from_slice_get, same_Some, slice_get-get_or, slice_get_cases, slice_get_within}
@@ -23,7 +23,7 @@ use Rattle.world_search.specs.Systems as systems
 use Rattle.world_search.proofs.Closed.{run-append}
 use Rattle.every_outcome.specs.declared.outcomes.OutcomeAnswer.{OutcomeAnswer}
 use Rattle.every_outcome.specs.Outcomes.{Agrees, IsCovered, IsListed, IsReached, KeepsOutcomes, ListOnce, counted, outcomes}
-use Rattle.every_outcome.specs.Places.{Kept, Place, first_place, outcomes_at, stepped, unmarked_world}
+use Rattle.every_outcome.specs.Places.{Kept, Place, first_place, outcomes_at, stepped}
 use Rattle.every_outcome.specs.Private.Keeping.{AreSingle}
 use Rattle.every_outcome.specs.Private.Telling.{AreTold, IsEnd, IsTold, IsWithin}
 use Rattle.every_outcome.proofs.Stepping.{outcomes_stay}

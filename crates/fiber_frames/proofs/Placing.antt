@@ -1,5 +1,5 @@
 -- The places of masks: each of those that are listed has one of its own, and who is renumbered so keeps the places.
-use Rattle.std.proofs.Common.{◌≡◌, ◌≢◌, ◌<◌, ℕ, zero, suc, ◌+◌, Bool, true, false, if◌then◌else◌, nat_eq, List, [], ◌∷◌, ◌++◌, length, map, refl, sym, ap, ap₂, ◌∙◌, subst, arith}
+use Rattle.std.proofs.Common.{◌≡◌, ◌≢◌, ◌<◌, ℕ, zero, suc, Bool, true, false, if◌then◌else◌, nat_eq, List, [], ◌∷◌, ◌++◌, length, map, refl, sym, ap, ap₂, ◌∙◌, subst, arith}
 use Rattle.std.specs.Prelude.{◌&&◌}
 use Rattle.std.proofs.lemmas.Bool.{eq-eqb, eqb-false, eqb-true, ne_eqb}
 use Rattle.std.proofs.lemmas.List.{length-map}
@@ -7,7 +7,7 @@ use Rattle.derived_ops.specs.Tree.{Mask, Named, Pair}
 use Rattle.fiber_frames.specs.declared.ask.Look.{Look}
 use Rattle.fiber_frames.specs.Path.{Running, same_mask}
 use Rattle.fiber_frames.specs.Fiber.{Fiber}
-use Rattle.fiber_frames.specs.Unmarked.{mask_to, masks_of, number_to, one_on, own_place, place_in, placed_in, run_renumbered, run_unmarked, unmarked}
+use Rattle.fiber_frames.specs.Unmarked.{mask_to, masks_of, one_on, own_place, place_in, placed_in, run_renumbered, run_unmarked, unmarked}
 use Rattle.fiber_frames.proofs.Composing.{both, masks_of_to, run_twice, same_to}
 use Rattle.fiber_frames.proofs.Renumbering.{Each}
 

@@ -1,5 +1,5 @@
 -- What a row leaves on the focus path: masks that were there, and the one that it enters.
-use Rattle.std.proofs.Common.{◌≡◌, ◌⊎◌, inl, inr, ℕ, ◌+◌, Bool, true, false, if◌then◌else◌, List, [], ◌∷◌, Option, Some, None, refl, sym, subst}
+use Rattle.std.proofs.Common.{◌≡◌, ◌⊎◌, inl, inr, ℕ, ◌+◌, true, false, if◌then◌else◌, List, [], ◌∷◌, Option, Some, None, refl, sym, subst}
 use Rattle.derived_ops.specs.Put.{Put, Put_handle, Put_mask, Put_value, put}
 use Rattle.derived_ops.specs.Tree.{Act, Always, Cancel, Guarded, Handle, Handled, If0, Join, Last, Let, Loop, Make, Mask, Masked}
 use Rattle.derived_ops.specs.Tree.{New_deferred, New_ref, Note, On_cancel, Pair, Poll, Polled, Pure, Raise, Seq, Start, Times, Tree, Turns, Uncancelable}

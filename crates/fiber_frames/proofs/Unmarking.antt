@@ -3,23 +3,20 @@ use Rattle.std.proofs.Common.{◌≡◌, ◌≢◌, ◌<◌, ℕ, zero, suc, ◌
 use Rattle.std.proofs.lemmas.Bool.{eq-eqb}
 use Rattle.derived_ops.specs.Put.{Put, mask_at}
 use Rattle.derived_ops.specs.Tree.{Mask, Pair, Tree}
-use Rattle.effect_term.specs.declared.reply.Outcome.{Outcome}
 use Rattle.effect_term.specs.declared.reply.Reply.{Reply}
 use Rattle.effect_term.specs.declared.reply.Reply.TheVariants as reply
-use Rattle.fiber_frames.specs.declared.ask.Ask.{Ask}
 use Rattle.fiber_frames.specs.Path.{Broken, Final, Over, Running, Runs}
 use Rattle.fiber_frames.specs.Rows.{Born, Ceded, Ended, Plain, RowKind, Waited}
 use Rattle.fiber_frames.specs.Fiber.{Cuts, Fiber, Looks, Move_case, Reduces, Rests, ask_of, begins, child, kind_of, move, move_case, move_in, outcome_of, outcome_in, term_born}
 use Rattle.fiber_frames.specs.Reached.{Reached}
-use Rattle.fiber_frames.specs.Unmarked.{mask_to, masks_of, masks_on, number_to, own_place, place_in, placed_in, renumbered, run_renumbered, run_unmarked, unmarked}
+use Rattle.fiber_frames.specs.Unmarked.{masks_of, masks_on, number_to, own_place, place_in, placed_in, renumbered, run_renumbered, run_unmarked, unmarked}
 use Rattle.fiber_frames.proofs.Marks.Cutting.{Static}
-use Rattle.fiber_frames.proofs.Marks.Kept.{Kept}
 use Rattle.fiber_frames.proofs.Marks.Runs.{LiveRun, live_run}
 use Rattle.fiber_frames.proofs.Reaching.{reached_kept}
 use Rattle.fiber_frames.proofs.Renumbering.{Each, IsKept, kind_renumbered}
-use Rattle.fiber_frames.proofs.RenumberedMoves.{Onward, fiber_to, onward, same_ask, same_kind}
+use Rattle.fiber_frames.proofs.RenumberedMoves.{fiber_to, onward, same_ask, same_kind}
 use Rattle.fiber_frames.proofs.Composing.{both, masks_of_to, run_twice, same_to, twice}
-use Rattle.fiber_frames.proofs.Placing.{Faithful, HasPlace, all_placed, each_append, each_map, faithful_kept, one_place, place_last, place_other, placed_faithful, same_unmarked}
+use Rattle.fiber_frames.proofs.Placing.{Faithful, HasPlace, all_placed, each_map, faithful_kept, place_last, place_other, placed_faithful, same_unmarked}
 use Rattle.fiber_frames.proofs.Freshness.{Fresh, each_own, next_free, past_free, past_fresh, past_in, reached_fresh}
 use Rattle.fiber_frames.proofs.MoveSpines.{child_static, move_on}
 use Rattle.fiber_frames.proofs.Spines.{static_on}

@@ -1,6 +1,6 @@
-use Rattle.std.proofs.Common.{◌≡◌, ◌<◌, ◌≤◌, List, length, sym, ap, subst}
+use Rattle.std.proofs.Common.{◌≡◌, List, length, ap}
 use Rattle.std.specs.Prelude.{Some}
-use Rattle.std.specs.List.{All, slice_get}
+use Rattle.std.specs.List.{slice_get}
 use Rattle.derived_ops.specs.Expansion.{code_of}
 use Rattle.derived_ops.specs.Reading.{source_of}
 use Rattle.every_outcome.specs.Places.{Place, first_place}

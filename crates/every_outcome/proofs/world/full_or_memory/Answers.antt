@@ -1,4 +1,4 @@
-use Rattle.std.proofs.Common.{◌≡◌, inl, inr, refl, sym, subst}
+use Rattle.std.proofs.Common.{inr, refl, sym, subst}
 use Rattle.every_outcome.specs.Private.Keeping.{IsFull}
 use Rattle.every_outcome.proofs.world.full_or_memory.Goals as goal
 

@@ -1,4 +1,4 @@
-use Rattle.std.proofs.Common.{◌≡◌, ◌≢◌, arith, rules}
+use Rattle.std.proofs.Common.{◌≢◌, arith, rules}
 use Rattle.scheduled_core.proofs.SameReports.{maps_apart}
 use Rattle.fiber_frames.specs.Fiber.{outcome_of}
 use Rattle.every_outcome.proofs.world.same_ends.Goals as goal

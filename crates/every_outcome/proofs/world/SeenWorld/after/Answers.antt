@@ -1,4 +1,4 @@
-use Rattle.std.proofs.Common.{◌≡◌, ◌<◌, ℕ, List, Ok, Err, inl, inr, sym, ap, ap₂, ◌∙◌, subst}
+use Rattle.std.proofs.Common.{◌≡◌, List, Ok, Err, inl, inr, sym, ap, ap₂, ◌∙◌, subst}
 use Rattle.std.specs.Prelude.{Some}
 use Rattle.std.specs.List.{slice_get}
 use Rattle.fiber_frames.specs.Fiber.{Fiber}

@@ -1,4 +1,4 @@
-use Rattle.std.proofs.Common.{◌≡◌, ◌+◌, ℕ, suc, List, [], length, map, refl, ap, ap₂, ◌∙◌, arith, rules}
+use Rattle.std.proofs.Common.{◌≡◌, ◌+◌, ℕ, suc, List, length, map, refl, ap, ap₂, ◌∙◌, arith, rules}
 use Rattle.fiber_frames.specs.declared.env.EnvEntry.{EnvEntry}
 use Rattle.fiber_frames.specs.declared.frame.Frame.{Frame}
 use Rattle.fiber_frames.specs.declared.machine.Machine.{Machine}
