@@ -13,16 +13,10 @@ use Rattle.text_io.specs.Telling.{Answered, status_of}
 use Rattle.scheduled_core.specs.declared.report.FiberReport.{FiberReport}
 use Rattle.outcome_trace.specs.Answers.{IsCheckAnswer, IsProgramAnswer, IsRefusalAnswer, IsShowAnswer, no_program, no_term, refuses, runs}
 use Rattle.outcome_trace.specs.ReplayAnswers.{IsReplayAnswer, IsRunAnswer, outcome_status, report_status, faults, reports}
-use Rattle.world_search.specs.declared.answers.Bounds.{Bounds}
-use Rattle.exploration_text.specs.declared.wants.Want.{Want}
-use Rattle.exploration_text.specs.ExplorationText.{has_failure}
-use Rattle.exploration_text.specs.ExploreAnswers.{IsExploreAnswer, explores, unexplored}
 use Rattle.reasons.specs.Explained.{Explained}
 use Rattle.json_answers.specs.Answers.{IsJsonCheck, IsJsonRefusal, IsJsonReplay, IsJsonRun, reports as reports_json}
 use Rattle.json_answers.specs.Answers.{faults as faults_json, no_program as no_program_json, no_term as no_term_json}
 use Rattle.timelines.specs.PictureAnswers.{IsPictureAnswer, IsPicturedAnswer, faults as faults_drawn, pictures}
-use Rattle.json_answers.specs.FoundAnswers.{IsJsonExplore, explores as explores_json, unexplored as unexplored_json}
-use Rattle.timelines.specs.ExploreTimelines.{IsExploreTimeline}
 use Rattle.timelines.specs.TimelineAnswers.{IsTimelineAnswer}
 use Rattle.steal_pool.specs.declared.options.Options.{Options}
 use Rattle.command_words.specs.declared.replay.AnswerForm.{AnswerForm}
@@ -82,12 +76,6 @@ pub chosen_ends : (failed complete : Bool) → (if failed then ends.Errored else
 chosen_ends true complete = λ u. cc
 chosen_ends false true = λ u. cc
 chosen_ends false false = λ u. cc
-
-pub explore_ends : {limits : Limits} {bounds : Bounds} {wants : List Want} {text answer : List ℕ} {status : Status} → IsExploreAnswer limits bounds wants text answer status →
-    status ≢ ends.Usage
-explore_ends (unexplored text answer status h) = refusal_ends h
-explore_ends {limits} {bounds} {wants} (explores text answer status t reads program h) =
-    λ u. chosen_ends (has_failure wants h.exploration.answers) h.exploration.complete (sym h.status_is ∙ u)
 
 timeline_ends : {schedule : List ℕ} {limits : Limits} {text answer : List ℕ} {status : Status} →
     IsTimelineAnswer schedule limits text answer status → status ≢ ends.Usage
@@ -152,18 +140,6 @@ order_ends Answers Tells false before after status never h = told_ends never h
 pub check_as_ends : (json : Bool) (text answer : List ℕ) (status : Status) → checks_as json text answer status → status ≢ ends.Usage
 check_as_ends true text answer status h = json_check_ends h
 check_as_ends false text answer status h = check_ends h
-
--- ---- of explorations
-pub explore_timeline_ends : {limits : Limits} {bounds : Bounds} {wants : List Want} {text answer : List ℕ} {status : Status} →
-    IsExploreTimeline limits bounds wants text answer status → status ≢ ends.Usage
-explore_timeline_ends {limits} {bounds} {wants} = program_ends (λ text answer status h. refusal_ends h)
-    (λ t answer status h u. chosen_ends (has_failure wants h.exploration.answers) h.exploration.complete (sym h.status_is ∙ u))
-
-pub json_explore_ends : {limits : Limits} {bounds : Bounds} {wants : List Want} {text answer : List ℕ} {status : Status} →
-    IsJsonExplore limits bounds wants text answer status → status ≢ ends.Usage
-json_explore_ends (unexplored_json text answer status h) = json_refusal_ends h
-json_explore_ends {limits} {bounds} {wants} (explores_json text answer status t reads program h) =
-    λ u. chosen_ends (has_failure wants h.exploration.answers) h.exploration.complete (sym h.status_is ∙ u)
 
 -- ---- of runs on workers
 refused_ends : (form : RunForm) (text answer : List ℕ) (status : Status) → refused_as form text answer status → status ≢ ends.Usage

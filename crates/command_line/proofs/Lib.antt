@@ -1,5 +1,6 @@
 pub mod EndLemmas
 pub mod NotedEnds
+pub mod DecidedEnds
 pub mod NoteLemmas
 pub mod ReasonLemmas
 pub mod RecordLemmas

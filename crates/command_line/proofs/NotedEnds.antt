@@ -15,7 +15,14 @@ use Rattle.exploration_text.specs.SampleAnswers.{IsNotedSample}
 use Rattle.exploration_text.specs.SampleText.{has_finding}
 use Rattle.json_answers.specs.FindingData.{IsJsonFirstAnswer}
 use Rattle.json_answers.specs.FoundAnswers.{IsNotedJsonSample}
-use Rattle.command_line.specs.Noting.{IsNotedAnswer, ObeysNoted}
+use Rattle.exploration_text.specs.Noting.{IsNotedAnswer}
+use Rattle.reasons.specs.Refusals.{IsTextReasons}
+use Rattle.command_words.specs.declared.exploring.Beside.{Beside}
+use Rattle.command_words.specs.declared.exploring.Beside.TheVariants as told
+use Rattle.command_words.specs.declared.exploring.ExploreForm.{ExploreForm}
+use Rattle.command_words.specs.declared.exploring.ExploreForm.TheVariants as explored
+use Rattle.command_line.specs.Explorings.{ObeysBeside, explore_refuses, explores_as}
+use Rattle.command_line.specs.Noting.{ObeysNoted}
 use Rattle.command_line.specs.Samplings.{sample_refuses, samples_as}
 use Rattle.command_line.specs.Seekings.{seek_refuses, seeks_as}
 use Rattle.command_line.proofs.EndLemmas.{answered_ends, chosen_ends, json_refusal_ends, program_ends, refusal_ends}
@@ -49,23 +56,44 @@ sample_as_ends false order note text answer status =
     program_ends (λ text answer status h. refusal_ends h.0) (λ t answer status h. sampled_ends h)
 
 -- ---- of first findings
-firsts_end : {t : Term} {limits : Limits} {bounds : Bounds} {wants : List Want} {note answer : List ℕ} {status : Status} →
-    IsFirstAnswer t limits bounds wants note answer status → status ≢ ends.Usage
+firsts_end : {t : Term} {limits : Limits} {bounds : Bounds} {timed : Bool} {wants : List Want} {note answer : List ℕ} {status : Status} →
+    IsFirstAnswer t limits bounds timed wants note answer status → status ≢ ends.Usage
 firsts_end (inl h) = λ u. let bad : ends.Errored ≡ ends.Usage = sym h.0.status_is ∙ u in cc
-firsts_end {t} {limits} {bounds} {wants} (inr h) =
+firsts_end {t} {limits} {bounds} {timed} {wants} (inr h) =
     let e = h.unfound.explored in
     λ u. chosen_ends (has_failure wants e.exploration.answers) e.exploration.complete (sym e.status_is ∙ u)
 
-json_firsts_end : {t : Term} {limits : Limits} {bounds : Bounds} {wants : List Want} {note answer : List ℕ} {status : Status} →
-    IsJsonFirstAnswer t limits bounds wants note answer status → status ≢ ends.Usage
+json_firsts_end : {t : Term} {limits : Limits} {bounds : Bounds} {timed : Bool} {wants : List Want} {note answer : List ℕ} {status : Status} →
+    IsJsonFirstAnswer t limits bounds timed wants note answer status → status ≢ ends.Usage
 json_firsts_end (inl h) = λ u. let bad : ends.Errored ≡ ends.Usage = sym h.0.status_is ∙ u in cc
-json_firsts_end {t} {limits} {bounds} {wants} (inr h) =
+json_firsts_end {t} {limits} {bounds} {timed} {wants} (inr h) =
     let e = h.unfound.explored in
     λ u. chosen_ends (has_failure wants e.exploration.answers) e.exploration.complete (sym e.status_is ∙ u)
 
-pub seek_ends : (json : Bool) (order : ExploreOrder) (note text answer : List ℕ) (status : Status) →
-    IsNotedAnswer (seek_refuses json) (seeks_as json order) note text answer status → status ≢ ends.Usage
-seek_ends true order note text answer status =
+pub seek_ends : (json : Bool) (order : ExploreOrder) (timed : Bool) (note text answer : List ℕ) (status : Status) →
+    IsNotedAnswer (seek_refuses json) (seeks_as json order timed) note text answer status → status ≢ ends.Usage
+seek_ends true order timed note text answer status =
     program_ends (λ text answer status h. json_refusal_ends h.0) (λ t answer status h. json_firsts_end h)
-seek_ends false order note text answer status =
+seek_ends false order timed note text answer status =
     program_ends (λ text answer status h. refusal_ends h.0) (λ t answer status h. firsts_end h)
+
+-- ---- of explorations
+pub explored_ends : (form : ExploreForm) (order : ExploreOrder) (timed : Bool) (note text answer : List ℕ) (status : Status) →
+    IsNotedAnswer (explore_refuses form) (explores_as form order timed) note text answer status → status ≢ ends.Usage
+explored_ends explored.Report order timed note text answer status = program_ends (λ text answer status h. refusal_ends h.0)
+    (λ t answer status h u. let e = h.explored in
+    chosen_ends (has_failure order.wants.items e.exploration.answers) e.exploration.complete (sym e.status_is ∙ u))
+explored_ends explored.Timeline order timed note text answer status = program_ends (λ text answer status h. refusal_ends h.0)
+    (λ t answer status h u. let e = h.told in
+    chosen_ends (has_failure order.wants.items e.exploration.answers) e.exploration.complete (sym e.status_is ∙ u))
+explored_ends explored.Json order timed note text answer status = program_ends (λ text answer status h. json_refusal_ends h.0)
+    (λ t answer status h u. let e = h.explored in
+    chosen_ends (has_failure order.wants.items e.exploration.answers) e.exploration.complete (sym e.status_is ∙ u))
+
+pub beside_ends : (Refuses : List ℕ → List ℕ → Status → Type 0) (Notes : List ℕ → Term → List ℕ → Status → Type 0) (beside : Beside)
+    (before after : Devices) (status : Status) →
+    ((note text answer : List ℕ) (status : Status) → IsNotedAnswer Refuses Notes note text answer status → status ≢ ends.Usage) →
+    ObeysBeside beside Refuses Notes before after status → status ≢ ends.Usage
+beside_ends Refuses Notes told.Nothing before after status never h = noted_ends Refuses Notes IsTextReasons false before after status never h
+beside_ends Refuses Notes told.Progress before after status never h = λ u. answered_ends _ _ _ _ _ h.1 (never h.0) h.2 (sym h.3 ∙ u)
+beside_ends Refuses Notes told.Reasons before after status never h = noted_ends Refuses Notes IsTextReasons true before after status never h

@@ -1,36 +1,52 @@
 -- What it comes to, to explore the program of a text.
-use Rattle.std.specs.Prelude.{◌≡◌, Bool, Result}
+use Rattle.std.specs.Prelude.{◌≡◌, Bool, true, false, ℕ, List, Result, is_some}
+use Rattle.effect_term.specs.declared.term.Term.{Term}
 use Rattle.exploration_text.specs.declared.explore_texts.ExploreOrder.{ExploreOrder}
-use Rattle.exploration_text.specs.ExploreAnswers.{IsExploreAnswer}
+use Rattle.exploration_text.specs.ExploreAnswers.{IsNotedExplored}
+use Rattle.exploration_text.specs.Noting.{IsNotedAnswer}
+use Rattle.outcome_trace.specs.Answers.{IsRefusalAnswer}
 use Rattle.reasons.specs.Refusals.{IsTextReasons}
-use Rattle.json_answers.specs.FoundAnswers.{IsJsonExplore}
+use Rattle.json_answers.specs.Answers.{IsJsonRefusal}
+use Rattle.json_answers.specs.FoundAnswers.{IsNotedJsonExplored}
 use Rattle.text_io.specs.declared.fault.TextFault.{TextFault}
 use Rattle.text_io.specs.declared.status.Status.{Status}
 use Rattle.text_io.specs.Devices.{Devices}
 use Rattle.text_io.specs.Exchange.{IsAnswered}
 use Rattle.text_io.specs.Telling.{status_of}
-use Rattle.timelines.specs.ExploreTimelines.{IsExploreTimeline}
+use Rattle.timelines.specs.ExploreTimelines.{IsNotedTold}
+use Rattle.command_words.specs.declared.exploring.Beside.{Beside}
+use Rattle.command_words.specs.declared.exploring.Beside.TheVariants.{Nothing, Progress, Reasons}
 use Rattle.command_words.specs.declared.exploring.ExploreForm.{ExploreForm}
-use Rattle.command_words.specs.declared.exploring.ExploreForm.TheVariants.{Report, Timeline, Json, Progress}
+use Rattle.command_words.specs.declared.exploring.ExploreForm.TheVariants.{Report, Timeline, Json}
 use Rattle.command_words.specs.declared.exploring.Exploring.{Exploring}
-use Rattle.command_line.specs.Orders.{ObeysOrder}
+use Rattle.command_line.specs.Noting.{ObeysNoted}
 
--- the text is answered as it is without progress; of what is told meanwhile nothing is said
-abbrev pub ExploresWatched : ExploreOrder → Devices → Devices → Status → Type 0
-ExploresWatched order before after status = (outcome : Result Status TextFault) ×
-    IsAnswered (IsExploreAnswer order.limits order.bounds order.wants.items) before.input after.input before.out
-    after.out outcome × (status ≡ status_of outcome)
+-- what is answered to a program in this form, by whether the time of the exploration is limited, and with this note
+abbrev pub explores_as : ExploreForm → ExploreOrder → (timed : Bool) → (note : List ℕ) → Term → List ℕ → Status → Type 0
+explores_as Report order timed note t = IsNotedExplored t order.limits order.bounds timed order.wants.items note
+explores_as Timeline order timed note t = IsNotedTold t order.limits order.bounds timed order.wants.items note
+explores_as Json order timed note t = IsNotedJsonExplored t order.limits order.bounds timed order.wants.items note
 
--- what it comes to in this form, with reasons or without
-abbrev pub ExploresAs : ExploreForm → Bool → ExploreOrder → Devices → Devices → Status → Type 0
-ExploresAs Report explain order before after status =
-    ObeysOrder (IsExploreAnswer order.limits order.bounds order.wants.items) IsTextReasons explain before after status
-ExploresAs Timeline explain order before after status =
-    ObeysOrder (IsExploreTimeline order.limits order.bounds order.wants.items) IsTextReasons explain before after status
-ExploresAs Json explain order before after status =
-    ObeysOrder (IsJsonExplore order.limits order.bounds order.wants.items) IsTextReasons explain before after status
-ExploresAs Progress explain order before after status = ExploresWatched order before after status
+-- how a text that is refused is answered in this form
+abbrev pub explore_refuses : ExploreForm → List ℕ → List ℕ → Status → Type 0
+explore_refuses Report = IsRefusalAnswer
+explore_refuses Timeline = IsRefusalAnswer
+explore_refuses Json = IsJsonRefusal
+
+-- the text is answered; nothing is said of what is written to the last device
+abbrev pub ObeysWatched : (List ℕ → List ℕ → Status → Type 0) → (List ℕ → Term → List ℕ → Status → Type 0) → Devices →
+    Devices → Status → Type 0
+ObeysWatched Refuses Notes before after status = (note : List ℕ) × (outcome : Result Status TextFault) ×
+    IsAnswered (IsNotedAnswer Refuses Notes note) before.input after.input before.out after.out outcome ×
+    (status ≡ status_of outcome)
+
+-- the text is answered, and beside the answer its note and this are written
+abbrev pub ObeysBeside : Beside → (List ℕ → List ℕ → Status → Type 0) → (List ℕ → Term → List ℕ → Status → Type 0) →
+    Devices → Devices → Status → Type 0
+ObeysBeside Nothing Refuses Notes before after status = ObeysNoted Refuses Notes IsTextReasons false before after status
+ObeysBeside Progress Refuses Notes before after status = ObeysWatched Refuses Notes before after status
+ObeysBeside Reasons Refuses Notes before after status = ObeysNoted Refuses Notes IsTextReasons true before after status
 
 abbrev pub ObeysExplore : Exploring → Devices → Devices → Status → Type 0
-ObeysExplore exploring before after status =
-    ExploresAs exploring.form exploring.explain exploring.order before after status
+ObeysExplore exploring before after status = ObeysBeside exploring.beside (explore_refuses exploring.form)
+    (explores_as exploring.form exploring.order (is_some exploring.seconds)) before after status

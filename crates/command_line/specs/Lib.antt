@@ -13,3 +13,5 @@ pub mod Seekings
 pub mod Tests
 pub mod Workers
 pub mod Comparings
+pub mod Decidings
+pub mod Judgings

@@ -1,7 +1,7 @@
 -- What an order to answer a program comes to that tells a note beside the answer.
 use Rattle.std.specs.Prelude.{◌≡◌, ℕ, Bool, true, false, List, [], ◌∷◌, Result, Ok, Err}
 use Rattle.effect_term.specs.declared.term.Term.{Term}
-use Rattle.outcome_trace.specs.Answers.{IsProgramAnswer}
+use Rattle.exploration_text.specs.Noting.{IsNotedAnswer}
 use Rattle.reasons.specs.Explained.{TellsReasons}
 use Rattle.text_io.specs.declared.fault.TextFault.{TextFault}
 use Rattle.text_io.specs.declared.status.Status.{Status}
@@ -9,12 +9,6 @@ use Rattle.text_io.specs.Devices.{Devices, Reader, Writer}
 use Rattle.text_io.specs.Exchange.{IsAnswered, IsRead}
 use Rattle.text_io.specs.FaultLines.{fault_line}
 use Rattle.text_io.specs.Telling.{Told, status_of}
-
--- what is answered to a text with this note, with its status: a refusal, which has none, or what comes of its program
-abbrev pub IsNotedAnswer : (List ℕ → List ℕ → Status → Type 0) → (List ℕ → Term → List ℕ → Status → Type 0) →
-    (note : List ℕ) → List ℕ → List ℕ → Status → Type 0
-IsNotedAnswer Refuses Notes note =
-    IsProgramAnswer (λ text answer status. Refuses text answer status × (note ≡ [])) (Notes note)
 
 -- the note is told; or, where there is none, reasons of the text that was read, if they are asked for; or the fault, and
 -- nothing but it

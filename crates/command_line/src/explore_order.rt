@@ -4,19 +4,17 @@ ghost use Rattle.std.specs.Prelude.{◌≡◌, ◌≢◌, ◌<◌, ◌^◌, fals
 ghost use Rattle.command_line.specs.Explorings.{ObeysExplore};
 ghost use Rattle.text_io.specs.Devices.{devices};
 
-use crate::order::obey_order;
+use crate::watched_forms::obey_form;
 use command_words::{ExploreForm, Exploring};
-use exploration_text::obey_explore_watched;
 use json_answers::ExploreJson;
 use outcome_trace::{Status, TextIn, TextOut};
-use reasons::TextReasons;
 use std::alloc::Global;
 use std::time::Clock;
 use timelines::ExploreTimelineOrder;
 
 /// Tells all that can come of a text's program, and gives the status: that of the answer, and `Status::Fault` where a
 /// device failed or memory ran out. All but the answer is told on the last device. The clock tells how fast the search
-/// goes, and changes nothing else.
+/// goes, and ends it where its seconds are limited.
 pub fn obey_explore<C: Clock, I: TextIn, O: TextOut, E: TextOut>(
     clock: &C,
     alloc: Global,
@@ -36,18 +34,18 @@ pub fn obey_explore<C: Clock, I: TextIn, O: TextOut, E: TextOut>(
     let Exploring {
         order,
         form,
-        explain,
+        seconds,
+        beside,
     } = exploring;
     match form {
-        ExploreForm::Report => { obey_order(alloc, &order, &TextReasons, explain, input, out, err) }
+        ExploreForm::Report => obey_form(clock, alloc, order, seconds, beside, input, out, err),
         ExploreForm::Timeline => {
-            let order = ExploreTimelineOrder { order };
-            obey_order(alloc, &order, &TextReasons, explain, input, out, err)
+            let told = ExploreTimelineOrder { order };
+            obey_form(clock, alloc, told, seconds, beside, input, out, err)
         }
         ExploreForm::Json => {
-            let order = ExploreJson { order };
-            obey_order(alloc, &order, &TextReasons, explain, input, out, err)
+            let told = ExploreJson { order };
+            obey_form(clock, alloc, told, seconds, beside, input, out, err)
         }
-        ExploreForm::Progress => obey_explore_watched(clock, alloc, &order, input, out, err),
     }
 }

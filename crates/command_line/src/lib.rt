@@ -7,8 +7,10 @@
 mod check_order;
 mod cli;
 mod compare_order;
+mod decide_order;
 mod explore_order;
 mod first_line;
+mod judge_order;
 mod noted;
 mod order;
 mod record_answers;
@@ -21,6 +23,7 @@ mod sample_order;
 mod seek_order;
 mod spelling;
 mod test_order;
+mod watched_forms;
 
 pub use cli::command;
 pub use command_words::refuse_words;

@@ -1,7 +1,8 @@
 //! An order to answer a program with a note, which goes to the last device.
 
 ghost use Rattle.std.specs.Prelude.{◌≡◌, ◌<◌, ◌^◌, ℕ, List, false, Err as Fails, IfErr, IfOk};
-ghost use Rattle.command_line.specs.Noting.{IsNotedAnswer, ObeysNoted};
+ghost use Rattle.command_line.specs.Noting.{ObeysNoted};
+ghost use Rattle.exploration_text.specs.Noting.{IsNotedAnswer};
 ghost use Rattle.reasons.specs.Explained.{IsKept};
 ghost use Rattle.text_io.specs.Devices.{devices};
 ghost use Rattle.text_io.specs.Exchange.{IsAnswered};

@@ -4,17 +4,19 @@ ghost use Rattle.std.specs.Prelude.{◌≡◌, ◌≢◌, ◌<◌, ◌^◌, fals
 ghost use Rattle.command_line.specs.Seekings.{ObeysSeek};
 ghost use Rattle.text_io.specs.Devices.{devices};
 
-use crate::noted::obey_noted;
+use crate::watched_forms::obey_form;
 use command_words::Seeking;
 use exploration_text::FirstOrder;
 use json_answers::FirstJson;
 use outcome_trace::{Status, TextIn, TextOut};
-use reasons::TextReasons;
 use std::alloc::Global;
+use std::time::Clock;
 
 /// Answers the first finding of a text's program, or its exploration if there is none. Returns the status of the
-/// answer, or `Status::Fault` if a device failed or memory ran out. All but the answer goes to the last device.
-pub fn obey_seek<I: TextIn, O: TextOut, E: TextOut>(
+/// answer, or `Status::Fault` if a device failed or memory ran out. All but the answer goes to the last device. The
+/// clock ends the search if its seconds are limited.
+pub fn obey_seek<C: Clock, I: TextIn, O: TextOut, E: TextOut>(
+    clock: &C,
     alloc: Global,
     seeking: Seeking,
     input: &mut I,
@@ -32,13 +34,14 @@ pub fn obey_seek<I: TextIn, O: TextOut, E: TextOut>(
     let Seeking {
         order,
         json,
-        explain,
+        seconds,
+        beside,
     } = seeking;
     if json {
-        let order = FirstJson { order };
-        obey_noted(alloc, &order, &TextReasons, explain, input, out, err)
+        let first = FirstJson { order };
+        obey_form(clock, alloc, first, seconds, beside, input, out, err)
     } else {
-        let order = FirstOrder { order };
-        obey_noted(alloc, &order, &TextReasons, explain, input, out, err)
+        let first = FirstOrder { order };
+        obey_form(clock, alloc, first, seconds, beside, input, out, err)
     }
 }

@@ -2,9 +2,7 @@
 
 use command_line::command;
 use outcome_trace::{FromRead, ToWrite};
-use std::alloc::{AllocError, Global};
 use std::io::{Read, Write};
-use std::process::Abort;
 use std::rt::Files;
 use std::sync::Wait;
 use std::thread::Threads;
@@ -48,41 +46,4 @@ pub fn answered<R: AllocGlobal + Clock + Files + Threads + Wait + Sync, S: Read 
     let mut out = Vec::new(rt.alloc());
     let (err, status) = told(rt, words, input, &mut out);
     Answer { out, err, status }
-}
-
-/// Runs a command line, and compares all that it writes and its status. On a difference it prints the rule.
-pub fn expect<R: Abort + AllocGlobal + Clock + Files + Threads + Wait + Sync>(
-    rt: &R,
-    rule: &str,
-    words: &[&str],
-    input: &str,
-    status: u8,
-    out: &str,
-    err: &str,
-) {
-    let answer = answered(rt, words, input.as_bytes());
-    assert_eq!(rt;
-        (answer.status, answer.out.as_slice(), answer.err.as_slice()),
-        (status, out.as_bytes(), err.as_bytes()),
-        "{rule}: {words:?} on {input}"
-    );
-}
-
-/// A text with `depth` nested forms.
-pub fn nested(
-    alloc: Global,
-    front: &str,
-    depth: usize,
-    inmost: &str,
-    back: &str,
-) -> Result<String, AllocError> {
-    let mut text = String::new(alloc);
-    for _ in 0..depth {
-        text.push_str(front)?;
-    }
-    text.push_str(inmost)?;
-    for _ in 0..depth {
-        text.push_str(back)?;
-    }
-    Ok(text)
 }

@@ -1,5 +1,5 @@
-//! Tests of the public calls of `command_line`, with texts in memory and devices that fail. The expected answers are
-//! worked out by hand.
+//! Tests of the public calls of `command_line`, with devices that fail and bytes that are no text. What a command
+//! prints is tested on the built program (`golden/`, `examples/`).
 //!
 //! The crate has only tests, so that the library is proved without them.
 #![tactic(auto)]
@@ -9,24 +9,4 @@ mod answers;
 #[cfg(test)]
 mod devices;
 #[cfg(test)]
-mod explained;
-#[cfg(test)]
-mod forms;
-#[cfg(test)]
-mod helps;
-#[cfg(test)]
-mod inputs;
-#[cfg(test)]
-mod laws;
-#[cfg(test)]
-mod models;
-#[cfg(test)]
-mod records;
-#[cfg(test)]
-mod runs;
-#[cfg(test)]
-mod samples;
-#[cfg(test)]
-mod texts;
-#[cfg(test)]
-mod words;
+mod no_text;

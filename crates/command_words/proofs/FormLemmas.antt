@@ -3,11 +3,13 @@ use Rattle.std.proofs.Common.{Bool, List, codes, false, true}
 use Rattle.clap.specs.Words.{Row}
 use Rattle.command_words.specs.declared.replay.AnswerForm.{AnswerForm}
 use Rattle.command_words.specs.declared.replay.AnswerForm.TheVariants.{Report, Timeline, Picture, Json}
+use Rattle.command_words.specs.declared.exploring.Beside.{Beside}
+use Rattle.command_words.specs.declared.exploring.Beside.TheVariants as beside
 use Rattle.command_words.specs.declared.exploring.ExploreForm.{ExploreForm}
 use Rattle.command_words.specs.declared.exploring.ExploreForm.TheVariants as explores
 use Rattle.command_words.specs.declared.running.RunForm.{RunForm}
 use Rattle.command_words.specs.declared.running.RunForm.TheVariants as runs
-use Rattle.command_words.specs.Flags.{IsGiven, IsLeftOut, SaysExploreForm, SaysForm, SaysRunForm}
+use Rattle.command_words.specs.Flags.{IsGiven, IsLeftOut, SaysBeside, SaysExploreForm, SaysForm, SaysRunForm}
 
 pub timeline_with_svg : (options : List Row) → IsGiven (codes "timeline") options → IsGiven (codes "svg") options → (form : AnswerForm) →
     SaysForm options form → ⊥
@@ -30,37 +32,17 @@ svg_with_json options svg json Picture says = says.2 json
 svg_with_json options svg json Json says = says.1 svg
 
 -- ---- of `explore`
-pub progress_with_timeline : (options : List Row) → IsGiven (codes "progress") options → IsGiven (codes "timeline") options →
-    (form : ExploreForm) (explain : Bool) → SaysExploreForm options form explain → ⊥
-progress_with_timeline options progress timeline explores.Report explain says = says.0 progress
-progress_with_timeline options progress timeline explores.Timeline explain says = says.0 progress
-progress_with_timeline options progress timeline explores.Json explain says = says.0 progress
-progress_with_timeline options progress timeline explores.Progress false says = says.1 timeline
-progress_with_timeline options progress timeline explores.Progress true says = says
+pub explored_timeline_with_json : (options : List Row) → IsGiven (codes "timeline") options → IsGiven (codes "json") options → (form : ExploreForm) →
+    SaysExploreForm options form → ⊥
+explored_timeline_with_json options timeline json explores.Report says = says.0 timeline
+explored_timeline_with_json options timeline json explores.Timeline says = says.1 json
+explored_timeline_with_json options timeline json explores.Json says = says.0 timeline
 
-pub progress_with_json : (options : List Row) → IsGiven (codes "progress") options → IsGiven (codes "json") options →
-    (form : ExploreForm) (explain : Bool) → SaysExploreForm options form explain → ⊥
-progress_with_json options progress json explores.Report explain says = says.0 progress
-progress_with_json options progress json explores.Timeline explain says = says.0 progress
-progress_with_json options progress json explores.Json explain says = says.0 progress
-progress_with_json options progress json explores.Progress false says = says.2 json
-progress_with_json options progress json explores.Progress true says = says
-
-pub progress_with_reasons : (options : List Row) → IsGiven (codes "progress") options → IsGiven (codes "explain") options →
-    (form : ExploreForm) (explain : Bool) → SaysExploreForm options form explain → ⊥
-progress_with_reasons options progress asked explores.Report explain says = says.0 progress
-progress_with_reasons options progress asked explores.Timeline explain says = says.0 progress
-progress_with_reasons options progress asked explores.Json explain says = says.0 progress
-progress_with_reasons options progress asked explores.Progress false says = says.3 asked
-progress_with_reasons options progress asked explores.Progress true says = says
-
-pub explored_timeline_with_json : (options : List Row) → IsGiven (codes "timeline") options → IsGiven (codes "json") options →
-    (form : ExploreForm) (explain : Bool) → SaysExploreForm options form explain → ⊥
-explored_timeline_with_json options timeline json explores.Report explain says = says.1 timeline
-explored_timeline_with_json options timeline json explores.Timeline explain says = says.2 json
-explored_timeline_with_json options timeline json explores.Json explain says = says.1 timeline
-explored_timeline_with_json options timeline json explores.Progress false says = says.1 timeline
-explored_timeline_with_json options timeline json explores.Progress true says = says
+pub progress_with_reasons : (options : List Row) → IsGiven (codes "progress") options → IsGiven (codes "explain") options → (form : Beside) →
+    SaysBeside options form → ⊥
+progress_with_reasons options progress asked beside.Nothing says = says.0 progress
+progress_with_reasons options progress asked beside.Progress says = says.1 asked
+progress_with_reasons options progress asked beside.Reasons says = says.0 progress
 
 -- ---- of `run`
 pub record_with_json : (options : List Row) → IsGiven (codes "record") options → IsGiven (codes "json") options → (form : RunForm) (explain : Bool) →

@@ -1,6 +1,8 @@
 -- The flags that stand in the words, and the forms that they say.
 use Rattle.std.specs.Prelude.{◌≡◌, Bool, true, false, List, None, Option, Some, codes}
 use Rattle.clap.specs.Words.{Row, Text, first_of}
+use Rattle.command_words.specs.declared.exploring.Beside.{Beside}
+use Rattle.command_words.specs.declared.exploring.Beside.TheVariants as beside
 use Rattle.command_words.specs.declared.exploring.ExploreForm.{ExploreForm}
 use Rattle.command_words.specs.declared.exploring.ExploreForm.TheVariants as explores
 use Rattle.command_words.specs.declared.replay.AnswerForm.{AnswerForm}
@@ -36,21 +38,17 @@ SaysForm options Picture =
 SaysForm options Json =
     IsLeftOut (codes "timeline") options × IsLeftOut (codes "svg") options × IsGiven (codes "json") options
 
--- the form that the options of `explore` say, and whether reasons are told, which is never so beside progress
-abbrev pub SaysExploreForm : List Row → ExploreForm → Bool → Type 0
-SaysExploreForm options explores.Report explain =
-    IsLeftOut (codes "progress") options × IsLeftOut (codes "timeline") options × IsLeftOut (codes "json") options ×
-    SaysFlag (codes "explain") options explain
-SaysExploreForm options explores.Timeline explain =
-    IsLeftOut (codes "progress") options × IsGiven (codes "timeline") options × IsLeftOut (codes "json") options ×
-    SaysFlag (codes "explain") options explain
-SaysExploreForm options explores.Json explain =
-    IsLeftOut (codes "progress") options × IsLeftOut (codes "timeline") options × IsGiven (codes "json") options ×
-    SaysFlag (codes "explain") options explain
-SaysExploreForm options explores.Progress false =
-    IsGiven (codes "progress") options × IsLeftOut (codes "timeline") options × IsLeftOut (codes "json") options ×
-    IsLeftOut (codes "explain") options
-SaysExploreForm options explores.Progress true = ⊥
+-- the form that the options of `explore` say: that of the one flag of these two that is given, or a list
+abbrev pub SaysExploreForm : List Row → ExploreForm → Type 0
+SaysExploreForm options explores.Report = IsLeftOut (codes "timeline") options × IsLeftOut (codes "json") options
+SaysExploreForm options explores.Timeline = IsGiven (codes "timeline") options × IsLeftOut (codes "json") options
+SaysExploreForm options explores.Json = IsLeftOut (codes "timeline") options × IsGiven (codes "json") options
+
+-- what the options of `explore` say is written beside the answer: what the one flag of these two asks for, or nothing
+abbrev pub SaysBeside : List Row → Beside → Type 0
+SaysBeside options beside.Nothing = IsLeftOut (codes "progress") options × IsLeftOut (codes "explain") options
+SaysBeside options beside.Progress = IsGiven (codes "progress") options × IsLeftOut (codes "explain") options
+SaysBeside options beside.Reasons = IsLeftOut (codes "progress") options × IsGiven (codes "explain") options
 
 -- the form that the options of `run` say, and whether reasons are told, which is so beside a report alone; a
 -- timeline is one of the schedule that is recorded

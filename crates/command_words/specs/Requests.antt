@@ -1,5 +1,5 @@
 -- The request that the words of a command line give.
-use Rattle.std.specs.Prelude.{◌≡◌, ◌≤◌, ℕ, List, [], map, Option, Some, None, codes, option_map}
+use Rattle.std.specs.Prelude.{◌≡◌, ◌≤◌, ⊤, ℕ, List, [], map, Option, Some, None, codes, option_map}
 use Rattle.std.specs.List.{All}
 use Rattle.std.specs.Option.{unwrap_or}
 use Rattle.clap.specs.Words.{Row, Text, all_of, first_of, subcommand_of}
@@ -14,20 +14,22 @@ use Rattle.compared_ends.specs.declared.basis.Basis.{Basis}
 use Rattle.compared_ends.specs.declared.basis.Basis.TheVariants.{AllFibers, FirstFiber}
 use Rattle.comparison_answers.specs.declared.pairs.CompareOrder.{CompareOrder}
 use Rattle.command_words.specs.declared.comparing.Comparing.{Comparing}
+use Rattle.command_words.specs.declared.deciding.Deciding.{Deciding}
 use Rattle.command_words.specs.declared.exploring.Exploring.{Exploring}
+use Rattle.command_words.specs.declared.judging.Judging.{Judging}
 use Rattle.command_words.specs.declared.ranges.NumberRange.{NumberRange}
 use Rattle.command_words.specs.declared.replay.Replay.{Replay as ReplayFields}
 use Rattle.command_words.specs.declared.requests.Request.{Request}
 use Rattle.command_words.specs.declared.requests.Request.TheVariants.{Check, Show, Replay, Explore, Run, Sample}
-use Rattle.command_words.specs.declared.requests.Request.TheVariants.{Compare, Seek, Test, Terms}
+use Rattle.command_words.specs.declared.requests.Request.TheVariants.{Compare, Decide, Judge, Seek, Test, Terms}
 use Rattle.command_words.specs.declared.running.Running.{Running}
 use Rattle.command_words.specs.declared.sampling.Sampling.{Sampling}
 use Rattle.command_words.specs.declared.seeking.Seeking.{Seeking}
 use Rattle.command_words.specs.declared.testing.Testing.{Testing}
 use Rattle.command_words.specs.declared.testing.Translating.{Translating}
 use Rattle.command_words.specs.Memory.{SaysMemory}
-use Rattle.command_words.specs.Numbers.{SaysNumber}
-use Rattle.command_words.specs.Flags.{IsGiven, IsLeftOut, SaysExploreForm, SaysFlag, SaysForm, SaysRunForm}
+use Rattle.command_words.specs.Numbers.{SaysNumber, SaysSeconds}
+use Rattle.command_words.specs.Flags.{IsGiven, IsLeftOut, SaysBeside, SaysExploreForm, SaysFlag, SaysForm, SaysRunForm}
 use Rattle.command_words.specs.Flags.{SaysColoring, SaysTestForm}
 use Rattle.command_words.specs.Words.{band_range, budget_range, count_range, entries_range, few_range, moves_range}
 use Rattle.command_words.specs.Words.{jobs_range, model_worlds_range, program, seed_range, times_range, workers_range}
@@ -69,6 +71,30 @@ pub record SaysExplore (options : List Row) (order : ExploreOrder) : Type 0 wher
   pub bounds : SaysBounds options order.bounds.worlds order.bounds.entries order.bounds.memory
   pub wants : AreWants (texts_said (codes "want") options) order.wants.items
 
+-- no claim stands in the words
+abbrev pub HasNoClaims : List Row → Type 0
+HasNoClaims options = (texts_said (codes "always") options ≡ []) × (texts_said (codes "never") options ≡ []) ×
+    (texts_said (codes "reach") options ≡ [])
+
+abbrev pub HasClaims : List Row → Type 0
+HasClaims options = HasNoClaims options → ⊥
+
+-- no option is given that claims don't go with
+abbrev pub AreAlone : List Row → Type 0
+AreAlone options = IsLeftOut (codes "first") options × IsLeftOut (codes "ends") options ×
+    IsLeftOut (codes "progress") options × IsLeftOut (codes "explain") options ×
+    (first_of (codes "seconds") options ≡ None)
+
+-- the verdicts on claims that the options of `explore` ask for
+pub record SaysJudging (options : List Row) (judging : Judging) : Type 0 where
+  pub some : HasClaims options
+  pub alone : AreAlone options
+  pub form : SaysExploreForm options judging.form
+  pub order : SaysExplore options judging.order
+  pub always : map (λ s. s.now) judging.always.items ≡ texts_said (codes "always") options
+  pub never : map (λ s. s.now) judging.never.items ≡ texts_said (codes "never") options
+  pub reach : map (λ s. s.now) judging.reach.items ≡ texts_said (codes "reach") options
+
 -- what the options of `sample` say that schedules are drawn by, and how many, under which limits, and what is wanted
 pub record SaysSample (options : List Row) (order : SampleOrder) : Type 0 where
   pub seed : SaysNumber seed_range (first_of (codes "seed") options) order.seed
@@ -87,15 +113,30 @@ pub record SaysReplay (options : List Row) (replay : ReplayFields) : Type 0 wher
 -- the exploration that the options of `explore` say
 pub record SaysExploring (options : List Row) (exploring : Exploring) : Type 0 where
   pub order : SaysExplore options exploring.order
-  pub form : SaysExploreForm options exploring.form exploring.explain
+  pub form : SaysExploreForm options exploring.form
+  pub claims : HasNoClaims options
+  pub seconds_are : SaysSeconds (first_of (codes "seconds") options) exploring.seconds
+  pub beside : SaysBeside options exploring.beside
 
 -- the search for the first finding that the options of `explore` say
 pub record SaysSeeking (options : List Row) (seeking : Seeking) : Type 0 where
   pub first : IsGiven (codes "first") options
-  pub alone : IsLeftOut (codes "progress") options × IsLeftOut (codes "timeline") options
+  pub claims : HasNoClaims options
+  pub alone : IsLeftOut (codes "timeline") options
   pub order : SaysExplore options seeking.order
   pub json : SaysFlag (codes "json") options seeking.json
-  pub explain : SaysFlag (codes "explain") options seeking.explain
+  pub seconds_are : SaysSeconds (first_of (codes "seconds") options) seeking.seconds
+  pub beside : SaysBeside options seeking.beside
+
+-- the decision on fair schedules that the options of `explore` say
+pub record SaysDeciding (options : List Row) (deciding : Deciding) : Type 0 where
+  pub ends : IsGiven (codes "ends") options
+  pub claims : HasNoClaims options
+  pub alone : IsLeftOut (codes "first") options × IsLeftOut (codes "timeline") options
+  pub order : SaysExplore options deciding.order
+  pub json : SaysFlag (codes "json") options deciding.json
+  pub seconds_are : SaysSeconds (first_of (codes "seconds") options) deciding.seconds
+  pub beside : SaysBeside options deciding.beside
 
 -- the run that the options of `run` say
 pub record SaysRunning (options : List Row) (running : Running) : Type 0 where
@@ -133,6 +174,7 @@ pub record SaysTesting (options : List Row) (testing : Testing) : Type 0 where
   pub html_is : option_map (λ s. s.now) testing.html ≡ first_of (codes "html") options
   pub worlds_are : SaysNumber model_worlds_range (first_of (codes "worlds") options) testing.worlds
   pub memory_is : SaysMemory (first_of (codes "memory") options) testing.memory
+  pub seconds_are : SaysSeconds (first_of (codes "seconds") options) testing.seconds
   pub jobs_are : SaysNumber jobs_range (first_of (codes "jobs") options) testing.jobs
   pub form_is : SaysTestForm options testing.form
   pub color_is : SaysColoring (first_of (codes "color") options) testing.color
@@ -149,8 +191,12 @@ Says said (Check checking) =
 Says said (Show showing) = (said.0 ≡ codes "show") × SaysFlag (codes "explain") said.1 showing.explain
 Says said (Replay replay) = (said.0 ≡ codes "replay") × SaysReplay said.1 replay
 Says said (Explore exploring) =
-    (said.0 ≡ codes "explore") × IsLeftOut (codes "first") said.1 × SaysExploring said.1 exploring
-Says said (Seek seeking) = (said.0 ≡ codes "explore") × SaysSeeking said.1 seeking
+    (said.0 ≡ codes "explore") × IsLeftOut (codes "first") said.1 × IsLeftOut (codes "ends") said.1 ×
+    SaysExploring said.1 exploring
+Says said (Seek seeking) =
+    (said.0 ≡ codes "explore") × IsLeftOut (codes "ends") said.1 × SaysSeeking said.1 seeking
+Says said (Decide deciding) = (said.0 ≡ codes "explore") × SaysDeciding said.1 deciding
+Says said (Judge judging) = (said.0 ≡ codes "explore") × SaysJudging said.1 judging
 Says said (Run running) = (said.0 ≡ codes "run") × SaysRunning said.1 running
 Says said (Sample sampling) = (said.0 ≡ codes "sample") × SaysSampling said.1 sampling
 Says said (Compare comparing) = (said.0 ≡ codes "compare") × SaysComparing said.1 comparing
@@ -164,13 +210,15 @@ GivesRequest None None = Unit {0}
 GivesRequest (Some said) (Some request) = Says said request
 GivesRequest (Some said) None = (request : Request) → Says said request → ⊥
 
--- the schedule of the request comes in the input
+-- the schedule of the request comes in the input, or its words name what the program's text in the input has to have
 abbrev pub TakesSchedule : Request → Type 0
 TakesSchedule (Check checking) = ⊥
 TakesSchedule (Show showing) = ⊥
 TakesSchedule (Replay replay) = replay.schedule.now ≡ codes "-"
 TakesSchedule (Explore exploring) = ⊥
 TakesSchedule (Seek seeking) = ⊥
+TakesSchedule (Decide deciding) = ⊥
+TakesSchedule (Judge judging) = ⊤
 TakesSchedule (Run running) = ⊥
 TakesSchedule (Sample sampling) = ⊥
 TakesSchedule (Compare comparing) = ⊥

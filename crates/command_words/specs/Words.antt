@@ -46,6 +46,11 @@ jobs_range = record { least = 0; most = 64; usual = 0 }
 abbrev pub memory_range : NumberRange
 memory_range = record { least = 1; most = 10000000000; usual = 4294967296 }
 
+-- of seconds after which an exploration ends, or the searches of a model; the usual number has no use, since no option
+-- means no such bound
+abbrev pub seconds_range : NumberRange
+seconds_range = record { least = 1; most = 1000000000; usual = 1000000000 }
+
 -- of entries that the schedules of an exploration have, and those of a sample
 abbrev pub entries_range : NumberRange
 entries_range = record { least = 1; most = 1000000; usual = 10000 }
@@ -121,6 +126,13 @@ want_option = record (new_rule (codes "want")) {
   action = Some Append;
 }
 
+abbrev pub claim_option : Text → Rule
+claim_option id = record (new_rule id) {
+  long = Some id;
+  value_names = 1;
+  action = Some Append;
+}
+
 -- with the options for the limits of a run
 abbrev pub with_limits : App → App
 with_limits app =
@@ -150,11 +162,12 @@ replay_command =
 -- with the flags that ask for another form of an exploration than a list
 abbrev pub with_explore_forms : App → App
 with_explore_forms app =
-    with_rule (with_rule (with_rule (with_rule app
+    with_rule (with_rule (with_rule (with_rule (with_rule app
     (flag (codes "progress")))
     (flag (codes "timeline")))
     (flag (codes "json")))
-    (flag (codes "first"))
+    (flag (codes "first")))
+    (flag (codes "ends"))
 
 -- `explore` with the options for its limits and bounds
 abbrev pub explore_bounds : App
@@ -166,10 +179,17 @@ explore_bounds =
 
 -- without its flags
 abbrev pub explore_options : App
-explore_options = with_rule explore_bounds want_option
+explore_options =
+    with_rule (with_rule explore_bounds (number_option (codes "seconds") seconds_range)) want_option
+
+-- with the options that take claims
+abbrev pub with_claims : App → App
+with_claims app =
+    with_rule (with_rule (with_rule app (claim_option (codes "always"))) (claim_option (codes "never")))
+    (claim_option (codes "reach"))
 
 abbrev pub explore_command : App
-explore_command = with_rule (with_explore_forms explore_options) (flag (codes "explain"))
+explore_command = with_rule (with_explore_forms (with_claims explore_options)) (flag (codes "explain"))
 
 -- with the flags that ask for another form of a run than a report
 abbrev pub with_run_forms : App → App
@@ -231,7 +251,10 @@ test_files =
 -- `test` without its flags
 abbrev pub test_bounds : App
 test_bounds =
-    with_rule (with_rule (with_rule test_files (number_option (codes "worlds") model_worlds_range)) memory_option)
+    with_rule (with_rule (with_rule (with_rule test_files
+    (number_option (codes "worlds") model_worlds_range))
+    memory_option)
+    (number_option (codes "seconds") seconds_range))
     (number_option (codes "jobs") jobs_range)
 
 -- with the flags that ask for another form of a test than a report

@@ -11,8 +11,17 @@ pub enum ExploreForm {
     Timeline,
     /// As JSON.
     Json,
-    /// As that list, while it is told how far the search has come.
+}
+
+/// What is written to standard error beside an answer.
+#[derive(Clone, Copy)]
+pub enum Beside {
+    /// Nothing.
+    Nothing,
+    /// How far the search has come, while it goes.
     Progress,
+    /// The reasons of what isn't plain in the answer.
+    Reasons,
 }
 
 /// To explore every schedule of the text's program.
@@ -22,6 +31,8 @@ pub struct Exploring {
     pub order: ExploreOrder,
     /// In what form it is told.
     pub form: ExploreForm,
-    /// Whether reasons are written.
-    pub explain: bool,
+    /// After how many seconds the search ends, if it does.
+    pub seconds: Option<u64>,
+    /// What is written beside the answer.
+    pub beside: Beside,
 }

@@ -2,12 +2,13 @@
 
 ghost use Rattle.std.specs.Prelude.{◌≡◌, Bool, codes, IfSome, IfNone, false, option_map, true};
 ghost use Rattle.clap.specs.Words.{first_of, found_of, rows_of};
+ghost use Rattle.command_words.specs.declared.exploring.Beside.{Beside};
 ghost use Rattle.command_words.specs.declared.exploring.ExploreForm.{ExploreForm};
 ghost use Rattle.command_words.specs.declared.replay.AnswerForm.{AnswerForm};
 ghost use Rattle.command_words.specs.declared.running.RunForm.{RunForm};
-ghost use Rattle.command_words.specs.Flags.{IsGiven, SaysExploreForm, SaysFlag, SaysForm, SaysRunForm};
+ghost use Rattle.command_words.specs.Flags.{IsGiven, SaysBeside, SaysExploreForm, SaysFlag, SaysForm, SaysRunForm};
 
-use crate::exploring::ExploreForm;
+use crate::exploring::{Beside, ExploreForm};
 use crate::replay::AnswerForm;
 use crate::running::RunForm;
 use clap::ArgMatches;
@@ -59,33 +60,45 @@ pub fn replay_form(options: &ArgMatches<'_>) -> Option<AnswerForm>
     }
 }
 
-/// The form that the options of `explore` say, and whether reasons are told, where these go together.
-#[tactic(auto, using(crate::proofs::FormLemmas::progress_with_timeline, crate::proofs::FormLemmas::progress_with_json, crate::proofs::FormLemmas::progress_with_reasons, crate::proofs::FormLemmas::explored_timeline_with_json))]
-pub fn explore_form(options: &ArgMatches<'_>) -> Option<(ExploreForm, bool)>
-    ensures said { IfSome result (λ said. SaysExploreForm (rows_of (found_of options.now)) said.0 said.1) }
-    ensures none { IfNone result ((form : ExploreForm) (explain : Bool) →
-        SaysExploreForm (rows_of (found_of options.now)) form explain → ⊥) }
+/// The form that the options of `explore` say, where they say no two.
+#[tactic(auto, using(crate::proofs::FormLemmas::explored_timeline_with_json))]
+pub fn explore_form(options: &ArgMatches<'_>) -> Option<ExploreForm>
+    ensures said { IfSome result (SaysExploreForm (rows_of (found_of options.now))) }
+    ensures none { IfNone result ((form : ExploreForm) → SaysExploreForm (rows_of (found_of options.now)) form → ⊥) }
 {
-    let progress = given(options, "progress");
     let timeline = given(options, "timeline");
     let json = given(options, "json");
-    let explain = given(options, "explain");
-    if progress {
-        if timeline || json || explain {
-            None
-        } else {
-            Some((ExploreForm::Progress, false))
-        }
-    } else if timeline {
+    if timeline {
         if json {
             None
         } else {
-            Some((ExploreForm::Timeline, explain))
+            Some(ExploreForm::Timeline)
         }
     } else if json {
-        Some((ExploreForm::Json, explain))
+        Some(ExploreForm::Json)
     } else {
-        Some((ExploreForm::Report, explain))
+        Some(ExploreForm::Report)
+    }
+}
+
+/// What the options of `explore` say is written beside the answer, where they say no two things.
+#[tactic(auto, using(crate::proofs::FormLemmas::progress_with_reasons))]
+pub fn beside(options: &ArgMatches<'_>) -> Option<Beside>
+    ensures said { IfSome result (SaysBeside (rows_of (found_of options.now))) }
+    ensures none { IfNone result ((beside : Beside) → SaysBeside (rows_of (found_of options.now)) beside → ⊥) }
+{
+    let progress = given(options, "progress");
+    let explain = given(options, "explain");
+    if progress {
+        if explain {
+            None
+        } else {
+            Some(Beside::Progress)
+        }
+    } else if explain {
+        Some(Beside::Reasons)
+    } else {
+        Some(Beside::Nothing)
     }
 }
 

@@ -117,19 +117,26 @@ Example, which finds a release that is lost:
 Example of every outcome of a race, with timelines:
   echo '(race (pure 1) (pure 2))' | fiber_cli explore --timeline
 
-Example of a long search, which prints its progress:
-  fiber_cli explore --memory 8G --progress < FILE
+Example of a long search, which prints its progress, and ends within ten minutes:
+  fiber_cli explore --memory 8G --seconds 600 --progress < FILE
+
+Example of a claim that no schedule may break:
+  echo '(ref r 0 (start f (modify r 1) (modify r 1)))' | fiber_cli explore --never '(= r 2)'
 
 Example of a search that stops at the first unwanted outcome:
   fiber_cli explore --first --want \"succeeded 0\" < FILE
+
+Example that finds a lock for which a fiber waits for ever:
+  echo '(ref lock 1 (forever (get lock)))' | fiber_cli explore --ends
 
 'fiber_cli --help' explains the reports. Each is below a schedule, under which replay gives it.
 
 Exit status:
    0  every schedule was explored, and nothing unwanted was found
-   1  something unwanted was found; without --want, a fault
+   1  something unwanted was found: a fault, with --want another outcome, a claim
+      that is refuted, or with --ends a fair schedule that goes on for ever
    3  a bound was reached, and nothing unwanted was found
-  64  the words are wrong
+  64  the words are wrong, or a claim
   65  the text is refused
   70  a device failed, or memory ran out",
 };
@@ -273,6 +280,10 @@ pub const MEMORY: &str = "At how many bytes of memory the search stops, by an es
 
 pub const ENTRIES: &str = "How many entries a schedule has at most, 1 to 1000000 [default: 10000]";
 
+pub const SECONDS: &str =
+    "After how many seconds the search stops, 1 to 1000000000 [default: no such
+bound]";
+
 pub const WANT: &str = "An outcome of fiber 0 that is wanted, as a report spells it:
 \"succeeded V\", \"errored C\", canceled or unended. It can be given more
 than once. A report with another outcome, and a fault, is then not wanted";
@@ -306,11 +317,20 @@ pub const RUN_TIMELINE: &str =
 
 pub const EXPLORE_TIMELINE: &str = "Print a timeline behind each report and each fault";
 
-pub const PROGRESS: &str = "Write to standard error how far the search has come, while it goes on";
+pub const PROGRESS: &str = "Write to standard error how far the search has come, once a second";
 
 pub const FIRST_FINDING: &str =
     "Print the first finding alone: a fault, or an outcome of fiber 0 that is not
 wanted. Before the search 3000 schedules are drawn at random";
+
+pub const ENDS: &str = "Print behind the answer whether every fair schedule ends, in which each
+fiber that can go on does so again and again, or else a cycle that goes on";
+
+pub const ALWAYS: &str = "A claim that is to hold at every moment, as '(<= inside 1)'; repeatable";
+
+pub const NEVER: &str = "A claim that is to hold at no moment, as '(= inside 2)'; repeatable";
+
+pub const REACH: &str = "A claim that is to hold at some moment; repeatable";
 
 pub const SVG: &str = "Print a picture of the run in place of the report, as SVG";
 
@@ -335,6 +355,10 @@ and NO_COLOR is not set), always or never [default: auto]";
 pub const LIST: &str = "Print the models with their places, and explore none";
 
 pub const TAP: &str = "Print the answer in the Test Anything Protocol";
+
+pub const MODEL_SECONDS: &str =
+    "After how many seconds the search of each model stops, 1 to 1000000000
+[default: no such bound]";
 
 pub const MODEL_WORLDS: &str = "How many worlds are kept of a model that sets no bound of its own,
 1 to 100000000 [default: 1000000]";

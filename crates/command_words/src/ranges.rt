@@ -81,6 +81,14 @@ pub const MEMORY: NumberRange = NumberRange {
     usual: 4_294_967_296,
 };
 
+/// After how many seconds an exploration ends, or the searches of a model. Where the option isn't given there is no
+/// such bound, so the usual number has no use.
+pub const SECONDS: NumberRange = NumberRange {
+    least: 1,
+    most: 1_000_000_000,
+    usual: 1_000_000_000,
+};
+
 /// How many entries the schedules of an exploration have at most, and those of a sample.
 pub const ENTRIES: NumberRange = NumberRange {
     least: 1,

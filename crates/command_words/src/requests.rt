@@ -1,6 +1,6 @@
 //! The request that the words of a command line give.
 
-ghost use Rattle.std.specs.Prelude.{◌≡◌, ◌≢◌, ◌≤◌, ◌<◌, ℕ, codes, IfOk, IfSome, IfNone, List, Some, map};
+ghost use Rattle.std.specs.Prelude.{◌≡◌, ◌≢◌, ◌≤◌, ◌<◌, ℕ, codes, IfOk, IfSome, IfNone, List, Option, Some, map};
 ghost use Rattle.cell_registry.specs.declared.limits.Limits.{Limits};
 ghost use Rattle.cell_registry.specs.Cells.{AreLimits};
 ghost use Rattle.clap.specs.Words.{first_of, found_of, rows_of, subcommand_rows_of};
@@ -15,7 +15,8 @@ ghost use Rattle.exploration_text.specs.declared.sample_texts.SampleOrder.{Sampl
 ghost use Rattle.steal_pool.specs.declared.options.Options.{Options};
 ghost use Rattle.steal_pool.specs.Runs.{limits_of};
 ghost use Rattle.command_words.specs.Memory.{SaysMemory};
-ghost use Rattle.command_words.specs.Numbers.{IsNumberOf, SaysNumber};
+ghost use Rattle.command_words.specs.Numbers.{IsNumberOf, SaysNumber, SaysSeconds};
+ghost use Rattle.command_words.specs.Requests.{HasNoClaims};
 ghost use Rattle.command_words.specs.Requests.{AreWants, GivesRequest, Says, SaysBounds, SaysExplore};
 ghost use Rattle.command_words.specs.Requests.{SaysExploring, SaysLimits, SaysReplay, SaysRun};
 ghost use Rattle.command_words.specs.Requests.{SaysRunning, SaysSample, SaysSampling, texts_said};
@@ -23,11 +24,16 @@ ghost use Rattle.command_words.specs.Requests.{SaysRunning, SaysSample, SaysSamp
 use crate::checking::{Checking, Showing};
 use crate::compare_requests::comparing_of;
 use crate::comparing::Comparing;
+use crate::decide_requests::deciding_of;
+use crate::deciding::Deciding;
 use crate::exploring::Exploring;
-use crate::flags::{explore_form, given, replay_form, run_form, text_of};
+use crate::flags::{beside, explore_form, given, replay_form, run_form, text_of};
+use crate::judge_requests::{has_claims, judging_of};
+use crate::judging::Judging;
 use crate::memory::bytes_of;
 use crate::ranges::{
-    BAND, BUDGET, COUNT, ENTRIES, FEW, MEMORY, MOVES, NumberRange, SEED, TIMES, WORKERS, WORLDS,
+    BAND, BUDGET, COUNT, ENTRIES, FEW, MEMORY, MOVES, NumberRange, SECONDS, SEED, TIMES, WORKERS,
+    WORLDS,
 };
 use crate::replay::Replay;
 use crate::running::Running;
@@ -55,6 +61,10 @@ pub enum Request<'a> {
     Explore(Exploring),
     /// To look for the first finding of the text's program.
     Seek(Seeking),
+    /// To explore every schedule of the text's program, and to decide whether every fair one ends.
+    Decide(Deciding),
+    /// To explore every schedule of the text's program, and to judge claims of each moment.
+    Judge(Judging<'a>),
     /// To run the text's program on workers, and tell what each fiber came to.
     Run(Running),
     /// To tell what schedules of the text's program come to that are drawn at random.
@@ -178,6 +188,18 @@ pub(crate) fn memory_of(explore: &ArgMatches<'_>) -> Option<u64>
     }
 }
 
+/// The seconds after which the options of `explore` or of `test` say that a search ends, if they say so.
+pub(crate) fn seconds_of(explore: &ArgMatches<'_>) -> Option<Option<u64>>
+    ensures said { IfSome result (SaysSeconds (first_of (codes "seconds") (rows_of (found_of explore.now)))) }
+    ensures none { IfNone result ((seconds : Option ℕ) →
+        SaysSeconds (first_of (codes "seconds") (rows_of (found_of explore.now))) seconds → ⊥) }
+{
+    match text_of(explore, "seconds") {
+        Some(text) => Some(Some(number(text, SECONDS)?)),
+        None => Some(None),
+    }
+}
+
 /// How far the options of `explore` or of `compare` say that the search goes.
 pub(crate) fn bounds_of(explore: &ArgMatches<'_>) -> Option<Bounds>
     ensures said { IfSome result (λ b. SaysBounds (rows_of (found_of explore.now)) b.worlds b.entries b.memory) }
@@ -252,18 +274,26 @@ pub(crate) fn explore_order(
 
 // The exploration that the options of `explore` say.
 fn exploring_of(alloc: Global, explore: &ArgMatches<'_>) -> Result<Option<Exploring>, AllocError>
+    requires { HasNoClaims (rows_of (found_of explore.now)) }
     ensures said { IfOk result (λ found. IfSome found (SaysExploring (rows_of (found_of explore.now)))) }
     ensures none { IfOk result (λ found. IfNone found ((said : Exploring) →
         SaysExploring (rows_of (found_of explore.now)) said → ⊥)) }
 {
-    let Some((form, explain)) = explore_form(explore) else {
+    let Some(form) = explore_form(explore) else {
+        return Ok(None);
+    };
+    let Some(beside) = beside(explore) else {
+        return Ok(None);
+    };
+    let Some(seconds) = seconds_of(explore) else {
         return Ok(None);
     };
     match explore_order(alloc, explore)? {
         Some(order) => Ok(Some(Exploring {
             order,
             form,
-            explain,
+            seconds,
+            beside,
         })),
         None => Ok(None),
     }
@@ -358,6 +388,18 @@ fn explore_request<'a>(
 ) -> Result<Option<Request<'a>>, AllocError>
     ensures { IfOk result (GivesRequest (Some (codes "explore", rows_of (found_of options.now)))) }
 {
+    if has_claims(options) {
+        return match judging_of(alloc, options)? {
+            Some(judging) => Ok(Some(Request::Judge(judging))),
+            None => Ok(None),
+        };
+    }
+    if given(options, "ends") {
+        return match deciding_of(alloc, options)? {
+            Some(deciding) => Ok(Some(Request::Decide(deciding))),
+            None => Ok(None),
+        };
+    }
     if given(options, "first") {
         return match seeking_of(alloc, options)? {
             Some(seeking) => Ok(Some(Request::Seek(seeking))),

@@ -1,5 +1,6 @@
 //! The request to look for the first finding.
 
+use crate::exploring::Beside;
 use exploration_text::ExploreOrder;
 
 /// To look for the first fault, or the first outcome that is not wanted, of the text's program.
@@ -9,6 +10,8 @@ pub struct Seeking {
     pub order: ExploreOrder,
     /// Whether the answer is JSON.
     pub json: bool,
-    /// Whether reasons are written.
-    pub explain: bool,
+    /// After how many seconds the search ends, if it does.
+    pub seconds: Option<u64>,
+    /// What is written beside the answer.
+    pub beside: Beside,
 }

@@ -8,7 +8,7 @@ ghost use Rattle.command_words.specs.Words.{file_argument, text_option, with_tes
 
 use crate::compare_words::file_argument;
 use crate::help;
-use crate::ranges::{JOBS, MODEL_WORLDS};
+use crate::ranges::{JOBS, MODEL_WORLDS, SECONDS};
 use crate::words::{memory_option, new_command, number_option, with_flag};
 use clap::{Arg, ArgAction, Command};
 use std::alloc::{AllocError, Global};
@@ -71,6 +71,8 @@ fn test_bounds<'a>(alloc: Global) -> Result<Command<'a>, AllocError>
     let command = test_files(alloc)?;
     let command = command.arg(number_option(alloc, "worlds", help::MODEL_WORLDS, MODEL_WORLDS))?;
     let command = command.arg(memory_option(alloc))?;
+    let seconds = number_option(alloc, "seconds", help::MODEL_SECONDS, SECONDS);
+    let command = command.arg(seconds)?;
     command.arg(number_option(alloc, "jobs", help::JOBS, JOBS))
 }
 

@@ -39,6 +39,8 @@ pub struct Testing<'a> {
     pub worlds: u64,
     /// At how many bytes of memory the search stops, for each model.
     pub memory: u64,
+    /// After how many seconds the searches of each model stop, if they do.
+    pub seconds: Option<u64>,
     /// How many models are explored side by side; 0: one for each processor.
     pub jobs: u64,
     /// What is printed.

@@ -26,8 +26,8 @@ use world_search::{Bounds, Landing, Watcher, search};
 /// Where the exploration is complete, the outcomes of every world that any schedule leads to are listed, if no entries
 /// that follow change them, under whatever count (`all`); so are those of every settled world (`settled`), and so is
 /// each [`RunError::Full`]. Where it isn't complete, as many worlds were kept as there may be, or more than a schedule
-/// may have entries, or as many bytes were counted as may be kept; each answer is right all the same (`each`). A loop
-/// that says a value in each turn has outcomes that stay, and no settled report.
+/// may have entries, or as many bytes were counted as may be kept, or the watcher has ended the search; each answer is
+/// right all the same (`each`). A loop that says a value in each turn has outcomes that stay, and no settled report.
 ///
 /// Worlds are taken for one where they differ only in the marks of fibers, in the numbers of masks, in how often fibers
 /// have changed their cells, and in the notes of who was joined. So the count of the limits plays no part, and no
@@ -51,7 +51,10 @@ pub fn explore_outcomes<V: Watcher>(
         IsSettled (counted limits count) w → IsListed it.answers.items (outcomes (GoesWell w))) }
     ensures each { IfOk result (λ it. All (IsReached (code_of (source_of program.now)) limits) it.answers.items) }
     ensures once { IfOk result (λ it. ListOnce it.answers.items) }
-    ensures stopped { IfOk result (λ it. it.complete ≡ false → IsAtBound bounds it.worlds it.bytes) }
+    ensures stopped { IfOk result (λ it. it.complete ≡ false → it.halted ≡ false →
+        IsAtBound bounds it.worlds it.bytes) }
+    ensures halted { IfOk result (λ it. it.halted ≡ true → V.has_stopped watcher.new ≡ true) }
+    ensures apart { IfOk result (λ it. it.complete ≡ true → it.halted ≡ false) }
     ensures room { IfOk result (λ it. it.worlds ≤ max bounds.worlds 1) }
     ensures spare { IfOk result (λ it. it.complete ≡ true → it.bytes < bounds.memory) }
     ensures numbers { IfOk result (λ it. All (λ a. All (λ f. f < 1000) a.schedule) it.answers.items) }
@@ -66,6 +69,7 @@ pub fn explore_outcomes<V: Watcher>(
         worlds: found.worlds,
         bytes: found.bytes,
         complete: found.complete,
+        halted: found.halted,
     })
 }
 

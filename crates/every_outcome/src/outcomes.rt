@@ -86,4 +86,6 @@ pub struct OutcomeExploration {
     pub bytes: usize,
     /// Every schedule was explored: there is no other answer.
     pub complete: bool,
+    /// The watcher has ended the search.
+    pub halted: bool,
 }

@@ -35,6 +35,30 @@ module _ (p : Fiber → Bool) (f : ℕ) (gs : List Fiber) (i : ℕ) (b : Fiber) 
   pub one_stops : nat_eq i f || p b ≡ false → from i ≡ false
   one_stops none = turn ∙ ap (λ (t : Bool). t && from (suc i)) none
 
+-- where one of them uses it, not all keep it
+nor : (t : Bool) → t && false ≡ false
+nor true = refl
+nor false = refl
+
+fails_from : (p : Fiber → Bool) (f : ℕ) (gs : List Fiber) (j i : ℕ) (b : Fiber) → slice_get gs i ≡ Some b → nat_eq (j + i) f || p b ≡ false →
+    others p f j gs ≡ false
+fails_from p f [] j i b at out = absurd (cc)
+fails_from p f (x ∷ gs) j zero b at out =
+    let same : x ≡ b = cc in
+    let here : j + 0 ≡ j = omega arith in
+    ap (λ (t : Bool). t && others p f (suc j) gs) (ap (λ (y : Fiber). nat_eq j f || p y) same ∙ ap (λ (k : ℕ). nat_eq k f || p b) (sym here) ∙ out)
+fails_from p f (x ∷ gs) j (suc i) b at out =
+    let next : suc j + i ≡ j + suc i = omega arith in
+    ap (λ (t : Bool). (nat_eq j f || p x) && t)
+    (fails_from p f gs (suc j) i b at (ap (λ (k : ℕ). nat_eq k f || p b) next ∙ out)) ∙
+    nor (nat_eq j f || p x)
+
+pub one_fails : (p : Fiber → Bool) (f : ℕ) (gs : List Fiber) (i : ℕ) (b : Fiber) → slice_get gs i ≡ Some b → nat_eq i f || p b ≡ false →
+    others p f 0 gs ≡ false
+one_fails p f gs i b at out =
+    let here : 0 + i ≡ i = omega arith in
+    fails_from p f gs 0 i b at (ap (λ (k : ℕ). nat_eq k f || p b) here ∙ out)
+
 drop_past : (gs : List Fiber) (i : ℕ) → length gs ≤ i → drop i gs ≡ []
 drop_past [] zero past = refl
 drop_past [] (suc i) past = refl

@@ -5,23 +5,28 @@ use Rattle.derived_ops.specs.Tree.{Tree}
 use Rattle.cell_registry.specs.declared.limits.Limits.{Limits}
 use Rattle.cell_registry.specs.declared.limits.RunError.{RunError}
 use Rattle.scheduled_core.specs.Core.{World, core, entered}
-use Rattle.scheduled_core.specs.Finals.{IsSettled}
+use Rattle.scheduled_core.specs.Finals.{IsFinal}
 use Rattle.world_search.specs.Lists.{IsIn}
 use Rattle.world_search.specs.Systems as search
 use Rattle.world_search.proofs.Closed.{run-append}
-use Rattle.fair_ends.specs.Fair.{EndsUnder, IsAnswer, IsFairCycle, first_of}
+use Rattle.fair_ends.specs.Fair.{EndsUnder, IsEnd, IsFairCycle, first_of}
 use Rattle.every_schedule.specs.Fairness.{Ends, IsForever, IsOver, repeated}
-use Rattle.every_schedule.specs.Places.{Place, bare, bared, entering, first_place, placed, report_at, stepped, unnoted}
+use Rattle.every_schedule.specs.Places.{Place, bare, bared, entering, first_place, placed, stepped, unnoted}
 use Rattle.every_schedule.proofs.Bare.{bare_step}
-use Rattle.every_schedule.proofs.Placed.{core_run, settles, settles_place}
+use Rattle.every_schedule.proofs.Placed.{core_run}
+use Rattle.every_schedule.proofs.Unrest.{final_bare, final_noted}
 
--- an answer of the search is one of the core
-over : (k : Limits) (x : Result World RunError) → IsAnswer stepped report_at (bared (placed k x)) → IsOver k x
-over k (Ok w) h = settles k w h
+-- in this place no fiber can go on
+abbrev pub Rests : Place → Type 0
+Rests p = IsFinal p.world
+
+-- an end of the search is one of the core
+over : (k : Limits) (x : Result World RunError) → IsEnd stepped Rests (bared (placed k x)) → IsOver x
+over k (Ok w) h = final_noted w h
 over k (Err e) h = tt
 
-pub ends : (code : Tree) (k : Limits) (s : ℕ → ℕ) → EndsUnder stepped report_at (first_place code k) s → Ends code k s
-ends code k s h = (h.0, over k (core code k (first_of s h.0)) (subst (IsAnswer stepped report_at) (core_run code k (first_of s h.0)) h.1))
+pub ends : (code : Tree) (k : Limits) (s : ℕ → ℕ) → EndsUnder stepped Rests (first_place code k) s → Ends code k s
+ends code k s h = (h.0, over k (core code k (first_of s h.0)) (subst (IsEnd stepped Rests) (core_run code k (first_of s h.0)) h.1))
 
 -- a world that the search has as this place
 at_place : (k : Limits) (x : Result World RunError) (p : Place) → bared (placed k x) ≡ Ok p → (w : World) × (x ≡ Ok w) ×
@@ -49,12 +54,12 @@ stays k w f x is h v to =
     let same : record { limits = k; world = unnoted v } ≡ (let p : Place = record { limits = k; world = unnoted w } in p) = cc in
     ap (λ (p : Place). p.world) same
 
-pub forever : (code : Tree) (k : Limits) (stem cycle exit : List ℕ) → IsFairCycle stepped report_at (first_place code k) stem cycle exit →
+pub forever : (code : Tree) (k : Limits) (stem cycle : List ℕ) → IsFairCycle stepped Rests (first_place code k) stem cycle →
     IsForever code k stem cycle
-forever code k stem cycle exit h = record {
+forever code k stem cycle h = record {
   world = here.0;
   comes = here.1;
-  unsettled = λ settled. h.leaves (subst (search.IsSettled stepped report_at) here.2 (settles_place k here.0 settled) exit);
+  unrested = λ fin. h.unrested (subst Rests here.2 (final_bare here.0 fin));
   again = λ n. (
       let to = at_place k (core code k (stem ++ repeated cycle n)) h.world (sym (core_run code k (stem ++ repeated cycle n)) ∙ led n) in
       (to.0, to.1, same_world k (unnoted to.0) (unnoted here.0) (to.2 ∙ sym here.2))

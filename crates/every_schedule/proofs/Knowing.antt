@@ -1,5 +1,5 @@
 -- What is known of states, where it becomes more.
-use Rattle.std.proofs.Common.{◌≡◌, ℕ, ◌<◌, Bool, List, [], ◌∷◌, ◌++◌, length, set, inl, inr, sym, ap, ◌∙◌, subst, arith}
+use Rattle.std.proofs.Common.{◌≡◌, ℕ, zero, suc, ◌<◌, refl, lit<, Bool, List, [], ◌∷◌, ◌++◌, length, set, inl, inr, sym, ap, ◌∙◌, subst, arith}
 use Rattle.std.specs.Prelude.{Option, Some, None}
 use Rattle.std.specs.List.{slice_get}
 use Rattle.std.proofs.lemmas.Option.{same_Some}
@@ -7,28 +7,63 @@ use mathlib.Core.Logic.{dite}
 use native.Mathlib.Decide.{ℕ_discrete}
 use Rattle.derived_ops.specs.Naming.{Given}
 use Rattle.fiber_frames.specs.declared.uses.Use.{Use}
+use Rattle.fiber_frames.specs.declared.uses.Use.TheVariants.{Awaits, Cancels, Completes, Gets, Joins, Stores}
 use Rattle.fiber_frames.specs.Fiber.{Fiber}
 use Rattle.fiber_frames.specs.Naming.{NamedRun}
 use Rattle.fiber_frames.specs.Uses.{is_some, uses_in}
 use Rattle.world_search.specs.Lists.{IsMore}
 use Rattle.world_search.proofs.Lists.{get_end, more_get, set_other, set_same}
 use Rattle.every_schedule.specs.declared.known.Known.{Known}
-use Rattle.every_schedule.specs.Private.Knowing.{AreKnownOf, IsKnown, TellsUses}
+use Rattle.every_schedule.specs.Private.Knowing.{AreKnownOf, IsKnown, TellUses, use_code, use_place}
 
-module _ (u : Use) (g : Fiber) where
+-- each use has a number of its own
+use_of : ℕ → Use
+use_of zero = Cancels
+use_of (suc zero) = Joins
+use_of (suc (suc zero)) = Gets
+use_of (suc (suc (suc zero))) = Stores
+use_of (suc (suc (suc (suc zero)))) = Completes
+use_of (suc (suc (suc (suc (suc n))))) = Awaits
+
+decoded : (u : Use) → use_of (use_code u) ≡ u
+unfolding use_of
+decoded Cancels = refl
+decoded Joins = refl
+decoded Gets = refl
+decoded Stores = refl
+decoded Completes = refl
+decoded Awaits = refl
+
+few_uses : (u : Use) → use_code u < 6
+few_uses Cancels = lit< tt
+few_uses Joins = lit< tt
+few_uses Gets = lit< tt
+few_uses Stores = lit< tt
+few_uses Completes = lit< tt
+few_uses Awaits = lit< tt
+
+same_use : (u v : Use) (m n : ℕ) → use_place u m ≡ use_place v n → (u ≡ v) × (m ≡ n)
+same_use u v m n e =
+    let a = few_uses u in
+    let b = few_uses v in
+    let codes : use_code u ≡ use_code v = omega (arith, a, b, e) in
+    (sym (decoded u) ∙ ap use_of codes ∙ decoded v, omega (arith, a, b, e))
+
+module _ (g : Fiber) where
   -- nothing is known of any number
-  pub tells_none : (xs : List (Option Bool)) → ((i : ℕ) (x : Option Bool) → slice_get xs i ≡ Some x → x ≡ None) → TellsUses u g xs
-  tells_none xs none = λ given named n b at. let no : Some b ≡ None = none n (Some b) at in absurd (cc)
+  pub tell_none : (xs : List (Option Bool)) → ((i : ℕ) (x : Option Bool) → slice_get xs i ≡ Some x → x ≡ None) → TellUses g xs
+  tell_none xs none = λ given named u n b at. let no : Some b ≡ None = none (use_place u n) (Some b) at in absurd (cc)
 
-  -- one number more is known
-  pub tells_set : (xs : List (Option Bool)) (i : ℕ) (it : Bool) → i < length xs → TellsUses u g xs →
-      ((given : Given) → NamedRun given g.running → it ≡ is_some (uses_in u i g.running)) → TellsUses u g (set xs i (Some it))
-  tells_set xs i it low h told = λ given named n b at. dite (ℕ_discrete n i)
+  -- one use more is known
+  pub tell_set : (xs : List (Option Bool)) (u : Use) (m i : ℕ) (it : Bool) → i ≡ use_place u m → i < length xs → TellUses g xs →
+      ((given : Given) → NamedRun given g.running → it ≡ is_some (uses_in u m g.running)) → TellUses g (set xs i (Some it))
+  tell_set xs u m i it place low h told = λ given named v n b at. dite (ℕ_discrete (use_place v n) i)
       (λ is.
-      let here : Some (Some it) ≡ Some (Some b) = sym (set_same xs i (Some it) low) ∙ subst (λ m. slice_get (set xs i (Some it)) m ≡ Some (Some b)) is at in
+      let here : Some (Some it) ≡ Some (Some b) = sym (set_same xs i (Some it) low) ∙ subst (λ j. slice_get (set xs i (Some it)) j ≡ Some (Some b)) is at in
       let one : it ≡ b = same_Some it b (same_Some (Some it) (Some b) here) in
-      sym one ∙ told given named ∙ ap (λ m. is_some (uses_in u m g.running)) (sym is))
-      (λ isnt. h given named n b (sym (set_other xs i n (Some it) isnt) ∙ at))
+      let both = same_use u v m n (sym place ∙ sym is) in
+      sym one ∙ told given named ∙ ap (λ x. is_some (uses_in x m g.running)) both.0 ∙ ap (λ x. is_some (uses_in v x g.running)) both.1)
+      (λ isnt. h given named v n b (sym (set_other xs i (use_place v n) (Some it) isnt) ∙ at))
 
 -- of states that are still there the same is known
 pub known_more : (fs fs' : List Fiber) (ks : List Known) → IsMore fs fs' → AreKnownOf fs ks → AreKnownOf fs' ks

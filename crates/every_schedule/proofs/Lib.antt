@@ -1,9 +1,11 @@
 pub mod Placed
 pub mod Told
 pub mod FairRuns
+pub mod Unrest
 pub mod Listing
 pub mod Laws
 pub mod Numbered
+pub mod Packed
 pub mod Knowing
 pub mod Turning
 pub mod Standing

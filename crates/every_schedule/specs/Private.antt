@@ -2,6 +2,7 @@
 pub mod Telling
 pub mod Keeping
 pub mod Numbered
+pub mod Packed
 pub mod Turning
 pub mod Knowing
 pub mod Standing

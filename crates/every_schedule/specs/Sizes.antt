@@ -2,7 +2,6 @@
 use Rattle.std.specs.Prelude.{ℕ, ◌+◌, ◌*◌, length, min}
 use Rattle.cell_registry.specs.Plain.{PlainView}
 use Rattle.fiber_frames.specs.Fiber.{Fiber}
-use Rattle.every_schedule.specs.Private.Numbered.{Numbers}
 use Rattle.every_schedule.specs.Private.Seen.{Marked}
 
 -- no more than fit a word
@@ -16,10 +15,6 @@ fiber_size f = capped (16 * length f.marks + 480)
 -- a registry: its cells are made at once, as many as its limits say
 abbrev pub registry_size : PlainView → ℕ
 registry_size r = 160 + 32 * r.limits.fibers + 8 * r.limits.refs + 16 * r.limits.deferreds
-
--- the numbers of a world's states
-abbrev pub row_size : Numbers → ℕ
-row_size n = capped (4 * length n.fibers + 96)
 
 -- the number of a world, with those of refs
 abbrev pub seen_row_size : Marked → ℕ

@@ -35,7 +35,7 @@ use world_search::{Bounds, Claimed, Met, Watcher};
 /// once: the values of the refs in each world to which a schedule leads are those in a world that is kept. The bound of
 /// entries counts those of the search alone, without the moves behind them.
 ///
-/// The limits are in their ranges ([`Limits`]). The watcher is called as in
+/// The limits are in their ranges ([`Limits`]). The watcher is asked as in
 /// [`explore_watched`](crate::explore_watched). [`RunError::NoMemory`] is the only error.
 pub fn search_claims<V: Watcher>(
     alloc: Global,
@@ -53,6 +53,10 @@ pub fn search_claims<V: Watcher>(
     ensures numbers { IfOk result (λ it. All (IsFew 1000) it.met.items) }
     ensures spare { IfOk result (λ it. it.complete ≡ true → it.bytes < bounds.memory) }
     ensures room { IfOk result (λ it. it.worlds ≤ max bounds.worlds 1) }
+    ensures halted { IfOk result (λ it. it.halted ≡ true → V.has_stopped watcher.new ≡ true) }
+    ensures may { IfOk result (λ it. it.halted ≡ true → V.can_stop watcher.old ≡ true) }
+    ensures apart { IfOk result (λ it. it.complete ≡ true → it.halted ≡ false) }
+    ensures watches { V.can_stop watcher.new ≡ V.can_stop watcher.old }
     ensures memory { IfErr result (λ e. e ≡ RunError.NoMemory) }
 {
     let mut worlds = SeenWorlds::new(alloc, program, limits)?;
@@ -62,6 +66,7 @@ pub fn search_claims<V: Watcher>(
     Ok(Claimed {
         met: certified.met,
         complete,
+        halted: found.halted,
         worlds: found.worlds,
         bytes: found.bytes,
     })

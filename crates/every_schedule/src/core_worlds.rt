@@ -13,8 +13,7 @@ ghost use Rattle.fiber_frames.specs.Fiber.{Fiber};
 ghost use Rattle.every_schedule.specs.Claims.{stored_by};
 ghost use Rattle.every_schedule.specs.Places.{Place, first_place, report_at};
 ghost use Rattle.every_schedule.specs.Reduced.{leapt};
-ghost use Rattle.every_schedule.specs.Private.Keeping.{AreSingle, IsKept};
-ghost use Rattle.every_schedule.specs.Private.Numbered.{MayAdd};
+ghost use Rattle.every_schedule.specs.Private.Keeping.{AreSingle};
 
 use crate::core_world::CoreWorld;
 use crate::current::{Current, fibers_of};
@@ -23,7 +22,7 @@ use crate::leaping::{AtOnce, leap};
 use crate::own_moves::stored_in;
 use crate::pool::{Pool, Pooled};
 use crate::reports::same_reports;
-use crate::row::Row;
+use crate::rows::Rows;
 use cell_registry::{Limits, RunError};
 use effect_term::{Program, facts_of};
 use fiber_frames::Config;
@@ -45,7 +44,7 @@ pub(crate) struct CoreWorlds {
     alloc: Global,
     limits: Limits,
     current: Current,
-    rows: Pool<Row>,
+    rows: Rows,
     // The entries that led from the last world to the current one.
     trail: Vec<u16>,
     faults: Faults,
@@ -66,13 +65,13 @@ impl Model for CoreWorlds {
     ghost coded = { Prim.hlevel (codes, tree_code, the_look.the_row.coded, the_mark.the_row.coded) };
 
     ghost view = { λ s. record {
-      places = map (place_of s.limits s.current.fibers s.current.registries) s.rows.items.items;
+      places = map (place_of s.limits s.current.fibers s.current.registries) s.rows.rows;
       faults = s.faults;
       bytes = capped (s.rows.bytes + s.current.bytes);
     } };
 
     ghost invariant = { λ s.
-        AreWorlds s.limits s.current.fibers s.current.registries s.rows.items.items };
+        AreWorlds s.limits s.current.fibers s.current.registries s.rows.rows };
 }
 
 impl CoreWorlds {
@@ -88,9 +87,8 @@ impl CoreWorlds {
     {
         let first = CoreWorld::first(alloc, program, limits)?;
         let mut current = Current::new(alloc, first)?;
-        let row = current.row()?;
-        let mut rows = Pool::new(alloc);
-        rows.add(row)?;
+        let registry = current.number()?;
+        let rows = Rows::first(alloc, registry, current.numbers())?;
         Ok(CoreWorlds {
             alloc,
             limits,
@@ -107,8 +105,7 @@ impl CoreWorlds {
         ensures report { IfOk result (λ it. (p : Place) → slice_get self.now.places world ≡ Some p → it ≡ report_at p) }
         ensures lawful { IfOk result (λ it. All (λ f. AreLawful f.marks f.outcome) it.fibers) }
     {
-        let row = &self.rows.items[world];
-        let fibers = fibers_of(self.alloc, self.current.fibers(), row.fibers())?;
+        let fibers = fibers_of(self.alloc, self.current.fibers(), self.rows.fibers(world))?;
         report_of_fibers(self.alloc, fibers)
     }
 
@@ -134,11 +131,10 @@ impl CoreWorlds {
         ensures born { (p : Place) → slice_get self.now.places world ≡ Some p → result ≡ length p.world.fibers }
         ensures few { result ≤ 1000 }
     {
-        let row = &self.rows.items[world];
         // The registry is within its limits, and has given each of the fibers its number.
-        let registry = self.current.registry_of(row);
+        let registry = self.current.registry_of(self.rows.registry(world));
         facts_of(registry.limits());
-        row.fibers().len() as u16
+        self.rows.fibers(world).len() as u16
     }
 
     /// The world of this number.
@@ -146,9 +142,9 @@ impl CoreWorlds {
         requires { number < length self.now.places }
         ensures { IfOk result (λ it. (p : Place) → slice_get self.now.places number ≡ Some p → it ≡ p) }
     {
-        let row = &self.rows.items[number];
-        let fibers = fibers_of(self.alloc, self.current.fibers(), row.fibers())?;
-        let registry = self.current.registry_of(row).again(self.alloc)?;
+        let fibers = fibers_of(self.alloc, self.current.fibers(), self.rows.fibers(number))?;
+        let registry = self.current.registry_of(self.rows.registry(number));
+        let registry = registry.again(self.alloc)?;
         Ok(CoreWorld::new(fibers, registry))
     }
 
@@ -158,15 +154,14 @@ impl CoreWorlds {
         ensures { (p : Place) → slice_get self.now.places world ≡ Some p →
             result ≡ stored_by (slice_get p.world.fibers fiber) }
     {
-        let row = &self.rows.items[world];
-        stored_at(self.current.fibers(), row.fibers(), fiber)
+        stored_at(self.current.fibers(), self.rows.fibers(world), fiber)
     }
 
     /// About how many bytes the rows and the states take.
     pub(crate) fn counted(&self) -> usize
         ensures { result ≡ self.now.bytes }
     {
-        self.rows.bytes.saturating_add(self.current.bytes())
+        self.rows.bytes().saturating_add(self.current.bytes())
     }
 
     /// Makes the entry of a fiber at a world, with such own moves behind it.
@@ -185,38 +180,16 @@ impl CoreWorlds {
         ensures room { OnOk result (length self.new.places ≤ max most (length self.old.places)) }
         ensures next { IfOk result (IsNext (length self.old.places) (length self.new.places) most) }
     {
-        let row = &self.rows.items[world];
-        self.current.go_to(row)?;
+        self.current
+            .go_to(self.rows.registry(world), self.rows.fibers(world))?;
         self.trail.clear();
         match leap(&mut self.current, fiber, at_once, &mut self.trail) {
             Ok(()) => {}
             Err(fault) => return fault_met(&mut self.faults, fault),
         }
-        let row = self.current.row()?;
-        keep(self.alloc, &mut self.rows, &row, most)
+        let registry = self.current.number()?;
+        self.rows.keep(registry, self.current.numbers(), most)
     }
-}
-
-/// The number of a row, which is kept unless there are so many already.
-pub(crate) fn keep<T: Pooled>(
-    alloc: Global,
-    rows: &mut Pool<T>,
-    row: &T,
-    most: usize,
-) -> Result<Entered, AllocError>
-    ensures adds { MayAdd rows.old.items.items rows.new.items.items row.now }
-    ensures kept { IfOk result (λ it. IsKept rows.new.items.items it row.now) }
-    ensures room { OnOk result (length rows.new.items.items ≤ max most (length rows.old.items.items)) }
-    ensures next { IfOk result (IsNext (length rows.old.items.items) (length rows.new.items.items) most) }
-{
-    if let Some(number) = rows.find(row) {
-        return Ok(Entered::At(Landing::World(number as usize)));
-    }
-    if rows.items.len() >= most {
-        return Ok(Entered::Full);
-    }
-    let number = rows.add(row.again(alloc)?)?;
-    Ok(Entered::At(Landing::World(number as usize)))
 }
 
 // The ref that the next move of a fiber, if it is one of these numbers, sets or changes.
@@ -282,13 +255,15 @@ impl Worlds for CoreWorlds {
     }
 
     fn same_report(&self, one: usize, other: usize) -> bool {
-        let first = &self.rows.items[one];
-        let second = &self.rows.items[other];
-        same_reports(self.current.fibers(), first.fibers(), second.fibers())
+        same_reports(
+            self.current.fibers(),
+            self.rows.fibers(one),
+            self.rows.fibers(other),
+        )
     }
 
     fn len(&self) -> usize {
-        self.rows.items.len()
+        self.rows.len()
     }
 
     fn bytes(&self) -> usize {

@@ -15,14 +15,13 @@ ghost use Rattle.scheduled_core.specs.Private.Moving.{Refuses, Replied, children
 ghost use Rattle.world_search.specs.Lists.{IsMore};
 ghost use Rattle.every_schedule.specs.Places.{moves_at, stepped};
 ghost use Rattle.every_schedule.specs.Private.Numbered.{AreAt, IsWorld, IsWorldOf};
-ghost use Rattle.every_schedule.specs.Private.Standing.{IsOnward, IsSame, here};
-ghost use Rattle.every_schedule.specs.Private.Knowing.{AreKnownOf};
+ghost use Rattle.every_schedule.specs.Private.Standing.{IsNumbered, IsOnward, IsSame, here};
+ghost use Rattle.every_schedule.specs.Private.Knowing.{AreKnownOf, IsOwned};
 ghost use Rattle.every_schedule.specs.Private.Turning.{AreTurned, IsChild, IsMoved, IsSaid, MayTurn, reply_of};
 
 use crate::core_world::CoreWorld;
-use crate::known::Known;
+use crate::known::{Known, Owned};
 use crate::pool::{Pool, Pooled};
-use crate::row::Row;
 use crate::turns::{Said, Turn, Turns, reply_said, told};
 use cell_registry::{Limits, PlainRegistry, RunError};
 use effect_term::facts_of;
@@ -48,6 +47,10 @@ pub(crate) struct Current {
     states: States,
     numbers: Vec<u32>,
     registry: PlainRegistry,
+    // The number of the registry, if it is known.
+    at: Option<u32>,
+    // Of each fiber the place of the one that was last found to use what its next move uses.
+    rivals: Vec<usize>,
 }
 
 impl Model for Current {
@@ -58,7 +61,7 @@ impl Model for Current {
     ghost use Rattle.fiber_frames.specs.contracts.ask.Look as the_look;
     ghost use Rattle.fiber_frames.specs.contracts.mark.Mark as the_mark;
     ghost use Rattle.every_schedule.specs.Sizes.{capped};
-    ghost use Rattle.every_schedule.specs.Private.Standing.{Stand};
+    ghost use Rattle.every_schedule.specs.Private.Standing.{IsNumbered, Stand};
     ghost use Rattle.every_schedule.specs.Private.Knowing.{AreKnownOf};
     ghost use Rattle.every_schedule.specs.Private.Turning.{AreTurned};
 
@@ -77,7 +80,8 @@ impl Model for Current {
     ghost invariant = { λ s.
         All (λ n. n < length s.states.fibers.items.items) s.numbers.items ×
         AreTurned s.states.fibers.items.items s.states.turns.kept.items ×
-        AreKnownOf s.states.fibers.items.items s.states.known.items };
+        AreKnownOf s.states.fibers.items.items s.states.known.items ×
+        IsNumbered s.states.registries.items.items s.registry s.at };
 }
 
 impl Current {
@@ -97,39 +101,62 @@ impl Current {
         let (fibers, registry) = first.into_parts();
         let numbers = number_all(alloc, fibers.as_slice(), &mut states.fibers)?;
         know_all(alloc, &states.fibers, registry.limits(), &mut states.known)?;
+        let rivals = vec![in alloc; 0; usize::from(registry.limits().fibers)]?;
         Ok(Current {
             alloc,
             states,
             numbers,
             registry,
+            at: None,
+            rivals,
         })
     }
 
-    /// The numbers of its states, under which they are kept from now on.
-    pub(crate) fn row(&mut self) -> Result<Row, AllocError>
+    /// The number of its registry, which is kept from now on.
+    pub(crate) fn number(&mut self) -> Result<u32, AllocError>
         ensures onward { IsOnward self.old self.new }
         ensures here { here self.new ≡ here self.old }
-        ensures row { IfOk result (λ it. IsWorldOf self.new.fibers self.new.registries it (here self.old)) }
+        ensures numbers { self.new.numbers ≡ self.old.numbers }
+        ensures row { IfOk result (λ it. IsWorldOf self.new.fibers self.new.registries
+            record { registry = it; fibers = self.new.numbers } (here self.old)) }
     {
-        let registry = self
+        match self.at {
+            Some(number) => return Ok(number),
+            None => {}
+        }
+        let number = self
             .states
             .registries
             .number_of(self.alloc, &self.registry)?;
-        let numbers = Vec::from_slice(self.alloc, self.numbers.as_slice())?;
-        Ok(Row::new(registry, numbers))
+        self.at = Some(number);
+        Ok(number)
     }
 
-    /// Goes to the world of this row.
-    pub(crate) fn go_to(&mut self, row: &Row) -> Result<(), AllocError>
-        requires { (k : TheLimits) × IsWorld k self.old.fibers self.old.registries row.now }
+    /// The numbers of its fibers' states.
+    pub(crate) fn numbers(&self) -> &[u32]
+        ensures { result.now ≡ self.now.numbers }
+    {
+        self.numbers.as_slice()
+    }
+
+    /// Goes to the world of these numbers, that of its registry and those of its fibers' states.
+    pub(crate) fn go_to(&mut self, registry: u32, fibers: &[u32]) -> Result<(), AllocError>
+        requires { (k : TheLimits) × IsWorld k self.old.fibers self.old.registries
+            record { registry = registry; fibers = fibers.now } }
         ensures fibers { self.new.fibers ≡ self.old.fibers }
         ensures registries { self.new.registries ≡ self.old.registries }
-        ensures here { OnOk result (IsWorldOf self.old.fibers self.old.registries row.now (here self.new)) }
+        ensures here { OnOk result (IsWorldOf self.old.fibers self.old.registries
+            record { registry = registry; fibers = fibers.now } (here self.new)) }
     {
-        let numbers = Vec::from_slice(self.alloc, row.fibers())?;
-        let registry = self.states.registries.items[row.registry() as usize].again(self.alloc)?;
-        self.numbers = numbers;
-        self.registry = registry;
+        load(
+            self.alloc,
+            &self.states.registries,
+            registry,
+            &mut self.registry,
+            &mut self.at,
+        )?;
+        self.numbers.clear();
+        self.numbers.extend_from_slice(fibers)?;
         Ok(())
     }
 
@@ -148,6 +175,7 @@ impl Current {
         let place = usize::from(fiber);
         let state = self.numbers[place];
         let config = &self.states.fibers.items[state as usize];
+        self.at = None;
         let said = match replied(config, &mut self.registry, fiber) {
             Ok(said) => said,
             Err(fault) => return Err(fault),
@@ -168,6 +196,7 @@ impl Current {
     }
 
     /// How many fibers are born.
+    #[inline(always)]
     pub(crate) fn born(&self) -> usize
         ensures { result ≡ length (here self.now).world.fibers }
     {
@@ -184,6 +213,7 @@ impl Current {
     }
 
     /// What the next move of a fiber wants.
+    #[inline(always)]
     pub(crate) fn wish(&self, place: usize) -> Wish
         requires { place < length (here self.now).world.fibers }
         ensures { (g : Fiber) → slice_get (here self.now).world.fibers place ≡ Some g → result ≡ wish_of (ask_of g) }
@@ -196,6 +226,7 @@ impl Current {
     }
 
     /// Whether the next move of a fiber is a wait that never ends.
+    #[inline(always)]
     pub(crate) fn waits_alone(&self, place: usize) -> bool
         requires { place < length (here self.now).world.fibers }
         ensures { (g : Fiber) → slice_get (here self.now).world.fibers place ≡ Some g → result ≡ waits_alone g }
@@ -207,7 +238,22 @@ impl Current {
         }
     }
 
+    /// In which worlds the next move of a fiber is an own one.
+    #[inline(always)]
+    pub(crate) fn owned(&self, place: usize) -> Owned
+        requires { place < length (here self.now).world.fibers }
+        ensures { (g : Fiber) → slice_get (here self.now).world.fibers place ≡ Some g →
+            IsOwned (wish_of (ask_of g)) (waits_alone g) result }
+    {
+        let number = self.numbers[place] as usize;
+        match self.states.known.get(number) {
+            Some(known) => known.owned,
+            None => Owned::Sometimes,
+        }
+    }
+
     /// Whether a fiber can still use the fiber, the ref or the deferred of this number so.
+    #[inline(always)]
     pub(crate) fn uses(&mut self, place: usize, what: Use, number: u16) -> bool
         requires place { place < length (here self.old).world.fibers }
         requires fits { AllFit (here self.old).world }
@@ -223,7 +269,27 @@ impl Current {
         self.states.known[state].uses(fiber, what, number)
     }
 
+    /// The place of a fiber that may use what the next move of this one uses: the one that last did.
+    #[inline(always)]
+    pub(crate) fn rival(&self, fiber: u16) -> usize {
+        match self.rivals.get(usize::from(fiber)) {
+            Some(place) => *place,
+            None => 0,
+        }
+    }
+
+    /// The fiber of this place uses what the next move of this fiber uses.
+    pub(crate) fn note_rival(&mut self, fiber: u16, place: usize)
+        ensures { IsSame self.old self.new }
+    {
+        let at = usize::from(fiber);
+        if at < self.rivals.len() {
+            self.rivals[at] = place;
+        }
+    }
+
     /// The registry.
+    #[inline(always)]
     pub(crate) fn registry(&self) -> &PlainRegistry
         ensures { result.now ≡ record { limits = (here self.now).limits; state = (here self.now).world.cells } }
     {
@@ -247,13 +313,37 @@ impl Current {
         &self.states.fibers
     }
 
-    /// The registry of a row.
-    pub(crate) fn registry_of(&self, row: &Row) -> &PlainRegistry
-        requires { row.now.registry < length self.now.registries }
-        ensures { slice_get self.now.registries row.now.registry ≡ Some result.now }
+    /// The registry of this number.
+    pub(crate) fn registry_of(&self, number: u32) -> &PlainRegistry
+        requires { number < length self.now.registries }
+        ensures { slice_get self.now.registries number ≡ Some result.now }
     {
-        &self.states.registries.items[row.registry() as usize]
+        &self.states.registries.items[number as usize]
     }
+}
+
+// The registry becomes the one of this number, if it isn't known to be that already.
+fn load(
+    alloc: Global,
+    pool: &Pool<PlainRegistry>,
+    number: u32,
+    registry: &mut PlainRegistry,
+    at: &mut Option<u32>,
+) -> Result<(), AllocError>
+    requires number { number < length pool.now.items.items }
+    requires known { IsNumbered pool.now.items.items registry.old at.old }
+    ensures known { IsNumbered pool.now.items.items registry.new at.new }
+    ensures loaded { OnOk result (slice_get pool.now.items.items number ≡ Some registry.new) }
+{
+    if let Some(known) = *at {
+        if known == number {
+            return Ok(());
+        }
+    }
+    let loaded = pool.items[number as usize].again(alloc)?;
+    *registry = loaded;
+    *at = Some(number);
+    Ok(())
 }
 
 // The registry's reply to the next move of a fiber, which it has.
@@ -345,8 +435,8 @@ fn made(alloc: Global, pool: &mut Pool<Config>, state: u32, said: Said) -> Resul
 {
     let mut fiber = pool.items[state as usize].again(alloc)?;
     let child = resumed(&mut fiber, said)?;
-    let next = pool.number_of(alloc, &fiber)?;
-    let child = child_of(alloc, pool, child)?;
+    let next = pool.number(fiber)?;
+    let child = child_of(pool, child)?;
     Ok(Turn { state: next, child })
 }
 
@@ -364,17 +454,13 @@ fn resumed(fiber: &mut Config, said: Said) -> Result<Option<Config>, AllocError>
 }
 
 // The number of a child, if there is one.
-fn child_of(
-    alloc: Global,
-    pool: &mut Pool<Config>,
-    child: Option<Config>,
-) -> Result<Option<u32>, AllocError>
+fn child_of(pool: &mut Pool<Config>, child: Option<Config>) -> Result<Option<u32>, AllocError>
     ensures more { IsMore pool.old.items.items pool.new.items.items }
     ensures child { IfOk result (λ it. IsChild pool.new.items.items it (option_to_list child)) }
 {
     match child {
         None => Ok(None),
-        Some(it) => Ok(Some(pool.number_of(alloc, &it)?)),
+        Some(it) => Ok(Some(pool.number(it)?)),
     }
 }
 

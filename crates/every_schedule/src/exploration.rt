@@ -87,4 +87,6 @@ pub struct Exploration {
     /// Every schedule was explored: there is no other answer, and wherever a schedule has led, some entries more lead
     /// to one.
     pub complete: bool,
+    /// Its watcher has ended the search. So it isn't complete.
+    pub halted: bool,
 }

@@ -86,6 +86,7 @@ pub fn explore(
     ensures once { IfOk result (λ it. ListOnce it.answers) }
     ensures stopped { IfOk result (λ it. it.complete ≡ false → IsAtBound bounds it.worlds it.bytes ⊎
         IsPastBound (code_of (source_of program.now)) limits bounds.entries it.answers) }
+    ensures unhalted { IfOk result (λ it. it.halted ≡ false) }
     ensures room { IfOk result (λ it. it.worlds ≤ max bounds.worlds 1) }
     ensures spare { IfOk result (λ it. it.complete ≡ true → it.bytes < bounds.memory) }
     ensures counted { IfOk result (λ it. min (13 * it.worlds) 18446744073709551615 ≤ it.bytes) }
@@ -100,8 +101,9 @@ pub fn explore(
     explore_watched(alloc, program, limits, bounds, &mut Unwatched)
 }
 
-/// The same ([`explore`]), while the watcher is told from time to time how many worlds were found and how long the
-/// schedules are, at each ten-thousandth world.
+/// The same ([`explore`]), while the watcher hears from time to time how many worlds were found and how long the
+/// schedules are, at each hundredth world. The watcher can end the search then: what was found is returned, and it isn't
+/// complete ([`Exploration::halted`]).
 pub fn explore_watched<V: Watcher>(
     alloc: Global,
     program: &Program,
@@ -129,8 +131,13 @@ pub fn explore_watched<V: Watcher>(
         (schedule : List ℕ) (w : World) → core (code_of (source_of program.now)) limits schedule ≡ GoesWell w →
         (f : ℕ) → NeverEnds limits w f → ⊥) }
     ensures once { IfOk result (λ it. ListOnce it.answers) }
-    ensures stopped { IfOk result (λ it. it.complete ≡ false → IsAtBound bounds it.worlds it.bytes ⊎
+    ensures stopped { IfOk result (λ it. it.complete ≡ false → it.halted ≡ false →
+        IsAtBound bounds it.worlds it.bytes ⊎
         IsPastBound (code_of (source_of program.now)) limits bounds.entries it.answers) }
+    ensures halted { IfOk result (λ it. it.halted ≡ true → V.has_stopped watcher.new ≡ true) }
+    ensures may { IfOk result (λ it. it.halted ≡ true → V.can_stop watcher.old ≡ true) }
+    ensures apart { IfOk result (λ it. it.complete ≡ true → it.halted ≡ false) }
+    ensures watches { V.can_stop watcher.new ≡ V.can_stop watcher.old }
     ensures room { IfOk result (λ it. it.worlds ≤ max bounds.worlds 1) }
     ensures spare { IfOk result (λ it. it.complete ≡ true → it.bytes < bounds.memory) }
     ensures counted { IfOk result (λ it. min (13 * it.worlds) 18446744073709551615 ≤ it.bytes) }
@@ -158,6 +165,7 @@ pub fn explore_watched<V: Watcher>(
         worlds: found.worlds,
         bytes: found.bytes,
         complete: are_both(found.complete, unfolded.whole),
+        halted: found.halted,
     })
 }
 
@@ -199,6 +207,7 @@ pub fn explore_full(
         (f : ℕ) → NeverEnds limits w f → ⊥) }
     ensures once { IfOk result (λ it. ListOnce it.answers) }
     ensures stopped { IfOk result (λ it. it.complete ≡ false → IsAtBound bounds it.worlds it.bytes) }
+    ensures unhalted { IfOk result (λ it. it.halted ≡ false) }
     ensures room { IfOk result (λ it. it.worlds ≤ max bounds.worlds 1) }
     ensures spare { IfOk result (λ it. it.complete ≡ true → it.bytes < bounds.memory) }
     ensures counted { IfOk result (λ it. min (13 * it.worlds) 18446744073709551615 ≤ it.bytes) }
@@ -215,6 +224,7 @@ pub fn explore_full(
         worlds: found.worlds,
         bytes: found.bytes,
         complete: found.complete,
+        halted: found.halted,
     })
 }
 

@@ -14,18 +14,18 @@ use fair_ends::{Ending, decide_ends};
 use std::alloc::Global;
 use world_search::{Bounds, Watcher};
 
-/// Whether every fair schedule of a program leads to an answer: to a report that no further entry changes, or to a
-/// fault.
+/// Whether every fair schedule of a program comes to an end: to a final world, in which each fiber has ended or waits for
+/// what can't come, or to a fault.
 ///
 /// A schedule has no end here. It is fair if each fiber has an entry again and again; an entry of a fiber that waits or
-/// has ended changes nothing. A deadlock is an answer, and so is a loop whose report no entry can change. No answer is
-/// a loop that an entry at the right moment would end, if a fair schedule can miss that moment for ever.
+/// has ended changes nothing. A deadlock is an end. A loop that nothing ends is none, whether or not its marks go on, and
+/// neither is one that an entry at the right moment would end, if a fair schedule can miss that moment for ever.
 ///
 /// [`Ending::Repeats`] has the entries that lead to a cycle, and those of the cycle: `replay` takes the first, and behind
 /// them the others as often as one likes. Each entry of each fiber is made alone, without the reduction of
 /// [`explore`](crate::explore), so there are more worlds. [`Ending::Undecided`] comes at a bound: as many worlds as may
-/// be kept, or as many bytes; the bound on entries isn't used. The limits are in their ranges ([`Limits`]).
-/// [`RunError::NoMemory`] is the only error.
+/// be kept, or as many bytes; the bound on entries isn't used. It also comes if the watcher ends the search. The limits
+/// are in their ranges ([`Limits`]). [`RunError::NoMemory`] is the only error.
 ///
 /// ```
 /// let program = Program::check(alloc, parse(alloc, b"(race (pure 4) (never))")?)?;
@@ -44,6 +44,7 @@ pub fn explore_ends<V: Watcher>(
         Ends (code_of (source_of program.now)) limits schedule) }
     ensures repeats { IfOk result (λ it. (c : TheCycle) → it ≡ Ending.Repeats c →
         IsForever (code_of (source_of program.now)) limits c.stem.items c.cycle.items) }
+    ensures watches { V.can_stop watcher.new ≡ V.can_stop watcher.old }
     ensures memory { IfErr result (λ e. e ≡ RunError.NoMemory) }
 {
     let mut worlds = CoreWorlds::new(alloc, program, limits)?;

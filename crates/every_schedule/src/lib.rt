@@ -36,9 +36,11 @@ mod own_moves;
 mod pool;
 mod reduced_worlds;
 mod reports;
-mod row;
+mod resting;
+mod rows;
 mod seen_row;
 mod seen_worlds;
+mod table;
 mod turns;
 mod unfolding;
 
@@ -48,4 +50,4 @@ pub use exploration::{Answer, Answers, Exploration, Schedule};
 pub use explored::{explore, explore_full, explore_watched};
 pub use fair_endings::explore_ends;
 pub use fair_ends::{Cycle, Ending};
-pub use world_search::{Bounds, Claimed, Met, Watcher};
+pub use world_search::{Bounds, Claimed, Met, TimeLimit, Unwatched, Watcher};

@@ -1,6 +1,6 @@
 //! Which moves are made at once: those of which no other fiber sees anything, and which nothing that another fiber does
 //! can change.
-ghost use Rattle.std.specs.Prelude.{◌≡◌, ◌<◌, ◌||◌, length, nat_eq, Some};
+ghost use Rattle.std.specs.Prelude.{◌≡◌, ◌<◌, ◌||◌, false, length, nat_eq, Some};
 ghost use Rattle.std.specs.List.{slice_get};
 ghost use Rattle.fiber_frames.specs.Fiber.{Fiber};
 ghost use Rattle.fiber_frames.specs.Uses.{used_place};
@@ -13,6 +13,7 @@ ghost use Rattle.every_schedule.specs.Reduced.{is_left_alone as has_no_other, is
 
 use crate::core_world::CoreWorld;
 use crate::current::Current;
+use crate::known::Owned;
 use crate::leaping::few_born;
 use cell_registry::Call;
 use effect_term::facts_of;
@@ -27,15 +28,26 @@ pub(crate) fn is_own_move(current: &mut Current, by: u16) -> bool
     ensures same { IsSame current.old current.new }
     ensures own { result ≡ has_own (here current.old).world by (slice_get (here current.old).world.fibers by) }
 {
+    match current.owned(usize::from(by)) {
+        Owned::Never => false,
+        Owned::Always => true,
+        Owned::Sometimes => is_own_now(current, by),
+    }
+}
+
+// The same, as what the other fibers can still do says, or what the registry does.
+fn is_own_now(current: &mut Current, by: u16) -> bool
+    requires born { by < length (here current.old).world.fibers }
+    requires within { by < (here current.old).limits.fibers }
+    requires fits { AllFit (here current.old).world }
+    ensures same { IsSame current.old current.new }
+    ensures own { result ≡ has_own (here current.old).world by (slice_get (here current.old).world.fibers by) }
+{
     let place = usize::from(by);
     match current.wish(place) {
         Wish::Alone => !current.waits_alone(place),
         Wish::Nothing => false,
-        Wish::Shared(call) => {
-            // What it asks for is given.
-            facts_of(current.fiber(place).ask());
-            is_own_call(current, by, call)
-        }
+        Wish::Shared(call) => is_own_call(current, by, call),
     }
 }
 
@@ -81,15 +93,15 @@ fn is_own_call(current: &mut Current, by: u16, call: Call) -> bool
         Call::Mask | Call::Unmask => true,
         Call::Cut => !current.registry().has_ended(by),
         Call::Cancel(other) | Call::Join(other) => has_come_to_end(&*current, other),
-        Call::Finish(_) => is_left_alone(&mut *current, by) && is_kept(current, Use::Joins, by, by),
+        Call::Finish(_) => is_kept(&mut *current, Use::Joins, by, by) && is_left_alone(current, by),
         Call::Get(it) => is_kept(current, Use::Stores, by, it),
         Call::Set(it, _) | Call::Modify(it, _) => {
             is_kept(&mut *current, Use::Stores, by, it) && is_kept(current, Use::Gets, by, it)
         }
         Call::Complete(it, _) => {
             is_completed(&*current, it)
-                || is_kept(&mut *current, Use::Completes, by, it)
-                    && is_kept(current, Use::Awaits, by, it)
+                || is_kept(&mut *current, Use::Awaits, by, it)
+                    && is_kept(current, Use::Completes, by, it)
         }
         Call::Read(it) => is_completed(&*current, it),
         Call::Start | Call::NewRef | Call::NewDeferred => false,
@@ -113,9 +125,34 @@ fn is_kept(current: &mut Current, what: Use, by: u16, number: u16) -> bool
     ensures same { IsSame current.old current.new }
     ensures kept { result ≡ is_own_number what (here current.old).world by number }
 {
+    if !rival_spares(&mut *current, what, by, number) {
+        return false;
+    }
+    all_spare(current, what, by, number)
+}
+
+// Whether the fiber that last used what this one does isn't there, or can't use the number so any more.
+fn rival_spares(current: &mut Current, what: Use, by: u16, number: u16) -> bool
+    requires given { number < next_of (used_place what) (here current.old).world.cells }
+    requires fits { AllFit (here current.old).world }
+    ensures same { IsSame current.old current.new }
+    ensures uses { result ≡ false → is_own_number what (here current.old).world by number ≡ false }
+{
+    let place = current.rival(by);
+    place >= current.born() || spares(current, what, by, number, place)
+}
+
+// Whether each fiber but this one spares the number.
+fn all_spare(current: &mut Current, what: Use, by: u16, number: u16) -> bool
+    requires given { number < next_of (used_place what) (here current.old).world.cells }
+    requires fits { AllFit (here current.old).world }
+    ensures same { IsSame current.old current.new }
+    ensures kept { result ≡ is_own_number what (here current.old).world by number }
+{
     for place in 0..current.born() {
         let spared = spares(&mut *current, what, by, number, place);
         if !spared {
+            current.note_rival(by, place);
             return false;
         }
     }
@@ -123,6 +160,7 @@ fn is_kept(current: &mut Current, what: Use, by: u16, number: u16) -> bool
 }
 
 // Whether the fiber of this place is that one, or can't use the number so any more.
+#[inline(always)]
 fn spares(current: &mut Current, what: Use, by: u16, number: u16, place: usize) -> bool
     requires place { place < length (here current.old).world.fibers }
     requires fits { AllFit (here current.old).world }

@@ -4,10 +4,10 @@ ghost use Rattle.std.specs.List.{slice_get};
 ghost use Rattle.world_search.specs.Lists.{IsMore};
 ghost use Rattle.every_schedule.specs.Sizes.{capped};
 
+use crate::table::Table;
 use cell_registry::PlainRegistry;
 use fiber_frames::Config;
 use std::alloc::{AllocError, Global};
-use std::collections::HashMap;
 
 // About how many bytes a fiber takes without its marks.
 const FIBER: usize = 480;
@@ -84,14 +84,15 @@ impl Pooled for PlainRegistry {
     }
 }
 
-/// States, each of which has its place for its number. One is looked up by its key, under which the last state of this
-/// key is filed, and each state names the one before it. Whatever stands there, only a state that is the same is taken
-/// for the one that is looked for.
+/// States, each of which has its place for its number, under which it is filed by its key. Whatever is filed, only a
+/// state that is the same is taken for the one that is looked for.
 #[derive(Drop)]
 pub(crate) struct Pool<T> {
+    alloc: Global,
     pub(crate) items: Vec<T>,
-    last: HashMap<u64, u32>,
-    earlier: Vec<Option<u32>>,
+    // The key of each of them.
+    keys: Vec<u64>,
+    table: Table,
     /// About how many bytes all of them take.
     pub(crate) bytes: usize,
 }
@@ -103,56 +104,73 @@ impl<T: Pooled> Pool<T> {
         ensures bytes { result.bytes ≡ 0 }
     {
         Pool {
+            alloc,
             items: Vec::new(alloc),
-            last: HashMap::new(alloc),
-            earlier: Vec::new(alloc),
+            keys: Vec::new(alloc),
+            table: Table::new(alloc),
             bytes: 0,
         }
     }
 
-    /// The number of a state that is kept and is this one, as far as was looked.
-    pub(crate) fn find(&self, wanted: &T) -> Option<u32>
+    /// The number of a state that is kept and is this one, as far as was looked. This is its key.
+    pub(crate) fn find(&self, key: u64, wanted: &T) -> Option<u32>
         ensures { IfSome result (λ n. slice_get self.now.items.items n ≡ Some wanted.now) }
     {
-        let mut next = self.last.get(&wanted.key()).copied();
-        for _ in 0..self.items.len() {
-            let number = next?;
-            if self.items.get(number as usize)?.is(wanted) {
+        for behind in 0..self.items.len() {
+            let number = self.table.get(key, behind)?;
+            if *self.keys.get(number as usize)? == key
+                && self.items.get(number as usize)?.is(wanted)
+            {
                 return Some(number);
             }
-            next = *self.earlier.get(number as usize)?;
         }
         None
     }
 
-    /// Keeps one more state, which gets the next number. There is no room for more than 2^32 - 1.
-    pub(crate) fn add(&mut self, item: T) -> Result<u32, AllocError>
+    /// Keeps one more state under its key. It gets the next number. There is no room for more than 2^32 - 1.
+    pub(crate) fn add(&mut self, key: u64, item: T) -> Result<u32, AllocError>
         ensures added { OnOk result (self.new.items.items ≡ self.old.items.items ++ item ∷ []) }
         ensures number { IfOk result (λ n. n ≡ length self.old.items.items) }
         ensures kept { OnErr result (self.new.items.items ≡ self.old.items.items) }
         ensures counted { OnOk result (self.new.bytes ≡ capped (self.old.bytes + T.size item)) }
     {
         let place = self.items.len();
-        if place >= u32::MAX as usize {
+        if place >= u32::MAX as usize || self.keys.len() != place {
             return Err(AllocError);
         }
+        if self.table.is_full() {
+            self.table = self.table.refiled(self.alloc, self.keys.as_slice())?;
+        }
         let number = place as u32;
-        let before = self.last.insert(item.key(), number)?;
         self.bytes = self.bytes.saturating_add(item.size());
-        self.earlier.push(before)?;
+        self.keys.push(key)?;
         self.items.push(item)?;
+        self.table.file(key, number);
         Ok(number)
     }
 
     /// The number of this state, which is kept from now on.
+    pub(crate) fn number(&mut self, item: T) -> Result<u32, AllocError>
+        ensures more { IsMore self.old.items.items self.new.items.items }
+        ensures number { IfOk result (λ n. slice_get self.new.items.items n ≡ Some item) }
+    {
+        let key = item.key();
+        if let Some(number) = self.find(key, &item) {
+            return Ok(number);
+        }
+        self.add(key, item)
+    }
+
+    /// The number of a state that is the same as this one, which is kept from now on.
     pub(crate) fn number_of(&mut self, alloc: Global, item: &T) -> Result<u32, AllocError>
         ensures more { IsMore self.old.items.items self.new.items.items }
         ensures number { IfOk result (λ n. slice_get self.new.items.items n ≡ Some item.now) }
     {
-        if let Some(number) = self.find(item) {
+        let key = item.key();
+        if let Some(number) = self.find(key, item) {
             return Ok(number);
         }
         let copy = item.again(alloc)?;
-        self.add(copy)
+        self.add(key, copy)
     }
 }

@@ -7,12 +7,14 @@ ghost use Rattle.cell_registry.specs.Cells.{AreLimits};
 ghost use Rattle.world_search.specs.Landings.{IsNext};
 ghost use Rattle.every_schedule.specs.Claims.{first_view, noted};
 ghost use Rattle.every_schedule.specs.Places.{first_place};
+ghost use Rattle.every_schedule.specs.Private.Keeping.{IsKept};
+ghost use Rattle.every_schedule.specs.Private.Numbered.{MayAdd};
 ghost use Rattle.every_schedule.specs.Private.Seen.{IsRowAdded, IsRowMet};
 
 use crate::claims::{Claim, SeenWorld};
-use crate::core_worlds::{CoreWorlds, keep};
+use crate::core_worlds::CoreWorlds;
 use crate::leaping::AtOnce;
-use crate::pool::Pool;
+use crate::pool::{Pool, Pooled};
 use crate::seen_row::SeenRow;
 use cell_registry::{Limits, RunError};
 use effect_term::Program;
@@ -72,7 +74,7 @@ impl SeenWorlds {
         let mut rows = Pool::new(alloc);
         let none = Vec::new(alloc);
         let first = SeenRow::new(0, none);
-        rows.add(first)?;
+        rows.add(first.key(), first)?;
         Ok(SeenWorlds {
             alloc,
             worlds,
@@ -124,9 +126,26 @@ fn full(rows: usize, most: usize) -> Result<Entered, AllocError>
     Ok(Entered::Full)
 }
 
+// The number of a row, which is kept unless there are so many already.
+fn keep<T: Pooled>(rows: &mut Pool<T>, row: T, most: usize) -> Result<Entered, AllocError>
+    ensures adds { MayAdd rows.old.items.items rows.new.items.items row }
+    ensures kept { IfOk result (λ it. IsKept rows.new.items.items it row) }
+    ensures room { OnOk result (length rows.new.items.items ≤ max most (length rows.old.items.items)) }
+    ensures next { IfOk result (IsNext (length rows.old.items.items) (length rows.new.items.items) most) }
+{
+    let key = row.key();
+    if let Some(number) = rows.find(key, &row) {
+        return Ok(Entered::At(Landing::World(number as usize)));
+    }
+    if rows.items.len() >= most {
+        return Ok(Entered::Full);
+    }
+    let number = rows.add(key, row)?;
+    Ok(Entered::At(Landing::World(number as usize)))
+}
+
 // What came of an entry, by what came of it in the core and by the refs that are set now.
 fn row_met(
-    alloc: Global,
     rows: &mut Pool<SeenRow>,
     came: Entered,
     seen: Vec<u16>,
@@ -142,7 +161,7 @@ fn row_met(
         Entered::At(Landing::Fault(fault)) => Ok(Entered::At(Landing::Fault(fault))),
         Entered::At(Landing::World(world)) => {
             let row = SeenRow::new(world, seen);
-            keep(alloc, rows, &row, most)
+            keep(rows, row, most)
         }
     }
 }
@@ -182,7 +201,7 @@ impl Worlds for SeenWorlds {
         let seen = seen_after(self.alloc, row.seen(), stored)?;
         let room = room(self.rows.items.len(), most);
         let came = self.worlds.entry(number, fiber, room, STILL)?;
-        row_met(self.alloc, &mut self.rows, came, seen, most)
+        row_met(&mut self.rows, came, seen, most)
     }
 
     fn same_report(&self, one: usize, other: usize) -> bool {

@@ -1,13 +1,13 @@
 //! What moves make of the states of fibers, kept by the numbers of states.
-ghost use Rattle.std.specs.Prelude.{◌≡◌, ◌++◌, [], ◌∷◌, IfSome, OnErr, OnOk};
+ghost use Rattle.std.specs.Prelude.{◌≡◌, ◌++◌, ◌<◌, [], ◌∷◌, length, IfSome, OnErr, OnOk};
 ghost use Rattle.effect_term.specs.Values.{IsValue};
 ghost use Rattle.effect_term.specs.declared.reply.JoinReply.TheVariants as TheJoin;
 ghost use Rattle.effect_term.specs.declared.reply.Reply.TheVariants as TheReply;
 ghost use Rattle.every_schedule.specs.Private.Turning.{IsAmong, IsSaid, reply_of};
 
+use crate::table::Table;
 use effect_term::{CancelReply, JoinReply, Outcome, Reply, Value};
 use std::alloc::{AllocError, Global};
-use std::collections::HashMap;
 
 /// A reply, with the number of a value in the place of the value.
 #[derive(Clone, Copy, PartialEq, Eq)]
@@ -57,12 +57,12 @@ pub(crate) struct Turned {
     pub(crate) turn: Turn,
 }
 
-/// The moves that were made. One is looked up by its key, under which the last one of this key is filed. Whatever
-/// stands there, only the move that is looked for is found.
+/// The moves that were made, each filed by its key. Whatever is filed, only the move that is looked for is found.
 #[derive(Drop)]
 pub(crate) struct Turns {
+    alloc: Global,
     pub(crate) kept: Vec<Turned>,
-    last: HashMap<u64, u32>,
+    table: Table,
 }
 
 impl Turns {
@@ -71,8 +71,9 @@ impl Turns {
         ensures { result.kept.items ≡ [] }
     {
         Turns {
+            alloc,
             kept: Vec::new(alloc),
-            last: HashMap::new(alloc),
+            table: Table::new(alloc),
         }
     }
 
@@ -81,10 +82,13 @@ impl Turns {
         ensures { IfSome result (λ turn. IsAmong self.now.kept.items
             record { state = state; said = said; turn = turn }) }
     {
-        let number = self.last.get(&key(state, said)).copied()?;
-        let found = self.kept.get(number as usize)?;
-        if found.state == state && found.said == said {
-            return Some(found.turn);
+        let key = key(state, said);
+        for behind in 0..self.kept.len() {
+            let number = self.table.get(key, behind)?;
+            let found = self.kept.get(number as usize)?;
+            if found.state == state && found.said == said {
+                return Some(found.turn);
+            }
         }
         None
     }
@@ -99,10 +103,24 @@ impl Turns {
         if place >= u32::MAX as usize {
             return Err(AllocError);
         }
-        self.last.insert(key(state, said), place as u32)?;
+        if self.table.is_full() {
+            self.table = refiled(self.alloc, self.kept.as_slice(), &self.table)?;
+        }
         self.kept.push(Turned { state, said, turn })?;
+        self.table.file(key(state, said), place as u32);
         Ok(())
     }
+}
+
+// A larger table of these moves.
+fn refiled(alloc: Global, kept: &[Turned], table: &Table) -> Result<Table, AllocError>
+    requires { length kept.now < 4294967295 }
+{
+    let mut larger = table.larger(alloc)?;
+    for (number, it) in kept.iter().enumerate() {
+        larger.file(key(it.state, it.said), number as u32);
+    }
+    Ok(larger)
 }
 
 // A number by which a move is looked up.

@@ -22,13 +22,28 @@ const ROWS: &[Row<'static>] = &[
         ends: true,
     },
     Row {
-        rule: "a deadlock is an answer",
+        rule: "a deadlock is an end",
         text: "(deferred d (await d))",
         ends: true,
     },
     Row {
-        rule: "a loop whose report no entry changes is an answer",
+        rule: "a wait without end, in a mask, is an end",
+        text: "(start a (uncancelable p (never)) (cancel a))",
+        ends: true,
+    },
+    Row {
+        rule: "a loop goes on for ever, though it leaves no marks",
         text: "(forever (cede))",
+        ends: false,
+    },
+    Row {
+        rule: "a loop in a mask goes on for ever",
+        text: "(start a (uncancelable p (forever (pure 0))) (pure 1))",
+        ends: false,
+    },
+    Row {
+        rule: "a loop that is canceled ends",
+        text: "(start a (forever (cede)) (cancel a))",
         ends: true,
     },
     Row {
@@ -37,9 +52,9 @@ const ROWS: &[Row<'static>] = &[
         ends: true,
     },
     Row {
-        rule: "a spin lock that nobody leaves is an answer, in which fiber 0 is unended",
+        rule: "a spin lock that nobody leaves goes on for ever",
         text: "(ref l 1 (handle (forever (let x (get l) (if0 x (raise 7) (cede)))) e (pure 0)))",
-        ends: true,
+        ends: false,
     },
     Row {
         rule: "a fiber that waits for a flag can miss it each time that it is set",

@@ -2,7 +2,8 @@
 
 use crate::sample_answers::{explore_order, replayed};
 use crate::wants::push_wants;
-use exploration_text::{ExploreOrder, FirstOrder, NotedAnswer, NotedOrder};
+use every_schedule::Unwatched;
+use exploration_text::{ExploreOrder, FirstOrder, NotedAnswer, WatchedOrder};
 use outcome_trace::{Status, TextOrder, read_program};
 use std::alloc::Global;
 use std::str;
@@ -60,7 +61,10 @@ const FOUND: &[Found] = &[
 // What is answered to a program whose first finding is asked for.
 fn first_of(alloc: Global, order: ExploreOrder, text: &[u8]) -> Result<Option<NotedAnswer>, Fail> {
     match read_program(alloc, text) {
-        Ok(program) => Ok(Some(FirstOrder { order }.noted_answer(alloc, &program)?)),
+        Ok(program) => {
+            let first = FirstOrder { order };
+            Ok(Some(first.answer_watched(alloc, &program, &mut Unwatched)?))
+        }
         Err(_) => Ok(None),
     }
 }

@@ -18,8 +18,6 @@ mod families;
 #[cfg(test)]
 mod first_findings;
 #[cfg(test)]
-mod listed;
-#[cfg(test)]
 mod places;
 #[cfg(test)]
 mod random;
@@ -38,10 +36,10 @@ mod samples_found;
 #[cfg(test)]
 mod searches;
 #[cfg(test)]
-mod texts;
-#[cfg(test)]
 mod wants;
 #[cfg(test)]
 mod watched;
 #[cfg(test)]
 mod watched_claims;
+#[cfg(test)]
+mod watched_models;

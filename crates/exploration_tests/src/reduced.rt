@@ -56,6 +56,28 @@ const COMPARED: &[Compared<'static>] = &[
         answers: 3,
     },
     Compared {
+        rule: "a finalizer behind the one that runs can still set a ref",
+        program: "(ref r 0 (start f (oncancel (oncancel (seq (canceled) (never)) (get r)) (set r 7)) \
+            (let a (get r) (say a))))",
+        fibers: 16,
+        count: 1000,
+        answers: 2,
+    },
+    Compared {
+        rule: "a finalizer of a wait can still set a ref",
+        program: "(ref r 0 (start f (oncancel (never) (set r 7)) (start c (cancel f) (let a (get r) (say a)))))",
+        fibers: 16,
+        count: 1000,
+        answers: 2,
+    },
+    Compared {
+        rule: "two fibers complete a deferred that nobody awaits, in either order",
+        program: "(deferred d (start f (let x (complete d 1) (say x)) (let y (complete d 2) (say y))))",
+        fibers: 16,
+        count: 1000,
+        answers: 2,
+    },
+    Compared {
         rule: "a fault of a start, and none without it",
         program: "(ref r 0 (start f (modify r 1) (let a (get r) (seq (start g (pure 1) (pure a)) (pure a)))))",
         fibers: 2,

@@ -1,4 +1,5 @@
-//! Whole texts of samples, where the rules leave no choice of schedules.
+//! Whole texts of samples, where the rules leave no choice of schedules. `golden/samples_of_one_schedule.fiber` has those
+//! that a command can ask for.
 
 use crate::sample_answers::order;
 use outcome_trace::{FromRead, Status, TextOrder, ToWrite, answer_text};
@@ -18,42 +19,6 @@ struct Sampled<'a> {
 
 // A fiber alone: each of its schedules is the same.
 const SAMPLED: &[Sampled<'static>] = &[
-    Sampled {
-        rule: "a look and an end, as often as it is drawn",
-        program: "(pure 1)",
-        fibers: 16,
-        times: 5,
-        entries: 100,
-        status: Status::Succeeded,
-        text: "sampled 5 schedules: 1 report, 0 faults\n\ncame 5 times, first under \"0*2\"\nfiber 0 succeeded 1\n",
-    },
-    Sampled {
-        rule: "one schedule that comes once, to an error",
-        program: "(raise 7)",
-        fibers: 16,
-        times: 1,
-        entries: 100,
-        status: Status::Succeeded,
-        text: "sampled 1 schedule: 1 report, 0 faults\n\ncame 1 time, first under \"0*2\"\nfiber 0 errored 7\n",
-    },
-    Sampled {
-        rule: "nothing moves that rests",
-        program: "(never)",
-        fibers: 16,
-        times: 3,
-        entries: 100,
-        status: Status::Succeeded,
-        text: "sampled 3 schedules: 1 report, 0 faults\n\ncame 3 times, first under \"\"\nfiber 0 unended\n",
-    },
-    Sampled {
-        rule: "exactly as many entries as there may be",
-        program: "(pure 1)",
-        fibers: 16,
-        times: 2,
-        entries: 2,
-        status: Status::Succeeded,
-        text: "sampled 2 schedules: 1 report, 0 faults\n\ncame 2 times, first under \"0*2\"\nfiber 0 succeeded 1\n",
-    },
     Sampled {
         rule: "one entry more than there may be",
         program: "(pure 1)",
@@ -82,16 +47,6 @@ const SAMPLED: &[Sampled<'static>] = &[
         entries: 0,
         status: Status::Succeeded,
         text: "sampled 1 schedule: 1 report, 0 faults\n\ncame 1 time, first under \"\"\nfiber 0 unended\n",
-    },
-    Sampled {
-        rule: "what goes round without end is cut short: a look, the loop, a look, a note, a look",
-        program: "(forever (say 1))",
-        fibers: 16,
-        times: 4,
-        entries: 5,
-        status: Status::Succeeded,
-        text: "sampled 4 schedules: 1 report, 0 faults\n\n\
-            came 4 times, cut short, first under \"0*5\"\nfiber 0 unended: say 1\n",
     },
     Sampled {
         rule: "no schedule is drawn",

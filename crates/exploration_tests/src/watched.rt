@@ -1,13 +1,19 @@
-//! What is told of an exploration while it goes.
+//! The lines that are written while an exploration goes, and explorations that are ended by their watcher.
 //!
 //! A fiber alone has one way on, so each entry leads, with the moves that are made at once behind it, to one world
 //! more: at the world with the number n, counted from 0, n + 1 worlds are known, and n entries lead there. A request for
-//! its own cancellation isn't made at once, so there are as many entries as such requests, and one before them.
+//! its own cancellation isn't made at once, so there are as many entries as such requests, and one before them. The
+//! watcher is asked at each hundredth world: so it hears k * 100 worlds and a depth of k * 100 - 1 when it is asked for
+//! the k-th time.
+
+ghost use Rattle.std.specs.Prelude.{true};
 
 use crate::answers::exploring;
-use exploration_text::obey_explore_watched;
-use outcome_trace::{FromRead, Status, ToWrite};
+use every_schedule::{Bounds, Exploration, TimeLimit, Unwatched, Watcher, explore_watched};
+use exploration_text::{TimedOrder, obey_watched};
+use outcome_trace::{FromRead, Status, ToWrite, obey_text, read_program};
 use std::alloc::Global;
+use std::cell::Cell;
 use std::io;
 use std::io::{ErrorKind, Write};
 use std::process::Abort;
@@ -17,33 +23,106 @@ use std::time::{Clock, Duration};
 // A fiber alone that goes on for more worlds than there may be.
 const LONG: &str = "(uncancelable p (repeat 90000 (canceled)))";
 
-// What is told of it, by a clock that stands still.
-const TOLD: &str = "explored 10000 worlds, 0 a second, depth 9999\n\
-    explored 20000 worlds, 0 a second, depth 19999\n";
+// A program that is explored before the watcher is asked, and a text that is none.
+const SHORT: &str = "explored 2 worlds: 1 report, 0 faults\n\nunder \"0*2\"\nfiber 0 succeeded 1\n";
 
-// A world takes 13 bytes, and its row in the store 96 and 4 for its one fiber; each entry but the last one leads to
+const REFUSED: &str = "refused 6 UnknownWord at 1\n";
+
+// The lines that are written, by a clock that goes on by 15 milliseconds at each look. It is looked at once at the
+// beginning, and then each time the watcher is asked. The first line comes at the 67th time, after 1,005 milliseconds, the
+// next one at the 134th, a second later, and so on; 15 milliseconds for a hundred worlds are 6,666 worlds a second.
+const TOLD: &str = "explored 6700 worlds, 6666 a second, depth 6699\n\
+    explored 13400 worlds, 6666 a second, depth 13399\n\
+    explored 20100 worlds, 6666 a second, depth 20099\n";
+
+// The lines until two seconds have passed, which is so at the 134th time.
+const TOLD_IN_TIME: &str = "explored 6700 worlds, 6666 a second, depth 6699\n\
+    explored 13400 worlds, 6666 a second, depth 13399\n";
+
+// What is answered then; behind it stand the bytes.
+const OUT_OF_TIME: &str = "stopped by time at 13400 worlds: 0 reports, 0 faults, ";
+
+// A world takes 13 bytes, and its row in the store 36 and 8 for its one fiber; each entry but the last one leads to
 // another world, which takes 8. Each entry brings three states of the fiber: the one that it makes, and two behind the
 // moves that are made at once. With the first one they are 61,501 states of 480 bytes, and all but the first two have
 // the mark of the mask, which takes 16. The cells have three states: as they begin, under the mask, and with the
 // request. Each takes 160 bytes and 32 for the fiber, 8 for each of 16 refs and 16 for each of 16 deferreds.
-const STOPPED: &str = "stopped at 20500 worlds: 0 reports, 0 faults, 32986684 bytes\n";
+const STOPPED: &str = "stopped at 20500 worlds: 0 reports, 0 faults, 31838684 bytes\n";
 
-// A clock that stands still, or fails.
+// A clock that goes on by this number of milliseconds at each look, or fails.
 #[derive(Drop)]
-struct Still {
+struct Steps {
+    step: u64,
+    now: Cell<u64>,
     fails: bool,
 }
 
-impl Clock for Still {
+impl Clock for Steps {
     fn monotonic(&self) -> io::Result<Duration> {
         if self.fails {
             return Err(io::Error::from(ErrorKind::Other));
         }
-        Ok(Duration::from_secs(7))
+        let now = self.now.get();
+        self.now.set(now.wrapping_add(self.step));
+        Ok(Duration::from_millis(now))
     }
 
     fn since_1970(&self) -> io::Result<Duration> {
         self.monotonic()
+    }
+}
+
+// A clock that goes on by this number of milliseconds at each look.
+fn steps(step: u64) -> Steps {
+    Steps {
+        step,
+        now: Cell::new(7000),
+        fails: false,
+    }
+}
+
+// A clock that fails.
+fn failing() -> Steps {
+    Steps {
+        step: 0,
+        now: Cell::new(0),
+        fails: true,
+    }
+}
+
+/// A watcher that ends the search when it is asked for the time of this number, and keeps what it heard last.
+#[derive(Drop)]
+pub struct Ends {
+    most: usize,
+    asked: usize,
+    heard: (usize, usize),
+}
+
+impl Ends {
+    /// One that is asked this number of times.
+    pub fn new(most: usize) -> Ends {
+        Ends {
+            most,
+            asked: 0,
+            heard: (0, 0),
+        }
+    }
+
+    /// How often it was asked.
+    pub fn asked(&self) -> usize {
+        self.asked
+    }
+}
+
+impl Watcher for Ends {
+    ghost can_stop = { λ it. true };
+
+    ghost has_stopped = { λ it. true };
+
+    fn goes_on(&mut self, worlds: usize, depth: usize) -> bool {
+        self.asked = self.asked.wrapping_add(1);
+        self.heard = (worlds, depth);
+        self.asked < self.most
     }
 }
 
@@ -61,18 +140,21 @@ impl Write for Closed {
     }
 }
 
-// The status of a program's exploration with at most 20,500 worlds. What it writes goes to these devices.
+// The status of a program's exploration with at most 20,500 worlds and within these seconds. What it writes goes to
+// these devices.
 fn watched<O: Write + Drop, E: Write + Drop>(
     alloc: Global,
     program: &str,
-    clock: &Still,
+    clock: &Steps,
+    seconds: Option<u64>,
     out: O,
     err: E,
 ) -> Status {
-    obey_explore_watched(
+    obey_watched(
         clock,
         alloc,
         &exploring(alloc, 1, 20_500, 30_000),
+        seconds,
         &mut FromRead::new(program.as_bytes()),
         &mut ToWrite::new(out),
         &mut ToWrite::new(err),
@@ -84,12 +166,12 @@ fn expect<R: Abort + AllocGlobal>(
     rt: &R,
     rule: &str,
     program: &str,
-    clock: &Still,
+    clock: &Steps,
     wanted: (Status, &str, &str),
 ) {
     let mut out = Vec::new(rt.alloc());
     let mut err = Vec::new(rt.alloc());
-    let status = watched(rt.alloc(), program, clock, &mut out, &mut err);
+    let status = watched(rt.alloc(), program, clock, None, &mut out, &mut err);
     assert_eq!(rt;
         (status, out.as_slice(), err.as_slice()),
         (wanted.0, wanted.1.as_bytes(), wanted.2.as_bytes()),
@@ -98,52 +180,114 @@ fn expect<R: Abort + AllocGlobal>(
 }
 
 #[test]
-fn each_ten_thousandth_world_is_told(rt: HostRuntime) {
-    let still = Still { fails: false };
-    expect(
-        &rt,
-        "a long one",
-        LONG,
-        &still,
-        (Status::Unended, STOPPED, TOLD),
-    );
-    let short = "explored 2 worlds: 1 report, 0 faults\n\nunder \"0*2\"\nfiber 0 succeeded 1\n";
-    expect(
-        &rt,
-        "a short one",
-        "(pure 1)",
-        &still,
-        (Status::Succeeded, short, ""),
-    );
-    let refused = "refused 6 UnknownWord at 1\n";
-    expect(
-        &rt,
-        "no program",
-        "(pur 1)",
-        &still,
-        (Status::Refused, refused, ""),
-    );
+fn progress_is_told_once_a_second(rt: HostRuntime) {
+    let rows = [
+        (15, LONG, Status::Unended, STOPPED, TOLD),
+        (0, LONG, Status::Unended, STOPPED, ""),
+        (1500, "(pure 1)", Status::Succeeded, SHORT, ""),
+        (1500, "(pur 1)", Status::Refused, REFUSED, ""),
+    ];
+    for (step, program, status, out, err) in rows {
+        expect(&rt, program, program, &steps(step), (status, out, err));
+    }
 }
 
 #[test]
-fn a_clock_that_fails_tells_nothing(rt: HostRuntime) {
-    let fails = Still { fails: true };
-    expect(
-        &rt,
-        "a clock fails",
-        LONG,
-        &fails,
-        (Status::Unended, STOPPED, ""),
+fn a_clock_that_fails_tells_nothing_and_ends_nothing(rt: HostRuntime) {
+    let mut out = Vec::new(rt.alloc());
+    let mut err = Vec::new(rt.alloc());
+    let status = watched(rt.alloc(), LONG, &failing(), Some(1), &mut out, &mut err);
+    assert_eq!(rt;
+        (status, out.as_slice(), err.as_slice()),
+        (Status::Unended, STOPPED.as_bytes(), b"".as_slice())
     );
 }
 
 #[test]
 fn a_last_device_that_fails_changes_nothing_else(rt: HostRuntime) {
     let mut out = Vec::new(rt.alloc());
-    let still = Still { fails: false };
-    let status = watched(rt.alloc(), LONG, &still, &mut out, Closed);
+    let status = watched(rt.alloc(), LONG, &steps(15), None, &mut out, Closed);
     assert_eq!(rt;
         (status, out.as_slice()),
         (Status::Unended, STOPPED.as_bytes())
     );
+}
+
+#[test]
+fn an_exploration_ends_when_its_time_is_over(rt: HostRuntime) {
+    let mut out = Vec::new(rt.alloc());
+    let mut err = Vec::new(rt.alloc());
+    let status = watched(rt.alloc(), LONG, &steps(15), Some(2), &mut out, &mut err);
+    assert_eq!(rt;
+        (status, err.as_slice()),
+        (Status::Unended, TOLD_IN_TIME.as_bytes())
+    );
+    assert!(rt; out.as_slice().starts_with(OUT_OF_TIME.as_bytes()));
+}
+
+#[test]
+fn an_exploration_without_progress_ends_then_too(rt: HostRuntime) {
+    let clock = steps(15);
+    let order = TimedOrder {
+        clock: &clock,
+        seconds: Some(2),
+        order: exploring(rt.alloc(), 1, 20_500, 30_000),
+    };
+    let mut out = Vec::new(rt.alloc());
+    let mut err = Vec::new(rt.alloc());
+    let status = obey_text(
+        rt.alloc(),
+        &order,
+        &mut FromRead::new(LONG.as_bytes()),
+        &mut ToWrite::new(&mut out),
+        &mut ToWrite::new(&mut err),
+    );
+    assert_eq!(rt; (status, err.as_slice()), (Status::Unended, b"".as_slice()));
+    assert!(rt; out.as_slice().starts_with(OUT_OF_TIME.as_bytes()));
+}
+
+// What is found of the long program while it is watched so.
+fn found_while<V: Watcher>(alloc: Global, watcher: &mut V) -> Result<Exploration, Fail> {
+    let order = exploring(alloc, 1, 20_500, 30_000);
+    let bounds: Bounds = order.bounds;
+    let Ok(program) = read_program(alloc, LONG.as_bytes()) else {
+        return Err(Fail::new("the program is refused"));
+    };
+    match explore_watched(alloc, &program, order.limits, bounds, watcher) {
+        Ok(found) => Ok(found),
+        Err(_) => Err(Fail::new("memory ran out")),
+    }
+}
+
+#[test]
+fn a_watcher_ends_the_search(rt: HostRuntime) -> Result<(), Fail> {
+    for most in [1, 3, 205] {
+        let mut ends = Ends::new(most);
+        let found = found_while(rt.alloc(), &mut ends)?;
+        assert_eq!(rt;
+            (found.complete, found.halted, found.worlds),
+            (false, true, most * 100)
+        );
+        assert_eq!(rt;
+            (ends.asked(), ends.heard),
+            (most, (most * 100, most * 100 - 1))
+        );
+    }
+    Ok(())
+}
+
+#[test]
+fn a_search_that_nobody_ends_goes_on_to_its_bound(rt: HostRuntime) -> Result<(), Fail> {
+    let found = found_while(rt.alloc(), &mut Unwatched)?;
+    assert_eq!(rt;
+        (found.complete, found.halted, found.worlds),
+        (false, false, 20_500)
+    );
+    let clock = steps(1000);
+    let found = found_while(rt.alloc(), &mut TimeLimit::new(&clock, None))?;
+    assert_eq!(rt;
+        (found.complete, found.halted, found.worlds),
+        (false, false, 20_500)
+    );
+    Ok(())
 }

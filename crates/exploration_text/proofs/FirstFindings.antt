@@ -1,6 +1,6 @@
 -- The first finding of a program.
-use Rattle.std.proofs.Common.{◌≡◌, ◌≤◌, ◌<◌, inl, inr, ℕ, Bool, true, false, List, Result, Ok, Err, IfOk, length, ap, arith, sym, ◌∙◌, subst}
-use Rattle.std.specs.Prelude.{Some, max}
+use Rattle.std.proofs.Common.{◌≡◌, ◌≤◌, ◌<◌, ◌⊎◌, inl, inr, ℕ, Bool, true, false, List, Result, Ok, Err, IfOk, length, ap, arith, refl, sym, ◌∙◌, subst}
+use Rattle.std.specs.Prelude.{Some, max, min}
 use Rattle.std.specs.List.{All, slice_get}
 use Rattle.cell_registry.specs.declared.limits.Limits.{Limits}
 use Rattle.cell_registry.specs.declared.limits.RunError.{RunError}
@@ -10,6 +10,7 @@ use Rattle.outcome_trace.specs.declared.text_order.Answer.{Answer as Answered}
 use Rattle.scheduled_core.specs.Core.{World, core, reported}
 use Rattle.scheduled_core.specs.Finals.{IsSettled}
 use Rattle.every_schedule.specs.declared.exploration.Answer.{Answer}
+use Rattle.every_schedule.specs.declared.exploration.Exploration.{Exploration}
 use Rattle.every_schedule.specs.Explored.{IsReached}
 use Rattle.every_schedule.proofs.Told.{all_at}
 use Rattle.sampled_schedules.specs.declared.comings.Coming.{Coming}
@@ -19,7 +20,7 @@ use Rattle.exploration_text.specs.declared.findings.First.{First}
 use Rattle.exploration_text.specs.declared.findings.First.TheVariants.{Explored, Found}
 use Rattle.exploration_text.specs.declared.wants.Want.{Want}
 use Rattle.exploration_text.specs.ExplorationText.{IsSpellable}
-use Rattle.exploration_text.specs.Findings.{HasEndedFirst, IsDecided, IsFinding, IsFirst, IsLast, Shows, ended, final}
+use Rattle.exploration_text.specs.Findings.{HasEndedFirst, IsDecided, IsFinding, IsFirst, IsLast, IsOfMore, Shows, bounds_within, ended, final}
 use Rattle.exploration_text.specs.Wants.{is_failure}
 
 faulted : (k : Limits) (x : Result World RunError) (e : RunError) → reported x ≡ Err e → IfOk x (IsSettled k)
@@ -83,16 +84,41 @@ searched_found code k wants i answers b a there unwanted each spelled same ends 
     let is = all_at (IsReached code k) answers i b there each in
     again code k wants b a true false same ends is.reached unwanted (λ h. is) (λ h. absurd cc) (all_at IsSpellable answers i b there spelled)
 
--- a whole exploration within fewer worlds
-pub widened : (code : Tree) (k : Limits) (fewer bounds : Bounds) (wants : List Want) (first : First) → fewer.worlds ≤ bounds.worlds →
-    fewer.entries ≡ bounds.entries → fewer.memory ≡ bounds.memory → IsDecided first → IsFirst code k fewer wants first → IsFirst code k bounds wants first
-widened code k fewer bounds wants (Found f) low entries memory decided h = h
-widened code k fewer bounds wants (Explored e) low entries memory complete h = (
+-- an exploration that was ended besides
+ended_so : (code : Tree) (k : Limits) (bounds : Bounds) (timed : Bool) (wants : List Want) (e : Exploration) → timed ≡ true →
+    IsFirst code k bounds timed wants (Explored e) → IsFirst code k bounds timed wants (Explored (record e { halted = true }))
+ended_so code k bounds timed wants e limited h = (
   record {
     all = h.0.all;
     each = h.0.each;
     once = h.0.once;
-    stopped = λ no. let bad : true ≡ false = sym complete ∙ no in absurd cc;
+    stopped = λ no going. absurd (cc);
+    halted = λ is. limited;
+    room = h.0.room;
+    spare = h.0.spare;
+    short = h.0.short;
+  },
+  h.1,
+  h.2,
+)
+
+-- a search that is whole or was ended can't have met a bound
+no_bound : {C : Type 0} (e : Exploration) → (e.complete ≡ true) ⊎ (e.halted ≡ true) → e.complete ≡ false → e.halted ≡ false → C
+no_bound e (inl whole) part going = let bad : true ≡ false = sym whole ∙ part in absurd cc
+no_bound e (inr halted) part going = let bad : true ≡ false = sym halted ∙ going in absurd cc
+
+-- an exploration within fewer worlds that is whole or was ended
+pub widened : (code : Tree) (k : Limits) (fewer bounds : Bounds) (timed : Bool) (wants : List Want) (first : First) → fewer.worlds ≤ bounds.worlds →
+    fewer.entries ≡ bounds.entries → fewer.memory ≡ bounds.memory → IsDecided first → IsFirst code k fewer timed wants first →
+    IsFirst code k bounds timed wants first
+widened code k fewer bounds timed wants (Found f) low entries memory decided h = h
+widened code k fewer bounds timed wants (Explored e) low entries memory decided h = (
+  record {
+    all = h.0.all;
+    each = h.0.each;
+    once = h.0.once;
+    stopped = no_bound e decided;
+    halted = h.0.halted;
     room = at_most e.worlds fewer.worlds bounds.worlds low h.0.room;
     spare = λ is. subst (λ m. e.bytes < m) memory (h.0.spare is);
     short = subst (λ n. All (λ (a : Answer). length a.schedule ≤ n) e.answers) entries h.0.short;
@@ -100,3 +126,37 @@ widened code k fewer bounds wants (Explored e) low entries memory complete h = (
   h.1,
   h.2,
 )
+
+pub min_low : (n most : ℕ) → min n most ≤ n
+min_low n most = omega arith
+
+pub fewer_worlds : (n : ℕ) → min n 10000 ≤ min n 1000000
+fewer_worlds n = omega arith
+
+-- bounds that allow no more worlds stay as they are
+same_bounds : (bounds : Bounds) (n : ℕ) → bounds.worlds ≤ n → bounds_within bounds n ≡ bounds
+same_bounds bounds n low =
+    let same : min bounds.worlds n ≡ bounds.worlds = omega (arith, low) in
+    ap (λ (w : ℕ). record bounds { worlds = w }) same
+
+-- the last search, within at most this number of worlds
+pub last_first : (code : Tree) (k : Limits) (bounds : Bounds) (n : ℕ) (timed : Bool) (wants : List Want) (first : First) →
+    IsDecided first ⊎ bounds.worlds ≤ n → IsFirst code k (bounds_within bounds n) timed wants first → IsFirst code k bounds timed wants first
+last_first code k bounds n timed wants first (inl decided) h =
+    widened code k (bounds_within bounds n) bounds timed wants first (min_low bounds.worlds n) refl refl decided h
+last_first code k bounds n timed wants first (inr low) h = subst (λ (b : Bounds). IsFirst code k b timed wants first) (same_bounds bounds n low) h
+
+-- of two searches the one that has found more
+pub more_first : (code : Tree) (k : Limits) (fewer bounds : Bounds) (timed : Bool) (wants : List Want) (before later result : First) →
+    fewer.worlds ≤ bounds.worlds → fewer.entries ≡ bounds.entries → fewer.memory ≡ bounds.memory → IsOfMore before later result →
+    IsFirst code k fewer timed wants before → IsFirst code k bounds timed wants later → IsFirst code k bounds timed wants result
+more_first code k fewer bounds timed wants before later result low entries memory (inl same) h last =
+    subst (λ (f : First). IsFirst code k bounds timed wants f) (sym same) last
+more_first code k fewer bounds timed wants before later result low entries memory (inr of) h last =
+    let e = of.0 in
+    let first : IsFirst code k fewer timed wants (Explored e) = subst (λ (f : First). IsFirst code k fewer timed wants f) of.2 h in
+    let ended : IsFirst code k bounds timed wants (Explored of.1) = subst (λ (f : First). IsFirst code k bounds timed wants f) of.3 last in
+    let limited : timed ≡ true = ended.0.halted of.4 in
+    subst (λ (f : First). IsFirst code k bounds timed wants f) (sym of.5)
+    (widened code k fewer bounds timed wants (Explored (record e { halted = true })) low entries memory (inr refl)
+    (ended_so code k fewer timed wants e limited first))

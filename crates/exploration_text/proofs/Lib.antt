@@ -5,3 +5,4 @@ pub mod SampleParts
 pub mod Sampled
 pub mod FirstFindings
 pub mod MissingLines
+pub mod NotedLemmas

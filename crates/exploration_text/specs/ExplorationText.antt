@@ -25,10 +25,16 @@ abbrev pub line_end : (complete : Bool) → (bytes : ℕ) → List ℕ
 line_end true bytes = 10 ∷ []
 line_end false bytes = codes ", " ++ (counted bytes (codes "byte") ++ 10 ∷ [])
 
+-- what the first line begins with: whether all was explored, and if not, whether its time was over
+abbrev pub line_front : (complete halted : Bool) → List ℕ
+line_front true halted = codes "explored "
+line_front false true = codes "stopped by time at "
+line_front false false = codes "stopped at "
+
 -- whether all was explored, how many worlds were found, and how many reports and faults are listed; where not all was
 -- explored, how many bytes were counted, too
 abbrev pub first_line : Exploration → List ℕ
-first_line e = (if e.complete then codes "explored " else codes "stopped at ") ++
+first_line e = line_front e.complete e.halted ++
     (counted e.worlds (codes "world") ++ (codes ": " ++
     (counted (count_by (λ a. is_ok a.end) e.answers) (codes "report") ++ (codes ", " ++
     (counted (count_by (λ a. is_err a.end) e.answers) (codes "fault") ++ line_end e.complete e.bytes)))))

@@ -1,6 +1,6 @@
 -- The first thing that shows that a program isn't right, and what is answered where it is looked for.
 use Rattle.std.specs.Prelude.{◌≡◌, ◌⊎◌, ◌<◌, ℕ, Bool, true, false, List, [], ◌∷◌, ◌++◌, codes, length, Option, Some}
-use Rattle.std.specs.Prelude.{Result, Ok, Err}
+use Rattle.std.specs.Prelude.{Result, Ok, Err, min}
 use Rattle.std.specs.List.{All}
 use Rattle.cell_registry.specs.declared.limits.Limits.{Limits}
 use Rattle.cell_registry.specs.declared.limits.RunError.{RunError}
@@ -15,6 +15,7 @@ use Rattle.text_io.specs.Schedule.{SpellsEntries}
 use Rattle.scheduled_core.specs.declared.report.Report.{Report}
 use Rattle.scheduled_core.specs.Core.{core, reported}
 use Rattle.every_schedule.specs.declared.exploration.Answer.{Answer}
+use Rattle.every_schedule.specs.declared.exploration.Exploration.{Exploration}
 use Rattle.every_schedule.specs.Explored.{IsReached}
 use Rattle.world_search.specs.declared.answers.Bounds.{Bounds}
 use Rattle.exploration_text.specs.declared.findings.Finding.{Finding}
@@ -41,10 +42,10 @@ pub record IsFinding (code : Tree) (limits : Limits) (wants : List Want) (f : Fi
   pub spelled : IsSpellable f.answer
 
 -- a finding, or an exploration that lists none
-abbrev pub IsFirst : Tree → Limits → Bounds → List Want → First → Type 0
-IsFirst code limits bounds wants (Found f) = IsFinding code limits wants f
-IsFirst code limits bounds wants (Explored e) =
-    IsExplorationOf code limits bounds e × (has_failure wants e.answers ≡ false) × All IsSpellable e.answers
+abbrev pub IsFirst : Tree → Limits → Bounds → (timed : Bool) → List Want → First → Type 0
+IsFirst code limits bounds timed wants (Found f) = IsFinding code limits wants f
+IsFirst code limits bounds timed wants (Explored e) =
+    IsExplorationOf code limits bounds timed e × (has_failure wants e.answers ≡ false) × All IsSpellable e.answers
 
 -- how a finding was found
 abbrev pub source_text : Bool → List ℕ
@@ -72,31 +73,43 @@ pub record IsFoundAnswer (t : Term) (limits : Limits) (wants : List Want) (answe
     pub status_is : status ≡ ends.Errored
 
 -- the text and the status of an exploration that lists no finding
-pub record IsUnfoundAnswer (t : Term) (limits : Limits) (bounds : Bounds) (wants : List Want) (answer : List ℕ)
-    (status : Status) : Type 0
+pub record IsUnfoundAnswer (t : Term) (limits : Limits) (bounds : Bounds) (timed : Bool) (wants : List Want)
+    (answer : List ℕ) (status : Status) : Type 0
   where
-    pub explored : IsExploredAnswer t limits bounds wants answer status
+    pub explored : IsExploredAnswer t limits bounds timed wants answer status
     pub none : has_failure wants explored.exploration.answers ≡ false
 
 -- such an answer, beside the lines of the wanted outcomes that no schedule comes to
-pub record IsNotedUnfound (t : Term) (limits : Limits) (bounds : Bounds) (wants : List Want) (note answer : List ℕ)
-    (status : Status) : Type 0
+pub record IsNotedUnfound (t : Term) (limits : Limits) (bounds : Bounds) (timed : Bool) (wants : List Want)
+    (note answer : List ℕ) (status : Status) : Type 0
   where
-    pub unfound : IsUnfoundAnswer t limits bounds wants answer status
+    pub unfound : IsUnfoundAnswer t limits bounds timed wants answer status
     pub note_is : note ≡ missing_of_exploration wants unfound.explored.exploration
 
 -- what is answered to a program with this note, with its status: a finding, which has no note, or an exploration that
 -- lists none
-abbrev pub IsFirstAnswer : Term → Limits → Bounds → List Want → (note : List ℕ) → List ℕ → Status → Type 0
-IsFirstAnswer t limits bounds wants note answer status =
-    (IsFoundAnswer t limits wants answer status × (note ≡ [])) ⊎ IsNotedUnfound t limits bounds wants note answer status
+abbrev pub IsFirstAnswer : Term → Limits → Bounds → (timed : Bool) → List Want → (note : List ℕ) → List ℕ → Status →
+    Type 0
+IsFirstAnswer t limits bounds timed wants note answer status =
+    (IsFoundAnswer t limits wants answer status × (note ≡ [])) ⊎
+    IsNotedUnfound t limits bounds timed wants note answer status
 
 -- ---- for private clauses
 
--- a search with more worlds would find nothing else
+-- a search with more worlds would find nothing else, or its watcher has ended it
 abbrev pub IsDecided : First → Type 0
 IsDecided (Found f) = Unit {0}
-IsDecided (Explored e) = e.complete ≡ true
+IsDecided (Explored e) = (e.complete ≡ true) ⊎ (e.halted ≡ true)
+
+-- these bounds, with at most this number of worlds
+abbrev pub bounds_within : Bounds → ℕ → Bounds
+bounds_within bounds worlds = record bounds { worlds = min bounds.worlds worlds }
+
+-- of two searches the later one, or, where its watcher has ended it, the one before, as ended with it
+abbrev pub IsOfMore : (before later result : First) → Type 0
+IsOfMore before later result = (result ≡ later) ⊎
+    ((e : Exploration) × (last : Exploration) × (before ≡ Explored e) × (later ≡ Explored last) ×
+    (last.halted ≡ true) × (result ≡ Explored (record e { halted = true })))
 
 -- the schedule wasn't cut short at so many entries, or it leads to a fault
 abbrev pub IsLast : ℕ → Answer → Type 0

@@ -5,3 +5,4 @@ pub mod SampleText
 pub mod SampleAnswers
 pub mod Findings
 pub mod Missing
+pub mod Noting

@@ -1,15 +1,18 @@
 //! What comes of a text under every schedule: the text of its exploration, or why there is none.
 
-ghost use Rattle.std.specs.Prelude.{◌≤◌, IfOk};
+ghost use Rattle.std.specs.Prelude.{◌≤◌, false};
 ghost use Rattle.cell_registry.specs.Cells.{AreLimits};
-ghost use Rattle.exploration_text.specs.ExploreAnswers.{IsExploreAnswer, IsExploredAnswer};
+ghost use Rattle.exploration_text.specs.ExploreAnswers.{IsExploredAnswer, IsNotedExplored};
 
+use crate::missing::missing_of_exploration;
+use crate::noted::NotedAnswer;
 use crate::texts::{exploration_status, text_of_exploration};
 use crate::wants::Want;
+use crate::watched_orders::WatchedOrder;
 use cell_registry::Limits;
 use effect_term::Program;
-use every_schedule::{Bounds, explore};
-use outcome_trace::{Answer, TextOrder, read_program, refusal};
+use every_schedule::{Bounds, Unwatched, Watcher, explore_watched};
+use outcome_trace::{Answer, InWords, ProgramOrder};
 use std::alloc::{AllocError, Global};
 
 /// Tells all that can come of the program that the text spells, under every schedule
@@ -29,32 +32,39 @@ pub struct ExploreOrder {
     pub ghost entries: { bounds.entries ≤ 1000000 },
 }
 
-impl TextOrder for ExploreOrder {
-    ghost answers = { λ order. IsExploreAnswer order.limits order.bounds order.wants.items };
+impl WatchedOrder for ExploreOrder {
+    type Refusals = InWords;
 
-    fn answer(&self, alloc: Global, text: &[u8]) -> Result<Answer, AllocError> {
-        match read_program(alloc, text) {
-            Ok(program) => explored_answer(alloc, &program, self),
-            Err(refused) => refusal(alloc, refused),
-        }
+    ghost finds = { λ order timed note t.
+        IsNotedExplored t order.limits order.bounds timed order.wants.items note };
+
+    fn answer_watched<V: Watcher>(
+        &self,
+        alloc: Global,
+        program: &Program,
+        watcher: &mut V,
+    ) -> Result<NotedAnswer, AllocError> {
+        let Ok(exploration) = explore_watched(alloc, program, self.limits, self.bounds, watcher)
+        else {
+            return Err(AllocError);
+        };
+        let wants = self.wants.as_slice();
+        Ok(NotedAnswer {
+            note: missing_of_exploration(alloc, &exploration, wants)?,
+            answer: Answer {
+                text: text_of_exploration(alloc, &exploration, wants)?,
+                status: exploration_status(&exploration, wants),
+            },
+        })
     }
 }
 
-// What comes of a program under every schedule.
-fn explored_answer(
-    alloc: Global,
-    program: &Program,
-    order: &ExploreOrder,
-) -> Result<Answer, AllocError>
-    ensures { IfOk result (λ a. IsExploredAnswer program.now order.now.limits order.now.bounds order.now.wants.items a.text.items
-        a.status) }
-{
-    let Ok(exploration) = explore(alloc, program, order.limits, order.bounds) else {
-        return Err(AllocError);
-    };
-    let wants = order.wants.as_slice();
-    Ok(Answer {
-        text: text_of_exploration(alloc, &exploration, wants)?,
-        status: exploration_status(&exploration, wants),
-    })
+impl ProgramOrder for ExploreOrder {
+    type Refusals = InWords;
+
+    ghost comes = { λ order t. IsExploredAnswer t order.limits order.bounds false order.wants.items };
+
+    fn answer_program(&self, alloc: Global, program: &Program) -> Result<Answer, AllocError> {
+        Ok(self.answer_watched(alloc, program, &mut Unwatched)?.answer)
+    }
 }

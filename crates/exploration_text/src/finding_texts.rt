@@ -7,9 +7,11 @@ ghost use Rattle.exploration_text.specs.Findings.{IsFindingText, IsFirstAnswer, 
 use crate::explore_texts::ExploreOrder;
 use crate::findings::{Finding, First, first_finding};
 use crate::missing::missing_of_exploration;
-use crate::noted::{NotedAnswer, NotedOrder};
+use crate::noted::NotedAnswer;
 use crate::texts::{end_text, exploration_status, text_of_exploration};
+use crate::watched_orders::WatchedOrder;
 use effect_term::Program;
+use every_schedule::Watcher;
 use outcome_trace::{Answer, InWords, Status, schedule_text};
 use std::alloc::{AllocError, Global};
 
@@ -23,14 +25,20 @@ pub struct FirstOrder {
     pub order: ExploreOrder,
 }
 
-impl NotedOrder for FirstOrder {
+impl WatchedOrder for FirstOrder {
     type Refusals = InWords;
 
-    ghost notes = { λ it note t. IsFirstAnswer t it.order.limits it.order.bounds it.order.wants.items note };
+    ghost finds = { λ it timed note t.
+        IsFirstAnswer t it.order.limits it.order.bounds timed it.order.wants.items note };
 
-    fn noted_answer(&self, alloc: Global, program: &Program) -> Result<NotedAnswer, AllocError> {
+    fn answer_watched<V: Watcher>(
+        &self,
+        alloc: Global,
+        program: &Program,
+        watcher: &mut V,
+    ) -> Result<NotedAnswer, AllocError> {
         let wants = self.order.wants.as_slice();
-        match first_finding(alloc, program, &self.order)? {
+        match first_finding(alloc, program, &self.order, watcher)? {
             First::Found(finding) => Ok(NotedAnswer {
                 answer: Answer {
                     text: text_of_finding(alloc, &finding)?,

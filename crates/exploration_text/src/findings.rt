@@ -1,14 +1,15 @@
 //! The first thing that shows that a program isn't right: schedules that are drawn at random meet it soon where there
 //! are many that do, and a search of every schedule meets it where there is one.
 
-ghost use Rattle.std.specs.Prelude.{◌≡◌, ◌≤◌, ℕ, IfNone, IfOk, IfSome, Some as There, false, true};
+ghost use Rattle.std.specs.Prelude.{◌≡◌, ◌⊎◌, ◌≤◌, ℕ, IfNone, IfOk, IfSome, Some as There, false, true};
 ghost use Rattle.std.specs.List.{slice_get};
 ghost use Rattle.cell_registry.specs.Cells.{AreLimits};
 ghost use Rattle.derived_ops.specs.Expansion.{code_of};
 ghost use Rattle.derived_ops.specs.Reading.{source_of};
 ghost use Rattle.scheduled_core.specs.Core.{core, reported};
 ghost use Rattle.exploration_text.specs.ExplorationText.{has_failure};
-ghost use Rattle.exploration_text.specs.Findings.{IsDecided, IsFinding, IsFirst, Shows};
+ghost use Rattle.exploration_text.specs.declared.findings.First.TheVariants.{Explored as Searched};
+ghost use Rattle.exploration_text.specs.Findings.{IsDecided, IsFinding, IsFirst, IsOfMore, Shows, bounds_within};
 ghost use Rattle.exploration_text.specs.Wants.{is_failure};
 
 use crate::explore_texts::ExploreOrder;
@@ -16,7 +17,7 @@ use crate::texts::{first_outcome, is_failure};
 use crate::wants::Want;
 use cell_registry::{Limits, RunError};
 use effect_term::Program;
-use every_schedule::{Answer, Bounds, Exploration, Schedule, explore};
+use every_schedule::{Answer, Bounds, Exploration, Schedule, Watcher, explore_watched};
 use outcome_trace::{Report, replay};
 use sampled_schedules::{Coming, sample};
 use std::alloc::{AllocError, Global};
@@ -29,8 +30,10 @@ const SCHEDULES: u32 = 100;
 
 const LENGTHS: &[u32] = &[64, 256, 1000];
 
-// How many worlds the searches before the last one have, so that a finding that is near is told soon.
-const SEARCHES: &[usize] = &[10_000, 1_000_000];
+// How many worlds the searches before the last one have, so that a finding that is near is reported soon.
+const NEAR: usize = 10_000;
+
+const FAR: usize = 1_000_000;
 
 /// A fault or an outcome of fiber 0 that is not wanted, and a schedule that leads to it.
 #[derive(Drop)]
@@ -55,73 +58,114 @@ pub enum First {
 /// Draws 3,000 schedules of a program by fixed seeds, 1,000 each of at most 64, 256 and 1,000 entries, and returns the
 /// first finding among their ends. Where there is none, explores every schedule, and returns the first answer that is a
 /// finding, or the exploration. The search looks for a finding where it has 10,000 worlds, 1,000,000 worlds and at its
-/// end.
-pub fn first_finding(
+/// end: these are three searches, of which the watcher can end each. Where it ends one that has fewer worlds than the
+/// one before, the exploration is that of the one before.
+pub fn first_finding<V: Watcher>(
     alloc: Global,
     program: &Program,
     order: &ExploreOrder,
+    watcher: &mut V,
 ) -> Result<First, AllocError>
     ensures { IfOk result (IsFirst (code_of (source_of program.now)) order.now.limits order.now.bounds
-        order.now.wants.items) }
+        (V.can_stop watcher.old) order.now.wants.items) }
 {
-    if let Some(finding) = drawn_finding(alloc, program, order)? {
-        return Ok(First::Found(finding));
+    match drawn_finding(alloc, program, order)? {
+        Some(finding) => Ok(First::Found(finding)),
+        None => searched_in_turn(alloc, program, order, watcher),
     }
-    for worlds in SEARCHES {
-        if let Some(first) = early_finding(alloc, program, order, *worlds)? {
-            return Ok(first);
-        }
-    }
-    searched(alloc, program, order, order.bounds)
 }
 
-// What a search within so many worlds finds, if it decides.
-fn early_finding(
+// What three searches find, each with more worlds than the one before.
+fn searched_in_turn<V: Watcher>(
     alloc: Global,
     program: &Program,
     order: &ExploreOrder,
-    worlds: usize,
-) -> Result<Option<First>, AllocError>
-    ensures { IfOk result (λ found. IfSome found (IsFirst (code_of (source_of program.now)) order.now.limits
-        order.now.bounds order.now.wants.items)) }
+    watcher: &mut V,
+) -> Result<First, AllocError>
+    ensures { IfOk result (IsFirst (code_of (source_of program.now)) order.now.limits order.now.bounds
+        (V.can_stop watcher.old) order.now.wants.items) }
 {
-    if order.bounds.worlds <= worlds {
-        return Ok(None);
+    let near = searched(alloc, program, order, within(order.bounds, NEAR), watcher)?;
+    if is_last(&near, order.bounds, NEAR) {
+        return Ok(near);
     }
-    let bounds = Bounds {
-        worlds,
-        entries: order.bounds.entries,
-        memory: order.bounds.memory,
-    };
-    let first = searched(alloc, program, order, bounds)?;
-    if is_decided(&first) {
-        Ok(Some(first))
-    } else {
-        Ok(None)
+    let found = searched(alloc, program, order, within(order.bounds, FAR), watcher)?;
+    let far = of_more(near, found);
+    if is_last(&far, order.bounds, FAR) {
+        return Ok(far);
+    }
+    let found = searched(alloc, program, order, order.bounds, watcher)?;
+    Ok(of_more(far, found))
+}
+
+// These bounds, with at most this number of worlds.
+fn within(bounds: Bounds, worlds: usize) -> Bounds
+    ensures { result ≡ bounds_within bounds worlds }
+{
+    Bounds {
+        worlds: bounds.worlds.min(worlds),
+        entries: bounds.entries,
+        memory: bounds.memory,
     }
 }
 
-// Whether a search with more worlds would find nothing else.
-fn is_decided(first: &First) -> bool
-    ensures { result ≡ true → IsDecided first.now }
+// Whether no search follows one with at most this number of worlds: it has decided, or was ended, or the bounds allow no
+// more worlds.
+fn is_last(first: &First, bounds: Bounds, worlds: usize) -> bool
+    ensures { result ≡ true → IsDecided first.now ⊎ bounds.worlds ≤ worlds }
 {
+    if bounds.worlds <= worlds {
+        return true;
+    }
     match first {
         First::Found(_) => true,
-        First::Explored(exploration) => exploration.complete,
+        First::Explored(exploration) => exploration.complete || exploration.halted,
+    }
+}
+
+// What the later of two searches has found. Where it was ended and has fewer worlds, what the one before has found, which
+// was ended with it.
+fn of_more(before: First, later: First) -> First
+    ensures { IsOfMore before later result }
+{
+    match later {
+        First::Found(finding) => First::Found(finding),
+        First::Explored(last) => more_of(before, last),
+    }
+}
+
+// The same of a later search that found nothing.
+fn more_of(before: First, last: Exploration) -> First
+    ensures { IsOfMore before (Searched last) result }
+{
+    match before {
+        First::Explored(before) if last.halted && last.worlds < before.worlds => {
+            First::Explored(Exploration {
+                answers: before.answers,
+                worlds: before.worlds,
+                bytes: before.bytes,
+                complete: before.complete,
+                halted: true,
+            })
+        }
+        _ => First::Explored(last),
     }
 }
 
 // What a search within these bounds finds.
-fn searched(
+fn searched<V: Watcher>(
     alloc: Global,
     program: &Program,
     order: &ExploreOrder,
     bounds: Bounds,
+    watcher: &mut V,
 ) -> Result<First, AllocError>
     requires { bounds.entries ≤ 1000000 }
-    ensures { IfOk result (IsFirst (code_of (source_of program.now)) order.now.limits bounds order.now.wants.items) }
+    ensures found { IfOk result (IsFirst (code_of (source_of program.now)) order.now.limits bounds
+        (V.can_stop watcher.old) order.now.wants.items) }
+    ensures watcher { V.can_stop watcher.new ≡ V.can_stop watcher.old }
 {
-    let Ok(exploration) = explore(alloc, program, order.limits, bounds) else {
+    let Ok(exploration) = explore_watched(alloc, program, order.limits, bounds, watcher) else {
         return Err(AllocError);
     };
     let wants = order.wants.as_slice();

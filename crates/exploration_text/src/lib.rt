@@ -18,6 +18,7 @@ mod sample_texts;
 mod samples;
 mod texts;
 mod wants;
+mod watched_orders;
 mod watched_texts;
 
 pub use every_schedule::Bounds;
@@ -32,4 +33,5 @@ pub use texts::{
     exploration_status, first_line, is_listed_so, text_of_answer, text_of_exploration,
 };
 pub use wants::{Want, read_want};
-pub use watched_texts::obey_explore_watched;
+pub use watched_orders::{TimedOrder, WatchedOrder};
+pub use watched_texts::obey_watched;

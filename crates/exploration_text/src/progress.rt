@@ -1,31 +1,56 @@
 //! Lines that tell how far an exploration has come, while it goes.
 
-ghost use Rattle.std.specs.Prelude.{◌≡◌, false};
+ghost use Rattle.std.specs.Prelude.{◌≡◌, false, is_some};
 
-use every_schedule::Watcher;
+use every_schedule::{TimeLimit, Watcher};
 use itoa::Buffer;
 use outcome_trace::{Status, TextFault, TextOut, tell_fault, write_text};
 use std::alloc::{AllocError, Global};
 use std::time::{Clock, Duration, Instant};
 
-/// Writes a line each time that it is told how far an exploration has come: how many worlds were found, how many of
-/// them a second since it began, and how long the schedules are. Where the clock fails no line is written, and
-/// after a write that failed no other.
+/// Writes a line at most once a second, from the first second on: how many worlds were found, how many of them a second
+/// since it began, and how long the schedules are. Where the clock fails no line is written, and after a write that
+/// failed no other. The search ends at the limit.
 #[derive(Drop)]
 pub(crate) struct Progress<'c, 'e, C: Clock, E: TextOut> {
     pub(crate) alloc: Global,
     pub(crate) clock: &'c C,
     pub(crate) begun: Option<Instant>,
+    pub(crate) seconds: Option<u64>,
+    pub(crate) stopped: bool,
+    pub(crate) told: Duration,
     pub(crate) err: &'e mut E,
     pub(crate) failed: bool,
     ghost healthy: { failed ≡ false → (E.seen err.now).failed ≡ false },
 }
 
 impl<'c, 'e, C: Clock, E: TextOut> Progress<'c, 'e, C, E> {
-    // How far it has come by now, if the clock tells.
-    fn line(&self, worlds: usize, depth: usize) -> Option<String> {
-        let time = self.begun?.elapsed(self.clock).ok()?;
-        progress_line(self.alloc, worlds, rate(worlds, time), depth).ok()
+    // Writes how far it has come by now, unless a line was written within the last second.
+    fn tell(&mut self, worlds: usize, depth: usize, time: Duration)
+        ensures { self.new.seconds ≡ self.old.seconds }
+    {
+        if self.failed || !is_second(self.told, time) {
+            return;
+        }
+        self.told = time;
+        let Ok(line) = progress_line(self.alloc, worlds, rate(worlds, time), depth) else {
+            return;
+        };
+        self.failed = true;
+        if write_text(line.as_bytes(), &mut *self.err).is_ok() {
+            self.failed = false;
+        }
+    }
+
+    /// Writes a note, where there is one, unless a write has failed already.
+    pub(crate) fn tell_note(&mut self, note: &[u8]) {
+        if self.failed || note.is_empty() {
+            return;
+        }
+        self.failed = true;
+        if write_text(note, &mut *self.err).is_ok() {
+            self.failed = false;
+        }
     }
 
     /// Tells of a fault, unless a write has failed already.
@@ -41,17 +66,32 @@ impl<'c, 'e, C: Clock, E: TextOut> Progress<'c, 'e, C, E> {
 }
 
 impl<'c, 'e, C: Clock, E: TextOut> Watcher for Progress<'c, 'e, C, E> {
-    fn tell(&mut self, worlds: usize, depth: usize) {
-        if self.failed {
-            return;
-        }
-        let Some(line) = self.line(worlds, depth) else {
-            return;
+    ghost can_stop = { λ it. is_some it.seconds };
+
+    ghost has_stopped = { λ it. it.stopped };
+
+    fn goes_on(&mut self, worlds: usize, depth: usize) -> bool {
+        let mut limit = TimeLimit {
+            clock: self.clock,
+            begun: self.begun,
+            seconds: self.seconds,
+            stopped: self.stopped,
         };
-        self.failed = true;
-        if write_text(line.as_bytes(), &mut *self.err).is_ok() {
-            self.failed = false;
+        let time = limit.elapsed();
+        if let Some(time) = time {
+            self.tell(worlds, depth, time);
         }
+        let goes_on = limit.goes_on_at(time);
+        self.stopped = limit.stopped;
+        goes_on
+    }
+}
+
+// Whether a second has passed from the one time to the other.
+fn is_second(before: Duration, now: Duration) -> bool {
+    match now.checked_sub(before) {
+        Some(passed) => passed.as_secs() >= 1,
+        None => false,
     }
 }
 

@@ -5,7 +5,7 @@ ghost use Rattle.std.specs.List.{All, list_any};
 ghost use Rattle.std.specs.Result.{is_err, is_ok};
 ghost use Rattle.exploration_text.specs.ExplorationText.{IsAnswerText, IsExplorationText, IsPartText, counted};
 ghost use Rattle.exploration_text.specs.ExplorationText.{end_text, exploration_status, first_line, has_failure};
-ghost use Rattle.exploration_text.specs.ExplorationText.{IsSpellable, heading, is_listed_so, line_end};
+ghost use Rattle.exploration_text.specs.ExplorationText.{IsSpellable, heading, is_listed_so, line_end, line_front};
 ghost use Rattle.exploration_text.specs.Wants.{first_outcome, is_failure, is_met, is_unwanted};
 
 use crate::wants::Want;
@@ -172,19 +172,15 @@ pub(crate) fn end_text(alloc: Global, end: &Result<Report, RunError>) -> Result<
     }
 }
 
-/// The first line of the text of an exploration: whether all was explored, how many worlds were found, how many reports
-/// and faults are listed, and, where not all was explored, how many bytes were counted. `AllocError` where memory is
-/// refused.
+/// The first line of the text of an exploration: whether all was explored or its time was over before, how many worlds
+/// were found, how many reports and faults are listed, and, where not all was explored, how many bytes were counted.
+/// `AllocError` where memory is refused.
 pub fn first_line(alloc: Global, exploration: &Exploration) -> Result<String, AllocError>
     ensures { IfOk result (λ line. string_bytes line ≡ first_line exploration.now) }
 {
     let answers = exploration.answers.as_slice();
     let mut line = String::new(alloc);
-    line.push_str(if exploration.complete {
-        "explored "
-    } else {
-        "stopped at "
-    })?;
+    line.push_str(line_front(exploration.complete, exploration.halted))?;
     push_counted(&mut line, exploration.worlds, "world")?;
     line.push_str(": ")?;
     push_counted(&mut line, reports(answers), "report")?;
@@ -192,6 +188,19 @@ pub fn first_line(alloc: Global, exploration: &Exploration) -> Result<String, Al
     push_counted(&mut line, faults(answers), "fault")?;
     push_line_end(&mut line, exploration.complete, exploration.bytes)?;
     Ok(line)
+}
+
+// What the first line begins with: whether all was explored, and if not, whether its time was over.
+fn line_front(complete: bool, halted: bool) -> &'static str
+    ensures { result.now ≡ line_front complete halted }
+{
+    if complete {
+        "explored "
+    } else if halted {
+        "stopped by time at "
+    } else {
+        "stopped at "
+    }
 }
 
 // Writes the end of the first line: where not all was explored, how many bytes were counted.

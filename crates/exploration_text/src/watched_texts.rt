@@ -1,34 +1,35 @@
 //! The exploration of a text, which tells how far it has come while it goes.
 
-ghost use Rattle.std.specs.Prelude.{◌≡◌, ◌<◌, ◌^◌, false, IfOk, Result as TheResult};
+ghost use Rattle.std.specs.Prelude.{◌≡◌, ◌<◌, ◌^◌, ℕ, List, false, Err as Fails, IfErr, IfOk, Ok as GoesWell};
+ghost use Rattle.std.specs.Prelude.{Result as TheResult, is_some};
 ghost use Rattle.text_io.specs.declared.fault.TextFault.{TextFault as TheFault};
 ghost use Rattle.text_io.specs.declared.status.Status.{Status as TheStatus};
 ghost use Rattle.text_io.specs.Exchange.{IsAnswered};
 ghost use Rattle.text_io.specs.Telling.{status_of};
-ghost use Rattle.exploration_text.specs.ExploreAnswers.{IsExploreAnswer, IsExploredAnswer};
+ghost use Rattle.exploration_text.specs.Noting.{IsNotedAnswer};
 
-use crate::explore_texts::ExploreOrder;
+use crate::noted::NotedAnswer;
 use crate::progress::Progress;
-use crate::texts::{exploration_status, text_of_exploration};
-use effect_term::Program;
-use every_schedule::{Watcher, explore_watched};
+use crate::watched_orders::WatchedOrder;
+use every_schedule::Watcher;
 use outcome_trace::{
-    Answer, Status, TextFault, TextIn, TextOut, read_program, read_text, refusal, write_text,
+    RefusalForm, Status, TextFault, TextIn, TextOut, read_program, read_text, write_text,
 };
 use std::alloc::{AllocError, Global};
-use std::time::{Clock, Instant};
+use std::time::{Clock, Duration, Instant};
 
-/// Reads a text, and writes what its program comes to under every schedule, exactly as `obey_text` does with the order;
-/// meanwhile a line goes to the last device at each ten-thousandth world, as
-/// `explored 120000 worlds, 61000 a second, depth 48`.
+/// Reads a text, and writes what its program comes to under every schedule, exactly as `obey_text` does with a
+/// [`TimedOrder`](crate::TimedOrder) of these seconds; meanwhile a line goes to the last device at most once a second,
+/// from the first second on, as `explored 120000 worlds, 61000 a second, depth 48`.
 ///
 /// Gives the answer's status, or `Status::Fault` where a device failed, the input didn't end within `TEXT_BOUND`
 /// reads, or memory ran out, which is told on the last device, unless a write there has failed. That device may
 /// fail: it changes nothing else.
-pub fn obey_explore_watched<C: Clock, I: TextIn, O: TextOut, E: TextOut>(
+pub fn obey_watched<C: Clock, W: WatchedOrder, I: TextIn, O: TextOut, E: TextOut>(
     clock: &C,
     alloc: Global,
-    order: &ExploreOrder,
+    order: &W,
+    seconds: Option<u64>,
     input: &mut I,
     out: &mut O,
     err: &mut E,
@@ -37,76 +38,78 @@ pub fn obey_explore_watched<C: Clock, I: TextIn, O: TextOut, E: TextOut>(
     requires countable { (I.seen input.old).reads < 2 ^ 63 }
     requires out { (O.seen out.old).failed ≡ false }
     requires err { (E.seen err.old).failed ≡ false }
-    ensures { (outcome : TheResult TheStatus TheFault) × IsAnswered (IsExploreAnswer order.now.limits
-        order.now.bounds order.now.wants.items) (I.seen input.old) (I.seen input.new) (O.seen out.old)
+    ensures { (note : List ℕ) × (outcome : TheResult TheStatus TheFault) × IsAnswered (IsNotedAnswer W.Refusals.refuses
+        (W.finds order.now (is_some seconds)) note) (I.seen input.old) (I.seen input.new) (O.seen out.old)
         (O.seen out.new) outcome × (result ≡ status_of outcome) }
 {
     let mut progress = Progress {
         alloc,
         clock,
         begun: Instant::now(clock).ok(),
+        seconds,
+        stopped: false,
+        told: Duration::ZERO,
         err,
         failed: false,
     };
     match watched_text(alloc, order, input, out, &mut progress) {
-        Ok(status) => status,
+        Ok(watched) => {
+            progress.tell_note(watched.note.as_slice());
+            watched.status
+        }
         Err(fault) => progress.tell_fault(fault),
     }
 }
 
-// Reads a text, and writes its answer, while the watcher is told.
-fn watched_text<I: TextIn, O: TextOut, V: Watcher>(
+// An answer that went out: its note and its status.
+#[derive(Drop)]
+struct Watched {
+    note: Vec<u8>,
+    status: Status,
+}
+
+// Reads a text, and writes its answer, while its search is watched.
+fn watched_text<W: WatchedOrder, I: TextIn, O: TextOut, V: Watcher>(
     alloc: Global,
-    order: &ExploreOrder,
+    order: &W,
     input: &mut I,
     out: &mut O,
     watcher: &mut V,
-) -> Result<Status, TextFault>
+) -> Result<Watched, TextFault>
     requires input { (I.seen input.old).failed ≡ false }
     requires countable { (I.seen input.old).reads < 2 ^ 63 }
     requires out { (O.seen out.old).failed ≡ false }
-    ensures { IsAnswered (IsExploreAnswer order.now.limits order.now.bounds order.now.wants.items)
-        (I.seen input.old) (I.seen input.new) (O.seen out.old) (O.seen out.new) result }
+    ensures watched { IfOk result (λ w. IsAnswered (IsNotedAnswer W.Refusals.refuses
+        (W.finds order.now (V.can_stop watcher.old)) w.note.items)
+        (I.seen input.old) (I.seen input.new) (O.seen out.old) (O.seen out.new) (GoesWell w.status)) }
+    ensures fault { IfErr result (λ e. (note : List ℕ) × IsAnswered (IsNotedAnswer W.Refusals.refuses
+        (W.finds order.now (V.can_stop watcher.old)) note)
+        (I.seen input.old) (I.seen input.new) (O.seen out.old) (O.seen out.new) (Fails e)) }
 {
     let text = read_text(alloc, input)?;
-    let answer = read_answer(alloc, text.as_slice(), order, watcher)?;
+    let NotedAnswer { answer, note } = read_answer(alloc, text.as_slice(), order, watcher)?;
     write_text(answer.text.as_slice(), out)?;
-    Ok(answer.status)
+    Ok(Watched {
+        note,
+        status: answer.status,
+    })
 }
 
-// The answer to a text.
-fn read_answer<V: Watcher>(
+// The answer to a text, with its note. A refusal has none.
+fn read_answer<W: WatchedOrder, V: Watcher>(
     alloc: Global,
     text: &[u8],
-    order: &ExploreOrder,
+    order: &W,
     watcher: &mut V,
-) -> Result<Answer, AllocError>
-    ensures { IfOk result (λ a. IsExploreAnswer order.now.limits order.now.bounds order.now.wants.items text.now
-        a.text.items a.status) }
+) -> Result<NotedAnswer, AllocError>
+    ensures { IfOk result (λ n. IsNotedAnswer W.Refusals.refuses (W.finds order.now (V.can_stop watcher.old))
+        n.note.items text.now n.answer.text.items n.answer.status) }
 {
     match read_program(alloc, text) {
-        Ok(program) => watched_answer(alloc, &program, order, watcher),
-        Err(refused) => refusal(alloc, refused),
+        Ok(program) => order.answer_watched(alloc, &program, watcher),
+        Err(refused) => Ok(NotedAnswer {
+            answer: W::Refusals::refused_answer(alloc, text, refused)?,
+            note: Vec::new(alloc),
+        }),
     }
-}
-
-// What comes of a program under every schedule.
-fn watched_answer<V: Watcher>(
-    alloc: Global,
-    program: &Program,
-    order: &ExploreOrder,
-    watcher: &mut V,
-) -> Result<Answer, AllocError>
-    ensures { IfOk result (λ a. IsExploredAnswer program.now order.now.limits order.now.bounds order.now.wants.items
-        a.text.items a.status) }
-{
-    let Ok(exploration) = explore_watched(alloc, program, order.limits, order.bounds, watcher)
-    else {
-        return Err(AllocError);
-    };
-    let wants = order.wants.as_slice();
-    Ok(Answer {
-        text: text_of_exploration(alloc, &exploration, wants)?,
-        status: exploration_status(&exploration, wants),
-    })
 }

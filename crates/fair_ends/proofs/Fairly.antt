@@ -1,33 +1,23 @@
--- Where worlds have ranks, each fair schedule leads to an answer.
+-- Where worlds have ranks, each fair schedule comes to an end.
 use Rattle.std.proofs.Common.{◌≡◌, ◌≢◌, ℕ, zero, suc, ◌+◌, ◌-◌, ◌<◌, ◌≤◌, Bool, true, false, List, [], ◌∷◌, length, Some, Result}
 use Rattle.std.proofs.Common.{Ok, Err, refl, sym, ap, ◌∙◌, subst, arith}
 use Rattle.std.specs.List.{slice_get}
 use mathlib.Core.Logic.{inl, inr}
-use Rattle.world_search.specs.Systems.{run, IsSettled}
-use Rattle.world_search.proofs.Closed.{StaysIn, run-append, settled}
+use Rattle.world_search.specs.Systems.{run}
+use Rattle.world_search.proofs.Closed.{run-append}
 use Rattle.world_search.proofs.Lists.{get_low}
 use Rattle.fair_ends.specs.declared.rank.Rank.{Rank}
-use Rattle.fair_ends.specs.Fair.{first_of, IsFair, IsAnswer, EndsUnder}
+use Rattle.fair_ends.specs.Fair.{first_of, IsFair, IsEnd, EndsUnder}
 use Rattle.fair_ends.specs.Private.Ranks.{Leads, AreRanked}
 
-module _ {W E R : Type 0} (step : W → ℕ → Result W E) (report : W → R) (most : ℕ) (ws : List W) (ranks : List Rank)
-    (ranked : AreRanked step report most ws ranks) where
+module _ {W E : Type 0} (step : W → ℕ → Result W E) (Rests : W → Type 0) (most : ℕ) (ws : List W) (ranks : List Rank)
+    (ranked : AreRanked step Rests most ws ranks) where
   -- a world whose rank is quiet
   abbrev Quiet : W → Type 0
   Quiet v = (j : ℕ) × (b : Rank) × (slice_get ws j ≡ Some v) × (slice_get ranks j ≡ Some b) × (b.quiet ≡ true)
 
-  stays_at : (v : W) (a : Rank) (f : ℕ) (y : Result W E) → a.quiet ≡ true → Leads step report most ws ranks a f v y → StaysIn step report Quiet v y
-  stays_at v a f (Ok x) q p = elim p.4 [
-    | inl k ↦ ((p.0, p.1, p.2, p.3, k.1), k.2)
-    | inr k ↦ let no : true ≡ false = sym q ∙ k.0 in absurd (cc)
-  ]
-  stays_at v a f (Err e) q p = let no : true ≡ false = sym q ∙ p in absurd (cc)
-
-  quiet_settled : (w : W) → Quiet w → IsSettled step report w
-  quiet_settled w h =
-      settled step report Quiet
-      (λ v there f. stays_at v there.1 f (step v f) there.4 ((ranked there.0 there.1 v there.3 there.2).leads f))
-      w h
+  quiet_rests : (w : W) → Quiet w → Rests w
+  quiet_rests w h = (ranked h.0 h.1 w h.3 h.2).rests h.4
 
   module _ (first : W) (s : ℕ → ℕ) (fair : IsFair most s) where
     -- where the first n entries lead
@@ -38,12 +28,12 @@ module _ {W E R : Type 0} (step : W → ℕ → Result W E) (report : W → R) (
     pos_next n w is = run-append step (Ok first) (first_of s n) (s n ∷ []) ∙ ap (λ x. run step x (s n ∷ [])) is
 
     abbrev End : Type 0
-    End = EndsUnder step report first s
+    End = EndsUnder step Rests first s
 
     end_quiet : (n : ℕ) (w : W) → pos n ≡ Ok w → Quiet w → End
-    end_quiet n w is quiet = (n, subst (IsAnswer step report) (sym is) (quiet_settled w quiet))
+    end_quiet n w is quiet = (n, subst (IsEnd step Rests) (sym is) (quiet_rests w quiet))
 
-    -- from each world of a rank below r, whatever led there, the schedule comes to an answer
+    -- from each world of a rank below r, whatever led there, the schedule comes to an end
     abbrev Reaches : ℕ → Type 0
     Reaches r = (n i : ℕ) (w : W) (a : Rank) → pos n ≡ Ok w → slice_get ws i ≡ Some w → slice_get ranks i ≡ Some a → a.rank < r → End
 
@@ -52,17 +42,14 @@ module _ {W E R : Type 0} (step : W → ℕ → Result W E) (report : W → R) (
     Again n a = (j : ℕ) (x : W) (b : Rank) → pos (suc n) ≡ Ok x → slice_get ws j ≡ Some x → slice_get ranks j ≡ Some b → b.rank ≡ a.rank →
         b.helper ≡ a.helper → s n ≢ a.helper → End
 
-    after : (r : ℕ) → Reaches r → (n : ℕ) (w : W) (a : Rank) → a.quiet ≡ false → a.rank ≤ r → Again n a → (y : Result W E) → pos (suc n) ≡ y →
-        Leads step report most ws ranks a (s n) w y → End
-    after r lower n w a loud low again (Err e) is p = (suc n, subst (IsAnswer step report) (sym is) tt)
-    after r lower n w a loud low again (Ok x) is p = elim p.4 [
-      | inl k ↦ let no : true ≡ false = sym k.0 ∙ loud in absurd (cc)
-      | inr k ↦ elim k.1 [
-        | inl quiet ↦ end_quiet (suc n) x is (p.0, p.1, p.2, p.3, quiet)
-        | inr falls ↦ elim falls [
-          | inl less ↦ lower (suc n) p.0 x p.1 is p.2 p.3 (omega arith)
-          | inr same ↦ again p.0 x p.1 is p.2 p.3 same.0 same.1 same.2
-        ]
+    after : (r : ℕ) → Reaches r → (n : ℕ) (a : Rank) → a.rank ≤ r → Again n a → (y : Result W E) → pos (suc n) ≡ y →
+        Leads step Rests most ws ranks a (s n) y → End
+    after r lower n a low again (Err e) is p = (suc n, subst (IsEnd step Rests) (sym is) tt)
+    after r lower n a low again (Ok x) is p = elim p.4 [
+      | inl quiet ↦ end_quiet (suc n) x is (p.0, p.1, p.2, p.3, quiet)
+      | inr falls ↦ elim falls [
+        | inl less ↦ lower (suc n) p.0 x p.1 is p.2 p.3 (omega arith)
+        | inr same ↦ again p.0 x p.1 is p.2 p.3 same.0 same.1 same.2
       ]
     ]
 
@@ -70,7 +57,7 @@ module _ {W E R : Type 0} (step : W → ℕ → Result W E) (report : W → R) (
         slice_get ranks i ≡ Some a → a.rank ≤ r → Again n a → End
     go_by true r lower n i w a q is at there low again = end_quiet n w is (i, a, at, there, q)
     go_by false r lower n i w a q is at there low again =
-        after r lower n w a q low again (step w (s n)) (pos_next n w is) ((ranked i a w there at).leads (s n))
+        after r lower n a low again (step w (s n)) (pos_next n w is) ((ranked i a w there at).leads q (s n))
 
     -- the helpful fiber comes d entries later
     waits : (r : ℕ) → Reaches r → (d n i : ℕ) (w : W) (a : Rank) → pos n ≡ Ok w → slice_get ws i ≡ Some w → slice_get ranks i ≡ Some a → a.rank ≤ r →

@@ -6,7 +6,7 @@ use Rattle.std.proofs.lemmas.Option.{same_Some, slice_get_within}
 use Rattle.std.proofs.lemmas.List.Sums.{fold_more}
 use mathlib.Core.Logic.{◌⊎◌, inl, inr}
 use Rattle.world_search.specs.Lists.{IsIn}
-use Rattle.world_search.specs.Systems.{entered, run, reported}
+use Rattle.world_search.specs.Systems.{entered, run}
 use Rattle.fair_ends.specs.declared.table.Row.{Row}
 use Rattle.fair_ends.specs.Private.Tables.{fault, LandsOn, IsRow}
 
@@ -21,15 +21,20 @@ module _ {W E : Type 0} (step : W → ℕ → Result W E) (most : ℕ) (ws : Lis
   lands_at t (Ok x) w on low at = ap Ok (same_Some x w (sym on.0 ∙ at))
   lands_at t (Err e) w on low at = let is : t ≡ fault = on in absurd (omega arith)
 
-  -- each fiber has an entry, or isn't born
-  pub fair_at : (many : ℕ) (cycle : List ℕ) (w : W) → ((f : ℕ) → f < many → IsIn f cycle) → ((f : ℕ) → many ≤ f → step w f ≡ Ok w) → (f : ℕ) →
+  -- each fiber has an entry, or its entry changes nothing
+  pub fair_at : (row : Row) (begins : ℕ) (cycle : List ℕ) (w : W) → IsRow step most ws w row → slice_get ws begins ≡ Some w → begins < fault →
+      ((f : ℕ) → f < length row.targets.items → IsIn f cycle ⊎ (slice_get row.targets.items f ≡ Some begins)) → (f : ℕ) →
       IsIn f cycle ⊎ (step w f ≡ Ok w)
-  fair_at many cycle w each rests f = by (cases_order f many)
+  fair_at row begins cycle w row_is at low each f = by (cases_order f (length row.targets.items))
     where
-      by : (f ≡ many) ⊎ ((f < many) ⊎ (many < f)) → IsIn f cycle ⊎ (step w f ≡ Ok w)
-      by (inl same) = inr (rests f (omega arith))
-      by (inr (inl less)) = inl (each f less)
-      by (inr (inr more)) = inr (rests f (omega arith))
+      here : IsIn f cycle ⊎ (slice_get row.targets.items f ≡ Some begins) → IsIn f cycle ⊎ (step w f ≡ Ok w)
+      here (inl there) = inl there
+      here (inr back) = inr (lands_at begins (step w f) w (row_is.lands f begins back) low at)
+
+      by : (f ≡ length row.targets.items) ⊎ ((f < length row.targets.items) ⊎ (length row.targets.items < f)) → IsIn f cycle ⊎ (step w f ≡ Ok w)
+      by (inl same) = inr (row_is.rests f (omega arith))
+      by (inr (inl less)) = here (each f less)
+      by (inr (inr more)) = inr (row_is.rests f (omega arith))
 
   -- the entry of a fiber behind a fault changes nothing
   pub lands_fault : (t f : ℕ) (y : Result W E) → LandsOn step most ws t y → t ≡ fault → LandsOn step most ws t (entered step y f)
@@ -64,13 +69,3 @@ module _ {W E : Type 0} (step : W → ℕ → Result W E) (most : ℕ) (ws : Lis
   walk_next from at next i f s w low is on =
       subst (LandsOn step most ws next) (sym (fold_more (entered step) (Ok w) s i 0 low))
       (subst (λ k. LandsOn step most ws next (entered step (run step (Ok w) (take i s)) k)) is on)
-
-  module _ {R : Type 0} (report : W → R) where
-    pub leaves_fault : (t : ℕ) (y : Result W E) (w : W) → LandsOn step most ws t y → t ≡ fault → reported step report y ≢ Ok (report w)
-    leaves_fault t (Ok x) w on is same = absurd (omega arith)
-    leaves_fault t (Err e) w on is same = absurd (cc)
-
-    pub leaves_report : (t : ℕ) (y : Result W E) (w : W) → LandsOn step most ws t y → ((v : W) → slice_get ws t ≡ Some v → report v ≢ report w) →
-        reported step report y ≢ Ok (report w)
-    leaves_report t (Ok x) w on isnt same = let is : report x ≡ report w = cc in isnt x on.0 is
-    leaves_report t (Err e) w on isnt same = absurd (cc)

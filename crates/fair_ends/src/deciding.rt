@@ -12,13 +12,14 @@ use crate::components::components_of;
 use crate::cycles::cycle_in;
 use crate::ending::{Cycle, Ending};
 use crate::ranking::rank_all;
+use crate::resting::Resting;
 use crate::table::{Row, table_of};
 use crate::walking::is_fair_cycle;
 use std::alloc::{AllocError, Global};
-use world_search::{Bounds, Watcher, Worlds};
+use world_search::{Bounds, Watcher};
 
-/// Whether every fair schedule from the first world of a store, the one of number 0, leads to an answer: to a fault, or
-/// to a world whose report no further entry changes.
+/// Whether every fair schedule from the first world of a store, the one of number 0, comes to an end: to a fault, or to
+/// a world at rest.
 ///
 /// A schedule has no end here. It is fair where the entry of each fiber comes again and again; an entry of a fiber that
 /// waits, has ended or isn't born changes nothing. Each world is met by single entries, and each entry is made once. A
@@ -27,8 +28,9 @@ use world_search::{Bounds, Watcher, Worlds};
 ///
 /// Whatever the answer, it was checked at each world, or along the cycle. [`Ending::Undecided`] comes where as many
 /// worlds were met as may be kept, or as many bytes are counted as may be ([`Bounds`]; the bound on entries isn't used).
-/// The watcher is called at each ten-thousandth world. `AllocError` where memory is refused.
-pub fn decide_ends<W: Worlds, V: Watcher>(
+/// It also comes where the watcher ends the search; the watcher is asked at each hundredth world whether it goes on.
+/// `AllocError` where memory is refused.
+pub fn decide_ends<W: Resting, V: Watcher>(
     alloc: Global,
     worlds: &mut W,
     bounds: Bounds,
@@ -38,10 +40,11 @@ pub fn decide_ends<W: Worlds, V: Watcher>(
     ensures grows { OnOk result (IsMore (W.worlds worlds.old) (W.worlds worlds.new)) }
     ensures ends { IfOk result (λ it. it ≡ Ending.Ends → (first : W.World) →
         slice_get (W.worlds worlds.old) 0 ≡ Some first → (schedule : ℕ → ℕ) → IsFair W.most_born schedule →
-        EndsUnder W.step W.report first schedule) }
+        EndsUnder W.step W.rests first schedule) }
     ensures repeats { IfOk result (λ it. (c : TheCycle) → it ≡ Ending.Repeats c → (first : W.World) →
         slice_get (W.worlds worlds.old) 0 ≡ Some first →
-        IsFairCycle W.step W.report first c.stem.items c.cycle.items c.exit.items) }
+        IsFairCycle W.step W.rests first c.stem.items c.cycle.items) }
+    ensures watches { V.can_stop watcher.new ≡ V.can_stop watcher.old }
 {
     match table_of(alloc, &mut *worlds, bounds, watcher)? {
         None => Ok(Ending::Undecided),
@@ -50,25 +53,22 @@ pub fn decide_ends<W: Worlds, V: Watcher>(
 }
 
 // The same, by the table of all worlds.
-fn judge<W: Worlds>(alloc: Global, worlds: &W, rows: &[Row]) -> Result<Ending, AllocError>
+fn judge<W: Resting>(alloc: Global, worlds: &W, rows: &[Row]) -> Result<Ending, AllocError>
     requires table { IsTable W.step W.most_born (W.worlds worlds.now) rows.now }
     requires some { 0 < length rows.now }
     ensures ends { IfOk result (λ it. it ≡ Ending.Ends → (first : W.World) →
         slice_get (W.worlds worlds.now) 0 ≡ Some first → (schedule : ℕ → ℕ) → IsFair W.most_born schedule →
-        EndsUnder W.step W.report first schedule) }
+        EndsUnder W.step W.rests first schedule) }
     ensures repeats { IfOk result (λ it. (c : TheCycle) → it ≡ Ending.Repeats c → (first : W.World) →
         slice_get (W.worlds worlds.now) 0 ≡ Some first →
-        IsFairCycle W.step W.report first c.stem.items c.cycle.items c.exit.items) }
+        IsFairCycle W.step W.rests first c.stem.items c.cycle.items) }
 {
     let components = components_of(alloc, rows)?;
     let ranking = rank_all(alloc, worlds, rows, components.as_slice())?;
-    match ranking.stuck {
-        Some(component) => {
-            let found = cycle_in(alloc, worlds, rows, components.as_slice(), component)?;
-            Ok(checked(worlds, rows, found))
-        }
+    match cycle_in(alloc, rows, components.as_slice(), ranking.stuck.as_slice())? {
+        Some(cycle) => checked(worlds, rows, cycle),
         None => {
-            if are_ranked(worlds, rows, ranking.ranks.as_slice()) {
+            if are_ranked(worlds, rows, ranking.ranks.as_slice())? {
                 Ok(Ending::Ends)
             } else {
                 Ok(Ending::Undecided)
@@ -78,22 +78,17 @@ fn judge<W: Worlds>(alloc: Global, worlds: &W, rows: &[Row]) -> Result<Ending, A
 }
 
 // A cycle, if it is one that a fair schedule can repeat.
-fn checked<W: Worlds>(worlds: &W, rows: &[Row], found: Option<Cycle>) -> Ending
+fn checked<W: Resting>(worlds: &W, rows: &[Row], cycle: Cycle) -> Result<Ending, AllocError>
     requires table { IsTable W.step W.most_born (W.worlds worlds.now) rows.now }
     requires some { 0 < length rows.now }
-    ensures ends { result ≡ Ending.Ends → ⊥ }
-    ensures repeats { (c : TheCycle) → result ≡ Ending.Repeats c → (first : W.World) →
+    ensures ends { IfOk result (λ it. it ≡ Ending.Ends → ⊥) }
+    ensures repeats { IfOk result (λ it. (c : TheCycle) → it ≡ Ending.Repeats c → (first : W.World) →
         slice_get (W.worlds worlds.now) 0 ≡ Some first →
-        IsFairCycle W.step W.report first c.stem.items c.cycle.items c.exit.items }
+        IsFairCycle W.step W.rests first c.stem.items c.cycle.items) }
 {
-    match found {
-        None => Ending::Undecided,
-        Some(cycle) => {
-            if is_fair_cycle(worlds, rows, &cycle) {
-                Ending::Repeats(cycle)
-            } else {
-                Ending::Undecided
-            }
-        }
+    if is_fair_cycle(worlds, rows, &cycle)? {
+        Ok(Ending::Repeats(cycle))
+    } else {
+        Ok(Ending::Undecided)
     }
 }

@@ -1,9 +1,10 @@
 //! Whether every fair schedule of a system ends.
 //!
-//! It stands on the systems of `world_search`. A schedule is fair where each fiber comes again and again. [`decide_ends`]
-//! meets all worlds, gives each a rank and a helpful fiber, and checks them; or it finds a cycle that a fair schedule can
-//! repeat for ever, and checks that. It promises that where it answers [`Ending::Ends`], each fair schedule leads to an
-//! answer, and that the cycle of [`Ending::Repeats`] is one.
+//! The crate uses the systems of `world_search`, whose worlds can be at rest ([`Resting`]). A schedule is fair if each
+//! fiber comes again and again. [`decide_ends`] meets all worlds, gives each a rank and a helpful fiber, and checks them;
+//! or it finds a cycle that a fair schedule can repeat for ever, and checks that. The crate promises that where the
+//! result is [`Ending::Ends`], each fair schedule leads to a fault or to a world at rest, and that a fair schedule can
+//! repeat the cycle of [`Ending::Repeats`], which never rests.
 #![tactic(auto)]
 
 mod certificate;
@@ -14,8 +15,10 @@ mod ending;
 mod paths;
 mod rank;
 mod ranking;
+mod resting;
 mod table;
 mod walking;
 
 pub use deciding::decide_ends;
 pub use ending::{Cycle, Ending};
+pub use resting::Resting;

@@ -79,6 +79,23 @@ pub fn is_set(flags: &[bool], world: u32) -> bool {
     }
 }
 
+/// The same flag of each world.
+pub fn flags_of(alloc: Global, many: usize, flag: bool) -> Result<Vec<bool>, AllocError> {
+    let mut flags = Vec::new(alloc);
+    for _ in 0..many {
+        flags.push(flag)?;
+    }
+    Ok(flags)
+}
+
+/// The flag of a world, if there is one, becomes this one.
+pub fn set_flag(flags: &mut Vec<bool>, world: u32, flag: bool) {
+    let place = world as usize;
+    if place < flags.len() {
+        flags[place] = flag;
+    }
+}
+
 impl Search {
     // A world is met, if it wasn't before.
     fn meet(&mut self, world: u32, from: u32, fiber: u16) -> Result<(), AllocError> {

@@ -1,9 +1,9 @@
 //! The rank of a world.
 
-/// What is known of a world: it is quiet, or how far an answer is under fair schedules.
+/// What is known of a world: it is quiet, or how far an end is under fair schedules.
 #[derive(Clone, Copy)]
 pub struct Rank {
-    /// No entry from here on changes the report.
+    /// The world is at rest.
     pub quiet: bool,
     /// No entry makes it larger.
     pub rank: u32,

@@ -1,10 +1,11 @@
 //! Ranks, found by the components of a table: the rank of a world is the number of its component.
 
 use crate::components::number_at;
+use crate::paths::{flags_of, set_flag};
 use crate::rank::Rank;
+use crate::resting::Resting;
 use crate::table::{FAULT, Row};
 use std::alloc::{AllocError, Global};
-use world_search::Worlds;
 
 /// A world, and the component in which it is.
 #[derive(Clone, Copy)]
@@ -13,17 +14,17 @@ struct Member {
     world: u32,
 }
 
-/// The ranks of all worlds, and a component that has no helpful fiber, if there is one.
+/// The ranks of all worlds, and the worlds that a fair schedule need not leave.
 #[derive(Drop)]
 pub struct Ranking {
     /// The rank of each world.
     pub ranks: Vec<Rank>,
-    /// In this component a fair schedule can stay for ever.
-    pub stuck: Option<u32>,
+    /// Of each world, whether it is in a component in which a fair schedule can stay for ever.
+    pub stuck: Vec<bool>,
 }
 
 /// Ranks, found by components.
-pub fn rank_all<W: Worlds>(
+pub fn rank_all<W: Resting>(
     alloc: Global,
     worlds: &W,
     rows: &[Row],
@@ -32,7 +33,7 @@ pub fn rank_all<W: Worlds>(
     let members = members_of(alloc, components)?;
     let mut ranking = Ranking {
         ranks: begun(alloc, components)?,
-        stuck: None,
+        stuck: flags_of(alloc, components.len(), false)?,
     };
     let mut start = 0;
     for end in 1..members.len().saturating_add(1) {
@@ -45,7 +46,7 @@ pub fn rank_all<W: Worlds>(
                 start,
                 end,
                 &mut ranking,
-            );
+            )?;
             start = end;
         }
     }
@@ -87,7 +88,7 @@ fn component_at(members: &[Member], place: usize) -> Option<u32> {
 }
 
 // The ranks of one component, whose members are from one place on and before another.
-fn rank_one<W: Worlds>(
+fn rank_one<W: Resting>(
     worlds: &W,
     rows: &[Row],
     components: &[u32],
@@ -95,17 +96,17 @@ fn rank_one<W: Worlds>(
     start: usize,
     end: usize,
     ranking: &mut Ranking,
-) {
-    let quiet = is_quiet(worlds, rows, ranking.ranks.as_slice(), members, start, end);
+) -> Result<(), AllocError> {
+    let quiet = is_quiet(worlds, rows, ranking.ranks.as_slice(), members, start, end)?;
     let helper = helper_of(rows, components, members, start, end);
-    if !quiet && helper.is_none() && ranking.stuck.is_none() {
-        ranking.stuck = component_at(members, start);
-    }
+    let stuck = !quiet && helper.is_none();
     for place in start..end {
         if let Some(member) = members.get(place) {
             set_rank(&mut ranking.ranks, member.world, quiet, helper.unwrap_or(0));
+            set_flag(&mut ranking.stuck, member.world, stuck);
         }
     }
+    Ok(())
 }
 
 // What is known of a world.
@@ -120,31 +121,36 @@ fn set_rank(ranks: &mut Vec<Rank>, world: u32, quiet: bool, helper: u16) {
     }
 }
 
-// Whether the entries at all members keep the report, and lead to members or to quiet worlds.
-fn is_quiet<W: Worlds>(
+// Whether the worlds of a component are at rest: no entry leads to one that isn't, and the first of them is. Then all are,
+// since entries lead from it to the others.
+fn is_quiet<W: Resting>(
     worlds: &W,
     rows: &[Row],
     ranks: &[Rank],
     members: &[Member],
     start: usize,
     end: usize,
-) -> bool {
+) -> Result<bool, AllocError> {
     for place in start..end {
         if let Some(member) = members.get(place) {
-            if !keeps(worlds, rows, ranks, *member) {
-                return false;
+            if !keeps(rows, ranks, *member) {
+                return Ok(false);
             }
         }
     }
-    true
+    match members.get(start) {
+        Some(first) if (first.world as usize) < worlds.len() => {
+            worlds.is_at_rest(first.world as usize)
+        }
+        _ => Ok(false),
+    }
 }
 
-// The same of one member.
-fn keeps<W: Worlds>(worlds: &W, rows: &[Row], ranks: &[Rank], member: Member) -> bool {
-    let from = member.world as usize;
-    if let Some(row) = rows.get(from) {
+// Whether each entry at a member leads to a member or to a quiet world.
+fn keeps(rows: &[Row], ranks: &[Rank], member: Member) -> bool {
+    if let Some(row) = rows.get(member.world as usize) {
         for to in row.targets.as_slice() {
-            if !keeps_at(worlds, ranks, member, *to) {
+            if !keeps_at(ranks, member, *to) {
                 return false;
             }
         }
@@ -153,16 +159,10 @@ fn keeps<W: Worlds>(worlds: &W, rows: &[Row], ranks: &[Rank], member: Member) ->
 }
 
 // The same of one entry.
-fn keeps_at<W: Worlds>(worlds: &W, ranks: &[Rank], member: Member, to: u32) -> bool {
-    let from = member.world as usize;
-    if to == FAULT || to as usize >= worlds.len() || from >= worlds.len() {
-        return false;
-    }
+fn keeps_at(ranks: &[Rank], member: Member, to: u32) -> bool {
     match ranks.get(to as usize) {
         None => false,
-        Some(rank) => {
-            (rank.quiet || rank.rank == member.component) && worlds.same_report(to as usize, from)
-        }
+        Some(rank) => rank.quiet || rank.rank == member.component,
     }
 }
 

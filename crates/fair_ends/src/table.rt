@@ -11,8 +11,8 @@ use world_search::{Bounds, Entered, Landing, Watcher, Worlds};
 /// What stands in the place of a world's number where an entry ends in a fault.
 pub const FAULT: u32 = u32::MAX;
 
-// The watcher is called once in this many worlds.
-const TOLD_EACH: usize = 10_000;
+// The watcher is asked at one of this number of worlds.
+const ASKED_EACH: usize = 100;
 
 /// Where the entries at one world lead, by the number of the fiber.
 #[derive(Drop)]
@@ -21,7 +21,7 @@ pub struct Row {
     pub targets: Vec<u32>,
 }
 
-/// The rows of all worlds that any schedule leads to. None where a bound was met.
+/// The rows of all worlds that any schedule leads to. None where a bound was met, or the watcher ended the search.
 pub fn table_of<W: Worlds, V: Watcher>(
     alloc: Global,
     worlds: &mut W,
@@ -31,6 +31,7 @@ pub fn table_of<W: Worlds, V: Watcher>(
     ensures grows { OnOk result (IsMore (W.worlds worlds.old) (W.worlds worlds.new)) }
     ensures rows { IfOk result (λ it. IfSome it (λ rows.
         IsTable W.step W.most_born (W.worlds worlds.new) rows.items)) }
+    ensures watches { V.can_stop watcher.new ≡ V.can_stop watcher.old }
 {
     let mut rows = Vec::new(alloc);
     let mut bytes: usize = 0;
@@ -41,7 +42,9 @@ pub fn table_of<W: Worlds, V: Watcher>(
         if worlds.bytes().saturating_add(bytes) >= bounds.memory {
             return Ok(None);
         }
-        tell(&mut *watcher, &*worlds, index);
+        if !lets_go_on(&mut *watcher, &*worlds, index) {
+            return Ok(None);
+        }
         match row_at(alloc, &mut *worlds, index, bounds.worlds)? {
             None => return Ok(None),
             Some(row) => {
@@ -58,11 +61,14 @@ fn size_of_row(row: &Row) -> usize {
     row.targets.len().saturating_mul(4).saturating_add(40)
 }
 
-// The watcher is told of a world, if it is its turn.
-fn tell<W: Worlds, V: Watcher>(watcher: &mut V, worlds: &W, index: usize) {
-    if index % TOLD_EACH == TOLD_EACH - 1 {
-        watcher.tell(worlds.len(), index);
+// Whether the watcher lets the search go on, if it is asked at the world of this number.
+fn lets_go_on<W: Worlds, V: Watcher>(watcher: &mut V, worlds: &W, index: usize) -> bool
+    ensures same { V.can_stop watcher.new ≡ V.can_stop watcher.old }
+{
+    if index % ASKED_EACH != ASKED_EACH - 1 {
+        return true;
     }
+    watcher.goes_on(worlds.len(), index)
 }
 
 // Where the entries at a world lead. None where one of them leads to a world for which there is no room.

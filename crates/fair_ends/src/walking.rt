@@ -1,33 +1,36 @@
 //! Schedules along a table.
 
-ghost use Rattle.std.specs.Prelude.{◌≡◌, ◌≢◌, ◌⊎◌, ℕ, ◌<◌, ◌≤◌, length, true, Some, Ok as GoesWell, Result as TheResult};
+ghost use Rattle.std.specs.Prelude.{◌≡◌, ◌⊎◌, ℕ, ◌<◌, ◌≤◌, length, true, IfOk, Some, Ok as GoesWell, Result as TheResult};
 ghost use Rattle.std.specs.List.{slice_get};
 ghost use Rattle.world_search.specs.Lists.{IsIn};
-ghost use Rattle.world_search.specs.Systems.{entered, reported, run};
+ghost use Rattle.world_search.specs.Systems.{entered, run};
 ghost use Rattle.fair_ends.specs.Fair.{IsFairCycle};
 ghost use Rattle.fair_ends.specs.Private.Tables.{IsTable, LandsOn, fault};
 
 use crate::ending::Cycle;
+use crate::resting::Resting;
 use crate::table::{FAULT, Row};
-use world_search::Worlds;
+use std::alloc::AllocError;
 
 /// Whether this is a cycle that a fair schedule can repeat for ever.
-pub fn is_fair_cycle<W: Worlds>(worlds: &W, rows: &[Row], it: &Cycle) -> bool
+pub fn is_fair_cycle<W: Resting>(worlds: &W, rows: &[Row], it: &Cycle) -> Result<bool, AllocError>
     requires table { IsTable W.step W.most_born (W.worlds worlds.now) rows.now }
     requires some { 0 < length rows.now }
-    ensures { result ≡ true → (first : W.World) → slice_get (W.worlds worlds.now) 0 ≡ Some first →
-        IsFairCycle W.step W.report first it.now.stem.items it.now.cycle.items it.now.exit.items }
+    ensures { IfOk result (λ yes. yes ≡ true → (first : W.World) → slice_get (W.worlds worlds.now) 0 ≡ Some first →
+        IsFairCycle W.step W.rests first it.now.stem.items it.now.cycle.items) }
 {
     let begins = walk(worlds, rows, 0, it.stem.as_slice());
     if begins == FAULT || begins as usize >= rows.len() {
-        return false;
+        return Ok(false);
     }
-    comes_round(worlds, rows, begins, it.cycle.as_slice())
-        && leaves(worlds, rows, begins, it.exit.as_slice())
+    if !comes_round(worlds, rows, begins, it.cycle.as_slice()) {
+        return Ok(false);
+    }
+    worlds.can_go_on(begins as usize)
 }
 
 // Whether a schedule leads from a world back to it, and each fiber has an entry or changes nothing at that world.
-fn comes_round<W: Worlds>(worlds: &W, rows: &[Row], begins: u32, cycle: &[u16]) -> bool
+fn comes_round<W: Resting>(worlds: &W, rows: &[Row], begins: u32, cycle: &[u16]) -> bool
     requires table { IsTable W.step W.most_born (W.worlds worlds.now) rows.now }
     requires low { begins < length rows.now }
     requires world { begins < fault }
@@ -36,30 +39,11 @@ fn comes_round<W: Worlds>(worlds: &W, rows: &[Row], begins: u32, cycle: &[u16]) 
     ensures fair { result ≡ true → (w : W.World) → slice_get (W.worlds worlds.now) begins ≡ Some w → (f : ℕ) →
         IsIn f cycle.now ⊎ (W.step w f ≡ GoesWell w) }
 {
-    walk(worlds, rows, begins, cycle) == begins
-        && has_all(cycle, rows[begins as usize].targets.len())
-}
-
-// Whether a schedule leads from a world to another report, or to a fault.
-fn leaves<W: Worlds>(worlds: &W, rows: &[Row], begins: u32, exit: &[u16]) -> bool
-    requires table { IsTable W.step W.most_born (W.worlds worlds.now) rows.now }
-    requires low { begins < length rows.now }
-    requires world { begins < fault }
-    ensures { result ≡ true → (w : W.World) → slice_get (W.worlds worlds.now) begins ≡ Some w →
-        reported W.step W.report (run W.step (GoesWell w) exit.now) ≢ GoesWell (W.report w) }
-{
-    let out = walk(worlds, rows, begins, exit);
-    if out == FAULT {
-        return true;
-    }
-    if out as usize >= rows.len() {
-        return false;
-    }
-    !worlds.same_report(out as usize, begins as usize)
+    walk(worlds, rows, begins, cycle) == begins && has_all(cycle, &rows[begins as usize], begins)
 }
 
 // Where a schedule leads from a world.
-fn walk<W: Worlds>(worlds: &W, rows: &[Row], from: u32, schedule: &[u16]) -> u32
+fn walk<W: Resting>(worlds: &W, rows: &[Row], from: u32, schedule: &[u16]) -> u32
     requires table { IsTable W.step W.most_born (W.worlds worlds.now) rows.now }
     requires low { from < fault }
     ensures { (w : W.World) → slice_get (W.worlds worlds.now) from ≡ Some w →
@@ -73,7 +57,7 @@ fn walk<W: Worlds>(worlds: &W, rows: &[Row], from: u32, schedule: &[u16]) -> u32
 }
 
 // Where the entry of a fiber leads.
-fn next<W: Worlds>(worlds: &W, rows: &[Row], at: u32, fiber: u16) -> u32
+fn next<W: Resting>(worlds: &W, rows: &[Row], at: u32, fiber: u16) -> u32
     requires { IsTable W.step W.most_born (W.worlds worlds.now) rows.now }
     ensures { (y : TheResult W.World W.Fault) → LandsOn W.step W.most_born (W.worlds worlds.now) at y →
         LandsOn W.step W.most_born (W.worlds worlds.now) result (entered W.step y fiber) }
@@ -95,12 +79,14 @@ fn target_at(row: &Row, at: u32, fiber: u16) -> u32
     }
 }
 
-// Whether each of the first `many` fibers has an entry.
-fn has_all(schedule: &[u16], many: usize) -> bool
-    ensures { result ≡ true → (f : ℕ) → f < many → IsIn f schedule.now }
+// Whether each fiber has an entry, or its entry at the world of this row and this number leads there again.
+fn has_all(schedule: &[u16], row: &Row, begins: u32) -> bool
+    ensures { result ≡ true → (f : ℕ) → f < length row.now.targets.items →
+        IsIn f schedule.now ⊎ (slice_get row.now.targets.items f ≡ Some begins) }
 {
-    for fiber in 0..many {
-        if !has(schedule, fiber) {
+    let targets = row.targets.as_slice();
+    for fiber in 0..targets.len() {
+        if targets[fiber] != begins && !has(schedule, fiber) {
             return false;
         }
     }

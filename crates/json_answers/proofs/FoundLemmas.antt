@@ -1,5 +1,5 @@
 -- Answers in JSON to texts whose programs are explored, or whose schedules are sampled.
-use Rattle.std.proofs.Common.{◌≡◌, ℕ, List, Result, Ok, Err, IfOk, ◌∙◌, subst}
+use Rattle.std.proofs.Common.{◌≡◌, ℕ, Bool, List, Result, Ok, Err, IfOk, ◌∙◌, subst}
 use Rattle.cell_registry.specs.declared.limits.Limits.{Limits}
 use Rattle.derived_ops.specs.Expansion.{code_of}
 use Rattle.derived_ops.specs.Reading.{source_of}
@@ -17,33 +17,8 @@ use Rattle.exploration_text.specs.ExploreAnswers.{IsExplorationOf}
 use Rattle.serde_json.specs.Data.{Data}
 use Rattle.json_answers.specs.Answers.{IsJsonRefusal}
 use Rattle.json_answers.specs.ExplorationData.{IsExplorationData}
-use Rattle.json_answers.specs.FoundAnswers.{IsJsonExplore, IsJsonExplored, IsJsonSample, IsJsonSampled, explores, samples, unexplored, unsampled}
+use Rattle.json_answers.specs.FoundAnswers.{IsJsonExplored, IsJsonSample, IsJsonSampled, samples, unsampled}
 use Rattle.json_answers.specs.ReportData.{line_of_data}
-
-pub exploration_answers : {E : Type 0} (t : Term) (limits : Limits) (bounds : Bounds) (wants seen : List Want) (e : Exploration) (d : Data) (status : Status)
-    (a : Result Answer E) → seen ≡ wants → IsExplorationOf (code_of (source_of t)) limits bounds e → IsExplorationData seen e d →
-    status ≡ exploration_status seen e → IfOk a (λ a. a.text.items ≡ line_of_data d) → IfOk a (λ a. a.status ≡ status) →
-    IfOk a (λ a. IsJsonExplored t limits bounds wants a.text.items a.status)
-exploration_answers t limits bounds wants seen e d status (Ok a) same explored is ends line so = record {
-  exploration = e;
-  explored = explored;
-  value = d;
-  value_is = subst (λ ws. IsExplorationData ws e d) same is;
-  text_is = line;
-  status_is = subst (λ ws. a.status ≡ exploration_status ws e) same (so ∙ ends);
-}
-exploration_answers t limits bounds wants seen e d status (Err x) same explored is ends line so = tt
-
-pub program_explored : {E : Type 0} (text : List ℕ) (limits : Limits) (bounds : Bounds) (wants : List Want) (t : Term) (a : Result Answer E) →
-    reading text ≡ Ok (atoms_of t) → IsProgram t → IfOk a (λ a. IsJsonExplored t limits bounds wants a.text.items a.status) →
-    IfOk a (λ a. IsJsonExplore limits bounds wants text a.text.items a.status)
-program_explored text limits bounds wants t (Ok a) e p h = explores text a.text.items a.status t e p h
-program_explored text limits bounds wants t (Err x) e p h = tt
-
-pub refusal_explored : {E : Type 0} (text : List ℕ) (limits : Limits) (bounds : Bounds) (wants : List Want) (a : Result Answer E) →
-    IfOk a (λ a. IsJsonRefusal text a.text.items a.status) → IfOk a (λ a. IsJsonExplore limits bounds wants text a.text.items a.status)
-refusal_explored text limits bounds wants (Ok a) h = unexplored text a.text.items a.status h
-refusal_explored text limits bounds wants (Err x) h = tt
 
 pub program_sampled : {E : Type 0} (text : List ℕ) (limits : Limits) (seed times entries : ℕ) (wants : List Want) (t : Term) (a : Result Answer E) →
     reading text ≡ Ok (atoms_of t) → IsProgram t → IfOk a (λ a. IsJsonSampled t limits seed times entries wants a.text.items a.status) →

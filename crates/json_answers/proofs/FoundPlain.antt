@@ -49,15 +49,16 @@ comings_plain wants (c ∷ comings) ds h =
     ∙ or_plain (has_float h.0) (items_have_float (items_of h.1)) (ap has_float h.3.data_is ∙ came_plain c.times c.cut h.3.schedule (not (is_unwanted wants c)) c.answer.end)
     (comings_plain wants comings h.1 h.4)
 
-data_plain : (xs : Items) (complete : Bool) (worlds bytes : ℕ) → items_have_float xs ≡ false →
-    has_float (exploration_data xs complete worlds bytes) ≡ false
-data_plain xs true worlds bytes none = or_plain (items_have_float xs) false none refl
-data_plain xs false worlds bytes none = or_plain (items_have_float xs) false none refl
+data_plain : (xs : Items) (complete halted : Bool) (worlds bytes : ℕ) → items_have_float xs ≡ false →
+    has_float (exploration_data xs complete halted worlds bytes) ≡ false
+data_plain xs true halted worlds bytes none = or_plain (items_have_float xs) false none refl
+data_plain xs false false worlds bytes none = or_plain (items_have_float xs) false none refl
+data_plain xs false true worlds bytes none = or_plain (items_have_float xs) false none refl
 
 pub exploration_plain : (wants : List Want) (e : Exploration) (d : Data) → IsExplorationData wants e d → has_float d ≡ false
 exploration_plain wants e d h =
     ap has_float h.data_is
-    ∙ data_plain (items_of (h.unwanted ++ h.others)) e.complete e.worlds e.bytes
+    ∙ data_plain (items_of (h.unwanted ++ h.others)) e.complete e.halted e.worlds e.bytes
     (both h.unwanted h.others ∙ or_plain (items_have_float (items_of h.unwanted)) (items_have_float (items_of h.others))
     (answers_plain true (filter (λ a. is_listed_so true wants a) e.answers) h.unwanted h.unwanted_is)
     (answers_plain false (filter (λ a. is_listed_so false wants a) e.answers) h.others h.others_are))

@@ -87,12 +87,12 @@ coming_found wants c schedule (Err e) spelled made = tt
 
 pub exploration_found : {E : Type 0} (wants : List Want) (e : Exploration) (answers : List Answer) (all some others : List Value)
     (r : Result Value E) → answers ≡ e.answers → all ≡ some ++ others → IsPartData true wants answers (map view some) →
-    IsPartData false wants answers (map view others) → IfOk r (λ v. view v ≡ exploration_data (items_view all) e.complete e.worlds e.bytes) →
+    IsPartData false wants answers (map view others) → IfOk r (λ v. view v ≡ exploration_data (items_view all) e.complete e.halted e.worlds e.bytes) →
     IfOk r (λ v. IsExplorationData wants e (view v))
 exploration_found wants e answers all some others (Ok v) same is unwanted rest made = record {
   unwanted = map view some;
   others = map view others;
-  data_is = made ∙ ap (λ ds. exploration_data (items_of ds) e.complete e.worlds e.bytes)
+  data_is = made ∙ ap (λ ds. exploration_data (items_of ds) e.complete e.halted e.worlds e.bytes)
       (ap (λ xs. map view xs) is ∙ map-append view some others);
   unwanted_is = subst (λ xs. IsPartData true wants xs (map view some)) same unwanted;
   others_are = subst (λ xs. IsPartData false wants xs (map view others)) same rest;

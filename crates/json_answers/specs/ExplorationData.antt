@@ -36,19 +36,23 @@ abbrev pub IsPartData : Bool → List Want → List Answer → List Data → Typ
 IsPartData unwanted wants answers ds = AreAnswersData unwanted (filter (λ a. is_listed_so unwanted wants a) answers) ds
 
 -- answers, whether they are all, and how many worlds were found; where they may not be all, how many bytes were
--- counted, too
-abbrev pub exploration_data : Items → (complete : Bool) → (worlds bytes : ℕ) → Data
-exploration_data answers true worlds bytes = object (member (codes "answer") (string (codes "exploration"))
+-- counted, and whether the time was over, too
+abbrev pub exploration_data : Items → (complete halted : Bool) → (worlds bytes : ℕ) → Data
+exploration_data answers true halted worlds bytes = object (member (codes "answer") (string (codes "exploration"))
     (member (codes "answers") (array answers) (member (codes "complete") (boolean true)
     (member (codes "worlds") (count worlds) no_members))))
-exploration_data answers false worlds bytes = object (member (codes "answer") (string (codes "exploration"))
+exploration_data answers false false worlds bytes = object (member (codes "answer") (string (codes "exploration"))
     (member (codes "answers") (array answers) (member (codes "bytes") (count bytes)
     (member (codes "complete") (boolean false) (member (codes "worlds") (count worlds) no_members)))))
+exploration_data answers false true worlds bytes = object (member (codes "answer") (string (codes "exploration"))
+    (member (codes "answers") (array answers) (member (codes "bytes") (count bytes)
+    (member (codes "complete") (boolean false) (member (codes "out_of_time") (boolean true)
+    (member (codes "worlds") (count worlds) no_members))))))
 
 -- an exploration, with the answers that are not wanted before the others
 pub record IsExplorationData (wants : List Want) (e : Exploration) (d : Data) : Type 0 where
   pub unwanted : List Data
   pub others : List Data
-  pub data_is : d ≡ exploration_data (items_of (unwanted ++ others)) e.complete e.worlds e.bytes
+  pub data_is : d ≡ exploration_data (items_of (unwanted ++ others)) e.complete e.halted e.worlds e.bytes
   pub unwanted_is : IsPartData true wants e.answers unwanted
   pub others_are : IsPartData false wants e.answers others

@@ -50,21 +50,23 @@ pub record IsJsonFound (t : Term) (limits : Limits) (wants : List Want) (answer 
     pub status_is : status ≡ ends.Errored
 
 -- the value and the status of an exploration that lists no finding
-pub record IsJsonUnfound (t : Term) (limits : Limits) (bounds : Bounds) (wants : List Want) (answer : List ℕ)
-    (status : Status) : Type 0
+pub record IsJsonUnfound (t : Term) (limits : Limits) (bounds : Bounds) (timed : Bool) (wants : List Want)
+    (answer : List ℕ) (status : Status) : Type 0
   where
-    pub explored : IsJsonExplored t limits bounds wants answer status
+    pub explored : IsJsonExplored t limits bounds timed wants answer status
     pub none : has_failure wants explored.exploration.answers ≡ false
 
 -- such an answer, beside the lines of the wanted outcomes that no schedule comes to
-pub record IsNotedJsonUnfound (t : Term) (limits : Limits) (bounds : Bounds) (wants : List Want) (note answer : List ℕ)
-    (status : Status) : Type 0
+pub record IsNotedJsonUnfound (t : Term) (limits : Limits) (bounds : Bounds) (timed : Bool) (wants : List Want)
+    (note answer : List ℕ) (status : Status) : Type 0
   where
-    pub unfound : IsJsonUnfound t limits bounds wants answer status
+    pub unfound : IsJsonUnfound t limits bounds timed wants answer status
     pub note_is : note ≡ missing_of_exploration wants unfound.explored.exploration
 
 -- what is answered to a program with this note, with its status: a finding, which has no note, or an exploration that
 -- lists none
-abbrev pub IsJsonFirstAnswer : Term → Limits → Bounds → List Want → (note : List ℕ) → List ℕ → Status → Type 0
-IsJsonFirstAnswer t limits bounds wants note answer status =
-    (IsJsonFound t limits wants answer status × (note ≡ [])) ⊎ IsNotedJsonUnfound t limits bounds wants note answer status
+abbrev pub IsJsonFirstAnswer : Term → Limits → Bounds → (timed : Bool) → List Want → (note : List ℕ) → List ℕ →
+    Status → Type 0
+IsJsonFirstAnswer t limits bounds timed wants note answer status =
+    (IsJsonFound t limits wants answer status × (note ≡ [])) ⊎
+    IsNotedJsonUnfound t limits bounds timed wants note answer status

@@ -16,8 +16,9 @@ use serde_json::{Value, json};
 use std::alloc::{AllocError, Global};
 
 /// An exploration: its answers, those that aren't wanted first, whether they are all, how many worlds were found, and
-/// where the answers may not be all, how many bytes were counted. `AllocError` where memory ran out.
-pub(crate) fn exploration_json(
+/// where the answers may not be all, how many bytes were counted, and whether the time was over. `AllocError` where
+/// memory ran out.
+pub fn exploration_json(
     alloc: Global,
     exploration: &Exploration,
     wants: &[Want],
@@ -33,25 +34,31 @@ pub(crate) fn exploration_json(
         alloc,
         values,
         exploration.complete,
+        exploration.halted,
         exploration.worlds,
         exploration.bytes,
     )
 }
 
 // Answers, whether they are all, and how many worlds were found; where they may not be all, how many bytes were
-// counted, too.
+// counted, and whether the time was over, too.
 fn exploration_value(
     alloc: Global,
     answers: Vec<Value>,
     complete: bool,
+    halted: bool,
     worlds: usize,
     bytes: usize,
 ) -> Result<Value, AllocError>
-    ensures { IfOk result (λ value. view value ≡ exploration_data (items_view answers.items) complete worlds bytes) }
+    ensures { IfOk result (λ value. view value ≡ exploration_data (items_view answers.items) complete halted worlds
+        bytes) }
 {
     let answers = Value::Array(answers);
     if complete {
         json!(in alloc; {"answer": "exploration", "answers": answers, "complete": true, "worlds": worlds})
+    } else if halted {
+        json!(in alloc; {"answer": "exploration", "answers": answers, "bytes": bytes, "complete": false,
+            "out_of_time": true, "worlds": worlds})
     } else {
         json!(in alloc; {"answer": "exploration", "answers": answers, "bytes": bytes, "complete": false,
             "worlds": worlds})

@@ -1,15 +1,17 @@
 //! Texts whose programs are explored, answered in JSON.
 
-ghost use Rattle.std.specs.Prelude.{IfOk};
-ghost use Rattle.json_answers.specs.FoundAnswers.{IsJsonExplore, IsJsonExplored};
+ghost use Rattle.std.specs.Prelude.{false};
+ghost use Rattle.json_answers.specs.FoundAnswers.{IsJsonExplored, IsNotedJsonExplored};
 
 use crate::exploration_values::exploration_json;
-use crate::refusals::refusal_answer;
+use crate::refusals::InJson;
 use crate::values::value_answer;
 use effect_term::Program;
-use every_schedule::explore;
-use exploration_text::{ExploreOrder, exploration_status};
-use outcome_trace::{Answer, TextOrder, read_program};
+use every_schedule::{Unwatched, Watcher, explore_watched};
+use exploration_text::{
+    ExploreOrder, NotedAnswer, WatchedOrder, exploration_status, missing_of_exploration,
+};
+use outcome_trace::{Answer, ProgramOrder};
 use std::alloc::{AllocError, Global};
 
 /// Tells in JSON all that can come of the program that the text spells, under every schedule, as `ExploreOrder` does in
@@ -20,30 +22,38 @@ pub struct ExploreJson {
     pub order: ExploreOrder,
 }
 
-impl TextOrder for ExploreJson {
-    ghost answers = { λ it. IsJsonExplore it.order.limits it.order.bounds it.order.wants.items };
+impl WatchedOrder for ExploreJson {
+    type Refusals = InJson;
 
-    fn answer(&self, alloc: Global, text: &[u8]) -> Result<Answer, AllocError> {
-        match read_program(alloc, text) {
-            Ok(program) => explored_answer(alloc, &program, &self.order),
-            Err(refused) => refusal_answer(alloc, text, refused),
-        }
+    ghost finds = { λ it timed note t.
+        IsNotedJsonExplored t it.order.limits it.order.bounds timed it.order.wants.items note };
+
+    fn answer_watched<V: Watcher>(
+        &self,
+        alloc: Global,
+        program: &Program,
+        watcher: &mut V,
+    ) -> Result<NotedAnswer, AllocError> {
+        let order = &self.order;
+        let Ok(exploration) = explore_watched(alloc, program, order.limits, order.bounds, watcher)
+        else {
+            return Err(AllocError);
+        };
+        let wants = order.wants.as_slice();
+        let value = exploration_json(alloc, &exploration, wants)?;
+        Ok(NotedAnswer {
+            note: missing_of_exploration(alloc, &exploration, wants)?,
+            answer: value_answer(alloc, &value, exploration_status(&exploration, wants))?,
+        })
     }
 }
 
-// What comes of a program under every schedule.
-fn explored_answer(
-    alloc: Global,
-    program: &Program,
-    order: &ExploreOrder,
-) -> Result<Answer, AllocError>
-    ensures { IfOk result (λ a. IsJsonExplored program.now order.now.limits order.now.bounds order.now.wants.items
-        a.text.items a.status) }
-{
-    let Ok(exploration) = explore(alloc, program, order.limits, order.bounds) else {
-        return Err(AllocError);
-    };
-    let wants = order.wants.as_slice();
-    let value = exploration_json(alloc, &exploration, wants)?;
-    value_answer(alloc, &value, exploration_status(&exploration, wants))
+impl ProgramOrder for ExploreJson {
+    type Refusals = InJson;
+
+    ghost comes = { λ it t. IsJsonExplored t it.order.limits it.order.bounds false it.order.wants.items };
+
+    fn answer_program(&self, alloc: Global, program: &Program) -> Result<Answer, AllocError> {
+        Ok(self.answer_watched(alloc, program, &mut Unwatched)?.answer)
+    }
 }

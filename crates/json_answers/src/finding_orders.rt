@@ -11,8 +11,9 @@ use crate::report_values::{fault_json, report_json};
 use crate::values::value_answer;
 use cell_registry::RunError;
 use effect_term::Program;
+use every_schedule::Watcher;
 use exploration_text::{
-    ExploreOrder, Finding, First, NotedAnswer, NotedOrder, exploration_status, first_finding,
+    ExploreOrder, Finding, First, NotedAnswer, WatchedOrder, exploration_status, first_finding,
     missing_of_exploration,
 };
 use outcome_trace::{Report, Status, schedule_text};
@@ -27,14 +28,20 @@ pub struct FirstJson {
     pub order: ExploreOrder,
 }
 
-impl NotedOrder for FirstJson {
+impl WatchedOrder for FirstJson {
     type Refusals = InJson;
 
-    ghost notes = { λ it note t. IsJsonFirstAnswer t it.order.limits it.order.bounds it.order.wants.items note };
+    ghost finds = { λ it timed note t.
+        IsJsonFirstAnswer t it.order.limits it.order.bounds timed it.order.wants.items note };
 
-    fn noted_answer(&self, alloc: Global, program: &Program) -> Result<NotedAnswer, AllocError> {
+    fn answer_watched<V: Watcher>(
+        &self,
+        alloc: Global,
+        program: &Program,
+        watcher: &mut V,
+    ) -> Result<NotedAnswer, AllocError> {
         let wants = self.order.wants.as_slice();
-        match first_finding(alloc, program, &self.order)? {
+        match first_finding(alloc, program, &self.order, watcher)? {
             First::Found(finding) => {
                 let value = finding_json(alloc, &finding)?;
                 Ok(NotedAnswer {

@@ -17,6 +17,7 @@ mod sample_orders;
 mod sample_values;
 mod values;
 
+pub use exploration_values::exploration_json;
 pub use explore_orders::ExploreJson;
 pub use finding_orders::FirstJson;
 pub use orders::{CheckJson, ReplayJson, fault_json_answer, report_json_answer};

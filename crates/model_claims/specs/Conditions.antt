@@ -105,6 +105,7 @@ abbrev pub probed_truth : Probe → Source → Claim → Seen → Option Bool
 probed_truth (probes.Watch name) source claim seen = watched_truth source claim seen
 probed_truth probes.Nothing source claim seen = Some (holds source claim.condition seen None)
 probed_truth (probes.Order a b) source claim seen = Some (holds source claim.condition seen None)
+probed_truth probes.Names source claim seen = Some (holds source claim.condition seen None)
 
 abbrev pub truth_if : Bool → Option Bool → Option Bool
 truth_if true known = None

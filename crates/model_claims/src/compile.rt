@@ -2,7 +2,7 @@
 
 use crate::condition::{Comparison, Condition, Wanted, Who, Word};
 use crate::faults::plain_fault;
-use crate::names::who_at;
+use crate::names::{needs_names, who_at};
 use crate::parts::{
     Place, behind, both_at, first_at, head_at, number_at, only_at, outcome_at, parts_at, word_at,
 };
@@ -178,7 +178,7 @@ fn ended(
     if first_at(place.source, parts_at(place.source, at)).is_some() {
         return Err(no_condition(alloc, place, at));
     }
-    subjects.fibers = true;
+    speak_of(place, who, subjects);
     condition.words.push(Word::Ended(who))?;
     Ok(())
 }
@@ -196,8 +196,17 @@ fn who_of(
     if word_at(place.source, first).is_empty() {
         return Err(no_condition(alloc, place, at));
     }
+    let who = who_at(alloc, place, first)?;
+    speak_of(place, who, subjects);
+    Ok(who)
+}
+
+// Notes that a condition speaks of these fibers.
+fn speak_of(place: &Place, who: Who, subjects: &mut Subjects) {
     subjects.fibers = true;
-    who_at(alloc, place, first)
+    if needs_names(place, who) {
+        subjects.names = true;
+    }
 }
 
 // `(ends f o ..)`.

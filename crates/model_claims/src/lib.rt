@@ -26,6 +26,7 @@ mod leaf;
 mod moment;
 mod names;
 mod nearness;
+mod numbering;
 mod parts;
 mod reader;
 mod refs;

@@ -175,6 +175,26 @@ pub(crate) fn has_pair(term: &ModelTerm) -> bool {
     false
 }
 
+/// Whether an answer tells which fibers these are by their names alone: `*` leaves out those without a name.
+pub(crate) fn needs_names(place: &Place, who: Who) -> bool {
+    match who {
+        Who::Main => false,
+        Who::Everyone => has_nameless(place.term),
+        Who::Named(_, _) => true,
+        Who::OneOf(_, _, _) => true,
+    }
+}
+
+// Whether a term starts a fiber that has no name in the file.
+fn has_nameless(term: &ModelTerm) -> bool {
+    for binder in term.binders.as_slice() {
+        if is_fiber(binder.kind) && matches!(binder.name, BinderName::Hidden) {
+            return true;
+        }
+    }
+    false
+}
+
 // The fault that no fiber is called so.
 fn no_fiber(alloc: Global, place: &Place, at: usize) -> Refused {
     match fiber_names(alloc, place) {

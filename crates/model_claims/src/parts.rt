@@ -22,6 +22,8 @@ pub(crate) struct Place<'a> {
     /// How many bytes of the term make its first refs, in the order of the text
     /// ([`straight_part`](crate::straight::straight_part)).
     pub straight: usize,
+    /// Whether a fiber's number tells its name ([`numbers_tell_names`](crate::numbering::numbers_tell_names)).
+    pub numbered: bool,
 }
 
 /// The form with this number, if there is one.

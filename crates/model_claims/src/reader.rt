@@ -6,7 +6,8 @@ use crate::condition::{Condition, Wanted, Who, Word, empty_condition};
 use crate::faults::{plain_fault, quoting_fault};
 use crate::judging::Rule;
 use crate::moment::{MomentWord, moment_words};
-use crate::names::who_at;
+use crate::names::{needs_names, who_at};
+use crate::numbering::numbers_tell_names;
 use crate::parts::{
     Place, behind, both_at, first_at, head_at, inside_at, number_at, only_at, outcome_at, parts_at,
     word_at,
@@ -52,6 +53,7 @@ pub fn read_claims(
         model,
         term,
         straight: straight_part(term.text.as_slice()),
+        numbered: numbers_tell_names(alloc, term.text.as_slice())?,
     };
     let mut claims = Vec::new(alloc);
     let mut rest = model.claims;
@@ -255,7 +257,8 @@ fn ended(
         return Err(parts_fault(alloc, place, at, " has no parts"));
     }
     condition.words.push(Word::Ended(who))?;
-    Ok((Rule::Every, Look::Ends(Probe::Nothing)))
+    let probe = names_probe(place, needs_names(place, who));
+    Ok((Rule::Every, Look::Ends(probe)))
 }
 
 // The fault of a claim that lacks a part, or has one too many.
@@ -297,7 +300,16 @@ fn at_the_end(
     let subjects = only_condition(alloc, place, at, condition)?;
     match subjects.cell {
         Some(_) => Err(ref_fault(alloc, place, at, REF_AT_THE_END)),
-        None => Ok((rule, Look::Ends(Probe::Nothing))),
+        None => Ok((rule, Look::Ends(names_probe(place, subjects.names)))),
+    }
+}
+
+// What is put into the term for a claim on answers, by whether it depends on the names of fibers.
+fn names_probe(place: &Place, names: bool) -> Probe {
+    if names && !place.numbered {
+        Probe::Names
+    } else {
+        Probe::Nothing
     }
 }
 
@@ -373,7 +385,7 @@ fn never(
             let look = look_at_moments(alloc, place, at, subjects, cell, condition)?;
             Ok((Rule::Every, look))
         }
-        None => Ok((Rule::Every, Look::Ends(Probe::Nothing))),
+        None => Ok((Rule::Every, Look::Ends(names_probe(place, subjects.names)))),
     }
 }
 

@@ -11,6 +11,8 @@ use std::alloc::{AllocError, Global};
 pub(crate) struct Subjects {
     /// Whether it speaks of fibers.
     pub fibers: bool,
+    /// Whether it depends on the names of fibers other than main.
+    pub names: bool,
     /// The ref that it speaks of, if any.
     pub cell: Option<BinderName>,
     /// Whether it speaks of several refs.
@@ -21,6 +23,7 @@ pub(crate) struct Subjects {
 pub(crate) fn no_subjects() -> Subjects {
     Subjects {
         fibers: false,
+        names: false,
         cell: None,
         several: false,
     }

@@ -11,8 +11,8 @@ pub(crate) fn straight_part(text: &[u8]) -> usize {
     text.len()
 }
 
-// The word that begins here.
-fn word_behind(text: &[u8], at: usize) -> &[u8] {
+/// The word that begins here.
+pub(crate) fn word_behind(text: &[u8], at: usize) -> &[u8] {
     let rest = text.get(at..).unwrap_or(&[]);
     let end = rest
         .iter()

@@ -255,6 +255,7 @@ fn probed_truth(
         Probe::Watch(_) => watched_truth(alloc, source, claim, seen),
         Probe::Nothing => plain_truth(alloc, source, claim, seen),
         Probe::Order(_, _) => plain_truth(alloc, source, claim, seen),
+        Probe::Names => plain_truth(alloc, source, claim, seen),
     }
 }
 

@@ -135,7 +135,7 @@ fn push_undecided(told: &mut Vec<u8>, rule: Rule, search: &Search) -> Result<(),
     if search.complete {
         return push_word(told, "an exploration doesn't decide it\n");
     }
-    push_about(told, "a bound was met at ", search.worlds)?;
+    push_about(told, bound_words(search.halted), search.worlds)?;
     push_word(told, " worlds")?;
     if search.sampled > 0 {
         push_about(told, ", and ", search.sampled)?;
@@ -143,6 +143,15 @@ fn push_undecided(told: &mut Vec<u8>, rule: Rule, search: &Search) -> Result<(),
     }
     told.push(b'\n')?;
     Ok(())
+}
+
+// What is said of an exploration that isn't complete: that its time was over, or that it met another bound.
+fn bound_words(halted: bool) -> &'static str {
+    if halted {
+        "its time was over at "
+    } else {
+        "a bound was met at "
+    }
 }
 
 // What is said of schedules that were drawn at random and decide nothing.

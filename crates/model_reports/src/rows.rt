@@ -4,9 +4,10 @@ use crate::names::fiber_name;
 use cell_registry::Call;
 use effect_term::{JoinReply, Reply};
 use fiber_events::{Deed, Event};
+use fiber_frames::Mark;
 use model_claims::FiberName;
 use model_runs::Named;
-use model_terms::BinderName;
+use model_terms::{BinderName, is_name};
 use std::alloc::{AllocError, Global};
 
 /// A row of a timeline.
@@ -32,14 +33,17 @@ enum Topic {
 }
 
 /// The events of a replay that anyone would see, in their order, and of a wait that goes on the first. What a fiber does
-/// that watches a ref has no rows, nor what is done to a ref that has no name in the file. `AllocError` where memory is
-/// refused.
+/// that watches a ref has no rows, nor what is done to a ref that has no name in the file, nor a `say` of a name.
+/// `AllocError` where memory is refused.
 pub(crate) fn rows_of(alloc: Global, replay: &Named) -> Result<Vec<Row>, AllocError> {
     let mut waits = vec![in alloc; Topic::Nothing; replay.fibers.len()]?;
     let mut rows = Vec::new(alloc);
     for (number, event) in replay.events.as_slice().iter().enumerate() {
         let is_new = is_new(waits.as_mut_slice(), event);
-        if is_new && !is_of_watcher(replay, event) && !is_of_hidden_ref(replay, event) {
+        let is_unseen = is_of_watcher(replay, event)
+            || is_of_hidden_ref(replay, event)
+            || is_of_name(event);
+        if is_new && !is_unseen {
             let form = form_of(replay, number);
             let row = Row {
                 event: *event,
@@ -66,6 +70,14 @@ fn is_of_watcher(replay: &Named, event: &Event) -> bool {
         _ => FiberName::Main,
     };
     started == FiberName::Watcher || fiber_name(replay, event.fiber) == FiberName::Watcher
+}
+
+// Whether an event is the `say` of a fiber's name, which is none of the file's.
+fn is_of_name(event: &Event) -> bool {
+    match event.mark {
+        Some(Mark::Say(value)) => is_name(value.get()),
+        _ => false,
+    }
 }
 
 // Whether an event is a call on a ref that has no name in the file.

@@ -29,8 +29,9 @@ mod verdicts;
 mod warnings;
 mod word_places;
 
+pub use every_schedule::{TimeLimit, Unwatched, Watcher};
 pub use named::Named;
 pub use plan::SearchBounds;
 pub use result::{ClaimResult, HeldRef, ModelResult, NamedAnswer, Search};
-pub use run::{check_model, run_model};
+pub use run::{check_model, run_model, run_model_watched};
 pub use warnings::Warning;

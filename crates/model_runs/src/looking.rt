@@ -16,7 +16,7 @@ use every_schedule::{
 };
 use model_claims::{Claim, Comparison, MomentWord, Rule};
 use std::alloc::{AllocError, Global};
-use world_search::{Bounds, Unwatched};
+use world_search::{Bounds, Watcher};
 
 // How a search compares two values.
 fn sought_comparison(comparison: Comparison) -> SoughtComparison
@@ -104,12 +104,13 @@ pub(crate) fn soughts(alloc: Global, claims: &[Claim]) -> Result<Vec<Sought>, Al
 }
 
 /// Which of these some world meets, as far as the plan goes: with few worlds at first, and then with ten times as many,
-/// until the search is complete or each is met.
-pub(crate) fn search_by_plan(
+/// until the search is complete, each is met, or the watcher ends it.
+pub(crate) fn search_by_plan<V: Watcher>(
     alloc: Global,
     program: &Program,
     plan: Plan,
     wanted: &[Sought],
+    watcher: &mut V,
 ) -> Result<Claimed, RunError>
     requires limits { AreLimits plan.limits }
     ensures { IfOk result (λ it.
@@ -120,22 +121,28 @@ pub(crate) fn search_by_plan(
         if worlds >= plan.worlds {
             break;
         }
-        let found = search_with(alloc, program, plan, wanted, worlds)?;
-        if found.complete || found.met.len() >= wanted.len() || found.worlds < worlds {
+        let found = search_with(alloc, program, plan, wanted, worlds, &mut *watcher)?;
+        if is_last(&found, wanted.len(), worlds) {
             return Ok(found);
         }
         worlds = worlds.saturating_mul(10);
     }
-    search_with(alloc, program, plan, wanted, plan.worlds)
+    search_with(alloc, program, plan, wanted, plan.worlds, watcher)
+}
+
+// Whether a search with more worlds than this number finds no more, or its watcher has ended it.
+fn is_last(found: &Claimed, wanted: usize, worlds: usize) -> bool {
+    found.complete || found.halted || found.met.len() >= wanted || found.worlds < worlds
 }
 
 // The same, with at most this number of worlds.
-fn search_with(
+fn search_with<V: Watcher>(
     alloc: Global,
     program: &Program,
     plan: Plan,
     wanted: &[Sought],
     worlds: usize,
+    watcher: &mut V,
 ) -> Result<Claimed, RunError>
     requires limits { AreLimits plan.limits }
     ensures { IfOk result (λ it.
@@ -146,6 +153,6 @@ fn search_with(
         entries: plan.entries as usize,
         memory: plan.memory,
     };
-    let found = search_claims(alloc, program, plan.limits, bounds, wanted, &mut Unwatched)?;
+    let found = search_claims(alloc, program, plan.limits, bounds, wanted, watcher)?;
     Ok(found)
 }

@@ -23,7 +23,7 @@ use crate::prepared::{Prepared, prepare};
 use crate::result::{NamedAnswer, Search};
 use crate::searching::named_end;
 use cell_registry::RunError;
-use every_schedule::{Claim as Sought, Claimed, Met};
+use every_schedule::{Claim as Sought, Claimed, Met, Watcher};
 use model_claims::{Claim, Rule, Verdict, under};
 use model_terms::{Probe, Refused, Source};
 use model_text::Model;
@@ -40,29 +40,31 @@ pub(crate) struct Moments {
 
 /// Looks at each world of a model's term for what decides the claims at any moment. Nothing is looked at where there
 /// are none.
-pub(crate) fn moments_of(
+pub(crate) fn moments_of<V: Watcher>(
     alloc: Global,
     source: &Source,
     model: &Model,
     plan: Plan,
     claims: &[Claim],
+    watcher: &mut V,
 ) -> Result<Moments, Refused>
     requires limits { AreLimits plan.limits }
     ensures right { IfOk result (IsRightAtSome (all_soughts claims.now)) }
 {
     let prepared = prepare(alloc, source, model, Probe::Nothing)?;
-    match look(alloc, &prepared, plan, claims) {
+    match look(alloc, &prepared, plan, claims, watcher) {
         Ok(found) => Ok(found),
         Err(_) => Err(Refused::NoMemory),
     }
 }
 
 // The same, of the term.
-fn look(
+fn look<V: Watcher>(
     alloc: Global,
     prepared: &Prepared,
     plan: Plan,
     claims: &[Claim],
+    watcher: &mut V,
 ) -> Result<Moments, RunError>
     requires limits { AreLimits plan.limits }
     ensures { IfOk result
@@ -72,7 +74,7 @@ fn look(
     if wanted.is_empty() {
         return Ok(nothing_found(alloc));
     }
-    let found = search_by_plan(alloc, &prepared.program, plan, wanted.as_slice())?;
+    let found = search_by_plan(alloc, &prepared.program, plan, wanted.as_slice(), watcher)?;
     let answers = answers_of(
         alloc,
         prepared,
@@ -93,6 +95,7 @@ fn nothing_found(alloc: Global) -> Moments
         met,
         search: Search {
             complete: false,
+            halted: false,
             worlds: 0,
             sampled: 0,
             answers,
@@ -107,11 +110,13 @@ fn found_moments(found: Claimed, answers: Vec<NamedAnswer>) -> Moments
     ensures answers { result.search.answers.items ≡ answers.items }
 {
     let complete = found.complete;
+    let halted = found.halted;
     let worlds = found.worlds;
     Moments {
         met: found.met,
         search: Search {
             complete,
+            halted,
             worlds,
             sampled: 0,
             answers,

@@ -31,12 +31,13 @@ fn is_same(one: &Probe, other: &Probe) -> bool {
         Probe::Nothing => matches!(other, Probe::Nothing),
         Probe::Watch(name) => match other {
             Probe::Watch(second) => *name == *second,
-            Probe::Nothing | Probe::Order(_, _) => false,
+            Probe::Nothing | Probe::Order(_, _) | Probe::Names => false,
         },
         Probe::Order(first, second) => match other {
             Probe::Order(before, after) => is_said(*first, *before) && is_said(*second, *after),
-            Probe::Nothing | Probe::Watch(_) => false,
+            Probe::Nothing | Probe::Watch(_) | Probe::Names => false,
         },
+        Probe::Names => matches!(other, Probe::Names),
     }
 }
 

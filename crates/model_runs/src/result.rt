@@ -36,6 +36,8 @@ pub struct NamedAnswer {
 pub struct Search {
     /// Whether every schedule was explored.
     pub complete: bool,
+    /// Whether the watcher has ended the exploration.
+    pub halted: bool,
     /// How many worlds were found.
     pub worlds: usize,
     /// How many schedules were drawn at random; 0 where every schedule was explored.

@@ -19,6 +19,7 @@ use crate::result::{ClaimResult, ModelResult, Search};
 use crate::searching::search_term;
 use crate::verdicts::worst_verdict;
 use crate::warnings::{Warning, warnings_of};
+use every_schedule::{Unwatched, Watcher};
 use model_claims::{Claim, read_claims, read_settings};
 use model_terms::{Probe, Refused, Source, translate};
 use model_text::Model;
@@ -41,13 +42,30 @@ pub fn run_model(
     ensures searches { IfOk result (λ it. All IsRightOfSome it.searches.items) }
     ensures claims { IfOk result (λ it. All (IsDecidedIn source.now it.searches.items it.moments) it.claims.items) }
 {
+    run_model_watched(alloc, source, model, bounds, &mut Unwatched)
+}
+
+/// The same ([`run_model`]), while all searches of the model are watched. Where the watcher ends one, what was found
+/// until then decides, as at a bound, and at most 200 schedules are drawn: a claim that they don't decide is undecided.
+/// With a [`TimeLimit`] for each model its explorations end by the limit, together.
+pub fn run_model_watched<V: Watcher>(
+    alloc: Global,
+    source: &Source,
+    model: &Model,
+    bounds: SearchBounds,
+    watcher: &mut V,
+) -> Result<ModelResult, Refused>
+    ensures verdict { IfOk result (λ it. it.verdict ≡ worst it.claims.items) }
+    ensures searches { IfOk result (λ it. All IsRightOfSome it.searches.items) }
+    ensures claims { IfOk result (λ it. All (IsDecidedIn source.now it.searches.items it.moments) it.claims.items) }
+{
     let term = translate(alloc, source, model, Probe::Nothing)?;
     let claims = read_claims(alloc, source, model, &term)?;
     let settings = read_settings(alloc, source, model)?;
     let plan = plan_of(settings, bounds);
     let probes = probes_of(alloc, claims.as_slice())?;
-    let searches = searches_of(alloc, source, model, plan, probes.as_slice())?;
-    let moments = moments_of(alloc, source, model, plan, claims.as_slice())?;
+    let searches = searches_of(alloc, source, model, plan, probes.as_slice(), &mut *watcher)?;
+    let moments = moments_of(alloc, source, model, plan, claims.as_slice(), watcher)?;
     let results = results_of(
         alloc,
         source,
@@ -102,36 +120,39 @@ fn all_worlds(searches: &[Search], moments: &Search) -> u64 {
 }
 
 // A search of the term with each of these put into it.
-fn searches_of(
+fn searches_of<V: Watcher>(
     alloc: Global,
     source: &Source,
     model: &Model,
     plan: Plan,
     probes: &[Probe],
+    watcher: &mut V,
 ) -> Result<Vec<Search>, Refused>
     requires limits { AreLimits plan.limits }
     ensures right { IfOk result (λ it. All IsRightOfSome it.items) }
 {
     let mut searches = Vec::new(alloc);
     for probe in probes {
-        searches.push(search_with(alloc, source, model, plan, *probe)?)?;
+        let found = search_with(alloc, source, model, plan, *probe, &mut *watcher)?;
+        searches.push(found)?;
     }
     Ok(searches)
 }
 
 // A search of the term with this put into it.
-fn search_with(
+fn search_with<V: Watcher>(
     alloc: Global,
     source: &Source,
     model: &Model,
     plan: Plan,
     probe: Probe,
+    watcher: &mut V,
 ) -> Result<Search, Refused>
     requires limits { AreLimits plan.limits }
     ensures right { IfOk result IsRightOfSome }
 {
     let prepared = prepare(alloc, source, model, probe)?;
-    match search_term(alloc, &prepared, plan) {
+    match search_term(alloc, &prepared, plan, watcher) {
         Ok(found) => Ok(found),
         Err(_) => Err(Refused::NoMemory),
     }

@@ -16,8 +16,8 @@ use crate::result::{HeldRef, NamedAnswer, Search};
 use crate::seeing::seen_of;
 use cell_registry::RunError;
 use effect_term::Program;
-use every_schedule::{Answer, Exploration, Schedule, explore};
-use sampled_schedules::{Coming, sample};
+use every_schedule::{Answer, Exploration, Schedule, Watcher, explore_watched};
+use sampled_schedules::{Coming, Sample, sample, sample_watched};
 use scheduled_core::same_end;
 use std::alloc::{AllocError, Global};
 use world_search::Bounds;
@@ -28,9 +28,17 @@ pub(crate) const FIRST: usize = 10_000;
 /// How often the worlds are made ten times as many.
 pub(crate) const TIMES_MORE: u32 = 8;
 
+// How many schedules are drawn at most where the watcher has ended the exploration.
+const FEW_TIMES: u32 = 200;
+
 /// What can come of a program, as far as the plan goes: with few worlds at first, and then with ten times as many, up
 /// to those of the plan.
-fn explore_by_plan(alloc: Global, program: &Program, plan: Plan) -> Result<Exploration, RunError>
+fn explore_by_plan<V: Watcher>(
+    alloc: Global,
+    program: &Program,
+    plan: Plan,
+    watcher: &mut V,
+) -> Result<Exploration, RunError>
     requires limits { AreLimits plan.limits }
     ensures all { IfOk result (λ it. it.complete ≡ true → (schedule : List ℕ) →
         IsCovered plan.limits it.answers (core (code_of (source_of program.now)) plan.limits schedule)) }
@@ -41,21 +49,22 @@ fn explore_by_plan(alloc: Global, program: &Program, plan: Plan) -> Result<Explo
         if worlds >= plan.worlds {
             break;
         }
-        let found = explore_with(alloc, program, plan, worlds)?;
-        if found.complete || found.worlds < worlds {
+        let found = explore_with(alloc, program, plan, worlds, &mut *watcher)?;
+        if found.complete || found.halted || found.worlds < worlds {
             return Ok(found);
         }
         worlds = worlds.saturating_mul(10);
     }
-    explore_with(alloc, program, plan, plan.worlds)
+    explore_with(alloc, program, plan, plan.worlds, watcher)
 }
 
 // The answers of a program, with at most this number of worlds.
-fn explore_with(
+fn explore_with<V: Watcher>(
     alloc: Global,
     program: &Program,
     plan: Plan,
     worlds: usize,
+    watcher: &mut V,
 ) -> Result<Exploration, RunError>
     requires limits { AreLimits plan.limits }
     ensures all { IfOk result (λ it. it.complete ≡ true → (schedule : List ℕ) →
@@ -67,25 +76,56 @@ fn explore_with(
         entries: plan.entries as usize,
         memory: plan.memory,
     };
-    explore(alloc, program, plan.limits, bounds)
+    explore_watched(alloc, program, plan.limits, bounds, watcher)
 }
 
-/// What can come of a term, as far as the plan goes. Where not every schedule was explored, some are drawn at random.
-pub(crate) fn search_term(
+/// What can come of a term, as far as the plan goes and the watcher lets it. Where not every schedule was explored,
+/// some are drawn at random.
+pub(crate) fn search_term<V: Watcher>(
     alloc: Global,
     prepared: &Prepared,
     plan: Plan,
+    watcher: &mut V,
 ) -> Result<Search, RunError>
     requires limits { AreLimits plan.limits }
     ensures { IfOk result (IsRight (code_of (source_of prepared.now.program)) plan.limits) }
 {
-    let found = explore_by_plan(alloc, &prepared.program, plan)?;
+    let found = explore_by_plan(alloc, &prepared.program, plan, &mut *watcher)?;
     let answers = explored_answers(alloc, prepared, plan, found.answers.as_slice())?;
     if found.complete {
         return Ok(search_of(&found, 0, answers));
     }
-    let more = sampled_answers(alloc, prepared, plan, found.answers.as_slice(), answers)?;
-    Ok(search_of(&found, plan.times, more))
+    let drawn = drawn_by_plan(alloc, &prepared.program, plan, found.halted, watcher)?;
+    let known = found.answers.as_slice();
+    let comings = drawn.comings.as_slice();
+    let more = with_drawn(alloc, prepared, plan, known, comings, answers)?;
+    Ok(search_of(&found, drawn.schedules, more))
+}
+
+// The schedules that are drawn where an exploration isn't complete: those of the plan, while the watcher lets them.
+// Where the watcher has ended the exploration, they are few, and it isn't asked.
+fn drawn_by_plan<V: Watcher>(
+    alloc: Global,
+    program: &Program,
+    plan: Plan,
+    halted: bool,
+    watcher: &mut V,
+) -> Result<Sample, RunError>
+    requires limits { AreLimits plan.limits }
+{
+    if halted {
+        let times = plan.times.min(FEW_TIMES);
+        return sample(alloc, program, plan.limits, plan.seed, times, plan.entries);
+    }
+    sample_watched(
+        alloc,
+        program,
+        plan.limits,
+        plan.seed,
+        plan.times,
+        plan.entries,
+        watcher,
+    )
 }
 
 // The answers of an exploration.
@@ -109,45 +149,16 @@ fn explored_answers(
 // What was found, with these answers, after this number of schedules was drawn.
 fn search_of(found: &Exploration, sampled: u32, answers: Vec<NamedAnswer>) -> Search
     ensures complete { result.complete ≡ found.now.complete }
+    ensures halted { result.halted ≡ found.now.halted }
     ensures answers { result.answers.items ≡ answers.items }
 {
     Search {
         complete: found.complete,
+        halted: found.halted,
         worlds: found.worlds,
         sampled,
         answers,
     }
-}
-
-// These answers, and those that were drawn at random, that no further entry changes and that aren't found.
-fn sampled_answers(
-    alloc: Global,
-    prepared: &Prepared,
-    plan: Plan,
-    found: &[Answer],
-    answers: Vec<NamedAnswer>,
-) -> Result<Vec<NamedAnswer>, RunError>
-    requires limits { AreLimits plan.limits }
-    requires each { All (IsSeen (code_of (source_of prepared.now.program)) plan.limits) answers.items }
-    ensures each { IfOk result (λ it. All (IsSeen (code_of (source_of prepared.now.program)) plan.limits) it.items) }
-{
-    let drawn = sample(
-        alloc,
-        &prepared.program,
-        plan.limits,
-        plan.seed,
-        plan.times,
-        plan.entries,
-    )?;
-    let all = with_drawn(
-        alloc,
-        prepared,
-        plan,
-        found,
-        drawn.comings.as_slice(),
-        answers,
-    )?;
-    Ok(all)
 }
 
 // These answers, and those that were drawn, that no further entry changes and that aren't found.

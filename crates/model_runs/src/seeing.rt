@@ -7,6 +7,7 @@ use crate::named::Named;
 use effect_term::Value;
 use fiber_frames::Mark;
 use model_claims::{FiberName, Seen, SeenFiber};
+use model_terms::is_name;
 use scheduled_core::FiberReport;
 use std::alloc::{AllocError, Global};
 
@@ -94,11 +95,13 @@ fn name_of(names: &[FiberName], number: usize) -> FiberName {
     }
 }
 
-// The values that are said.
+// The values that are said, without those that are said for names.
 fn add_says(says: &mut Vec<Value>, marks: &[Mark]) -> Result<(), AllocError> {
     for mark in marks {
         if let Mark::Say(value) = mark {
-            says.push(*value)?;
+            if !is_name(value.get()) {
+                says.push(*value)?;
+            }
         }
     }
     Ok(())

@@ -6,7 +6,7 @@ ghost use Rattle.model_runs.specs.Verdicts.{worst};
 use crate::board::Board;
 use crate::suite::{Models, SuiteForm};
 use crate::tested::{Became, Explored, Tested};
-use model_runs::{ModelResult, SearchBounds, run_model};
+use model_runs::{ModelResult, SearchBounds, TimeLimit, run_model_watched};
 use model_terms::{Refused, Source};
 use model_text::Model;
 use std::alloc::{AllocError, Global};
@@ -35,21 +35,24 @@ fn explore<C: Clock>(
     match models.order.form {
         SuiteForm::List => Ok(Became::Listed),
         SuiteForm::Report | SuiteForm::Json | SuiteForm::Tap => {
-            explore_model(clock, alloc, &file.source, &entry.model, bounds)
+            let seconds = models.order.seconds;
+            explore_model(clock, alloc, &file.source, &entry.model, bounds, seconds)
         }
     }
 }
 
-// Explores and judges a model.
+// Explores and judges a model, within these seconds if they are given.
 fn explore_model<C: Clock>(
     clock: &C,
     alloc: Global,
     source: &Source,
     model: &Model,
     bounds: SearchBounds,
+    seconds: Option<u64>,
 ) -> Result<Became, AllocError> {
-    let begun = Instant::now(clock).ok();
-    match run_model(alloc, source, model, bounds) {
+    let mut limit = TimeLimit::new(clock, seconds);
+    let begun = limit.begun;
+    match run_model_watched(alloc, source, model, bounds, &mut limit) {
         Ok(result) => {
             let milliseconds = milliseconds_since(clock, begun);
             Ok(Became::Explored(explored(result, milliseconds)))

@@ -43,6 +43,8 @@ pub struct SuiteOrder<'a> {
     pub worlds: u64,
     /// The number of bytes at which the search of a model stops.
     pub memory: u64,
+    /// After how many seconds the searches of a model stop, if they do.
+    pub seconds: Option<u64>,
     /// What is printed.
     pub form: SuiteForm,
     /// Whether a report for CI is wanted.

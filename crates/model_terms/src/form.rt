@@ -5,7 +5,7 @@ use crate::look::{
     behind_of, bound_at, dot_at, enter, fresh_at, front_of, is_hidden, meaning_of, name_at, under,
     value, wrong_at,
 };
-use crate::probe::{say, watch};
+use crate::probe::{say, say_name, watch};
 use crate::reading::{Reading, behind_nth, bytes_of, count_of, first_of, nth_of};
 use crate::scope::{FiberName, Here, Meaning, Operand};
 use crate::task::{Follow, Task};
@@ -352,6 +352,11 @@ fn plan_part(
         Part::Term | Part::Under(_) | Part::UnderBoth(_, _) => {
             let follow = follow_of(work, number, at);
             let here = here_in(read, work, number);
+            if out.names && is_body(work.word, number) {
+                say_name(out, work.at, here.fiber)?;
+                plan_term(read, out, work, part, follow, here)?;
+                return out.then(Task::Close(1));
+            }
             plan_term(read, out, work, part, follow, here)
         }
         Part::More | Part::Close => Ok(()),
@@ -385,6 +390,15 @@ fn follow_of(work: FormWork, number: usize, at: usize) -> Follow {
             }
         }
         None => Follow::Part(at),
+    }
+}
+
+// Whether the part with this number is what a fiber of its own runs.
+fn is_body(word: Word, number: usize) -> bool {
+    match word {
+        Word::Start => number == 1,
+        Word::Race | Word::Both => number <= 1,
+        _ => false,
     }
 }
 

@@ -25,6 +25,7 @@ mod condition;
 mod file_fault;
 mod form;
 mod look;
+mod name_says;
 mod named;
 mod nearness;
 mod probe;
@@ -45,6 +46,7 @@ mod writing;
 mod wrong;
 
 pub use binder::{Binder, BinderName, NameKind, WordPlace};
+pub use name_says::is_name;
 pub use refused::{Refused, SourceFault};
 pub use source::{Source, prelude, read_source};
 pub use translation::{LATE, ModelTerm, Probe, Said, translate};

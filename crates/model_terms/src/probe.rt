@@ -2,6 +2,7 @@
 
 use crate::binder::{BinderName, NameKind};
 use crate::look::value;
+use crate::name_says::{WATCHER, name_value};
 use crate::reading::Reading;
 use crate::scope::{FiberName, Here, Operand};
 use crate::task::Task;
@@ -11,8 +12,8 @@ use crate::wrong::Stop;
 use itoa::Buffer;
 use term_parse::Word;
 
-/// Plans a fiber that reads the ref with this name once, if this binder's refs are watched. The fiber takes one more
-/// open bracket.
+/// Plans a fiber that reads the ref with this name once, if this binder's refs are watched. It says who it is first, so
+/// that no report takes it for another fiber. It takes one more open bracket.
 pub(crate) fn watch(
     out: &mut Writing,
     at: usize,
@@ -25,11 +26,25 @@ pub(crate) fn watch(
     let watcher = out.fresh(b"watch")?;
     out.then(Task::Open(Word::Start, at))?;
     out.then(Task::Bind(watcher, NameKind::Fiber, BinderName::Watcher))?;
+    say_before(out, at, WATCHER)?;
     out.then(Task::Open(Word::Get, at))?;
     out.then(Task::Operand(Operand::Name(name)))?;
-    out.then(Task::Close(1))?;
+    out.then(Task::Close(2))?;
     out.lets = out.lets.saturating_add(1);
     Ok(())
+}
+
+/// Opens a `seq` in which a fiber says the value for its name first.
+pub(crate) fn say_name(out: &mut Writing, at: usize, fiber: FiberName) -> Result<(), Stop> {
+    say_before(out, at, name_value(fiber))
+}
+
+// Opens a `seq` whose first part says this value.
+fn say_before(out: &mut Writing, at: usize, value: i64) -> Result<(), Stop> {
+    out.then(Task::Open(Word::Seq, at))?;
+    out.then(Task::Open(Word::Say, at))?;
+    out.then(Task::Operand(Operand::Number(value)))?;
+    out.then(Task::Close(1))
 }
 
 // Whether a spelling is that of a name of a row: the row's name, a dot and a number.

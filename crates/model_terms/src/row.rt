@@ -2,7 +2,7 @@
 
 use crate::binder::{BinderName, NameKind};
 use crate::look::{bound_at, enter, is_hidden, known_number, under, value, want_name, wrong_at};
-use crate::probe::watch;
+use crate::probe::{say_name, watch};
 use crate::reading::{Reading, count_of, first_of, inside_at, nth_of};
 use crate::scope::{FiberName, Here, Meaning, Operand};
 use crate::task::{Follow, Task};
@@ -244,6 +244,11 @@ fn plan_start(
         view: under_index.view,
         fiber: FiberName::Row(work.name, number),
     };
+    if out.names {
+        say_name(out, work.at, here.fiber)?;
+        out.then(Task::Term(body, here))?;
+        return out.then(Task::Close(1));
+    }
     out.then(Task::Term(body, here))
 }
 

@@ -36,6 +36,10 @@ pub enum Probe {
     /// A hidden ref that records whether the first `say` came before the second. If it didn't, the fiber says [`LATE`]
     /// before the second.
     Order(Said, Said),
+    /// In each fiber but fiber 0, a `say` before its first move: its value tells the fibers of one name from those of
+    /// another ([`is_name`](crate::is_name)). So two fibers of different names have different reports, unless they are
+    /// canceled before they begin.
+    Names,
 }
 
 /// The value that is said before the second of two `say`s if the first didn't come before it.
@@ -103,6 +107,7 @@ fn keep_probe(out: &mut Writing, probe: &Probe) {
             let second = said_by(second);
             out.said = Some((first, second));
         }
+        Probe::Names => out.names = true,
     }
 }
 

@@ -37,6 +37,8 @@ pub(crate) struct Writing {
     pub(crate) watched: Option<BinderName>,
     /// The two `say`s whose order is compared.
     pub(crate) said: Option<(SaidBy, SaidBy)>,
+    /// Whether each fiber says a value for its name first.
+    pub(crate) names: bool,
     /// The name of the hidden ref for the order.
     pub(crate) order: usize,
     pub(crate) spellings: Spellings,
@@ -68,6 +70,7 @@ impl Writing {
             torn: Vec::new(alloc),
             watched: None,
             said: None,
+            names: false,
             order: NONE,
             spellings,
             bounds: Vec::new(alloc),

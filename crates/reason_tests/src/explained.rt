@@ -1,4 +1,4 @@
-//! Texts that are answered with reasons, on devices that work and that fail.
+//! Texts that are answered with reasons, on devices that fail.
 
 use crate::limits::limits;
 use outcome_trace::{CheckOrder, FromRead, ReplayOrder, Status, ToWrite};
@@ -37,45 +37,6 @@ struct Broken;
 impl Read for Broken {
     fn read(&mut self, _buffer: &mut [u8]) -> io::Result<usize> {
         Err(io::Error::from(ErrorKind::BrokenPipe))
-    }
-}
-
-// A text, its answer by `check`, its status, and its reasons.
-const CHECKED: &[(&str, &str, Status, &str)] = &[
-    (
-        "(pure 1)",
-        "ok size 1 nest 1 masks 0\n",
-        Status::Succeeded,
-        "",
-    ),
-    (
-        "(pur 1)",
-        "refused 6 UnknownWord at 1\n",
-        Status::Refused,
-        "line 1, column 2: `pur` is no word of the language\n\
-            \x20 (pur 1)\n\
-            \x20  ^\n\
-            behind an opening bracket the word of a form was wanted\n\
-            did you mean `pure`?\n",
-    ),
-];
-
-#[test]
-fn answers_are_as_without_reasons(rt: HostRuntime) {
-    for (text, answer, want, reasons) in CHECKED {
-        let mut out = Vec::new(rt.alloc());
-        let mut err = Vec::new(rt.alloc());
-        let status = obey_explained(
-            rt.alloc(),
-            &CheckOrder,
-            &TextReasons,
-            &mut FromRead::new(text.as_bytes()),
-            &mut ToWrite::new(&mut out),
-            &mut ToWrite::new(&mut err),
-        );
-        assert_eq!(rt; status, *want);
-        assert_eq!(rt; out.as_slice(), answer.as_bytes());
-        assert_eq!(rt; err.as_slice(), reasons.as_bytes());
     }
 }
 

@@ -14,4 +14,4 @@ mod sampled;
 mod walks;
 
 pub use comings::{Coming, Comings, Drawn, Sample};
-pub use sampled::sample;
+pub use sampled::{sample, sample_watched};

@@ -23,7 +23,7 @@ use crate::ends::same_end;
 use crate::walks::walk;
 use cell_registry::{Limits, PlainRegistry, RunError};
 use effect_term::Program;
-use every_schedule::{Answer, Schedule};
+use every_schedule::{Answer, Schedule, Unwatched, Watcher};
 use fiber_frames::Config;
 use scheduled_core::{Report, first_fibers, report_of_fibers};
 use std::alloc::{AllocError, Global};
@@ -61,10 +61,43 @@ pub fn sample(
     ensures lawful { IfOk result (λ it. All (λ c. HasLawfulMarks c.answer) it.comings) }
     ensures memory { IfErr result (λ e. e ≡ RunError.NoMemory) }
 {
+    sample_watched(alloc, program, limits, seed, times, entries, &mut Unwatched)
+}
+
+/// The same ([`sample`]), while it is watched: the watcher hears before each schedule how many were drawn, and can end
+/// the sample then, which has those that were drawn. A watcher that can't end it leaves all of them.
+pub fn sample_watched<V: Watcher>(
+    alloc: Global,
+    program: &Program,
+    limits: Limits,
+    seed: u64,
+    times: u32,
+    entries: u32,
+    watcher: &mut V,
+) -> Result<Sample, RunError>
+    requires limits { AreLimits limits }
+    ensures each { IfOk result (λ it. All (λ c.
+        reported (core (code_of (source_of program.now)) limits c.answer.schedule) ≡ c.answer.end) it.comings) }
+    ensures stays { IfOk result (λ it. All (λ c. length c.answer.schedule < entries →
+        IsReached (code_of (source_of program.now)) limits c.answer) it.comings) }
+    ensures uncut { IfOk result (λ it. All (λ c. c.cut ≡ false →
+        StaysSo (code_of (source_of program.now)) limits c.answer.end) it.comings) }
+    ensures cut { IfOk result (λ it. All (λ c. c.cut ≡ true → IsCutShort entries c.answer) it.comings) }
+    ensures tally { IfOk result (λ it.
+        IsSampleOf (code_of (source_of program.now)) limits entries it.schedules it.comings) }
+    ensures counted { IfOk result (λ it. sum_by (λ c. c.times) it.comings ≡ it.schedules) }
+    ensures few { IfOk result (λ it. it.schedules ≤ times) }
+    ensures whole { V.can_stop watcher.old ≡ false → IfOk result (λ it. it.schedules ≡ times) }
+    ensures numbers { IfOk result (λ it. All (λ c. All (λ f. f < 1000) c.answer.schedule) it.comings) }
+    ensures short { IfOk result (λ it. All (λ c. length c.answer.schedule ≤ entries) it.comings) }
+    ensures lawful { IfOk result (λ it. All (λ c. HasLawfulMarks c.answer) it.comings) }
+    ensures memory { IfErr result (λ e. e ≡ RunError.NoMemory) }
+{
     let first = first_fibers(alloc, program)?;
     let mut draws = Draws::new(seed);
     let mut comings = Vec::new(alloc);
-    for _ in 0..times {
+    let mut schedules = 0;
+    while schedules < times && watcher.goes_on(schedules as usize, 0) {
         let drawn = draw(
             alloc,
             first.as_slice(),
@@ -73,9 +106,10 @@ pub fn sample(
             entries as usize,
         )?;
         note(&mut comings, drawn)?;
+        schedules += 1;
     }
     Ok(Sample {
-        schedules: times,
+        schedules,
         comings: Comings::new(comings),
     })
 }

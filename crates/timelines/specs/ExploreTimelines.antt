@@ -12,6 +12,7 @@ use Rattle.every_schedule.specs.declared.exploration.Exploration.{Exploration}
 use Rattle.world_search.specs.declared.answers.Bounds.{Bounds}
 use Rattle.exploration_text.specs.declared.wants.Want.{Want}
 use Rattle.exploration_text.specs.ExplorationText.{IsAnswerText, exploration_status, first_line, is_listed_so}
+use Rattle.exploration_text.specs.Missing.{missing_of_exploration}
 use Rattle.exploration_text.specs.ExploreAnswers.{IsExplorationOf}
 
 -- the text of an answer as in the text of its exploration, then a blank line and a timeline
@@ -40,16 +41,25 @@ pub record IsToldExploration (wants : List Want) (e : Exploration) (text : List 
   pub unwanted_is : IsToldPart true wants e.answers unwanted
   pub others_are : IsToldPart false wants e.answers others
 
--- the text of an exploration of the program, with timelines, and the status of the exploration
-pub record IsToldExplored (t : Term) (limits : Limits) (bounds : Bounds) (wants : List Want) (answer : List ℕ)
-    (status : Status) : Type 0
+-- the text of an exploration of the program, with timelines, and the status of the exploration, whose time was limited
+-- or wasn't
+pub record IsToldExplored (t : Term) (limits : Limits) (bounds : Bounds) (timed : Bool) (wants : List Want)
+    (answer : List ℕ) (status : Status) : Type 0
   where
     pub exploration : Exploration
-    pub explored : IsExplorationOf (code_of (source_of t)) limits bounds exploration
+    pub explored : IsExplorationOf (code_of (source_of t)) limits bounds timed exploration
     pub text_is : IsToldExploration wants exploration answer
     pub status_is : status ≡ exploration_status wants exploration
 
+-- such a text and status, beside the lines of the wanted outcomes to which no answer comes
+pub record IsNotedTold (t : Term) (limits : Limits) (bounds : Bounds) (timed : Bool) (wants : List Want)
+    (note answer : List ℕ) (status : Status) : Type 0
+  where
+    pub told : IsToldExplored t limits bounds timed wants answer status
+    pub note_is : note ≡ missing_of_exploration wants told.exploration
+
 -- the answer to a text under limits, with its status: a refusal, or the exploration of the program that the text
 -- spells, with timelines
-abbrev pub IsExploreTimeline : Limits → Bounds → List Want → List ℕ → List ℕ → Status → Type 0
-IsExploreTimeline limits bounds wants = IsProgramAnswer IsRefusalAnswer (λ t. IsToldExplored t limits bounds wants)
+abbrev pub IsExploreTimeline : Limits → Bounds → (timed : Bool) → List Want → List ℕ → List ℕ → Status → Type 0
+IsExploreTimeline limits bounds timed wants =
+    IsProgramAnswer IsRefusalAnswer (λ t. IsToldExplored t limits bounds timed wants)

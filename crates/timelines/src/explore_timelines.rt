@@ -1,18 +1,20 @@
 //! The answers to a text under every schedule, each with its timeline.
 
-ghost use Rattle.std.specs.Prelude.{IfOk};
+ghost use Rattle.std.specs.Prelude.{IfOk, false};
 ghost use Rattle.std.specs.List.{All};
 ghost use Rattle.cell_registry.specs.Cells.{AreLimits};
 ghost use Rattle.exploration_text.specs.ExplorationText.{IsSpellable};
-ghost use Rattle.timelines.specs.ExploreTimelines.{IsToldExploration, IsToldExplored, IsToldPart, IsToldText};
+ghost use Rattle.timelines.specs.ExploreTimelines.{IsNotedTold, IsToldExploration, IsToldExplored};
+ghost use Rattle.timelines.specs.ExploreTimelines.{IsToldPart, IsToldText};
 
 use crate::timeline_order::push_rows;
 use crate::timeline_rows::timeline;
 use cell_registry::Limits;
 use effect_term::Program;
-use every_schedule::{Answer, Exploration, explore};
+use every_schedule::{Answer, Exploration, Unwatched, Watcher, explore_watched};
 use exploration_text::{
-    ExploreOrder, Want, exploration_status, first_line, is_listed_so, text_of_answer,
+    ExploreOrder, NotedAnswer, Want, WatchedOrder, exploration_status, first_line, is_listed_so,
+    missing_of_exploration, text_of_answer,
 };
 use fiber_events::replay_events;
 use outcome_trace::{InWords, ProgramOrder};
@@ -29,28 +31,48 @@ pub struct ExploreTimelineOrder {
     pub order: ExploreOrder,
 }
 
+impl WatchedOrder for ExploreTimelineOrder {
+    type Refusals = InWords;
+
+    ghost finds = { λ it timed note t.
+        IsNotedTold t it.order.limits it.order.bounds timed it.order.wants.items note };
+
+    fn answer_watched<V: Watcher>(
+        &self,
+        alloc: Global,
+        program: &Program,
+        watcher: &mut V,
+    ) -> Result<NotedAnswer, AllocError> {
+        let ExploreOrder {
+            limits,
+            bounds,
+            wants,
+        } = &self.order;
+        let Ok(exploration) = explore_watched(alloc, program, *limits, *bounds, watcher) else {
+            return Err(AllocError);
+        };
+        let wants = wants.as_slice();
+        Ok(NotedAnswer {
+            note: missing_of_exploration(alloc, &exploration, wants)?,
+            answer: outcome_trace::Answer {
+                text: told_exploration(alloc, program, *limits, &exploration, wants)?,
+                status: exploration_status(&exploration, wants),
+            },
+        })
+    }
+}
+
 impl ProgramOrder for ExploreTimelineOrder {
     type Refusals = InWords;
 
-    ghost comes = { λ it t. IsToldExplored t it.order.limits it.order.bounds it.order.wants.items };
+    ghost comes = { λ it t. IsToldExplored t it.order.limits it.order.bounds false it.order.wants.items };
 
     fn answer_program(
         &self,
         alloc: Global,
         program: &Program,
     ) -> Result<outcome_trace::Answer, AllocError> {
-        let ExploreOrder {
-            limits,
-            bounds,
-            wants,
-        } = &self.order;
-        let Ok(exploration) = explore(alloc, program, *limits, *bounds) else {
-            return Err(AllocError);
-        };
-        Ok(outcome_trace::Answer {
-            text: told_exploration(alloc, program, *limits, &exploration, wants.as_slice())?,
-            status: exploration_status(&exploration, wants.as_slice()),
-        })
+        Ok(self.answer_watched(alloc, program, &mut Unwatched)?.answer)
     }
 }
 

@@ -30,9 +30,11 @@ pub struct Found {
     /// the ones that are certain. Worlds are met breadth first, so the schedules are short; no contract says so.
     pub answers: Vec<Answer>,
     /// Every schedule was searched: no other leads to a fault that isn't listed, or to a settled world of another
-    /// report. It is so where all worlds are kept, each of them is met by fewer entries than the most, and fewer bytes
-    /// are counted than the bound.
+    /// report. It is so where all worlds are kept, each of them is met by fewer entries than the most, fewer bytes are
+    /// counted than the bound, and the watcher hasn't ended the search.
     pub complete: bool,
+    /// The watcher has ended the search.
+    pub halted: bool,
     /// How many worlds the store has.
     pub worlds: usize,
     /// How many entries were met that lead from one world to another.

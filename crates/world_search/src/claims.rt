@@ -50,6 +50,8 @@ pub struct Claimed {
     pub met: Vec<Met>,
     /// Every schedule was searched: no schedule leads to a world that meets another of the claims.
     pub complete: bool,
+    /// The watcher has ended the search.
+    pub halted: bool,
     /// How many worlds the store has.
     pub worlds: usize,
     /// How many bytes are counted for what is kept, as in [`Found`](crate::Found).
@@ -59,7 +61,7 @@ pub struct Claimed {
 /// Searches every schedule from the first world of a store for worlds that meet claims.
 ///
 /// The worlds are those that [`search`](crate::search) meets; each claim is looked at in each of them, until one meets
-/// it. The watcher is called, and memory is bounded, as there.
+/// it. The watcher is asked, and memory is bounded, as there.
 pub fn search_claims<W: Claims, V: Watcher>(
     alloc: Global,
     worlds: &mut W,
@@ -79,16 +81,21 @@ pub fn search_claims<W: Claims, V: Watcher>(
     ensures short { IfOk result (λ it. All (IsBrief bounds.entries) it.met.items) }
     ensures room { OnOk result (length (W.worlds worlds.new) ≤ max bounds.worlds (length (W.worlds worlds.old))) }
     ensures count { IfOk result (λ it. it.worlds ≡ length (W.worlds worlds.new)) }
-    ensures stopped { IfOk result (λ it. it.complete ≡ false → length (W.worlds worlds.old) ≡ 1 →
+    ensures stopped { IfOk result (λ it. it.complete ≡ false → it.halted ≡ false → length (W.worlds worlds.old) ≡ 1 →
         IsAtBound bounds it.worlds it.bytes) }
+    ensures halted { IfOk result (λ it. it.halted ≡ true → V.has_stopped watcher.new ≡ true) }
+    ensures may { IfOk result (λ it. it.halted ≡ true → V.can_stop watcher.old ≡ true) }
+    ensures apart { IfOk result (λ it. it.complete ≡ true → it.halted ≡ false) }
+    ensures watches { V.can_stop watcher.new ≡ V.can_stop watcher.old }
     ensures spare { IfOk result (λ it. it.complete ≡ true → it.bytes < bounds.memory) }
 {
     let mut graph = begin(alloc)?;
-    let complete = explore(&mut *worlds, &mut graph, limits_of(bounds), watcher)?;
+    let closing = explore(&mut *worlds, &mut graph, limits_of(bounds), watcher)?;
     let met = list_met(alloc, &*worlds, graph.nodes.as_slice(), claims)?;
     Ok(Claimed {
         met,
-        complete,
+        complete: closing.is_whole(),
+        halted: closing.is_halted(),
         worlds: worlds.len(),
         bytes: bytes_of(&*worlds, &graph),
     })

@@ -1,6 +1,6 @@
 //! The entries at each world that was met, in turn.
 
-ghost use Rattle.std.specs.Prelude.{◌≡◌, ◌⊎◌, ℕ, ◌+◌, ◌*◌, ◌<◌, ◌≤◌, length, true, false, max, IfOk, OnOk, Some};
+ghost use Rattle.std.specs.Prelude.{◌≡◌, ◌≢◌, ◌⊎◌, ℕ, ◌+◌, ◌*◌, ◌<◌, ◌≤◌, length, true, false, max, IfOk, OnOk, Some};
 ghost use Rattle.std.specs.List.{slice_get};
 ghost use Rattle.world_search.specs.declared.graphs.Node.{Node};
 ghost use Rattle.world_search.specs.Answers.{bytes_of};
@@ -16,8 +16,8 @@ use crate::store::Worlds;
 use crate::watching::Watcher;
 use std::alloc::AllocError;
 
-// Of so many worlds, one is told of.
-const TOLD_EACH: usize = 10_000;
+// The watcher is asked at one of this number of worlds.
+const ASKED_EACH: usize = 100;
 
 /// How far the entries go.
 #[derive(Clone, Copy)]
@@ -41,43 +41,81 @@ pub enum Came {
     Lost,
 }
 
-/// Makes the entries at all worlds that are met, as far as the limits go. Whether there are no others.
+/// How the making of entries ended.
+#[derive(Clone, Copy)]
+pub enum Closing {
+    /// All that comes of the entries was met.
+    Whole,
+    /// A limit was met.
+    Bounded,
+    /// The watcher has ended it.
+    Halted,
+}
+
+impl Closing {
+    /// Whether all that comes of the entries was met.
+    pub fn is_whole(self) -> bool
+        ensures yes { result ≡ true → self ≡ Closing.Whole }
+        ensures no { result ≡ false → self ≢ Closing.Whole }
+    {
+        matches!(self, Closing::Whole)
+    }
+
+    /// Whether the watcher has ended it.
+    pub fn is_halted(self) -> bool
+        ensures yes { result ≡ true → self ≡ Closing.Halted }
+        ensures no { result ≡ false → self ≢ Closing.Halted }
+    {
+        matches!(self, Closing::Halted)
+    }
+}
+
+/// Makes the entries at all worlds that are met, as far as the limits go and the watcher lets it. How that ended.
 pub fn explore<W: Worlds, V: Watcher>(
     worlds: &mut W,
     graph: &mut Graph,
     limits: Limits,
     watcher: &mut V,
-) -> Result<bool, AllocError>
+) -> Result<Closing, AllocError>
     requires { Fits W.step W.report W.most_born limits.entries
         (W.worlds worlds.old) (W.faults worlds.old) (shape graph.old) }
     ensures grows { OnOk result (Grows (W.worlds worlds.old) (W.worlds worlds.new) (W.faults worlds.old)
         (W.faults worlds.new) (shape graph.old) (shape graph.new)) }
     ensures fits { OnOk result (Fits W.step W.report W.most_born limits.entries (W.worlds worlds.new)
         (W.faults worlds.new) (shape graph.new)) }
-    ensures done { IfOk result (λ it. it ≡ true → (i : ℕ) → i < length graph.new.nodes.items →
+    ensures done { IfOk result (λ it. it ≡ Closing.Whole → (i : ℕ) → i < length graph.new.nodes.items →
         IsDone W.step W.report W.most_born limits.entries
         (W.worlds worlds.new) (W.faults worlds.new) (shape graph.new) i) }
     ensures room { OnOk result (length (W.worlds worlds.new) ≤ max limits.worlds (length (W.worlds worlds.old))) }
     ensures snug { IsSnug (length (W.worlds worlds.old)) (shape graph.old) →
         OnOk result (IsSnug (length (W.worlds worlds.new)) (shape graph.new)) }
-    ensures stopped { IfOk result (λ it. it ≡ false → IsSnug (length (W.worlds worlds.old)) (shape graph.old) →
+    ensures stopped { IfOk result (λ it. it ≡ Closing.Bounded → IsSnug (length (W.worlds worlds.old)) (shape graph.old) →
         IsStopped limits.worlds limits.entries (length (W.worlds worlds.new)) ⊎
         (limits.memory ≤ bytes_of (length (W.worlds worlds.new)) (length graph.new.edges.items) (W.bytes worlds.new))) }
-    ensures spare { IfOk result (λ it. it ≡ true → bytes_of (length (W.worlds worlds.new))
+    ensures spare { IfOk result (λ it. it ≡ Closing.Whole → bytes_of (length (W.worlds worlds.new))
         (length graph.new.edges.items) (W.bytes worlds.new) < limits.memory) }
     ensures edges { OnOk result (length graph.new.edges.items ≤
         length graph.old.edges.items + W.most_born * length graph.new.nodes.items) }
+    ensures halted { IfOk result (λ it. it ≡ Closing.Halted → V.has_stopped watcher.new ≡ true) }
+    ensures may { IfOk result (λ it. it ≡ Closing.Halted → V.can_stop watcher.old ≡ true) }
+    ensures watches { V.can_stop watcher.new ≡ V.can_stop watcher.old }
 {
     let mut whole = true;
     let mut index = 0;
     while index < graph.nodes.len() && has_room(&*worlds, &*graph, index, limits) {
-        tell(&mut *watcher, &*graph, index);
+        if !lets_go_on(&mut *watcher, &*graph, index) {
+            return Ok(Closing::Halted);
+        }
         if !expand(&mut *worlds, &mut *graph, index, limits)? {
             whole = false;
         }
         index += 1;
     }
-    Ok(whole && is_all(&*worlds, &*graph, index, limits))
+    if whole {
+        Ok(closing_at(&*worlds, &*graph, index, limits))
+    } else {
+        Ok(Closing::Bounded)
+    }
 }
 
 /// How many bytes are counted for the worlds and for what is known of them.
@@ -100,24 +138,34 @@ fn has_room<W: Worlds>(worlds: &W, graph: &Graph, index: usize, limits: Limits) 
     index < limits.worlds as usize && bytes_of(worlds, graph) < limits.memory
 }
 
-// Whether this is the number of all worlds that were met, and the memory is within its limit.
-fn is_all<W: Worlds>(worlds: &W, graph: &Graph, index: usize, limits: Limits) -> bool
-    ensures all { result ≡ true → length graph.now.nodes.items ≤ index }
-    ensures spare { result ≡ true → bytes_of (length (W.worlds worlds.now)) (length graph.now.edges.items)
+// How the making of entries ended, by whether this is the number of all worlds that were met, and the memory is within
+// its limit.
+fn closing_at<W: Worlds>(worlds: &W, graph: &Graph, index: usize, limits: Limits) -> Closing
+    ensures all { result ≡ Closing.Whole → length graph.now.nodes.items ≤ index }
+    ensures spare { result ≡ Closing.Whole → bytes_of (length (W.worlds worlds.now)) (length graph.now.edges.items)
         (W.bytes worlds.now) < limits.memory }
-    ensures isnt { result ≡ false → (index < length graph.now.nodes.items) ⊎
+    ensures goes { result ≢ Closing.Halted }
+    ensures isnt { result ≡ Closing.Bounded → (index < length graph.now.nodes.items) ⊎
         (limits.memory ≤ bytes_of (length (W.worlds worlds.now)) (length graph.now.edges.items) (W.bytes worlds.now)) }
 {
-    index >= graph.nodes.len() && bytes_of(worlds, graph) < limits.memory
+    if index >= graph.nodes.len() && bytes_of(worlds, graph) < limits.memory {
+        Closing::Whole
+    } else {
+        Closing::Bounded
+    }
 }
 
-// The watcher is told of a world, if it is its turn.
-fn tell<V: Watcher>(watcher: &mut V, graph: &Graph, index: usize)
+// Whether the watcher lets the search go on, if it is asked at the world of this number.
+fn lets_go_on<V: Watcher>(watcher: &mut V, graph: &Graph, index: usize) -> bool
     requires { index < length graph.now.nodes.items }
+    ensures same { V.can_stop watcher.new ≡ V.can_stop watcher.old }
+    ensures can { result ≡ false → V.can_stop watcher.old ≡ true }
+    ensures says { result ≡ false → V.has_stopped watcher.new ≡ true }
 {
-    if index % TOLD_EACH == TOLD_EACH - 1 {
-        watcher.tell(graph.nodes.len(), graph.nodes[index].depth as usize);
+    if index % ASKED_EACH != ASKED_EACH - 1 {
+        return true;
     }
+    watcher.goes_on(graph.nodes.len(), graph.nodes[index].depth as usize)
 }
 
 // All entries at one world. Whether what comes of them is all among what was met.

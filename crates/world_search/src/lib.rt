@@ -20,6 +20,7 @@ mod schedules;
 mod searching;
 mod spread;
 mod store;
+mod time_limit;
 mod watching;
 
 pub use answers::{Answer, Bounds, Found};
@@ -27,4 +28,5 @@ pub use claims::{Claimed, Claims, Met, search_claims};
 pub use landings::{Entered, Landing};
 pub use searching::search;
 pub use store::Worlds;
+pub use time_limit::TimeLimit;
 pub use watching::{Unwatched, Watcher};

@@ -20,9 +20,10 @@ use std::alloc::{AllocError, Global};
 
 /// Searches every schedule from the first world of a store, the one of number 0.
 ///
-/// Each entry is made once at each world that is met. The watcher is called at each ten-thousandth world, with how far
-/// the search has come; where nobody watches it is [`Unwatched`](crate::Unwatched). `AllocError` where memory is
-/// refused; where the memory is bounded ([`Bounds::memory`]), the search stops before.
+/// Each entry is made once at each world that is met. The watcher is asked at each hundredth world whether the search
+/// goes on, with how far it has come; where it says no, the search ends with what was found ([`Found::halted`]). Where
+/// nobody watches, it is [`Unwatched`](crate::Unwatched). `AllocError` where memory is refused; where the memory is
+/// bounded ([`Bounds::memory`]), the search stops before.
 ///
 /// Where no entry makes a report smaller, and each that changes it makes it larger, a complete search can always go on:
 /// from wherever a schedule has led, some entries more lead to an answer (`onward`).
@@ -50,8 +51,12 @@ pub fn search<W: Worlds, V: Watcher>(
     ensures short { IfOk result (λ it. All (IsShort bounds.entries) it.answers.items) }
     ensures room { OnOk result (length (W.worlds worlds.new) ≤ max bounds.worlds (length (W.worlds worlds.old))) }
     ensures count { IfOk result (λ it. it.worlds ≡ length (W.worlds worlds.new)) }
-    ensures stopped { IfOk result (λ it. it.complete ≡ false → length (W.worlds worlds.old) ≡ 1 →
+    ensures stopped { IfOk result (λ it. it.complete ≡ false → it.halted ≡ false → length (W.worlds worlds.old) ≡ 1 →
         IsAtBound bounds it.worlds it.bytes) }
+    ensures halted { IfOk result (λ it. it.halted ≡ true → V.has_stopped watcher.new ≡ true) }
+    ensures may { IfOk result (λ it. it.halted ≡ true → V.can_stop watcher.old ≡ true) }
+    ensures apart { IfOk result (λ it. it.complete ≡ true → it.halted ≡ false) }
+    ensures watches { V.can_stop watcher.new ≡ V.can_stop watcher.old }
     ensures spare { IfOk result (λ it. it.complete ≡ true → it.bytes < bounds.memory) }
     ensures counted { IfOk result (λ it. it.bytes ≡ bytes_of it.worlds it.edges (W.bytes worlds.new)) }
     ensures edges { IfOk result (λ it. it.edges ≤ W.most_born * it.worlds) }
@@ -62,14 +67,15 @@ pub fn search<W: Worlds, V: Watcher>(
         memory: bounds.memory,
     };
     let mut graph = begin(alloc)?;
-    let complete = explore(&mut *worlds, &mut graph, limits, watcher)?;
+    let closing = explore(&mut *worlds, &mut graph, limits, watcher)?;
     spread(graph.edges.as_slice(), &mut graph.unsettled);
     let mut answers = Vec::new(alloc);
     list_worlds(alloc, &*worlds, &graph, &mut answers)?;
     list_faults(alloc, &graph, &mut answers)?;
     Ok(Found {
         answers,
-        complete,
+        complete: closing.is_whole(),
+        halted: closing.is_halted(),
         worlds: worlds.len(),
         edges: graph.edges.len(),
         bytes: bytes_of(&*worlds, &graph),

@@ -1,5 +1,5 @@
 -- What is known of the states of fibers.
-use Rattle.std.specs.Prelude.{◌≡◌, ℕ, Bool, List, Option, Some}
+use Rattle.std.specs.Prelude.{◌≡◌, ◌+◌, ◌*◌, ℕ, Bool, true, false, List, Option, Some}
 use Rattle.std.specs.List.{slice_get}
 use Rattle.derived_ops.specs.Naming.{Given}
 use Rattle.fiber_frames.specs.declared.uses.Use.{Use}
@@ -7,23 +7,42 @@ use Rattle.fiber_frames.specs.declared.uses.Use.TheVariants.{Awaits, Cancels, Co
 use Rattle.fiber_frames.specs.Fiber.{Fiber, ask_of, waits_alone}
 use Rattle.fiber_frames.specs.Naming.{NamedRun}
 use Rattle.fiber_frames.specs.Uses.{is_some, uses_in}
-use Rattle.scheduled_core.specs.Core.{wish_of}
+use Rattle.scheduled_core.specs.declared.wish.Wish.{Wish}
+use Rattle.scheduled_core.specs.Core.{World, wish_of}
+use Rattle.every_schedule.specs.Reduced.{is_own}
 use Rattle.every_schedule.specs.declared.known.Known.{Known}
+use Rattle.every_schedule.specs.declared.known.Owned.{Owned}
+use Rattle.every_schedule.specs.declared.known.Owned.TheVariants.{Never, Always, Sometimes}
 
--- for the first numbers, whether a state that names what was given can still use them so, if that is known
-abbrev pub TellsUses : Use → Fiber → List (Option Bool) → Type 0
-TellsUses u g uses = (given : Given) → NamedRun given g.running → (n : ℕ) (b : Bool) → slice_get uses n ≡ Some (Some b) →
-    b ≡ is_some (uses_in u n g.running)
+-- the number of a use
+abbrev pub use_code : Use → ℕ
+use_code Cancels = 0
+use_code Joins = 1
+use_code Gets = 2
+use_code Stores = 3
+use_code Completes = 4
+use_code Awaits = 5
+
+-- where it is told whether a number can still be used so
+abbrev pub use_place : Use → ℕ → ℕ
+use_place u n = 6 * n + use_code u
+
+-- for the first numbers, whether a state that names what was given can still use them in each way, if that is known
+abbrev pub TellUses : Fiber → List (Option Bool) → Type 0
+TellUses g uses = (given : Given) → NamedRun given g.running → (u : Use) (n : ℕ) (b : Bool) →
+    slice_get uses (use_place u n) ≡ Some (Some b) → b ≡ is_some (uses_in u n g.running)
+
+-- a move that wants this is an own one of a fiber in no world, or in each
+abbrev pub IsOwned : Wish → Bool → Owned → Type 0
+IsOwned d alone Never = (w : World) (f : ℕ) (g : Fiber) → waits_alone g ≡ alone → is_own w f g d ≡ false
+IsOwned d alone Always = (w : World) (f : ℕ) (g : Fiber) → waits_alone g ≡ alone → is_own w f g d ≡ true
+IsOwned d alone Sometimes = Unit {0}
 
 pub record IsKnown (g : Fiber) (k : Known) : Type 0 where
   pub wish : k.wish ≡ wish_of (ask_of g)
   pub waits : k.waits_alone ≡ waits_alone g
-  pub cancels : TellsUses Cancels g k.cancels.items
-  pub joins : TellsUses Joins g k.joins.items
-  pub gets : TellsUses Gets g k.gets.items
-  pub stores : TellsUses Stores g k.stores.items
-  pub completes : TellsUses Completes g k.completes.items
-  pub awaits : TellsUses Awaits g k.awaits.items
+  pub owned : IsOwned (wish_of (ask_of g)) (waits_alone g) k.owned
+  pub uses : TellUses g k.uses.items
 
 -- each of these is what is known of the state of its number
 abbrev pub AreKnownOf : List Fiber → List Known → Type 0

@@ -1,5 +1,6 @@
 -- The world at which entries are made: the numbers of its fibers' states, beside its registry.
-use Rattle.std.specs.Prelude.{◌≡◌, ℕ, List}
+use Rattle.std.specs.Prelude.{◌≡◌, ℕ, List, Option, Some, None}
+use Rattle.std.specs.List.{slice_get}
 use Rattle.cell_registry.specs.Plain.{PlainView}
 use Rattle.fiber_frames.specs.Fiber.{Fiber}
 use Rattle.scheduled_core.specs.Fitting.{world_of}
@@ -30,3 +31,8 @@ pub record IsSame (old new : Stand) : Type 0 where
   pub fibers : new.fibers ≡ old.fibers
   pub registries : new.registries ≡ old.registries
   pub here : here new ≡ here old
+
+-- the registry has this number, if there is one
+abbrev pub IsNumbered : List PlainView → PlainView → Option ℕ → Type 0
+IsNumbered rs r None = Unit {0}
+IsNumbered rs r (Some n) = slice_get rs n ≡ Some r

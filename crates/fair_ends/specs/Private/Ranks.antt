@@ -7,23 +7,19 @@ use Rattle.fair_ends.specs.declared.rank.Rank.{Rank}
 abbrev pub Falls : Rank → ℕ → Rank → Type 0
 Falls a f b = (b.rank < a.rank) ⊎ ((b.rank ≡ a.rank) × (b.helper ≡ a.helper) × (f ≢ a.helper))
 
-module _ {W E R : Type 0} (step : W → ℕ → Result W E) (report : W → R) (most : ℕ) (ws : List W)
-    (ranks : List Rank) where
-  -- from a quiet world to a quiet one with the same report; or from another one on to a quiet one, or so that it falls
-  abbrev pub Passes : Rank → ℕ → W → W → Rank → Type 0
-  Passes a f w x b =
-      ((a.quiet ≡ true) × (b.quiet ≡ true) × (report x ≡ report w)) ⊎
-      ((a.quiet ≡ false) × ((b.quiet ≡ true) ⊎ Falls a f b))
+module _ {W E : Type 0} (step : W → ℕ → Result W E) (Rests : W → Type 0) (most : ℕ) (ws : List W) (ranks : List Rank)
+  where
+    -- where the entry of fiber f leads from a world of this rank: to a fault, to a world at rest, or so that it falls
+    abbrev pub Leads : Rank → ℕ → Result W E → Type 0
+    Leads a f (Ok x) = (j : ℕ) × (b : Rank) × (slice_get ws j ≡ Some x) × (slice_get ranks j ≡ Some b) ×
+        ((b.quiet ≡ true) ⊎ Falls a f b)
+    Leads a f (Err e) = Unit {0}
 
-  -- where the entry of fiber f leads from a world of this rank
-  abbrev pub Leads : Rank → ℕ → W → Result W E → Type 0
-  Leads a f w (Ok x) = (j : ℕ) × (b : Rank) × (slice_get ws j ≡ Some x) × (slice_get ranks j ≡ Some b) × Passes a f w x b
-  Leads a f w (Err e) = a.quiet ≡ false
+    pub record IsRanked (a : Rank) (w : W) : Type 0 where
+      pub rests : a.quiet ≡ true → Rests w
+      pub leads : a.quiet ≡ false → (f : ℕ) → Leads a f (step w f)
+      pub helped : a.quiet ≡ false → a.helper < most
 
-  pub record IsRanked (a : Rank) (w : W) : Type 0 where
-    pub leads : (f : ℕ) → Leads a f w (step w f)
-    pub helped : a.quiet ≡ false → a.helper < most
-
-  -- each world has a rank that is right
-  abbrev pub AreRanked : Type 0
-  AreRanked = (i : ℕ) (a : Rank) (w : W) → slice_get ranks i ≡ Some a → slice_get ws i ≡ Some w → IsRanked a w
+    -- each world has a rank that is right
+    abbrev pub AreRanked : Type 0
+    AreRanked = (i : ℕ) (a : Rank) (w : W) → slice_get ranks i ≡ Some a → slice_get ws i ≡ Some w → IsRanked a w

@@ -1,12 +1,19 @@
-use Rattle.command_line.proofs.EndLemmas.{explore_ends, explore_timeline_ends, json_explore_ends, order_ends}
+use Rattle.std.specs.Prelude.{is_some}
+use Rattle.command_words.specs.declared.exploring.ExploreForm.TheVariants as explored
+use Rattle.command_line.proofs.NotedEnds.{beside_ends, explored_ends}
 use Rattle.command_line.proofs.explore_order.obey_explore.Goals as goal
 
 pub returns-in-Report-clause-ends : goal.returns-in-Report-clause-ends
-returns-in-Report-clause-ends g c = order_ends _ _ c.args.exploring.explain _ _ _ (λ text answer status h. explore_ends h) c.obey_order.ensures
+returns-in-Report-clause-ends g c =
+    let e = c.args.exploring in
+    beside_ends _ _ e.beside _ _ _ (explored_ends explored.Report e.order (is_some e.seconds)) c.obey_form.ensures
 
 pub returns-in-Timeline-clause-ends : goal.returns-in-Timeline-clause-ends
 returns-in-Timeline-clause-ends g c =
-    order_ends _ _ c.args.exploring.explain _ _ _ (λ text answer status h. explore_timeline_ends h) c.obey_order-in-Timeline.ensures
+    let e = c.args.exploring in
+    beside_ends _ _ e.beside _ _ _ (explored_ends explored.Timeline e.order (is_some e.seconds)) c.obey_form-in-Timeline.ensures
 
 pub returns-in-Json-clause-ends : goal.returns-in-Json-clause-ends
-returns-in-Json-clause-ends g c = order_ends _ _ c.args.exploring.explain _ _ _ (λ text answer status h. json_explore_ends h) c.obey_order-in-Json.ensures
+returns-in-Json-clause-ends g c =
+    let e = c.args.exploring in
+    beside_ends _ _ e.beside _ _ _ (explored_ends explored.Json e.order (is_some e.seconds)) c.obey_form-in-Json.ensures

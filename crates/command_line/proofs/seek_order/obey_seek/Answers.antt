@@ -1,17 +1,20 @@
 use Rattle.std.proofs.Common.{false, true}
-use Rattle.command_line.proofs.NotedEnds.{noted_ends, seek_ends}
+use Rattle.std.specs.Prelude.{is_some}
+use Rattle.command_line.proofs.NotedEnds.{beside_ends, seek_ends}
 use Rattle.command_line.proofs.seek_order.obey_seek.Goals as goal
 
 pub returns-then-json-clause-ends : goal.returns-then-json-clause-ends
 returns-then-json-clause-ends g c =
-    noted_ends _ _ _ c.args.seeking.explain _ _ _ (seek_ends true c.args.seeking.order) c.obey_noted.ensures
+    let e = c.args.seeking in
+    beside_ends _ _ e.beside _ _ _ (seek_ends true e.order (is_some e.seconds)) c.obey_form.ensures
 
 pub returns-else-json-clause-ends : goal.returns-else-json-clause-ends
 returns-else-json-clause-ends g c =
-    noted_ends _ _ _ c.args.seeking.explain _ _ _ (seek_ends false c.args.seeking.order) c.obey_noted-else-json.ensures
+    let e = c.args.seeking in
+    beside_ends _ _ e.beside _ _ _ (seek_ends false e.order (is_some e.seconds)) c.obey_form-else-json.ensures
 
 pub returns-then-json-clause-obeyed : goal.returns-then-json-clause-obeyed
-returns-then-json-clause-obeyed g c = rw c.if-json.true c.obey_noted.ensures
+returns-then-json-clause-obeyed g c = rw c.if-json.true c.obey_form.ensures
 
 pub returns-else-json-clause-obeyed : goal.returns-else-json-clause-obeyed
-returns-else-json-clause-obeyed g c = rw c.if-json.false c.obey_noted-else-json.ensures
+returns-else-json-clause-obeyed g c = rw c.if-json.false c.obey_form-else-json.ensures

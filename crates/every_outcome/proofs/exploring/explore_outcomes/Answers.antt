@@ -53,5 +53,5 @@ returns-clause-short g c =
     c.in_ok-found.ensures.short
 
 pub returns-clause-stopped : goal.returns-clause-stopped
-returns-clause-stopped g c = λ incomplete.
-    c.in_ok-found.ensures.stopped incomplete (ap (λ (l : List Place). length l) c.in_ok-worlds.ensures.places)
+returns-clause-stopped g c = λ incomplete going.
+    c.in_ok-found.ensures.stopped incomplete going (ap (λ (l : List Place). length l) c.in_ok-worlds.ensures.places)

@@ -19,7 +19,7 @@ pub returns-clause-turned : goal.returns-clause-turned
 returns-clause-turned c =
     let at : slice_get c.args.pool.now.items.items c.args.state ≡ Some c.index.result.now = grind (arith, common_steps, gets) in
     let fs = c.args.pool.now.items.items in
-    let gs = c.number_of.new.self.items.items in
+    let gs = c.number.new.self.items.items in
     let hs = c.child_of.new.pool.items.items in
     let one = c.in_ok-next.ensures.more in
     let two = c.in_ok-child-2.ensures.more in

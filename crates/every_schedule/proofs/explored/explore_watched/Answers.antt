@@ -177,7 +177,7 @@ returns-clause-once g c =
     (unfolded_once kept start hundred c.args.bounds.entries raw found each c.in_ok-found.ensures.once apart))
 
 pub returns-clause-stopped : goal.returns-clause-stopped
-returns-clause-stopped g c = λ isnt.
+returns-clause-stopped g c = λ isnt unhalted.
     let code = code_of (source_of c.args.program.now) in
     let k = c.args.limits in
     let start = first_place code k in
@@ -188,7 +188,7 @@ returns-clause-stopped g c = λ isnt.
     let first : slice_get c.in_ok-worlds.worlds.worlds.places 0 ≡ Some start = ap (λ (l : List Place). slice_get l 0) c.in_ok-worlds.ensures.places in
     let alone : length c.in_ok-worlds.worlds.worlds.places ≡ 1 = ap (λ (l : List Place). length l) c.in_ok-worlds.ensures.places in
     elim (c.are_both.ensures.neither isnt) [
-      | inl stop ↦ inl (c.in_ok-found.ensures.stopped stop alone)
+      | inl stop ↦ inl (c.in_ok-found.ensures.stopped stop unhalted alone)
       | inr cut ↦
           let same = c.as_slice.ensures.value in
           let each : AreUnfolded hundred most start raw found =

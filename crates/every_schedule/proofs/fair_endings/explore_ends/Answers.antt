@@ -19,4 +19,4 @@ returns-clause-repeats g c = λ cycle is.
     let code = code_of (source_of c.args.program.now) in
     let k = c.args.limits in
     let first : slice_get c.in_ok-worlds.worlds.places 0 ≡ Some (first_place code k) = ap (λ (l : List Place). slice_get l 0) c.in_ok-worlds.ensures.places in
-    forever code k cycle.stem.items cycle.cycle.items cycle.exit.items (c.in_ok-ending.ensures.repeats cycle is (first_place code k) first)
+    forever code k cycle.stem.items cycle.cycle.items (c.in_ok-ending.ensures.repeats cycle is (first_place code k) first)

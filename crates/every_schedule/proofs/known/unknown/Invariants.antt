@@ -4,5 +4,5 @@ use Rattle.std.specs.List.{slice_get}
 use Rattle.every_schedule.proofs.known.unknown.Given as goal
 
 -- of no number anything is known
-abbrev pub invariant-loop-number : goal.invariant-loop-number
-invariant-loop-number l = (i : ℕ) (x : Option Bool) → slice_get l.uses.items i ≡ Some x → x ≡ None
+abbrev pub invariant-loop-place : goal.invariant-loop-place
+invariant-loop-place l = (i : ℕ) (x : Option Bool) → slice_get l.uses.items i ≡ Some x → x ≡ None

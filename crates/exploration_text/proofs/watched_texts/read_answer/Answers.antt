@@ -1,17 +1,13 @@
-use Rattle.outcome_trace.proofs.AnswerLemmas.{refusal_answers}
-use Rattle.exploration_text.proofs.Explored.{program_explored, refusal_explored}
+use Rattle.outcome_trace.specs.Answers.{refuses}
+use Rattle.exploration_text.proofs.NotedLemmas.{noted_runs}
 use Rattle.exploration_text.proofs.watched_texts.read_answer.Goals as goal
 
 pub returns-in-Ok : goal.returns-in-Ok
 returns-in-Ok g c =
-    program_explored c.args.text.now c.args.order.now.limits c.args.order.now.bounds c.args.order.now.wants.items c.in-Ok.program c.watched_answer.result
-    c.in-Ok.ensures.program c.in-Ok.ensures.limits c.watched_answer.ensures
+    noted_runs g.W.Refusals.RefusalForm.refuses (g.W.WatchedOrder.finds c.args.order.now (g.V.Watcher.can_stop c.args.watcher.now))
+    c.args.text.now c.in-Ok.program c.answer_watched.result c.in-Ok.ensures.program c.in-Ok.ensures.limits c.answer_watched.ensures
 
-pub returns-in-Err : goal.returns-in-Err
-returns-in-Err g c =
-    refusal_explored c.args.text.now c.args.order.now.limits c.args.order.now.bounds c.args.order.now.wants.items c.refusal.result
-    (refusal_answers c.args.text.now c.in-Err.refused c.refusal.result c.in-Err.ensures.refused c.refusal.ensures.line c.refusal.ensures.status
-    c.refusal.ensures.told)
-
-pub refusal-requires : goal.refusal-requires
-refusal-requires g c = record { text = c.args.text.now; is = c.in-Err.ensures.refused }
+pub returns-in_ok-refused_answer-in-Err : goal.returns-in_ok-refused_answer-in-Err
+returns-in_ok-refused_answer-in-Err g c =
+    refuses c.args.text.now c.in_ok-refused_answer-in-Err.field-0.text.items c.in_ok-refused_answer-in-Err.field-0.status
+    (c.in_ok-refused_answer-in-Err.ensures, c.new.ensures.items)

@@ -9,7 +9,7 @@ use Rattle.fair_ends.proofs.certificate.are_ranked.Goals as goal
 pub loop-index-preserved : goal.loop-index-preserved
 loop-index-preserved g c = λ i a w low at there. elim (cases_order i c.loop-index.index) [
   | inl same ↦
-      c.is_ranked.ensures c.if-not-is_ranked.false a w (subst (λ (k : ℕ). slice_get c.args.ranks.now k ≡ Some a) same at)
+      c.in_ok-is_ranked.ensures c.if-not-branch.false a w (subst (λ (k : ℕ). slice_get c.args.ranks.now k ≡ Some a) same at)
       (subst (λ (k : ℕ). slice_get (g.W.Worlds.worlds c.args.worlds.now) k ≡ Some w) same there)
   | inr order ↦ elim order [
     | inl less ↦ c.loop-index.invariant i a w less at there

@@ -1,4 +1,4 @@
-use Rattle.std.proofs.Common.{◌≡◌, ℕ, List, [], ◌∷◌, sym, ap, subst, arith, length, length-append}
+use Rattle.std.proofs.Common.{◌≡◌, ℕ, List, [], ◌∷◌, sym, ap, ◌∙◌, subst, arith, length, length-append}
 use Rattle.std.specs.Prelude.{Some, Option, IfSome}
 use Rattle.std.specs.List.{slice_get}
 use Rattle.world_search.proofs.Lists.{more_long, more_more}
@@ -27,4 +27,5 @@ loop-index-preserved g c =
           (rows_next g.W.Worlds.step g.W.Worlds.most_born ws vs c.loop-index.rows.items c.in-Some.row told.grows
           (let a = c.if-index-len.false in let b = c.len.ensures in omega arith) known.rows
           (λ w at. here w (subst (λ (k : ℕ). slice_get vs k ≡ Some w) many at)));
+      watches = c.lets_go_on.ensures.same ∙ known.watches;
     }

@@ -9,4 +9,5 @@ invariant-loop-index g l = record {
   many : length l.rows.items ≡ l.index;
   low : l.index ≤ length (g.W.Worlds.worlds l.worlds);
   rows : AreRows g.W.Worlds.step g.W.Worlds.most_born (g.W.Worlds.worlds l.worlds) l.rows.items;
+  watches : g.V.Watcher.can_stop l.watcher ≡ g.V.Watcher.can_stop l.initial.watcher;
 }

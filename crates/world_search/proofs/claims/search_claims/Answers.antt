@@ -12,12 +12,12 @@ pub list_met-requires-clause-chained : goal.list_met-requires-clause-chained
 list_met-requires-clause-chained g c =
     subst (λ (l : List Node). AreChained l) (sym c.as_slice.ensures.value)
     (are_chained g.W.Worlds.step g.W.Worlds.report g.W.Worlds.most_born c.limits_of.result.entries (g.W.Worlds.worlds c.explore.new.worlds)
-    (g.W.Worlds.faults c.explore.new.worlds) (shape c.explore.new.graph) c.in_ok-complete.ensures.fits)
+    (g.W.Worlds.faults c.explore.new.worlds) (shape c.explore.new.graph) c.in_ok-closing.ensures.fits)
 
 pub returns-clause-met : goal.returns-clause-met
 returns-clause-met g c = λ first at.
     let ws = g.W.Worlds.worlds c.explore.new.worlds in
-    let told = c.in_ok-complete.ensures in
+    let told = c.in_ok-closing.ensures in
     let listed = subst (λ (l : List Node). AreListedMet g.W.Claims.meets ws l c.args.claims.now c.in_ok-met.met.items) c.as_slice.ensures.value
     c.in_ok-met.ensures.listed in
     all_led g.W.Worlds.step g.W.Worlds.report g.W.Worlds.most_born c.limits_of.result.entries ws (g.W.Worlds.faults c.explore.new.worlds)
@@ -27,17 +27,17 @@ returns-clause-met g c = λ first at.
 pub returns-clause-unmet : goal.returns-clause-unmet
 returns-clause-unmet g c = λ complete first at.
     let ws = g.W.Worlds.worlds c.explore.new.worlds in
-    let told = c.in_ok-complete.ensures in
+    let told = c.in_ok-closing.ensures in
     let looked = subst (λ (l : List Node). AreLooked g.W.Claims.meets ws (length l) c.args.claims.now (length c.args.claims.now) c.in_ok-met.met.items)
     c.as_slice.ensures.value c.in_ok-met.ensures.looked in
     all_unmet g.W.Worlds.step g.W.Worlds.report g.W.Worlds.most_born c.limits_of.result.entries ws (g.W.Worlds.faults c.explore.new.worlds)
-    (shape c.explore.new.graph) told.fits g.W.Claims.meets c.args.claims.now c.in_ok-met.met.items (told.done complete) looked
+    (shape c.explore.new.graph) told.fits g.W.Claims.meets c.args.claims.now c.in_ok-met.met.items (told.done (c.is_whole.ensures.yes complete)) looked
     first (more_get (g.W.Worlds.worlds c.args.worlds.now) ws 0 first told.grows.worlds at)
 
 pub returns-clause-numbers : goal.returns-clause-numbers
 returns-clause-numbers g c =
     let ws = g.W.Worlds.worlds c.explore.new.worlds in
-    let told = c.in_ok-complete.ensures in
+    let told = c.in_ok-closing.ensures in
     let listed = subst (λ (l : List Node). AreListedMet g.W.Claims.meets ws l c.args.claims.now c.in_ok-met.met.items) c.as_slice.ensures.value
     c.in_ok-met.ensures.listed in
     all_few g.W.Worlds.step g.W.Worlds.report g.W.Worlds.most_born c.limits_of.result.entries ws (g.W.Worlds.faults c.explore.new.worlds)
@@ -46,7 +46,7 @@ returns-clause-numbers g c =
 pub returns-clause-short : goal.returns-clause-short
 returns-clause-short g c =
     let ws = g.W.Worlds.worlds c.explore.new.worlds in
-    let told = c.in_ok-complete.ensures in
+    let told = c.in_ok-closing.ensures in
     let entries = c.limits_of.ensures.entries in
     let listed = subst (λ (l : List Node). AreListedMet g.W.Claims.meets ws l c.args.claims.now c.in_ok-met.met.items) c.as_slice.ensures.value
     c.in_ok-met.ensures.listed in

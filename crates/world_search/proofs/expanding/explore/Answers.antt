@@ -38,6 +38,7 @@ loop-index-preserved g c =
             (length (g.W.Worlds.worlds c.expand.new.worlds)) more (known.stopped (sym w.whole-is ∙ lost) h)
       ];
       edges = let a = known.edges in let b = told.edges in let m = mul_next g.W.Worlds.most_born c.loop-index.index in omega arith;
+      watches = c.lets_go_on.ensures.same ∙ known.watches;
     }
 
 pub returns-then-whole-clause-snug : goal.returns-then-whole-clause-snug

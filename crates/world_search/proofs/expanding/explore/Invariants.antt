@@ -19,6 +19,7 @@ invariant-loop-index g l = record {
   stopped : l.whole ≡ false → IsSnug (length (g.W.Worlds.worlds l.initial.worlds)) (shape l.initial.graph) →
       IsStopped l.limits.worlds l.limits.entries (length (g.W.Worlds.worlds l.worlds));
   edges : length l.graph.edges.items ≤ length l.initial.graph.edges.items + g.W.Worlds.most_born * l.index;
+  watches : g.V.Watcher.can_stop l.watcher ≡ g.V.Watcher.can_stop l.initial.watcher;
 }
 
 abbrev pub decreases-loop-index : goal.decreases-loop-index

@@ -11,7 +11,7 @@ use Rattle.world_search.proofs.searching.search.Goals as goal
 
 pub spread-requires : goal.spread-requires
 spread-requires g c =
-    let fits = c.in_ok-complete.ensures.fits in
+    let fits = c.in_ok-closing.ensures.fits in
     let all : AreWithin c.explore.new.graph.edges.items (length c.explore.new.graph.nodes.items) =
     within g.W.Worlds.step g.W.Worlds.report g.W.Worlds.most_born c.capped-2.result (g.W.Worlds.worlds c.explore.new.worlds)
     (g.W.Worlds.faults c.explore.new.worlds) (shape c.explore.new.graph) fits in
@@ -21,28 +21,28 @@ spread-requires g c =
 pub list_worlds-requires-clause-chained : goal.list_worlds-requires-clause-chained
 list_worlds-requires-clause-chained g c =
     are_chained g.W.Worlds.step g.W.Worlds.report g.W.Worlds.most_born c.capped-2.result (g.W.Worlds.worlds c.explore.new.worlds)
-    (g.W.Worlds.faults c.explore.new.worlds) (shape c.explore.new.graph) c.in_ok-complete.ensures.fits
+    (g.W.Worlds.faults c.explore.new.worlds) (shape c.explore.new.graph) c.in_ok-closing.ensures.fits
 
 pub list_faults-requires-clause-chained : goal.list_faults-requires-clause-chained
 list_faults-requires-clause-chained g c =
     are_chained g.W.Worlds.step g.W.Worlds.report g.W.Worlds.most_born c.capped-2.result (g.W.Worlds.worlds c.explore.new.worlds)
-    (g.W.Worlds.faults c.explore.new.worlds) (shape c.explore.new.graph) c.in_ok-complete.ensures.fits
+    (g.W.Worlds.faults c.explore.new.worlds) (shape c.explore.new.graph) c.in_ok-closing.ensures.fits
 
 pub list_faults-requires-clause-noted : goal.list_faults-requires-clause-noted
 list_faults-requires-clause-noted g c =
     are_noted_chained g.W.Worlds.step g.W.Worlds.report g.W.Worlds.most_born c.capped-2.result (g.W.Worlds.worlds c.explore.new.worlds)
-    (g.W.Worlds.faults c.explore.new.worlds) (shape c.explore.new.graph) c.in_ok-complete.ensures.fits
+    (g.W.Worlds.faults c.explore.new.worlds) (shape c.explore.new.graph) c.in_ok-closing.ensures.fits
 
 pub returns-clause-all : goal.returns-clause-all
 returns-clause-all g c = λ complete first at.
     let ws = g.W.Worlds.worlds c.explore.new.worlds in
     let es = g.W.Worlds.faults c.explore.new.worlds in
-    let told = c.in_ok-complete.ensures in
+    let told = c.in_ok-closing.ensures in
     let back = subst (λ (l : List Edge). AreBack l c.spread.new.flags.items 0) c.as_slice.ensures.value c.spread.ensures.back in
     let marks = subst (λ (l : List Edge). AreFlagged l c.explore.new.graph.unsettled.items c.spread.new.flags.items) c.as_slice.ensures.value
     c.spread.ensures.flagged in
     all_covered g.W.Worlds.step g.W.Worlds.report g.W.Worlds.most_born c.capped-2.result ws es (shape c.explore.new.graph) told.fits
-    c.spread.new.flags.items c.spread.ensures.long c.spread.ensures.keeps back marks (told.done complete) c.list_faults.new.answers.items
+    c.spread.new.flags.items c.spread.ensures.long c.spread.ensures.keeps back marks (told.done (c.is_whole.ensures.yes complete)) c.list_faults.new.answers.items
     (λ i w flag there. answered_more g.W.Worlds.step g.W.Worlds.report ws es c.list_worlds.new.answers.items c.list_faults.new.answers.items (Ok w)
     c.in_ok-list_faults.ensures.more (c.in_ok-list_worlds.ensures.told i w flag there))
     c.in_ok-list_faults.ensures.told
@@ -52,12 +52,12 @@ pub returns-clause-onward : goal.returns-clause-onward
 returns-clause-onward g c = λ complete size growing first at.
     let ws = g.W.Worlds.worlds c.explore.new.worlds in
     let es = g.W.Worlds.faults c.explore.new.worlds in
-    let told = c.in_ok-complete.ensures in
+    let told = c.in_ok-closing.ensures in
     let back = subst (λ (l : List Edge). AreBack l c.spread.new.flags.items 0) c.as_slice.ensures.value c.spread.ensures.back in
     let marks = subst (λ (l : List Edge). AreFlagged l c.explore.new.graph.unsettled.items c.spread.new.flags.items) c.as_slice.ensures.value
     c.spread.ensures.flagged in
     all_onward g.W.Worlds.step g.W.Worlds.report g.W.Worlds.most_born c.capped-2.result ws es (shape c.explore.new.graph) told.fits
-    c.spread.new.flags.items c.spread.ensures.long c.spread.ensures.keeps back marks (told.done complete) c.list_faults.new.answers.items
+    c.spread.new.flags.items c.spread.ensures.long c.spread.ensures.keeps back marks (told.done (c.is_whole.ensures.yes complete)) c.list_faults.new.answers.items
     (λ i w flag there. answered_more g.W.Worlds.step g.W.Worlds.report ws es c.list_worlds.new.answers.items c.list_faults.new.answers.items (Ok w)
     c.in_ok-list_faults.ensures.more (c.in_ok-list_worlds.ensures.told i w flag there))
     c.in_ok-list_faults.ensures.told size growing
@@ -67,7 +67,7 @@ pub returns-clause-each : goal.returns-clause-each
 returns-clause-each g c = λ first at.
     let ws = g.W.Worlds.worlds c.explore.new.worlds in
     let es = g.W.Worlds.faults c.explore.new.worlds in
-    let told = c.in_ok-complete.ensures in
+    let told = c.in_ok-closing.ensures in
     let back = subst (λ (l : List Edge). AreBack l c.spread.new.flags.items 0) c.as_slice.ensures.value c.spread.ensures.back in
     let marks = subst (λ (l : List Edge). AreFlagged l c.explore.new.graph.unsettled.items c.spread.new.flags.items) c.as_slice.ensures.value
     c.spread.ensures.flagged in
@@ -79,7 +79,7 @@ pub returns-clause-numbers : goal.returns-clause-numbers
 returns-clause-numbers g c =
     let ws = g.W.Worlds.worlds c.explore.new.worlds in
     let es = g.W.Worlds.faults c.explore.new.worlds in
-    let told = c.in_ok-complete.ensures in
+    let told = c.in_ok-closing.ensures in
     let back = subst (λ (l : List Edge). AreBack l c.spread.new.flags.items 0) c.as_slice.ensures.value c.spread.ensures.back in
     let marks = subst (λ (l : List Edge). AreFlagged l c.explore.new.graph.unsettled.items c.spread.new.flags.items) c.as_slice.ensures.value
     c.spread.ensures.flagged in
@@ -90,7 +90,7 @@ pub returns-clause-short : goal.returns-clause-short
 returns-clause-short g c =
     let ws = g.W.Worlds.worlds c.explore.new.worlds in
     let es = g.W.Worlds.faults c.explore.new.worlds in
-    let told = c.in_ok-complete.ensures in
+    let told = c.in_ok-closing.ensures in
     let back = subst (λ (l : List Edge). AreBack l c.spread.new.flags.items 0) c.as_slice.ensures.value c.spread.ensures.back in
     let marks = subst (λ (l : List Edge). AreFlagged l c.explore.new.graph.unsettled.items c.spread.new.flags.items) c.as_slice.ensures.value
     c.spread.ensures.flagged in

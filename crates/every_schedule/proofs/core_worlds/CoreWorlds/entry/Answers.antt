@@ -1,5 +1,5 @@
-use Rattle.std.proofs.Common.{◌≡◌, ◌≤◌, length, map, inl, inr, sym, ap, ◌∙◌, subst, arith}
-use Rattle.std.specs.Prelude.{List, Some, max}
+use Rattle.std.proofs.Common.{◌≡◌, ◌<◌, ◌≤◌, length, map, inl, inr, sym, ap, ◌∙◌, subst, arith}
+use Rattle.std.specs.Prelude.{List, ℕ, Some, max}
 use Rattle.std.specs.List.{slice_get}
 use Rattle.std.proofs.lemmas.Grind.{common_steps}
 use Rattle.std.proofs.lemmas.Option.{gets}
@@ -11,10 +11,11 @@ use Rattle.world_search.specs.Lists.{IsMore}
 use Rattle.world_search.proofs.Lists.{more_more, more_same}
 use Rattle.every_schedule.specs.Places.{Kept, Place}
 use Rattle.every_schedule.specs.Reduced.{leapt}
-use Rattle.every_schedule.specs.Private.Numbered.{AreWorlds, IsWorldOf, Numbers, place_of}
+use Rattle.every_schedule.specs.Private.Numbered.{AreWorlds, IsWorld, IsWorldOf, Numbers, place_of}
 use Rattle.every_schedule.specs.Private.Standing.{here}
 use Rattle.every_schedule.proofs.Entering.{always, is_here, lands, next_kept, places_hold, places_stay, room_kept, rows_hold, rows_stay}
-use Rattle.every_schedule.proofs.Numbered.{fits_so}
+use Rattle.every_schedule.proofs.Numbered.{row_at, fits_so}
+use Rattle.every_schedule.proofs.Packed.{gone}
 use Rattle.every_schedule.proofs.core_worlds.CoreWorlds.entry.Goals as goal
 
 pub go_to-requires : goal.go_to-requires
@@ -23,10 +24,10 @@ go_to-requires c =
     let k = s.limits in
     let fs = s.current.fibers in
     let rs = s.current.registries in
-    let rows = s.rows.items.items in
-    let m = c.index-row.result.now in
-    let row : slice_get rows c.args.world ≡ Some m = grind (arith, common_steps, gets) in
-    (k, c.self.invariant c.args.world m row)
+    let found = row_at (place_of s.limits s.current.fibers s.current.registries) s.rows.rows c.args.world (subst (λ (x : Kept). c.args.world < length x.places) (sym c.self.view_is) c.requires) in
+    let m = found.0 in
+    let row = found.1 in
+    (k, subst (λ (n : Numbers). IsWorld k fs rs n) (gone c.registry.result c.fibers.result.now m (c.registry.ensures m row) (c.fibers.ensures m row)) (c.self.invariant c.args.world m row))
 
 pub leap-requires : goal.leap-requires
 leap-requires c =
@@ -34,11 +35,12 @@ leap-requires c =
     let k = s.limits in
     let fs = s.current.fibers in
     let rs = s.current.registries in
-    let rows = s.rows.items.items in
-    let m = c.index-row.result.now in
-    let row : slice_get rows c.args.world ≡ Some m = grind (arith, common_steps, gets) in
+    let rows = s.rows.rows in
+    let found = row_at (place_of s.limits s.current.fibers s.current.registries) s.rows.rows c.args.world (subst (λ (x : Kept). c.args.world < length x.places) (sym c.self.view_is) c.requires) in
+    let m = found.0 in
+    let row = found.1 in
     let now = here c.go_to.new.self in
-    let is_now : IsWorldOf fs rs m now = c.in_ok-go_to.ensures.here in
+    let is_now : IsWorldOf fs rs m now = subst (λ (n : Numbers). IsWorldOf fs rs n now) (sym (gone c.registry.result c.fibers.result.now m (c.registry.ensures m row) (c.fibers.ensures m row))) c.in_ok-go_to.ensures.here in
     fits_so k fs rs m now (c.self.invariant c.args.world m row) is_now
 
 pub invariant_of-self-2 : goal.invariant_of-self-2
@@ -47,24 +49,26 @@ invariant_of-self-2 c =
     let k = s.limits in
     let fs = s.current.fibers in
     let rs = s.current.registries in
-    let rows = s.rows.items.items in
-    let m = c.index-row.result.now in
-    let row : slice_get rows c.args.world ≡ Some m = grind (arith, common_steps, gets) in
+    let rows = s.rows.rows in
+    let found = row_at (place_of s.limits s.current.fibers s.current.registries) s.rows.rows c.args.world (subst (λ (x : Kept). c.args.world < length x.places) (sym c.self.view_is) c.requires) in
+    let m = found.0 in
+    let row = found.1 in
     let now = here c.go_to.new.self in
-    let is_now : IsWorldOf fs rs m now = c.in_ok-go_to.ensures.here in
+    let is_now : IsWorldOf fs rs m now = subst (λ (n : Numbers). IsWorldOf fs rs n now) (sym (gone c.registry.result c.fibers.result.now m (c.registry.ensures m row) (c.fibers.ensures m row))) c.in_ok-go_to.ensures.here in
     let gs = c.leap.new.current.fibers in
     let qs = c.leap.new.current.registries in
     let mg : IsMore fs gs = subst (λ (l : List Fiber). IsMore l gs) c.go_to.ensures.fibers c.leap.ensures.onward.fibers in
     let mq : IsMore rs qs = subst (λ (l : List PlainView). IsMore l qs) c.go_to.ensures.registries c.leap.ensures.onward.registries in
-    let fs' = c.row.new.self.fibers in
-    let rs' = c.row.new.self.registries in
-    let mf = more_more fs gs fs' mg c.row.ensures.onward.fibers in
-    let mr = more_more rs qs rs' mq c.row.ensures.onward.registries in
-    let n = c.in_ok-row.row in
+    let fs' = c.number.new.self.fibers in
+    let rs' = c.number.new.self.registries in
+    let mf = more_more fs gs fs' mg c.number.ensures.onward.fibers in
+    let mr = more_more rs qs rs' mq c.number.ensures.onward.registries in
+    let n : Numbers = record { registry = c.in_ok-registry.registry; fibers = c.numbers.result.now } in
     let next = here c.leap.new.current in
-    let rows' = c.keep.new.rows.items.items in
+    let is_next : IsWorldOf fs' rs' n next = subst (λ (l : List ℕ). IsWorldOf fs' rs' record { registry = c.in_ok-registry.registry; fibers = l } next) (sym c.numbers.ensures) c.in_ok-registry.ensures.row in
+    let rows' = c.keep.new.self.rows in
     rows_hold k fs fs' rs rs' mf mr rows c.self.invariant c.args.world m row now is_now
-    c.args.at_once c.args.fiber n next c.in-Ok.ensures.goes c.in_ok-row.ensures.row c.in-Ok.ensures.fits rows' c.keep.ensures.adds
+    c.args.at_once c.args.fiber n next c.in-Ok.ensures.goes is_next c.in-Ok.ensures.fits rows' c.keep.ensures.adds
 
 pub invariant_of-self-in-Err : goal.invariant_of-self-in-Err
 invariant_of-self-in-Err c =
@@ -72,11 +76,12 @@ invariant_of-self-in-Err c =
     let k = s.limits in
     let fs = s.current.fibers in
     let rs = s.current.registries in
-    let rows = s.rows.items.items in
-    let m = c.index-row.result.now in
-    let row : slice_get rows c.args.world ≡ Some m = grind (arith, common_steps, gets) in
+    let rows = s.rows.rows in
+    let found = row_at (place_of s.limits s.current.fibers s.current.registries) s.rows.rows c.args.world (subst (λ (x : Kept). c.args.world < length x.places) (sym c.self.view_is) c.requires) in
+    let m = found.0 in
+    let row = found.1 in
     let now = here c.go_to.new.self in
-    let is_now : IsWorldOf fs rs m now = c.in_ok-go_to.ensures.here in
+    let is_now : IsWorldOf fs rs m now = subst (λ (n : Numbers). IsWorldOf fs rs n now) (sym (gone c.registry.result c.fibers.result.now m (c.registry.ensures m row) (c.fibers.ensures m row))) c.in_ok-go_to.ensures.here in
     let gs = c.leap.new.current.fibers in
     let qs = c.leap.new.current.registries in
     let mg : IsMore fs gs = subst (λ (l : List Fiber). IsMore l gs) c.go_to.ensures.fibers c.leap.ensures.onward.fibers in
@@ -89,26 +94,28 @@ returns-clause-worlds c =
     let k = s.limits in
     let fs = s.current.fibers in
     let rs = s.current.registries in
-    let rows = s.rows.items.items in
-    let m = c.index-row.result.now in
-    let row : slice_get rows c.args.world ≡ Some m = grind (arith, common_steps, gets) in
+    let rows = s.rows.rows in
+    let found = row_at (place_of s.limits s.current.fibers s.current.registries) s.rows.rows c.args.world (subst (λ (x : Kept). c.args.world < length x.places) (sym c.self.view_is) c.requires) in
+    let m = found.0 in
+    let row = found.1 in
     let now = here c.go_to.new.self in
-    let is_now : IsWorldOf fs rs m now = c.in_ok-go_to.ensures.here in
+    let is_now : IsWorldOf fs rs m now = subst (λ (n : Numbers). IsWorldOf fs rs n now) (sym (gone c.registry.result c.fibers.result.now m (c.registry.ensures m row) (c.fibers.ensures m row))) c.in_ok-go_to.ensures.here in
     let gs = c.leap.new.current.fibers in
     let qs = c.leap.new.current.registries in
     let mg : IsMore fs gs = subst (λ (l : List Fiber). IsMore l gs) c.go_to.ensures.fibers c.leap.ensures.onward.fibers in
     let mq : IsMore rs qs = subst (λ (l : List PlainView). IsMore l qs) c.go_to.ensures.registries c.leap.ensures.onward.registries in
-    let fs' = c.row.new.self.fibers in
-    let rs' = c.row.new.self.registries in
-    let mf = more_more fs gs fs' mg c.row.ensures.onward.fibers in
-    let mr = more_more rs qs rs' mq c.row.ensures.onward.registries in
-    let n = c.in_ok-row.row in
+    let fs' = c.number.new.self.fibers in
+    let rs' = c.number.new.self.registries in
+    let mf = more_more fs gs fs' mg c.number.ensures.onward.fibers in
+    let mr = more_more rs qs rs' mq c.number.ensures.onward.registries in
+    let n : Numbers = record { registry = c.in_ok-registry.registry; fibers = c.numbers.result.now } in
     let next = here c.leap.new.current in
-    let rows' = c.keep.new.rows.items.items in
+    let is_next : IsWorldOf fs' rs' n next = subst (λ (l : List ℕ). IsWorldOf fs' rs' record { registry = c.in_ok-registry.registry; fibers = l } next) (sym c.numbers.ensures) c.in_ok-registry.ensures.row in
+    let rows' = c.keep.new.self.rows in
     let places : map (place_of k fs rs) rows ≡ c.args.self.now.places = ap (λ (x : Kept). x.places) c.self.view_is in
     subst (λ l. IsMore l (map (place_of k fs' rs') rows')) places
     (places_hold k fs fs' rs rs' mf mr rows c.self.invariant c.args.world m row now is_now
-    c.args.at_once c.args.fiber n next c.in-Ok.ensures.goes c.in_ok-row.ensures.row c.in-Ok.ensures.fits rows' c.keep.ensures.adds)
+    c.args.at_once c.args.fiber n next c.in-Ok.ensures.goes is_next c.in-Ok.ensures.fits rows' c.keep.ensures.adds)
 
 pub returns-clause-faults : goal.returns-clause-faults
 returns-clause-faults c =
@@ -121,26 +128,28 @@ returns-clause-lands c =
     let k = s.limits in
     let fs = s.current.fibers in
     let rs = s.current.registries in
-    let rows = s.rows.items.items in
-    let m = c.index-row.result.now in
-    let row : slice_get rows c.args.world ≡ Some m = grind (arith, common_steps, gets) in
+    let rows = s.rows.rows in
+    let found = row_at (place_of s.limits s.current.fibers s.current.registries) s.rows.rows c.args.world (subst (λ (x : Kept). c.args.world < length x.places) (sym c.self.view_is) c.requires) in
+    let m = found.0 in
+    let row = found.1 in
     let now = here c.go_to.new.self in
-    let is_now : IsWorldOf fs rs m now = c.in_ok-go_to.ensures.here in
+    let is_now : IsWorldOf fs rs m now = subst (λ (n : Numbers). IsWorldOf fs rs n now) (sym (gone c.registry.result c.fibers.result.now m (c.registry.ensures m row) (c.fibers.ensures m row))) c.in_ok-go_to.ensures.here in
     let gs = c.leap.new.current.fibers in
     let qs = c.leap.new.current.registries in
     let mg : IsMore fs gs = subst (λ (l : List Fiber). IsMore l gs) c.go_to.ensures.fibers c.leap.ensures.onward.fibers in
     let mq : IsMore rs qs = subst (λ (l : List PlainView). IsMore l qs) c.go_to.ensures.registries c.leap.ensures.onward.registries in
-    let fs' = c.row.new.self.fibers in
-    let rs' = c.row.new.self.registries in
-    let mf = more_more fs gs fs' mg c.row.ensures.onward.fibers in
-    let mr = more_more rs qs rs' mq c.row.ensures.onward.registries in
-    let n = c.in_ok-row.row in
+    let fs' = c.number.new.self.fibers in
+    let rs' = c.number.new.self.registries in
+    let mf = more_more fs gs fs' mg c.number.ensures.onward.fibers in
+    let mr = more_more rs qs rs' mq c.number.ensures.onward.registries in
+    let n : Numbers = record { registry = c.in_ok-registry.registry; fibers = c.numbers.result.now } in
     let next = here c.leap.new.current in
-    let rows' = c.keep.new.rows.items.items in
+    let is_next : IsWorldOf fs' rs' n next = subst (λ (l : List ℕ). IsWorldOf fs' rs' record { registry = c.in_ok-registry.registry; fibers = l } next) (sym c.numbers.ensures) c.in_ok-registry.ensures.row in
+    let rows' = c.keep.new.self.rows in
     let places : map (place_of k fs rs) rows ≡ c.args.self.now.places = ap (λ (x : Kept). x.places) c.self.view_is in
     IfOk-weaker c.keep.result _ _
     (λ it kept. λ w at. lands k fs fs' rs rs' mf mr rows c.self.invariant c.args.world m row now is_now
-    c.args.at_once c.args.fiber n next c.in-Ok.ensures.goes c.in_ok-row.ensures.row c.in-Ok.ensures.fits rows' c.keep.ensures.adds s.faults it kept w
+    c.args.at_once c.args.fiber n next c.in-Ok.ensures.goes is_next c.in-Ok.ensures.fits rows' c.keep.ensures.adds s.faults it kept w
     (ap (λ l. slice_get l c.args.world) places ∙ at)) c.keep.ensures.kept
 
 pub returns-clause-room : goal.returns-clause-room
@@ -149,22 +158,24 @@ returns-clause-room c =
     let k = s.limits in
     let fs = s.current.fibers in
     let rs = s.current.registries in
-    let rows = s.rows.items.items in
-    let m = c.index-row.result.now in
-    let row : slice_get rows c.args.world ≡ Some m = grind (arith, common_steps, gets) in
+    let rows = s.rows.rows in
+    let found = row_at (place_of s.limits s.current.fibers s.current.registries) s.rows.rows c.args.world (subst (λ (x : Kept). c.args.world < length x.places) (sym c.self.view_is) c.requires) in
+    let m = found.0 in
+    let row = found.1 in
     let now = here c.go_to.new.self in
-    let is_now : IsWorldOf fs rs m now = c.in_ok-go_to.ensures.here in
+    let is_now : IsWorldOf fs rs m now = subst (λ (n : Numbers). IsWorldOf fs rs n now) (sym (gone c.registry.result c.fibers.result.now m (c.registry.ensures m row) (c.fibers.ensures m row))) c.in_ok-go_to.ensures.here in
     let gs = c.leap.new.current.fibers in
     let qs = c.leap.new.current.registries in
     let mg : IsMore fs gs = subst (λ (l : List Fiber). IsMore l gs) c.go_to.ensures.fibers c.leap.ensures.onward.fibers in
     let mq : IsMore rs qs = subst (λ (l : List PlainView). IsMore l qs) c.go_to.ensures.registries c.leap.ensures.onward.registries in
-    let fs' = c.row.new.self.fibers in
-    let rs' = c.row.new.self.registries in
-    let mf = more_more fs gs fs' mg c.row.ensures.onward.fibers in
-    let mr = more_more rs qs rs' mq c.row.ensures.onward.registries in
-    let n = c.in_ok-row.row in
+    let fs' = c.number.new.self.fibers in
+    let rs' = c.number.new.self.registries in
+    let mf = more_more fs gs fs' mg c.number.ensures.onward.fibers in
+    let mr = more_more rs qs rs' mq c.number.ensures.onward.registries in
+    let n : Numbers = record { registry = c.in_ok-registry.registry; fibers = c.numbers.result.now } in
     let next = here c.leap.new.current in
-    let rows' = c.keep.new.rows.items.items in
+    let is_next : IsWorldOf fs' rs' n next = subst (λ (l : List ℕ). IsWorldOf fs' rs' record { registry = c.in_ok-registry.registry; fibers = l } next) (sym c.numbers.ensures) c.in_ok-registry.ensures.row in
+    let rows' = c.keep.new.self.rows in
     let places : map (place_of k fs rs) rows ≡ c.args.self.now.places = ap (λ (x : Kept). x.places) c.self.view_is in
     IfOk-weaker c.keep.result _ _
     (λ it few. subst (λ l. length (map (place_of k fs' rs') rows') ≤ max c.args.most (length l)) places
@@ -176,22 +187,24 @@ returns-clause-next c =
     let k = s.limits in
     let fs = s.current.fibers in
     let rs = s.current.registries in
-    let rows = s.rows.items.items in
-    let m = c.index-row.result.now in
-    let row : slice_get rows c.args.world ≡ Some m = grind (arith, common_steps, gets) in
+    let rows = s.rows.rows in
+    let found = row_at (place_of s.limits s.current.fibers s.current.registries) s.rows.rows c.args.world (subst (λ (x : Kept). c.args.world < length x.places) (sym c.self.view_is) c.requires) in
+    let m = found.0 in
+    let row = found.1 in
     let now = here c.go_to.new.self in
-    let is_now : IsWorldOf fs rs m now = c.in_ok-go_to.ensures.here in
+    let is_now : IsWorldOf fs rs m now = subst (λ (n : Numbers). IsWorldOf fs rs n now) (sym (gone c.registry.result c.fibers.result.now m (c.registry.ensures m row) (c.fibers.ensures m row))) c.in_ok-go_to.ensures.here in
     let gs = c.leap.new.current.fibers in
     let qs = c.leap.new.current.registries in
     let mg : IsMore fs gs = subst (λ (l : List Fiber). IsMore l gs) c.go_to.ensures.fibers c.leap.ensures.onward.fibers in
     let mq : IsMore rs qs = subst (λ (l : List PlainView). IsMore l qs) c.go_to.ensures.registries c.leap.ensures.onward.registries in
-    let fs' = c.row.new.self.fibers in
-    let rs' = c.row.new.self.registries in
-    let mf = more_more fs gs fs' mg c.row.ensures.onward.fibers in
-    let mr = more_more rs qs rs' mq c.row.ensures.onward.registries in
-    let n = c.in_ok-row.row in
+    let fs' = c.number.new.self.fibers in
+    let rs' = c.number.new.self.registries in
+    let mf = more_more fs gs fs' mg c.number.ensures.onward.fibers in
+    let mr = more_more rs qs rs' mq c.number.ensures.onward.registries in
+    let n : Numbers = record { registry = c.in_ok-registry.registry; fibers = c.numbers.result.now } in
     let next = here c.leap.new.current in
-    let rows' = c.keep.new.rows.items.items in
+    let is_next : IsWorldOf fs' rs' n next = subst (λ (l : List ℕ). IsWorldOf fs' rs' record { registry = c.in_ok-registry.registry; fibers = l } next) (sym c.numbers.ensures) c.in_ok-registry.ensures.row in
+    let rows' = c.keep.new.self.rows in
     let places : map (place_of k fs rs) rows ≡ c.args.self.now.places = ap (λ (x : Kept). x.places) c.self.view_is in
     IfOk-weaker c.keep.result _ _
     (λ it next. subst (λ l. IsNext (length l) (length (map (place_of k fs' rs') rows')) c.args.most it) places
@@ -203,11 +216,12 @@ returns-in-Err-clause-worlds c =
     let k = s.limits in
     let fs = s.current.fibers in
     let rs = s.current.registries in
-    let rows = s.rows.items.items in
-    let m = c.index-row.result.now in
-    let row : slice_get rows c.args.world ≡ Some m = grind (arith, common_steps, gets) in
+    let rows = s.rows.rows in
+    let found = row_at (place_of s.limits s.current.fibers s.current.registries) s.rows.rows c.args.world (subst (λ (x : Kept). c.args.world < length x.places) (sym c.self.view_is) c.requires) in
+    let m = found.0 in
+    let row = found.1 in
     let now = here c.go_to.new.self in
-    let is_now : IsWorldOf fs rs m now = c.in_ok-go_to.ensures.here in
+    let is_now : IsWorldOf fs rs m now = subst (λ (n : Numbers). IsWorldOf fs rs n now) (sym (gone c.registry.result c.fibers.result.now m (c.registry.ensures m row) (c.fibers.ensures m row))) c.in_ok-go_to.ensures.here in
     let gs = c.leap.new.current.fibers in
     let qs = c.leap.new.current.registries in
     let mg : IsMore fs gs = subst (λ (l : List Fiber). IsMore l gs) c.go_to.ensures.fibers c.leap.ensures.onward.fibers in
@@ -221,11 +235,12 @@ returns-in-Err-clause-lands c =
     let k = s.limits in
     let fs = s.current.fibers in
     let rs = s.current.registries in
-    let rows = s.rows.items.items in
-    let m = c.index-row.result.now in
-    let row : slice_get rows c.args.world ≡ Some m = grind (arith, common_steps, gets) in
+    let rows = s.rows.rows in
+    let found = row_at (place_of s.limits s.current.fibers s.current.registries) s.rows.rows c.args.world (subst (λ (x : Kept). c.args.world < length x.places) (sym c.self.view_is) c.requires) in
+    let m = found.0 in
+    let row = found.1 in
     let now = here c.go_to.new.self in
-    let is_now : IsWorldOf fs rs m now = c.in_ok-go_to.ensures.here in
+    let is_now : IsWorldOf fs rs m now = subst (λ (n : Numbers). IsWorldOf fs rs n now) (sym (gone c.registry.result c.fibers.result.now m (c.registry.ensures m row) (c.fibers.ensures m row))) c.in_ok-go_to.ensures.here in
     let gs = c.leap.new.current.fibers in
     let qs = c.leap.new.current.registries in
     let mg : IsMore fs gs = subst (λ (l : List Fiber). IsMore l gs) c.go_to.ensures.fibers c.leap.ensures.onward.fibers in
@@ -245,11 +260,12 @@ returns-in-Err-clause-room c =
     let k = s.limits in
     let fs = s.current.fibers in
     let rs = s.current.registries in
-    let rows = s.rows.items.items in
-    let m = c.index-row.result.now in
-    let row : slice_get rows c.args.world ≡ Some m = grind (arith, common_steps, gets) in
+    let rows = s.rows.rows in
+    let found = row_at (place_of s.limits s.current.fibers s.current.registries) s.rows.rows c.args.world (subst (λ (x : Kept). c.args.world < length x.places) (sym c.self.view_is) c.requires) in
+    let m = found.0 in
+    let row = found.1 in
     let now = here c.go_to.new.self in
-    let is_now : IsWorldOf fs rs m now = c.in_ok-go_to.ensures.here in
+    let is_now : IsWorldOf fs rs m now = subst (λ (n : Numbers). IsWorldOf fs rs n now) (sym (gone c.registry.result c.fibers.result.now m (c.registry.ensures m row) (c.fibers.ensures m row))) c.in_ok-go_to.ensures.here in
     let gs = c.leap.new.current.fibers in
     let qs = c.leap.new.current.registries in
     let mg : IsMore fs gs = subst (λ (l : List Fiber). IsMore l gs) c.go_to.ensures.fibers c.leap.ensures.onward.fibers in
@@ -265,11 +281,12 @@ returns-in-Err-clause-next c =
     let k = s.limits in
     let fs = s.current.fibers in
     let rs = s.current.registries in
-    let rows = s.rows.items.items in
-    let m = c.index-row.result.now in
-    let row : slice_get rows c.args.world ≡ Some m = grind (arith, common_steps, gets) in
+    let rows = s.rows.rows in
+    let found = row_at (place_of s.limits s.current.fibers s.current.registries) s.rows.rows c.args.world (subst (λ (x : Kept). c.args.world < length x.places) (sym c.self.view_is) c.requires) in
+    let m = found.0 in
+    let row = found.1 in
     let now = here c.go_to.new.self in
-    let is_now : IsWorldOf fs rs m now = c.in_ok-go_to.ensures.here in
+    let is_now : IsWorldOf fs rs m now = subst (λ (n : Numbers). IsWorldOf fs rs n now) (sym (gone c.registry.result c.fibers.result.now m (c.registry.ensures m row) (c.fibers.ensures m row))) c.in_ok-go_to.ensures.here in
     let gs = c.leap.new.current.fibers in
     let qs = c.leap.new.current.registries in
     let mg : IsMore fs gs = subst (λ (l : List Fiber). IsMore l gs) c.go_to.ensures.fibers c.leap.ensures.onward.fibers in
@@ -280,46 +297,48 @@ returns-in-Err-clause-next c =
     (next_kept (place_of k fs rs) (place_of k gs qs) rows rows c.args.most it (next (length rows) c.args.most)))
     c.fault_met.ensures.next
 
-pub invariant_of-self-in_err-row : goal.invariant_of-self-in_err-row
-invariant_of-self-in_err-row c =
+pub invariant_of-self-in_err-registry : goal.invariant_of-self-in_err-registry
+invariant_of-self-in_err-registry c =
     let s = c.self.inside in
     let k = s.limits in
     let fs = s.current.fibers in
     let rs = s.current.registries in
-    let rows = s.rows.items.items in
-    let m = c.index-row.result.now in
-    let row : slice_get rows c.args.world ≡ Some m = grind (arith, common_steps, gets) in
+    let rows = s.rows.rows in
+    let found = row_at (place_of s.limits s.current.fibers s.current.registries) s.rows.rows c.args.world (subst (λ (x : Kept). c.args.world < length x.places) (sym c.self.view_is) c.requires) in
+    let m = found.0 in
+    let row = found.1 in
     let now = here c.go_to.new.self in
-    let is_now : IsWorldOf fs rs m now = c.in_ok-go_to.ensures.here in
+    let is_now : IsWorldOf fs rs m now = subst (λ (n : Numbers). IsWorldOf fs rs n now) (sym (gone c.registry.result c.fibers.result.now m (c.registry.ensures m row) (c.fibers.ensures m row))) c.in_ok-go_to.ensures.here in
     let gs = c.leap.new.current.fibers in
     let qs = c.leap.new.current.registries in
     let mg : IsMore fs gs = subst (λ (l : List Fiber). IsMore l gs) c.go_to.ensures.fibers c.leap.ensures.onward.fibers in
     let mq : IsMore rs qs = subst (λ (l : List PlainView). IsMore l qs) c.go_to.ensures.registries c.leap.ensures.onward.registries in
-    let fs' = c.row.new.self.fibers in
-    let rs' = c.row.new.self.registries in
-    let mf = more_more fs gs fs' mg c.row.ensures.onward.fibers in
-    let mr = more_more rs qs rs' mq c.row.ensures.onward.registries in
+    let fs' = c.number.new.self.fibers in
+    let rs' = c.number.new.self.registries in
+    let mf = more_more fs gs fs' mg c.number.ensures.onward.fibers in
+    let mr = more_more rs qs rs' mq c.number.ensures.onward.registries in
     rows_stay k fs fs' rs rs' mf mr rows c.self.invariant c.args.world m row now is_now
 
-pub returns-in_err-row-clause-worlds : goal.returns-in_err-row-clause-worlds
-returns-in_err-row-clause-worlds c =
+pub returns-in_err-registry-clause-worlds : goal.returns-in_err-registry-clause-worlds
+returns-in_err-registry-clause-worlds c =
     let s = c.self.inside in
     let k = s.limits in
     let fs = s.current.fibers in
     let rs = s.current.registries in
-    let rows = s.rows.items.items in
-    let m = c.index-row.result.now in
-    let row : slice_get rows c.args.world ≡ Some m = grind (arith, common_steps, gets) in
+    let rows = s.rows.rows in
+    let found = row_at (place_of s.limits s.current.fibers s.current.registries) s.rows.rows c.args.world (subst (λ (x : Kept). c.args.world < length x.places) (sym c.self.view_is) c.requires) in
+    let m = found.0 in
+    let row = found.1 in
     let now = here c.go_to.new.self in
-    let is_now : IsWorldOf fs rs m now = c.in_ok-go_to.ensures.here in
+    let is_now : IsWorldOf fs rs m now = subst (λ (n : Numbers). IsWorldOf fs rs n now) (sym (gone c.registry.result c.fibers.result.now m (c.registry.ensures m row) (c.fibers.ensures m row))) c.in_ok-go_to.ensures.here in
     let gs = c.leap.new.current.fibers in
     let qs = c.leap.new.current.registries in
     let mg : IsMore fs gs = subst (λ (l : List Fiber). IsMore l gs) c.go_to.ensures.fibers c.leap.ensures.onward.fibers in
     let mq : IsMore rs qs = subst (λ (l : List PlainView). IsMore l qs) c.go_to.ensures.registries c.leap.ensures.onward.registries in
-    let fs' = c.row.new.self.fibers in
-    let rs' = c.row.new.self.registries in
-    let mf = more_more fs gs fs' mg c.row.ensures.onward.fibers in
-    let mr = more_more rs qs rs' mq c.row.ensures.onward.registries in
+    let fs' = c.number.new.self.fibers in
+    let rs' = c.number.new.self.registries in
+    let mf = more_more fs gs fs' mg c.number.ensures.onward.fibers in
+    let mr = more_more rs qs rs' mq c.number.ensures.onward.registries in
     let places : map (place_of k fs rs) rows ≡ c.args.self.now.places = ap (λ (x : Kept). x.places) c.self.view_is in
     subst (λ l. IsMore l (map (place_of k fs' rs') rows)) places (places_stay k fs fs' rs rs' mf mr rows c.self.invariant c.args.world m row now is_now)
 
@@ -329,7 +348,7 @@ returns-in_err-go_to-clause-worlds c =
     let k = s.limits in
     let fs = s.current.fibers in
     let rs = s.current.registries in
-    let rows = s.rows.items.items in
+    let rows = s.rows.rows in
     let gs = c.go_to.new.self.fibers in
     let qs = c.go_to.new.self.registries in
     let places : map (place_of k fs rs) rows ≡ c.args.self.now.places = ap (λ (x : Kept). x.places) c.self.view_is in

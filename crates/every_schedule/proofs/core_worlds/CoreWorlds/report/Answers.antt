@@ -9,7 +9,7 @@ use Rattle.every_schedule.specs.Private.Numbered.{AreAt, place_of}
 use Rattle.std.proofs.lemmas.Result.{IfOk-weaker}
 use Rattle.scheduled_core.specs.Core.{fiber_report}
 use Rattle.every_schedule.proofs.Alikeness.{told}
-use Rattle.every_schedule.proofs.Numbered.{fibers_there, picked_is}
+use Rattle.every_schedule.proofs.Numbered.{row_at, fibers_there, picked_is}
 use Rattle.every_schedule.proofs.Entering.{place_at}
 use Rattle.every_schedule.proofs.core_worlds.CoreWorlds.report.Goals as goal
 
@@ -17,10 +17,12 @@ pub fibers_of-requires : goal.fibers_of-requires
 fibers_of-requires c =
     let s = c.self.inside in
     let fs = s.current.fibers in
-    let row : slice_get s.rows.items.items c.args.world ≡ Some c.index-row.result.now = grind (arith, common_steps, gets) in
+    let found = row_at (place_of s.limits s.current.fibers s.current.registries) s.rows.rows c.args.world (subst (λ (x : Kept). c.args.world < length x.places) (sym c.self.view_is) c.requires) in
+    let m = found.0 in
+    let row = found.1 in
     subst (λ (l : List Fiber). All (λ m. m < length l) c.fibers-2.result.now) (sym c.fibers.ensures)
-    (subst (λ (l : List ℕ). All (λ m. m < length fs) l) (sym c.fibers-2.ensures)
-    (fibers_there s.limits fs s.current.registries c.index-row.result.now (c.self.invariant c.args.world c.index-row.result.now row)))
+    (subst (λ (l : List ℕ). All (λ m. m < length fs) l) (sym (c.fibers-2.ensures m row))
+    (fibers_there s.limits fs s.current.registries m (c.self.invariant c.args.world m row)))
 
 pub returns-clause-report : goal.returns-clause-report
 returns-clause-report c = IfOk-weaker c.report_of_fibers.result _ _ (λ it is. λ p at.
@@ -28,13 +30,14 @@ returns-clause-report c = IfOk-weaker c.report_of_fibers.result _ _ (λ it is. �
     let k = s.limits in
     let fs = s.current.fibers in
     let rs = s.current.registries in
-    let rows = s.rows.items.items in
-    let m = c.index-row.result.now in
+    let rows = s.rows.rows in
+    let found = row_at (place_of s.limits s.current.fibers s.current.registries) s.rows.rows c.args.world (subst (λ (x : Kept). c.args.world < length x.places) (sym c.self.view_is) c.requires) in
+    let m = found.0 in
     let places : map (place_of k fs rs) rows ≡ c.args.self.now.places = ap (λ (x : Kept). x.places) c.self.view_is in
-    let row : slice_get rows c.args.world ≡ Some m = grind (arith, common_steps, gets) in
+    let row = found.1 in
     let here : place_of k fs rs m ≡ p = place_at k fs rs rows c.args.world m p row (ap (λ l. slice_get l c.args.world) places ∙ at) in
     let are : AreAt fs m.fibers c.in_ok-fibers.fibers.items =
     subst (λ (l : List Fiber). AreAt l m.fibers c.in_ok-fibers.fibers.items) c.fibers.ensures
-    (subst (λ l. AreAt c.fibers.result.now.items.items l c.in_ok-fibers.fibers.items) c.fibers-2.ensures c.in_ok-fibers.ensures) in
+    (subst (λ l. AreAt c.fibers.result.now.items.items l c.in_ok-fibers.fibers.items) (c.fibers-2.ensures m row) c.in_ok-fibers.ensures) in
     is ∙ ap (λ (l : List Fiber). told (map fiber_report l)) (sym (picked_is fs m.fibers c.in_ok-fibers.fibers.items are)) ∙ ap report_at here)
     (c.report_of_fibers.ensures.reports)

@@ -6,7 +6,7 @@ use Rattle.std.proofs.lemmas.Option.{gets}
 use Rattle.fiber_frames.specs.Fiber.{Fiber}
 use Rattle.every_schedule.specs.Places.{Kept}
 use Rattle.every_schedule.specs.Private.Numbered.{place_of}
-use Rattle.every_schedule.proofs.Numbered.{fibers_there}
+use Rattle.every_schedule.proofs.Numbered.{row_at, fibers_there}
 use Rattle.every_schedule.proofs.Entering.{place_at}
 use Rattle.every_schedule.proofs.SeenRows.{stored_is}
 use Rattle.every_schedule.proofs.core_worlds.CoreWorlds.stored.Goals as goal
@@ -15,10 +15,12 @@ pub stored_at-requires : goal.stored_at-requires
 stored_at-requires c =
     let s = c.self.inside in
     let fs = s.current.fibers in
-    let row : slice_get s.rows.items.items c.args.world ≡ Some c.index-row.result.now = grind (arith, common_steps, gets) in
+    let found = row_at (place_of s.limits s.current.fibers s.current.registries) s.rows.rows c.args.world (subst (λ (x : Kept). c.args.world < length x.places) (sym c.self.view_is) c.requires) in
+    let m = found.0 in
+    let row = found.1 in
     subst (λ (l : List Fiber). All (λ m. m < length l) c.fibers-2.result.now) (sym c.fibers.ensures)
-    (subst (λ (l : List ℕ). All (λ m. m < length fs) l) (sym c.fibers-2.ensures)
-    (fibers_there s.limits fs s.current.registries c.index-row.result.now (c.self.invariant c.args.world c.index-row.result.now row)))
+    (subst (λ (l : List ℕ). All (λ m. m < length fs) l) (sym (c.fibers-2.ensures m row))
+    (fibers_there s.limits fs s.current.registries m (c.self.invariant c.args.world m row)))
 
 pub returns : goal.returns
 returns c = λ p at.
@@ -26,13 +28,14 @@ returns c = λ p at.
     let k = s.limits in
     let fs = s.current.fibers in
     let rs = s.current.registries in
-    let rows = s.rows.items.items in
-    let m = c.index-row.result.now in
+    let rows = s.rows.rows in
+    let found = row_at (place_of s.limits s.current.fibers s.current.registries) s.rows.rows c.args.world (subst (λ (x : Kept). c.args.world < length x.places) (sym c.self.view_is) c.requires) in
+    let m = found.0 in
     let f = c.args.fiber in
-    let row : slice_get rows c.args.world ≡ Some m = grind (arith, common_steps, gets) in
+    let row = found.1 in
     let places : map (place_of k fs rs) rows ≡ c.args.self.now.places = ap (λ (x : Kept). x.places) c.self.view_is in
     let here = place_at k fs rs rows c.args.world m p row (ap (λ l. slice_get l c.args.world) places ∙ at) in
-    let numbers : c.fibers-2.result.now ≡ m.fibers = c.fibers-2.ensures in
+    let numbers : c.fibers-2.result.now ≡ m.fibers = c.fibers-2.ensures m row in
     stored_is k fs rs m (c.self.invariant c.args.world m row) p here f c.stored_at.result
     (λ e. c.stored_at.ensures.none (ap (λ (l : List ℕ). slice_get l f) numbers ∙ e))
     (λ n g e there. c.stored_at.ensures.some n g (ap (λ (l : List ℕ). slice_get l f) numbers ∙ e)

@@ -235,6 +235,17 @@ put-requires c =
     let low : c.from-place.result < length s.numbers.items = omega arith in
     low
 
+pub invariant_of-self-in_err-turn : goal.invariant_of-self-in_err-turn
+invariant_of-self-in_err-turn c =
+    let s = c.self.inside in
+    let fs = s.states.fibers.items.items in
+    let gs = c.turn_of.new.states.fibers.items.items in (
+      low_more fs gs s.numbers.items c.turn_of.ensures.fibers c.self.invariant.0,
+      c.turn_of.ensures.turns,
+      c.turn_of.ensures.known,
+      tt,
+    )
+
 pub invariant_of-self-in_err-put : goal.invariant_of-self-in_err-put
 invariant_of-self-in_err-put c =
     let s = c.self.inside in
@@ -244,6 +255,7 @@ invariant_of-self-in_err-put c =
       subst (λ (l : List ℕ). All (λ n. n < length gs) l) (sym c.in_err-put.ensures.same) (low_more fs gs ns c.turn_of.ensures.fibers c.self.invariant.0),
       c.turn_of.ensures.turns,
       c.turn_of.ensures.known,
+      tt,
     )
 
 pub invariant_of-self-2 : goal.invariant_of-self-2
@@ -273,4 +285,5 @@ invariant_of-self-2 c =
           (behind_low fs gs ns c.self.invariant.0 c.turn_of.ensures.fibers f n h at is r t c.in_ok-turn.ensures.turned),
       c.turn_of.ensures.turns,
       c.turn_of.ensures.known,
+      tt,
     )

@@ -19,6 +19,7 @@ invariant_of-result c =
       low_at fs c.in_ok-numbers.numbers.items c.as_slice.result.now c.in_ok-numbers.ensures.numbers,
       subst (AreTurned fs) (sym none) (turned_none fs),
       c.know_all.ensures,
+      tt,
     )
 
 pub returns-clause-here : goal.returns-clause-here

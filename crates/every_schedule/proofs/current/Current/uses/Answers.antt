@@ -76,6 +76,7 @@ invariant_of-self c =
       c.self.invariant.1,
       known_set fs s.states.known.items c.index-fiber.result.now c.index.result.now c.uses-2.new.self
           (omega arith) state c.uses-2.ensures.known c.self.invariant.2,
+      c.self.invariant.3,
     )
 
 pub returns-clause-uses : goal.returns-clause-uses

@@ -1,0 +1,24 @@
+-- What it comes to, to decide whether every fair schedule of the program of a text ends.
+use Rattle.std.specs.Prelude.{Bool, true, false, ℕ, List, is_some}
+use Rattle.effect_term.specs.declared.term.Term.{Term}
+use Rattle.exploration_text.specs.declared.explore_texts.ExploreOrder.{ExploreOrder}
+use Rattle.ending_answers.specs.DecidedAnswers.{IsDecidedAnswer}
+use Rattle.outcome_trace.specs.Answers.{IsRefusalAnswer}
+use Rattle.json_answers.specs.Answers.{IsJsonRefusal}
+use Rattle.text_io.specs.declared.status.Status.{Status}
+use Rattle.text_io.specs.Devices.{Devices}
+use Rattle.command_words.specs.declared.deciding.Deciding.{Deciding}
+use Rattle.command_line.specs.Explorings.{ObeysBeside}
+
+-- what is answered to a program, as JSON or in words, by whether the time of its search is limited, and with this note
+abbrev pub decides_as : Bool → ExploreOrder → (timed : Bool) → (note : List ℕ) → Term → List ℕ → Status → Type 0
+decides_as json order timed note t = IsDecidedAnswer json t order.limits order.bounds timed order.wants.items note
+
+-- how a text that is refused is answered
+abbrev pub decide_refuses : Bool → List ℕ → List ℕ → Status → Type 0
+decide_refuses true = IsJsonRefusal
+decide_refuses false = IsRefusalAnswer
+
+abbrev pub ObeysDecide : Deciding → Devices → Devices → Status → Type 0
+ObeysDecide deciding before after status = ObeysBeside deciding.beside (decide_refuses deciding.json)
+    (decides_as deciding.json deciding.order (is_some deciding.seconds)) before after status

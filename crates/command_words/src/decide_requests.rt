@@ -1,0 +1,44 @@
+//! The decision on fair schedules that the words of a command line ask for.
+
+ghost use Rattle.std.specs.Prelude.{codes, IfNone, IfOk, IfSome};
+ghost use Rattle.clap.specs.Words.{found_of, rows_of};
+ghost use Rattle.command_words.specs.declared.deciding.Deciding.{Deciding};
+ghost use Rattle.command_words.specs.Flags.{IsGiven};
+ghost use Rattle.command_words.specs.Requests.{HasNoClaims, SaysDeciding};
+
+use crate::deciding::Deciding;
+use crate::flags::{beside, given};
+use crate::requests::{explore_order, seconds_of};
+use clap::ArgMatches;
+use std::alloc::{AllocError, Global};
+
+/// The decision on fair schedules that the options of `explore` say, if they ask for it.
+pub(crate) fn deciding_of(
+    alloc: Global,
+    explore: &ArgMatches<'_>,
+) -> Result<Option<Deciding>, AllocError>
+    requires ends { IsGiven (codes "ends") (rows_of (found_of explore.now)) }
+    requires claims { HasNoClaims (rows_of (found_of explore.now)) }
+    ensures said { IfOk result (λ found. IfSome found (SaysDeciding (rows_of (found_of explore.now)))) }
+    ensures none { IfOk result (λ found. IfNone found ((said : Deciding) →
+        SaysDeciding (rows_of (found_of explore.now)) said → ⊥)) }
+{
+    if given(explore, "first") || given(explore, "timeline") {
+        return Ok(None);
+    }
+    let Some(beside) = beside(explore) else {
+        return Ok(None);
+    };
+    let Some(seconds) = seconds_of(explore) else {
+        return Ok(None);
+    };
+    match explore_order(alloc, explore)? {
+        Some(order) => Ok(Some(Deciding {
+            order,
+            json: given(explore, "json"),
+            seconds,
+            beside,
+        })),
+        None => Ok(None),
+    }
+}

@@ -1,0 +1,4 @@
+pub mod Decisions
+pub mod DecidedText
+pub mod DecidedData
+pub mod DecidedAnswers

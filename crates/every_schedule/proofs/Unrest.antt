@@ -1,0 +1,151 @@
+-- Fibers that can go on, and final worlds with and without the notes of who was joined.
+use Rattle.std.proofs.Common.{◌≡◌, ◌≢◌, ◌⊎◌, inl, inr, ℕ, ℤ, Bool, true, false, List, [], ◌∷◌, Option, Some, None, refl, sym, ap, ◌∙◌, subst, ◌&&◌}
+use Rattle.std.specs.Prelude.{is_none}
+use Rattle.std.specs.List.{slice_get}
+use Rattle.effect_term.specs.declared.reply.Outcome.{Outcome}
+use Rattle.effect_term.specs.declared.reply.Reply.{Reply}
+use Rattle.effect_term.specs.declared.reply.Reply.TheVariants as reply
+use Rattle.derived_ops.specs.Tree.{Action, Never, Ending, Await, Operand, Pure, Raise, Act, Join, Mask, Tree, Make, New_ref, New_deferred}
+use Rattle.fiber_frames.specs.declared.ask.Ask.{Ask}
+use Rattle.fiber_frames.specs.declared.ask.Ask.TheVariants as ask
+use Rattle.fiber_frames.specs.Path.{Running, Runs, Final, Over, Broken, PathStep, In_let, In_seq, In_handle, In_guarded}
+use Rattle.fiber_frames.specs.Path.{In_masked, In_polled, Root, At_term, At_final, active, leaf, path, focus}
+use Rattle.fiber_frames.specs.Rows.{RowKind, Waited, wait, outcome_in, read_in, action_row, word_row, value_row, error_row, row, row_at}
+use Rattle.fiber_frames.specs.Fiber.{Fiber, active_of, is_silent, is_waited, outcome_of, row_of, waits_alone}
+use Rattle.cell_registry.specs.declared.cell.Stage.{Stage}
+use Rattle.cell_registry.specs.declared.cell.Stage.TheVariants as at
+use Rattle.cell_registry.specs.declared.call.Call.TheVariants as call
+use Rattle.cell_registry.specs.Cells.{Cells, cell_of, deferred_of, join_reply, reply_of, without_waits}
+use Rattle.cell_registry.specs.Words.{has_ended}
+use Rattle.cell_registry.proofs.Forgetting.{request_stays, same_reply}
+use Rattle.scheduled_core.specs.declared.wish.Wish.{Wish}
+use Rattle.scheduled_core.specs.declared.wish.Wish.TheVariants.{Shared, Alone, Nothing}
+use Rattle.scheduled_core.specs.Core.{World, wish_of}
+use Rattle.scheduled_core.specs.Finals.{HasEnded, IsAtRest, IsFinal, IsUnasked, reply_to, word_wish}
+use Rattle.every_schedule.specs.Places.{unnoted}
+
+-- ---- a word that waits is one for which the reply has nothing
+-- the word, of this kind, waits without a call, or joins or reads what the reply hasn't got
+pub data IsUnserved (k : RowKind) (a : Ask) (r : Reply) : Type 0 where
+  Silently : a ≡ ask.Silent → k ≡ Waited → IsUnserved k a r
+  Unended : (f : ℕ) → a ≡ ask.Join f → outcome_in r ≡ None → IsUnserved k a r
+  Unread : (d : ℕ) → a ≡ ask.Read d → read_in r ≡ None → IsUnserved k a r
+
+none_ended : (o : Option Outcome) → wait o ≡ Waited → o ≡ None
+none_ended None e = refl
+none_ended (Some x) e = absurd (cc)
+
+none_read : (o : Option ℤ) → wait o ≡ Waited → o ≡ None
+none_read None e = refl
+none_read (Some x) e = absurd (cc)
+
+module _ (i n m : ℕ) (r s : Reply) where
+  action_waits : (a : Action) → (action_row i n r a).kind ≡ Waited → IsUnserved (action_row i m s a).kind (action_row i m s a).call r
+  action_waits Never e = Silently refl refl
+  action_waits (Ending f) e = Unended _ refl (none_ended (outcome_in r) e)
+  action_waits (Await d) e = Unread _ refl (none_read (read_in r) e)
+  action_waits _ e = absurd (cc)
+
+  word_waits : (up : List Mask) (t : Tree) → (word_row i n r up t).kind ≡ Waited → IsUnserved (word_row i m s up t).kind (word_row i m s up t).call r
+  word_waits up (Act a) e = action_waits a e
+  word_waits up (Join f x w y k c) e = Unended _ refl (none_ended (outcome_in r) e)
+  word_waits up (Make (New_ref v) x k) e = absurd (cc)
+  word_waits up (Make New_deferred x k) e = absurd (cc)
+  word_waits up _ e = absurd (cc)
+
+  value_goes : (b : Root) (v : Operand) (p : List PathStep) → (value_row i n b v p).kind ≡ Waited → ⊥
+  value_goes At_term v [] e = cc
+  value_goes (At_final k gs) v [] e = cc
+  value_goes b v (In_let x k ∷ p) e = cc
+  value_goes b v (In_seq w k ∷ p) e = cc
+  value_goes b v (In_handle x h ∷ p) e = cc
+  value_goes b v (In_guarded fin ∷ p) e = cc
+  value_goes b v (In_masked k ∷ p) e = cc
+  value_goes b v (In_polled q ∷ p) e = cc
+
+  error_goes : (b : Root) (v : Operand) (p : List PathStep) → (error_row i n b v p).kind ≡ Waited → ⊥
+  error_goes At_term v [] e = cc
+  error_goes (At_final k gs) v [] e = cc
+  error_goes b v (In_let x k ∷ p) e = cc
+  error_goes b v (In_seq w k ∷ p) e = cc
+  error_goes b v (In_handle x h ∷ p) e = cc
+  error_goes b v (In_guarded fin ∷ p) e = cc
+  error_goes b v (In_masked k ∷ p) e = cc
+  error_goes b v (In_polled q ∷ p) e = cc
+
+  row_waits : (b : Root) (p : List PathStep) (t : Tree) → (row i n r b p t).kind ≡ Waited → IsUnserved (row i m s b p t).kind (row i m s b p t).call r
+  row_waits b p (Pure v) e = absurd (value_goes b v p e)
+  row_waits b p (Raise c) e = absurd (error_goes b c p e)
+  row_waits b p t e = word_waits (active i b p) t e
+
+  at_waits : (w : Running) → (row_at i n r (focus w) w).kind ≡ Waited → IsUnserved (row_at i m s (focus w) w).kind (row_at i m s (focus w) w).call r
+  at_waits (Runs t) e = row_waits At_term (path t []) (leaf t) e
+  at_waits (Final k (g ∷ gs)) e = row_waits (At_final k gs) (path g []) (leaf g) e
+  at_waits (Final k []) e = absurd (cc)
+  at_waits (Over o) e = absurd (cc)
+  at_waits Broken e = absurd (cc)
+
+-- a fiber at a wait, by what its word asks for
+waits_so : (g : Fiber) (r : Reply) → (row_of g r).kind ≡ Waited → IsUnserved (row_of g reply.Done).kind (row_of g reply.Done).call r
+waits_so g r e = at_waits g.number g.next g.next r reply.Done g.running e
+
+module _ (s : Cells) (f : ℕ) (g : Fiber) where
+  -- at this wait the fiber would go on
+  abbrev pub GoesOn : Ask → Type 0
+  GoesOn (ask.Join x) = has_ended (cell_of s x).stage ≡ true
+  GoesOn (ask.Read d) = is_none (deferred_of s d) ≡ false
+  GoesOn ask.Silent = waits_alone g ≡ false
+  GoesOn _ = Unit {0}
+
+  ended_some : (x : Stage) → has_ended x ≡ true → outcome_in (reply.Join (join_reply x)) ≢ None
+  ended_some at.Running e = λ n. cc
+  ended_some at.Finalizing e = λ n. cc
+  ended_some (at.Ended o) e = λ n. cc
+
+  full_some : (o : Option ℤ) → is_none o ≡ false → o ≢ None
+  full_some None e = λ n. cc
+  full_some (Some v) e = λ n. cc
+
+  alone : (row_of g reply.Done).kind ≡ Waited → (row_of g reply.Done).call ≡ ask.Silent → waits_alone g ≡ true
+  alone k a = ap (λ (x : RowKind). is_waited x && is_silent (row_of g reply.Done).call) k ∙ ap is_silent a
+
+  served : (a : Ask) → GoesOn a → IsUnserved (row_of g reply.Done).kind a (reply_to s f (wish_of a)) → (row_of g reply.Done).call ≡ a → ⊥
+  unfolding reply_of
+  served a goes (Silently is waits) same =
+      let now : waits_alone g ≡ false = subst GoesOn is goes in
+      let yes : waits_alone g ≡ true = alone waits (same ∙ is) in
+      let no : true ≡ false = sym yes ∙ now in cc
+  served a goes (Unended x is none) same =
+      ended_some (cell_of s x).stage (subst GoesOn is goes) (subst (λ (b : Ask). outcome_in (reply_to s f (wish_of b)) ≡ None) is none)
+  served a goes (Unread d is none) same =
+      full_some (deferred_of s d) (subst GoesOn is goes) (subst (λ (b : Ask). read_in (reply_to s f (wish_of b)) ≡ None) is none)
+
+  -- so it isn't at rest
+  pub goes_on : (a : Ask) → a ≡ (row_of g reply.Done).call → GoesOn a → outcome_of g ≡ None → HasEnded g ⊎ IsAtRest s f g → ⊥
+  goes_on a is goes unended (inl ended) = let no : Some ended.0 ≡ None = sym ended.1 ∙ unended in cc
+  goes_on a is goes unended (inr rests) =
+      served (row_of g reply.Done).call (subst GoesOn is goes) (waits_so g (reply_to s f (word_wish g)) rests.waits) refl
+
+-- ---- who was joined changes nothing of it
+reply_to_bare : (s : Cells) (f : ℕ) (w : Wish) → reply_to (without_waits s) f w ≡ reply_to s f w
+reply_to_bare s f (Shared c) = same_reply s f c
+reply_to_bare s f Alone = refl
+reply_to_bare s f Nothing = refl
+
+rest_noted : (s : Cells) (f : ℕ) (g : Fiber) → IsAtRest (without_waits s) f g → IsAtRest s f g
+rest_noted s f g h = record {
+  waits = subst (λ (r : Reply). (row_of g r).kind ≡ Waited) (reply_to_bare s f (word_wish g)) h.waits;
+  unasked = subst (λ (q : Bool). IsUnasked (active_of g) g.look q) (request_stays s f) h.unasked;
+}
+
+rest_bare : (s : Cells) (f : ℕ) (g : Fiber) → IsAtRest s f g → IsAtRest (without_waits s) f g
+rest_bare s f g h = record {
+  waits = subst (λ (r : Reply). (row_of g r).kind ≡ Waited) (sym (reply_to_bare s f (word_wish g))) h.waits;
+  unasked = subst (λ (q : Bool). IsUnasked (active_of g) g.look q) (sym (request_stays s f)) h.unasked;
+}
+
+pub final_noted : (w : World) → IsFinal (unnoted w) → IsFinal w
+final_noted w h f g at = elim (h f g at) [ inl ended ↦ inl ended | inr rests ↦ inr (rest_noted w.cells f g rests) ]
+
+pub final_bare : (w : World) → IsFinal w → IsFinal (unnoted w)
+final_bare w h f g at = elim (h f g at) [ inl ended ↦ inl ended | inr rests ↦ inr (rest_bare w.cells f g rests) ]

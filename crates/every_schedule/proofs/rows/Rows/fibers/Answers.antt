@@ -1,0 +1,18 @@
+use Rattle.std.proofs.Common.{◌≡◌, ◌<◌, length, map, sym, ap, ◌∙◌, subst, arith}
+use Rattle.std.specs.Prelude.{Some}
+use Rattle.std.specs.List.{slice_get}
+use Rattle.std.proofs.lemmas.Grind.{common_steps}
+use Rattle.std.proofs.lemmas.List.{length-map}
+use Rattle.std.proofs.lemmas.Option.{gets, same_Some}
+use Rattle.every_schedule.specs.declared.rows.Head.{Head}
+use Rattle.every_schedule.specs.Private.Numbered.{Numbers}
+use Rattle.every_schedule.specs.Private.Packed.{Packed, row_of}
+use Rattle.every_schedule.proofs.Numbered.{map_get}
+use Rattle.every_schedule.proofs.rows.Rows.fibers.Goals as goal
+
+pub index-head-requires : goal.index-head-requires
+index-head-requires c =
+    let s = c.self.inside in
+    let many = length-map s.heads.items (row_of s.numbers.items) in
+    let low = subst (λ (x : Packed). c.args.world < length x.rows) (sym c.self.view_is) c.requires in
+    omega arith

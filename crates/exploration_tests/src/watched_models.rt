@@ -1,0 +1,128 @@
+//! Models and samples whose searches are ended by their watcher.
+
+use crate::watched::Ends;
+use cell_registry::Limits;
+use model_claims::Verdict;
+use model_runs::{ModelResult, SearchBounds, run_model_watched};
+use model_terms::read_source;
+use model_text::Item;
+use outcome_trace::read_program;
+use sampled_schedules::{Sample, sample_watched};
+use std::alloc::Global;
+use std::process::Abort;
+use std::test::Fail;
+use world_search::{Unwatched, Watcher};
+
+// Three fibers that count for ever in two refs, which has no last world, and no answer.
+const COUNTERS: &[u8] = b"(model counters (want 0) (run (ref a 0) (ref b 0) \
+    (start f (forever (modify a 1))) (start g (forever (modify b 1))) (forever (modify a 1) (modify b 1))))";
+
+const BOUNDS: SearchBounds = SearchBounds {
+    worlds: 2000,
+    memory: 1 << 30,
+};
+
+// What becomes of the model while it is watched so.
+fn ran<V: Watcher>(alloc: Global, watcher: &mut V) -> Result<ModelResult, Fail> {
+    let Ok(source) = read_source(alloc, COUNTERS) else {
+        return Err(Fail::new("the file is refused"));
+    };
+    for item in source.file.items.iter() {
+        if let Item::Model(model) = item {
+            return match run_model_watched(alloc, &source, model, BOUNDS, watcher) {
+                Ok(result) => Ok(result),
+                Err(_) => Err(Fail::new("the model is refused")),
+            };
+        }
+    }
+    Err(Fail::new("the file has no model"))
+}
+
+// What was found of the only term of a model, and its verdict.
+fn expect<R: Abort + AllocGlobal>(
+    rt: &R,
+    became: &ModelResult,
+    halted: bool,
+    worlds: usize,
+    sampled: u32,
+) {
+    assert!(rt; became.verdict == Verdict::Undecided);
+    for search in became.searches.iter() {
+        assert_eq!(rt;
+            (
+                search.complete,
+                search.halted,
+                search.worlds,
+                search.sampled
+            ),
+            (false, halted, worlds, sampled)
+        );
+    }
+    assert_eq!(rt; became.searches.len(), 1);
+}
+
+// The watcher is asked at each hundredth world. So it ends the search at a hundred worlds. Then 200 schedules are drawn,
+// and it isn't asked any more.
+#[test]
+fn a_model_whose_time_is_over_is_undecided(rt: HostRuntime) -> Result<(), Fail> {
+    let mut ends = Ends::new(1);
+    let result = ran(rt.alloc(), &mut ends)?;
+    let worlds = match result.searches.first() {
+        Some(search) => search.worlds,
+        None => 0,
+    };
+    expect(&rt, &result, true, worlds, 200);
+    assert!(rt; worlds >= 100 && worlds < 2000);
+    assert_eq!(rt; ends.asked(), 1);
+    Ok(())
+}
+
+#[test]
+fn a_model_that_nobody_ends_goes_on_to_its_bound(rt: HostRuntime) -> Result<(), Fail> {
+    let result = ran(rt.alloc(), &mut Unwatched)?;
+    expect(&rt, &result, false, 2000, 2000);
+    Ok(())
+}
+
+const LIMITS: Limits = Limits {
+    fibers: 3,
+    refs: 1,
+    deferreds: 1,
+    count: 1000,
+};
+
+// What a sample of at most this number of schedules has found while it is watched so.
+fn sampled<V: Watcher>(alloc: Global, times: u32, watcher: &mut V) -> Result<Sample, Fail> {
+    let Ok(program) = read_program(alloc, b"(race (say 1) (say 2))") else {
+        return Err(Fail::new("the program is refused"));
+    };
+    match sample_watched(alloc, &program, LIMITS, 7, times, 1000, watcher) {
+        Ok(found) => Ok(found),
+        Err(_) => Err(Fail::new("memory ran out")),
+    }
+}
+
+// The watcher is asked before each schedule. When it ends the sample, this has the schedules that were drawn until then,
+// the same as of a sample of as many.
+#[test]
+fn a_watcher_ends_a_sample(rt: HostRuntime) -> Result<(), Fail> {
+    let ended = sampled(rt.alloc(), 1000, &mut Ends::new(6))?;
+    let whole = sampled(rt.alloc(), 5, &mut Unwatched)?;
+    assert_eq!(rt; (ended.schedules, whole.schedules), (5, 5));
+    assert_eq!(rt;
+        ended.comings.as_slice().len(),
+        whole.comings.as_slice().len()
+    );
+    for (one, other) in ended
+        .comings
+        .as_slice()
+        .iter()
+        .zip(whole.comings.as_slice())
+    {
+        assert_eq!(rt;
+            (one.times, one.answer.schedule.as_slice()),
+            (other.times, other.answer.schedule.as_slice())
+        );
+    }
+    Ok(())
+}
