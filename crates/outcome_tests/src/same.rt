@@ -2,7 +2,7 @@
 
 ghost use Rattle.cell_registry.specs.Cells.{AreLimits};
 
-use cell_registry::{Limits, RunError};
+use cell_registry::Limits;
 use effect_term::Outcome;
 use every_outcome::{OutcomeAnswer, Unwatched, explore_outcomes};
 use every_schedule::{Answer, Bounds, explore_full};
@@ -56,23 +56,44 @@ fn is_alike(one: &Answer, other: &OutcomeAnswer) -> bool {
         (Ok(report), Ok(outcomes)) => {
             has_outcomes(report.fibers.as_slice(), outcomes.as_slice())
         }
-        (Err(fault), Err(second)) => is_same_fault(*fault, *second),
+        (Err(fault), Err(second)) => *fault == *second,
         _ => false,
     }
 }
 
-// Whether two faults are one.
-fn is_same_fault(one: RunError, other: RunError) -> bool {
-    one == other
+// Whether an answer with marks ends as one of these.
+fn is_among(one: &Answer, others: &[OutcomeAnswer]) -> bool {
+    for other in others {
+        if is_alike(one, other) {
+            return true;
+        }
+    }
+    false
+}
+
+// Whether one of these ends as an answer without marks.
+fn has_alike(ones: &[Answer], other: &OutcomeAnswer) -> bool {
+    for one in ones {
+        if is_alike(one, other) {
+            return true;
+        }
+    }
+    false
 }
 
 // Whether each answer with marks has one without, and the other way round.
 fn are_alike(ones: &[Answer], others: &[OutcomeAnswer]) -> bool {
-    ones.iter()
-        .all(|one| others.iter().any(|other| is_alike(one, other)))
-        && others
-            .iter()
-            .all(|other| ones.iter().any(|one| is_alike(one, other)))
+    for one in ones {
+        if !is_among(one, others) {
+            return false;
+        }
+    }
+    for other in others {
+        if !has_alike(ones, other) {
+            return false;
+        }
+    }
+    true
 }
 
 #[test]
