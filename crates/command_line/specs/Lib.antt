@@ -14,4 +14,3 @@ pub mod Tests
 pub mod Workers
 pub mod Comparings
 pub mod Decidings
-pub mod Judgings

@@ -1,4 +1,0 @@
-pub mod Claims
-pub mod Verdicts
-pub mod ClaimsAnswers
-pub mod Private

@@ -1,3 +1,0 @@
-pub mod Spellings
-pub mod HeadLemmas
-pub mod NumberLemmas

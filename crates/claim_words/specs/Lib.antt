@@ -1,4 +1,0 @@
-pub mod Spacing
-pub mod Spelling
-pub mod Heads
-pub mod Private
