@@ -17,3 +17,12 @@ pub returns-in-Json-clause-ends : goal.returns-in-Json-clause-ends
 returns-in-Json-clause-ends g c =
     let e = c.args.exploring in
     beside_ends _ _ e.beside _ _ _ (explored_ends explored.Json e.order (is_some e.seconds)) c.obey_form-in-Json.ensures
+
+pub returns-in-Report-clause-obeyed : goal.returns-in-Report-clause-obeyed
+returns-in-Report-clause-obeyed g c = rw c.in-Report.is c.obey_form.ensures
+
+pub returns-in-Timeline-clause-obeyed : goal.returns-in-Timeline-clause-obeyed
+returns-in-Timeline-clause-obeyed g c = rw c.in-Timeline.is c.obey_form-in-Timeline.ensures
+
+pub returns-in-Json-clause-obeyed : goal.returns-in-Json-clause-obeyed
+returns-in-Json-clause-obeyed g c = rw c.in-Json.is c.obey_form-in-Json.ensures
