@@ -73,7 +73,7 @@ impl Clock for Steps {
 }
 
 // A clock that goes on by this number of milliseconds at each look.
-fn steps(step: u64) -> Steps {
+fn stepping(step: u64) -> Steps {
     Steps {
         step,
         now: Cell::new(7000),
@@ -188,7 +188,7 @@ fn progress_is_told_once_a_second(rt: HostRuntime) {
         (1500, "(pur 1)", Status::Refused, REFUSED, ""),
     ];
     for (step, program, status, out, err) in rows {
-        expect(&rt, program, program, &steps(step), (status, out, err));
+        expect(&rt, program, program, &stepping(step), (status, out, err));
     }
 }
 
@@ -206,7 +206,7 @@ fn a_clock_that_fails_tells_nothing_and_ends_nothing(rt: HostRuntime) {
 #[test]
 fn a_last_device_that_fails_changes_nothing_else(rt: HostRuntime) {
     let mut out = Vec::new(rt.alloc());
-    let status = watched(rt.alloc(), LONG, &steps(15), None, &mut out, Closed);
+    let status = watched(rt.alloc(), LONG, &stepping(15), None, &mut out, Closed);
     assert_eq!(rt;
         (status, out.as_slice()),
         (Status::Unended, STOPPED.as_bytes())
@@ -217,7 +217,7 @@ fn a_last_device_that_fails_changes_nothing_else(rt: HostRuntime) {
 fn an_exploration_ends_when_its_time_is_over(rt: HostRuntime) {
     let mut out = Vec::new(rt.alloc());
     let mut err = Vec::new(rt.alloc());
-    let status = watched(rt.alloc(), LONG, &steps(15), Some(2), &mut out, &mut err);
+    let status = watched(rt.alloc(), LONG, &stepping(15), Some(2), &mut out, &mut err);
     assert_eq!(rt;
         (status, err.as_slice()),
         (Status::Unended, TOLD_IN_TIME.as_bytes())
@@ -227,7 +227,7 @@ fn an_exploration_ends_when_its_time_is_over(rt: HostRuntime) {
 
 #[test]
 fn an_exploration_without_progress_ends_then_too(rt: HostRuntime) {
-    let clock = steps(15);
+    let clock = stepping(15);
     let order = TimedOrder {
         clock: &clock,
         seconds: Some(2),
@@ -283,7 +283,7 @@ fn a_search_that_nobody_ends_goes_on_to_its_bound(rt: HostRuntime) -> Result<(),
         (found.complete, found.halted, found.worlds),
         (false, false, 20_500)
     );
-    let clock = steps(1000);
+    let clock = stepping(1000);
     let found = found_while(rt.alloc(), &mut TimeLimit::new(&clock, None))?;
     assert_eq!(rt;
         (found.complete, found.halted, found.worlds),
