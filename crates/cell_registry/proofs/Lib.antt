@@ -16,3 +16,4 @@ pub mod OwnTurns
 pub mod ValueTurns
 pub mod Showing
 pub mod Forgetting
+pub mod Uncounting

@@ -50,6 +50,10 @@ awaited c = record c { waited = true }
 abbrev pub unawaited : Cell → Cell
 unawaited c = record c { waited = false }
 
+-- the cell as if its owner had changed nothing yet, in which all else stays
+abbrev pub uncounted : Cell → Cell
+uncounted c = record c { count = 0 }
+
 -- what the owner changes: each such change adds 1 to the count
 abbrev pub masked : Cell → Cell
 masked c = record c { depth = c.depth + 1; count = c.count + 1 }
@@ -147,6 +151,10 @@ with_deferred s d v = record s { deferreds = slice_set s.deferreds d v }
 -- the same registry, without the notes of which fibers were joined
 abbrev pub without_waits : Cells → Cells
 without_waits s = record s { cells = map unawaited s.cells }
+
+-- the same registry, without the counts of changes
+abbrev pub without_counts : Cells → Cells
+without_counts s = record s { cells = map uncounted s.cells }
 
 -- a deferred keeps the first value that it is completed with
 abbrev pub filled : Option ℤ → ℤ → Option ℤ

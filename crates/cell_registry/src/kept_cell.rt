@@ -2,7 +2,7 @@
 ghost use Rattle.std.specs.Prelude.{◌≡◌, ◌+◌, ◌<◌, ◌^◌, map, IfErr, IfOk, Some, None};
 ghost use Rattle.cell_registry.specs.Words.{has_ended};
 ghost use Rattle.cell_registry.specs.Cells.{awaited, cancel_reply, cut, finished, fresh, join_reply, masked};
-ghost use Rattle.cell_registry.specs.Cells.{requested, spent, unawaited, unmasked};
+ghost use Rattle.cell_registry.specs.Cells.{requested, spent, unawaited, uncounted, unmasked};
 ghost use Rattle.cell_registry.specs.declared.cell.Stage.TheVariants.{Ended, Finalizing, Running};
 ghost use Rattle.cell_registry.specs.Private.Kept.{has_value};
 
@@ -167,6 +167,13 @@ impl KeptCell {
         self.waited = false;
     }
 
+    /// Forgets how often its owner has changed it.
+    pub(crate) fn forget_count(&mut self)
+        ensures { self.new ≡ uncounted self.old }
+    {
+        self.count = 0;
+    }
+
     /// Refuses if the count of changes is the limit.
     #[inline(always)]
     pub(crate) fn refuse_if_spent(&self, limit: u64) -> Result<(), CellError>
@@ -237,6 +244,22 @@ fn forget_each(cells: &mut [KeptCell])
 {
     for cell in cells.iter_mut() {
         cell.forget_wait();
+    }
+}
+
+/// Forgets of each of these cells how often its owner has changed it.
+pub(crate) fn forget_counts(cells: &mut Vec<KeptCell>)
+    ensures { cells.new.items ≡ map uncounted cells.old.items }
+{
+    forget_each_count(cells.as_mut_slice());
+}
+
+// The same for a slice of cells.
+fn forget_each_count(cells: &mut [KeptCell])
+    ensures { cells.new ≡ map uncounted cells.old }
+{
+    for cell in cells.iter_mut() {
+        cell.forget_count();
     }
 }
 

@@ -1,12 +1,12 @@
 //! The registry for one thread.
 ghost use Rattle.std.specs.Prelude.{◌≡◌, ◌≢◌, ◌+◌, ◌<◌, is_none, length, IfErr, IfOk, false, true};
-ghost use Rattle.cell_registry.specs.Cells.{AreLimits, Cells, cell_of, deferred_of, without_waits};
+ghost use Rattle.cell_registry.specs.Cells.{AreLimits, Cells, cell_of, deferred_of, without_counts, without_waits};
 ghost use Rattle.cell_registry.specs.Words.{has_ended};
 ghost use Rattle.cell_registry.specs.Private.Shown.{Shows};
 ghost use Rattle.cell_registry.specs.Plain.{new_plain, IsPlain, MayCall, IsMade, IsRefused};
 
 use crate::call::Call;
-use crate::kept_cell::{KeptCell, forget_waits};
+use crate::kept_cell::{KeptCell, forget_counts, forget_waits};
 use crate::limits::{Band, CellError, Limits};
 use crate::sameness::{mixed_items, same_items};
 use crate::shown::{cells, deferreds, refs};
@@ -376,6 +376,15 @@ impl PlainRegistry {
         ensures lawful { IsPlain self.new }
     {
         forget_waits(&mut self.cells);
+    }
+
+    /// Forgets how often the owners of cells have changed them, as if none had changed its cell yet: their counts are 0
+    /// from then on. This isn't a call of the registry.
+    pub fn forget_counts(&mut self)
+        ensures forgets { self.new ≡ record self.old { state = without_counts self.old.state } }
+        ensures lawful { IsPlain self.new }
+    {
+        forget_counts(&mut self.cells);
     }
 
     /// Whether two registries are equal: the same limits, numbers given, cells and values.

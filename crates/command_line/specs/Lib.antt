@@ -14,3 +14,4 @@ pub mod Tests
 pub mod Workers
 pub mod Comparings
 pub mod Decidings
+pub mod Judgings

@@ -6,11 +6,12 @@ use Rattle.text_io.specs.declared.status.Status.{Status}
 use Rattle.text_io.specs.Devices.{Devices}
 use Rattle.command_words.specs.declared.requests.Request.{Request}
 use Rattle.command_words.specs.declared.requests.Request.TheVariants.{Check, Show, Replay, Explore, Run, Sample}
-use Rattle.command_words.specs.declared.requests.Request.TheVariants.{Compare, Decide, Seek, Test, Terms}
+use Rattle.command_words.specs.declared.requests.Request.TheVariants.{Compare, Decide, Judge, Seek, Test, Terms}
 use Rattle.command_line.specs.Checks.{ObeysCheck, ObeysShow}
 use Rattle.command_line.specs.Comparings.{ObeysCompare}
 use Rattle.command_line.specs.Decidings.{ObeysDecide}
 use Rattle.command_line.specs.Explorings.{ObeysExplore}
+use Rattle.command_line.specs.Judgings.{ObeysJudge}
 use Rattle.command_line.specs.Replays.{ObeysReplay}
 use Rattle.command_line.specs.Runs.{ObeysRun}
 use Rattle.command_line.specs.Samplings.{ObeysSample}
@@ -28,6 +29,7 @@ ObeysRequest (Replay replay) before after status = ObeysReplay replay before aft
 ObeysRequest (Explore exploring) before after status = ObeysExplore exploring before after status
 ObeysRequest (Seek seeking) before after status = ObeysSeek seeking before after status
 ObeysRequest (Decide deciding) before after status = ObeysDecide deciding before after status
+ObeysRequest (Judge judging) before after status = ObeysJudge judging before after status
 ObeysRequest (Run running) before after status = ObeysRun running before after status
 ObeysRequest (Sample sampling) before after status = ObeysSample sampling before after status
 ObeysRequest (Compare comparing) before after status = (after.input ≡ before.input) ×

@@ -11,6 +11,7 @@ use crate::check_order::{obey_check, obey_show};
 use crate::compare_order::obey_compare;
 use crate::decide_order::obey_decide;
 use crate::explore_order::obey_explore;
+use crate::judge_order::obey_judge;
 use crate::replay_order::obey_replay;
 use crate::run_order::obey_run;
 use crate::sample_order::obey_sample;
@@ -81,6 +82,7 @@ where
         Request::Explore(exploring) => obey_explore(rt, rt.alloc(), exploring, input, out, err),
         Request::Seek(seeking) => obey_seek(rt, rt.alloc(), seeking, input, out, err),
         Request::Decide(deciding) => obey_decide(rt, rt.alloc(), deciding, input, out, err),
+        Request::Judge(judging) => obey_judge(rt.alloc(), judging, input, out, err),
         Request::Run(running) => obey_run(rt, rt.alloc(), running, input, out, err),
         Request::Sample(sampling) => obey_sample(rt.alloc(), sampling, input, out, err),
         Request::Compare(comparing) => obey_compare(rt, rt.alloc(), comparing, out, err),

@@ -10,6 +10,7 @@ mod compare_order;
 mod decide_order;
 mod explore_order;
 mod first_line;
+mod judge_order;
 mod noted;
 mod order;
 mod record_answers;

@@ -4,3 +4,4 @@ pub mod TestLemmas
 pub mod WantLemmas
 pub mod WordLemmas
 pub mod UnitLemmas
+pub mod ClaimLemmas

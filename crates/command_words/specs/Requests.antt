@@ -1,5 +1,5 @@
 -- The request that the words of a command line give.
-use Rattle.std.specs.Prelude.{◌≡◌, ◌≤◌, ℕ, List, [], map, Option, Some, None, codes, option_map}
+use Rattle.std.specs.Prelude.{◌≡◌, ◌≤◌, ⊤, ℕ, List, [], map, Option, Some, None, codes, option_map}
 use Rattle.std.specs.List.{All}
 use Rattle.std.specs.Option.{unwrap_or}
 use Rattle.clap.specs.Words.{Row, Text, all_of, first_of, subcommand_of}
@@ -16,11 +16,12 @@ use Rattle.comparison_answers.specs.declared.pairs.CompareOrder.{CompareOrder}
 use Rattle.command_words.specs.declared.comparing.Comparing.{Comparing}
 use Rattle.command_words.specs.declared.deciding.Deciding.{Deciding}
 use Rattle.command_words.specs.declared.exploring.Exploring.{Exploring}
+use Rattle.command_words.specs.declared.judging.Judging.{Judging}
 use Rattle.command_words.specs.declared.ranges.NumberRange.{NumberRange}
 use Rattle.command_words.specs.declared.replay.Replay.{Replay as ReplayFields}
 use Rattle.command_words.specs.declared.requests.Request.{Request}
 use Rattle.command_words.specs.declared.requests.Request.TheVariants.{Check, Show, Replay, Explore, Run, Sample}
-use Rattle.command_words.specs.declared.requests.Request.TheVariants.{Compare, Decide, Seek, Test, Terms}
+use Rattle.command_words.specs.declared.requests.Request.TheVariants.{Compare, Decide, Judge, Seek, Test, Terms}
 use Rattle.command_words.specs.declared.running.Running.{Running}
 use Rattle.command_words.specs.declared.sampling.Sampling.{Sampling}
 use Rattle.command_words.specs.declared.seeking.Seeking.{Seeking}
@@ -70,6 +71,30 @@ pub record SaysExplore (options : List Row) (order : ExploreOrder) : Type 0 wher
   pub bounds : SaysBounds options order.bounds.worlds order.bounds.entries order.bounds.memory
   pub wants : AreWants (texts_said (codes "want") options) order.wants.items
 
+-- no claim stands in the words
+abbrev pub HasNoClaims : List Row → Type 0
+HasNoClaims options = (texts_said (codes "always") options ≡ []) × (texts_said (codes "never") options ≡ []) ×
+    (texts_said (codes "reach") options ≡ [])
+
+abbrev pub HasClaims : List Row → Type 0
+HasClaims options = HasNoClaims options → ⊥
+
+-- no option is given that claims don't go with
+abbrev pub AreAlone : List Row → Type 0
+AreAlone options = IsLeftOut (codes "first") options × IsLeftOut (codes "ends") options ×
+    IsLeftOut (codes "progress") options × IsLeftOut (codes "explain") options ×
+    (first_of (codes "seconds") options ≡ None)
+
+-- the verdicts on claims that the options of `explore` ask for
+pub record SaysJudging (options : List Row) (judging : Judging) : Type 0 where
+  pub some : HasClaims options
+  pub alone : AreAlone options
+  pub form : SaysExploreForm options judging.form
+  pub order : SaysExplore options judging.order
+  pub always : map (λ s. s.now) judging.always.items ≡ texts_said (codes "always") options
+  pub never : map (λ s. s.now) judging.never.items ≡ texts_said (codes "never") options
+  pub reach : map (λ s. s.now) judging.reach.items ≡ texts_said (codes "reach") options
+
 -- what the options of `sample` say that schedules are drawn by, and how many, under which limits, and what is wanted
 pub record SaysSample (options : List Row) (order : SampleOrder) : Type 0 where
   pub seed : SaysNumber seed_range (first_of (codes "seed") options) order.seed
@@ -89,12 +114,14 @@ pub record SaysReplay (options : List Row) (replay : ReplayFields) : Type 0 wher
 pub record SaysExploring (options : List Row) (exploring : Exploring) : Type 0 where
   pub order : SaysExplore options exploring.order
   pub form : SaysExploreForm options exploring.form
+  pub claims : HasNoClaims options
   pub seconds_are : SaysSeconds (first_of (codes "seconds") options) exploring.seconds
   pub beside : SaysBeside options exploring.beside
 
 -- the search for the first finding that the options of `explore` say
 pub record SaysSeeking (options : List Row) (seeking : Seeking) : Type 0 where
   pub first : IsGiven (codes "first") options
+  pub claims : HasNoClaims options
   pub alone : IsLeftOut (codes "timeline") options
   pub order : SaysExplore options seeking.order
   pub json : SaysFlag (codes "json") options seeking.json
@@ -104,6 +131,7 @@ pub record SaysSeeking (options : List Row) (seeking : Seeking) : Type 0 where
 -- the decision on fair schedules that the options of `explore` say
 pub record SaysDeciding (options : List Row) (deciding : Deciding) : Type 0 where
   pub ends : IsGiven (codes "ends") options
+  pub claims : HasNoClaims options
   pub alone : IsLeftOut (codes "first") options × IsLeftOut (codes "timeline") options
   pub order : SaysExplore options deciding.order
   pub json : SaysFlag (codes "json") options deciding.json
@@ -168,6 +196,7 @@ Says said (Explore exploring) =
 Says said (Seek seeking) =
     (said.0 ≡ codes "explore") × IsLeftOut (codes "ends") said.1 × SaysSeeking said.1 seeking
 Says said (Decide deciding) = (said.0 ≡ codes "explore") × SaysDeciding said.1 deciding
+Says said (Judge judging) = (said.0 ≡ codes "explore") × SaysJudging said.1 judging
 Says said (Run running) = (said.0 ≡ codes "run") × SaysRunning said.1 running
 Says said (Sample sampling) = (said.0 ≡ codes "sample") × SaysSampling said.1 sampling
 Says said (Compare comparing) = (said.0 ≡ codes "compare") × SaysComparing said.1 comparing
@@ -181,7 +210,7 @@ GivesRequest None None = Unit {0}
 GivesRequest (Some said) (Some request) = Says said request
 GivesRequest (Some said) None = (request : Request) → Says said request → ⊥
 
--- the schedule of the request comes in the input
+-- the schedule of the request comes in the input, or its words name what the program's text in the input has to have
 abbrev pub TakesSchedule : Request → Type 0
 TakesSchedule (Check checking) = ⊥
 TakesSchedule (Show showing) = ⊥
@@ -189,6 +218,7 @@ TakesSchedule (Replay replay) = replay.schedule.now ≡ codes "-"
 TakesSchedule (Explore exploring) = ⊥
 TakesSchedule (Seek seeking) = ⊥
 TakesSchedule (Decide deciding) = ⊥
+TakesSchedule (Judge judging) = ⊤
 TakesSchedule (Run running) = ⊥
 TakesSchedule (Sample sampling) = ⊥
 TakesSchedule (Compare comparing) = ⊥

@@ -126,6 +126,13 @@ want_option = record (new_rule (codes "want")) {
   action = Some Append;
 }
 
+abbrev pub claim_option : Text → Rule
+claim_option id = record (new_rule id) {
+  long = Some id;
+  value_names = 1;
+  action = Some Append;
+}
+
 -- with the options for the limits of a run
 abbrev pub with_limits : App → App
 with_limits app =
@@ -175,8 +182,14 @@ abbrev pub explore_options : App
 explore_options =
     with_rule (with_rule explore_bounds (number_option (codes "seconds") seconds_range)) want_option
 
+-- with the options that take claims
+abbrev pub with_claims : App → App
+with_claims app =
+    with_rule (with_rule (with_rule app (claim_option (codes "always"))) (claim_option (codes "never")))
+    (claim_option (codes "reach"))
+
 abbrev pub explore_command : App
-explore_command = with_rule (with_explore_forms explore_options) (flag (codes "explain"))
+explore_command = with_rule (with_explore_forms (with_claims explore_options)) (flag (codes "explain"))
 
 -- with the flags that ask for another form of a run than a report
 abbrev pub with_run_forms : App → App

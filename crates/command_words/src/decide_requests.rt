@@ -4,7 +4,7 @@ ghost use Rattle.std.specs.Prelude.{codes, IfNone, IfOk, IfSome};
 ghost use Rattle.clap.specs.Words.{found_of, rows_of};
 ghost use Rattle.command_words.specs.declared.deciding.Deciding.{Deciding};
 ghost use Rattle.command_words.specs.Flags.{IsGiven};
-ghost use Rattle.command_words.specs.Requests.{SaysDeciding};
+ghost use Rattle.command_words.specs.Requests.{HasNoClaims, SaysDeciding};
 
 use crate::deciding::Deciding;
 use crate::flags::{beside, given};
@@ -17,7 +17,8 @@ pub(crate) fn deciding_of(
     alloc: Global,
     explore: &ArgMatches<'_>,
 ) -> Result<Option<Deciding>, AllocError>
-    requires { IsGiven (codes "ends") (rows_of (found_of explore.now)) }
+    requires ends { IsGiven (codes "ends") (rows_of (found_of explore.now)) }
+    requires claims { HasNoClaims (rows_of (found_of explore.now)) }
     ensures said { IfOk result (λ found. IfSome found (SaysDeciding (rows_of (found_of explore.now)))) }
     ensures none { IfOk result (λ found. IfNone found ((said : Deciding) →
         SaysDeciding (rows_of (found_of explore.now)) said → ⊥)) }

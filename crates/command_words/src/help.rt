@@ -120,6 +120,9 @@ Example of every outcome of a race, with timelines:
 Example of a long search, which prints its progress, and ends within ten minutes:
   fiber_cli explore --memory 8G --seconds 600 --progress < FILE
 
+Example of a claim that no schedule may break:
+  echo '(ref r 0 (start f (modify r 1) (modify r 1)))' | fiber_cli explore --never '(= r 2)'
+
 Example of a search that stops at the first unwanted outcome:
   fiber_cli explore --first --want \"succeeded 0\" < FILE
 
@@ -130,10 +133,10 @@ Example that finds a lock for which a fiber waits for ever:
 
 Exit status:
    0  every schedule was explored, and nothing unwanted was found
-   1  something unwanted was found: a fault, with --want another outcome, or
-      with --ends a fair schedule that goes on for ever
+   1  something unwanted was found: a fault, with --want another outcome, a claim
+      that is refuted, or with --ends a fair schedule that goes on for ever
    3  a bound was reached, and nothing unwanted was found
-  64  the words are wrong
+  64  the words are wrong, or a claim
   65  the text is refused
   70  a device failed, or memory ran out",
 };
@@ -322,6 +325,12 @@ wanted. Before the search 3000 schedules are drawn at random";
 
 pub const ENDS: &str = "Print behind the answer whether every fair schedule ends, in which each
 fiber that can go on does so again and again, or else a cycle that goes on";
+
+pub const ALWAYS: &str = "A claim that is to hold at every moment, as '(<= inside 1)'; repeatable";
+
+pub const NEVER: &str = "A claim that is to hold at no moment, as '(= inside 2)'; repeatable";
+
+pub const REACH: &str = "A claim that is to hold at some moment; repeatable";
 
 pub const SVG: &str = "Print a picture of the run in place of the report, as SVG";
 

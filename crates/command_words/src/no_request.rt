@@ -1,6 +1,7 @@
 //! Why words that `clap` takes give no request.
 
 use crate::flags::{given, text_of};
+use crate::judge_requests::has_claims;
 use crate::memory::bytes_of;
 use crate::test_requests::coloring;
 use clap::ArgMatches;
@@ -98,6 +99,9 @@ pub fn no_request_reason(alloc: Global, matches: &ArgMatches<'_>) -> Result<Stri
     if let Some(conflict) = first_conflict(subcommand, options) {
         return conflict_reason(alloc, conflict);
     }
+    if let Some(reason) = claims_conflict(alloc, subcommand, options)? {
+        return Ok(reason);
+    }
     if subcommand == "run" && given(options, "timeline") {
         return String::from_str(alloc, "the argument '--timeline' needs '--record'");
     }
@@ -131,6 +135,37 @@ fn first_conflict(subcommand: &str, options: &ArgMatches<'_>) -> Option<Conflict
         }
     }
     None
+}
+
+// Why claims cannot be used with other options that are given, if they cannot.
+fn claims_conflict(
+    alloc: Global,
+    subcommand: &str,
+    options: &ArgMatches<'_>,
+) -> Result<Option<String>, AllocError> {
+    if subcommand != "explore" || !has_claims(options) {
+        return Ok(None);
+    }
+    for other in ["first", "ends", "progress", "explain"] {
+        if given(options, other) {
+            return Ok(Some(claims_reason(alloc, other)?));
+        }
+    }
+    if text_of(options, "seconds").is_some() {
+        return Ok(Some(claims_reason(alloc, "seconds")?));
+    }
+    Ok(None)
+}
+
+// That claims cannot be used with an option.
+fn claims_reason(alloc: Global, other: &str) -> Result<String, AllocError> {
+    let mut text = String::from_str(
+        alloc,
+        "the arguments '--always', '--never' and '--reach' cannot be used with '--",
+    )?;
+    text.push_str(other)?;
+    text.push_str("'")?;
+    Ok(text)
 }
 
 // That two flags cannot be used together.
@@ -175,8 +210,8 @@ fn memory_reason(alloc: Global, options: &ArgMatches<'_>) -> Result<String, Allo
     }
 }
 
-// That the value of an option is wrong, and what was expected.
-fn value_reason(
+/// That the value of an option is wrong, and what was expected.
+pub fn value_reason(
     alloc: Global,
     value: &str,
     option: &str,

@@ -16,6 +16,7 @@ ghost use Rattle.steal_pool.specs.declared.options.Options.{Options};
 ghost use Rattle.steal_pool.specs.Runs.{limits_of};
 ghost use Rattle.command_words.specs.Memory.{SaysMemory};
 ghost use Rattle.command_words.specs.Numbers.{IsNumberOf, SaysNumber, SaysSeconds};
+ghost use Rattle.command_words.specs.Requests.{HasNoClaims};
 ghost use Rattle.command_words.specs.Requests.{AreWants, GivesRequest, Says, SaysBounds, SaysExplore};
 ghost use Rattle.command_words.specs.Requests.{SaysExploring, SaysLimits, SaysReplay, SaysRun};
 ghost use Rattle.command_words.specs.Requests.{SaysRunning, SaysSample, SaysSampling, texts_said};
@@ -27,6 +28,8 @@ use crate::decide_requests::deciding_of;
 use crate::deciding::Deciding;
 use crate::exploring::Exploring;
 use crate::flags::{beside, explore_form, given, replay_form, run_form, text_of};
+use crate::judge_requests::{has_claims, judging_of};
+use crate::judging::Judging;
 use crate::memory::bytes_of;
 use crate::ranges::{
     BAND, BUDGET, COUNT, ENTRIES, FEW, MEMORY, MOVES, NumberRange, SECONDS, SEED, TIMES, WORKERS,
@@ -60,6 +63,8 @@ pub enum Request<'a> {
     Seek(Seeking),
     /// To explore every schedule of the text's program, and to decide whether every fair one ends.
     Decide(Deciding),
+    /// To explore every schedule of the text's program, and to judge claims of each moment.
+    Judge(Judging<'a>),
     /// To run the text's program on workers, and tell what each fiber came to.
     Run(Running),
     /// To tell what schedules of the text's program come to that are drawn at random.
@@ -269,6 +274,7 @@ pub(crate) fn explore_order(
 
 // The exploration that the options of `explore` say.
 fn exploring_of(alloc: Global, explore: &ArgMatches<'_>) -> Result<Option<Exploring>, AllocError>
+    requires { HasNoClaims (rows_of (found_of explore.now)) }
     ensures said { IfOk result (λ found. IfSome found (SaysExploring (rows_of (found_of explore.now)))) }
     ensures none { IfOk result (λ found. IfNone found ((said : Exploring) →
         SaysExploring (rows_of (found_of explore.now)) said → ⊥)) }
@@ -382,6 +388,12 @@ fn explore_request<'a>(
 ) -> Result<Option<Request<'a>>, AllocError>
     ensures { IfOk result (GivesRequest (Some (codes "explore", rows_of (found_of options.now)))) }
 {
+    if has_claims(options) {
+        return match judging_of(alloc, options)? {
+            Some(judging) => Ok(Some(Request::Judge(judging))),
+            None => Ok(None),
+        };
+    }
     if given(options, "ends") {
         return match deciding_of(alloc, options)? {
             Some(deciding) => Ok(Some(Request::Decide(deciding))),

@@ -4,7 +4,7 @@ ghost use Rattle.std.specs.Prelude.{codes, IfNone, IfOk, IfSome};
 ghost use Rattle.clap.specs.Words.{found_of, rows_of};
 ghost use Rattle.command_words.specs.declared.seeking.Seeking.{Seeking};
 ghost use Rattle.command_words.specs.Flags.{IsGiven};
-ghost use Rattle.command_words.specs.Requests.{SaysSeeking};
+ghost use Rattle.command_words.specs.Requests.{HasNoClaims, SaysSeeking};
 
 use crate::flags::{beside, given};
 use crate::requests::{explore_order, seconds_of};
@@ -17,7 +17,8 @@ pub(crate) fn seeking_of(
     alloc: Global,
     explore: &ArgMatches<'_>,
 ) -> Result<Option<Seeking>, AllocError>
-    requires { IsGiven (codes "first") (rows_of (found_of explore.now)) }
+    requires first { IsGiven (codes "first") (rows_of (found_of explore.now)) }
+    requires claims { HasNoClaims (rows_of (found_of explore.now)) }
     ensures said { IfOk result (λ found. IfSome found (SaysSeeking (rows_of (found_of explore.now)))) }
     ensures none { IfOk result (λ found. IfNone found ((said : Seeking) →
         SaysSeeking (rows_of (found_of explore.now)) said → ⊥)) }

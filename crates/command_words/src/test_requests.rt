@@ -51,12 +51,16 @@ fn copied<'a>(alloc: Global, texts: &[&'a str]) -> Result<Vec<&'a str>, AllocErr
     Ok(copy)
 }
 
-// The files that the options of `test` say.
-fn files_said<'a>(alloc: Global, test: &ArgMatches<'a>) -> Result<Vec<&'a str>, AllocError>
-    ensures { IfOk result (λ files. map (λ s. s.now) files.items ≡
-        texts_said (codes "files") (rows_of (found_of test.now))) }
+/// The texts of an option, none where it isn't given.
+pub(crate) fn texts_of<'a>(
+    alloc: Global,
+    options: &ArgMatches<'a>,
+    name: &str,
+) -> Result<Vec<&'a str>, AllocError>
+    ensures { IfOk result (λ texts. map (λ s. s.now) texts.items ≡
+        texts_said name.now (rows_of (found_of options.now))) }
 {
-    match test.get_strs("files") {
+    match options.get_strs(name) {
         Some(texts) => copied(alloc, texts),
         None => Ok(Vec::new(alloc)),
     }
@@ -115,7 +119,7 @@ pub(crate) fn testing_of<'a>(
     let Some(color) = coloring_of(test) else {
         return Ok(None);
     };
-    let files = files_said(alloc, test)?;
+    let files = texts_of(alloc, test, "files")?;
     let filter = text_of(test, "filter");
     let junit = text_of(test, "junit");
     let html = text_of(test, "html");

@@ -3,6 +3,7 @@
 ghost use Rattle.std.specs.Prelude.{◌≡◌, ◌<◌, ◌^◌, codes, false, IfOk};
 ghost use Rattle.clap.specs.Words.{app_of, new_app, rule_of, with_rule};
 ghost use Rattle.clap.specs.declared.builder.command.Command.TheViews.{out-Command};
+ghost use Rattle.command_words.specs.Words.{claim_option, with_claims};
 ghost use Rattle.command_words.specs.Words.{check_command, explore_command, explore_options, flag, number_option};
 ghost use Rattle.command_words.specs.Words.{bare_program, program, sample_options};
 ghost use Rattle.command_words.specs.Words.{replay_command, run_command, run_options, sample_bounds, sample_command};
@@ -154,6 +155,30 @@ fn want_option<'a>(alloc: Global) -> Arg<'a>
         .action(ArgAction::Append)
 }
 
+// An option that takes a claim, as often as there are such.
+fn claim_option<'a>(alloc: Global, name: &'a str, help: &'a str) -> Arg<'a>
+    ensures rule { rule_of result ≡ claim_option name.entry.now }
+    ensures local { result.global ≡ false }
+{
+    Arg::new(alloc, name)
+        .long(name)
+        .value_name("CLAIM")
+        .help(help)
+        .action(ArgAction::Append)
+}
+
+// Adds the options that take claims.
+fn with_claims<'a>(alloc: Global, command: Command<'a>) -> Result<Command<'a>, AllocError>
+    ensures shape { IfOk result (λ c. app_of c ≡ with_claims (app_of command.entry)) }
+    ensures local { IfOk result (λ c. (out-Command c).has_globals ≡ (out-Command command.entry).has_globals) }
+{
+    let always = claim_option(alloc, "always", help::ALWAYS);
+    let command = command.arg(always)?;
+    let never = claim_option(alloc, "never", help::NEVER);
+    let command = command.arg(never)?;
+    command.arg(claim_option(alloc, "reach", help::REACH))
+}
+
 /// Adds the options for the limits of a run.
 pub(crate) fn with_limits<'a>(
     alloc: Global,
@@ -225,7 +250,7 @@ fn explore_command<'a>(alloc: Global) -> Result<Command<'a>, AllocError>
     ensures shape { IfOk result (λ c. app_of c ≡ explore_command) }
     ensures local { IfOk result (λ c. (out-Command c).has_globals ≡ false) }
 {
-    let command = explore_options(alloc)?;
+    let command = with_claims(alloc, explore_options(alloc)?)?;
     with_reasons(alloc, with_explore_forms(alloc, command)?)
 }
 

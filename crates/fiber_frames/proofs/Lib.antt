@@ -37,3 +37,14 @@ pub mod UnusedMoves
 pub mod NamedUses
 pub mod WordHits
 pub mod PathHits
+pub mod Renumbering
+pub mod Spines
+pub mod RenumberedMoves
+pub mod MoveSpines
+pub mod Composing
+pub mod Placing
+pub mod Freshness
+pub mod Unmarking
+pub mod Shaping
+pub mod PlaceFinding
+pub mod MaskGathering

@@ -17,3 +17,5 @@ pub mod Leading
 pub mod Naming
 pub mod Uses
 pub mod Hits
+pub mod Unmarked
+pub mod Shapes

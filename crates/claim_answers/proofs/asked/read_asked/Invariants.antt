@@ -1,0 +1,8 @@
+use Rattle.std.proofs.Common.{◌≡◌, ◌++◌, map, take}
+use Rattle.claim_answers.specs.Claims.{asked_texts, question_of}
+use Rattle.claim_answers.proofs.asked.read_asked.Given as goal
+
+-- the claims so far
+abbrev pub invariant-loop-text : goal.invariant-loop-text
+invariant-loop-text l =
+    map question_of l.asked.items ≡ map question_of l.fn.asked.items ++ asked_texts l.rule (take l.text-index (map (λ s. s.now) l.texts))

@@ -1,0 +1,69 @@
+-- What is answered to a text about claims.
+use Rattle.std.specs.Prelude.{◌≡◌, ◌⊎◌, ℕ, false, List, [], ◌++◌}
+use Rattle.derived_ops.specs.Expansion.{code_of}
+use Rattle.derived_ops.specs.Reading.{source_of}
+use Rattle.effect_term.specs.declared.term.Term.{Term}
+use Rattle.text_io.specs.declared.status.Status.{Status}
+use Rattle.text_io.specs.declared.status.Status.TheVariants as ends
+use Rattle.outcome_trace.specs.Answers.{IsRefusalAnswer}
+use Rattle.every_schedule.specs.declared.claims.ClaimWord.{ClaimWord}
+use Rattle.exploration_text.specs.declared.explore_texts.ExploreOrder.{ExploreOrder}
+use Rattle.exploration_text.specs.ExploreAnswers.{IsNotedExplored}
+use Rattle.exploration_text.specs.Noting.{IsNotedAnswer}
+use Rattle.json_answers.specs.Answers.{IsJsonRefusal}
+use Rattle.json_answers.specs.FoundAnswers.{IsNotedJsonExplored}
+use Rattle.timelines.specs.ExploreTimelines.{IsNotedTold}
+use Rattle.claim_words.specs.Spacing.{spaced_text}
+use Rattle.claim_answers.specs.declared.asked.Asked.{Asked}
+use Rattle.claim_answers.specs.declared.judging.Verdict.{Verdict}
+use Rattle.claim_answers.specs.declared.lines.ClaimForm.{ClaimForm}
+use Rattle.claim_answers.specs.declared.lines.ClaimForm.TheVariants as forms
+use Rattle.claim_answers.specs.Claims.{IsDecided, IsSought, Pairwise}
+use Rattle.claim_answers.specs.Verdicts.{AreLines, claims_status, gap, worse}
+
+-- what `explore` answers to a program without claims, with this note
+abbrev pub explored_as : ClaimForm → ExploreOrder → (note : List ℕ) → Term → List ℕ → Status → Type 0
+explored_as forms.Report o note t = IsNotedExplored t o.limits o.bounds false o.wants.items note
+explored_as forms.Timeline o note t = IsNotedTold t o.limits o.bounds false o.wants.items note
+explored_as forms.Json o note t = IsNotedJsonExplored t o.limits o.bounds false o.wants.items note
+
+-- how a text that is refused is answered
+abbrev pub refuses_as : ClaimForm → List ℕ → List ℕ → Status → Type 0
+refuses_as forms.Report = IsRefusalAnswer
+refuses_as forms.Timeline = IsRefusalAnswer
+refuses_as forms.Json = IsJsonRefusal
+
+-- Each claim has words that decide it, and a verdict that is right of the program. The text has a line for each, in
+-- their order.
+pub record AreJudged (form : ClaimForm) (o : ExploreOrder) (asked : List Asked) (text : List ℕ) (t : Term)
+    (verdicts : List Verdict) (lines : List ℕ) : Type 0
+  where
+    pub soughts : List (List ClaimWord)
+    pub sought : Pairwise (IsSought (spaced_text text)) asked soughts
+    pub decided : Pairwise (IsDecided (code_of (source_of t)) o.limits) soughts verdicts
+    pub lines_are : AreLines form asked verdicts lines
+
+-- the verdicts of the claims, and behind them what `explore` answers without claims, with its note; the status is that
+-- of what is unwanted in either, else that of what is undecided
+pub record IsJudgedAnswer (form : ClaimForm) (o : ExploreOrder) (asked : List Asked) (text note : List ℕ) (t : Term)
+    (answer : List ℕ) (status : Status) : Type 0
+  where
+    pub verdicts : List Verdict
+    pub lines : List ℕ
+    pub judged : AreJudged form o asked text t verdicts lines
+    pub rest : List ℕ
+    pub rest_status : Status
+    pub explored : explored_as form o note t rest rest_status
+    pub answer_is : answer ≡ lines ++ (gap form ++ rest)
+    pub status_is : status ≡ worse (claims_status asked verdicts) rest_status
+
+-- a claim names a ref whose number isn't known: nothing is answered, and the note says so
+abbrev pub IsUnnamedAnswer : (answer : List ℕ) → Status → Type 0
+IsUnnamedAnswer answer status = (answer ≡ []) × (status ≡ ends.Usage)
+
+-- what is answered to a text with its status and this note: the refusal of the text, the verdicts on its program, or
+-- that a claim names a ref whose number isn't known
+abbrev pub IsClaimsAnswer : ClaimForm → ExploreOrder → List Asked → (note : List ℕ) → List ℕ → List ℕ → Status → Type 0
+IsClaimsAnswer form o asked note text answer status = IsNotedAnswer (refuses_as form)
+    (λ note t answer status. IsJudgedAnswer form o asked text note t answer status ⊎ IsUnnamedAnswer answer status)
+    note text answer status

@@ -1,0 +1,4 @@
+pub mod Claims
+pub mod Verdicts
+pub mod ClaimsAnswers
+pub mod Private

@@ -1,0 +1,219 @@
+//! The claim that a text spells.
+
+ghost use Rattle.std.specs.Prelude.{◌≡◌, IfOk};
+ghost use Rattle.claim_words.specs.Spacing.{spaced_text};
+
+use crate::heads::is_same;
+use crate::scanning::{Scanner, Subject, comparison_of, subject_of, value_of};
+use crate::spacing::spaced_text;
+use crate::spelled::{
+    Operands, Spelled, compared_name, compared_number, first_operand, joined, more_operands,
+    negated,
+};
+use crate::words::Joint;
+use every_schedule::Comparison;
+use std::alloc::{AllocError, Global};
+
+/// Why a text spells no claim.
+#[derive(Clone, Copy, PartialEq, Eq, Debug)]
+pub enum ClaimFault {
+    /// What was expected, and how many bytes of the text are before the place.
+    Expected(&'static str, usize),
+    /// Memory ran out.
+    NoMemory,
+}
+
+impl From<AllocError> for ClaimFault {
+    fn from(_error: AllocError) -> Self {
+        ClaimFault::NoMemory
+    }
+}
+
+// A form that isn't closed yet.
+#[derive(Drop)]
+enum Open<'a> {
+    // A negation.
+    Not,
+    // A joint without operands.
+    Joint(Joint),
+    // A joint with operands.
+    Row(Operands<'a>),
+}
+
+// What a form or a part of one leads to.
+#[derive(Drop)]
+enum Step<'a> {
+    // A claim that is closed.
+    Closed(Spelled<'a>),
+    // More is wanted.
+    More,
+}
+
+const A_CLAIM: &str = "a claim in brackets";
+
+const A_WORD: &str = "=, !=, <, <=, >, >=, and, or, or not";
+
+const A_REF: &str = "the name or the number of a ref";
+
+const A_NUMBER: &str = "a number";
+
+const A_CLOSING: &str = "a closing bracket";
+
+const THE_END: &str = "the end of the claim";
+
+const PLAIN: &str = "numbers without zeros or a plus sign in front";
+
+/// The claim that a text spells: `(= REF V)`, with `!=`, `<`, `<=`, `>` or `>=` as well; or `(and CLAIM ..)`, `(or
+/// CLAIM ..)` or `(not CLAIM)`. REF is a name or a number up to 999, V a value. The spaces around brackets, and how
+/// many there are between words, mean nothing. Claims can nest to any depth.
+pub fn read_claim<'a>(alloc: Global, text: &'a [u8]) -> Result<Spelled<'a>, ClaimFault>
+    ensures { IfOk result (λ claim. claim.text.items ≡ spaced_text text.now) }
+{
+    let mut scanner = Scanner::new(text);
+    let claim = whole_claim(alloc, text.len(), &mut scanner)?;
+    if !scanner.is_at_end() {
+        return Err(ClaimFault::Expected(THE_END, scanner.place()));
+    }
+    let spaced = spaced_text(alloc, text)?;
+    if !is_same(claim.text.as_slice(), spaced.as_slice()) {
+        return Err(ClaimFault::Expected(PLAIN, 0));
+    }
+    Ok(claim)
+}
+
+// The claim that begins here. Each round takes a bracket at least.
+fn whole_claim<'a>(
+    alloc: Global,
+    rounds: usize,
+    scanner: &mut Scanner<'a>,
+) -> Result<Spelled<'a>, ClaimFault> {
+    let mut open = Vec::new(alloc);
+    for _ in 0..rounds {
+        if let Step::Closed(claim) = form(alloc, rounds, scanner, &mut open)? {
+            return Ok(claim);
+        }
+    }
+    Err(ClaimFault::Expected(A_CLAIM, scanner.place()))
+}
+
+// Reads the front of a form, or a whole comparison.
+fn form<'a>(
+    alloc: Global,
+    rounds: usize,
+    scanner: &mut Scanner<'a>,
+    open: &mut Vec<Open<'a>>,
+) -> Result<Step<'a>, ClaimFault> {
+    if !scanner.takes(b'(') {
+        return Err(ClaimFault::Expected(A_CLAIM, scanner.place()));
+    }
+    let place = scanner.place();
+    let word = scanner.word();
+    match word {
+        b"not" => begin(open, Open::Not),
+        b"and" => begin(open, Open::Joint(Joint::And)),
+        b"or" => begin(open, Open::Joint(Joint::Or)),
+        _ => match comparison_of(word) {
+            Some(how) => {
+                let part = comparison(alloc, scanner, how)?;
+                close(alloc, rounds, scanner, open, part)
+            }
+            None => Err(ClaimFault::Expected(A_WORD, place)),
+        },
+    }
+}
+
+// Opens a form.
+fn begin<'a>(open: &mut Vec<Open<'a>>, form: Open<'a>) -> Result<Step<'a>, ClaimFault> {
+    match open.push(form) {
+        Ok(()) => Ok(Step::More),
+        Err(_) => Err(ClaimFault::NoMemory),
+    }
+}
+
+// The rest of a comparison.
+fn comparison<'a>(
+    alloc: Global,
+    scanner: &mut Scanner<'a>,
+    how: Comparison,
+) -> Result<Spelled<'a>, ClaimFault> {
+    let place = scanner.place();
+    let Some(subject) = subject_of(scanner.word()) else {
+        return Err(ClaimFault::Expected(A_REF, place));
+    };
+    let place = scanner.place();
+    let Some(value) = value_of(scanner.word()) else {
+        return Err(ClaimFault::Expected(A_NUMBER, place));
+    };
+    take_closing(scanner)?;
+    match subject {
+        Subject::Numbered(number) => Ok(compared_number(alloc, number, how, value)?),
+        Subject::Named(name) => Ok(compared_name(alloc, name, how, value)?),
+    }
+}
+
+// Takes a closing bracket.
+fn take_closing(scanner: &mut Scanner<'_>) -> Result<(), ClaimFault> {
+    if scanner.takes(b')') {
+        Ok(())
+    } else {
+        Err(ClaimFault::Expected(A_CLOSING, scanner.place()))
+    }
+}
+
+// Puts a claim into the forms that are open, and closes those that end behind it.
+fn close<'a>(
+    alloc: Global,
+    rounds: usize,
+    scanner: &mut Scanner<'a>,
+    open: &mut Vec<Open<'a>>,
+    part: Spelled<'a>,
+) -> Result<Step<'a>, ClaimFault> {
+    let mut part = part;
+    for _ in 0..rounds {
+        let Some(form) = open.pop() else {
+            return Ok(Step::Closed(part));
+        };
+        match with_part(alloc, scanner, open, form, part)? {
+            Step::Closed(closed) => part = closed,
+            Step::More => return Ok(Step::More),
+        }
+    }
+    Err(ClaimFault::Expected(A_CLAIM, scanner.place()))
+}
+
+// Puts a claim into a form, and closes it if it ends there.
+fn with_part<'a>(
+    alloc: Global,
+    scanner: &mut Scanner<'a>,
+    open: &mut Vec<Open<'a>>,
+    form: Open<'a>,
+    part: Spelled<'a>,
+) -> Result<Step<'a>, ClaimFault> {
+    match form {
+        Open::Not => {
+            take_closing(scanner)?;
+            Ok(Step::Closed(negated(alloc, part)?))
+        }
+        Open::Joint(joint) => {
+            let parts = first_operand(alloc, joint, part)?;
+            with_parts(alloc, scanner, open, parts)
+        }
+        Open::Row(before) => {
+            let parts = more_operands(alloc, before, part)?;
+            with_parts(alloc, scanner, open, parts)
+        }
+    }
+}
+
+// Closes a joint, if it ends here.
+fn with_parts<'a>(
+    alloc: Global,
+    scanner: &mut Scanner<'a>,
+    open: &mut Vec<Open<'a>>,
+    parts: Operands<'a>,
+) -> Result<Step<'a>, ClaimFault> {
+    if scanner.takes(b')') {
+        return Ok(Step::Closed(joined(alloc, parts)?));
+    }
+    begin(open, Open::Row(parts))
+}

@@ -1,0 +1,331 @@
+-- A schedule leads on from a world of the core as from the same world without marks, counts and notes.
+use Rattle.std.proofs.Common.{◌≡◌, ◌⊎◌, inl, inr, ◌<◌, ◌≤◌, ℕ, zero, suc, ◌+◌, List, [], ◌∷◌, ◌++◌, length, set, Option, Some, None, Result, Ok, Err, refl, sym, ap, ◌∙◌, subst, arith, get_or, replicate, length-append}
+use Rattle.std.specs.List.{fold, slice_get}
+use Rattle.std.proofs.lemmas.Option.{same_Some, slice_get_within}
+use Rattle.derived_ops.specs.Tree.{Tree}
+use Rattle.effect_term.specs.declared.reply.Reply.{Reply}
+use Rattle.effect_term.specs.declared.reply.Reply.TheVariants as reply
+use Rattle.fiber_frames.specs.Fiber.{Cuts, Fiber, Looks, Move_case, Reduces, Rests, ask_of, begins, child, move, move_case, move_in, silent_move}
+use Rattle.fiber_frames.specs.Reached.{Reached}
+use Rattle.fiber_frames.specs.Reached as steps
+use Rattle.fiber_frames.specs.Rows.{number_in}
+use Rattle.cell_registry.specs.declared.limits.Limits.{Limits}
+use Rattle.cell_registry.specs.declared.limits.CellError.{CellError}
+use Rattle.cell_registry.specs.declared.limits.RunError.{RunError}
+use Rattle.cell_registry.specs.declared.limits.RunError.TheVariants as run
+use Rattle.cell_registry.specs.declared.call.Call.{Call}
+use Rattle.cell_registry.specs.declared.call.Call.TheVariants as call
+use Rattle.cell_registry.specs.Cells.{after, cell_of, fresh, refusal, reply_of}
+use Rattle.scheduled_core.specs.declared.wish.Wish.{Wish}
+use Rattle.scheduled_core.specs.declared.wish.Wish.TheVariants.{Shared, Alone, Nothing}
+use Rattle.scheduled_core.specs.Core.{World, answered, born, called, core, entered, first_world, turned, wish_of, wished}
+use Rattle.scheduled_core.proofs.Lists.{parted}
+use Rattle.world_search.specs.Systems as search
+use Rattle.every_outcome.specs.Outcomes.{counted}
+use Rattle.every_outcome.specs.Places.{Place, first_place, stepped, unmarked_world}
+use Rattle.every_outcome.proofs.Cells.{AtMost, count_after}
+use Rattle.every_outcome.proofs.Stepping.{Same, step_same}
+
+-- each fiber is one that a program's can become, under its own number, and the registry has given as many numbers
+pub record Lawful (w : World) : Type 0 where
+  pub reached : (f : ℕ) (g : Fiber) → slice_get w.fibers f ≡ Some g → Reached g
+  pub own : (f : ℕ) (g : Fiber) → slice_get w.fibers f ≡ Some g → g.number ≡ f
+  pub many : length w.fibers ≡ w.cells.next_fiber
+
+move_number : (g : Fiber) (r : Reply) → (move g r).number ≡ g.number
+move_number g r = go (move_case g)
+  where
+    go : (c : Move_case) → (move_in g r c).number ≡ g.number
+    go Looks = refl
+    go Cuts = refl
+    go Reduces = refl
+    go Rests = refl
+
+-- ---- one fiber changes, and some are born
+set_get : (gs : List Fiber) (f i : ℕ) (x g : Fiber) → slice_get (set gs f x) i ≡ Some g → (slice_get gs i ≡ Some g) ⊎ ((i ≡ f) × (x ≡ g))
+set_get [] f i x g e = inl e
+set_get (y ∷ gs) zero zero x g e = inr (refl, same_Some x g e)
+set_get (y ∷ gs) zero (suc i) x g e = inl e
+set_get (y ∷ gs) (suc f) zero x g e = inl e
+set_get (y ∷ gs) (suc f) (suc i) x g e = elim (set_get gs f i x g e) [ inl h ↦ inl h | inr h ↦ inr (ap suc h.0, h.1) ]
+
+length_set : (gs : List Fiber) (f : ℕ) (x : Fiber) → length (set gs f x) ≡ length gs
+length_set [] f x = refl
+length_set (y ∷ gs) zero x = refl
+length_set (y ∷ gs) (suc f) x = ap suc (length_set gs f x)
+
+one_alone : (x g : Fiber) (j : ℕ) → slice_get (x ∷ []) j ≡ Some g → (j ≡ 0) × (x ≡ g)
+one_alone x g zero e = (refl, same_Some x g e)
+one_alone x g (suc j) e = absurd (cc)
+
+module _ (w : World) (f : ℕ) (g : Fiber) (h : Lawful w) (at : slice_get w.fibers f ≡ Some g) where
+  -- a fiber after its move
+  moved_fiber : (r : Reply) (i : ℕ) (x : Fiber) → slice_get (set w.fibers f (move g r)) i ≡ Some x → Reached x × (x.number ≡ i)
+  moved_fiber r i x e = elim (set_get w.fibers f i (move g r) x e) [
+    | inl old ↦ (h.reached i x old, h.own i x old)
+    | inr new ↦ (
+      subst Reached new.1 (steps.moved r (h.reached f g at)),
+      ap (λ (y : Fiber). y.number) (sym new.1) ∙ move_number g r ∙ h.own f g at ∙ sym new.0,
+    )
+  ]
+
+  -- a child gets the next number
+  child_fiber : (n : ℕ) → n ≡ length w.fibers → Reached (child g n)
+  child_fiber n e =
+      let low = slice_get_within w.fibers f g at in
+      let own = h.own f g at in
+      steps.born n (omega (arith, e, own, low)) (h.reached f g at)
+
+  lawful_alone : Lawful record { fibers = set w.fibers f (silent_move g); cells = w.cells }
+  lawful_alone = record {
+    reached = λ i x e. (moved_fiber reply.Done i x e).0;
+    own = λ i x e. (moved_fiber reply.Done i x e).1;
+    many = length_set w.fibers f (silent_move g) ∙ h.many;
+  }
+
+  born_fiber : (c : Call) (r : Reply) → (c ≡ call.Start → number_in r ≡ length w.fibers) → (i : ℕ) (x : Fiber) →
+      slice_get (set w.fibers f (move g r) ++ born g c r) i ≡ Some x → Reached x × (x.number ≡ i)
+  born_fiber c r gives i x e = elim (parted (set w.fibers f (move g r)) (born g c r) i x e) [
+    | inl old ↦ moved_fiber r i x old
+    | inr new ↦ new_fiber c gives new.0 (new.1 ∙ ap (λ n. n + new.0) (length_set w.fibers f (move g r))) new.2
+  ]
+    where
+      new_fiber : (c : Call) → (c ≡ call.Start → number_in r ≡ length w.fibers) → (j : ℕ) → i ≡ length w.fibers + j → slice_get (born g c r) j ≡ Some x →
+          Reached x × (x.number ≡ i)
+      new_fiber call.Start gives j is e =
+          let one = one_alone (child g (number_in r)) x j e in
+          let n = gives refl in
+          let first = one.0 in (
+            subst Reached one.1 (child_fiber (number_in r) n),
+            ap (λ (y : Fiber). y.number) (sym one.1) ∙ omega (arith, n, is, first),
+          )
+      new_fiber (call.Cancel k) gives j is e = absurd (cc)
+      new_fiber (call.Join k) gives j is e = absurd (cc)
+      new_fiber call.Look gives j is e = absurd (cc)
+      new_fiber call.Mask gives j is e = absurd (cc)
+      new_fiber call.Unmask gives j is e = absurd (cc)
+      new_fiber call.Cut gives j is e = absurd (cc)
+      new_fiber (call.Finish o) gives j is e = absurd (cc)
+      new_fiber call.NewRef gives j is e = absurd (cc)
+      new_fiber call.NewDeferred gives j is e = absurd (cc)
+      new_fiber (call.Get k) gives j is e = absurd (cc)
+      new_fiber (call.Set k v) gives j is e = absurd (cc)
+      new_fiber (call.Modify k v) gives j is e = absurd (cc)
+      new_fiber (call.Complete k v) gives j is e = absurd (cc)
+      new_fiber (call.Read k) gives j is e = absurd (cc)
+
+  none_more : (r : Reply) → length (set w.fibers f (move g r) ++ []) ≡ w.cells.next_fiber
+  none_more r = length-append (set w.fibers f (move g r)) [] ∙ ap (λ n. n + 0) (length_set w.fibers f (move g r)) ∙ omega (arith, h.many)
+
+  -- as many are born as numbers are given
+  many_born : (c : Call) (r : Reply) → length (set w.fibers f (move g r) ++ born g c r) ≡ (after w.cells f c).next_fiber
+  unfolding after
+  many_born call.Start r = length-append (set w.fibers f (move g r)) (child g (number_in r) ∷ []) ∙ ap (λ n. n + 1) (length_set w.fibers f (move g r) ∙ h.many)
+  many_born (call.Cancel k) r = none_more r
+  many_born (call.Join k) r = none_more r
+  many_born call.Look r = none_more r
+  many_born call.Mask r = none_more r
+  many_born call.Unmask r = none_more r
+  many_born call.Cut r = none_more r
+  many_born (call.Finish o) r = none_more r
+  many_born call.NewRef r = none_more r
+  many_born call.NewDeferred r = none_more r
+  many_born (call.Get k) r = none_more r
+  many_born (call.Set k v) r = none_more r
+  many_born (call.Modify k v) r = none_more r
+  many_born (call.Complete k v) r = none_more r
+  many_born (call.Read k) r = none_more r
+
+  start_gives : (c : Call) → c ≡ call.Start → number_in (reply_of w.cells f c) ≡ length w.fibers
+  unfolding reply_of
+  start_gives call.Start e = sym h.many
+  start_gives (call.Cancel k) e = absurd (cc)
+  start_gives (call.Join k) e = absurd (cc)
+  start_gives call.Look e = absurd (cc)
+  start_gives call.Mask e = absurd (cc)
+  start_gives call.Unmask e = absurd (cc)
+  start_gives call.Cut e = absurd (cc)
+  start_gives (call.Finish o) e = absurd (cc)
+  start_gives call.NewRef e = absurd (cc)
+  start_gives call.NewDeferred e = absurd (cc)
+  start_gives (call.Get k) e = absurd (cc)
+  start_gives (call.Set k v) e = absurd (cc)
+  start_gives (call.Modify k v) e = absurd (cc)
+  start_gives (call.Complete k v) e = absurd (cc)
+  start_gives (call.Read k) e = absurd (cc)
+
+  lawful_called : (c : Call) → Lawful (called w f g c (reply_of w.cells f c))
+  lawful_called c = record {
+    reached = λ i x e. (born_fiber c (reply_of w.cells f c) (start_gives c) i x e).0;
+    own = λ i x e. (born_fiber c (reply_of w.cells f c) (start_gives c) i x e).1;
+    many = many_born c (reply_of w.cells f c);
+  }
+
+-- a property of the world that an entry leads to, if it leads to one
+abbrev IfWorld : (World → Type 0) → Result World RunError → Type 0
+IfWorld P (Ok v) = P v
+IfWorld P (Err e) = Unit {0}
+
+module _ (k : Limits) (w : World) (f : ℕ) (h : Lawful w) where
+  lawful_answered : (g : Fiber) → slice_get w.fibers f ≡ Some g → (c : Call) (o : Option CellError) → IfWorld Lawful (answered w f g c o)
+  lawful_answered g at c None = lawful_called w f g h at c
+  lawful_answered g at c (Some e) = tt
+
+  lawful_wished : (g : Fiber) → slice_get w.fibers f ≡ Some g → (x : Wish) → IfWorld Lawful (wished k w f g x)
+  lawful_wished g at (Shared c) = lawful_answered g at c (refusal k w.cells f c)
+  lawful_wished g at Alone = lawful_alone w f g h at
+  lawful_wished g at Nothing = h
+
+  lawful_turned : (o : Option Fiber) → slice_get w.fibers f ≡ o → IfWorld Lawful (turned k w f o)
+  lawful_turned None e = h
+  lawful_turned (Some g) e = lawful_wished g e (wish_of (ask_of g))
+
+  pub lawful_entered : IfWorld Lawful (entered k (Ok w) f)
+  lawful_entered = lawful_turned (slice_get w.fibers f) refl
+
+-- ---- counts
+module _ (k : Limits) (w : World) (f m : ℕ) (h : AtMost m w.cells) where
+  abbrev Counts : World → Type 0
+  Counts v = AtMost (suc m) v.cells
+
+  same_counts : AtMost (suc m) w.cells
+  same_counts i = let a = h i in omega arith
+
+  count_answered : (g : Fiber) (c : Call) (o : Option CellError) → IfWorld Counts (answered w f g c o)
+  count_answered g c None = count_after w.cells f c m h
+  count_answered g c (Some e) = tt
+
+  count_wished : (g : Fiber) (x : Wish) → IfWorld Counts (wished k w f g x)
+  count_wished g (Shared c) = count_answered g c (refusal k w.cells f c)
+  count_wished g Alone = same_counts
+  count_wished g Nothing = same_counts
+
+  count_turned : (o : Option Fiber) → IfWorld Counts (turned k w f o)
+  count_turned None = same_counts
+  count_turned (Some g) = count_wished g (wish_of (ask_of g))
+
+  pub count_entered : IfWorld Counts (entered k (Ok w) f)
+  count_entered = count_turned (slice_get w.fibers f)
+
+-- ---- schedules
+module _ (k : Limits) (n : ℕ) (some : 0 < k.count) where
+  abbrev pub bare_place : World → Place
+  bare_place w = record { limits = k; world = unmarked_world w }
+
+  fault_stays : (e : RunError) (s : List ℕ) → search.run stepped (Err e) s ≡ Err e
+  fault_stays e [] = refl
+  fault_stays e (f ∷ s) = fault_stays e s
+
+  core_stays : (e : RunError) (s : List ℕ) → fold (entered (counted k n)) (Err e) s ≡ Err e
+  core_stays e [] = refl
+  core_stays e (f ∷ s) = core_stays e s
+
+  -- where a schedule of the core has led, without marks, counts and notes; nothing is said where a count is used up
+  abbrev pub Led : Result World RunError → Result Place RunError → Type 0
+  Led (Ok v) y = y ≡ Ok (bare_place v)
+  Led (Err (run.Full b m)) y = y ≡ Err (run.Full b m)
+  Led (Err e) y = Unit {0}
+
+  led_stopped : (e : RunError) (s : List ℕ) (y : Result Place RunError) → Led (Err e) y → Led (fold (entered (counted k n)) (Err e) s) (search.run stepped y s)
+  led_stopped (run.Full b m) s y h =
+      subst (λ x. Led x (search.run stepped y s)) (sym (core_stays (run.Full b m) s)) (ap (λ x. search.run stepped x s) h ∙ fault_stays (run.Full b m) s)
+  led_stopped run.NoMemory s y h = subst (λ x. Led x (search.run stepped y s)) (sym (core_stays run.NoMemory s)) tt
+  led_stopped (run.Spent g) s y h = subst (λ x. Led x (search.run stepped y s)) (sym (core_stays (run.Spent g) s)) tt
+  led_stopped (run.Lost g) s y h = subst (λ x. Led x (search.run stepped y s)) (sym (core_stays (run.Lost g) s)) tt
+  led_stopped run.NoWorker s y h = subst (λ x. Led x (search.run stepped y s)) (sym (core_stays run.NoWorker s)) tt
+
+  same_led : (w : World) (f : ℕ) (x : Result World RunError) (y : Result Place RunError) → Same k n some w f x y → Led x y
+  same_led w f (Ok v) y h = h
+  same_led w f (Err (run.Full b m)) y h = h
+  same_led w f (Err (run.Spent g)) y h = tt
+  same_led w f (Err run.NoMemory) y h = tt
+  same_led w f (Err (run.Lost g)) y h = tt
+  same_led w f (Err run.NoWorker) y h = tt
+
+  led_next : (s : List ℕ) → ((w : World) → Lawful w → Led (fold (entered (counted k n)) (Ok w) s) (search.run stepped (Ok (bare_place w)) s)) →
+      (x : Result World RunError) (y : Result Place RunError) → IfWorld Lawful x → Led x y → Led (fold (entered (counted k n)) x s) (search.run stepped y s)
+  led_next s rest (Ok v) y law h = subst (λ z. Led (fold (entered (counted k n)) (Ok v) s) (search.run stepped z s)) (sym h) (rest v law)
+  led_next s rest (Err e) y law h = led_stopped e s y h
+
+  pub led : (s : List ℕ) (w : World) → Lawful w → Led (fold (entered (counted k n)) (Ok w) s) (search.run stepped (Ok (bare_place w)) s)
+  led [] w h = refl
+  led (f ∷ s) w h =
+      led_next s (led s) (entered (counted k n) (Ok w) f) (stepped (bare_place w) f) (lawful_entered (counted k n) w f h)
+      (same_led w f (entered (counted k n) (Ok w) f) (stepped (bare_place w) f) (step_same k n some w f (λ g e. h.reached f g e)))
+
+  -- ---- where no count is used up
+  abbrev pub Fully : Result World RunError → Result Place RunError → Type 0
+  Fully (Ok v) y = y ≡ Ok (bare_place v)
+  Fully (Err (run.Full b m)) y = y ≡ Err (run.Full b m)
+  Fully (Err e) y = ⊥
+
+  fully_stopped : (e : RunError) (s : List ℕ) (y : Result Place RunError) → Fully (Err e) y → Fully (fold (entered (counted k n)) (Err e) s) (search.run stepped y s)
+  fully_stopped (run.Full b m) s y h =
+      subst (λ x. Fully x (search.run stepped y s)) (sym (core_stays (run.Full b m) s)) (ap (λ x. search.run stepped x s) h ∙ fault_stays (run.Full b m) s)
+  fully_stopped run.NoMemory s y h = absurd h
+  fully_stopped (run.Spent g) s y h = absurd h
+  fully_stopped (run.Lost g) s y h = absurd h
+  fully_stopped run.NoWorker s y h = absurd h
+
+  same_fully : (w : World) (f : ℕ) (x : Result World RunError) (y : Result Place RunError) → (cell_of w.cells f).count < n → Same k n some w f x y → Fully x y
+  same_fully w f (Ok v) y l h = h
+  same_fully w f (Err (run.Full b m)) y l h = h
+  same_fully w f (Err (run.Spent g)) y l h = absurd (omega (arith, l, h))
+  same_fully w f (Err run.NoMemory) y l h = absurd h
+  same_fully w f (Err (run.Lost g)) y l h = absurd h
+  same_fully w f (Err run.NoWorker) y l h = absurd h
+
+  fully_next : (s : List ℕ) (m : ℕ) → ((w : World) → Lawful w → AtMost m w.cells → Fully (fold (entered (counted k n)) (Ok w) s) (search.run stepped (Ok (bare_place w)) s)) →
+      (x : Result World RunError) (y : Result Place RunError) → IfWorld Lawful x → IfWorld (λ v. AtMost m v.cells) x → Fully x y →
+      Fully (fold (entered (counted k n)) x s) (search.run stepped y s)
+  fully_next s m rest (Ok v) y law counts h = subst (λ z. Fully (fold (entered (counted k n)) (Ok v) s) (search.run stepped z s)) (sym h) (rest v law counts)
+  fully_next s m rest (Err e) y law counts h = fully_stopped e s y h
+
+  pub fully : (s : List ℕ) (m : ℕ) → m + length s ≤ n → (w : World) → Lawful w → AtMost m w.cells →
+      Fully (fold (entered (counted k n)) (Ok w) s) (search.run stepped (Ok (bare_place w)) s)
+  fully [] m l w h counts = refl
+  fully (f ∷ s) m l w h counts =
+      let here = counts f in
+      fully_next s (suc m) (λ v law more. fully s (suc m) (omega arith) v law more) (entered (counted k n) (Ok w) f) (stepped (bare_place w) f)
+      (lawful_entered (counted k n) w f h) (count_entered (counted k n) w f m counts)
+      (same_fully w f (entered (counted k n) (Ok w) f) (stepped (bare_place w) f) (omega arith) (step_same k n some w f (λ g e. h.reached f g e)))
+
+-- ---- the first world
+first_lawful : (code : Tree) (k : Limits) → Reached (begins 0 code) → Lawful (first_world code k)
+first_lawful code k h = record {
+  reached = λ f g e. let one = one_alone (begins 0 code) g f e in subst Reached one.1 h;
+  own = λ f g e. let one = one_alone (begins 0 code) g f e in ap (λ (y : Fiber). y.number) (sym one.1) ∙ sym one.0;
+  many = refl;
+}
+
+fresh_counts : (n f : ℕ) → (get_or (replicate n fresh) f fresh).count ≤ 0
+fresh_counts zero f = omega arith
+fresh_counts (suc n) zero = omega arith
+fresh_counts (suc n) (suc f) = fresh_counts n f
+
+module _ (code : Tree) (k : Limits) (some : 0 < k.count) (first : Reached (begins 0 code)) where
+  -- where a schedule leads under another count
+  pub core_led : (n : ℕ) (s : List ℕ) → Led k n some (core code (counted k n) s) (search.run stepped (Ok (first_place code k)) s)
+  unfolding core
+  core_led n s = led k n some s (first_world code (counted k n)) (first_lawful code (counted k n) first)
+
+  pub core_fully : (n : ℕ) (s : List ℕ) → length s ≤ n → Fully k n some (core code (counted k n) s) (search.run stepped (Ok (first_place code k)) s)
+  unfolding core
+  core_fully n s l = fully k n some s 0 (omega arith) (first_world code (counted k n)) (first_lawful code (counted k n) first) (λ f. fresh_counts k.fibers f)
+
+  abbrev Lawfully : Result World RunError → Type 0
+  Lawfully (Ok w) = Lawful w
+  Lawfully (Err e) = Unit {0}
+
+  lawful_run : (n : ℕ) (s : List ℕ) (x : Result World RunError) → Lawfully x → Lawfully (fold (entered (counted k n)) x s)
+  lawful_run n [] x h = h
+  lawful_run n (f ∷ s) (Ok w) h = lawful_run n s (entered (counted k n) (Ok w) f) (go (entered (counted k n) (Ok w) f) (lawful_entered (counted k n) w f h))
+    where
+      go : (x : Result World RunError) → IfWorld Lawful x → Lawfully x
+      go (Ok v) h = h
+      go (Err e) h = tt
+  lawful_run n (f ∷ s) (Err e) h = lawful_run n s (Err e) tt
+
+  pub core_lawful : (n : ℕ) (s : List ℕ) (w : World) → core code (counted k n) s ≡ Ok w → Lawful w
+  unfolding core
+  core_lawful n s w e = subst Lawfully e (lawful_run n s (Ok (first_world code (counted k n))) (first_lawful code (counted k n) first))

@@ -1,0 +1,163 @@
+-- An entry leads on from a world as from the same world without marks, counts and notes.
+use Rattle.std.proofs.Common.{◌≡◌, ◌<◌, ◌≤◌, ℕ, zero, suc, length, arith, List, [], ◌∷◌, ◌++◌, map, set, option_map, Option, Some, None, Result, Ok, Err, refl, sym, ap, ap₂, ◌∙◌, subst}
+use Rattle.std.specs.List.{slice_get}
+use Rattle.std.proofs.lemmas.List.{map-append, map-set}
+use Rattle.effect_term.specs.declared.reply.Outcome.{Outcome}
+use Rattle.effect_term.specs.declared.reply.Reply.{Reply}
+use Rattle.effect_term.specs.declared.reply.Reply.TheVariants as reply
+use Rattle.fiber_frames.specs.Fiber.{Fiber, ask_of, move, outcome_of, silent_move}
+use Rattle.fiber_frames.specs.Reached.{Reached}
+use Rattle.fiber_frames.specs.Rows.{number_in}
+use Rattle.fiber_frames.specs.Unmarked.{unmarked}
+use Rattle.fiber_frames.proofs.Unmarking.{ask_unmarked, child_unmarked, move_unmarked, unmarked_outcome, unmarked_twice}
+use Rattle.cell_registry.specs.declared.limits.Limits.{Limits}
+use Rattle.cell_registry.specs.declared.limits.CellError.{CellError}
+use Rattle.cell_registry.specs.declared.limits.CellError.TheVariants as cell
+use Rattle.cell_registry.specs.declared.limits.RunError.{RunError}
+use Rattle.cell_registry.specs.declared.limits.RunError.TheVariants as run
+use Rattle.cell_registry.specs.declared.call.Call.{Call}
+use Rattle.cell_registry.specs.declared.call.Call.TheVariants as call
+use Rattle.cell_registry.specs.Cells.{Cells, after, cell_of, refusal, reply_of}
+use Rattle.scheduled_core.specs.declared.wish.Wish.{Wish}
+use Rattle.scheduled_core.specs.declared.wish.Wish.TheVariants.{Shared, Alone, Nothing}
+use Rattle.scheduled_core.specs.Core.{World, answered, born, called, entered, turned, wish_of, wished}
+use Rattle.every_outcome.specs.Outcomes.{counted}
+use Rattle.every_outcome.specs.Places.{Place, outcomes_at, stepped, unmarked_after, unmarked_world}
+use Rattle.every_outcome.specs.Private.Keeping.{IsFull}
+use Rattle.every_outcome.proofs.Cells.{Refused, plain_after, plain_cells, plain_is, plain_refusal, plain_reply, plain_twice}
+
+-- ---- fibers
+abbrev unmark : List Fiber → List Fiber
+unmark gs = map unmarked gs
+
+unmark_again : (gs : List Fiber) → unmark (unmark gs) ≡ unmark gs
+unmark_again [] = refl
+unmark_again (g ∷ gs) = ap₂ (λ (x : Fiber) (l : List Fiber). x ∷ l) (unmarked_twice g) (unmark_again gs)
+
+ends_unmarked : (gs : List Fiber) → map outcome_of (unmark gs) ≡ map outcome_of gs
+ends_unmarked [] = refl
+ends_unmarked (g ∷ gs) = ap₂ (λ (x : Option Outcome) (l : List (Option Outcome)). x ∷ l) (unmarked_outcome g) (ends_unmarked gs)
+
+-- the outcomes are those of the fibers with their marks
+pub outcomes_stay : (k : Limits) (w : World) → outcomes_at record { limits = k; world = unmarked_world w } ≡ map outcome_of w.fibers
+outcomes_stay k w = ends_unmarked w.fibers
+
+pub get_unmarked : (gs : List Fiber) (f : ℕ) (o : Option Fiber) → slice_get gs f ≡ o → slice_get (unmark gs) f ≡ option_map unmarked o
+get_unmarked [] f o e = ap (option_map unmarked) e
+get_unmarked (g ∷ gs) zero o e = ap (option_map unmarked) e
+get_unmarked (g ∷ gs) (suc f) o e = get_unmarked gs f o e
+
+-- ---- a world without marks, counts and notes
+plain_world : (gs : List Fiber) (s : Cells) → unmarked_world record { fibers = gs; cells = s } ≡ record { fibers = unmark gs; cells = plain_cells s }
+plain_world gs s = ap (λ (c : Cells). let w : World = record { fibers = unmark gs; cells = c } in w) (plain_is s)
+
+world_again : (w : World) → unmarked_world (unmarked_world w) ≡ unmarked_world w
+world_again w =
+    ap unmarked_world (plain_world w.fibers w.cells)
+    ∙ plain_world (unmark w.fibers) (plain_cells w.cells)
+    ∙ ap₂ (λ (gs : List Fiber) (c : Cells). let w : World = record { fibers = gs; cells = c } in w) (unmark_again w.fibers) (plain_twice w.cells)
+    ∙ sym (plain_world w.fibers w.cells)
+
+module _ (k : Limits) (n : ℕ) (some : 0 < k.count) (w : World) (f : ℕ) where
+  -- what comes of an entry, and what comes of it without marks, counts and notes: the count of the fiber was used up, or
+  -- both are the same
+  abbrev pub Same : Result World RunError → Result Place RunError → Type 0
+  Same (Ok v) y = y ≡ Ok record { limits = k; world = unmarked_world v }
+  Same (Err (run.Full b m)) y = y ≡ Err (run.Full b m)
+  Same (Err (run.Spent g)) y = (cell_of w.cells f).count ≡ n
+  Same (Err _) y = ⊥
+
+  abbrev bare : World
+  bare = record { fibers = unmark w.fibers; cells = plain_cells w.cells }
+
+  born_unmarked : (g : Fiber) → Reached g → (c : Call) (r : Reply) → unmark (born (unmarked g) c r) ≡ unmark (born g c r)
+  born_unmarked g h call.Start r = ap (λ (x : Fiber). x ∷ []) (child_unmarked g h (number_in r))
+  born_unmarked g h _ r = refl
+
+  moved_unmarked : (g x : Fiber) (more rest : List Fiber) → unmarked x ≡ unmarked (g) → unmark more ≡ unmark rest →
+      unmark (set (unmark w.fibers) f x ++ more) ≡ unmark (set w.fibers f g ++ rest)
+  moved_unmarked g x more rest e q =
+      map-append unmarked (set (unmark w.fibers) f x) more
+      ∙ ap₂ (λ (l m : List Fiber). l ++ m)
+      (map-set unmarked (unmark w.fibers) f x ∙ ap₂ (λ (l : List Fiber) (y : Fiber). set l f y) (unmark_again w.fibers) e ∙ sym (map-set unmarked w.fibers f g)) q
+      ∙ sym (map-append unmarked (set w.fibers f g) rest)
+
+  called_unmarked : (g : Fiber) → Reached g → (c : Call) →
+      unmarked_world (called bare f (unmarked g) c (reply_of bare.cells f c)) ≡ unmarked_world (called w f g c (reply_of w.cells f c))
+  called_unmarked g h c =
+      let r = reply_of w.cells f c in
+      ap (λ (x : Reply). unmarked_world (called bare f (unmarked g) c x)) (plain_reply w.cells f c)
+      ∙ plain_world (set (unmark w.fibers) f (move (unmarked g) r) ++ born (unmarked g) c r) (after (plain_cells w.cells) f c)
+      ∙ ap₂ (λ (gs : List Fiber) (s : Cells). let v : World = record { fibers = gs; cells = s } in v)
+      (moved_unmarked (move g r) (move (unmarked g) r) (born (unmarked g) c r) (born g c r) (move_unmarked g h r) (born_unmarked g h c r))
+      (plain_after w.cells f c)
+      ∙ sym (plain_world (set w.fibers f (move g r) ++ born g c r) (after w.cells f c))
+
+  answered_same : (g : Fiber) → Reached g → (c : Call) (o p : Option CellError) → Refused (cell_of w.cells f).count n o p →
+      Same (answered w f g c o) (unmarked_after k (answered bare f (unmarked g) c p))
+  answered_same g h c None p e =
+      ap (λ (x : Option CellError). unmarked_after k (answered bare f (unmarked g) c x)) e
+      ∙ ap (λ (v : World). Ok (let q : Place = record { limits = k; world = v } in q)) (called_unmarked g h c)
+  answered_same g h c (Some (cell.Full b m)) p e = ap (λ (x : Option CellError). unmarked_after k (answered bare f (unmarked g) c x)) e
+  answered_same g h c (Some (cell.Spent m)) p e = e
+
+  wished_same : (g : Fiber) → Reached g → (x : Wish) → Same (wished (counted k n) w f g x) (unmarked_after k (wished k bare f (unmarked g) x))
+  wished_same g h (Shared c) =
+      answered_same g h c (refusal (counted k n) w.cells f c) (refusal k (plain_cells w.cells) f c) (plain_refusal k n some w.cells f c)
+  wished_same g h Alone =
+      ap (λ (v : World). Ok (let q : Place = record { limits = k; world = v } in q))
+      (plain_world (set (unmark w.fibers) f (silent_move (unmarked g))) (plain_cells w.cells)
+      ∙ ap₂ (λ (gs : List Fiber) (s : Cells). let v : World = record { fibers = gs; cells = s } in v)
+      (map-set unmarked (unmark w.fibers) f (silent_move (unmarked g)) ∙
+      ap₂ (λ (l : List Fiber) (y : Fiber). set l f y) (unmark_again w.fibers) (move_unmarked g h reply.Done) ∙
+      sym (map-set unmarked w.fibers f (silent_move g)))
+      (plain_twice w.cells)
+      ∙ sym (plain_world (set w.fibers f (silent_move g)) w.cells))
+  wished_same g h Nothing =
+      ap (λ (v : World). Ok (let q : Place = record { limits = k; world = v } in q)) (ap unmarked_world (sym (plain_world w.fibers w.cells)) ∙ world_again w)
+
+  turned_same : ((g : Fiber) → slice_get w.fibers f ≡ Some g → Reached g) → (o : Option Fiber) → slice_get w.fibers f ≡ o →
+      Same (turned (counted k n) w f o) (unmarked_after k (turned k bare f (option_map unmarked o)))
+  turned_same h None e =
+      ap (λ (v : World). Ok (let q : Place = record { limits = k; world = v } in q)) (ap unmarked_world (sym (plain_world w.fibers w.cells)) ∙ world_again w)
+  turned_same h (Some g) e =
+      subst (λ x. Same (wished (counted k n) w f g (wish_of (ask_of g))) (unmarked_after k (wished k bare f (unmarked g) (wish_of x))))
+      (sym (ask_unmarked g (h g e))) (wished_same g (h g e) (wish_of (ask_of g)))
+
+  pub step_same : ((g : Fiber) → slice_get w.fibers f ≡ Some g → Reached g) →
+      Same (entered (counted k n) (Ok w) f) (stepped record { limits = k; world = unmarked_world w } f)
+  step_same h =
+      let there : stepped record { limits = k; world = unmarked_world w } f ≡ unmarked_after k (turned k bare f (option_map unmarked (slice_get w.fibers f))) =
+      ap (λ (v : World). unmarked_after k (entered k (Ok v) f)) (plain_world w.fibers w.cells)
+      ∙ ap (λ (o : Option Fiber). unmarked_after k (turned k bare f o)) (get_unmarked w.fibers f (slice_get w.fibers f) refl) in
+      subst (Same (entered (counted k n) (Ok w) f)) (sym there) (turned_same h (slice_get w.fibers f) refl)
+
+-- ---- under the limits themselves
+module _ (k : Limits) (some : 0 < k.count) (w : World) (f : ℕ) (h : (g : Fiber) → slice_get w.fibers f ≡ Some g → Reached g) where
+  abbrev here : Place
+  here = record { limits = k; world = unmarked_world w }
+
+  here_same : Same k k.count some w f (entered k (Ok w) f) (stepped here f)
+  here_same = step_same k k.count some w f h
+
+  pub step_goes : (v : World) → entered k (Ok w) f ≡ Ok v → stepped here f ≡ Ok record { limits = k; world = unmarked_world v }
+  step_goes v e = subst (λ x. Same k k.count some w f x (stepped here f)) e here_same
+
+  pub step_full : (e : RunError) → IsFull e → entered k (Ok w) f ≡ Err e → stepped here f ≡ Err e
+  step_full (run.Full b m) full e = subst (λ x. Same k k.count some w f x (stepped here f)) e here_same
+  step_full run.NoMemory full e = absurd full
+  step_full (run.Spent g) full e = absurd full
+  step_full (run.Lost g) full e = absurd full
+  step_full run.NoWorker full e = absurd full
+
+-- a fiber that isn't born changes nothing
+get_past : (gs : List Fiber) (f : ℕ) → length gs ≤ f → slice_get gs f ≡ None
+get_past [] f l = refl
+get_past (g ∷ gs) zero l = absurd (omega arith)
+get_past (g ∷ gs) (suc f) l = get_past gs f (omega arith)
+
+pub unborn_stays : (k : Limits) (w : World) (f : ℕ) → length w.fibers ≤ f →
+    stepped record { limits = k; world = unmarked_world w } f ≡ Ok record { limits = k; world = unmarked_world w }
+unborn_stays k w f past =
+    ap (λ (o : Option Fiber). unmarked_after k (turned k (unmarked_world w) f o)) (get_unmarked w.fibers f None (get_past w.fibers f past))
+    ∙ ap (λ (v : World). Ok (let q : Place = record { limits = k; world = v } in q)) (world_again w)

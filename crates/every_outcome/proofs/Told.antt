@@ -1,0 +1,259 @@
+-- What a search promises of its answers, said of the answers that are told.
+use Rattle.std.proofs.Common.{◌≡◌, ◌≢◌, inl, inr, ℕ, ◌+◌, ◌<◌, ◌≤◌, List, [], ◌∷◌, ◌++◌, length, map, refl, Option, Result, Ok, Err, sym, ap, ◌∙◌, subst, arith, get_or}
+use Rattle.std.specs.Prelude.{Some}
+use Rattle.std.specs.List.{All, fold, slice_get}
+use Rattle.std.proofs.lemmas.Option.{get_or_from_slice_get, same_Some, slice_get-get_or, slice_get_cases, slice_get_within}
+use Rattle.std.proofs.lemmas.List.Elements.{All-get_or}
+use Rattle.effect_term.specs.declared.reply.Outcome.{Outcome}
+use Rattle.derived_ops.specs.Tree.{Tree}
+use Rattle.fiber_frames.specs.Fiber.{Fiber, begins, outcome_of}
+use Rattle.fiber_frames.specs.Reached.{Reached}
+use Rattle.cell_registry.specs.declared.limits.Limits.{Limits}
+use Rattle.cell_registry.specs.declared.limits.RunError.{RunError}
+use Rattle.cell_registry.specs.declared.limits.RunError.TheVariants as run
+use Rattle.scheduled_core.specs.declared.report.FiberReport.{FiberReport}
+use Rattle.scheduled_core.specs.declared.report.Report.{Report}
+use Rattle.scheduled_core.specs.Core.{World, core, entered, fiber_report, reported}
+use Rattle.scheduled_core.specs.Finals.{IsSettled}
+use Rattle.world_search.specs.declared.answers.Answer.{Answer as Found}
+use Rattle.world_search.specs.declared.landings.Landing.{Landing}
+use Rattle.world_search.specs.declared.landings.Landing.TheVariants as to
+use Rattle.world_search.specs.Answers as search
+use Rattle.world_search.specs.Systems as systems
+use Rattle.world_search.proofs.Closed.{run-append}
+use Rattle.every_outcome.specs.declared.outcomes.OutcomeAnswer.{OutcomeAnswer}
+use Rattle.every_outcome.specs.Outcomes.{Agrees, IsCovered, IsListed, IsReached, KeepsOutcomes, ListOnce, counted, outcomes}
+use Rattle.every_outcome.specs.Places.{Kept, Place, first_place, outcomes_at, stepped}
+use Rattle.every_outcome.specs.Private.Keeping.{AreSingle}
+use Rattle.every_outcome.specs.Private.Telling.{AreTold, IsEnd, IsTold, IsWithin}
+use Rattle.every_outcome.proofs.Stepping.{outcomes_stay}
+use Rattle.every_outcome.proofs.Running.{Fully, Lawful, Led, bare_place, core_fully, core_lawful, core_led, fully, led}
+use Rattle.every_outcome.proofs.Cells.{some_bound}
+
+pub all_at : {A : Type 0} (P : A → Type 0) (xs : List A) (i : ℕ) (x : A) → slice_get xs i ≡ Some x → All P xs → P x
+all_at P xs i x e h = subst P (get_or_from_slice_get xs i x x e) (All-get_or P xs i x (slice_get_within xs i x e) h)
+
+pub all_from : {A : Type 0} (P : A → Type 0) (xs : List A) → ((i : ℕ) (x : A) → slice_get xs i ≡ Some x → P x) → All P xs
+all_from P xs h = λ k d low. let there = slice_get-get_or xs k d low in h k (get_or xs k d) there
+
+pub at_within : {A : Type 0} (xs : List A) (i : ℕ) → i < length xs → (x : A) × (slice_get xs i ≡ Some x)
+at_within xs i h = elim ((slice_get_cases xs i).1) [
+  | inl q ↦ (q.0, q.2)
+  | inr past ↦ absurd (omega arith)
+]
+
+-- what is right of an answer of a search has numbers that are there
+within : (kept : Kept) (first : Place) (s : List ℕ) (l : Landing) → search.LeadsTo stepped outcomes_at kept.places kept.faults first s l → IsWithin kept l
+within kept first s (to.World j) h = slice_get_within kept.places j h.0 h.1
+within kept first s (to.Fault j) h = slice_get_within kept.faults j h.0 h.1
+
+pub all_within : (kept : Kept) (first : Place) (found : List Found) → All (search.IsRight stepped outcomes_at kept.places kept.faults first) found →
+    All (λ a. IsWithin kept a.end) found
+all_within kept first found right = all_from (λ a. IsWithin kept a.end) found (λ i f e.
+    within kept first f.schedule.items f.end (all_at (search.IsRight stepped outcomes_at kept.places kept.faults first) found i f e right))
+
+-- ---- ends that are apart are told otherwise
+same_ok : (r s : List (Option Outcome)) → (let x : Result (List (Option Outcome)) RunError = Ok r in x) ≡ Ok s → r ≡ s
+same_ok r s e = cc
+
+same_err : (d e : RunError) → (let x : Result (List (Option Outcome)) RunError = Err d in x) ≡ Err e → d ≡ e
+same_err d e h = cc
+
+ends_apart : (kept : Kept) → AreSingle kept.faults → (l m : Landing) (x y : Result (List (Option Outcome)) RunError) →
+    search.AreApart outcomes_at kept.places l m → IsEnd kept l x → IsEnd kept m y → x ≢ y
+ends_apart kept single (to.World i) (to.World j) x y apart e f = λ same.
+    apart e.0 f.0 e.1 f.1 (same_ok (outcomes_at e.0) (outcomes_at f.0) (sym e.2 ∙ same ∙ f.2))
+ends_apart kept single (to.World i) (to.Fault j) x y apart e f = λ same. let no : Ok (outcomes_at e.0) ≡ Err f.0 = sym e.2 ∙ same ∙ f.2 in cc
+ends_apart kept single (to.Fault i) (to.World j) x y apart e f = λ same. let no : Err e.0 ≡ Ok (outcomes_at f.0) = sym e.2 ∙ same ∙ f.2 in cc
+ends_apart kept single (to.Fault i) (to.Fault j) x y apart e f = λ same.
+    let is : f.0 ≡ e.0 = sym (same_err e.0 f.0 (sym e.2 ∙ same ∙ f.2)) in
+    apart (single i j e.0 e.1 (subst (λ (d : RunError). slice_get kept.faults j ≡ Some d) is f.1))
+
+-- ---- a settled world has settled outcomes
+outcomes_told : (gs : List Fiber) → map (λ (r : FiberReport). r.outcome) (map fiber_report gs) ≡ map outcome_of gs
+outcomes_told [] = refl
+outcomes_told (g ∷ gs) = ap (λ (l : List (Option Outcome)). outcome_of g ∷ l) (outcomes_told gs)
+
+reports : Result Report RunError → List FiberReport
+reports (Ok r) = r.fibers
+reports (Err e) = []
+
+same_outcomes : (v w : World) → reported (Ok v) ≡ reported (Ok w) → map outcome_of v.fibers ≡ map outcome_of w.fibers
+unfolding reports
+same_outcomes v w e =
+    let same : map fiber_report v.fibers ≡ map fiber_report w.fibers = ap reports e in
+    sym (outcomes_told v.fibers) ∙ ap (map (λ (r : FiberReport). r.outcome)) same ∙ outcomes_told w.fibers
+
+module _ (k : Limits) (n : ℕ) (some : 0 < k.count) where
+  abbrev bare : World → Place
+  bare w = bare_place k n some w
+
+  settled_at : (w : World) (x : Result World RunError) (y : Result Place RunError) → Led k n some x y → reported x ≡ reported (Ok w) →
+      systems.reported stepped outcomes_at y ≡ Ok (outcomes_at (bare w))
+  settled_at w (Ok v) y h e =
+      ap (systems.reported stepped outcomes_at) h
+      ∙ ap Ok (outcomes_stay k v ∙ same_outcomes v w e ∙ sym (outcomes_stay k w))
+  settled_at w (Err d) y h e = absurd (cc)
+
+  settles : (w : World) → Lawful w → IsSettled (counted k n) w → systems.IsSettled stepped outcomes_at (bare w)
+  settles w law h = λ s. settled_at w (fold (entered (counted k n)) (Ok w) s) (systems.run stepped (Ok (bare w)) s) (led k n some s w law) (h s)
+
+  -- so do outcomes that stay
+  kept_at : (w : World) (x : Result World RunError) (y : Result Place RunError) → Fully k n some x y → Agrees (outcomes (Ok w)) x →
+      systems.reported stepped outcomes_at y ≡ Ok (outcomes_at (bare w))
+  kept_at w (Ok v) y h e =
+      ap (systems.reported stepped outcomes_at) h
+      ∙ ap Ok (outcomes_stay k v) ∙ e ∙ ap Ok (sym (outcomes_stay k w))
+  kept_at w (Err (run.Full b m)) y h e = absurd (cc)
+  kept_at w (Err run.NoMemory) y h e = absurd h
+  kept_at w (Err (run.Spent g)) y h e = absurd h
+  kept_at w (Err (run.Lost g)) y h e = absurd h
+  kept_at w (Err run.NoWorker) y h e = absurd h
+
+keeps : (k : Limits) (n : ℕ) (some : 0 < k.count) (w : World) → Lawful w → KeepsOutcomes k w → systems.IsSettled stepped outcomes_at (bare_place k n some w)
+keeps k n some w law h = λ s.
+    let m = some_bound w.cells in
+    let most = m.0 + length s in
+    kept_at k most some w (fold (entered (counted k most)) (Ok w) s) (systems.run stepped (Ok (bare_place k n some w)) s)
+    (fully k most some s m.0 (omega arith) w law m.1) (h most s)
+
+module _ (kept : Kept) (found : List Found) (answers : List OutcomeAnswer) (told : AreTold kept found answers) where
+  abbrev End : Type 0
+  End = Result (List (Option Outcome)) RunError
+
+  -- an end of the search is the end that is told
+  abbrev end_at : Result Place RunError → End
+  end_at (Ok p) = Ok (outcomes_at p)
+  end_at (Err e) = Err e
+
+  ends_as : (l : Landing) (y : Result Place RunError) (end : End) → search.Tells stepped outcomes_at kept.places kept.faults l y → IsEnd kept l end → end ≡ end_at y
+  ends_as (to.World j) (Ok p) end h e =
+      let same : e.0 ≡ h.0 = same_Some e.0 h.0 (sym e.1 ∙ h.1) in
+      e.2 ∙ ap Ok (ap outcomes_at same ∙ h.2)
+  ends_as (to.World j) (Err d) end h e = absurd h
+  ends_as (to.Fault j) (Ok p) end h e = absurd h
+  ends_as (to.Fault j) (Err d) end h e = e.2 ∙ ap Err (same_Some e.0 d (sym e.1 ∙ h))
+
+  -- what is found is told
+  listed : (y : Result Place RunError) → search.IsAnswered stepped outcomes_at kept.places kept.faults found y → IsListed answers (end_at y)
+  listed y h =
+      let i = h.1.0 in
+      let low : i < length answers = subst (λ n. i < n) (sym told.many) (slice_get_within found i h.0 h.1.1) in
+      let a = at_within answers i low in
+      (i, a.0, a.1, ends_as h.0.end y a.0.end h.2 (told.each i h.0 a.0 h.1.1 a.1).ends)
+
+  -- an answer that is told was found
+  found_at : (i : ℕ) (a : OutcomeAnswer) → slice_get answers i ≡ Some a → (f : Found) × (slice_get found i ≡ Some f) × IsTold kept f a
+  found_at i a e =
+      let low : i < length found = subst (λ n. i < n) told.many (slice_get_within answers i a e) in
+      let f = at_within found i low in
+      (f.0, f.1, told.each i f.0 a f.1 e)
+
+  pub numbered : (most : ℕ) → All (search.IsNumbered most) found → All (λ a. All (λ f. f < most) a.schedule) answers
+  numbered most h = all_from (λ a. All (λ f. f < most) a.schedule) answers (λ i a e.
+      let it = found_at i a e in
+      subst (λ s. All (λ f. f < most) s) (sym it.2.schedule) (all_at (search.IsNumbered most) found i it.0 it.1 h))
+
+  pub short : (most : ℕ) → All (search.IsShort most) found → All (λ a. length a.schedule ≤ most) answers
+  short most h = all_from (λ a. length a.schedule ≤ most) answers (λ i a e.
+      let it = found_at i a e in
+      subst (λ s. length s ≤ most) (sym it.2.schedule) (all_at (search.IsShort most) found i it.0 it.1 h))
+
+  pub once : AreSingle kept.faults → search.TellOnce outcomes_at kept.places found → ListOnce answers
+  once single h i j a b less ati atj =
+      let f = found_at i a ati in
+      let g = found_at j b atj in
+      ends_apart kept single f.0.end g.0.end a.end b.end (h i j f.0 g.0 less f.1 g.1) f.2.ends g.2.ends
+
+  module _ (code : Tree) (k : Limits) (some : 0 < k.count) (first : Reached (begins 0 code)) where
+    abbrev start : Place
+    start = first_place code k
+
+    abbrev Covers : Result Place RunError → Type 0
+    Covers y = search.IsCovered stepped outcomes_at kept.places kept.faults found y
+
+    -- what stays is listed
+    listed_at : (n : ℕ) (w : World) (y : Result Place RunError) → y ≡ Ok (bare_place k n some w) → Covers y →
+        systems.IsSettled stepped outcomes_at (bare_place k n some w) → IsListed answers (outcomes (Ok w))
+    listed_at n w y h c settled =
+        let here : Covers (Ok (bare_place k n some w)) = subst Covers h c in
+        subst (IsListed answers) (ap Ok (outcomes_stay k w)) (listed (Ok (bare_place k n some w)) (here settled))
+
+    -- what any schedule leads to is covered
+    covered_at : (n : ℕ) (x : Result World RunError) (y : Result Place RunError) → Led k n some x y → ((w : World) → x ≡ Ok w → Lawful w) →
+        Covers y → IsCovered k answers x
+    covered_at n (Ok w) y h law c = λ stays. listed_at n w y h c (keeps k n some w (law w refl) stays)
+    covered_at n (Err (run.Full b m)) y h law c = listed (Err (run.Full b m)) (subst Covers h c)
+    covered_at n (Err run.NoMemory) y h law c = tt
+    covered_at n (Err (run.Spent g)) y h law c = tt
+    covered_at n (Err (run.Lost g)) y h law c = tt
+    covered_at n (Err run.NoWorker) y h law c = tt
+
+    pub covered : (n : ℕ) (s : List ℕ) → Covers (systems.run stepped (Ok start) s) → IsCovered k answers (core code (counted k n) s)
+    covered n s c =
+        covered_at n (core code (counted k n) s) (systems.run stepped (Ok start) s) (core_led code k some first n s) (core_lawful code k some first n s) c
+
+    pub settled : (n : ℕ) (s : List ℕ) (w : World) → Covers (systems.run stepped (Ok start) s) → core code (counted k n) s ≡ Ok w → IsSettled (counted k n) w →
+        IsListed answers (outcomes (Ok w))
+    settled n s w c e h =
+        listed_at n w (systems.run stepped (Ok start) s) (subst (λ x. Led k n some x (systems.run stepped (Ok start) s)) e (core_led code k some first n s)) c
+        (settles k n some w (core_lawful code k some first n s w e) h)
+
+    -- where a schedule leads that is found
+    leads_at : (n : ℕ) (s : List ℕ) (l : Landing) (end : End) → search.LeadsTo stepped outcomes_at kept.places kept.faults start s l → IsEnd kept l end →
+        (x : Result World RunError) → Fully k n some x (systems.run stepped (Ok start) s) → outcomes x ≡ end
+    leads_at n s (to.World j) end h e (Ok v) f =
+        let here : h.0 ≡ bare_place k n some v = (let q : Ok h.0 ≡ Ok (bare_place k n some v) = sym h.2 ∙ f in cc) in
+        let same : e.0 ≡ h.0 = same_Some e.0 h.0 (sym e.1 ∙ h.1) in
+        ap Ok (sym (outcomes_stay k v) ∙ ap outcomes_at (sym (same ∙ here))) ∙ sym e.2
+    leads_at n s (to.World j) end h e (Err (run.Full b m)) f = let q : Ok h.0 ≡ Err (run.Full b m) = sym h.2 ∙ f in absurd (cc)
+    leads_at n s (to.Fault j) end h e (Ok v) f = let q : Err h.0 ≡ Ok (bare_place k n some v) = sym h.2 ∙ f in absurd (cc)
+    leads_at n s (to.Fault j) end h e (Err (run.Full b m)) f =
+        let here : h.0 ≡ run.Full b m = (let q : Err h.0 ≡ Err (run.Full b m) = sym h.2 ∙ f in cc) in
+        let same : e.0 ≡ h.0 = same_Some e.0 h.0 (sym e.1 ∙ h.1) in
+        ap Err (sym (same ∙ here)) ∙ sym e.2
+    leads_at n s l end h e (Err run.NoMemory) f = absurd f
+    leads_at n s l end h e (Err (run.Spent g)) f = absurd f
+    leads_at n s l end h e (Err (run.Lost g)) f = absurd f
+    leads_at n s l end h e (Err run.NoWorker) f = absurd f
+
+    -- and what more entries lead to
+    fault_stays : (e : RunError) (t : List ℕ) → systems.run stepped (Err e) t ≡ Err e
+    fault_stays e [] = refl
+    fault_stays e (g ∷ t) = fault_stays e t
+
+    on_world : (s more : List ℕ) (p : Place) → systems.run stepped (Ok start) s ≡ Ok p → systems.IsSettled stepped outcomes_at p →
+        systems.reported stepped outcomes_at (systems.run stepped (Ok start) (s ++ more)) ≡ Ok (outcomes_at p)
+    on_world s more p h settled =
+        ap (systems.reported stepped outcomes_at) (run-append stepped (Ok start) s more ∙ ap (λ y. systems.run stepped y more) h) ∙ settled more
+
+    on_fault : (s more : List ℕ) (e : RunError) → systems.run stepped (Ok start) s ≡ Err e → systems.run stepped (Ok start) (s ++ more) ≡ Err e
+    on_fault s more e h = run-append stepped (Ok start) s more ∙ ap (λ y. systems.run stepped y more) h ∙ fault_stays e more
+
+    stays_at : (n : ℕ) (s more : List ℕ) (l : Landing) (end : End) → search.LeadsTo stepped outcomes_at kept.places kept.faults start s l → IsEnd kept l end →
+        (x : Result World RunError) → Led k n some x (systems.run stepped (Ok start) (s ++ more)) → Agrees end x
+    stays_at n s more (to.World j) end h e (Ok w) f =
+        let same : e.0 ≡ h.0 = same_Some e.0 h.0 (sym e.1 ∙ h.1) in
+        ap Ok (sym (outcomes_stay k w)) ∙ sym (ap (systems.reported stepped outcomes_at) f) ∙ on_world s more h.0 h.2 h.3 ∙ ap Ok (ap outcomes_at (sym same)) ∙ sym e.2
+    stays_at n s more (to.World j) end h e (Err (run.Full b m)) f =
+        let no : Err (run.Full b m) ≡ Ok (outcomes_at h.0) = sym (ap (systems.reported stepped outcomes_at) f) ∙ on_world s more h.0 h.2 h.3 in absurd (cc)
+    stays_at n s more (to.Fault j) end h e (Ok w) f =
+        let no : Err h.0 ≡ Ok (bare_place k n some w) = sym (on_fault s more h.0 h.2) ∙ f in absurd (cc)
+    stays_at n s more (to.Fault j) end h e (Err (run.Full b m)) f =
+        let here : h.0 ≡ run.Full b m = (let q : Err h.0 ≡ Err (run.Full b m) = sym (on_fault s more h.0 h.2) ∙ f in cc) in
+        let same : e.0 ≡ h.0 = same_Some e.0 h.0 (sym e.1 ∙ h.1) in
+        ap Err (sym (same ∙ here)) ∙ sym e.2
+    stays_at n s more l end h e (Err run.NoMemory) f = tt
+    stays_at n s more l end h e (Err (run.Spent g)) f = tt
+    stays_at n s more l end h e (Err (run.Lost g)) f = tt
+    stays_at n s more l end h e (Err run.NoWorker) f = tt
+
+    pub reached : All (search.IsRight stepped outcomes_at kept.places kept.faults start) found → All (IsReached code k) answers
+    reached right = all_from (IsReached code k) answers (λ i a e.
+        let it = found_at i a e in
+        let h = all_at (search.IsRight stepped outcomes_at kept.places kept.faults start) found i it.0 it.1 right in
+        let s = it.0.schedule.items in
+        subst (λ t. IsReached code k record { schedule = t; end = a.end }) (sym it.2.schedule) (record {
+          leads = λ n l. leads_at n s it.0.end a.end h it.2.ends (core code (counted k n) s) (core_fully code k some first n s l);
+          stays = λ n more. stays_at n s more it.0.end a.end h it.2.ends (core code (counted k n) (s ++ more)) (core_led code k some first n (s ++ more));
+        }))

@@ -1,0 +1,116 @@
+//! The outcomes that a program can have under every schedule.
+ghost use Rattle.std.specs.Prelude.{◌≡◌, ◌<◌, ◌≤◌, ℕ, List, length, max, IfOk, IfErr, true, false};
+ghost use Rattle.std.specs.Prelude.{Ok as GoesWell};
+ghost use Rattle.std.specs.List.{All};
+ghost use Rattle.derived_ops.specs.Expansion.{code_of};
+ghost use Rattle.derived_ops.specs.Reading.{source_of};
+ghost use Rattle.cell_registry.specs.Cells.{AreLimits};
+ghost use Rattle.scheduled_core.specs.Core.{World, core};
+ghost use Rattle.scheduled_core.specs.Finals.{IsSettled};
+ghost use Rattle.world_search.specs.Answers.{IsAtBound};
+ghost use Rattle.every_outcome.specs.Outcomes.{IsCovered, IsListed, IsReached, ListOnce, counted};
+ghost use Rattle.every_outcome.specs.Outcomes.{outcomes};
+ghost use Rattle.every_outcome.specs.Private.Keeping.{AreSingle};
+ghost use Rattle.every_outcome.specs.Private.Telling.{AreTold, IsEnd, IsTold, IsWithin};
+
+use crate::outcomes::{OutcomeAnswer, OutcomeExploration, Outcomes, Schedule};
+use crate::worlds::SeenWorlds;
+use cell_registry::{Limits, RunError};
+use effect_term::{Program, facts_of};
+use std::alloc::{AllocError, Global};
+use world_search::{Bounds, Landing, Watcher, search};
+
+/// The outcomes that a program can have, whatever the schedule and whatever the count of changes: those that no further
+/// entry changes, and the bands of numbers that can be used up, each with a schedule under which it comes.
+///
+/// Where the exploration is complete, the outcomes of every world that any schedule leads to are listed, if no entries
+/// that follow change them, under whatever count (`all`); so are those of every settled world (`settled`), and so is
+/// each [`RunError::Full`]. Where it isn't complete, as many worlds were kept as there may be, or more than a schedule
+/// may have entries, or as many bytes were counted as may be kept, or the watcher has ended the search; each answer is
+/// right all the same (`each`). A loop that says a value in each turn has outcomes that stay, and no settled report.
+///
+/// Worlds are taken for one where they differ only in the marks of fibers, in the numbers of masks, in how often fibers
+/// have changed their cells, and in the notes of who was joined. So the count of the limits plays no part, and no
+/// answer is [`RunError::Spent`]. The schedule of an answer leads to it under each count that is at least the number
+/// of its entries.
+///
+/// No outcomes are listed twice, and no fault. The limits are in their ranges ([`Limits`]); a world takes memory for
+/// each of its numbers. [`RunError::NoMemory`] is the only error.
+pub fn explore_outcomes<V: Watcher>(
+    alloc: Global,
+    program: &Program,
+    limits: Limits,
+    bounds: Bounds,
+    watcher: &mut V,
+) -> Result<OutcomeExploration, RunError>
+    requires limits { AreLimits limits }
+    ensures all { IfOk result (λ it. it.complete ≡ true → (count : ℕ) (schedule : List ℕ) →
+        IsCovered limits it.answers.items (core (code_of (source_of program.now)) (counted limits count) schedule)) }
+    ensures settled { IfOk result (λ it. it.complete ≡ true → (count : ℕ) (schedule : List ℕ) (w : World) →
+        core (code_of (source_of program.now)) (counted limits count) schedule ≡ GoesWell w →
+        IsSettled (counted limits count) w → IsListed it.answers.items (outcomes (GoesWell w))) }
+    ensures each { IfOk result (λ it. All (IsReached (code_of (source_of program.now)) limits) it.answers.items) }
+    ensures once { IfOk result (λ it. ListOnce it.answers.items) }
+    ensures stopped { IfOk result (λ it. it.complete ≡ false → it.halted ≡ false →
+        IsAtBound bounds it.worlds it.bytes) }
+    ensures halted { IfOk result (λ it. it.halted ≡ true → V.has_stopped watcher.new ≡ true) }
+    ensures apart { IfOk result (λ it. it.complete ≡ true → it.halted ≡ false) }
+    ensures room { IfOk result (λ it. it.worlds ≤ max bounds.worlds 1) }
+    ensures spare { IfOk result (λ it. it.complete ≡ true → it.bytes < bounds.memory) }
+    ensures numbers { IfOk result (λ it. All (λ a. All (λ f. f < 1000) a.schedule) it.answers.items) }
+    ensures short { IfOk result (λ it. All (λ a. length a.schedule ≤ bounds.entries) it.answers.items) }
+    ensures memory { IfErr result (λ e. e ≡ RunError.NoMemory) }
+{
+    let mut worlds = SeenWorlds::new(alloc, program, limits)?;
+    let found = search(alloc, &mut worlds, bounds, watcher)?;
+    let answers = told(alloc, &worlds, found.answers)?;
+    Ok(OutcomeExploration {
+        answers,
+        worlds: found.worlds,
+        bytes: found.bytes,
+        complete: found.complete,
+        halted: found.halted,
+    })
+}
+
+// The answers of a search, each with its outcomes or fault.
+fn told(
+    alloc: Global,
+    worlds: &SeenWorlds,
+    found: Vec<world_search::Answer>,
+) -> Result<Vec<OutcomeAnswer>, AllocError>
+    requires { All (λ a. IsWithin worlds.now a.end) found.items }
+    ensures told { IfOk result (λ answers. AreTold worlds.now found.items answers.items) }
+    ensures single { AreSingle worlds.now.faults }
+{
+    // No fault was kept twice.
+    facts_of(worlds.many_faults());
+    let mut answers = Vec::new(alloc);
+    for it in found {
+        answers.push(answer(worlds, it)?)?;
+    }
+    Ok(answers)
+}
+
+// An answer of a search, with its outcomes or fault.
+fn answer(worlds: &SeenWorlds, found: world_search::Answer) -> Result<OutcomeAnswer, AllocError>
+    requires { IsWithin worlds.now found.end }
+    ensures { IfOk result (λ answer. IsTold worlds.now found answer) }
+{
+    let end = end(worlds, found.end)?;
+    Ok(OutcomeAnswer {
+        schedule: Schedule::new(found.schedule),
+        end,
+    })
+}
+
+// The outcomes of a world that was found, or a fault.
+fn end(worlds: &SeenWorlds, found: Landing) -> Result<Result<Outcomes, RunError>, AllocError>
+    requires { IsWithin worlds.now found }
+    ensures { IfOk result (λ end. IsEnd worlds.now found end) }
+{
+    match found {
+        Landing::World(world) => Ok(Ok(worlds.outcomes(world)?)),
+        Landing::Fault(number) => Ok(Err(worlds.fault(number))),
+    }
+}

@@ -1,0 +1,196 @@
+//! The worlds that a search of outcomes has found, each with a number.
+ghost use Rattle.std.specs.Prelude.{◌≡◌, ◌++◌, ◌<◌, ◌≤◌, [], ◌∷◌, length, max, IfOk, IfSome, OnErr, OnOk, Some};
+ghost use Rattle.std.specs.List.{slice_get};
+ghost use Rattle.derived_ops.specs.Expansion.{code_of};
+ghost use Rattle.derived_ops.specs.Reading.{source_of};
+ghost use Rattle.fiber_frames.specs.Fiber.{begins};
+ghost use Rattle.fiber_frames.specs.Reached.{Reached};
+ghost use Rattle.cell_registry.specs.Cells.{AreLimits};
+ghost use Rattle.world_search.specs.Landings.{IsNext};
+ghost use Rattle.world_search.specs.Lists.{IsMore};
+ghost use Rattle.every_outcome.specs.Places.{Place, first_place, outcomes_at};
+ghost use Rattle.every_outcome.specs.Private.Keeping.{AreSingle, IsKept};
+
+use crate::faults::Faults;
+use crate::outcomes::Outcomes;
+use crate::world::SeenWorld;
+use cell_registry::{Limits, RunError};
+use effect_term::Program;
+use std::alloc::{AllocError, Global};
+use std::collections::HashMap;
+use std::marker::Model;
+use world_search::{Entered, Landing, Worlds};
+
+/// All worlds and faults that were found. A world is looked up by its digest, under which the last world of this
+/// digest is filed, and each world names the one before it. Whatever stands there, only a world that is the same is
+/// taken for the one that is looked for.
+#[derive(Drop)]
+pub(crate) struct SeenWorlds {
+    alloc: Global,
+    worlds: Vec<SeenWorld>,
+    faults: Faults,
+    last: HashMap<u64, usize>,
+    earlier: Vec<Option<usize>>,
+    bytes: usize,
+}
+
+impl Model for SeenWorlds {
+    ghost use Rattle.std.specs.Coded.{codes};
+    ghost use Rattle.derived_ops.specs.Stored.{tree_code};
+    ghost use Rattle.fiber_frames.specs.contracts.ask.Look as the_look;
+    ghost use Rattle.fiber_frames.specs.contracts.mark.Mark as the_mark;
+    ghost use Rattle.every_outcome.specs.Places.{Kept};
+
+    ghost Value = { Kept };
+
+    ghost coded = { Prim.hlevel (codes, tree_code, the_look.the_row.coded, the_mark.the_row.coded) };
+
+    ghost view = { λ s. record { places = s.worlds.items; faults = s.faults; bytes = s.bytes } };
+}
+
+impl SeenWorlds {
+    /// The first world of a program, alone.
+    pub(crate) fn new(
+        alloc: Global,
+        program: &Program,
+        limits: Limits,
+    ) -> Result<SeenWorlds, AllocError>
+        requires { AreLimits limits }
+        ensures places { IfOk result (λ s. s.places ≡ first_place (code_of (source_of program.now)) limits ∷ []) }
+        ensures faults { IfOk result (λ s. s.faults ≡ []) }
+        ensures reached { IfOk result (λ _. Reached (begins 0 (code_of (source_of program.now)))) }
+    {
+        let first = SeenWorld::first(alloc, program, limits)?;
+        let mut all = SeenWorlds {
+            alloc,
+            worlds: Vec::new(alloc),
+            faults: Faults::new(alloc),
+            last: HashMap::new(alloc),
+            earlier: Vec::new(alloc),
+            bytes: 0,
+        };
+        all.file(first)?;
+        Ok(all)
+    }
+
+    // Keeps one more world, which gets the next number.
+    fn file(&mut self, world: SeenWorld) -> Result<(), AllocError>
+        ensures places { OnOk result (self.new.places ≡ self.old.places ++ world ∷ []) }
+        ensures kept { OnErr result (self.new.places ≡ self.old.places) }
+        ensures faults { self.new.faults ≡ self.old.faults }
+    {
+        let before = self.last.insert(world.digest(), self.worlds.len())?;
+        self.bytes = self.bytes.saturating_add(world.size());
+        self.earlier.push(before)?;
+        self.worlds.push(world)?;
+        Ok(())
+    }
+
+    // The number of a world that is kept and is this one, as far as was looked.
+    fn find(&self, world: &SeenWorld) -> Option<usize>
+        ensures { IfSome result (λ i. slice_get self.now.places i ≡ Some world.now) }
+    {
+        let mut next = self.last.get(&world.digest()).copied();
+        for _ in 0..self.worlds.len() {
+            let place = next?;
+            if self.worlds.get(place)?.same(world) {
+                return Some(place);
+            }
+            next = *self.earlier.get(place)?;
+        }
+        None
+    }
+
+    // The world is kept, unless there are so many already.
+    fn keep(&mut self, world: SeenWorld, most: usize) -> Result<Entered, AllocError>
+        ensures faults { self.new.faults ≡ self.old.faults }
+        ensures places { OnOk result (IsMore self.old.places self.new.places) }
+        ensures kept { IfOk result (λ it. IsKept self.new.places it world) }
+        ensures room { OnOk result (length self.new.places ≤ max most (length self.old.places)) }
+        ensures next { IfOk result (IsNext (length self.old.places) (length self.new.places) most) }
+    {
+        if let Some(place) = self.find(&world) {
+            return Ok(Entered::At(Landing::World(place)));
+        }
+        let place = self.worlds.len();
+        if place >= most {
+            return Ok(Entered::Full);
+        }
+        self.file(world)?;
+        Ok(Entered::At(Landing::World(place)))
+    }
+
+    /// The outcomes of a world's fibers.
+    pub(crate) fn outcomes(&self, world: usize) -> Result<Outcomes, AllocError>
+        requires { world < length self.now.places }
+        ensures { IfOk result (λ it. (p : Place) → slice_get self.now.places world ≡ Some p → it ≡ outcomes_at p) }
+    {
+        let outcomes = self.worlds[world].outcomes(self.alloc)?;
+        Ok(Outcomes::new(outcomes))
+    }
+
+    /// A fault that was met.
+    pub(crate) fn fault(&self, number: usize) -> RunError
+        requires { number < length self.now.faults }
+        ensures { slice_get self.now.faults number ≡ Some result }
+    {
+        self.faults.get(number)
+    }
+
+    /// How many faults were met. Each of them is kept once.
+    pub(crate) fn many_faults(&self) -> usize
+        ensures many { result ≡ length self.now.faults }
+        ensures single { AreSingle self.now.faults }
+    {
+        self.faults.len()
+    }
+}
+
+impl Worlds for SeenWorlds {
+    type World = SeenWorld;
+
+    type Fault = RunError;
+
+    type Report = Outcomes;
+
+    ghost use Rattle.every_outcome.specs.Places.{outcomes_at as the_outcomes, stepped};
+
+    ghost worlds = { λ s. s.places };
+
+    ghost faults = { λ s. s.faults };
+
+    ghost step = { stepped };
+
+    ghost report = { the_outcomes };
+
+    ghost most_born = { 1000 };
+
+    ghost bytes = { λ s. s.bytes };
+
+    fn born(&self, world: usize) -> u16 {
+        self.worlds[world].born()
+    }
+
+    fn enter(&mut self, world: usize, fiber: u16, most: usize) -> Result<Entered, AllocError> {
+        match self.worlds[world].after(self.alloc, fiber) {
+            Ok(next) => self.keep(next, most),
+            Err(RunError::Full(band, limit)) => {
+                let number = self.faults.note(RunError::Full(band, limit))?;
+                Ok(Entered::At(Landing::Fault(number)))
+            }
+            Err(_) => Err(AllocError),
+        }
+    }
+
+    fn same_report(&self, one: usize, other: usize) -> bool {
+        self.worlds[one].same_outcomes(&self.worlds[other])
+    }
+
+    fn len(&self) -> usize {
+        self.worlds.len()
+    }
+
+    fn bytes(&self) -> usize {
+        self.bytes
+    }
+}

@@ -1,0 +1,7 @@
+use Rattle.std.proofs.Common.{◌≡◌, ◌++◌, take}
+use Rattle.fiber_frames.specs.Shapes.{numbers_in}
+use Rattle.fiber_frames.proofs.shapes.add_masks.Given as goal
+
+-- the masks so far
+abbrev pub invariant-loop-frame : goal.invariant-loop-frame
+invariant-loop-frame l = l.masks.items ≡ l.initial.masks.items ++ numbers_in (take l.frame-index l.frames)

@@ -1,0 +1,7 @@
+use Rattle.std.proofs.Common.{◌≡◌, map, take}
+use Rattle.fiber_frames.specs.Shapes.{entry_placed}
+use Rattle.fiber_frames.proofs.shapes.place_entries.Given as goal
+
+-- the entries so far
+abbrev pub invariant-loop-entry : goal.invariant-loop-entry
+invariant-loop-entry l = l.placed.items ≡ map (entry_placed l.own l.masks) (take l.entry-index l.env)

@@ -1,0 +1,7 @@
+use Rattle.std.proofs.Common.{◌≡◌, map, take}
+use Rattle.fiber_frames.specs.Shapes.{frame_placed}
+use Rattle.fiber_frames.proofs.shapes.place_frames.Given as goal
+
+-- the frames so far
+abbrev pub invariant-loop-frame : goal.invariant-loop-frame
+invariant-loop-frame l = l.placed.items ≡ map (frame_placed l.own l.masks) (take l.frame-index l.frames)
