@@ -1,5 +1,5 @@
 //! The outcomes of a program, with schedules that are no longer than the bounds allow.
-ghost use Rattle.std.specs.Prelude.{◌≡◌, ◌<◌, IfOk, length, nat_le};
+ghost use Rattle.std.specs.Prelude.{◌≡◌, ◌<◌, ◌==◌, ◌&&◌, IfOk, length, nat_le};
 ghost use Rattle.std.specs.List.{All, filter};
 ghost use Rattle.derived_ops.specs.Expansion.{code_of};
 ghost use Rattle.derived_ops.specs.Reading.{source_of};

@@ -1,7 +1,8 @@
 //! Outcomes as they are written: as an exploration whose reports have no marks.
-ghost use Rattle.std.specs.Prelude.{◌≡◌, IfOk, map};
+ghost use Rattle.std.specs.Prelude.{◌≡◌, IfOk, false, map, true};
 ghost use Rattle.every_schedule.specs.Explored.{IsListed};
-ghost use Rattle.outcome_answers.specs.OutcomesShown.{AreFirsts, IsShown, bare, shown_answer, shown_end, shown_of};
+ghost use Rattle.outcome_answers.specs.OutcomesShown.{AreFirsts, AreShown, IsShown, bare, shown_answer};
+ghost use Rattle.outcome_answers.specs.OutcomesShown.{shown_end, shown_of};
 
 use cell_registry::RunError;
 use effect_term::Outcome;
@@ -19,12 +20,7 @@ pub fn shown_exploration(
 ) -> Result<Exploration, AllocError>
     ensures { IfOk result (IsShown only_first found.now) }
 {
-    let answers = found.answers.as_slice();
-    let answers = if only_first {
-        first_answers(alloc, answers)?
-    } else {
-        all_answers(alloc, answers)?
-    };
+    let answers = shown_answers(alloc, found.answers.as_slice(), only_first)?;
     Ok(Exploration {
         answers: Answers::new(answers),
         worlds: found.worlds,
@@ -32,6 +28,21 @@ pub fn shown_exploration(
         complete: found.complete,
         halted: found.halted,
     })
+}
+
+// The answers that are written: one for each outcome of fiber 0, or all.
+fn shown_answers(
+    alloc: Global,
+    answers: &[OutcomeAnswer],
+    only_first: bool,
+) -> Result<Vec<Answer>, AllocError>
+    ensures { IfOk result (λ shown. AreShown only_first answers.now shown.items) }
+{
+    if only_first {
+        first_answers(alloc, answers)
+    } else {
+        all_answers(alloc, answers)
+    }
 }
 
 // The answers, each with the outcomes of all fibers.
