@@ -132,8 +132,7 @@ Example that finds a lock for which a fiber waits for ever:
 Example of a loop without end, which has one outcome:
   echo '(forever (bracket x (pure 1) (cede) (pure 2)))' | fiber_cli explore --marks none
 
-'fiber_cli --help' explains the reports. Each is below a schedule, under which replay gives it, with
-its marks.
+'fiber_cli --help' explains the reports. Each is below a schedule, under which replay gives it.
 
 Exit status:
    0  every schedule was explored, and nothing unwanted was found
