@@ -2,6 +2,7 @@
 use Rattle.std.proofs.Common.{◌≡◌, ◌≢◌, ◌⊎◌, inl, inr, ℕ, zero, suc, ◌+◌, ◌<◌, ◌≤◌, true, List, [], ◌∷◌, ◌++◌, length, get_or, refl, sym, ap, ◌∙◌, subst, arith}
 use Rattle.std.specs.Prelude.{Result, Some}
 use Rattle.std.specs.List.{slice_get}
+use Rattle.std.proofs.lemmas.Bool.Decides.{leb_tells}
 use Rattle.std.proofs.lemmas.Option.{same_Some, slice_get_read, slice_get_within}
 use Rattle.cell_registry.specs.declared.limits.RunError.{RunError}
 use Rattle.scheduled_core.specs.declared.report.Report.{Report}
@@ -15,7 +16,8 @@ use Rattle.outcome_answers.specs.OutcomesShown.{AreFirsts, shown_answer, shown_e
 pub record SoFar (answers : List OutcomeAnswer) (n : ℕ) (shown : List Answer) : Type 0 where
   pub covers : (i : ℕ) (a : OutcomeAnswer) → i < n → slice_get answers i ≡ Some a → IsListed shown (shown_end true a.end)
   pub among : (j : ℕ) (s : Answer) → slice_get shown j ≡ Some s →
-      (i : ℕ) × (a : OutcomeAnswer) × (slice_get answers i ≡ Some a) × (s ≡ shown_answer true a)
+      (i : ℕ) × (a : OutcomeAnswer) × (slice_get answers i ≡ Some a) × (s ≡ shown_answer true a) ×
+      ((k : ℕ) (b : OutcomeAnswer) → k < i → slice_get answers k ≡ Some b → shown_end true b.end ≢ s.end)
   pub once : ListOnce shown
 
 front_kept : {A : Type 0} (xs ys : List A) (i : ℕ) (x : A) → slice_get xs i ≡ Some x → slice_get (xs ++ ys) i ≡ Some x
@@ -66,12 +68,13 @@ module _ (answers : List OutcomeAnswer) (n : ℕ) (a : OutcomeAnswer) (low : n <
       ((i : ℕ) (b : OutcomeAnswer) → i < n → slice_get answers i ≡ Some b → IsListed shown (shown_end true b.end)) →
       (i : ℕ) (b : OutcomeAnswer) → i < n + 1 → slice_get answers i ≡ Some b → IsListed shown (shown_end true b.end)
   covered shown listed before i b within at =
-      let cases : (i < n) ⊎ (i ≡ n) = omega arith in
-      elim cases [
-        | inl early ↦ before i b early at
-        | inr last ↦
-            let same : a ≡ b = same_Some a b (sym there ∙ ap (slice_get answers) (sym last) ∙ at) in
+      elim (leb_tells n i) [
+        | inl past ↦
+            let reached = past.1 in
+            let last : n ≡ i = omega arith in
+            let same : a ≡ b = same_Some a b (sym there ∙ ap (slice_get answers) last ∙ at) in
             subst (λ (x : OutcomeAnswer). IsListed shown (shown_end true x.end)) same listed
+        | inr early ↦ before i b early.1 at
       ]
 
   -- an answer whose end is there
@@ -90,7 +93,11 @@ module _ (answers : List OutcomeAnswer) (n : ℕ) (a : OutcomeAnswer) (low : n <
         (λ i b early at. listed_more shown s (shown_end true b.end) (far.covers i b early at));
     among = λ j t at. elim (parted shown (s ∷ []) j t at) [
       | inl early ↦ far.among j t early
-      | inr late ↦ (n, a, there, sym (one_alone s t late.0 late.2) ∙ made)
+      | inr late ↦
+          let is_last = one_alone s t late.0 late.2 in
+          (n, a, there, sym is_last ∙ made, λ k b before bt same.
+              let h = far.covers k b before bt in
+              other (h.0, h.1, h.2, h.3 ∙ same ∙ ap (λ (x : Answer). x.end) (sym is_last)))
     ];
     once = once_more shown s far.once other;
   }

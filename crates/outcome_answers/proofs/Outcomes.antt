@@ -29,7 +29,7 @@ map_at f (x ∷ xs) (suc j) y e = map_at f xs j y e
 -- each answer that is written is one of those that were found
 from_found : (only_first : Bool) (answers : List OutcomeAnswer) (shown : List Answer) → AreShown only_first answers shown → (j : ℕ) (s : Answer) →
     slice_get shown j ≡ Some s → (i : ℕ) × (a : OutcomeAnswer) × (slice_get answers i ≡ Some a) × (s ≡ shown_answer only_first a)
-from_found true answers shown are j s at = are.among j s at
+from_found true answers shown are j s at = let h = are.among j s at in (h.0, h.1, h.2, h.3)
 from_found false answers shown are j s at =
     let h = map_at (shown_answer false) answers j s (subst (λ l. slice_get l j ≡ Some s) are at) in (j, h.0, h.1, h.2)
 

@@ -1,8 +1,9 @@
 -- An exploration of outcomes without the answers whose schedules are long.
-use Rattle.std.proofs.Common.{◌≡◌, ◌≢◌, ◌⊎◌, inl, inr, ℕ, zero, suc, ◌<◌, ◌≤◌, ◌==◌, ◌&&◌, Bool, true, false, cond, List, [], ◌∷◌, length, max, refl, sym, ap, ◌∙◌, subst, arith, leb, nat_eq, Ok}
+use Rattle.std.proofs.Common.{◌≡◌, ◌≢◌, ◌⊎◌, inl, inr, ℕ, zero, suc, ◌<◌, ◌≤◌, ◌==◌, ◌&&◌, Bool, true, false, cond, List, [], ◌∷◌, length, max, refl, sym, ap, ◌∙◌, subst, arith, leb, Ok}
 use Rattle.std.specs.Prelude.{Some}
 use Rattle.std.specs.List.{All, filter, slice_get}
-use Rattle.std.proofs.lemmas.Bool.{eqb-true, leb-false, leb-true}
+use Rattle.std.proofs.lemmas.Bool.{eqb-false, eqb-true, leb-false, leb-true}
+use Rattle.std.proofs.lemmas.Bool.Decides.{leb_tells}
 use Rattle.std.proofs.lemmas.List.Elements.{All-filter, filter_passes}
 use Rattle.std.proofs.lemmas.Option.{same_Some}
 use Rattle.cell_registry.specs.declared.limits.Limits.{Limits}
@@ -87,7 +88,13 @@ module _ (p : OutcomeAnswer → Bool) where
 one_place : (xs : List OutcomeAnswer) → ListOnce xs → (i j : ℕ) (a b : OutcomeAnswer) → slice_get xs i ≡ Some a → slice_get xs j ≡ Some b →
     a.end ≡ b.end → i ≡ j
 one_place xs once i j a b at bt same =
-    omega (arith, (λ (low : i < j). once i j a b low at bt same), (λ (low : j < i). once j i b a low bt at (sym same)))
+    elim (leb_tells i j) [
+      | inl low ↦ elim (leb_tells j i) [
+        | inl more ↦ (let here = low.1 in let there = more.1 in omega arith)
+        | inr past ↦ absurd (once i j a b past.1 at bt same)
+      ]
+      | inr past ↦ absurd (once j i b a past.1 bt at (sym same))
+    ]
 
 -- ---- the exploration
 abbrev pub is_short : ℕ → OutcomeAnswer → Bool
@@ -100,9 +107,6 @@ both_true false b h = absurd (cc)
 one_false : (a b : Bool) → (a && b) ≡ false → (a ≡ false) ⊎ ((a ≡ true) × (b ≡ false))
 one_false true b h = inr (refl, h)
 one_false false b h = inl refl
-
-not_eq : (m n : ℕ) → nat_eq m n ≡ false → m ≢ n
-not_eq m n h = λ same. grind (arith, h, same)
 
 module _ (code : Tree) (limits : Limits) (bounds : Bounds) (found kept : OutcomeExploration)
     (answers_are : kept.answers.items ≡ filter (is_short bounds.entries) found.answers.items)
@@ -151,7 +155,7 @@ module _ (code : Tree) (limits : Limits) (bounds : Bounds) (found kept : Outcome
     stopped = λ incomplete going.
         elim (one_false found.complete _ (sym complete_is ∙ incomplete)) [
           | inl part ↦ inl (rw worlds_is (rw bytes_is (stopped part (sym halted_is ∙ going))))
-          | inr fewer ↦ inr (left_out each once (not_eq _ _ fewer.1))
+          | inr fewer ↦ inr (left_out each once (eqb-false _ _ fewer.1))
         ];
     halted = λ h. halted (sym halted_is ∙ h);
     room = rw worlds_is room;

@@ -1,5 +1,5 @@
 -- How outcomes are written: as an exploration whose reports have no marks, of all fibers or of fiber 0 alone.
-use Rattle.std.specs.Prelude.{◌≡◌, ℕ, Bool, true, false, List, [], map, take, Option, Some, Result, Ok, Err}
+use Rattle.std.specs.Prelude.{◌≡◌, ◌≢◌, ◌<◌, ℕ, Bool, true, false, List, [], map, take, Option, Some, Result, Ok, Err}
 use Rattle.std.specs.List.{slice_get}
 use Rattle.effect_term.specs.declared.reply.Outcome.{Outcome}
 use Rattle.cell_registry.specs.declared.limits.RunError.{RunError}
@@ -30,11 +30,12 @@ abbrev pub shown_answer : Bool → OutcomeAnswer → Answer
 shown_answer only_first a = record { schedule = a.schedule; end = shown_end only_first a.end }
 
 -- Of each outcome of fiber 0, and of each fault, one answer is written: each of the answers has the outcome of fiber 0,
--- or the fault, of one that is written; each that is written is one of them; and none is written twice.
+-- or the fault, of one that is written; each that is written is the first of them that has it; and none is written twice.
 pub record AreFirsts (answers : List OutcomeAnswer) (shown : List Answer) : Type 0 where
   pub covers : (i : ℕ) (a : OutcomeAnswer) → slice_get answers i ≡ Some a → IsListed shown (shown_end true a.end)
   pub among : (j : ℕ) (s : Answer) → slice_get shown j ≡ Some s →
-      (i : ℕ) × (a : OutcomeAnswer) × (slice_get answers i ≡ Some a) × (s ≡ shown_answer true a)
+      (i : ℕ) × (a : OutcomeAnswer) × (slice_get answers i ≡ Some a) × (s ≡ shown_answer true a) ×
+      ((k : ℕ) (b : OutcomeAnswer) → k < i → slice_get answers k ≡ Some b → shown_end true b.end ≢ s.end)
   pub once : ListOnce shown
 
 -- which answers are written: one for each outcome of fiber 0, or all
