@@ -12,8 +12,8 @@ use Rattle.command_line.specs.Explorings.{ObeysBeside}
 
 -- what is answered to a program, as JSON or in words, of all fibers or of fiber 0 alone, by whether the time of its
 -- search is limited, and with this note
-abbrev pub unmarks_as : (json only_first : Bool) → ExploreOrder → (timed : Bool) → (note : List ℕ) → Term → List ℕ → Status →
-    Type 0
+abbrev pub unmarks_as : (json only_first : Bool) → ExploreOrder → (timed : Bool) → (note : List ℕ) → Term → List ℕ →
+    Status → Type 0
 unmarks_as json only_first order timed note t =
     IsOutcomesAnswer json only_first t order.limits order.bounds timed order.wants.items note
 

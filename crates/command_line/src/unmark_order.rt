@@ -12,8 +12,8 @@ use std::alloc::Global;
 use std::time::Clock;
 
 /// Answers the outcomes that the fibers of a text's program can have, without their marks. Returns the status of the
-/// answer, or `Status::Fault` if a device failed or memory ran out. All but the answer goes to the last device. The clock
-/// ends the search if its seconds are limited.
+/// answer, or `Status::Fault` if a device failed or memory ran out. All but the answer goes to the last device. The
+/// clock ends the search if its seconds are limited.
 pub fn obey_unmark<C: Clock, I: TextIn, O: TextOut, E: TextOut>(
     clock: &C,
     alloc: Global,

@@ -1,6 +1,7 @@
 //! The request that the words of a command line give.
 
-ghost use Rattle.std.specs.Prelude.{◌≡◌, ◌≢◌, ◌≤◌, ◌<◌, ℕ, codes, IfOk, IfSome, IfNone, List, Option, Some, false, map, true};
+ghost use Rattle.std.specs.Prelude.{◌≡◌, ◌≢◌, ◌≤◌, ◌<◌, ℕ, codes, IfOk, IfSome, IfNone, List, Option, Some, false};
+ghost use Rattle.std.specs.Prelude.{map, true};
 ghost use Rattle.cell_registry.specs.declared.limits.Limits.{Limits};
 ghost use Rattle.cell_registry.specs.Cells.{AreLimits};
 ghost use Rattle.clap.specs.Words.{first_of, found_of, rows_of, subcommand_rows_of};

@@ -16,7 +16,8 @@ use Rattle.json_answers.specs.ReportData.{count, fault_data, outcome_data}
 
 -- the fiber of this number, with its outcome
 abbrev pub bare_fiber : ℕ → Option Outcome → Data
-bare_fiber n outcome = object (member (codes "fiber") (count n) (member (codes "outcome") (outcome_data outcome) no_members))
+bare_fiber n outcome =
+    object (member (codes "fiber") (count n) (member (codes "outcome") (outcome_data outcome) no_members))
 
 -- fibers whose numbers go up from this one
 abbrev pub bare_items : ℕ → List FiberReport → Items
@@ -51,7 +52,7 @@ AreBareData unwanted (a ∷ answers) ds = (d : Data) × (behind : List Data) × 
 abbrev pub IsBarePart : Bool → List Want → List Answer → List Data → Type 0
 IsBarePart unwanted wants answers ds = AreBareData unwanted (filter (λ a. is_listed_so unwanted wants a) answers) ds
 
--- answers, whether they are all, that they have no marks, and how many worlds were found; where they may not be all, how
+-- answers, whether they are all, that they have no marks, and how many worlds were found; if there can be more, how
 -- many bytes were counted, and whether the time was over, too
 abbrev pub outcomes_data : Items → (complete halted : Bool) → (worlds bytes : ℕ) → Data
 outcomes_data answers true halted worlds bytes = object (member (codes "answer") (string (codes "exploration"))

@@ -20,10 +20,11 @@ pub record IsPastEntries (code : Tree) (limits : Limits) (entries : ℕ) (answer
   pub unlisted : IsListed answers answer.end → ⊥
 
 -- An exploration of the outcomes of code under these limits, within these bounds, whose time was limited or wasn't.
--- Where it is complete, the outcomes of every settled world are listed, and so are outcomes that no entry changes, under
--- whatever count. Where it isn't, a bound was met, or its time was over, which it says. Each answer is what its schedule
--- leads to, and no two answers are the same.
-pub record IsOutcomesOf (code : Tree) (limits : Limits) (bounds : Bounds) (timed : Bool) (e : OutcomeExploration) : Type 0
+-- If it is complete, the outcomes of every settled world are listed, and so are outcomes that no entry changes, under
+-- whatever count. If not, a bound was met, or its time was over, which it says. Each answer is what its schedule leads
+-- to, and no two answers are the same.
+pub record IsOutcomesOf (code : Tree) (limits : Limits) (bounds : Bounds) (timed : Bool) (e : OutcomeExploration)
+    : Type 0
   where
     pub all : e.complete ≡ true → (count : ℕ) (schedule : List ℕ) →
         IsCovered limits e.answers.items (core code (counted limits count) schedule)

@@ -30,7 +30,7 @@ abbrev pub shown_answer : Bool → OutcomeAnswer → Answer
 shown_answer only_first a = record { schedule = a.schedule; end = shown_end only_first a.end }
 
 -- Of each outcome of fiber 0, and of each fault, one answer is written: each of the answers has the outcome of fiber 0,
--- or the fault, of one that is written; each that is written is the first of them that has it; and none is written twice.
+-- or the fault, of one that is written; each that is written is the first of them that has it; none is written twice.
 pub record AreFirsts (answers : List OutcomeAnswer) (shown : List Answer) : Type 0 where
   pub covers : (i : ℕ) (a : OutcomeAnswer) → slice_get answers i ≡ Some a → IsListed shown (shown_end true a.end)
   pub among : (j : ℕ) (s : Answer) → slice_get shown j ≡ Some s →

@@ -10,9 +10,9 @@ use every_outcome::{OutcomeExploration, Watcher, explore_outcomes};
 use exploration_text::ExploreOrder;
 use std::alloc::{AllocError, Global};
 
-/// The outcomes that the fibers of a program can have under every schedule, within the limits and the bounds of an order.
+/// The outcomes that the fibers of a program can have under every schedule, within the limits and bounds of an order.
 ///
-/// An answer whose schedule has more entries than the bounds allow is left out, and then the exploration isn't complete.
+/// An answer whose schedule has more entries than the bounds allow is left out; then the exploration isn't complete.
 /// `AllocError` if memory ran out.
 pub fn find_outcomes<V: Watcher>(
     alloc: Global,
@@ -34,7 +34,8 @@ pub fn find_outcomes<V: Watcher>(
 fn shortened(found: OutcomeExploration, entries: usize) -> OutcomeExploration
     ensures answers { result.answers.items ≡
         filter (λ a. nat_le (length a.schedule) entries) found.answers.items }
-    ensures complete { result.complete ≡ found.complete && (length result.answers.items == length found.answers.items) }
+    ensures complete { result.complete ≡
+        (found.complete && (length result.answers.items == length found.answers.items)) }
     ensures halted { result.halted ≡ found.halted }
     ensures worlds { result.worlds ≡ found.worlds }
     ensures bytes { result.bytes ≡ found.bytes }

@@ -1,4 +1,4 @@
-//! From a text that spells a program to the outcomes that its fibers can have under every schedule, in words or as JSON.
+//! From a text that spells a program to the outcomes that its fibers can have under every schedule, in words or JSON.
 //!
 //! The crate uses the search of outcomes (`every_outcome`), and explorations and their answers (`exploration_text`,
 //! `json_answers`, `outcome_trace`). The crate promises that what is written is exactly the text of the outcomes that

@@ -15,9 +15,9 @@ use json_answers::{InJson, value_answer};
 use outcome_trace::{Answer, InWords};
 use std::alloc::{AllocError, Global};
 
-/// Answers the outcomes that the fibers of a program can have under every schedule ([`find_outcomes`]), in the form of an
-/// exploration ([`shown_exploration`]) and with its status. A text that is refused is answered by the line of its refusal,
-/// with `Status::Refused`.
+/// Answers the outcomes that the fibers of a program can have under every schedule ([`find_outcomes`]), in the form of
+/// an exploration ([`shown_exploration`]) and with its status. A text that is refused is answered by the line of its
+/// refusal, with `Status::Refused`.
 #[derive(Drop)]
 pub struct OutcomesOrder {
     /// What is explored, how far, and what is wanted.
