@@ -182,12 +182,7 @@ fn marks_reason(alloc: Global, explore: &ArgMatches<'_>) -> Result<Option<String
         Some(false) => unmarked_reason(alloc, explore),
         None => {
             let expected = "expected 'all' or 'none'";
-            Ok(Some(value_reason(
-                alloc,
-                marks,
-                "--marks <MARKS>",
-                expected,
-            )?))
+            Ok(Some(value_reason(alloc, marks, "--marks <MARKS>", expected)?))
         }
     }
 }

@@ -94,10 +94,15 @@ module _ (answers : List OutcomeAnswer) (n : ℕ) (a : OutcomeAnswer) (low : n <
     among = λ j t at. elim (parted shown (s ∷ []) j t at) [
       | inl early ↦ far.among j t early
       | inr late ↦
-          let is_last = one_alone s t late.0 late.2 in
-          (n, a, there, sym is_last ∙ made, λ k b before bt same.
-              let h = far.covers k b before bt in
-              other (h.0, h.1, h.2, h.3 ∙ same ∙ ap (λ (x : Answer). x.end) (sym is_last)))
+          let is_last = one_alone s t late.0 late.2 in (
+            n,
+            a,
+            there,
+            sym is_last ∙ made,
+            λ k b before bt same.
+                let h = far.covers k b before bt in
+                other (h.0, h.1, h.2, h.3 ∙ same ∙ ap (λ (x : Answer). x.end) (sym is_last)),
+          )
     ];
     once = once_more shown s far.once other;
   }

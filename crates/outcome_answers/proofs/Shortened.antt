@@ -113,58 +113,58 @@ module _ (code : Tree) (limits : Limits) (bounds : Bounds) (found kept : Outcome
     (answers_are : kept.answers.items ≡ filter (is_short bounds.entries) found.answers.items)
     (complete_is : kept.complete ≡ (found.complete && (length kept.answers.items == length found.answers.items)))
   where
-  -- where it is complete, all are kept
-  whole : kept.complete ≡ true → (found.complete ≡ true) × (found.answers.items ≡ kept.answers.items)
-  whole complete =
-      let h = both_true found.complete _ (sym complete_is ∙ complete) in
-      let many = eqb-true (length kept.answers.items) (length found.answers.items) h.1 in
-      (h.0, sym (answers_are ∙ filter_whole (is_short bounds.entries) found.answers.items (sym (ap length answers_are) ∙ many)))
+    -- where it is complete, all are kept
+    whole : kept.complete ≡ true → (found.complete ≡ true) × (found.answers.items ≡ kept.answers.items)
+    whole complete =
+        let h = both_true found.complete _ (sym complete_is ∙ complete) in
+        let many = eqb-true (length kept.answers.items) (length found.answers.items) h.1 in
+        (h.0, sym (answers_are ∙ filter_whole (is_short bounds.entries) found.answers.items (sym (ap length answers_are) ∙ many)))
 
-  -- one that is left out isn't among the others
-  left_out : All (IsReached code limits) found.answers.items → ListOnce found.answers.items →
-      length kept.answers.items ≢ length found.answers.items → IsPastEntries code limits bounds.entries kept.answers.items
-  left_out each once fewer =
-      let lost = filter_lost (is_short bounds.entries) found.answers.items (λ same. fewer (ap length answers_are ∙ same)) in
-      record {
-        answer = lost.1;
-        reached = all_at (IsReached code limits) found.answers.items lost.0 lost.1 lost.2 each;
-        long = leb-false (length lost.1.schedule) bounds.entries lost.3;
-        unlisted = λ listed.
-            let at = subst (λ l. slice_get l listed.0 ≡ Some listed.1) answers_are listed.2 in
-            let there = filter_at (is_short bounds.entries) found.answers.items listed.0 listed.1 at in
-            let place = one_place found.answers.items once there.0 lost.0 listed.1 lost.1 there.1 lost.2 listed.3 in
-            let same : listed.1 ≡ lost.1 = same_Some listed.1 lost.1 (sym there.1 ∙ ap (slice_get found.answers.items) place ∙ lost.2) in
-            let passes = ap (is_short bounds.entries) (sym same) ∙ there.2 in
-            absurd (let fails = lost.3 in cc);
-      }
+    -- one that is left out isn't among the others
+    left_out : All (IsReached code limits) found.answers.items → ListOnce found.answers.items →
+        length kept.answers.items ≢ length found.answers.items → IsPastEntries code limits bounds.entries kept.answers.items
+    left_out each once fewer =
+        let lost = filter_lost (is_short bounds.entries) found.answers.items (λ same. fewer (ap length answers_are ∙ same)) in
+        record {
+          answer = lost.1;
+          reached = all_at (IsReached code limits) found.answers.items lost.0 lost.1 lost.2 each;
+          long = leb-false (length lost.1.schedule) bounds.entries lost.3;
+          unlisted = λ listed.
+              let at = subst (λ l. slice_get l listed.0 ≡ Some listed.1) answers_are listed.2 in
+              let there = filter_at (is_short bounds.entries) found.answers.items listed.0 listed.1 at in
+              let place = one_place found.answers.items once there.0 lost.0 listed.1 lost.1 there.1 lost.2 listed.3 in
+              let same : listed.1 ≡ lost.1 = same_Some listed.1 lost.1 (sym there.1 ∙ ap (slice_get found.answers.items) place ∙ lost.2) in
+              let passes = ap (is_short bounds.entries) (sym same) ∙ there.2 in
+              absurd (let fails = lost.3 in cc);
+        }
 
-  pub kept_is : (timed : Bool) → kept.halted ≡ found.halted → kept.worlds ≡ found.worlds → kept.bytes ≡ found.bytes →
-      (found.complete ≡ true → (count : ℕ) (schedule : List ℕ) → IsCovered limits found.answers.items (core code (counted limits count) schedule)) →
-      (found.complete ≡ true → (count : ℕ) (schedule : List ℕ) (w : World) → core code (counted limits count) schedule ≡ Ok w →
-      IsSettled (counted limits count) w → IsListed found.answers.items (outcomes (Ok w))) →
-      All (IsReached code limits) found.answers.items → ListOnce found.answers.items →
-      (found.complete ≡ false → found.halted ≡ false → IsAtBound bounds found.worlds found.bytes) →
-      (found.halted ≡ true → timed ≡ true) → found.worlds ≤ max bounds.worlds 1 → (found.complete ≡ true → found.bytes < bounds.memory) →
-      IsOutcomesOf code limits bounds timed kept
-  kept_is timed halted_is worlds_is bytes_is all settled each once stopped halted room spare = record {
-    all = λ complete count schedule. let h = whole complete in
-        subst (λ l. IsCovered limits l (core code (counted limits count) schedule)) h.1 (all h.0 count schedule);
-    settled = λ complete count schedule w leads stays. let h = whole complete in
-        subst (λ l. IsListed l (outcomes (Ok w))) h.1 (settled h.0 count schedule w leads stays);
-    each = subst (All (IsReached code limits)) (sym answers_are) (All-filter (is_short bounds.entries) (IsReached code limits) found.answers.items each);
-    once = subst ListOnce (sym answers_are) (filter_once (is_short bounds.entries) found.answers.items once);
-    stopped = λ incomplete going.
-        elim (one_false found.complete _ (sym complete_is ∙ incomplete)) [
-          | inl part ↦ inl (rw worlds_is (rw bytes_is (stopped part (sym halted_is ∙ going))))
-          | inr fewer ↦ inr (left_out each once (eqb-false _ _ fewer.1))
-        ];
-    halted = λ h. halted (sym halted_is ∙ h);
-    room = rw worlds_is room;
-    spare = λ complete. rw bytes_is (spare (whole complete).0);
-    short = subst (All (λ a. length a.schedule ≤ bounds.entries)) (sym answers_are) (λ k d low.
-        leb-true _ _ (filter_passes (is_short bounds.entries) found.answers.items k d low));
-  }
+    pub kept_is : (timed : Bool) → kept.halted ≡ found.halted → kept.worlds ≡ found.worlds → kept.bytes ≡ found.bytes →
+        (found.complete ≡ true → (count : ℕ) (schedule : List ℕ) → IsCovered limits found.answers.items (core code (counted limits count) schedule)) →
+        (found.complete ≡ true → (count : ℕ) (schedule : List ℕ) (w : World) → core code (counted limits count) schedule ≡ Ok w →
+        IsSettled (counted limits count) w → IsListed found.answers.items (outcomes (Ok w))) →
+        All (IsReached code limits) found.answers.items → ListOnce found.answers.items →
+        (found.complete ≡ false → found.halted ≡ false → IsAtBound bounds found.worlds found.bytes) →
+        (found.halted ≡ true → timed ≡ true) → found.worlds ≤ max bounds.worlds 1 → (found.complete ≡ true → found.bytes < bounds.memory) →
+        IsOutcomesOf code limits bounds timed kept
+    kept_is timed halted_is worlds_is bytes_is all settled each once stopped halted room spare = record {
+      all = λ complete count schedule. let h = whole complete in
+          subst (λ l. IsCovered limits l (core code (counted limits count) schedule)) h.1 (all h.0 count schedule);
+      settled = λ complete count schedule w leads stays. let h = whole complete in
+          subst (λ l. IsListed l (outcomes (Ok w))) h.1 (settled h.0 count schedule w leads stays);
+      each = subst (All (IsReached code limits)) (sym answers_are) (All-filter (is_short bounds.entries) (IsReached code limits) found.answers.items each);
+      once = subst ListOnce (sym answers_are) (filter_once (is_short bounds.entries) found.answers.items once);
+      stopped = λ incomplete going.
+          elim (one_false found.complete _ (sym complete_is ∙ incomplete)) [
+            | inl part ↦ inl (rw worlds_is (rw bytes_is (stopped part (sym halted_is ∙ going))))
+            | inr fewer ↦ inr (left_out each once (eqb-false _ _ fewer.1))
+          ];
+      halted = λ h. halted (sym halted_is ∙ h);
+      room = rw worlds_is room;
+      spare = λ complete. rw bytes_is (spare (whole complete).0);
+      short = subst (All (λ a. length a.schedule ≤ bounds.entries)) (sym answers_are) (λ k d low.
+          leb-true _ _ (filter_passes (is_short bounds.entries) found.answers.items k d low));
+    }
 
-  -- what holds of each schedule holds of those that are kept
-  pub kept_all : (P : OutcomeAnswer → Type 0) → All P found.answers.items → All P kept.answers.items
-  kept_all P h = subst (All P) (sym answers_are) (All-filter (is_short bounds.entries) P found.answers.items h)
+    -- what holds of each schedule holds of those that are kept
+    pub kept_all : (P : OutcomeAnswer → Type 0) → All P found.answers.items → All P kept.answers.items
+    kept_all P h = subst (All P) (sym answers_are) (All-filter (is_short bounds.entries) P found.answers.items h)
