@@ -56,12 +56,17 @@ module _ (b : Bool) (p : Place) (f : ℕ) where
   pub fiber_unborn : length p.world.fibers ≤ f → after_own p (own_of b p f) ≡ p
   fiber_unborn past = fiber_none (ap (λ (o : Option Fiber). has_own p.world f o && may_be b o) (slice_get_past p.world.fibers f past))
 
+-- such a move is a free one
+pub may_own : (b : Bool) (p : Place) (f : ℕ) (q : Place) → is_made b p.world f ≡ true → stepped p f ≡ Ok q → MayOwn b p f
+may_own b p f q made goes =
+    let both = made_parts b p.world f made in
+    record { own = own_from p f q both.0 goes; may = both.1 }
+
 module _ (b : Bool) (p : Place) where
   led_once : (q : Place) (f : ℕ) (y : Result Place RunError) → is_made b p.world f ≡ true → stepped p f ≡ y →
       Leads stepped (MayOwn b) (or_stays p y) q → Leads stepped (MayOwn b) p q
   led_once q f (Ok x) made e on =
-      let both = made_parts b p.world f made in
-      On p f x q (record { own = own_from p f x both.0 e; may = both.1 }) e on
+      On p f x q (may_own b p f x made e) e on
   led_once q f (Err d) made e on = on
 
   led_from : (q : Place) (f : ℕ) (t : Bool) → is_made b p.world f ≡ t → Leads stepped (MayOwn b) (after_own p (if_own t f)) q →

@@ -1,3 +1,4 @@
+pub mod Ahead
 pub mod Fairly
 pub mod Rows
 pub mod Ranked

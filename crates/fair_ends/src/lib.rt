@@ -21,4 +21,4 @@ mod walking;
 
 pub use deciding::decide_ends;
 pub use ending::{Cycle, Ending};
-pub use resting::Resting;
+pub use resting::{Made, Resting};

@@ -11,8 +11,8 @@ if_ok (Err e) f h = h
 pub returns-in-Some-clause-ends : goal.returns-in-Some-clause-ends
 returns-in-Some-clause-ends g c =
     if_ok c.judge.result
-    (λ it h is first at s fair.
-    h is first (more_get (g.W.Worlds.worlds c.args.worlds.now) (g.W.Worlds.worlds c.table_of.new.worlds) 0 first c.in_ok-table_of.ensures.grows at) s fair)
+    (λ it h is laws first at s fair.
+    h is laws first (more_get (g.W.Worlds.worlds c.args.worlds.now) (g.W.Worlds.worlds c.table_of.new.worlds) 0 first c.in_ok-table_of.ensures.grows at) s fair)
     c.judge.ensures.ends
 
 pub returns-in-Some-clause-repeats : goal.returns-in-Some-clause-repeats
