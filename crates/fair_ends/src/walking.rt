@@ -121,7 +121,7 @@ fn comes(entries: &[u16], edge: &Edge, begins: u32, fiber: u16) -> bool
 }
 
 /// Whether the step of a fiber at the world of this number makes no entry, or one alone, which leads back.
-pub fn is_idle(edge: &Edge, world: u32, fiber: u16) -> bool
+pub(crate) fn is_idle(edge: &Edge, world: u32, fiber: u16) -> bool
     ensures { result ≡ true → IsStill world fiber edge.now }
 {
     let made = edge.made.as_slice();
@@ -132,7 +132,7 @@ pub fn is_idle(edge: &Edge, world: u32, fiber: u16) -> bool
 }
 
 /// Whether one of these is this fiber.
-pub fn has(entries: &[u16], fiber: u16) -> bool
+pub(crate) fn has(entries: &[u16], fiber: u16) -> bool
     ensures yes { result ≡ true → IsIn fiber entries.now }
     ensures no { result ≡ false → IsIn fiber entries.now → ⊥ }
 {
