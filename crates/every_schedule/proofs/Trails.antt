@@ -108,21 +108,18 @@ module _ (n : AtOnce) (p : Place) (f : ℕ) where
   in_few : (made : List ℕ) → AreFew made → (g : ℕ) → IsIn g made → g < 1000
   in_few made few g i = all_at (λ h. h < 1000) made i.0 g i.1 few
 
-  pub leap_none : (old : List ℕ) → length p.world.fibers ≤ f → IsLeapTrail n old old p f
-  leap_none old past =
+  pub none_made : length p.world.fibers ≤ f → MakesAtOnce n p f []
+  none_made past =
       let stays = unborn_stays p f (slice_get_past p.world.fibers f past) in
       let rests = leapt_rests n p f past in record {
-        added = [];
-        is = sym (append-nil old);
-        makes = record {
-          leads = sym rests;
-          free = subst (Behind []) (sym stays) ([], p, refl, rests, λ g i. i);
-          still = λ none. stays;
-          few = in_few [] none_few;
-        };
-        few = none_few;
-        moves = tt;
+        leads = sym rests;
+        free = subst (Behind []) (sym stays) ([], p, refl, rests, λ g i. i);
+        still = λ none. stays;
+        few = in_few [] none_few;
       }
+
+  pub leap_none : (old : List ℕ) → length p.world.fibers ≤ f → IsLeapTrail n old old p f
+  leap_none old past = record { added = []; is = sym (append-nil old); makes = none_made past; few = none_few; moves = tt }
 
   module _ (low : f < 1000) (old mid : List ℕ) where
     pub leap_more : (new : List ℕ) (q r : Place) → IsFirstOf old mid p f → stepped p f ≡ Ok q → IsOwnTrail n.stores mid new q r → leapt n p f ≡ Ok r →
@@ -134,7 +131,7 @@ module _ (n : AtOnce) (p : Place) (f : ℕ) where
           makes = record {
             leads = ap (λ x. run stepped x own.added) goes ∙ led_run stepped (MayOwn n.stores) own.added q r own.led ∙ sym to;
             free = subst (Behind (f ∷ own.added)) (sym goes) (own.added, r, own.led, to, λ g i. (suc i.0, i.1));
-            still = λ none. absurd (cc);
+            still = λ none. absurd (none (0, refl));
             few = in_few (f ∷ own.added) few;
           };
           few = few;
@@ -147,7 +144,7 @@ module _ (n : AtOnce) (p : Place) (f : ℕ) where
           makes = record {
             leads = ap (λ x. run stepped (Ok x) own.added) (sym same) ∙ led_run stepped (MayOwn n.stores) own.added q r own.led ∙ sym to;
             free = subst (Behind own.added) (sym goes) (own.added, r, own.led, to, λ g i. i);
-            still = λ empty. none.1;
+            still = λ apart. none.1;
             few = in_few own.added own.few;
           };
           few = own.few;
@@ -162,7 +159,7 @@ module _ (n : AtOnce) (p : Place) (f : ℕ) where
           makes = record {
             leads = stops ∙ sym to;
             free = subst (Behind (f ∷ [])) (sym stops) to;
-            still = λ none. absurd (cc);
+            still = λ none. absurd (none (0, refl));
             few = in_few (f ∷ []) few;
           };
           few = few;

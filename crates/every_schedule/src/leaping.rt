@@ -43,7 +43,10 @@ pub(crate) fn leap(
         return Ok(());
     }
     note(&mut *trail, &*current, fiber)?;
-    current.enter(fiber)?;
+    match current.enter(fiber) {
+        Ok(()) => {}
+        Err(fault) => return Err(fault),
+    }
     push(current, at_once, trail)?;
     Ok(())
 }

@@ -22,7 +22,7 @@ module _ {W E : Type 0} (entry : W → ℕ → Result W E) (Free : W → ℕ →
   pub lands_at : (t : ℕ) (y : Result W E) (w : W) → LandsOn ws t y → t ≢ fault → slice_get ws t ≡ Some w → y ≡ Ok w
   lands_at t y w on isnt at = let to = world_at t y on isnt in to.2 ∙ ap Ok (same_Some to.0 w (sym to.1 ∙ at))
 
-  -- an entry that is made alone and leads back, or none, changes nothing
+  -- an entry that is made alone and leads back, or isn't made, changes nothing
   pub still : (t f : ℕ) (w : W) (e : Edge) → IsEdge entry Free step most ws w f e → slice_get ws t ≡ Some w → t ≢ fault → IsStill t f e → entry w f ≡ Ok w
   still t f w e is at isnt (inl none) = is.makes.still none
   still t f w e is at isnt (inr alone) =
@@ -35,7 +35,7 @@ module _ {W E : Type 0} (entry : W → ℕ → Result W E) (Free : W → ℕ →
   fair_at row begins cycle w row_is at isnt each f = by (cases_order f (length row.edges.items))
     where
       past : length row.edges.items ≤ f → IsIn f cycle ⊎ (entry w f ≡ Ok w)
-      past over = inr ((row_is.rests f over).still refl)
+      past over = inr ((row_is.rests f over).still (λ i. let no : slice_get [] i.0 ≡ Some f = i.1 in cc))
 
       here : (e : Edge) → slice_get row.edges.items f ≡ Some e → IsIn f cycle ⊎ IsStill begins f e → IsIn f cycle ⊎ (entry w f ≡ Ok w)
       here e is (inl there) = inl there

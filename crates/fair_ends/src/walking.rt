@@ -120,12 +120,12 @@ fn comes(entries: &[u16], edge: &Edge, begins: u32, fiber: u16) -> bool
     has(entries, fiber) || is_idle(edge, begins, fiber)
 }
 
-/// Whether the step of a fiber at the world of this number makes no entry, or one alone, which leads back.
+/// Whether the step of a fiber at the world of this number makes no entry of it, or its entry alone, which leads back.
 pub(crate) fn is_idle(edge: &Edge, world: u32, fiber: u16) -> bool
     ensures { result ≡ true → IsStill world fiber edge.now }
 {
     let made = edge.made.as_slice();
-    if made.len() == 0 {
+    if !has(made, fiber) {
         return true;
     }
     made.len() == 1 && made[0] == fiber && edge.target == world

@@ -4,6 +4,7 @@ use Rattle.std.specs.List.{slice_get}
 use Rattle.world_search.specs.declared.landings.Landing.TheVariants as to
 use Rattle.world_search.specs.declared.landings.Entered.{Entered}
 use Rattle.world_search.specs.declared.landings.Entered.TheVariants as came
+use Rattle.world_search.specs.Lists.{IsIn}
 use Rattle.fair_ends.specs.Fair.{Makes}
 use Rattle.fair_ends.specs.declared.table.Edge.{Edge}
 use Rattle.fair_ends.specs.declared.table.Row.{Row}
@@ -18,9 +19,9 @@ IsTarget (came.At (to.World j)) t = (t ≡ j) × (j < fault)
 IsTarget (came.At (to.Fault j)) t = t ≡ fault
 IsTarget came.Full t = ⊥
 
--- the step of fiber f makes no entry, or its own alone, which leads to the world of this number
+-- the step of fiber f makes no entry of it, or its entry alone, which leads to the world of this number
 abbrev pub IsStill : ℕ → ℕ → Edge → Type 0
-IsStill t f e = (e.made.items ≡ []) ⊎ ((e.made.items ≡ f ∷ []) × (e.target ≡ t))
+IsStill t f e = (IsIn f e.made.items → ⊥) ⊎ ((e.made.items ≡ f ∷ []) × (e.target ≡ t))
 
 module _ {W E : Type 0} (ws : List W) where
   -- the number is that of this world, or of a fault
