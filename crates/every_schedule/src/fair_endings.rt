@@ -24,9 +24,8 @@ use world_search::{Bounds, Watcher};
 /// [`Ending::Repeats`] has the entries that lead to a cycle, and those of the cycle: `replay` takes the first, and behind
 /// them the others as often as one likes. The search makes own moves at once, as [`explore`](crate::explore) does; that
 /// each fair schedule of single entries ends is what is promised. [`Ending::Undecided`] comes at a bound: as many worlds
-/// as may be kept, or as many bytes; the bound on entries isn't used. It also comes if the watcher ends the search, and
-/// where a fiber makes more own moves in a row than are made at once. The limits are in their ranges ([`Limits`]).
-/// [`RunError::NoMemory`] is the only error.
+/// as may be kept, or as many bytes; the bound on entries isn't used. It also comes if the watcher ends the search. The
+/// limits are in their ranges ([`Limits`]). [`RunError::NoMemory`] is the only error.
 ///
 /// ```
 /// let program = Program::check(alloc, parse(alloc, b"(race (pure 4) (never))")?)?;
