@@ -154,11 +154,6 @@ module _ (kept : Kept) (found : List Found) (answers : List OutcomeAnswer) (told
       let it = found_at i a e in
       subst (λ s. All (λ f. f < most) s) (sym it.2.schedule) (all_at (search.IsNumbered most) found i it.0 it.1 h))
 
-  pub short : (most : ℕ) → All (search.IsShort most) found → All (λ a. length a.schedule ≤ most) answers
-  short most h = all_from (λ a. length a.schedule ≤ most) answers (λ i a e.
-      let it = found_at i a e in
-      subst (λ s. length s ≤ most) (sym it.2.schedule) (all_at (search.IsShort most) found i it.0 it.1 h))
-
   pub once : AreSingle kept.faults → search.TellOnce outcomes_at kept.places found → ListOnce answers
   once single h i j a b less ati atj =
       let f = found_at i a ati in

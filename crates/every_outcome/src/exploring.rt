@@ -1,5 +1,5 @@
 //! The outcomes that a program can have under every schedule.
-ghost use Rattle.std.specs.Prelude.{◌≡◌, ◌<◌, ◌≤◌, ℕ, List, length, max, IfOk, IfErr, true, false};
+ghost use Rattle.std.specs.Prelude.{◌≡◌, ◌<◌, ◌≤◌, ℕ, List, max, IfOk, IfErr, true, false};
 ghost use Rattle.std.specs.Prelude.{Ok as GoesWell};
 ghost use Rattle.std.specs.List.{All};
 ghost use Rattle.derived_ops.specs.Expansion.{code_of};
@@ -28,6 +28,9 @@ use world_search::{Bounds, Landing, Watcher, search};
 /// each [`RunError::Full`]. Where it isn't complete, as many worlds were kept as there may be, or more than a schedule
 /// may have entries, or as many bytes were counted as may be kept, or the watcher has ended the search; each answer is
 /// right all the same (`each`). A loop that says a value in each turn has outcomes that stay, and no settled report.
+///
+/// The bound on entries counts those of the search, each of which can have further moves behind it. The schedule of an
+/// answer has every move as an entry, so it can be longer than that bound.
 ///
 /// Worlds are taken for one where they differ only in the marks of fibers, in the numbers of masks, in how often fibers
 /// have changed their cells, and in the notes of who was joined. So the count of the limits plays no part, and no
@@ -58,7 +61,6 @@ pub fn explore_outcomes<V: Watcher>(
     ensures room { IfOk result (λ it. it.worlds ≤ max bounds.worlds 1) }
     ensures spare { IfOk result (λ it. it.complete ≡ true → it.bytes < bounds.memory) }
     ensures numbers { IfOk result (λ it. All (λ a. All (λ f. f < 1000) a.schedule) it.answers.items) }
-    ensures short { IfOk result (λ it. All (λ a. length a.schedule ≤ bounds.entries) it.answers.items) }
     ensures memory { IfErr result (λ e. e ≡ RunError.NoMemory) }
 {
     let mut worlds = SeenWorlds::new(alloc, program, limits)?;

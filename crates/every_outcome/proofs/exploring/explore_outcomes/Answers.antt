@@ -4,7 +4,7 @@ use Rattle.std.specs.List.{slice_get}
 use Rattle.derived_ops.specs.Expansion.{code_of}
 use Rattle.derived_ops.specs.Reading.{source_of}
 use Rattle.every_outcome.specs.Places.{Place, first_place}
-use Rattle.every_outcome.proofs.Told.{all_within, covered, numbered, once, reached, settled, short}
+use Rattle.every_outcome.proofs.Told.{all_within, covered, numbered, once, reached, settled}
 use Rattle.every_outcome.proofs.exploring.explore_outcomes.Goals as goal
 
 pub told-requires : goal.told-requires
@@ -46,11 +46,6 @@ pub returns-clause-numbers : goal.returns-clause-numbers
 returns-clause-numbers g c =
     numbered c.search.new.worlds c.in_ok-found.found.answers.items c.in_ok-answers.answers.items c.in_ok-answers.ensures.told 1000
     c.in_ok-found.ensures.numbers
-
-pub returns-clause-short : goal.returns-clause-short
-returns-clause-short g c =
-    short c.search.new.worlds c.in_ok-found.found.answers.items c.in_ok-answers.answers.items c.in_ok-answers.ensures.told c.args.bounds.entries
-    c.in_ok-found.ensures.short
 
 pub returns-clause-stopped : goal.returns-clause-stopped
 returns-clause-stopped g c = λ incomplete going.
