@@ -10,10 +10,12 @@ ghost use Rattle.scheduled_core.specs.Finals.{IsSettled};
 ghost use Rattle.world_search.specs.Answers.{IsAtBound};
 ghost use Rattle.every_outcome.specs.Outcomes.{IsCovered, IsListed, IsReached, ListOnce, counted};
 ghost use Rattle.every_outcome.specs.Outcomes.{outcomes};
+ghost use Rattle.every_outcome.specs.Places.{first_place};
 ghost use Rattle.every_outcome.specs.Private.Keeping.{AreSingle};
 ghost use Rattle.every_outcome.specs.Private.Telling.{AreTold, IsEnd, IsTold, IsWithin};
 
 use crate::outcomes::{OutcomeAnswer, OutcomeExploration, Outcomes, Schedule};
+use crate::unfolding::unfold;
 use crate::worlds::SeenWorlds;
 use cell_registry::{Limits, RunError};
 use effect_term::{Program, facts_of};
@@ -65,7 +67,7 @@ pub fn explore_outcomes<V: Watcher>(
 {
     let mut worlds = SeenWorlds::new(alloc, program, limits)?;
     let found = search(alloc, &mut worlds, bounds, watcher)?;
-    let answers = told(alloc, &worlds, found.answers)?;
+    let answers = told(alloc, program, limits, &worlds, found.answers)?;
     Ok(OutcomeExploration {
         answers,
         worlds: found.worlds,
@@ -78,30 +80,45 @@ pub fn explore_outcomes<V: Watcher>(
 // The answers of a search, each with its outcomes or fault.
 fn told(
     alloc: Global,
+    program: &Program,
+    limits: Limits,
     worlds: &SeenWorlds,
     found: Vec<world_search::Answer>,
-) -> Result<Vec<OutcomeAnswer>, AllocError>
-    requires { All (λ a. IsWithin worlds.now a.end) found.items }
-    ensures told { IfOk result (λ answers. AreTold worlds.now found.items answers.items) }
+) -> Result<Vec<OutcomeAnswer>, RunError>
+    requires limits { AreLimits limits }
+    requires within { All (λ a. IsWithin worlds.now a.end) found.items }
+    ensures told { IfOk result (λ answers. AreTold worlds.now (first_place (code_of (source_of program.now)) limits)
+        found.items answers.items) }
     ensures single { AreSingle worlds.now.faults }
+    ensures memory { IfErr result (λ e. e ≡ RunError.NoMemory) }
 {
     // No fault was kept twice.
     facts_of(worlds.many_faults());
     let mut answers = Vec::new(alloc);
     for it in found {
-        answers.push(answer(worlds, it)?)?;
+        answers.push(answer(alloc, program, limits, worlds, it)?)?;
     }
     Ok(answers)
 }
 
-// An answer of a search, with its outcomes or fault.
-fn answer(worlds: &SeenWorlds, found: world_search::Answer) -> Result<OutcomeAnswer, AllocError>
-    requires { IsWithin worlds.now found.end }
-    ensures { IfOk result (λ answer. IsTold worlds.now found answer) }
+// An answer of a search, with its outcomes or fault, and with each move as an entry of its schedule.
+fn answer(
+    alloc: Global,
+    program: &Program,
+    limits: Limits,
+    worlds: &SeenWorlds,
+    found: world_search::Answer,
+) -> Result<OutcomeAnswer, RunError>
+    requires limits { AreLimits limits }
+    requires within { IsWithin worlds.now found.end }
+    ensures told { IfOk result (λ answer.
+        IsTold worlds.now (first_place (code_of (source_of program.now)) limits) found answer) }
+    ensures memory { IfErr result (λ e. e ≡ RunError.NoMemory) }
 {
     let end = end(worlds, found.end)?;
+    let schedule = unfold(alloc, program, limits, found.schedule.as_slice())?;
     Ok(OutcomeAnswer {
-        schedule: Schedule::new(found.schedule),
+        schedule: Schedule::new(schedule),
         end,
     })
 }

@@ -17,10 +17,14 @@
 //! ```
 #![tactic(auto)]
 
+mod core_world;
 mod exploring;
 mod faults;
+mod leaping;
 mod outcomes;
+mod own_moves;
 mod shape;
+mod unfolding;
 mod world;
 mod worlds;
 
