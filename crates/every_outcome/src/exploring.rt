@@ -1,5 +1,5 @@
 //! The outcomes that a program can have under every schedule.
-ghost use Rattle.std.specs.Prelude.{◌≡◌, ◌<◌, ◌≤◌, ℕ, List, max, IfOk, IfErr, true, false};
+ghost use Rattle.std.specs.Prelude.{◌≡◌, ◌<◌, ◌≤◌, ◌++◌, ℕ, List, [], ◌∷◌, max, IfOk, IfErr, OnOk, true, false};
 ghost use Rattle.std.specs.Prelude.{Ok as GoesWell};
 ghost use Rattle.std.specs.List.{All};
 ghost use Rattle.derived_ops.specs.Expansion.{code_of};
@@ -96,9 +96,18 @@ fn told(
     facts_of(worlds.many_faults());
     let mut answers = Vec::new(alloc);
     for it in found {
-        answers.push(answer(alloc, program, limits, worlds, it)?)?;
+        let next = answer(alloc, program, limits, worlds, it)?;
+        add(&mut answers, next)?;
     }
     Ok(answers)
+}
+
+// One more answer.
+fn add(answers: &mut Vec<OutcomeAnswer>, next: OutcomeAnswer) -> Result<(), AllocError>
+    ensures { OnOk result (answers.new.items ≡ answers.old.items ++ next ∷ []) }
+{
+    answers.push(next)?;
+    Ok(())
 }
 
 // An answer of a search, with its outcomes or fault, and with each move as an entry of its schedule.

@@ -119,9 +119,10 @@ fn push_fiber(
     if !has_own_move(&*world, fiber) {
         return Ok(false);
     }
-    // The call of an own move takes no number of a band, so memory ran out if it is refused.
-    if world.enter(fiber).is_err() {
-        return Err(AllocError);
+    match world.enter(fiber) {
+        Ok(()) => {}
+        // An own move takes no number of a band, so memory ran out.
+        Err(_) => return Err(AllocError),
     }
     add(trail, fiber)?;
     Ok(true)

@@ -9,4 +9,6 @@
 #[cfg(test)]
 mod loops;
 #[cfg(test)]
+mod scratch;
+#[cfg(test)]
 mod same;

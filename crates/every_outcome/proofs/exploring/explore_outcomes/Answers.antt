@@ -7,8 +7,8 @@ use Rattle.every_outcome.specs.Places.{Place, first_place}
 use Rattle.every_outcome.proofs.Told.{all_within, covered, numbered, once, reached, settled}
 use Rattle.every_outcome.proofs.exploring.explore_outcomes.Goals as goal
 
-pub told-requires : goal.told-requires
-told-requires g c =
+pub told-requires-clause-within : goal.told-requires-clause-within
+told-requires-clause-within g c =
     let start = first_place (code_of (source_of c.args.program.now)) c.args.limits in
     let first : slice_get c.in_ok-worlds.worlds.places 0 ≡ Some start = ap (λ (l : List Place). slice_get l 0) c.in_ok-worlds.ensures.places in
     all_within c.search.new.worlds start c.in_ok-found.found.answers.items (c.in_ok-found.ensures.each start first)
@@ -18,34 +18,34 @@ returns-clause-all g c = λ complete count schedule.
     let code = code_of (source_of c.args.program.now) in
     let start = first_place code c.args.limits in
     let first : slice_get c.in_ok-worlds.worlds.places 0 ≡ Some start = ap (λ (l : List Place). slice_get l 0) c.in_ok-worlds.ensures.places in
-    covered c.search.new.worlds c.in_ok-found.found.answers.items c.in_ok-answers.answers.items c.in_ok-answers.ensures.told code c.args.limits
-    c.requires.limits.some_count c.in_ok-worlds.ensures.reached count schedule (c.in_ok-found.ensures.all complete start first schedule)
+    covered c.search.new.worlds code c.args.limits c.in_ok-found.found.answers.items c.in_ok-answers.answers.items c.in_ok-answers.ensures.told
+    c.requires.limits.some_count c.in_ok-worlds.ensures.reached count schedule (c.in_ok-found.ensures.all complete start first)
 
 pub returns-clause-settled : goal.returns-clause-settled
 returns-clause-settled g c = λ complete count schedule w leads stays.
     let code = code_of (source_of c.args.program.now) in
     let start = first_place code c.args.limits in
     let first : slice_get c.in_ok-worlds.worlds.places 0 ≡ Some start = ap (λ (l : List Place). slice_get l 0) c.in_ok-worlds.ensures.places in
-    settled c.search.new.worlds c.in_ok-found.found.answers.items c.in_ok-answers.answers.items c.in_ok-answers.ensures.told code c.args.limits
-    c.requires.limits.some_count c.in_ok-worlds.ensures.reached count schedule w (c.in_ok-found.ensures.all complete start first schedule) leads stays
+    settled c.search.new.worlds code c.args.limits c.in_ok-found.found.answers.items c.in_ok-answers.answers.items c.in_ok-answers.ensures.told
+    c.requires.limits.some_count c.in_ok-worlds.ensures.reached count schedule w (c.in_ok-found.ensures.all complete start first) leads stays
 
 pub returns-clause-each : goal.returns-clause-each
 returns-clause-each g c =
     let code = code_of (source_of c.args.program.now) in
     let start = first_place code c.args.limits in
     let first : slice_get c.in_ok-worlds.worlds.places 0 ≡ Some start = ap (λ (l : List Place). slice_get l 0) c.in_ok-worlds.ensures.places in
-    reached c.search.new.worlds c.in_ok-found.found.answers.items c.in_ok-answers.answers.items c.in_ok-answers.ensures.told code c.args.limits
+    reached c.search.new.worlds code c.args.limits c.in_ok-found.found.answers.items c.in_ok-answers.answers.items c.in_ok-answers.ensures.told
     c.requires.limits.some_count c.in_ok-worlds.ensures.reached (c.in_ok-found.ensures.each start first)
 
 pub returns-clause-once : goal.returns-clause-once
 returns-clause-once g c =
-    once c.search.new.worlds c.in_ok-found.found.answers.items c.in_ok-answers.answers.items c.in_ok-answers.ensures.told
-    c.in_ok-answers.ensures.single c.in_ok-found.ensures.once
+    once c.search.new.worlds (first_place (code_of (source_of c.args.program.now)) c.args.limits) c.in_ok-found.found.answers.items
+    c.in_ok-answers.answers.items c.in_ok-answers.ensures.told c.in_ok-answers.ensures.single c.in_ok-found.ensures.once
 
 pub returns-clause-numbers : goal.returns-clause-numbers
 returns-clause-numbers g c =
-    numbered c.search.new.worlds c.in_ok-found.found.answers.items c.in_ok-answers.answers.items c.in_ok-answers.ensures.told 1000
-    c.in_ok-found.ensures.numbers
+    numbered c.search.new.worlds (first_place (code_of (source_of c.args.program.now)) c.args.limits) c.in_ok-found.found.answers.items
+    c.in_ok-answers.answers.items c.in_ok-answers.ensures.told
 
 pub returns-clause-stopped : goal.returns-clause-stopped
 returns-clause-stopped g c = λ incomplete going.
