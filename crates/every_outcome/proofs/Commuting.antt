@@ -1,5 +1,5 @@
 -- A fiber's own move commutes with each move of another fiber, also without marks, the numbers of masks, counts and notes.
-use Rattle.std.proofs.Common.{◌≡◌, ◌≢◌, ◌⊎◌, inl, inr, ℕ, true, List, [], ◌++◌, set, map, Some, None, Option, Result, Ok, Err, refl, sym, ap, ◌∙◌, subst, append-nil}
+use Rattle.std.proofs.Common.{◌≡◌, ◌≢◌, ℕ, true, [], ◌++◌, set, map, Some, None, Option, Result, Ok, Err, refl, sym, ap, ◌∙◌, subst, append-nil}
 use Rattle.std.specs.List.{slice_get}
 use Rattle.std.proofs.lemmas.Option.{same_Some}
 use Rattle.effect_term.specs.declared.reply.Reply.{Reply}
@@ -11,7 +11,8 @@ use Rattle.cell_registry.specs.declared.limits.RunError.{RunError}
 use Rattle.cell_registry.specs.declared.call.Call.{Call}
 use Rattle.cell_registry.specs.declared.call.Call.TheVariants.{Start}
 use Rattle.cell_registry.specs.declared.cell.Cell.{Cell}
-use Rattle.cell_registry.specs.Cells.{after, cell_of, refusal, reply_of}
+use Rattle.cell_registry.specs.declared.cell.Stage.{Stage}
+use Rattle.cell_registry.specs.Cells.{cell_of, refusal, reply_of}
 use Rattle.cell_registry.proofs.Calls.{owned-after}
 use Rattle.scheduled_core.specs.declared.wish.Wish.{Wish}
 use Rattle.scheduled_core.specs.declared.wish.Wish.TheVariants.{Shared, Alone, Nothing}
@@ -80,7 +81,7 @@ module _ (k : Limits) (w : World) (g : ℕ) where
   leaves_called b d q = record {
     others = λ f apart a at.
         get_early (set w.fibers g (move b q)) (born b d q) f a (slice_get-set_other w.fibers g f (move b q) apart ∙ at);
-    counts = λ f apart. ap (λ o. o.2) (owned-after w.cells g d f apart);
+    counts = λ f apart. ap (λ (o : Stage × ℕ × ℕ). o.2) (owned-after w.cells g d f apart);
   }
 
   leaves_silent : (b : Fiber) → Leaves w g record { fibers = set w.fibers g (silent_move b); cells = w.cells }
@@ -114,7 +115,7 @@ childless w f a Start r own = absurd (cc)
 childless w f a _ r own = refl
 
 module _ (k : Limits) (w : World) (f g : ℕ) (apart : f ≢ g) where
-  Same : World → Type 0
+  abbrev Same : World → Type 0
   Same v = slice_get v.fibers g ≡ slice_get w.fibers g
 
   same_led : (v : World) (x : Place) → Same v → placed k (Ok v) ≡ Ok x → Same x.world
@@ -167,7 +168,7 @@ module _ (p : Place) (f : ℕ) (h : IsFree p f) where
   here : stepped p f ≡ Ok (unmarked_place x)
   here = step_is p f ∙ ap unmarked_of h.own.goes
 
-  a : Fiber
+  abbrev a : Fiber
   a = (born_of p.world f (slice_get p.world.fibers f) h.own.own).0
 
   at : slice_get p.world.fibers f ≡ Some a

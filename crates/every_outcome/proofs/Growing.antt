@@ -1,5 +1,5 @@
 -- Outcomes grow: each entry leaves them as they are, or adds to them.
-use Rattle.std.proofs.Common.{◌≡◌, ◌⊎◌, inl, inr, ℕ, zero, suc, ◌+◌, ◌<◌, List, [], ◌∷◌, ◌++◌, map, set, Some, None, Option, Result, Ok, Err, refl, sym, ap, ◌∙◌, subst, arith}
+use Rattle.std.proofs.Common.{◌≡◌, ◌⊎◌, inl, inr, ℕ, zero, suc, ◌+◌, ◌<◌, List, [], ◌∷◌, ◌++◌, map, set, Some, None, Option, Result, Ok, Err, refl, sym, ap, ◌∙◌, arith}
 use Rattle.std.specs.List.{slice_get}
 use Rattle.effect_term.specs.declared.reply.Outcome.{Outcome}
 use Rattle.effect_term.specs.declared.reply.Reply.{Reply}
@@ -18,7 +18,7 @@ use Rattle.scheduled_core.specs.declared.wish.Wish.{Wish}
 use Rattle.scheduled_core.specs.declared.wish.Wish.TheVariants.{Shared, Alone, Nothing}
 use Rattle.scheduled_core.specs.Core.{World, answered, born, entered, turned, wish_of, wished}
 use Rattle.world_search.specs.Free.{AreGrowing}
-use Rattle.every_outcome.specs.Places.{Place, outcomes_at, stepped, unmarked_after}
+use Rattle.every_outcome.specs.Places.{Place, outcomes_at, stepped, unmarked_after, unmarked_world}
 use Rattle.every_outcome.proofs.Stepping.{outcomes_stay}
 
 -- ---- one fiber
@@ -118,7 +118,8 @@ module _ (k : Limits) (w : World) (f : ℕ) where
   by_entry : (x : Result World RunError) (q : Place) → Grows x → unmarked_after k x ≡ Ok q →
       (outcomes_at q ≡ map outcome_of w.fibers) ⊎ (size (map outcome_of w.fibers) < size (outcomes_at q))
   by_entry (Ok v) q h e =
-      let same : outcomes_at q ≡ map outcome_of v.fibers = ap outcomes_at (let is : q ≡ record { limits = k; world = Rattle.every_outcome.specs.Places.unmarked_world v } = cc in is) ∙ outcomes_stay k v in
+      let is : record { limits = k; world = unmarked_world v } ≡ q = cc in
+      let same : outcomes_at q ≡ map outcome_of v.fibers = ap outcomes_at (sym is) ∙ outcomes_stay k v in
       elim h [
         | inl stays ↦ inl (same ∙ stays)
         | inr more ↦ let here = ap size same in inr (omega arith)

@@ -1,5 +1,5 @@
 -- An own move is one without marks, the numbers of masks, counts and notes, too.
-use Rattle.std.proofs.Common.{◌≡◌, ℕ, suc, ◌+◌, Bool, true, false, not, ◌&&◌, ◌||◌, nat_eq, nat_lt, if◌then◌else◌, List, [], ◌∷◌, map, option_map, Option, Some, None, refl, sym, ap, ap₂, ◌∙◌, subst}
+use Rattle.std.proofs.Common.{◌≡◌, ℕ, suc, ◌+◌, Bool, true, false, not, ◌&&◌, ◌||◌, nat_eq, nat_lt, if◌then◌else◌, List, [], ◌∷◌, map, option_map, Option, Some, None, refl, sym, ap, ap₂, ◌∙◌}
 use Rattle.std.specs.List.{slice_get}
 use Rattle.derived_ops.specs.Naming as naming
 use Rattle.derived_ops.specs.Tree.{Act, Action, Cancel, Guarded, Handled, If0, Join, Let, Loop, Make, Maker, Mask, Masked, New_deferred, New_ref, Note, On_cancel}
@@ -14,7 +14,7 @@ use Rattle.fiber_frames.specs.declared.ask.Look.TheVariants.{Clear, Due, Seen}
 use Rattle.fiber_frames.specs.declared.uses.Use.{Use}
 use Rattle.fiber_frames.specs.declared.uses.Use.TheVariants.{Awaits, Cancels, Completes, Gets, Joins, Stores}
 use Rattle.fiber_frames.specs.Path.{At_final, At_term, Broken, Final, In_guarded, In_handle, In_let, In_masked, In_polled, In_seq, Over, PathStep, Root, Running, Runs}
-use Rattle.fiber_frames.specs.Path.{focus, is_effective, masks_at_root}
+use Rattle.fiber_frames.specs.Path.{focus, is_effective, masks_at_root, masks_in}
 use Rattle.fiber_frames.specs.Rows.{Born, Ceded, Ended, Plain, Row, RowKind, Waited, action_row, row_at, word_row}
 use Rattle.fiber_frames.specs.Fiber.{Cuts, Fiber, Looks, Move_case, Reduces, Rests, active_of, ask_in, ask_of, case_in, case_under, is_silent, is_waited, kind_in, kind_of, move_case}
 use Rattle.fiber_frames.specs.Fiber.{row_of, waits_alone}
@@ -136,26 +136,38 @@ module _ (i n : ℕ) (r : Reply) where
   make_wants (New_ref v) x k up = refl
   make_wants New_deferred x k up = refl
 
-  walk_wants : (up : List Mask) (t : Tree) → Wants (walk i n r up t).call
-  walk_wants up (Let e x k) = under_wants up (In_let x k) (end_of e) (walk i n r _ e) (walk_wants _ e)
-  walk_wants up (Seq o e k) = under_wants up (In_seq o k) (end_of e) (walk i n r _ e) (walk_wants _ e)
-  walk_wants up (Handled e x h) = under_wants up (In_handle x h) (end_of e) (walk i n r _ e) (walk_wants _ e)
-  walk_wants up (Guarded e fin) = under_wants up (In_guarded fin) (end_of e) (walk i n r _ e) (walk_wants _ e)
-  walk_wants up (Masked m e) = under_wants up (In_masked m) (end_of e) (walk i n r _ e) (walk_wants _ e)
-  walk_wants up (Polled q e) = under_wants up (In_polled q) (end_of e) (walk i n r _ e) (walk_wants _ e)
-  walk_wants up (Act a) = act_wants a
-  walk_wants up (Make m x k) = make_wants m x k up
-  walk_wants up (Poll q e) = switched (is_effective q up) ask.Unmask refl
-  walk_wants up (Pure v) = refl
-  walk_wants up (Raise v) = refl
-  walk_wants up (Note h q) = refl
-  walk_wants up (Cancel f) = refl
-  walk_wants up (If0 v s e) = refl
-  walk_wants up (Join f x s y e c) = refl
-  walk_wants up (Start x e k) = refl
-  walk_wants up (Loop t e) = refl
-  walk_wants up (Uncancelable x e) = refl
-  walk_wants up (On_cancel e fin) = refl
+  walk_wants : (t : Tree) (up : List Mask) → Wants (walk i n r up t).call
+  walk_wants (Let e x k) up =
+      let inner = masks_in i (In_let x k) up in
+      under_wants up (In_let x k) (end_of e) (walk i n r inner e) (walk_wants e inner)
+  walk_wants (Seq o e k) up =
+      let inner = masks_in i (In_seq o k) up in
+      under_wants up (In_seq o k) (end_of e) (walk i n r inner e) (walk_wants e inner)
+  walk_wants (Handled e x h) up =
+      let inner = masks_in i (In_handle x h) up in
+      under_wants up (In_handle x h) (end_of e) (walk i n r inner e) (walk_wants e inner)
+  walk_wants (Guarded e fin) up =
+      let inner = masks_in i (In_guarded fin) up in
+      under_wants up (In_guarded fin) (end_of e) (walk i n r inner e) (walk_wants e inner)
+  walk_wants (Masked m e) up =
+      let inner = masks_in i (In_masked m) up in
+      under_wants up (In_masked m) (end_of e) (walk i n r inner e) (walk_wants e inner)
+  walk_wants (Polled q e) up =
+      let inner = masks_in i (In_polled q) up in
+      under_wants up (In_polled q) (end_of e) (walk i n r inner e) (walk_wants e inner)
+  walk_wants (Act a) up = act_wants a
+  walk_wants (Make m x k) up = make_wants m x k up
+  walk_wants (Poll q e) up = switched (is_effective q up) ask.Unmask refl
+  walk_wants (Pure v) up = refl
+  walk_wants (Raise v) up = refl
+  walk_wants (Note h q) up = refl
+  walk_wants (Cancel f) up = refl
+  walk_wants (If0 v s e) up = refl
+  walk_wants (Join f x s y e c) up = refl
+  walk_wants (Start x e k) up = refl
+  walk_wants (Loop t e) up = refl
+  walk_wants (Uncancelable x e) up = refl
+  walk_wants (On_cancel e fin) up = refl
 
   root_wants : (b : Root) (E : End) (w : Row Tree) → Wants w.call → Wants (root_row i n b E w).call
   root_wants b Works w h = h
@@ -165,7 +177,7 @@ module _ (i n : ℕ) (r : Reply) where
   root_wants (At_final m gs) (Throws v) w h = refl
 
   at_root : (b : Root) (t : Tree) → Wants (root_row i n b (end_of t) (walk i n r (masks_at_root i b) t)).call
-  at_root b t = root_wants b (end_of t) (walk i n r (masks_at_root i b) t) (walk_wants (masks_at_root i b) t)
+  at_root b t = root_wants b (end_of t) (walk i n r (masks_at_root i b) t) (walk_wants t (masks_at_root i b))
 
   row_wants : (w : Running) → wants (wish_of (row_at i n r (focus w) w).call) ≡ goes_on w
   row_wants (Runs t) = ap (λ (x : Row Running). wants (wish_of x.call)) (row_root i n r At_term t) ∙ at_root At_term t

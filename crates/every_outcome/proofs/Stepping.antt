@@ -208,7 +208,7 @@ module _ (k : Limits) (some : 0 < k.count) (w : World) (f : ℕ) (h : (g : Fiber
   step_full run.NoWorker full e = absurd full
 
 -- a fiber that isn't born changes nothing
-get_past : (gs : List Fiber) (f : ℕ) → length gs ≤ f → slice_get gs f ≡ None
+pub get_past : (gs : List Fiber) (f : ℕ) → length gs ≤ f → slice_get gs f ≡ None
 get_past [] f l = refl
 get_past (g ∷ gs) zero l = absurd (omega arith)
 get_past (g ∷ gs) (suc f) l = get_past gs f (omega arith)

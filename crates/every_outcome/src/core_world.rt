@@ -89,9 +89,10 @@ impl CoreWorld {
         facts_of(self.registry.limits());
         reaches(self.fibers.as_slice(), fiber);
         match enter(&mut self.fibers, &mut self.registry, fiber) {
-            Ok(()) => Ok(()),
-            Err(fault) => Err(full_or_memory(fault)),
+            Ok(()) => {}
+            Err(fault) => return Err(full_or_memory(fault)),
         }
+        Ok(())
     }
 
     /// Its fibers.

@@ -96,17 +96,17 @@ fn told(
     facts_of(worlds.many_faults());
     let mut answers = Vec::new(alloc);
     for it in found {
-        let next = answer(alloc, program, limits, worlds, it)?;
-        add(&mut answers, next)?;
+        let one = answer(alloc, program, limits, worlds, it)?;
+        add(&mut answers, one)?;
     }
     Ok(answers)
 }
 
 // One more answer.
-fn add(answers: &mut Vec<OutcomeAnswer>, next: OutcomeAnswer) -> Result<(), AllocError>
-    ensures { OnOk result (answers.new.items ≡ answers.old.items ++ next ∷ []) }
+fn add(answers: &mut Vec<OutcomeAnswer>, one: OutcomeAnswer) -> Result<(), AllocError>
+    ensures { OnOk result (answers.new.items ≡ answers.old.items ++ one ∷ []) }
 {
-    answers.push(next)?;
+    answers.push(one)?;
     Ok(())
 }
 

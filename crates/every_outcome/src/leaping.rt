@@ -16,11 +16,7 @@ const MOST: usize = 100;
 
 /// The entry of a fiber, with its own moves behind it. The entries that were made are added to the trail: one that ends
 /// in a fault too, and none of a fiber that isn't born. After an error nothing is known of the world.
-pub(crate) fn leap(
-    world: &mut CoreWorld,
-    fiber: u16,
-    trail: &mut Vec<u16>,
-) -> Result<(), RunError>
+pub(crate) fn leap(world: &mut CoreWorld, fiber: u16, trail: &mut Vec<u16>) -> Result<(), RunError>
     requires { AllFit world.old.world }
     ensures fits { OnOk result (AllFit world.new.world) }
     ensures goes { OnOk result (leapt (unmarked_place world.old) fiber ≡ GoesWell (unmarked_place world.new)) }
@@ -103,11 +99,7 @@ fn either(one: bool, other: bool) -> bool
 }
 
 // The own move of this fiber, if it has one. Whether it was made.
-fn push_fiber(
-    world: &mut CoreWorld,
-    fiber: u16,
-    trail: &mut Vec<u16>,
-) -> Result<bool, AllocError>
+fn push_fiber(world: &mut CoreWorld, fiber: u16, trail: &mut Vec<u16>) -> Result<bool, AllocError>
     requires few { fiber < 1000 }
     requires fits { AllFit world.old.world }
     ensures fits { OnOk result (AllFit world.new.world) }

@@ -1,4 +1,4 @@
-use Rattle.std.proofs.Common.{◌≡◌, ◌++◌, List, [], ◌∷◌, length, sym, ap, ◌∙◌, subst, arith, rules}
+use Rattle.std.proofs.Common.{◌≡◌, ◌++◌, List, [], ◌∷◌, length, sym, ap, ◌∙◌, subst, arith}
 use Rattle.std.specs.Vec.Iter.{into_iter_items}
 use Rattle.derived_ops.specs.Expansion.{code_of}
 use Rattle.derived_ops.specs.Reading.{source_of}
@@ -10,8 +10,8 @@ nothing_left : {X : Type 0} (l : List X) → length l ≡ 0 → l ≡ []
 nothing_left [] h = cc
 nothing_left (x ∷ xs) h = absurd (omega arith)
 
-pub answer-next-requires-clause-within : goal.answer-next-requires-clause-within
-answer-next-requires-clause-within c =
+pub answer-requires-clause-within : goal.answer-requires-clause-within
+answer-requires-clause-within c =
     let at = c.loop-it in
     let first = first_place (code_of (source_of c.args.program.now)) c.args.limits in
     let steps : into_iter_items at.it-iterator ≡ c.in-Some.it ∷ into_iter_items c.next.new.self = c.in-Some.ensures.steps.0 in
@@ -24,12 +24,12 @@ loop-it-preserved c =
     let first = first_place (code_of (source_of c.args.program.now)) c.args.limits in
     let rest = into_iter_items c.next.new.self in
     let steps : into_iter_items at.it-iterator ≡ c.in-Some.it ∷ rest = c.in-Some.ensures.steps.0 in
-    let a = c.in_ok-next.next in
+    let a = c.in_ok-one.one in
     let pushed : c.add.new.answers.items ≡ at.answers.items ++ a ∷ [] = c.in_ok-add.ensures in
     record {
       told = subst (λ l. SoFar c.args.worlds.now first c.args.found.items rest l) (sym pushed)
           (told_next c.args.worlds.now first c.args.found.items rest at.answers.items c.in-Some.it a
-          (subst (λ l. SoFar c.args.worlds.now first c.args.found.items l at.answers.items) steps at.invariant.told) c.in_ok-next.ensures.told);
+          (subst (λ l. SoFar c.args.worlds.now first c.args.found.items l at.answers.items) steps at.invariant.told) c.in_ok-one.ensures.told);
       left = let was = at.invariant.left in
           let gone = c.in-Some.ensures.steps.1 in
           let short = ap length steps in

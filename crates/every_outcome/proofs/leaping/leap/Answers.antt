@@ -1,8 +1,6 @@
-use Rattle.std.proofs.Common.{◌≡◌, ◌<◌, ◌≤◌, ℕ, List, length, Ok, Err, inl, inr, sym, ap, ◌∙◌, subst, arith}
-use Rattle.std.specs.Prelude.{Some}
-use Rattle.std.specs.List.{slice_get}
+use Rattle.std.proofs.Common.{◌<◌, ◌≤◌, ℕ, List, length, Ok, sym, ap, ◌∙◌, subst, arith}
 use Rattle.world_search.proofs.Lists.{get_low}
-use Rattle.every_outcome.specs.Places.{stepped, unmarked_place}
+use Rattle.every_outcome.specs.Places.{unmarked_place}
 use Rattle.every_outcome.specs.Private.Reduced.{IsTrail, behind}
 use Rattle.every_outcome.proofs.Leaps.{leapt_born, leapt_rests}
 use Rattle.every_outcome.proofs.Trails.{trail_more, trail_none, trail_one}

@@ -1,4 +1,4 @@
-use Rattle.std.proofs.Common.{◌≡◌, ℕ, suc, refl, ◌+◌, ◌-◌, Ok, sym, ap, ◌∙◌, arith}
+use Rattle.std.proofs.Common.{◌≡◌, ℕ, suc, ◌+◌, ◌-◌, Ok, sym, ap, ◌∙◌, arith}
 use Rattle.every_outcome.specs.Places.{unmarked_place}
 use Rattle.every_outcome.specs.Private.Reduced.{pushed}
 use Rattle.every_outcome.proofs.Leaps.{pushed_next, pushed_none, pushed_stays}

@@ -1,4 +1,4 @@
-use Rattle.std.proofs.Common.{◌≡◌, ℕ, List, Ok, refl, sym, ◌∙◌, subst}
+use Rattle.std.proofs.Common.{ℕ, List, Ok, sym, ◌∙◌, subst}
 use Rattle.every_outcome.specs.Places.{unmarked_place}
 use Rattle.every_outcome.specs.Private.Reduced.{IsTrail}
 use Rattle.every_outcome.proofs.Leaps.{fiber_made, fiber_none}

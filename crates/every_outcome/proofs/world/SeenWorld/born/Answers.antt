@@ -1,4 +1,4 @@
-use Rattle.std.proofs.Common.{◌≡◌, ◌≤◌, length, Ok, subst, ap, ◌∙◌, arith, rules}
+use Rattle.std.proofs.Common.{◌≡◌, ◌≤◌, length, Ok, subst, ap, arith, rules}
 use Rattle.std.proofs.lemmas.Grind.{common_steps}
 use Rattle.every_outcome.specs.Places.{Place}
 use Rattle.every_outcome.specs.Private.Reduced.{leapt}
@@ -8,6 +8,6 @@ use Rattle.every_outcome.proofs.world.SeenWorld.born.Goals as goal
 pub returns-clause-rests : goal.returns-clause-rests
 returns-clause-rests c = λ f past.
     let w = c.self.inside.core in
-    let many = c.len.ensures in
+    let many = ap length c.fibers.ensures in
     let low : length w.world.fibers ≤ f = first_of (omega (arith, past, many), grind (arith, common_steps), search rules) in
     subst (λ (p : Place). leapt p f ≡ Ok p) c.self.view_is (leapt_rests w.limits w.world f low)
