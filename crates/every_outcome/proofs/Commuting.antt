@@ -121,7 +121,8 @@ module _ (k : Limits) (w : World) (f g : ℕ) (apart : f ≢ g) where
   same_led : (v : World) (x : Place) → Same v → placed k (Ok v) ≡ Ok x → Same x.world
   same_led v x h e = let same : record { limits = k; world = v } ≡ x = cc in subst (λ (y : Place). Same y.world) same h
 
-  same_answered : (a : Fiber) (c : Call) (o : Option CellError) (x : Place) → is_own w f a (Shared c) ≡ true → placed k (answered w f a c o) ≡ Ok x → Same x.world
+  same_answered : (a : Fiber) (c : Call) (o : Option CellError) (x : Place) → is_own w f a (Shared c) ≡ true → placed k (answered w f a c o) ≡ Ok x →
+      Same x.world
   same_answered a c None x own e =
       let r = reply_of w.cells f c in
       same_led (called w f a c r) x

@@ -28,7 +28,8 @@ module _ (kept : Kept) (first : Place) where
   pub none_told : (all : List Found) → SoFar kept first all all []
   none_told all = record { before = []; is = refl; told = record { many = refl; each = λ i f a e d. absurd (cc) } }
 
-  told_more : (fs : List Found) (bs : List OutcomeAnswer) (f : Found) (a : OutcomeAnswer) → AreTold kept first fs bs → IsTold kept first f a → AreTold kept first (fs ++ f ∷ []) (bs ++ a ∷ [])
+  told_more : (fs : List Found) (bs : List OutcomeAnswer) (f : Found) (a : OutcomeAnswer) → AreTold kept first fs bs → IsTold kept first f a →
+      AreTold kept first (fs ++ f ∷ []) (bs ++ a ∷ [])
   told_more fs bs f a told it = record {
     many = length-append bs (a ∷ []) ∙ ap (λ n. n + 1) told.many ∙ sym (length-append fs (f ∷ []));
     each = λ i g b e d. elim (parted fs (f ∷ []) i g e) [
@@ -48,7 +49,8 @@ module _ (kept : Kept) (first : Place) where
     ];
   }
 
-  pub told_next : (all rest : List Found) (bs : List OutcomeAnswer) (f : Found) (a : OutcomeAnswer) → SoFar kept first all (f ∷ rest) bs → IsTold kept first f a → SoFar kept first all rest (bs ++ a ∷ [])
+  pub told_next : (all rest : List Found) (bs : List OutcomeAnswer) (f : Found) (a : OutcomeAnswer) → SoFar kept first all (f ∷ rest) bs → IsTold kept first f a →
+      SoFar kept first all rest (bs ++ a ∷ [])
   told_next all rest bs f a far it = record {
     before = far.before ++ f ∷ [];
     is = append_assoc far.before (f ∷ []) rest ∙ far.is;
@@ -59,6 +61,7 @@ module _ (kept : Kept) (first : Place) where
   all_told all bs far = subst (λ l. AreTold kept first l bs) (sym (append-nil far.before) ∙ far.is) far.told
 
   -- the next one is one of all
-  pub next_within : (all rest : List Found) (bs : List OutcomeAnswer) (f : Found) → SoFar kept first all (f ∷ rest) bs → All (λ a. IsWithin kept a.end) all → IsWithin kept f.end
+  pub next_within : (all rest : List Found) (bs : List OutcomeAnswer) (f : Found) → SoFar kept first all (f ∷ rest) bs → All (λ a. IsWithin kept a.end) all →
+      IsWithin kept f.end
   next_within all rest bs f far h =
       all_at (λ a. IsWithin kept a.end) all (length far.before) f (subst (λ l. slice_get l (length far.before) ≡ Some f) far.is (in_middle far.before f rest)) h

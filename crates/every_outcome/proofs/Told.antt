@@ -131,7 +131,8 @@ end_of (Ok p) = Ok (outcomes_at p)
 end_of (Err e) = Err e
 
 module _ (kept : Kept) (start : Place) (found : List Found) (answers : List OutcomeAnswer) (told : AreTold kept start found answers) where
-  ends_as : (l : Landing) (y : Result Place RunError) (end : End) → search.Tells stepped outcomes_at kept.places kept.faults l y → IsEnd kept l end → end ≡ end_of y
+  ends_as : (l : Landing) (y : Result Place RunError) (end : End) → search.Tells stepped outcomes_at kept.places kept.faults l y → IsEnd kept l end →
+      end ≡ end_of y
   ends_as (to.World j) (Ok p) end h e =
       let same : e.0 ≡ h.0 = same_Some e.0 h.0 (sym e.1 ∙ h.1) in
       e.2 ∙ ap Ok (ap outcomes_at same ∙ h.2)
@@ -174,7 +175,8 @@ each_entry : (kept : Kept) (start : Place) (s t : List ℕ) (l : Landing) → sy
     search.LeadsTo leapt outcomes_at kept.places kept.faults start t l → search.LeadsTo stepped outcomes_at kept.places kept.faults start s l
 each_entry kept start s t l = leads_up stepped IsFree own_are_free leapt leaps outcomes_at size outcomes_grow kept.places kept.faults start s t l
 
-module _ (kept : Kept) (code : Tree) (k : Limits) (found : List Found) (answers : List OutcomeAnswer) (told : AreTold kept (first_place code k) found answers) where
+module _ (kept : Kept) (code : Tree) (k : Limits) (found : List Found) (answers : List OutcomeAnswer)
+    (told : AreTold kept (first_place code k) found answers) where
   abbrev start : Place
   start = first_place code k
 

@@ -28,4 +28,5 @@ pub record IsTold (k : Kept) (first : Place) (found : Found) (answer : OutcomeAn
 -- each answer is told, in the same order
 pub record AreTold (k : Kept) (first : Place) (found : List Found) (answers : List OutcomeAnswer) : Type 0 where
   pub many : length answers ≡ length found
-  pub each : (i : ℕ) (f : Found) (a : OutcomeAnswer) → slice_get found i ≡ Some f → slice_get answers i ≡ Some a → IsTold k first f a
+  pub each : (i : ℕ) (f : Found) (a : OutcomeAnswer) → slice_get found i ≡ Some f → slice_get answers i ≡ Some a →
+      IsTold k first f a

@@ -31,5 +31,6 @@ returns-clause-trail c =
     let few = c.few_born.ensures.few in
     let low : c.args.fiber < 1000 = omega arith in
     let old = c.args.trail.now.items in
-    let one = subst (λ (l : List ℕ). IsTrail old l p (Ok next)) (sym c.in_ok-add.ensures) (trail_one old p c.args.fiber (Ok next) low c.in_ok-enter.ensures.goes) in
+    let one = subst (λ (l : List ℕ). IsTrail old l p (Ok next)) (sym c.in_ok-add.ensures)
+    (trail_one old p c.args.fiber (Ok next) low c.in_ok-enter.ensures.goes) in
     trail_more old c.add.new.trail.items c.push.new.trail.items p next (Ok (unmarked_place c.push.new.world)) one c.in_ok-push.ensures.trail
