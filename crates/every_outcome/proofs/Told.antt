@@ -277,3 +277,18 @@ module _ (kept : Kept) (code : Tree) (k : Limits) (found : List Found) (answers 
           leads = λ n l. leads_at n s it.0.end a.end h it.2.ends (core code (counted k n) s) (core_fully code k some first n s l);
           stays = λ n more. stays_at n s more it.0.end a.end h it.2.ends (core code (counted k n) (s ++ more)) (core_led code k some first n (s ++ more));
         })
+
+-- ---- the count of the limits plays no part
+pub covered_under : (k : Limits) (n : ℕ) (answers : List OutcomeAnswer) (x : Result World RunError) → IsCovered (counted k n) answers x → IsCovered k answers x
+covered_under k n answers (Ok w) h = h
+covered_under k n answers (Err (run.Full b m)) h = h
+covered_under k n answers (Err run.NoMemory) h = tt
+covered_under k n answers (Err (run.Spent g)) h = tt
+covered_under k n answers (Err (run.Lost g)) h = tt
+covered_under k n answers (Err run.NoWorker) h = tt
+
+reached_under : (code : Tree) (k : Limits) (n : ℕ) (a : OutcomeAnswer) → IsReached code (counted k n) a → IsReached code k a
+reached_under code k n a h = record { leads = h.leads; stays = h.stays }
+
+pub all_under : (code : Tree) (k : Limits) (n : ℕ) (answers : List OutcomeAnswer) → All (IsReached code (counted k n)) answers → All (IsReached code k) answers
+all_under code k n answers h = all_from (IsReached code k) answers (λ i a e. reached_under code k n a (all_at (IsReached code (counted k n)) answers i a e h))

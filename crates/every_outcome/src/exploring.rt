@@ -65,9 +65,16 @@ pub fn explore_outcomes<V: Watcher>(
     ensures numbers { IfOk result (λ it. All (λ a. All (λ f. f < 1000) a.schedule) it.answers.items) }
     ensures memory { IfErr result (λ e. e ≡ RunError.NoMemory) }
 {
-    let mut worlds = SeenWorlds::new(alloc, program, limits)?;
+    // The count plays no part in what is found, so the greatest one is taken, which no fiber uses up.
+    let explored = Limits {
+        fibers: limits.fibers,
+        refs: limits.refs,
+        deferreds: limits.deferreds,
+        count: GREATEST_COUNT,
+    };
+    let mut worlds = SeenWorlds::new(alloc, program, explored)?;
     let found = search(alloc, &mut worlds, bounds, watcher)?;
-    let answers = told(alloc, program, limits, &worlds, found.answers)?;
+    let answers = told(alloc, program, explored, &worlds, found.answers)?;
     Ok(OutcomeExploration {
         answers,
         worlds: found.worlds,
@@ -76,6 +83,9 @@ pub fn explore_outcomes<V: Watcher>(
         halted: found.halted,
     })
 }
+
+// The greatest count that limits can have.
+const GREATEST_COUNT: u64 = (1 << 40) - 1;
 
 // The answers of a search, each with its outcomes or fault.
 fn told(
