@@ -14,8 +14,8 @@ use std::alloc::AllocError;
 // At most this many own moves of each fiber are made behind an entry.
 const MOST: usize = 100;
 
-/// The entry of a fiber, with its own moves behind it. The entries that were made are added to the trail: one that ends
-/// in a fault too, and none of a fiber that isn't born. After an error nothing is known of the world.
+/// The entry of a fiber, with own moves of each fiber behind it. The entries that were made are added to the trail: one
+/// that ends in a fault too, and none of a fiber that isn't born. After an error nothing is known of the world.
 pub(crate) fn leap(world: &mut CoreWorld, fiber: u16, trail: &mut Vec<u16>) -> Result<(), RunError>
     requires { AllFit world.old.world }
     ensures fits { OnOk result (AllFit world.new.world) }
