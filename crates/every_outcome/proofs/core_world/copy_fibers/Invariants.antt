@@ -1,5 +1,5 @@
 use Rattle.std.proofs.Common.{◌≡◌, take}
-use Rattle.every_outcome.proofs.world.copy_fibers.Given as goal
+use Rattle.every_outcome.proofs.core_world.copy_fibers.Given as goal
 
 -- the fibers so far are copied
 abbrev pub invariant-loop-fiber : goal.invariant-loop-fiber
