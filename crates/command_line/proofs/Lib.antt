@@ -8,3 +8,4 @@ pub mod RunLemmas
 pub mod WorkerLemmas
 pub mod CompareLemmas
 pub mod TestLemmas
+pub mod UnmarkedEnds

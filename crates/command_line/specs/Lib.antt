@@ -11,6 +11,7 @@ pub mod Runs
 pub mod Samplings
 pub mod Seekings
 pub mod Tests
+pub mod Unmarkings
 pub mod Workers
 pub mod Comparings
 pub mod Decidings

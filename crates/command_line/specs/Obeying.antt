@@ -6,7 +6,7 @@ use Rattle.text_io.specs.declared.status.Status.{Status}
 use Rattle.text_io.specs.Devices.{Devices}
 use Rattle.command_words.specs.declared.requests.Request.{Request}
 use Rattle.command_words.specs.declared.requests.Request.TheVariants.{Check, Show, Replay, Explore, Run, Sample}
-use Rattle.command_words.specs.declared.requests.Request.TheVariants.{Compare, Decide, Judge, Seek, Test, Terms}
+use Rattle.command_words.specs.declared.requests.Request.TheVariants.{Compare, Decide, Judge, Seek, Test, Terms, Unmark}
 use Rattle.command_line.specs.Checks.{ObeysCheck, ObeysShow}
 use Rattle.command_line.specs.Comparings.{ObeysCompare}
 use Rattle.command_line.specs.Decidings.{ObeysDecide}
@@ -17,6 +17,7 @@ use Rattle.command_line.specs.Runs.{ObeysRun}
 use Rattle.command_line.specs.Samplings.{ObeysSample}
 use Rattle.command_line.specs.Seekings.{ObeysSeek}
 use Rattle.command_line.specs.Tests.{ObeysTest}
+use Rattle.command_line.specs.Unmarkings.{ObeysUnmark}
 use Rattle.command_words.specs.Telling.{LacksMemory, TellsKind, TellsWrong}
 use Rattle.command_words.specs.Words.{program}
 use Rattle.command_words.specs.Requests.{GivesRequest}
@@ -30,6 +31,7 @@ ObeysRequest (Explore exploring) before after status = ObeysExplore exploring be
 ObeysRequest (Seek seeking) before after status = ObeysSeek seeking before after status
 ObeysRequest (Decide deciding) before after status = ObeysDecide deciding before after status
 ObeysRequest (Judge judging) before after status = ObeysJudge judging before after status
+ObeysRequest (Unmark unmarking) before after status = ObeysUnmark unmarking before after status
 ObeysRequest (Run running) before after status = ObeysRun running before after status
 ObeysRequest (Sample sampling) before after status = ObeysSample sampling before after status
 ObeysRequest (Compare comparing) before after status = (after.input ≡ before.input) ×

@@ -17,6 +17,7 @@ use crate::run_order::obey_run;
 use crate::sample_order::obey_sample;
 use crate::seek_order::obey_seek;
 use crate::test_order::{obey_terms, obey_test};
+use crate::unmark_order::obey_unmark;
 use clap::error::ErrorKind;
 use clap::{ArgMatches, Error};
 use command_words::{Request, all_words, no_request_reason, refuse_words, request_of};
@@ -83,6 +84,7 @@ where
         Request::Seek(seeking) => obey_seek(rt, rt.alloc(), seeking, input, out, err),
         Request::Decide(deciding) => obey_decide(rt, rt.alloc(), deciding, input, out, err),
         Request::Judge(judging) => obey_judge(rt.alloc(), judging, input, out, err),
+        Request::Unmark(unmarking) => obey_unmark(rt, rt.alloc(), unmarking, input, out, err),
         Request::Run(running) => obey_run(rt, rt.alloc(), running, input, out, err),
         Request::Sample(sampling) => obey_sample(rt.alloc(), sampling, input, out, err),
         Request::Compare(comparing) => obey_compare(rt, rt.alloc(), comparing, out, err),

@@ -23,6 +23,7 @@ mod sample_order;
 mod seek_order;
 mod spelling;
 mod test_order;
+mod unmark_order;
 mod watched_forms;
 
 pub use cli::command;

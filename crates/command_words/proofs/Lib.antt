@@ -5,3 +5,4 @@ pub mod WantLemmas
 pub mod WordLemmas
 pub mod UnitLemmas
 pub mod ClaimLemmas
+pub mod UnmarkLemmas

@@ -69,6 +69,20 @@ SaysRunForm options runs.Json false =
     IsLeftOut (codes "explain") options
 SaysRunForm options runs.Json true = ⊥
 
+-- whether the text of an option says that reports have marks, which they have unless it says that they have none
+abbrev pub SaysMarks : Option Text → Bool → Type 0
+SaysMarks None true = Unit {0}
+SaysMarks None false = ⊥
+SaysMarks (Some text) true = text ≡ codes "all"
+SaysMarks (Some text) false = text ≡ codes "none"
+
+-- whether the text of an option names fiber 0 as the only one; it names no other
+abbrev pub SaysOnly : Option Text → Bool → Type 0
+SaysOnly None true = ⊥
+SaysOnly None false = Unit {0}
+SaysOnly (Some text) true = text ≡ codes "0"
+SaysOnly (Some text) false = ⊥
+
 -- the form that the options of `test` say: that of the one flag of these three that is given, or a report
 abbrev pub SaysTestForm : List Row → TestForm → Type 0
 SaysTestForm options tests.Report =

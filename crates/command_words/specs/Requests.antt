@@ -21,16 +21,17 @@ use Rattle.command_words.specs.declared.ranges.NumberRange.{NumberRange}
 use Rattle.command_words.specs.declared.replay.Replay.{Replay as ReplayFields}
 use Rattle.command_words.specs.declared.requests.Request.{Request}
 use Rattle.command_words.specs.declared.requests.Request.TheVariants.{Check, Show, Replay, Explore, Run, Sample}
-use Rattle.command_words.specs.declared.requests.Request.TheVariants.{Compare, Decide, Judge, Seek, Test, Terms}
+use Rattle.command_words.specs.declared.requests.Request.TheVariants.{Compare, Decide, Judge, Seek, Test, Terms, Unmark}
 use Rattle.command_words.specs.declared.running.Running.{Running}
 use Rattle.command_words.specs.declared.sampling.Sampling.{Sampling}
 use Rattle.command_words.specs.declared.seeking.Seeking.{Seeking}
 use Rattle.command_words.specs.declared.testing.Testing.{Testing}
 use Rattle.command_words.specs.declared.testing.Translating.{Translating}
+use Rattle.command_words.specs.declared.unmarking.Unmarking.{Unmarking}
 use Rattle.command_words.specs.Memory.{SaysMemory}
 use Rattle.command_words.specs.Numbers.{SaysNumber, SaysSeconds}
 use Rattle.command_words.specs.Flags.{IsGiven, IsLeftOut, SaysBeside, SaysExploreForm, SaysFlag, SaysForm, SaysRunForm}
-use Rattle.command_words.specs.Flags.{SaysColoring, SaysTestForm}
+use Rattle.command_words.specs.Flags.{SaysColoring, SaysMarks, SaysOnly, SaysTestForm}
 use Rattle.command_words.specs.Words.{band_range, budget_range, count_range, entries_range, few_range, moves_range}
 use Rattle.command_words.specs.Words.{jobs_range, model_worlds_range, program, seed_range, times_range, workers_range}
 use Rattle.command_words.specs.Words.{worlds_range}
@@ -138,6 +139,26 @@ pub record SaysDeciding (options : List Row) (deciding : Deciding) : Type 0 wher
   pub seconds_are : SaysSeconds (first_of (codes "seconds") options) deciding.seconds
   pub beside : SaysBeside options deciding.beside
 
+-- reports have marks, and are of all fibers
+abbrev pub HasMarks : List Row → Type 0
+HasMarks options = SaysMarks (first_of (codes "marks") options) true × (first_of (codes "only") options ≡ None)
+
+-- no option is given that only an exploration with marks takes
+abbrev pub GoWithoutMarks : List Row → Type 0
+GoWithoutMarks options = IsLeftOut (codes "timeline") options × IsLeftOut (codes "first") options ×
+    IsLeftOut (codes "ends") options × (first_of (codes "count") options ≡ None)
+
+-- the exploration without marks that the options of `explore` say
+pub record SaysUnmarking (options : List Row) (unmarking : Unmarking) : Type 0 where
+  pub marks : SaysMarks (first_of (codes "marks") options) false
+  pub only : SaysOnly (first_of (codes "only") options) unmarking.only_first
+  pub claims : HasNoClaims options
+  pub alone : GoWithoutMarks options
+  pub order : SaysExplore options unmarking.order
+  pub json : SaysFlag (codes "json") options unmarking.json
+  pub seconds_are : SaysSeconds (first_of (codes "seconds") options) unmarking.seconds
+  pub beside : SaysBeside options unmarking.beside
+
 -- the run that the options of `run` say
 pub record SaysRunning (options : List Row) (running : Running) : Type 0 where
   pub run : SaysRun options running.options
@@ -191,12 +212,13 @@ Says said (Check checking) =
 Says said (Show showing) = (said.0 ≡ codes "show") × SaysFlag (codes "explain") said.1 showing.explain
 Says said (Replay replay) = (said.0 ≡ codes "replay") × SaysReplay said.1 replay
 Says said (Explore exploring) =
-    (said.0 ≡ codes "explore") × IsLeftOut (codes "first") said.1 × IsLeftOut (codes "ends") said.1 ×
+    (said.0 ≡ codes "explore") × HasMarks said.1 × IsLeftOut (codes "first") said.1 × IsLeftOut (codes "ends") said.1 ×
     SaysExploring said.1 exploring
 Says said (Seek seeking) =
-    (said.0 ≡ codes "explore") × IsLeftOut (codes "ends") said.1 × SaysSeeking said.1 seeking
-Says said (Decide deciding) = (said.0 ≡ codes "explore") × SaysDeciding said.1 deciding
-Says said (Judge judging) = (said.0 ≡ codes "explore") × SaysJudging said.1 judging
+    (said.0 ≡ codes "explore") × HasMarks said.1 × IsLeftOut (codes "ends") said.1 × SaysSeeking said.1 seeking
+Says said (Decide deciding) = (said.0 ≡ codes "explore") × HasMarks said.1 × SaysDeciding said.1 deciding
+Says said (Judge judging) = (said.0 ≡ codes "explore") × HasMarks said.1 × SaysJudging said.1 judging
+Says said (Unmark unmarking) = (said.0 ≡ codes "explore") × SaysUnmarking said.1 unmarking
 Says said (Run running) = (said.0 ≡ codes "run") × SaysRunning said.1 running
 Says said (Sample sampling) = (said.0 ≡ codes "sample") × SaysSampling said.1 sampling
 Says said (Compare comparing) = (said.0 ≡ codes "compare") × SaysComparing said.1 comparing
@@ -219,6 +241,7 @@ TakesSchedule (Explore exploring) = ⊥
 TakesSchedule (Seek seeking) = ⊥
 TakesSchedule (Decide deciding) = ⊥
 TakesSchedule (Judge judging) = ⊤
+TakesSchedule (Unmark unmarking) = ⊥
 TakesSchedule (Run running) = ⊥
 TakesSchedule (Sample sampling) = ⊥
 TakesSchedule (Compare comparing) = ⊥

@@ -188,8 +188,12 @@ with_claims app =
     with_rule (with_rule (with_rule app (claim_option (codes "always"))) (claim_option (codes "never")))
     (claim_option (codes "reach"))
 
+-- with the options that say whether reports have marks, and of which fiber alone they are
+abbrev pub with_marks : App → App
+with_marks app = with_rule (with_rule app (text_option (codes "marks"))) (text_option (codes "only"))
+
 abbrev pub explore_command : App
-explore_command = with_rule (with_explore_forms (with_claims explore_options)) (flag (codes "explain"))
+explore_command = with_rule (with_explore_forms (with_marks (with_claims explore_options))) (flag (codes "explain"))
 
 -- with the flags that ask for another form of a run than a report
 abbrev pub with_run_forms : App → App

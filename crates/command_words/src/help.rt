@@ -129,6 +129,9 @@ Example of a search that stops at the first unwanted outcome:
 Example that finds a lock for which a fiber waits for ever:
   echo '(ref lock 1 (forever (get lock)))' | fiber_cli explore --ends
 
+Example of a loop without end, which has one outcome:
+  echo '(forever (bracket x (pure 1) (cede) (pure 2)))' | fiber_cli explore --marks none
+
 'fiber_cli --help' explains the reports. Each is below a schedule, under which replay gives it.
 
 Exit status:
@@ -325,6 +328,13 @@ wanted. Before the search 3000 schedules are drawn at random";
 
 pub const ENDS: &str = "Print behind the answer whether every fair schedule ends, in which each
 fiber that can go on does so again and again, or else a cycle that goes on";
+
+pub const MARKS: &str = "Whether reports have marks: all or none. With none the answers are the
+outcomes of the fibers, and loops with masks and brackets close
+[default: all]";
+
+pub const ONLY: &str = "With --marks none: 0, for one answer for each outcome of fiber 0, and
+nothing of the other fibers";
 
 pub const ALWAYS: &str = "A claim that is to hold at every moment, as '(<= inside 1)'; repeatable";
 

@@ -5,10 +5,11 @@ ghost use Rattle.clap.specs.Words.{first_of, found_of, rows_of};
 ghost use Rattle.command_words.specs.declared.judging.Judging.{Judging};
 ghost use Rattle.command_words.specs.Requests.{AreAlone, HasClaims, HasNoClaims, SaysJudging, texts_said};
 
-use crate::flags::{explore_form, given, text_of};
+use crate::flags::{explore_form, given};
 use crate::judging::Judging;
 use crate::requests::explore_order;
 use crate::test_requests::texts_of;
+use crate::unmark_requests::has_text;
 use clap::ArgMatches;
 use std::alloc::{AllocError, Global};
 
@@ -68,13 +69,5 @@ fn is_with_others(explore: &ArgMatches<'_>) -> bool
         || given(explore, "ends")
         || given(explore, "progress")
         || given(explore, "explain")
-        || has_seconds(explore)
-}
-
-// Whether the seconds of the search are limited.
-fn has_seconds(explore: &ArgMatches<'_>) -> bool
-    ensures some { result ≡ true → first_of (codes "seconds") (rows_of (found_of explore.now)) ≢ None }
-    ensures none { result ≡ false → first_of (codes "seconds") (rows_of (found_of explore.now)) ≡ None }
-{
-    text_of(explore, "seconds").is_some()
+        || has_text(explore, "seconds")
 }

@@ -29,6 +29,8 @@ mod seeking;
 mod test_requests;
 mod test_words;
 mod testing;
+mod unmark_requests;
+mod unmarking;
 mod words;
 mod wrong_words;
 
@@ -44,5 +46,6 @@ pub use running::{RunForm, Running, limits_of};
 pub use sampling::Sampling;
 pub use seeking::Seeking;
 pub use testing::{Coloring, TestForm, Testing, Translating};
+pub use unmarking::Unmarking;
 pub use words::all_words;
 pub use wrong_words::refuse_words;

@@ -4,6 +4,7 @@ use crate::flags::{given, text_of};
 use crate::judge_requests::has_claims;
 use crate::memory::bytes_of;
 use crate::test_requests::coloring;
+use crate::unmark_requests::{marks_said, only_of};
 use clap::ArgMatches;
 use exploration_text::read_want;
 use std::alloc::{AllocError, Global};
@@ -102,6 +103,11 @@ pub fn no_request_reason(alloc: Global, matches: &ArgMatches<'_>) -> Result<Stri
     if let Some(reason) = claims_conflict(alloc, subcommand, options)? {
         return Ok(reason);
     }
+    if subcommand == "explore"
+        && let Some(reason) = marks_reason(alloc, options)?
+    {
+        return Ok(reason);
+    }
     if subcommand == "run" && given(options, "timeline") {
         return String::from_str(alloc, "the argument '--timeline' needs '--record'");
     }
@@ -168,12 +174,63 @@ fn claims_reason(alloc: Global, other: &str) -> Result<String, AllocError> {
     Ok(text)
 }
 
+// Why the options that say whether reports have marks give no request, if they don't.
+fn marks_reason(alloc: Global, explore: &ArgMatches<'_>) -> Result<Option<String>, AllocError> {
+    let marks = text_of(explore, "marks").unwrap_or("all");
+    match marks_said(marks) {
+        Some(true) => only_reason(alloc, explore),
+        Some(false) => unmarked_reason(alloc, explore),
+        None => {
+            let expected = "expected 'all' or 'none'";
+            Ok(Some(value_reason(alloc, marks, "--marks <MARKS>", expected)?))
+        }
+    }
+}
+
+// Why the options of an exploration with marks give no request, if one of them needs `--marks none`.
+fn only_reason(alloc: Global, explore: &ArgMatches<'_>) -> Result<Option<String>, AllocError> {
+    if text_of(explore, "only").is_none() {
+        return Ok(None);
+    }
+    let reason = String::from_str(alloc, "the argument '--only' needs '--marks none'")?;
+    Ok(Some(reason))
+}
+
+// Why the options of an exploration without marks give no request, if they don't.
+fn unmarked_reason(alloc: Global, explore: &ArgMatches<'_>) -> Result<Option<String>, AllocError> {
+    if has_claims(explore) {
+        return Ok(Some(claims_reason(alloc, "marks none")?));
+    }
+    for other in ["timeline", "first", "ends"] {
+        if given(explore, other) {
+            return Ok(Some(reason_of_two(alloc, "marks none", other)?));
+        }
+    }
+    if text_of(explore, "count").is_some() {
+        return Ok(Some(reason_of_two(alloc, "marks none", "count")?));
+    }
+    match text_of(explore, "only") {
+        Some(text) if only_of(explore).is_none() => Ok(Some(value_reason(
+            alloc,
+            text,
+            "--only <FIBER>",
+            "expected '0'",
+        )?)),
+        _ => Ok(None),
+    }
+}
+
 // That two flags cannot be used together.
 fn conflict_reason(alloc: Global, conflict: Conflict) -> Result<String, AllocError> {
+    reason_of_two(alloc, conflict.first, conflict.second)
+}
+
+// That one argument cannot be used with another.
+fn reason_of_two(alloc: Global, first: &str, second: &str) -> Result<String, AllocError> {
     let mut text = String::from_str(alloc, "the argument '--")?;
-    text.push_str(conflict.first)?;
+    text.push_str(first)?;
     text.push_str("' cannot be used with '--")?;
-    text.push_str(conflict.second)?;
+    text.push_str(second)?;
     text.push_str("'")?;
     Ok(text)
 }

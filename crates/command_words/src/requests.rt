@@ -1,6 +1,7 @@
 //! The request that the words of a command line give.
 
-ghost use Rattle.std.specs.Prelude.{◌≡◌, ◌≢◌, ◌≤◌, ◌<◌, ℕ, codes, IfOk, IfSome, IfNone, List, Option, Some, map};
+ghost use Rattle.std.specs.Prelude.{◌≡◌, ◌≢◌, ◌≤◌, ◌<◌, ℕ, codes, IfOk, IfSome, IfNone, List, Option, Some, false};
+ghost use Rattle.std.specs.Prelude.{map, true};
 ghost use Rattle.cell_registry.specs.declared.limits.Limits.{Limits};
 ghost use Rattle.cell_registry.specs.Cells.{AreLimits};
 ghost use Rattle.clap.specs.Words.{first_of, found_of, rows_of, subcommand_rows_of};
@@ -16,7 +17,8 @@ ghost use Rattle.steal_pool.specs.declared.options.Options.{Options};
 ghost use Rattle.steal_pool.specs.Runs.{limits_of};
 ghost use Rattle.command_words.specs.Memory.{SaysMemory};
 ghost use Rattle.command_words.specs.Numbers.{IsNumberOf, SaysNumber, SaysSeconds};
-ghost use Rattle.command_words.specs.Requests.{HasNoClaims};
+ghost use Rattle.command_words.specs.Flags.{SaysMarks};
+ghost use Rattle.command_words.specs.Requests.{HasMarks, HasNoClaims};
 ghost use Rattle.command_words.specs.Requests.{AreWants, GivesRequest, Says, SaysBounds, SaysExplore};
 ghost use Rattle.command_words.specs.Requests.{SaysExploring, SaysLimits, SaysReplay, SaysRun};
 ghost use Rattle.command_words.specs.Requests.{SaysRunning, SaysSample, SaysSampling, texts_said};
@@ -42,6 +44,8 @@ use crate::seek_requests::seeking_of;
 use crate::seeking::Seeking;
 use crate::test_requests::{testing_of, translating_of};
 use crate::testing::{Testing, Translating};
+use crate::unmark_requests::{has_text, marks_of, unmarking_of};
+use crate::unmarking::Unmarking;
 use clap::ArgMatches;
 use exploration_text::{Bounds, ExploreOrder, SampleOrder, Want, read_want};
 use outcome_trace::Limits;
@@ -65,6 +69,8 @@ pub enum Request<'a> {
     Decide(Deciding),
     /// To explore every schedule of the text's program, and to judge claims of each moment.
     Judge(Judging<'a>),
+    /// To explore every schedule of the text's program for the outcomes of its fibers, without their marks.
+    Unmark(Unmarking),
     /// To run the text's program on workers, and tell what each fiber came to.
     Run(Running),
     /// To tell what schedules of the text's program come to that are drawn at random.
@@ -386,6 +392,49 @@ fn explore_request<'a>(
     alloc: Global,
     options: &ArgMatches<'a>,
 ) -> Result<Option<Request<'a>>, AllocError>
+    ensures { IfOk result (GivesRequest (Some (codes "explore", rows_of (found_of options.now)))) }
+{
+    match marks_of(options) {
+        Some(true) => whole_request(alloc, options),
+        Some(false) => unmarked_request(alloc, options),
+        None => Ok(None),
+    }
+}
+
+// The request of `explore` whose options say that reports have no marks.
+fn unmarked_request<'a>(
+    alloc: Global,
+    options: &ArgMatches<'a>,
+) -> Result<Option<Request<'a>>, AllocError>
+    requires { SaysMarks (first_of (codes "marks") (rows_of (found_of options.now))) false }
+    ensures { IfOk result (GivesRequest (Some (codes "explore", rows_of (found_of options.now)))) }
+{
+    match unmarking_of(alloc, options)? {
+        Some(unmarking) => Ok(Some(Request::Unmark(unmarking))),
+        None => Ok(None),
+    }
+}
+
+// The request of `explore` whose options say that reports have marks.
+fn whole_request<'a>(
+    alloc: Global,
+    options: &ArgMatches<'a>,
+) -> Result<Option<Request<'a>>, AllocError>
+    requires { SaysMarks (first_of (codes "marks") (rows_of (found_of options.now))) true }
+    ensures { IfOk result (GivesRequest (Some (codes "explore", rows_of (found_of options.now)))) }
+{
+    if has_text(options, "only") {
+        return Ok(None);
+    }
+    marked_request(alloc, options)
+}
+
+// The same, where the options name no fiber as the only one.
+fn marked_request<'a>(
+    alloc: Global,
+    options: &ArgMatches<'a>,
+) -> Result<Option<Request<'a>>, AllocError>
+    requires { HasMarks (rows_of (found_of options.now)) }
     ensures { IfOk result (GivesRequest (Some (codes "explore", rows_of (found_of options.now)))) }
 {
     if has_claims(options) {

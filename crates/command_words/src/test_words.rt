@@ -37,8 +37,8 @@ fn text_option<'a>(alloc: Global, name: &'a str, value: &'a str, help: &'a str) 
         .action(ArgAction::Set)
 }
 
-// Adds an option that takes a text.
-fn with_text<'a>(
+/// Adds an option that takes a text.
+pub(crate) fn with_text<'a>(
     alloc: Global,
     command: Command<'a>,
     name: &'a str,

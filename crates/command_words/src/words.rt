@@ -3,7 +3,7 @@
 ghost use Rattle.std.specs.Prelude.{◌≡◌, ◌<◌, ◌^◌, codes, false, IfOk};
 ghost use Rattle.clap.specs.Words.{app_of, new_app, rule_of, with_rule};
 ghost use Rattle.clap.specs.declared.builder.command.Command.TheViews.{out-Command};
-ghost use Rattle.command_words.specs.Words.{claim_option, with_claims};
+ghost use Rattle.command_words.specs.Words.{claim_option, text_option, with_claims, with_marks};
 ghost use Rattle.command_words.specs.Words.{check_command, explore_command, explore_options, flag, number_option};
 ghost use Rattle.command_words.specs.Words.{bare_program, program, sample_options};
 ghost use Rattle.command_words.specs.Words.{replay_command, run_command, run_options, sample_bounds, sample_command};
@@ -16,7 +16,7 @@ use crate::help::{CommandHelp, LimitsHelp};
 use crate::ranges::{
     BAND, BUDGET, COUNT, ENTRIES, MOVES, NumberRange, SECONDS, SEED, TIMES, WORKERS, WORLDS,
 };
-use crate::test_words::{terms_command, test_command};
+use crate::test_words::{terms_command, test_command, with_text};
 use clap::{Arg, ArgAction, Command, value_parser};
 use std::alloc::{AllocError, Global};
 
@@ -179,6 +179,15 @@ fn with_claims<'a>(alloc: Global, command: Command<'a>) -> Result<Command<'a>, A
     command.arg(claim_option(alloc, "reach", help::REACH))
 }
 
+// Adds the options that say whether reports have marks, and of which fiber alone they are.
+fn with_marks<'a>(alloc: Global, command: Command<'a>) -> Result<Command<'a>, AllocError>
+    ensures shape { IfOk result (λ c. app_of c ≡ with_marks (app_of command.entry)) }
+    ensures local { IfOk result (λ c. (out-Command c).has_globals ≡ (out-Command command.entry).has_globals) }
+{
+    let marked = with_text(alloc, command, "marks", "MARKS", help::MARKS)?;
+    with_text(alloc, marked, "only", "FIBER", help::ONLY)
+}
+
 /// Adds the options for the limits of a run.
 pub(crate) fn with_limits<'a>(
     alloc: Global,
@@ -250,7 +259,8 @@ fn explore_command<'a>(alloc: Global) -> Result<Command<'a>, AllocError>
     ensures shape { IfOk result (λ c. app_of c ≡ explore_command) }
     ensures local { IfOk result (λ c. (out-Command c).has_globals ≡ false) }
 {
-    let command = with_claims(alloc, explore_options(alloc)?)?;
+    let claimed = with_claims(alloc, explore_options(alloc)?)?;
+    let command = with_marks(alloc, claimed)?;
     with_reasons(alloc, with_explore_forms(alloc, command)?)
 }
 

@@ -1,0 +1,6 @@
+pub mod Bare
+pub mod BarePlain
+pub mod BareValues
+pub mod Firsts
+pub mod Outcomes
+pub mod Shortened

@@ -1,0 +1,22 @@
+use Rattle.std.proofs.Common.{◌<◌}
+use Rattle.std.specs.List.{All}
+use Rattle.derived_ops.specs.Expansion.{code_of}
+use Rattle.derived_ops.specs.Reading.{source_of}
+use Rattle.outcome_answers.proofs.Shortened.{kept_all, kept_is}
+use Rattle.outcome_answers.proofs.finding.find_outcomes.Goals as goal
+
+pub returns-clause-found : goal.returns-clause-found
+returns-clause-found g c =
+    let order = c.args.order.now in
+    let told = c.in-Ok.ensures in
+    let short = c.shortened.ensures in
+    kept_is (code_of (source_of c.args.program.now)) order.limits order.bounds c.in-Ok.found c.shortened.result short.answers short.complete
+    (g.V.Watcher.can_stop c.args.watcher.now) short.halted short.worlds short.bytes told.all told.settled told.each told.once told.stopped told.may
+    told.room told.spare
+
+pub returns-clause-numbers : goal.returns-clause-numbers
+returns-clause-numbers g c =
+    let order = c.args.order.now in
+    let short = c.shortened.ensures in
+    kept_all (code_of (source_of c.args.program.now)) order.limits order.bounds c.in-Ok.found c.shortened.result short.answers short.complete
+    (λ a. All (λ f. f < 1000) a.schedule) c.in-Ok.ensures.numbers

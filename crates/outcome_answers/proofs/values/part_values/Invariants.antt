@@ -1,0 +1,11 @@
+use Rattle.std.proofs.Common.{List, ◌++◌, drop, map}
+use Rattle.serde_json.specs.Data.{Data}
+use Rattle.serde_json.specs.View.{view}
+use Rattle.outcome_answers.specs.OutcomesData.{IsBarePart}
+use Rattle.outcome_answers.proofs.values.part_values.Given as goal
+
+-- with the values of the answers that are left behind them, they are those of all
+abbrev pub invariant-loop-answer : goal.invariant-loop-answer
+invariant-loop-answer l =
+    (behind : List Data) → IsBarePart l.unwanted l.wants (drop l.answer-index l.answers) behind →
+    IsBarePart l.unwanted l.wants l.answers (map view l.values.items ++ behind)

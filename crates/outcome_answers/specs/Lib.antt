@@ -1,0 +1,4 @@
+pub mod OutcomesFound
+pub mod OutcomesShown
+pub mod OutcomesData
+pub mod OutcomeAnswers

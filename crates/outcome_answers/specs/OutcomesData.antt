@@ -1,0 +1,76 @@
+-- Outcomes as JSON. The members of an object are in the order of their keys.
+use Rattle.std.specs.Prelude.{◌≡◌, ◌+◌, ℕ, Bool, true, false, not, List, [], ◌∷◌, ◌++◌, codes, Option, Result, Ok, Err}
+use Rattle.std.specs.List.{filter}
+use Rattle.effect_term.specs.declared.reply.Outcome.{Outcome}
+use Rattle.cell_registry.specs.declared.limits.RunError.{RunError}
+use Rattle.text_io.specs.Schedule.{SpellsEntries}
+use Rattle.scheduled_core.specs.declared.report.FiberReport.{FiberReport}
+use Rattle.scheduled_core.specs.declared.report.Report.{Report}
+use Rattle.every_schedule.specs.declared.exploration.Answer.{Answer}
+use Rattle.every_schedule.specs.declared.exploration.Exploration.{Exploration}
+use Rattle.exploration_text.specs.declared.wants.Want.{Want}
+use Rattle.exploration_text.specs.ExplorationText.{is_listed_so}
+use Rattle.serde_json.specs.Data.{Data, boolean, string, array, object, Items, no_items, item, no_members, member}
+use Rattle.serde_json.specs.View.{items_of}
+use Rattle.json_answers.specs.ReportData.{count, fault_data, outcome_data}
+
+-- the fiber of this number, with its outcome
+abbrev pub bare_fiber : ℕ → Option Outcome → Data
+bare_fiber n outcome =
+    object (member (codes "fiber") (count n) (member (codes "outcome") (outcome_data outcome) no_members))
+
+-- fibers whose numbers go up from this one
+abbrev pub bare_items : ℕ → List FiberReport → Items
+bare_items n [] = no_items
+bare_items n (f ∷ fibers) = item (bare_fiber n f.outcome) (bare_items (n + 1) fibers)
+
+-- a report, from fiber 0 on
+abbrev pub bare_report : List FiberReport → Data
+bare_report fibers = object (member (codes "answer") (string (codes "report"))
+    (member (codes "fibers") (array (bare_items 0 fibers)) no_members))
+
+-- a report or a fault, the text of its schedule, and whether it is wanted
+abbrev pub bare_found : List ℕ → Bool → Result Report RunError → Data
+bare_found schedule wanted (Ok r) = object (member (codes "report") (bare_report r.fibers)
+    (member (codes "schedule") (string schedule) (member (codes "wanted") (boolean wanted) no_members)))
+bare_found schedule wanted (Err e) = object (member (codes "fault") (fault_data e)
+    (member (codes "schedule") (string schedule) (member (codes "wanted") (boolean wanted) no_members)))
+
+-- an answer, which is listed as not wanted, or among the others
+pub record IsBareData (unwanted : Bool) (a : Answer) (d : Data) : Type 0 where
+  pub schedule : List ℕ
+  pub spelled : SpellsEntries schedule a.schedule
+  pub data_is : d ≡ bare_found schedule (not unwanted) a.end
+
+-- answers, one behind the other
+abbrev pub AreBareData : Bool → List Answer → List Data → Type 0
+AreBareData unwanted [] ds = ds ≡ []
+AreBareData unwanted (a ∷ answers) ds = (d : Data) × (behind : List Data) × (ds ≡ d ∷ behind) ×
+    IsBareData unwanted a d × AreBareData unwanted answers behind
+
+-- those that are listed as not wanted, or the others
+abbrev pub IsBarePart : Bool → List Want → List Answer → List Data → Type 0
+IsBarePart unwanted wants answers ds = AreBareData unwanted (filter (λ a. is_listed_so unwanted wants a) answers) ds
+
+-- answers, whether they are all, that they have no marks, and how many worlds were found; if there can be more, how
+-- many bytes were counted, and whether the time was over, too
+abbrev pub outcomes_data : Items → (complete halted : Bool) → (worlds bytes : ℕ) → Data
+outcomes_data answers true halted worlds bytes = object (member (codes "answer") (string (codes "exploration"))
+    (member (codes "answers") (array answers) (member (codes "complete") (boolean true)
+    (member (codes "marks") (string (codes "none")) (member (codes "worlds") (count worlds) no_members)))))
+outcomes_data answers false false worlds bytes = object (member (codes "answer") (string (codes "exploration"))
+    (member (codes "answers") (array answers) (member (codes "bytes") (count bytes)
+    (member (codes "complete") (boolean false) (member (codes "marks") (string (codes "none"))
+    (member (codes "worlds") (count worlds) no_members))))))
+outcomes_data answers false true worlds bytes = object (member (codes "answer") (string (codes "exploration"))
+    (member (codes "answers") (array answers) (member (codes "bytes") (count bytes)
+    (member (codes "complete") (boolean false) (member (codes "marks") (string (codes "none"))
+    (member (codes "out_of_time") (boolean true) (member (codes "worlds") (count worlds) no_members)))))))
+
+-- an exploration without marks, with the answers that are not wanted before the others
+pub record IsOutcomesData (wants : List Want) (e : Exploration) (d : Data) : Type 0 where
+  pub unwanted : List Data
+  pub others : List Data
+  pub data_is : d ≡ outcomes_data (items_of (unwanted ++ others)) e.complete e.halted e.worlds e.bytes
+  pub unwanted_is : IsBarePart true wants e.answers unwanted
+  pub others_are : IsBarePart false wants e.answers others

@@ -1,0 +1,60 @@
+//! The outcomes of a program, with schedules that are no longer than the bounds allow.
+ghost use Rattle.std.specs.Prelude.{◌≡◌, ◌<◌, ◌==◌, ◌&&◌, IfOk, length, nat_le};
+ghost use Rattle.std.specs.List.{All, filter};
+ghost use Rattle.derived_ops.specs.Expansion.{code_of};
+ghost use Rattle.derived_ops.specs.Reading.{source_of};
+ghost use Rattle.outcome_answers.specs.OutcomesFound.{IsOutcomesOf};
+
+use effect_term::Program;
+use every_outcome::{OutcomeExploration, Watcher, explore_outcomes};
+use exploration_text::ExploreOrder;
+use std::alloc::{AllocError, Global};
+
+/// The outcomes that the fibers of a program can have under every schedule, within the limits and bounds of an order.
+///
+/// An answer whose schedule has more entries than the bounds allow is left out; then the exploration isn't complete.
+/// `AllocError` if memory ran out.
+pub fn find_outcomes<V: Watcher>(
+    alloc: Global,
+    program: &Program,
+    order: &ExploreOrder,
+    watcher: &mut V,
+) -> Result<OutcomeExploration, AllocError>
+    ensures found { IfOk result (IsOutcomesOf (code_of (source_of program.now)) order.now.limits order.now.bounds
+        (V.can_stop watcher.old)) }
+    ensures numbers { IfOk result (λ it. All (λ a. All (λ f. f < 1000) a.schedule) it.answers.items) }
+{
+    let Ok(found) = explore_outcomes(alloc, program, order.limits, order.bounds, watcher) else {
+        return Err(AllocError);
+    };
+    Ok(shortened(found, order.bounds.entries))
+}
+
+// The same exploration, without the answers whose schedules have more entries than this.
+fn shortened(found: OutcomeExploration, entries: usize) -> OutcomeExploration
+    ensures answers { result.answers.items ≡
+        filter (λ a. nat_le (length a.schedule) entries) found.answers.items }
+    ensures complete { result.complete ≡
+        (found.complete && (length result.answers.items == length found.answers.items)) }
+    ensures halted { result.halted ≡ found.halted }
+    ensures worlds { result.worlds ≡ found.worlds }
+    ensures bytes { result.bytes ≡ found.bytes }
+{
+    let OutcomeExploration {
+        mut answers,
+        worlds,
+        bytes,
+        complete,
+        halted,
+    } = found;
+    let many = answers.len();
+    answers.retain(|answer| answer.schedule.as_slice().len() <= entries);
+    let whole = answers.len() == many;
+    OutcomeExploration {
+        answers,
+        worlds,
+        bytes,
+        complete: complete && whole,
+        halted,
+    }
+}
