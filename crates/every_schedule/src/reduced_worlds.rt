@@ -6,12 +6,12 @@ ghost use Rattle.world_search.specs.Lists.{IsMore};
 ghost use Rattle.derived_ops.specs.Expansion.{code_of};
 ghost use Rattle.derived_ops.specs.Reading.{source_of};
 ghost use Rattle.cell_registry.specs.Cells.{AreLimits};
-ghost use Rattle.every_schedule.specs.Places.{Place, first_place};
+ghost use Rattle.every_schedule.specs.Places.{Place, first_place, stepped};
 ghost use Rattle.every_schedule.specs.Private.Trails.{MakesAtOnce};
 ghost use Rattle.every_schedule.specs.Reduced.{hundred, leapt};
 
 use crate::core_world::CoreWorld;
-use crate::core_worlds::CoreWorlds;
+use crate::core_worlds::{CoreWorlds, NONE};
 use crate::leaping::AtOnce;
 use cell_registry::{Limits, RunError};
 use effect_term::Program;
@@ -72,6 +72,21 @@ impl ReducedWorlds {
         let mut entries = Vec::new(self.alloc);
         let to = self.worlds.entry(world, fiber, most, AT_ONCE, &mut entries)?;
         Ok(Made { to, entries })
+    }
+
+    /// Makes the entry of a fiber at a world alone.
+    pub(crate) fn alone(
+        &mut self,
+        world: usize,
+        fiber: u16,
+        most: usize,
+    ) -> Result<Entered, AllocError>
+        requires { world < length self.old.worlds.places }
+        ensures worlds { IsMore self.old.worlds.places self.new.worlds.places }
+        ensures lands { IfOk result (λ it. (p : Place) → slice_get self.old.worlds.places world ≡ Some p →
+            EntersAt self.new.worlds.places self.new.worlds.faults it (stepped p fiber)) }
+    {
+        self.worlds.entry(world, fiber, most, NONE, &mut self.trail)
     }
 }
 

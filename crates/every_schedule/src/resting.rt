@@ -10,6 +10,7 @@ use fair_ends::{Made, Resting};
 use fiber_frames::{Ask, Config};
 use scheduled_core::{is_done, outcome};
 use std::alloc::AllocError;
+use world_search::Entered;
 
 impl Resting for ReducedWorlds {
     ghost use Rattle.scheduled_core.specs.Finals.{IsFinal as is_final};
@@ -29,6 +30,15 @@ impl Resting for ReducedWorlds {
 
     fn make(&mut self, world: usize, fiber: u16, most: usize) -> Result<Made, AllocError> {
         self.made(world, fiber, most)
+    }
+
+    fn enter_alone(
+        &mut self,
+        world: usize,
+        fiber: u16,
+        most: usize,
+    ) -> Result<Entered, AllocError> {
+        self.alone(world, fiber, most)
     }
 
     fn is_at_rest(&self, world: usize) -> Result<bool, AllocError> {

@@ -1,16 +1,17 @@
 -- Where schedules lead, by the numbers of a table.
-use Rattle.std.proofs.Common.{◌≡◌, ◌≢◌, ℕ, ◌+◌, ◌<◌, ◌≤◌, List, [], ◌∷◌, ◌++◌, length, Some, Result, Ok, Err, refl, sym, ap, ◌∙◌, subst, arith}
+use Rattle.std.proofs.Common.{◌≡◌, ◌≢◌, ℕ, ◌+◌, ◌<◌, ◌≤◌, List, [], ◌∷◌, ◌++◌, length, get_or, take, Some, Result, Ok, Err, refl, sym, ap, ◌∙◌, subst, arith}
 use Rattle.std.specs.List.{slice_get}
 use Rattle.std.proofs.lemmas.Bool.{cases_order}
+use Rattle.std.proofs.lemmas.List.Sums.{fold_more}
 use Rattle.std.proofs.lemmas.Option.{same_Some}
 use mathlib.Core.Logic.{◌⊎◌, inl, inr}
 use Rattle.world_search.specs.Lists.{IsIn}
-use Rattle.world_search.specs.Systems.{run}
+use Rattle.world_search.specs.Systems.{entered, run}
 use Rattle.world_search.proofs.Closed.{run-append}
 use Rattle.world_search.proofs.Lists.{get_low}
 use Rattle.fair_ends.specs.declared.table.Edge.{Edge}
 use Rattle.fair_ends.specs.declared.table.Row.{Row}
-use Rattle.fair_ends.specs.Private.Tables.{fault, IsEdge, IsRow, IsStill, LandsOn}
+use Rattle.fair_ends.specs.Private.Tables.{fault, IsEdge, IsRow, IsStill, LandsOn, LeadsToWorld}
 
 module _ {W E : Type 0} (entry : W → ℕ → Result W E) (Free : W → ℕ → Type 0) (step : W → ℕ → Result W E) (most : ℕ) (ws : List W) where
   -- what leads to a world's number leads to that world
@@ -55,3 +56,14 @@ module _ {W E : Type 0} (entry : W → ℕ → Result W E) (Free : W → ℕ →
       let edge = (rows to.0 to.1).each f e is in
       subst (LandsOn ws e.target)
       (sym (run-append entry (Ok w) entries e.made.items ∙ ap (λ x. run entry x e.made.items) to.2 ∙ edge.makes.leads)) edge.lands
+
+  -- one entry more, made alone
+  pub alone_next : (vs us : List W) (first : W) (s : List ℕ) (i at to f : ℕ) → i < length s → f ≡ get_or s i 0 → LeadsToWorld entry vs first (take i s) at →
+      ((w : W) → slice_get vs at ≡ Some w → (x : W) × (slice_get us to ≡ Some x) × (entry w f ≡ Ok x)) → LeadsToWorld entry us first (take (i + 1) s) to
+  alone_next vs us first s i at to f low is led next =
+      let on = next led.0 led.1 in (
+        on.0,
+        on.1,
+        fold_more (entered entry) (Ok first) s i 0 low ∙ ap (λ x. entered entry x (get_or s i 0)) led.2 ∙
+        subst (λ k. entry led.0 k ≡ Ok on.0) is on.2,
+      )

@@ -1,3 +1,4 @@
+pub mod Found
 pub mod Ahead
 pub mod Fairly
 pub mod Rows

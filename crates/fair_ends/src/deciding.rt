@@ -13,6 +13,7 @@ use crate::cycles::cycle_in;
 use crate::ending::{Cycle, Ending};
 use crate::ranking::rank_all;
 use crate::resting::Resting;
+use crate::shortening::shortened;
 use crate::table::{Row, table_of};
 use crate::walking::fair_cycle;
 use std::alloc::{AllocError, Global};
@@ -51,7 +52,30 @@ pub fn decide_ends<W: Resting, V: Watcher>(
 {
     match table_of(alloc, &mut *worlds, bounds, watcher)? {
         None => Ok(Ending::Undecided),
-        Some(rows) => judge(alloc, &*worlds, rows.as_slice()),
+        Some(rows) => {
+            let found = judge(alloc, &*worlds, rows.as_slice())?;
+            with_short_cycle(worlds, found)
+        }
+    }
+}
+
+// The same ending, with a cycle that is no longer than it has to be.
+fn with_short_cycle<W: Resting>(worlds: &mut W, found: Ending) -> Result<Ending, AllocError>
+    requires { 0 < length (W.worlds worlds.old) }
+    ensures grows { OnOk result (IsMore (W.worlds worlds.old) (W.worlds worlds.new)) }
+    ensures ends { IfOk result (λ it. it ≡ Ending.Ends → found ≡ Ending.Ends) }
+    ensures repeats { IfOk result (λ it. (c : TheCycle) → it ≡ Ending.Repeats c → (d : TheCycle) ×
+        (found ≡ Ending.Repeats d) × ((first : W.World) → slice_get (W.worlds worlds.old) 0 ≡ Some first →
+        IsFairCycle W.entry W.rests first d.stem.items d.cycle.items →
+        IsFairCycle W.entry W.rests first c.stem.items c.cycle.items)) }
+{
+    match found {
+        Ending::Ends => Ok(Ending::Ends),
+        Ending::Undecided => Ok(Ending::Undecided),
+        Ending::Repeats(cycle) => {
+            let short = shortened(worlds, cycle)?;
+            Ok(Ending::Repeats(short))
+        }
     }
 }
 

@@ -16,6 +16,7 @@ mod paths;
 mod rank;
 mod ranking;
 mod resting;
+mod shortening;
 mod table;
 mod walking;
 

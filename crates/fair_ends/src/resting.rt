@@ -45,6 +45,13 @@ pub trait Resting: Worlds {
         ensures makes { IfOk result (λ it. (w : Self.World) → slice_get (Self.worlds self.old) world ≡ Some w →
             Makes entry free Self.step Self.most_born w fiber it.entries.items) };
 
+    /// Makes the entry of a fiber alone. `AllocError` where memory is refused.
+    fn enter_alone(&mut self, world: usize, fiber: u16, most: usize) -> Result<Entered, AllocError>
+        requires { world < length (Self.worlds self.old) }
+        ensures worlds { OnOk result (IsMore (Self.worlds self.old) (Self.worlds self.new)) }
+        ensures lands { IfOk result (λ it. (w : Self.World) → slice_get (Self.worlds self.old) world ≡ Some w →
+            EntersAt (Self.worlds self.new) (Self.faults self.new) it (entry w fiber)) };
+
     /// Whether the world of this number is known to be at rest. `AllocError` where memory is refused.
     fn is_at_rest(&self, world: usize) -> Result<bool, AllocError>
         requires { world < length (Self.worlds self.now) }

@@ -5,6 +5,7 @@ use Rattle.world_search.specs.declared.landings.Landing.TheVariants as to
 use Rattle.world_search.specs.declared.landings.Entered.{Entered}
 use Rattle.world_search.specs.declared.landings.Entered.TheVariants as came
 use Rattle.world_search.specs.Lists.{IsIn}
+use Rattle.world_search.specs.Systems.{run}
 use Rattle.fair_ends.specs.Fair.{Makes}
 use Rattle.fair_ends.specs.declared.table.Edge.{Edge}
 use Rattle.fair_ends.specs.declared.table.Row.{Row}
@@ -22,6 +23,10 @@ IsTarget came.Full t = ⊥
 -- the step of fiber f makes no entry of it, or its entry alone, which leads to the world of this number
 abbrev pub IsStill : ℕ → ℕ → Edge → Type 0
 IsStill t f e = (IsIn f e.made.items → ⊥) ⊎ ((e.made.items ≡ f ∷ []) × (e.target ≡ t))
+
+-- these entries lead to the world of this number
+abbrev pub LeadsToWorld : {W E : Type 0} → (W → ℕ → Result W E) → List W → W → List ℕ → ℕ → Type 0
+LeadsToWorld entry ws w entries to = (x : _) × (slice_get ws to ≡ Some x) × (run entry (Ok w) entries ≡ Ok x)
 
 module _ {W E : Type 0} (ws : List W) where
   -- the number is that of this world, or of a fault
