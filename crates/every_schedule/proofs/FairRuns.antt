@@ -1,5 +1,5 @@
 -- Fair schedules of a search, said of the core.
-use Rattle.std.proofs.Common.{◌≡◌, ◌≢◌, ◌++◌, ℕ, zero, suc, Bool, true, false, List, [], ◌∷◌, Result, Ok, Err, refl, sym, ap, ◌∙◌, subst, append_assoc}
+use Rattle.std.proofs.Common.{◌≡◌, ◌++◌, ℕ, zero, suc, Bool, true, false, List, [], ◌∷◌, Result, Ok, Err, refl, sym, ap, ◌∙◌, subst}
 use mathlib.Core.Logic.{◌⊎◌, inl, inr}
 use Rattle.derived_ops.specs.Tree.{Tree}
 use Rattle.cell_registry.specs.declared.limits.Limits.{Limits}
@@ -13,7 +13,7 @@ use Rattle.world_search.specs.Systems as search
 use Rattle.world_search.proofs.Closed.{run-append}
 use Rattle.fair_ends.specs.Fair.{AreRight, EndsUnder, IsEnd, IsFairCycle, first_of}
 use Rattle.every_schedule.specs.Fairness.{Ends, IsForever, IsOver, repeated}
-use Rattle.every_schedule.specs.Places.{Place, bare, bared, entering, first_place, moves_at, placed, stepped, unnoted}
+use Rattle.every_schedule.specs.Places.{Place, bare, bared, first_place, moves_at, placed, stepped, unnoted}
 use Rattle.every_schedule.specs.Reduced.{MayOwn}
 use Rattle.every_schedule.proofs.Bare.{bare_step, idle_stays, moves_step}
 use Rattle.every_schedule.proofs.Placed.{core_run}

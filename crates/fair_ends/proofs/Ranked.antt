@@ -1,12 +1,11 @@
 -- Ranks of worlds, from the rows of a table.
-use Rattle.std.proofs.Common.{◌≡◌, ◌≢◌, ℕ, ◌<◌, ◌≤◌, List, [], length, Some, Result, Ok, Err, refl, sym, ◌∙◌, subst, arith}
+use Rattle.std.proofs.Common.{◌≡◌, ◌≢◌, ℕ, ◌<◌, ◌≤◌, List, [], length, Some, Result, Ok, Err, refl, subst, arith}
 use Rattle.std.specs.List.{slice_get}
 use Rattle.std.proofs.lemmas.Bool.{cases_order}
 use mathlib.Core.Logic.{◌⊎◌, inl, inr}
 use Rattle.world_search.specs.Lists.{IsIn}
 use Rattle.fair_ends.specs.declared.rank.Rank.{Rank}
 use Rattle.fair_ends.specs.declared.table.Row.{Row}
-use Rattle.fair_ends.specs.Fair.{Makes}
 use Rattle.fair_ends.specs.Private.Ranks.{Falls, Leads, LeadsOn}
 use Rattle.fair_ends.specs.Private.Tables.{fault, IsRow, LandsOn}
 

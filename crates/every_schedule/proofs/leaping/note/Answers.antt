@@ -1,6 +1,5 @@
-use Rattle.std.proofs.Common.{refl, sym, ◌∙◌, inl, inr}
+use Rattle.std.proofs.Common.{sym, ◌∙◌, inl}
 use Rattle.every_schedule.specs.Private.Standing.{here}
-use Rattle.every_schedule.proofs.Bare.{idle_stays}
 use Rattle.every_schedule.proofs.Leaps.{has_next}
 use Rattle.every_schedule.proofs.leaping.note.Goals as goal
 

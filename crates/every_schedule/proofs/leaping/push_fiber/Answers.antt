@@ -1,7 +1,6 @@
-use Rattle.std.proofs.Common.{◌≡◌, ℕ, List, Ok, Err, refl, sym, ◌∙◌, subst}
+use Rattle.std.proofs.Common.{◌≡◌, ℕ, List, Ok, Err, sym, ◌∙◌, subst}
 use Rattle.scheduled_core.specs.Fitting.{AllFit}
 use Rattle.every_schedule.specs.Places.{Place, stepped}
-use Rattle.every_schedule.specs.Reduced.{after_own, is_made, own_of}
 use Rattle.every_schedule.specs.Private.Standing.{here}
 use Rattle.every_schedule.specs.Private.Trails.{IsOwnTrail}
 use Rattle.every_schedule.proofs.Leaps.{fiber_made, fiber_none, fiber_refused, may_own, own_moves, refused_with}

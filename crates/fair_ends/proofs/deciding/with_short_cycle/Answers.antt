@@ -1,4 +1,4 @@
-use Rattle.std.proofs.Common.{◌≡◌, sym, subst}
+use Rattle.std.proofs.Common.{◌≡◌, subst}
 use Rattle.fair_ends.specs.declared.ending.Cycle.{Cycle}
 use Rattle.fair_ends.specs.Fair.{IsFairCycle}
 use Rattle.fair_ends.proofs.deciding.with_short_cycle.Goals as goal

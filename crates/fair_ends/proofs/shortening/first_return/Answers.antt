@@ -1,9 +1,7 @@
-use Rattle.std.proofs.Common.{get_or, refl, length, arith, ◌≡◌, ◌<◌, ℕ, sym, ap, ◌∙◌, subst, take, Some, Ok}
+use Rattle.std.proofs.Common.{get_or, refl, length, arith, ◌≡◌, ◌<◌, sym, ap, ◌∙◌, subst, Some, Ok}
 use Rattle.std.specs.List.{slice_get}
-use Rattle.std.proofs.lemmas.Grind.{common_steps}
-use Rattle.std.proofs.lemmas.Option.{gets, same_Some}
+use Rattle.std.proofs.lemmas.Option.{same_Some}
 use Rattle.world_search.proofs.Lists.{more_get, more_more, more_same}
-use Rattle.fair_ends.specs.Private.Tables.{LeadsToWorld}
 use Rattle.fair_ends.proofs.Found.{if_some}
 use Rattle.fair_ends.proofs.Landed.{alone_next}
 use Rattle.fair_ends.proofs.shortening.first_return.Goals as goal

@@ -1,4 +1,4 @@
-use Rattle.std.proofs.Common.{ℕ, ◌+◌, List, sym, subst, arith}
+use Rattle.std.proofs.Common.{◌+◌, sym, subst, arith}
 use Rattle.world_search.proofs.Lists.{more_back, more_long, more_more}
 use Rattle.fair_ends.specs.Private.Tables.{AreEdges}
 use Rattle.fair_ends.proofs.Rows.{edges_more, edges_next, lands_on, row_of}

@@ -1,8 +1,6 @@
 use Rattle.std.proofs.Common.{◌≡◌, ◌<◌, ◌≤◌, length, map, inl, inr, sym, ap, ◌∙◌, subst, arith}
-use Rattle.std.specs.Prelude.{List, ℕ, Some, max}
+use Rattle.std.specs.Prelude.{List, ℕ, max}
 use Rattle.std.specs.List.{slice_get}
-use Rattle.std.proofs.lemmas.Grind.{common_steps}
-use Rattle.std.proofs.lemmas.Option.{gets}
 use Rattle.std.proofs.lemmas.Result.{IfOk-weaker}
 use Rattle.cell_registry.specs.Plain.{PlainView}
 use Rattle.fiber_frames.specs.Fiber.{Fiber}
@@ -11,7 +9,7 @@ use Rattle.world_search.specs.Lists.{IsMore}
 use Rattle.world_search.proofs.Lists.{more_more, more_same}
 use Rattle.every_schedule.specs.Places.{Kept, Place}
 use Rattle.every_schedule.specs.Reduced.{leapt}
-use Rattle.every_schedule.specs.Private.Numbered.{AreWorlds, IsWorld, IsWorldOf, Numbers, place_of}
+use Rattle.every_schedule.specs.Private.Numbered.{IsWorld, IsWorldOf, Numbers, place_of}
 use Rattle.every_schedule.specs.Private.Standing.{here}
 use Rattle.every_schedule.specs.Private.Trails.{IsLeapTrail, MakesAtOnce}
 use Rattle.every_schedule.proofs.Entering.{always, is_here, lands, next_kept, places_hold, places_stay, room_kept, rows_hold, rows_stay}

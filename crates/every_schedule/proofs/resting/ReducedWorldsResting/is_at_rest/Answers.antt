@@ -1,4 +1,4 @@
-use Rattle.std.proofs.Common.{◌≡◌, sym, ap, ap₂, ◌∙◌, subst}
+use Rattle.std.proofs.Common.{sym, ap, ap₂, ◌∙◌, subst}
 use Rattle.cell_registry.specs.Plain.{PlainView}
 use Rattle.scheduled_core.specs.Finals.{IsFinal}
 use Rattle.scheduled_core.specs.Fitting.{AllFit, world_of}
