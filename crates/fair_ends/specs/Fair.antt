@@ -41,11 +41,12 @@ module _ {W E : Type 0} (entry : W → ℕ → Result W E) (Free : W → ℕ →
 
   -- behind where an entry has led, free moves lead on to y; each of them is one of these entries
   abbrev pub IsBehind : List ℕ → Result W E → Result W E → Type 0
-  IsBehind made (Ok x) y = (free : List ℕ) × (v : W) × LeadBy x free v × (y ≡ Ok v) × ((f : ℕ) → IsIn f free → IsIn f made)
+  IsBehind made (Ok x) y = (free : List ℕ) × (v : W) × LeadBy x free v × (y ≡ Ok v) ×
+      ((f : ℕ) → IsIn f free → IsIn f made)
   IsBehind made (Err e) y = y ≡ Err e
 
-  -- These entries are that of fiber f and free moves behind it, and lead where the step of fiber f does. If none of them
-  -- is of fiber f, its entry changes nothing
+  -- These entries are that of fiber f and free moves behind it, and lead where the step of fiber f does. If none of
+  -- them is of fiber f, its entry changes nothing
   pub record Makes (step : W → ℕ → Result W E) (most : ℕ) (w : W) (f : ℕ) (made : List ℕ) : Type 0 where
     pub leads : run entry (Ok w) made ≡ step w f
     pub free : IsBehind made (entry w f) (step w f)

@@ -109,8 +109,8 @@ fn passes<W: Resting>(
     ranks[to].quiet || falls(ranks, index, to, fiber, edge)
 }
 
-// Whether the rank falls from one world to the other, or it and the helpful fiber stay under a step that makes no entry of
-// this fiber.
+// Whether the rank falls from one world to the other, or it and the helpful fiber stay under a step that makes no entry
+// of that fiber.
 fn falls(ranks: &[Rank], index: usize, to: usize, fiber: usize, edge: &Edge) -> bool
     requires index { index < length ranks.now }
     requires to { to < length ranks.now }
@@ -127,7 +127,7 @@ fn is_lower(rank: Rank, fiber: usize, edge: &Edge, next: Rank) -> bool
     next.rank < rank.rank || keeps(rank, fiber, edge, next)
 }
 
-// Whether the rank and the helpful fiber stay under a step that makes no entry of this fiber.
+// Whether the rank and the helpful fiber stay under a step that makes no entry of that fiber.
 fn keeps(rank: Rank, fiber: usize, edge: &Edge, next: Rank) -> bool
     ensures rank { result ≡ true → next.rank ≡ rank.rank }
     ensures helper { result ≡ true → next.helper ≡ rank.helper }

@@ -16,8 +16,8 @@ use world_search::{Entered, Landing};
 // A cycle of more entries stays as it is.
 const LONGEST: usize = 10_000;
 
-/// The cycle up to where its entries first lead back and are of all its fibers. Free moves that are made at once make it
-/// longer than it has to be.
+/// The cycle up to where its entries first lead back and are of all its fibers. Free moves that are made at once make
+/// it longer than it has to be.
 pub fn shortened<W: Resting>(worlds: &mut W, found: Cycle) -> Result<Cycle, AllocError>
     requires { 0 < length (W.worlds worlds.old) }
     ensures grows { OnOk result (IsMore (W.worlds worlds.old) (W.worlds worlds.new)) }

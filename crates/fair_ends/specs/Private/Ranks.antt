@@ -5,8 +5,8 @@ use Rattle.world_search.specs.Lists.{IsIn}
 use Rattle.fair_ends.specs.declared.rank.Rank.{Rank}
 use Rattle.fair_ends.specs.Fair.{Makes}
 
--- the rank falls, or it and the helpful fiber stay, under the entry of fiber f, if neither it nor one of the entries that
--- are made with it is the helpful fiber's
+-- the rank falls, or it and the helpful fiber stay, under the entry of fiber f, if neither it nor one of the entries
+-- that are made with it is the helpful fiber's
 abbrev pub Falls : Rank → ℕ → List ℕ → Rank → Type 0
 Falls a f made b =
     (b.rank < a.rank) ⊎ ((b.rank ≡ a.rank) × (b.helper ≡ a.helper) × (f ≢ a.helper) × (IsIn a.helper made → ⊥))
