@@ -1,5 +1,5 @@
 -- What is answered to a text about claims.
-use Rattle.std.specs.Prelude.{◌≡◌, ◌⊎◌, ℕ, false, List, [], ◌++◌}
+use Rattle.std.specs.Prelude.{◌≡◌, ◌⊎◌, ℕ, false, List, [], ◌++◌, codes}
 use Rattle.derived_ops.specs.Expansion.{code_of}
 use Rattle.derived_ops.specs.Reading.{source_of}
 use Rattle.effect_term.specs.declared.term.Term.{Term}
@@ -14,6 +14,8 @@ use Rattle.json_answers.specs.Answers.{IsJsonRefusal}
 use Rattle.json_answers.specs.FoundAnswers.{IsNotedJsonExplored}
 use Rattle.timelines.specs.ExploreTimelines.{IsNotedTold}
 use Rattle.claim_words.specs.Spacing.{spaced_text}
+use Rattle.claim_words.specs.declared.heads.RefFault.{RefFault}
+use Rattle.claim_words.specs.declared.heads.RefFault.TheVariants.{NoRef, NotAtHead, Several}
 use Rattle.claim_answers.specs.declared.asked.Asked.{Asked}
 use Rattle.claim_answers.specs.declared.judging.Verdict.{Verdict}
 use Rattle.claim_answers.specs.declared.lines.ClaimForm.{ClaimForm}
@@ -57,13 +59,28 @@ pub record IsJudgedAnswer (form : ClaimForm) (o : ExploreOrder) (asked : List As
     pub answer_is : answer ≡ lines ++ (gap form ++ rest)
     pub status_is : status ≡ worse (claims_status asked verdicts) rest_status
 
+-- why the number of a ref isn't known
+abbrev pub reason_text : RefFault → List ℕ
+reason_text NoRef = codes "', and the program has no ref of this name"
+reason_text NotAtHead = codes "', which isn't at the head of the program: name the ref by its number"
+reason_text Several = codes "', and the program has several binders of this name: name the ref by its number"
+
+abbrev pub unnamed_note : (name : List ℕ) → RefFault → List ℕ
+unnamed_note name fault = codes "error: a claim names the ref '" ++ (name ++ (reason_text fault ++
+    codes "\n\nFor more information, try '--help'.\n"))
+
 -- a claim names a ref whose number isn't known: nothing is answered, and the note says so
-abbrev pub IsUnnamedAnswer : (answer : List ℕ) → Status → Type 0
-IsUnnamedAnswer answer status = (answer ≡ []) × (status ≡ ends.Usage)
+pub record IsUnnamedAnswer (note answer : List ℕ) (status : Status) : Type 0 where
+  pub name : List ℕ
+  pub fault : RefFault
+  pub note_is : note ≡ unnamed_note name fault
+  pub nothing : answer ≡ []
+  pub status_is : status ≡ ends.Usage
 
 -- what is answered to a text with its status and this note: the refusal of the text, the verdicts on its program, or
 -- that a claim names a ref whose number isn't known
 abbrev pub IsClaimsAnswer : ClaimForm → ExploreOrder → List Asked → (note : List ℕ) → List ℕ → List ℕ → Status → Type 0
 IsClaimsAnswer form o asked note text answer status = IsNotedAnswer (refuses_as form)
-    (λ note t answer status. IsJudgedAnswer form o asked text note t answer status ⊎ IsUnnamedAnswer answer status)
+    (λ note t answer status. IsJudgedAnswer form o asked text note t answer status ⊎
+    IsUnnamedAnswer note answer status)
     note text answer status

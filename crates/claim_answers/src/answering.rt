@@ -7,7 +7,7 @@ ghost use Rattle.outcome_trace.specs.Answers.{IsRefused};
 ghost use Rattle.claim_words.specs.Spacing.{spaced_text};
 ghost use Rattle.claim_answers.specs.Claims.{IsDecided, IsSought, Pairwise};
 ghost use Rattle.claim_answers.specs.ClaimsAnswers.{IsClaimsAnswer, IsJudgedAnswer, IsUnnamedAnswer, explored_as};
-ghost use Rattle.claim_answers.specs.ClaimsAnswers.{refuses_as};
+ghost use Rattle.claim_answers.specs.ClaimsAnswers.{reason_text, refuses_as, unnamed_note};
 ghost use Rattle.claim_answers.specs.Verdicts.{AreLines, gap, worse};
 
 use crate::asked::Asked;
@@ -84,7 +84,8 @@ fn judged_answer<'a>(
     program: &Program,
 ) -> Result<NotedAnswer, AllocError>
     ensures { IfOk result (λ n. IsJudgedAnswer form order asked.now text.now n.note.items program.now
-        n.answer.text.items n.answer.status ⊎ IsUnnamedAnswer n.answer.text.items n.answer.status) }
+        n.answer.text.items n.answer.status ⊎
+        IsUnnamedAnswer n.note.items n.answer.text.items n.answer.status) }
 {
     let spaced = spaced_text(alloc, text)?;
     match soughts_of(alloc, spaced.as_slice(), asked) {
@@ -116,28 +117,33 @@ fn sought_answer(
 
 // The answer where a claim names a ref whose number isn't known.
 fn unnamed_answer(alloc: Global, name: &[u8], fault: RefFault) -> Result<NotedAnswer, AllocError>
-    ensures { IfOk result (λ n. IsUnnamedAnswer n.answer.text.items n.answer.status) }
+    ensures { IfOk result (λ n. IsUnnamedAnswer n.note.items n.answer.text.items n.answer.status) }
 {
+    let note = unnamed_note(alloc, name, fault)?;
     Ok(NotedAnswer {
         answer: Answer {
             text: Vec::new(alloc),
             status: Status::Usage,
         },
-        note: unnamed_note(alloc, name, fault)?,
+        note,
     })
 }
 
 // Why the number of a ref isn't known.
-fn unnamed_note(alloc: Global, name: &[u8], fault: RefFault) -> Result<Vec<u8>, AllocError> {
+fn unnamed_note(alloc: Global, name: &[u8], fault: RefFault) -> Result<Vec<u8>, AllocError>
+    ensures { IfOk result (λ note. note.items ≡ unnamed_note name.now fault) }
+{
     let mut note = Vec::from_slice(alloc, b"error: a claim names the ref '")?;
     note.extend_from_slice(name)?;
-    note.extend_from_slice(ref_reason(fault))?;
+    note.extend_from_slice(reason_text(fault))?;
     note.extend_from_slice(b"\n\nFor more information, try '--help'.\n")?;
     Ok(note)
 }
 
 // The end of the sentence.
-fn ref_reason(fault: RefFault) -> &'static [u8] {
+fn reason_text(fault: RefFault) -> &'static [u8]
+    ensures { result.now ≡ reason_text fault }
+{
     match fault {
         RefFault::NoRef => b"', and the program has no ref of this name",
         RefFault::NotAtHead => {

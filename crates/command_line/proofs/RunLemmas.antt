@@ -13,7 +13,7 @@ use Rattle.text_io.specs.FaultLines.{fault_line}
 use Rattle.text_io.specs.Telling.{Told}
 use Rattle.text_io.specs.Text.{GoesOut, OnlyWriteFaults, is_write_fault}
 use Rattle.command_words.specs.declared.requests.Request.{Request}
-use Rattle.command_words.specs.Requests.{GivesRequest, HasScheduleInInput, TakesSchedule}
+use Rattle.command_words.specs.Requests.{AreSettledByInput, GivesRequest, IsSettledByInput}
 use Rattle.command_line.specs.Obeying.{ObeysRequest, Runs, no_request, no_words, refused, request}
 use Rattle.command_words.specs.Telling.{AsksHelp, LacksMemory, ShowsText, TellsKind, TellsWrong, no_memory, shown, wrong}
 use Rattle.command_words.specs.Words.{program}
@@ -37,11 +37,11 @@ runs_request a words m r before after status same h right gives obeys = request 
 }
 
 pub takes_input : (a : App) (words : List Text) (m : ArgMatches) (r : Request) → a ≡ program → HasMatchesOf a words m →
-    GivesRequest (subcommand_rows_of m) (Some r) → TakesSchedule r → HasScheduleInInput words
+    GivesRequest (subcommand_rows_of m) (Some r) → IsSettledByInput r → AreSettledByInput words
 takes_input a words m r same h gives takes = record {
   request = r;
   gives = subst (λ (s : Option (Text × List Row)). GivesRequest s (Some r)) (said_so a words m same h) gives;
-  takes_schedule = takes;
+  settled = takes;
 }
 
 pub runs_no_request : (a : App) (words : List Text) (m : ArgMatches) (before after : Devices) (status : Status) → a ≡ program →

@@ -3,7 +3,7 @@
 ghost use Rattle.std.specs.Prelude.{◌≡◌, ◌⊎◌, ◌<◌, ◌^◌, false, map};
 ghost use Rattle.clap.specs.Words.{kind_of};
 ghost use Rattle.command_line.specs.Obeying.{ObeysRequest, Runs};
-ghost use Rattle.command_words.specs.Requests.{HasScheduleInInput, TakesSchedule};
+ghost use Rattle.command_words.specs.Requests.{AreSettledByInput, IsSettledByInput};
 ghost use Rattle.command_words.specs.Telling.{LacksMemory, TellsKind, TellsWrong};
 ghost use Rattle.text_io.specs.Devices.{devices};
 
@@ -73,8 +73,8 @@ where
     ensures obeyed { ObeysRequest request.entry (devices (I.seen input.old) (O.seen out.old) (E.seen err.old))
         (devices (I.seen input.new) (O.seen out.new) (E.seen err.new)) result }
 
-    // A bad schedule among the words is told before the text is read.
-    ensures unread { result ≡ Status.Usage → (TakesSchedule request.entry → ⊥) → input.new ≡ input.old }
+    // What is wrong with the words alone is reported before the input is read.
+    ensures unread { result ≡ Status.Usage → (IsSettledByInput request.entry → ⊥) → input.new ≡ input.old }
 {
     match request {
         Request::Check(checking) => obey_check(rt.alloc(), checking, input, out, err),
@@ -133,8 +133,8 @@ where
     ensures runs { Runs (map S.text words.entry.now) (devices (I.seen input.old) (O.seen out.old) (E.seen err.old))
         (devices (I.seen input.new) (O.seen out.new) (E.seen err.new)) result }
 
-    // Wrong words and a bad schedule among them are told before the input is read.
-    ensures unread { result ≡ Status.Usage → (HasScheduleInInput (map S.text words.entry.now) → ⊥) →
+    // What is wrong with the words alone is reported before the input is read.
+    ensures unread { result ≡ Status.Usage → (AreSettledByInput (map S.text words.entry.now) → ⊥) →
         input.new ≡ input.old }
 {
     let alloc = rt.alloc();

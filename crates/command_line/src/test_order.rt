@@ -265,14 +265,27 @@ fn end_suite<R: Files, O: TextOut, E: TextOut>(
     match write_text(text.as_slice(), out) {
         Ok(()) => match write_reports(rt, &told, reports) {
             Ok(()) => told.status(),
-            Err(fault) => tell_fault(fault, err),
+            Err(fault) => tell_report(fault, err),
         },
         Err(fault) => tell_fault(fault, err),
     }
 }
 
+// A report that couldn't be written.
+#[derive(Clone, Copy)]
+struct ReportFault<'a> {
+    // The path of its file.
+    path: &'a str,
+    // Why.
+    fault: TextFault,
+}
+
 // Writes the reports that are asked for, each to its file.
-fn write_reports<R: Files>(rt: &R, told: &Told, reports: Reports<'_>) -> Result<(), TextFault> {
+fn write_reports<'a, R: Files>(
+    rt: &R,
+    told: &Told,
+    reports: Reports<'a>,
+) -> Result<(), ReportFault<'a>> {
     if let Some(path) = reports.junit {
         write_report(rt, path, told.junit())?;
     }
@@ -283,7 +296,19 @@ fn write_reports<R: Files>(rt: &R, told: &Told, reports: Reports<'_>) -> Result<
 }
 
 // Writes a report to a file.
-fn write_report<R: Files>(
+fn write_report<'a, R: Files>(
+    rt: &R,
+    path: &'a str,
+    report: Result<Vec<u8>, AllocError>,
+) -> Result<(), ReportFault<'a>> {
+    match write_file(rt, path, report) {
+        Ok(()) => Ok(()),
+        Err(fault) => Err(ReportFault { path, fault }),
+    }
+}
+
+// Creates a file, and writes a report to it.
+fn write_file<R: Files>(
     rt: &R,
     path: &str,
     report: Result<Vec<u8>, AllocError>,
@@ -296,6 +321,39 @@ fn write_report<R: Files>(
     };
     let mut device = ToWrite::new(file);
     write_text(text.as_slice(), &mut device)
+}
+
+// Writes the line of a report's fault: behind the path, if the file failed.
+fn tell_report<E: TextOut>(report: ReportFault<'_>, err: &mut E) -> Status
+    requires { (E.seen err.old).failed ≡ false }
+    ensures { result ≡ Status.Fault }
+{
+    match report.fault {
+        TextFault::WriteFault(_) => tell_file(report.path, report.fault, err),
+        _ => tell_fault(report.fault, err),
+    }
+}
+
+// Writes the line of a fault behind the path of a file. If this device fails too, nothing more is written.
+fn tell_file<E: TextOut>(path: &str, fault: TextFault, err: &mut E) -> Status
+    requires { (E.seen err.old).failed ≡ false }
+    ensures { result ≡ Status.Fault }
+{
+    match write_text(path.as_bytes(), err) {
+        Ok(()) => tell_separated(fault, err),
+        Err(_) => Status::Fault,
+    }
+}
+
+// Writes the line of a fault behind a colon.
+fn tell_separated<E: TextOut>(fault: TextFault, err: &mut E) -> Status
+    requires { (E.seen err.old).failed ≡ false }
+    ensures { result ≡ Status.Fault }
+{
+    match write_text(b": ", err) {
+        Ok(()) => tell_fault(fault, err),
+        Err(_) => Status::Fault,
+    }
 }
 
 /// Prints the terms of the models of a file, and gives the status, as [`obey_test`] does.

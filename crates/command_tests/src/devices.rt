@@ -207,16 +207,24 @@ fn tells_failed_writers_of_tests(rt: HostRuntime) -> Result<(), Fail> {
 }
 
 // Tests whose reports are written to a full device, or to a file that can't be created.
-const UNREPORTED: &[&[&str]] = &[
-    &["fiber_cli", "test", "--junit", "/dev/full", "/dev/null"],
-    &["fiber_cli", "test", "--html", "/dev/full", "/dev/null"],
-    &["fiber_cli", "test", "--html", "/dev/null/page", "/dev/null"],
+const UNREPORTED: &[(&[&str], &str)] = &[
+    (
+        &["fiber_cli", "test", "--junit", "/dev/full", "/dev/null"],
+        "/dev/full: fault 24 WriteFault 0\n",
+    ),
+    (
+        &["fiber_cli", "test", "--html", "/dev/full", "/dev/null"],
+        "/dev/full: fault 24 WriteFault 0\n",
+    ),
+    (
+        &["fiber_cli", "test", "--html", "/dev/null/page", "/dev/null"],
+        "/dev/null/page: fault 24 WriteFault 0\n",
+    ),
 ];
 
 #[test]
 fn tells_reports_that_cannot_be_written(rt: HostRuntime) {
-    for words in UNREPORTED {
-        let err = "fault 24 WriteFault 0\n";
+    for (words, err) in UNREPORTED {
         expect_of(&rt, words, b"".as_slice(), 70, NOTHING_TESTED, err);
     }
 }

@@ -232,24 +232,24 @@ GivesRequest None None = Unit {0}
 GivesRequest (Some said) (Some request) = Says said request
 GivesRequest (Some said) None = (request : Request) → Says said request → ⊥
 
--- the schedule of the request comes in the input, or its words name what the program's text in the input has to have
-abbrev pub TakesSchedule : Request → Type 0
-TakesSchedule (Check checking) = ⊥
-TakesSchedule (Show showing) = ⊥
-TakesSchedule (Replay replay) = replay.schedule.now ≡ codes "-"
-TakesSchedule (Explore exploring) = ⊥
-TakesSchedule (Seek seeking) = ⊥
-TakesSchedule (Decide deciding) = ⊥
-TakesSchedule (Judge judging) = ⊤
-TakesSchedule (Unmark unmarking) = ⊥
-TakesSchedule (Run running) = ⊥
-TakesSchedule (Sample sampling) = ⊥
-TakesSchedule (Compare comparing) = ⊥
-TakesSchedule (Test testing) = ⊥
-TakesSchedule (Terms translating) = ⊥
+-- whether the words are right is known only when the input is read: it has the schedule, or the refs that claims name
+abbrev pub IsSettledByInput : Request → Type 0
+IsSettledByInput (Check checking) = ⊥
+IsSettledByInput (Show showing) = ⊥
+IsSettledByInput (Replay replay) = replay.schedule.now ≡ codes "-"
+IsSettledByInput (Explore exploring) = ⊥
+IsSettledByInput (Seek seeking) = ⊥
+IsSettledByInput (Decide deciding) = ⊥
+IsSettledByInput (Judge judging) = ⊤
+IsSettledByInput (Unmark unmarking) = ⊥
+IsSettledByInput (Run running) = ⊥
+IsSettledByInput (Sample sampling) = ⊥
+IsSettledByInput (Compare comparing) = ⊥
+IsSettledByInput (Test testing) = ⊥
+IsSettledByInput (Terms translating) = ⊥
 
--- the words ask for a schedule that comes in the input
-pub record HasScheduleInInput (words : List Text) : Type 0 where
+-- the words give such a request
+pub record AreSettledByInput (words : List Text) : Type 0 where
   pub request : Request
   pub gives : GivesRequest (subcommand_of program words) (Some request)
-  pub takes_schedule : TakesSchedule request
+  pub settled : IsSettledByInput request

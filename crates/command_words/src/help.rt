@@ -1,15 +1,20 @@
 //! The help: of the program, of each subcommand and of each option. No line of it is longer than 100 columns.
 
-/// The help of a command: in one line, and behind its options.
+/// The help of a command.
 #[derive(Clone, Copy)]
 pub struct CommandHelp<'a> {
+    /// What the command does, in one line.
     pub about: &'a str,
+    /// The usage line of a command that reads a text from standard input. The others have the one that `clap` makes.
+    pub usage: Option<&'a str>,
+    /// The text behind the options.
     pub after: &'a str,
 }
 
 /// The program itself, with the legend of the marks.
 pub const PROGRAM: CommandHelp<'static> = CommandHelp {
     about: "Runs effect programs on fibers",
+    usage: None,
     after: "The program's text is read from standard input; compare, test and terms read files.
 
 Examples; the first lists every outcome of a race:
@@ -34,7 +39,7 @@ Exit status:
    1  fiber 0 errored
    2  fiber 0 was canceled
    3  fiber 0 has not ended
-  64  the words or the schedule are wrong
+  64  the arguments or the schedule are wrong
   65  the text is refused
   70  a run or a device failed, or memory ran out
 
@@ -60,6 +65,7 @@ Exit status of sample, where it is not 64, 65 or 70:
 
 pub const CHECK: CommandHelp<'static> = CommandHelp {
     about: "Checks whether the text is a program",
+    usage: Some("fiber_cli check [OPTIONS] < FILE"),
     after: "The text is read from standard input.
 
 Example:
@@ -67,13 +73,14 @@ Example:
 
 Exit status:
    0  the text is a program
-  64  the words are wrong
+  64  the arguments are wrong
   65  the text is refused
   70  a device failed, or memory ran out",
 };
 
 pub const SHOW: CommandHelp<'static> = CommandHelp {
     about: "Prints the expansion of the program",
+    usage: Some("fiber_cli show [OPTIONS] < FILE"),
     after: "The program's text is read from standard input.
 
 Example:
@@ -81,13 +88,14 @@ Example:
 
 Exit status:
    0  the expansion was printed
-  64  the words are wrong
+  64  the arguments are wrong
   65  the text is refused
   70  a device failed, or memory ran out",
 };
 
 pub const REPLAY: CommandHelp<'static> = CommandHelp {
     about: "Runs the program under a schedule, and prints its report",
+    usage: Some("fiber_cli replay [OPTIONS] --schedule <TEXT> < FILE"),
     after: "The program's text is read from standard input. With --schedule - the schedule is its first line,
 and the text is all behind it.
 
@@ -101,13 +109,14 @@ Exit status:
    1  fiber 0 errored
    2  fiber 0 was canceled
    3  fiber 0 has not ended
-  64  the words or the schedule are wrong
+  64  the arguments or the schedule are wrong
   65  the text is refused
   70  the replay ended with a fault, a device failed, or memory ran out",
 };
 
 pub const EXPLORE: CommandHelp<'static> = CommandHelp {
     about: "Explores every schedule, and prints every final report and fault",
+    usage: Some("fiber_cli explore [OPTIONS] < FILE"),
     after: "The program's text is read from standard input.
 
 Example, which finds a release that is lost:
@@ -139,13 +148,14 @@ Exit status:
    1  something unwanted was found: a fault, with --want another outcome, a claim
       that is refuted, or with --ends a fair schedule that goes on for ever
    3  a bound was reached, and nothing unwanted was found
-  64  the words are wrong, or a claim
+  64  the arguments or a claim are wrong
   65  the text is refused
   70  a device failed, or memory ran out",
 };
 
 pub const RUN: CommandHelp<'static> = CommandHelp {
     about: "Runs the program on work-stealing threads, and prints its report",
+    usage: Some("fiber_cli run [OPTIONS] < FILE"),
     after: "The program's text is read from standard input.
 
 Examples, of a race whose loser has a finalizer, of one that can be replayed, with its timeline, and
@@ -161,13 +171,14 @@ Exit status:
    1  fiber 0 errored
    2  fiber 0 was canceled
    3  fiber 0 has not ended
-  64  the words are wrong
+  64  the arguments are wrong
   65  the text is refused
   70  the run or a device failed, or memory ran out",
 };
 
 pub const SAMPLE: CommandHelp<'static> = CommandHelp {
     about: "Draws schedules at random, and counts the reports and faults",
+    usage: Some("fiber_cli sample [OPTIONS] < FILE"),
     after: "The program's text is read from standard input.
 
 Examples, of which the first two draw the same hundred schedules of a race each time:
@@ -183,13 +194,14 @@ same seed draws the same schedules.
 Exit status:
    0  the sample was printed, and nothing unwanted was found
    1  something unwanted was found; without --want, a fault
-  64  the words are wrong
+  64  the arguments are wrong
   65  the text is refused
   70  a device failed, or memory ran out",
 };
 
 pub const COMPARE: CommandHelp<'static> = CommandHelp {
     about: "Compares how two programs can end under every schedule",
+    usage: None,
     after: "The programs' texts are read from two files; either can be /dev/stdin.
 
 Example of a guarantee and its expansion, which have the same ends:
@@ -204,15 +216,16 @@ Exit status:
    0  both programs have the same ends
    1  one of them has an end that the other hasn't
    3  a bound was reached, and what was found doesn't decide
-  64  the words are wrong
+  64  the arguments are wrong
   65  a text is refused
   70  a file or a device failed, or memory ran out",
 };
 
 pub const TEST: CommandHelp<'static> = CommandHelp {
     about: "Explores the models of files, and checks what they claim",
+    usage: None,
     after: "A model file has comments, definitions and models; each model has claims, and a program that is
-explored under every schedule. All faults of all files are told before any model is explored.
+explored under every schedule. All faults in all files are reported before any model is explored.
 
 Examples:
   fiber_cli test models/*.fm
@@ -225,13 +238,14 @@ Exit status:
    0  every model passed
    1  a model failed, or there was none to test
    3  none failed, and one is undecided since a bound was reached
-  64  the words are wrong
+  64  the arguments are wrong
   65  a file has a fault
   70  a file or a device failed, or memory ran out",
 };
 
 pub const TERMS: CommandHelp<'static> = CommandHelp {
     about: "Prints the terms of the models of a file",
+    usage: None,
     after: "Each term is on one line behind a comment with the name of its model. Every other subcommand
 takes such a term.
 
@@ -240,7 +254,7 @@ Example:
 
 Exit status:
    0  the terms were printed
-  64  the words are wrong
+  64  the arguments are wrong
   65  the file has a fault
   70  the file or a device failed, or memory ran out",
 };

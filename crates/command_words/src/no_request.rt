@@ -263,7 +263,7 @@ fn memory_reason(alloc: Global, options: &ArgMatches<'_>) -> Result<String, Allo
         Some(text) if bytes_of(text).is_none() => {
             value_reason(alloc, text, "--memory <BYTES>", expected)
         }
-        _ => String::from_str(alloc, "the words ask for nothing"),
+        _ => String::from_str(alloc, "the arguments ask for nothing"),
     }
 }
 

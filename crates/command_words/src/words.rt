@@ -28,9 +28,13 @@ pub(crate) fn new_command<'a>(alloc: Global, name: &'a str, help: CommandHelp<'a
     ensures shape { app_of result ≡ new_app name.entry.now }
     ensures local { (out-Command result).has_globals ≡ false }
 {
-    Command::new(alloc, name)
+    let command = Command::new(alloc, name)
         .about(help.about)
-        .after_help(help.after)
+        .after_help(help.after);
+    match help.usage {
+        Some(usage) => command.override_usage(usage),
+        None => command,
+    }
 }
 
 /// An option that takes a whole number of this range.

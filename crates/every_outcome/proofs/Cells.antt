@@ -94,6 +94,19 @@ module _ (k : Limits) (n : ℕ) (some : 0 < k.count) where
   plain_refusal s by (call.Complete d v) = refl
   plain_refusal s by (call.Read d) = refl
 
+-- ---- where nothing was counted yet
+uncounted_spent : (k : Limits) (s : Cells) (by : ℕ) → (cell_of s by).count ≡ 0 →
+    spent (cell_of (plain_cells s) by).count k.count ≡ spent (cell_of s by).count k.count
+uncounted_spent k s by e = ap (λ (n : ℕ). spent n k.count) (ap (λ (c : Cell). c.count) (plain_cell s by) ∙ sym e)
+
+pub uncounted_refusal : (k : Limits) (s : Cells) (by : ℕ) (c : Call) → (cell_of s by).count ≡ 0 → refusal k (plain_cells s) by c ≡ refusal k s by c
+unfolding refusal
+uncounted_refusal k s by call.Mask e = uncounted_spent k s by e
+uncounted_refusal k s by call.Unmask e = uncounted_spent k s by e
+uncounted_refusal k s by call.Cut e = uncounted_spent k s by e
+uncounted_refusal k s by (call.Finish o) e = uncounted_spent k s by e
+uncounted_refusal k s by _ e = refl
+
 -- ---- what it leaves
 plain_again : (cs : List Cell) → map plain (map plain cs) ≡ map plain cs
 plain_again [] = refl

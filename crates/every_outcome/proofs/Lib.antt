@@ -1,5 +1,10 @@
 pub mod Cells
 pub mod Stepping
 pub mod Running
-pub mod Listing
+pub mod Own
+pub mod Commuting
+pub mod Growing
+pub mod Leaps
 pub mod Told
+pub mod Listing
+pub mod Trails

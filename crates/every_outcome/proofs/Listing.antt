@@ -6,15 +6,15 @@ use Rattle.std.proofs.lemmas.Option.{same_Some, slice_get_within}
 use Rattle.scheduled_core.proofs.Lists.{parted}
 use Rattle.world_search.specs.declared.answers.Answer.{Answer as Found}
 use Rattle.every_outcome.specs.declared.outcomes.OutcomeAnswer.{OutcomeAnswer}
-use Rattle.every_outcome.specs.Places.{Kept}
+use Rattle.every_outcome.specs.Places.{Kept, Place}
 use Rattle.every_outcome.specs.Private.Telling.{AreTold, IsTold, IsWithin}
 use Rattle.every_outcome.proofs.Told.{all_at}
 
 -- those before the rest are told
-pub record SoFar (kept : Kept) (all rest : List Found) (answers : List OutcomeAnswer) : Type 0 where
+pub record SoFar (kept : Kept) (first : Place) (all rest : List Found) (answers : List OutcomeAnswer) : Type 0 where
   pub before : List Found
   pub is : before ++ rest ≡ all
-  pub told : AreTold kept before answers
+  pub told : AreTold kept first before answers
 
 one_alone : {A : Type 0} (x y : A) (j : ℕ) → slice_get (x ∷ []) j ≡ Some y → x ≡ y
 one_alone x y zero e = same_Some x y e
@@ -24,11 +24,12 @@ in_middle : {A : Type 0} (xs : List A) (x : A) (ys : List A) → slice_get (xs +
 in_middle [] x ys = refl
 in_middle (y ∷ xs) x ys = in_middle xs x ys
 
-module _ (kept : Kept) where
-  pub none_told : (all : List Found) → SoFar kept all all []
+module _ (kept : Kept) (first : Place) where
+  pub none_told : (all : List Found) → SoFar kept first all all []
   none_told all = record { before = []; is = refl; told = record { many = refl; each = λ i f a e d. absurd (cc) } }
 
-  told_more : (fs : List Found) (bs : List OutcomeAnswer) (f : Found) (a : OutcomeAnswer) → AreTold kept fs bs → IsTold kept f a → AreTold kept (fs ++ f ∷ []) (bs ++ a ∷ [])
+  told_more : (fs : List Found) (bs : List OutcomeAnswer) (f : Found) (a : OutcomeAnswer) → AreTold kept first fs bs → IsTold kept first f a →
+      AreTold kept first (fs ++ f ∷ []) (bs ++ a ∷ [])
   told_more fs bs f a told it = record {
     many = length-append bs (a ∷ []) ∙ ap (λ n. n + 1) told.many ∙ sym (length-append fs (f ∷ []));
     each = λ i g b e d. elim (parted fs (f ∷ []) i g e) [
@@ -42,23 +43,25 @@ module _ (kept : Kept) where
           elim (parted bs (a ∷ []) i b d) [
             | inl soon ↦ absurd (let low = slice_get_within bs i b soon in let is = late.1 in let many = told.many in omega arith)
             | inr last ↦
-                subst (λ x. IsTold kept x b) (one_alone f g late.0 late.2)
-                (subst (λ x. IsTold kept f x) (one_alone a b last.0 last.2) it)
+                subst (λ x. IsTold kept first x b) (one_alone f g late.0 late.2)
+                (subst (λ x. IsTold kept first f x) (one_alone a b last.0 last.2) it)
           ]
     ];
   }
 
-  pub told_next : (all rest : List Found) (bs : List OutcomeAnswer) (f : Found) (a : OutcomeAnswer) → SoFar kept all (f ∷ rest) bs → IsTold kept f a → SoFar kept all rest (bs ++ a ∷ [])
+  pub told_next : (all rest : List Found) (bs : List OutcomeAnswer) (f : Found) (a : OutcomeAnswer) → SoFar kept first all (f ∷ rest) bs → IsTold kept first f a →
+      SoFar kept first all rest (bs ++ a ∷ [])
   told_next all rest bs f a far it = record {
     before = far.before ++ f ∷ [];
     is = append_assoc far.before (f ∷ []) rest ∙ far.is;
     told = told_more far.before bs f a far.told it;
   }
 
-  pub all_told : (all : List Found) (bs : List OutcomeAnswer) → SoFar kept all [] bs → AreTold kept all bs
-  all_told all bs far = subst (λ l. AreTold kept l bs) (sym (append-nil far.before) ∙ far.is) far.told
+  pub all_told : (all : List Found) (bs : List OutcomeAnswer) → SoFar kept first all [] bs → AreTold kept first all bs
+  all_told all bs far = subst (λ l. AreTold kept first l bs) (sym (append-nil far.before) ∙ far.is) far.told
 
   -- the next one is one of all
-  pub next_within : (all rest : List Found) (bs : List OutcomeAnswer) (f : Found) → SoFar kept all (f ∷ rest) bs → All (λ a. IsWithin kept a.end) all → IsWithin kept f.end
+  pub next_within : (all rest : List Found) (bs : List OutcomeAnswer) (f : Found) → SoFar kept first all (f ∷ rest) bs → All (λ a. IsWithin kept a.end) all →
+      IsWithin kept f.end
   next_within all rest bs f far h =
       all_at (λ a. IsWithin kept a.end) all (length far.before) f (subst (λ l. slice_get l (length far.before) ≡ Some f) far.is (in_middle far.before f rest)) h

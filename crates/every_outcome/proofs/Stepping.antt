@@ -5,7 +5,8 @@ use Rattle.std.proofs.lemmas.List.{map-append, map-set}
 use Rattle.effect_term.specs.declared.reply.Outcome.{Outcome}
 use Rattle.effect_term.specs.declared.reply.Reply.{Reply}
 use Rattle.effect_term.specs.declared.reply.Reply.TheVariants as reply
-use Rattle.fiber_frames.specs.Fiber.{Fiber, ask_of, move, outcome_of, silent_move}
+use Rattle.fiber_frames.specs.declared.ask.Ask.{Ask}
+use Rattle.fiber_frames.specs.Fiber.{Fiber, ask_of, child, move, outcome_of, silent_move}
 use Rattle.fiber_frames.specs.Reached.{Reached}
 use Rattle.fiber_frames.specs.Rows.{number_in}
 use Rattle.fiber_frames.specs.Unmarked.{unmarked}
@@ -24,7 +25,7 @@ use Rattle.scheduled_core.specs.Core.{World, answered, born, called, entered, tu
 use Rattle.every_outcome.specs.Outcomes.{counted}
 use Rattle.every_outcome.specs.Places.{Place, outcomes_at, stepped, unmarked_after, unmarked_world}
 use Rattle.every_outcome.specs.Private.Keeping.{IsFull}
-use Rattle.every_outcome.proofs.Cells.{Refused, plain_after, plain_cells, plain_is, plain_refusal, plain_reply, plain_twice}
+use Rattle.every_outcome.proofs.Cells.{Refused, plain_after, plain_cells, plain_is, plain_refusal, plain_reply, plain_twice, uncounted_refusal}
 
 -- ---- fibers
 abbrev unmark : List Fiber → List Fiber
@@ -51,27 +52,36 @@ get_unmarked (g ∷ gs) (suc f) o e = get_unmarked gs f o e
 plain_world : (gs : List Fiber) (s : Cells) → unmarked_world record { fibers = gs; cells = s } ≡ record { fibers = unmark gs; cells = plain_cells s }
 plain_world gs s = ap (λ (c : Cells). let w : World = record { fibers = unmark gs; cells = c } in w) (plain_is s)
 
-world_again : (w : World) → unmarked_world (unmarked_world w) ≡ unmarked_world w
+pub world_again : (w : World) → unmarked_world (unmarked_world w) ≡ unmarked_world w
 world_again w =
     ap unmarked_world (plain_world w.fibers w.cells)
     ∙ plain_world (unmark w.fibers) (plain_cells w.cells)
     ∙ ap₂ (λ (gs : List Fiber) (c : Cells). let w : World = record { fibers = gs; cells = c } in w) (unmark_again w.fibers) (plain_twice w.cells)
     ∙ sym (plain_world w.fibers w.cells)
 
-module _ (k : Limits) (n : ℕ) (some : 0 < k.count) (w : World) (f : ℕ) where
-  -- what comes of an entry, and what comes of it without marks, counts and notes: the count of the fiber was used up, or
-  -- both are the same
-  abbrev pub Same : Result World RunError → Result Place RunError → Type 0
-  Same (Ok v) y = y ≡ Ok record { limits = k; world = unmarked_world v }
-  Same (Err (run.Full b m)) y = y ≡ Err (run.Full b m)
-  Same (Err (run.Spent g)) y = (cell_of w.cells f).count ≡ n
-  Same (Err _) y = ⊥
+-- the fiber goes on as without its marks and the numbers of its masks
+pub record GoesAlike (g : Fiber) : Type 0 where
+  pub asks : ask_of (unmarked g) ≡ ask_of g
+  pub moves : (r : Reply) → unmarked (move (unmarked g) r) ≡ unmarked (move g r)
+  pub children : (n : ℕ) → unmarked (child (unmarked g) n) ≡ unmarked (child g n)
 
+reached_alike : (g : Fiber) → Reached g → GoesAlike g
+reached_alike g h = record { asks = ask_unmarked g h; moves = move_unmarked g h; children = child_unmarked g h }
+
+-- so does one that has none
+pub unmarked_alike : (g : Fiber) → unmarked g ≡ g → GoesAlike g
+unmarked_alike g e = record {
+  asks = ap ask_of e;
+  moves = λ r. ap (λ (x : Fiber). unmarked (move x r)) e;
+  children = λ n. ap (λ (x : Fiber). unmarked (child x n)) e;
+}
+
+module _ (w : World) (f : ℕ) where
   abbrev bare : World
   bare = record { fibers = unmark w.fibers; cells = plain_cells w.cells }
 
-  born_unmarked : (g : Fiber) → Reached g → (c : Call) (r : Reply) → unmark (born (unmarked g) c r) ≡ unmark (born g c r)
-  born_unmarked g h call.Start r = ap (λ (x : Fiber). x ∷ []) (child_unmarked g h (number_in r))
+  born_unmarked : (g : Fiber) → GoesAlike g → (c : Call) (r : Reply) → unmark (born (unmarked g) c r) ≡ unmark (born g c r)
+  born_unmarked g h call.Start r = ap (λ (x : Fiber). x ∷ []) (h.children (number_in r))
   born_unmarked g h _ r = refl
 
   moved_unmarked : (g x : Fiber) (more rest : List Fiber) → unmarked x ≡ unmarked (g) → unmark more ≡ unmark rest →
@@ -82,55 +92,102 @@ module _ (k : Limits) (n : ℕ) (some : 0 < k.count) (w : World) (f : ℕ) where
       (map-set unmarked (unmark w.fibers) f x ∙ ap₂ (λ (l : List Fiber) (y : Fiber). set l f y) (unmark_again w.fibers) e ∙ sym (map-set unmarked w.fibers f g)) q
       ∙ sym (map-append unmarked (set w.fibers f g) rest)
 
-  called_unmarked : (g : Fiber) → Reached g → (c : Call) →
+  called_unmarked : (g : Fiber) → GoesAlike g → (c : Call) →
       unmarked_world (called bare f (unmarked g) c (reply_of bare.cells f c)) ≡ unmarked_world (called w f g c (reply_of w.cells f c))
   called_unmarked g h c =
       let r = reply_of w.cells f c in
       ap (λ (x : Reply). unmarked_world (called bare f (unmarked g) c x)) (plain_reply w.cells f c)
       ∙ plain_world (set (unmark w.fibers) f (move (unmarked g) r) ++ born (unmarked g) c r) (after (plain_cells w.cells) f c)
       ∙ ap₂ (λ (gs : List Fiber) (s : Cells). let v : World = record { fibers = gs; cells = s } in v)
-      (moved_unmarked (move g r) (move (unmarked g) r) (born (unmarked g) c r) (born g c r) (move_unmarked g h r) (born_unmarked g h c r))
+      (moved_unmarked (move g r) (move (unmarked g) r) (born (unmarked g) c r) (born g c r) (h.moves r) (born_unmarked g h c r))
       (plain_after w.cells f c)
       ∙ sym (plain_world (set w.fibers f (move g r) ++ born g c r) (after w.cells f c))
 
-  answered_same : (g : Fiber) → Reached g → (c : Call) (o p : Option CellError) → Refused (cell_of w.cells f).count n o p →
-      Same (answered w f g c o) (unmarked_after k (answered bare f (unmarked g) c p))
-  answered_same g h c None p e =
-      ap (λ (x : Option CellError). unmarked_after k (answered bare f (unmarked g) c x)) e
-      ∙ ap (λ (v : World). Ok (let q : Place = record { limits = k; world = v } in q)) (called_unmarked g h c)
-  answered_same g h c (Some (cell.Full b m)) p e = ap (λ (x : Option CellError). unmarked_after k (answered bare f (unmarked g) c x)) e
-  answered_same g h c (Some (cell.Spent m)) p e = e
-
-  wished_same : (g : Fiber) → Reached g → (x : Wish) → Same (wished (counted k n) w f g x) (unmarked_after k (wished k bare f (unmarked g) x))
-  wished_same g h (Shared c) =
-      answered_same g h c (refusal (counted k n) w.cells f c) (refusal k (plain_cells w.cells) f c) (plain_refusal k n some w.cells f c)
-  wished_same g h Alone =
-      ap (λ (v : World). Ok (let q : Place = record { limits = k; world = v } in q))
-      (plain_world (set (unmark w.fibers) f (silent_move (unmarked g))) (plain_cells w.cells)
+  silent_unmarked : (g : Fiber) → GoesAlike g →
+      unmarked_world record { fibers = set (unmark w.fibers) f (silent_move (unmarked g)); cells = plain_cells w.cells } ≡
+      unmarked_world record { fibers = set w.fibers f (silent_move g); cells = w.cells }
+  silent_unmarked g h =
+      plain_world (set (unmark w.fibers) f (silent_move (unmarked g))) (plain_cells w.cells)
       ∙ ap₂ (λ (gs : List Fiber) (s : Cells). let v : World = record { fibers = gs; cells = s } in v)
       (map-set unmarked (unmark w.fibers) f (silent_move (unmarked g)) ∙
-      ap₂ (λ (l : List Fiber) (y : Fiber). set l f y) (unmark_again w.fibers) (move_unmarked g h reply.Done) ∙
+      ap₂ (λ (l : List Fiber) (y : Fiber). set l f y) (unmark_again w.fibers) (h.moves reply.Done) ∙
       sym (map-set unmarked w.fibers f (silent_move g)))
       (plain_twice w.cells)
-      ∙ sym (plain_world (set w.fibers f (silent_move g)) w.cells))
-  wished_same g h Nothing =
-      ap (λ (v : World). Ok (let q : Place = record { limits = k; world = v } in q)) (ap unmarked_world (sym (plain_world w.fibers w.cells)) ∙ world_again w)
+      ∙ sym (plain_world (set w.fibers f (silent_move g)) w.cells)
+
+  bare_unmarked : unmarked_world bare ≡ unmarked_world w
+  bare_unmarked = ap unmarked_world (sym (plain_world w.fibers w.cells)) ∙ world_again w
+
+  -- without marks, counts and notes an entry is that of the fiber without them
+  stepped_bare : (k : Limits) → stepped record { limits = k; world = unmarked_world w } f ≡
+      unmarked_after k (turned k bare f (option_map unmarked (slice_get w.fibers f)))
+  stepped_bare k =
+      ap (λ (v : World). unmarked_after k (entered k (Ok v) f)) (plain_world w.fibers w.cells)
+      ∙ ap (λ (o : Option Fiber). unmarked_after k (turned k bare f o)) (get_unmarked w.fibers f (slice_get w.fibers f) refl)
+
+module _ (k : Limits) where
+  abbrev led : World → Result Place RunError
+  led v = Ok record { limits = k; world = v }
+
+module _ (k : Limits) (w : World) (f : ℕ) (none : (cell_of w.cells f).count ≡ 0) where
+  answered_alike : (g : Fiber) → GoesAlike g → (c : Call) (o : Option CellError) →
+      unmarked_after k (answered (bare w f) f (unmarked g) c o) ≡ unmarked_after k (answered w f g c o)
+  answered_alike g h c None = ap (led k) (called_unmarked w f g h c)
+  answered_alike g h c (Some e) = refl
+
+  wished_alike : (g : Fiber) → GoesAlike g → (x : Wish) → unmarked_after k (wished k (bare w f) f (unmarked g) x) ≡ unmarked_after k (wished k w f g x)
+  wished_alike g h (Shared c) =
+      ap (λ (o : Option CellError). unmarked_after k (answered (bare w f) f (unmarked g) c o)) (uncounted_refusal k w.cells f c none)
+      ∙ answered_alike g h c (refusal k w.cells f c)
+  wished_alike g h Alone = ap (led k) (silent_unmarked w f g h)
+  wished_alike g h Nothing = ap (led k) (bare_unmarked w f)
+
+  turned_alike : (o : Option Fiber) → ((g : Fiber) → o ≡ Some g → GoesAlike g) →
+      unmarked_after k (turned k (bare w f) f (option_map unmarked o)) ≡ unmarked_after k (turned k w f o)
+  turned_alike None h = ap (led k) (bare_unmarked w f)
+  turned_alike (Some g) h =
+      ap (λ (a : Ask). unmarked_after k (wished k (bare w f) f (unmarked g) (wish_of a))) (h g refl).asks
+      ∙ wished_alike g (h g refl) (wish_of (ask_of g))
+
+  -- where the fiber has changed nothing and goes on alike, an entry leads on as without marks, counts and notes
+  pub step_alike : ((g : Fiber) → slice_get w.fibers f ≡ Some g → GoesAlike g) →
+      stepped record { limits = k; world = unmarked_world w } f ≡ unmarked_after k (entered k (Ok w) f)
+  step_alike h = stepped_bare w f k ∙ turned_alike (slice_get w.fibers f) h
+
+module _ (k : Limits) (n : ℕ) (some : 0 < k.count) (w : World) (f : ℕ) where
+  -- what comes of an entry, and what comes of it without marks, counts and notes: the count of the fiber was used up, or
+  -- both are the same
+  abbrev pub Same : Result World RunError → Result Place RunError → Type 0
+  Same (Ok v) y = y ≡ Ok record { limits = k; world = unmarked_world v }
+  Same (Err (run.Full b m)) y = y ≡ Err (run.Full b m)
+  Same (Err (run.Spent g)) y = (cell_of w.cells f).count ≡ n
+  Same (Err _) y = ⊥
+
+  answered_same : (g : Fiber) → GoesAlike g → (c : Call) (o p : Option CellError) → Refused (cell_of w.cells f).count n o p →
+      Same (answered w f g c o) (unmarked_after k (answered (bare w f) f (unmarked g) c p))
+  answered_same g h c None p e =
+      ap (λ (x : Option CellError). unmarked_after k (answered (bare w f) f (unmarked g) c x)) e
+      ∙ ap (led k) (called_unmarked w f g h c)
+  answered_same g h c (Some (cell.Full b m)) p e = ap (λ (x : Option CellError). unmarked_after k (answered (bare w f) f (unmarked g) c x)) e
+  answered_same g h c (Some (cell.Spent m)) p e = e
+
+  wished_same : (g : Fiber) → GoesAlike g → (x : Wish) → Same (wished (counted k n) w f g x) (unmarked_after k (wished k (bare w f) f (unmarked g) x))
+  wished_same g h (Shared c) =
+      answered_same g h c (refusal (counted k n) w.cells f c) (refusal k (plain_cells w.cells) f c) (plain_refusal k n some w.cells f c)
+  wished_same g h Alone = ap (led k) (silent_unmarked w f g h)
+  wished_same g h Nothing = ap (led k) (bare_unmarked w f)
 
   turned_same : ((g : Fiber) → slice_get w.fibers f ≡ Some g → Reached g) → (o : Option Fiber) → slice_get w.fibers f ≡ o →
-      Same (turned (counted k n) w f o) (unmarked_after k (turned k bare f (option_map unmarked o)))
-  turned_same h None e =
-      ap (λ (v : World). Ok (let q : Place = record { limits = k; world = v } in q)) (ap unmarked_world (sym (plain_world w.fibers w.cells)) ∙ world_again w)
+      Same (turned (counted k n) w f o) (unmarked_after k (turned k (bare w f) f (option_map unmarked o)))
+  turned_same h None e = ap (led k) (bare_unmarked w f)
   turned_same h (Some g) e =
-      subst (λ x. Same (wished (counted k n) w f g (wish_of (ask_of g))) (unmarked_after k (wished k bare f (unmarked g) (wish_of x))))
-      (sym (ask_unmarked g (h g e))) (wished_same g (h g e) (wish_of (ask_of g)))
+      let alike = reached_alike g (h g e) in
+      subst (λ x. Same (wished (counted k n) w f g (wish_of (ask_of g))) (unmarked_after k (wished k (bare w f) f (unmarked g) (wish_of x))))
+      (sym alike.asks) (wished_same g alike (wish_of (ask_of g)))
 
   pub step_same : ((g : Fiber) → slice_get w.fibers f ≡ Some g → Reached g) →
       Same (entered (counted k n) (Ok w) f) (stepped record { limits = k; world = unmarked_world w } f)
-  step_same h =
-      let there : stepped record { limits = k; world = unmarked_world w } f ≡ unmarked_after k (turned k bare f (option_map unmarked (slice_get w.fibers f))) =
-      ap (λ (v : World). unmarked_after k (entered k (Ok v) f)) (plain_world w.fibers w.cells)
-      ∙ ap (λ (o : Option Fiber). unmarked_after k (turned k bare f o)) (get_unmarked w.fibers f (slice_get w.fibers f) refl) in
-      subst (Same (entered (counted k n) (Ok w) f)) (sym there) (turned_same h (slice_get w.fibers f) refl)
+  step_same h = subst (Same (entered (counted k n) (Ok w) f)) (sym (stepped_bare w f k)) (turned_same h (slice_get w.fibers f) refl)
 
 -- ---- under the limits themselves
 module _ (k : Limits) (some : 0 < k.count) (w : World) (f : ℕ) (h : (g : Fiber) → slice_get w.fibers f ≡ Some g → Reached g) where
@@ -151,7 +208,7 @@ module _ (k : Limits) (some : 0 < k.count) (w : World) (f : ℕ) (h : (g : Fiber
   step_full run.NoWorker full e = absurd full
 
 -- a fiber that isn't born changes nothing
-get_past : (gs : List Fiber) (f : ℕ) → length gs ≤ f → slice_get gs f ≡ None
+pub get_past : (gs : List Fiber) (f : ℕ) → length gs ≤ f → slice_get gs f ≡ None
 get_past [] f l = refl
 get_past (g ∷ gs) zero l = absurd (omega arith)
 get_past (g ∷ gs) (suc f) l = get_past gs f (omega arith)

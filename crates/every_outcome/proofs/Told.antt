@@ -1,5 +1,5 @@
 -- What a search promises of its answers, said of the answers that are told.
-use Rattle.std.proofs.Common.{◌≡◌, ◌≢◌, inl, inr, ℕ, ◌+◌, ◌<◌, ◌≤◌, List, [], ◌∷◌, ◌++◌, length, map, refl, Option, Result, Ok, Err, sym, ap, ◌∙◌, subst, arith, get_or}
+use Rattle.std.proofs.Common.{◌≡◌, ◌≢◌, inl, inr, ℕ, ◌+◌, ◌<◌, List, [], ◌∷◌, ◌++◌, length, map, refl, Option, Result, Ok, Err, sym, ap, ◌∙◌, subst, arith, get_or}
 use Rattle.std.specs.Prelude.{Some}
 use Rattle.std.specs.List.{All, fold, slice_get}
 use Rattle.std.proofs.lemmas.Option.{get_or_from_slice_get, same_Some, slice_get-get_or, slice_get_cases, slice_get_within}
@@ -21,14 +21,19 @@ use Rattle.world_search.specs.declared.landings.Landing.TheVariants as to
 use Rattle.world_search.specs.Answers as search
 use Rattle.world_search.specs.Systems as systems
 use Rattle.world_search.proofs.Closed.{run-append}
+use Rattle.world_search.proofs.Free.{covers, leads_up}
 use Rattle.every_outcome.specs.declared.outcomes.OutcomeAnswer.{OutcomeAnswer}
 use Rattle.every_outcome.specs.Outcomes.{Agrees, IsCovered, IsListed, IsReached, KeepsOutcomes, ListOnce, counted, outcomes}
 use Rattle.every_outcome.specs.Places.{Kept, Place, first_place, outcomes_at, stepped}
 use Rattle.every_outcome.specs.Private.Keeping.{AreSingle}
+use Rattle.every_outcome.specs.Private.Reduced.{leapt}
 use Rattle.every_outcome.specs.Private.Telling.{AreTold, IsEnd, IsTold, IsWithin}
 use Rattle.every_outcome.proofs.Stepping.{outcomes_stay}
 use Rattle.every_outcome.proofs.Running.{Fully, Lawful, Led, bare_place, core_fully, core_lawful, core_led, fully, led}
 use Rattle.every_outcome.proofs.Cells.{some_bound}
+use Rattle.every_outcome.proofs.Commuting.{IsFree, own_are_free}
+use Rattle.every_outcome.proofs.Growing.{outcomes_grow, size}
+use Rattle.every_outcome.proofs.Leaps.{leaps}
 
 pub all_at : {A : Type 0} (P : A → Type 0) (xs : List A) (i : ℕ) (x : A) → slice_get xs i ≡ Some x → All P xs → P x
 all_at P xs i x e h = subst P (get_or_from_slice_get xs i x x e) (All-get_or P xs i x (slice_get_within xs i x e) h)
@@ -43,14 +48,14 @@ at_within xs i h = elim ((slice_get_cases xs i).1) [
 ]
 
 -- what is right of an answer of a search has numbers that are there
-within : (kept : Kept) (first : Place) (s : List ℕ) (l : Landing) → search.LeadsTo stepped outcomes_at kept.places kept.faults first s l → IsWithin kept l
+within : (kept : Kept) (first : Place) (s : List ℕ) (l : Landing) → search.LeadsTo leapt outcomes_at kept.places kept.faults first s l → IsWithin kept l
 within kept first s (to.World j) h = slice_get_within kept.places j h.0 h.1
 within kept first s (to.Fault j) h = slice_get_within kept.faults j h.0 h.1
 
-pub all_within : (kept : Kept) (first : Place) (found : List Found) → All (search.IsRight stepped outcomes_at kept.places kept.faults first) found →
+pub all_within : (kept : Kept) (first : Place) (found : List Found) → All (search.IsRight leapt outcomes_at kept.places kept.faults first) found →
     All (λ a. IsWithin kept a.end) found
 all_within kept first found right = all_from (λ a. IsWithin kept a.end) found (λ i f e.
-    within kept first f.schedule.items f.end (all_at (search.IsRight stepped outcomes_at kept.places kept.faults first) found i f e right))
+    within kept first f.schedule.items f.end (all_at (search.IsRight leapt outcomes_at kept.places kept.faults first) found i f e right))
 
 -- ---- ends that are apart are told otherwise
 same_ok : (r s : List (Option Outcome)) → (let x : Result (List (Option Outcome)) RunError = Ok r in x) ≡ Ok s → r ≡ s
@@ -117,16 +122,17 @@ keeps k n some w law h = λ s.
     kept_at k most some w (fold (entered (counted k most)) (Ok w) s) (systems.run stepped (Ok (bare_place k n some w)) s)
     (fully k most some s m.0 (omega arith) w law m.1) (h most s)
 
-module _ (kept : Kept) (found : List Found) (answers : List OutcomeAnswer) (told : AreTold kept found answers) where
-  abbrev End : Type 0
-  End = Result (List (Option Outcome)) RunError
+abbrev End : Type 0
+End = Result (List (Option Outcome)) RunError
 
-  -- an end of the search is the end that is told
-  abbrev end_at : Result Place RunError → End
-  end_at (Ok p) = Ok (outcomes_at p)
-  end_at (Err e) = Err e
+-- an end of the search is the end that is told
+abbrev end_of : Result Place RunError → End
+end_of (Ok p) = Ok (outcomes_at p)
+end_of (Err e) = Err e
 
-  ends_as : (l : Landing) (y : Result Place RunError) (end : End) → search.Tells stepped outcomes_at kept.places kept.faults l y → IsEnd kept l end → end ≡ end_at y
+module _ (kept : Kept) (start : Place) (found : List Found) (answers : List OutcomeAnswer) (told : AreTold kept start found answers) where
+  ends_as : (l : Landing) (y : Result Place RunError) (end : End) → search.Tells stepped outcomes_at kept.places kept.faults l y → IsEnd kept l end →
+      end ≡ end_of y
   ends_as (to.World j) (Ok p) end h e =
       let same : e.0 ≡ h.0 = same_Some e.0 h.0 (sym e.1 ∙ h.1) in
       e.2 ∙ ap Ok (ap outcomes_at same ∙ h.2)
@@ -135,7 +141,7 @@ module _ (kept : Kept) (found : List Found) (answers : List OutcomeAnswer) (told
   ends_as (to.Fault j) (Err d) end h e = e.2 ∙ ap Err (same_Some e.0 d (sym e.1 ∙ h))
 
   -- what is found is told
-  listed : (y : Result Place RunError) → search.IsAnswered stepped outcomes_at kept.places kept.faults found y → IsListed answers (end_at y)
+  listed : (y : Result Place RunError) → search.IsAnswered stepped outcomes_at kept.places kept.faults found y → IsListed answers (end_of y)
   listed y h =
       let i = h.1.0 in
       let low : i < length answers = subst (λ n. i < n) (sym told.many) (slice_get_within found i h.0 h.1.1) in
@@ -143,16 +149,14 @@ module _ (kept : Kept) (found : List Found) (answers : List OutcomeAnswer) (told
       (i, a.0, a.1, ends_as h.0.end y a.0.end h.2 (told.each i h.0 a.0 h.1.1 a.1).ends)
 
   -- an answer that is told was found
-  found_at : (i : ℕ) (a : OutcomeAnswer) → slice_get answers i ≡ Some a → (f : Found) × (slice_get found i ≡ Some f) × IsTold kept f a
+  found_at : (i : ℕ) (a : OutcomeAnswer) → slice_get answers i ≡ Some a → (f : Found) × (slice_get found i ≡ Some f) × IsTold kept start f a
   found_at i a e =
       let low : i < length found = subst (λ n. i < n) told.many (slice_get_within answers i a e) in
       let f = at_within found i low in
       (f.0, f.1, told.each i f.0 a f.1 e)
 
-  pub numbered : (most : ℕ) → All (search.IsNumbered most) found → All (λ a. All (λ f. f < most) a.schedule) answers
-  numbered most h = all_from (λ a. All (λ f. f < most) a.schedule) answers (λ i a e.
-      let it = found_at i a e in
-      subst (λ s. All (λ f. f < most) s) (sym it.2.schedule) (all_at (search.IsNumbered most) found i it.0 it.1 h))
+  pub numbered : All (λ a. All (λ f. f < 1000) a.schedule) answers
+  numbered = all_from (λ a. All (λ f. f < 1000) a.schedule) answers (λ i a e. (found_at i a e).2.schedule.few)
 
   pub once : AreSingle kept.faults → search.TellOnce outcomes_at kept.places found → ListOnce answers
   once single h i j a b less ati atj =
@@ -160,39 +164,59 @@ module _ (kept : Kept) (found : List Found) (answers : List OutcomeAnswer) (told
       let g = found_at j b atj in
       ends_apart kept single f.0.end g.0.end a.end b.end (h i j f.0 g.0 less f.1 g.1) f.2.ends g.2.ends
 
-  module _ (code : Tree) (k : Limits) (some : 0 < k.count) (first : Reached (begins 0 code)) where
-    abbrev start : Place
-    start = first_place code k
+-- what covers the search covers all single entries
+every_entry : (kept : Kept) (start : Place) (found : List Found) →
+    ((t : List ℕ) → search.IsCovered leapt outcomes_at kept.places kept.faults found (systems.run leapt (Ok start) t)) →
+    (s : List ℕ) → search.IsCovered stepped outcomes_at kept.places kept.faults found (systems.run stepped (Ok start) s)
+every_entry kept start found = covers stepped IsFree own_are_free leapt leaps outcomes_at size outcomes_grow kept.places kept.faults found start
 
+-- the schedule of an answer, entry by entry
+each_entry : (kept : Kept) (start : Place) (s t : List ℕ) (l : Landing) → systems.run stepped (Ok start) s ≡ systems.run leapt (Ok start) t →
+    search.LeadsTo leapt outcomes_at kept.places kept.faults start t l → search.LeadsTo stepped outcomes_at kept.places kept.faults start s l
+each_entry kept start s t l = leads_up stepped IsFree own_are_free leapt leaps outcomes_at size outcomes_grow kept.places kept.faults start s t l
+
+module _ (kept : Kept) (code : Tree) (k : Limits) (found : List Found) (answers : List OutcomeAnswer)
+    (told : AreTold kept (first_place code k) found answers) where
+  abbrev start : Place
+  start = first_place code k
+
+  abbrev tells : (y : Result Place RunError) → search.IsAnswered stepped outcomes_at kept.places kept.faults found y → IsListed answers (end_of y)
+  tells = listed kept start found answers told
+
+  module _ (some : 0 < k.count) (first : Reached (begins 0 code)) where
     abbrev Covers : Result Place RunError → Type 0
     Covers y = search.IsCovered stepped outcomes_at kept.places kept.faults found y
+
+    abbrev AllCovered : Type 0
+    AllCovered = (t : List ℕ) → search.IsCovered leapt outcomes_at kept.places kept.faults found (systems.run leapt (Ok start) t)
 
     -- what stays is listed
     listed_at : (n : ℕ) (w : World) (y : Result Place RunError) → y ≡ Ok (bare_place k n some w) → Covers y →
         systems.IsSettled stepped outcomes_at (bare_place k n some w) → IsListed answers (outcomes (Ok w))
     listed_at n w y h c settled =
         let here : Covers (Ok (bare_place k n some w)) = subst Covers h c in
-        subst (IsListed answers) (ap Ok (outcomes_stay k w)) (listed (Ok (bare_place k n some w)) (here settled))
+        subst (IsListed answers) (ap Ok (outcomes_stay k w)) (tells (Ok (bare_place k n some w)) (here settled))
 
     -- what any schedule leads to is covered
     covered_at : (n : ℕ) (x : Result World RunError) (y : Result Place RunError) → Led k n some x y → ((w : World) → x ≡ Ok w → Lawful w) →
         Covers y → IsCovered k answers x
     covered_at n (Ok w) y h law c = λ stays. listed_at n w y h c (keeps k n some w (law w refl) stays)
-    covered_at n (Err (run.Full b m)) y h law c = listed (Err (run.Full b m)) (subst Covers h c)
+    covered_at n (Err (run.Full b m)) y h law c = tells (Err (run.Full b m)) (subst Covers h c)
     covered_at n (Err run.NoMemory) y h law c = tt
     covered_at n (Err (run.Spent g)) y h law c = tt
     covered_at n (Err (run.Lost g)) y h law c = tt
     covered_at n (Err run.NoWorker) y h law c = tt
 
-    pub covered : (n : ℕ) (s : List ℕ) → Covers (systems.run stepped (Ok start) s) → IsCovered k answers (core code (counted k n) s)
+    pub covered : (n : ℕ) (s : List ℕ) → AllCovered → IsCovered k answers (core code (counted k n) s)
     covered n s c =
-        covered_at n (core code (counted k n) s) (systems.run stepped (Ok start) s) (core_led code k some first n s) (core_lawful code k some first n s) c
+        covered_at n (core code (counted k n) s) (systems.run stepped (Ok start) s) (core_led code k some first n s) (core_lawful code k some first n s)
+        (every_entry kept start found c s)
 
-    pub settled : (n : ℕ) (s : List ℕ) (w : World) → Covers (systems.run stepped (Ok start) s) → core code (counted k n) s ≡ Ok w → IsSettled (counted k n) w →
+    pub settled : (n : ℕ) (s : List ℕ) (w : World) → AllCovered → core code (counted k n) s ≡ Ok w → IsSettled (counted k n) w →
         IsListed answers (outcomes (Ok w))
     settled n s w c e h =
-        listed_at n w (systems.run stepped (Ok start) s) (subst (λ x. Led k n some x (systems.run stepped (Ok start) s)) e (core_led code k some first n s)) c
-        (settles k n some w (core_lawful code k some first n s w e) h)
+        listed_at n w (systems.run stepped (Ok start) s) (subst (λ x. Led k n some x (systems.run stepped (Ok start) s)) e (core_led code k some first n s))
+        (every_entry kept start found c s) (settles k n some w (core_lawful code k some first n s w e) h)
 
     -- where a schedule leads that is found
     leads_at : (n : ℕ) (s : List ℕ) (l : Landing) (end : End) → search.LeadsTo stepped outcomes_at kept.places kept.faults start s l → IsEnd kept l end →
@@ -243,12 +267,28 @@ module _ (kept : Kept) (found : List Found) (answers : List OutcomeAnswer) (told
     stays_at n s more l end h e (Err (run.Lost g)) f = tt
     stays_at n s more l end h e (Err run.NoWorker) f = tt
 
-    pub reached : All (search.IsRight stepped outcomes_at kept.places kept.faults start) found → All (IsReached code k) answers
+    pub reached : All (search.IsRight leapt outcomes_at kept.places kept.faults start) found → All (IsReached code k) answers
     reached right = all_from (IsReached code k) answers (λ i a e.
-        let it = found_at i a e in
-        let h = all_at (search.IsRight stepped outcomes_at kept.places kept.faults start) found i it.0 it.1 right in
-        let s = it.0.schedule.items in
-        subst (λ t. IsReached code k record { schedule = t; end = a.end }) (sym it.2.schedule) (record {
+        let it = found_at kept start found answers told i a e in
+        let s = a.schedule in
+        let h = each_entry kept start s it.0.schedule.items it.0.end it.2.schedule.leads
+        (all_at (search.IsRight leapt outcomes_at kept.places kept.faults start) found i it.0 it.1 right) in
+        record {
           leads = λ n l. leads_at n s it.0.end a.end h it.2.ends (core code (counted k n) s) (core_fully code k some first n s l);
           stays = λ n more. stays_at n s more it.0.end a.end h it.2.ends (core code (counted k n) (s ++ more)) (core_led code k some first n (s ++ more));
-        }))
+        })
+
+-- ---- the count of the limits plays no part
+pub covered_under : (k : Limits) (n : ℕ) (answers : List OutcomeAnswer) (x : Result World RunError) → IsCovered (counted k n) answers x → IsCovered k answers x
+covered_under k n answers (Ok w) h = h
+covered_under k n answers (Err (run.Full b m)) h = h
+covered_under k n answers (Err run.NoMemory) h = tt
+covered_under k n answers (Err (run.Spent g)) h = tt
+covered_under k n answers (Err (run.Lost g)) h = tt
+covered_under k n answers (Err run.NoWorker) h = tt
+
+reached_under : (code : Tree) (k : Limits) (n : ℕ) (a : OutcomeAnswer) → IsReached code (counted k n) a → IsReached code k a
+reached_under code k n a h = record { leads = h.leads; stays = h.stays }
+
+pub all_under : (code : Tree) (k : Limits) (n : ℕ) (answers : List OutcomeAnswer) → All (IsReached code (counted k n)) answers → All (IsReached code k) answers
+all_under code k n answers h = all_from (IsReached code k) answers (λ i a e. reached_under code k n a (all_at (IsReached code (counted k n)) answers i a e h))

@@ -9,11 +9,7 @@ use Rattle.cell_registry.specs.declared.limits.Limits.{Limits}
 use Rattle.cell_registry.specs.declared.limits.RunError.{RunError}
 use Rattle.cell_registry.specs.Cells.{without_counts, without_waits}
 use Rattle.scheduled_core.specs.Core.{World, entered, first_world}
-
--- a world of the core, and its limits
-pub record Place : Type 0 where
-  pub limits : Limits
-  pub world : World
+pub use Rattle.every_schedule.specs.Places.{Place}
 
 -- the world without marks, the numbers of masks, counts and notes
 abbrev pub unmarked_world : World → World

@@ -1,5 +1,5 @@
 //! The outcomes that a program can have under every schedule.
-ghost use Rattle.std.specs.Prelude.{◌≡◌, ◌<◌, ◌≤◌, ℕ, List, max, IfOk, IfErr, true, false};
+ghost use Rattle.std.specs.Prelude.{◌≡◌, ◌<◌, ◌≤◌, ◌++◌, ℕ, List, [], ◌∷◌, max, IfOk, IfErr, OnOk, true, false};
 ghost use Rattle.std.specs.Prelude.{Ok as GoesWell};
 ghost use Rattle.std.specs.List.{All};
 ghost use Rattle.derived_ops.specs.Expansion.{code_of};
@@ -10,10 +10,12 @@ ghost use Rattle.scheduled_core.specs.Finals.{IsSettled};
 ghost use Rattle.world_search.specs.Answers.{IsAtBound};
 ghost use Rattle.every_outcome.specs.Outcomes.{IsCovered, IsListed, IsReached, ListOnce, counted};
 ghost use Rattle.every_outcome.specs.Outcomes.{outcomes};
+ghost use Rattle.every_outcome.specs.Places.{first_place};
 ghost use Rattle.every_outcome.specs.Private.Keeping.{AreSingle};
 ghost use Rattle.every_outcome.specs.Private.Telling.{AreTold, IsEnd, IsTold, IsWithin};
 
 use crate::outcomes::{OutcomeAnswer, OutcomeExploration, Outcomes, Schedule};
+use crate::unfolding::unfold;
 use crate::worlds::SeenWorlds;
 use cell_registry::{Limits, RunError};
 use effect_term::{Program, facts_of};
@@ -57,16 +59,22 @@ pub fn explore_outcomes<V: Watcher>(
     ensures stopped { IfOk result (λ it. it.complete ≡ false → it.halted ≡ false →
         IsAtBound bounds it.worlds it.bytes) }
     ensures halted { IfOk result (λ it. it.halted ≡ true → V.has_stopped watcher.new ≡ true) }
-    ensures may { IfOk result (λ it. it.halted ≡ true → V.can_stop watcher.old ≡ true) }
     ensures apart { IfOk result (λ it. it.complete ≡ true → it.halted ≡ false) }
     ensures room { IfOk result (λ it. it.worlds ≤ max bounds.worlds 1) }
     ensures spare { IfOk result (λ it. it.complete ≡ true → it.bytes < bounds.memory) }
     ensures numbers { IfOk result (λ it. All (λ a. All (λ f. f < 1000) a.schedule) it.answers.items) }
     ensures memory { IfErr result (λ e. e ≡ RunError.NoMemory) }
 {
-    let mut worlds = SeenWorlds::new(alloc, program, limits)?;
+    // The count plays no part in what is found, so the greatest one is taken, which no fiber uses up.
+    let explored = Limits {
+        fibers: limits.fibers,
+        refs: limits.refs,
+        deferreds: limits.deferreds,
+        count: GREATEST_COUNT,
+    };
+    let mut worlds = SeenWorlds::new(alloc, program, explored)?;
     let found = search(alloc, &mut worlds, bounds, watcher)?;
-    let answers = told(alloc, &worlds, found.answers)?;
+    let answers = told(alloc, program, explored, &worlds, found.answers)?;
     Ok(OutcomeExploration {
         answers,
         worlds: found.worlds,
@@ -76,33 +84,60 @@ pub fn explore_outcomes<V: Watcher>(
     })
 }
 
+// The greatest count that limits can have.
+const GREATEST_COUNT: u64 = (1 << 40) - 1;
+
 // The answers of a search, each with its outcomes or fault.
 fn told(
     alloc: Global,
+    program: &Program,
+    limits: Limits,
     worlds: &SeenWorlds,
     found: Vec<world_search::Answer>,
-) -> Result<Vec<OutcomeAnswer>, AllocError>
-    requires { All (λ a. IsWithin worlds.now a.end) found.items }
-    ensures told { IfOk result (λ answers. AreTold worlds.now found.items answers.items) }
+) -> Result<Vec<OutcomeAnswer>, RunError>
+    requires limits { AreLimits limits }
+    requires within { All (λ a. IsWithin worlds.now a.end) found.items }
+    ensures told { IfOk result (λ answers. AreTold worlds.now (first_place (code_of (source_of program.now)) limits)
+        found.items answers.items) }
     ensures single { AreSingle worlds.now.faults }
+    ensures memory { IfErr result (λ e. e ≡ RunError.NoMemory) }
 {
     // No fault was kept twice.
     facts_of(worlds.many_faults());
     let mut answers = Vec::new(alloc);
     for it in found {
-        answers.push(answer(worlds, it)?)?;
+        let one = answer(alloc, program, limits, worlds, it)?;
+        add(&mut answers, one)?;
     }
     Ok(answers)
 }
 
-// An answer of a search, with its outcomes or fault.
-fn answer(worlds: &SeenWorlds, found: world_search::Answer) -> Result<OutcomeAnswer, AllocError>
-    requires { IsWithin worlds.now found.end }
-    ensures { IfOk result (λ answer. IsTold worlds.now found answer) }
+// One more answer.
+fn add(answers: &mut Vec<OutcomeAnswer>, one: OutcomeAnswer) -> Result<(), AllocError>
+    ensures { OnOk result (answers.new.items ≡ answers.old.items ++ one ∷ []) }
+{
+    answers.push(one)?;
+    Ok(())
+}
+
+// An answer of a search, with its outcomes or fault, and with each move as an entry of its schedule.
+fn answer(
+    alloc: Global,
+    program: &Program,
+    limits: Limits,
+    worlds: &SeenWorlds,
+    found: world_search::Answer,
+) -> Result<OutcomeAnswer, RunError>
+    requires limits { AreLimits limits }
+    requires within { IsWithin worlds.now found.end }
+    ensures told { IfOk result (λ answer.
+        IsTold worlds.now (first_place (code_of (source_of program.now)) limits) found answer) }
+    ensures memory { IfErr result (λ e. e ≡ RunError.NoMemory) }
 {
     let end = end(worlds, found.end)?;
+    let schedule = unfold(alloc, program, limits, found.schedule.as_slice())?;
     Ok(OutcomeAnswer {
-        schedule: Schedule::new(found.schedule),
+        schedule: Schedule::new(schedule),
         end,
     })
 }

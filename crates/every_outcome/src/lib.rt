@@ -2,9 +2,10 @@
 //!
 //! The crate uses the core under a schedule (`scheduled_core`) and a search of all worlds that any schedule leads to
 //! (`world_search`). Worlds are taken for one where they differ only in marks, in the numbers of masks, and in how
-//! often the owners of cells have changed them, so loops with masks and brackets in them close. The crate promises that
-//! where the search is complete, the outcomes of each settled world are listed, whatever the count of changes, and that
-//! the schedule of each answer leads to it.
+//! often the owners of cells have changed them, so loops with masks and brackets in them close. Behind each entry the
+//! search makes own moves at once, as `every_schedule` defines them: no other fiber sees them or can change them. The
+//! crate promises that where the search is complete, the outcomes of each settled world are listed, whatever the count
+//! of changes, and that the schedule of each answer leads to it.
 //!
 //! This explores a loop that enters a mask in each turn; no outcome comes of it, since fiber 0 never ends:
 //!
@@ -17,10 +18,14 @@
 //! ```
 #![tactic(auto)]
 
+mod core_world;
 mod exploring;
 mod faults;
+mod leaping;
 mod outcomes;
+mod own_moves;
 mod shape;
+mod unfolding;
 mod world;
 mod worlds;
 

@@ -153,13 +153,14 @@ impl Worlds for SeenWorlds {
 
     type Report = Outcomes;
 
-    ghost use Rattle.every_outcome.specs.Places.{outcomes_at as the_outcomes, stepped};
+    ghost use Rattle.every_outcome.specs.Places.{outcomes_at as the_outcomes};
+    ghost use Rattle.every_outcome.specs.Private.Reduced.{leapt};
 
     ghost worlds = { λ s. s.places };
 
     ghost faults = { λ s. s.faults };
 
-    ghost step = { stepped };
+    ghost step = { leapt };
 
     ghost report = { the_outcomes };
 

@@ -1,24 +1,45 @@
 -- Fair schedules of a search, said of the core.
-use Rattle.std.proofs.Common.{◌≡◌, ◌≢◌, ◌++◌, ℕ, zero, suc, List, [], ◌∷◌, Result, Ok, Err, refl, sym, ap, ◌∙◌, subst, append_assoc}
+use Rattle.std.proofs.Common.{◌≡◌, ◌++◌, ℕ, zero, suc, Bool, true, false, List, [], ◌∷◌, Result, Ok, Err, refl, sym, ap, ◌∙◌, subst}
 use mathlib.Core.Logic.{◌⊎◌, inl, inr}
 use Rattle.derived_ops.specs.Tree.{Tree}
 use Rattle.cell_registry.specs.declared.limits.Limits.{Limits}
 use Rattle.cell_registry.specs.declared.limits.RunError.{RunError}
 use Rattle.scheduled_core.specs.Core.{World, core, entered}
+use Rattle.std.specs.List.{slice_get}
 use Rattle.scheduled_core.specs.Finals.{IsFinal}
+use Rattle.scheduled_core.proofs.Finality.{final_stays}
 use Rattle.world_search.specs.Lists.{IsIn}
 use Rattle.world_search.specs.Systems as search
 use Rattle.world_search.proofs.Closed.{run-append}
-use Rattle.fair_ends.specs.Fair.{EndsUnder, IsEnd, IsFairCycle, first_of}
+use Rattle.fair_ends.specs.Fair.{AreRight, EndsUnder, IsEnd, IsFairCycle, first_of}
 use Rattle.every_schedule.specs.Fairness.{Ends, IsForever, IsOver, repeated}
-use Rattle.every_schedule.specs.Places.{Place, bare, bared, entering, first_place, placed, stepped, unnoted}
-use Rattle.every_schedule.proofs.Bare.{bare_step}
+use Rattle.every_schedule.specs.Places.{Place, bare, bared, first_place, moves_at, placed, stepped, unnoted}
+use Rattle.every_schedule.specs.Reduced.{MayOwn}
+use Rattle.every_schedule.proofs.Bare.{bare_step, idle_stays, moves_step}
 use Rattle.every_schedule.proofs.Placed.{core_run}
+use Rattle.every_schedule.proofs.Still.{may_are_free}
 use Rattle.every_schedule.proofs.Unrest.{final_bare, final_noted}
 
 -- in this place no fiber can go on
 abbrev pub Rests : Place → Type 0
 Rests p = IsFinal p.world
+
+-- no entry leads from there to a place where one can
+rest_moved : (p : Place) (f : ℕ) → IsFinal p.world → (x : Place) × (stepped p f ≡ Ok x) × Rests x
+rest_moved p f final = by (moves_at (slice_get p.world.fibers f)) refl
+  where
+    by : (b : Bool) → moves_at (slice_get p.world.fibers f) ≡ b → (x : Place) × (stepped p f ≡ Ok x) × Rests x
+    by false idle = (p, idle_stays p f idle, final)
+    by true moves =
+        let still = final_stays p.limits p.world (f ∷ []) final in (
+          bare record { limits = p.limits; world = still.world },
+          moves_step p f moves ∙ ap (λ x. bared (placed p.limits x)) still.is,
+          final_bare still.world still.final,
+        )
+
+-- own moves are free, and a world in which no fiber can go on stays so
+pub are_right : AreRight stepped (MayOwn true) Rests
+are_right = record { free = may_are_free true; rest = rest_moved }
 
 -- an end of the search is one of the core
 over : (k : Limits) (x : Result World RunError) → IsEnd stepped Rests (bared (placed k x)) → IsOver x

@@ -1,5 +1,5 @@
 -- The reduced exploration makes own moves behind each entry, and no others.
-use Rattle.std.proofs.Common.{◌≡◌, ◌≢◌, ◌⊎◌, inl, inr, ℕ, zero, suc, ◌≤◌, Bool, true, false, ◌&&◌, length, Some, None}
+use Rattle.std.proofs.Common.{◌≡◌, ◌≢◌, ◌⊎◌, inl, inr, ℕ, zero, suc, ◌<◌, ◌≤◌, Bool, true, false, ◌&&◌, length, Some, None}
 use Rattle.std.proofs.Common.{Option, Result, Ok, Err, refl, sym, ap, ◌∙◌, subst}
 use Rattle.std.specs.List.{slice_get}
 use Rattle.std.proofs.lemmas.Option.{slice_get_past, same_Some}
@@ -8,6 +8,7 @@ use Rattle.cell_registry.specs.declared.limits.RunError.TheVariants as run
 use Rattle.fiber_frames.specs.Fiber.{Fiber, ask_of}
 use Rattle.world_search.specs.Free.{IsReduced, Leads, Leaps}
 use Rattle.world_search.specs.Free.Leads.{Here, On}
+use Rattle.world_search.proofs.Lists.{get_low}
 use Rattle.scheduled_core.specs.declared.wish.Wish.TheVariants.{Nothing}
 use Rattle.scheduled_core.specs.Core.{World, wish_of}
 use Rattle.every_schedule.specs.Explored.{HasMove}
@@ -56,12 +57,17 @@ module _ (b : Bool) (p : Place) (f : ℕ) where
   pub fiber_unborn : length p.world.fibers ≤ f → after_own p (own_of b p f) ≡ p
   fiber_unborn past = fiber_none (ap (λ (o : Option Fiber). has_own p.world f o && may_be b o) (slice_get_past p.world.fibers f past))
 
+-- such a move is a free one
+pub may_own : (b : Bool) (p : Place) (f : ℕ) (q : Place) → is_made b p.world f ≡ true → stepped p f ≡ Ok q → MayOwn b p f
+may_own b p f q made goes =
+    let both = made_parts b p.world f made in
+    record { own = own_from p f q both.0 goes; may = both.1 }
+
 module _ (b : Bool) (p : Place) where
   led_once : (q : Place) (f : ℕ) (y : Result Place RunError) → is_made b p.world f ≡ true → stepped p f ≡ y →
       Leads stepped (MayOwn b) (or_stays p y) q → Leads stepped (MayOwn b) p q
   led_once q f (Ok x) made e on =
-      let both = made_parts b p.world f made in
-      On p f x q (record { own = own_from p f x both.0 e; may = both.1 }) e on
+      On p f x q (may_own b p f x made e) e on
   led_once q f (Err d) made e on = on
 
   led_from : (q : Place) (f : ℕ) (t : Bool) → is_made b p.world f ≡ t → Leads stepped (MayOwn b) (after_own p (if_own t f)) q →
@@ -111,6 +117,19 @@ leapt_reduced n = record { Free = MayOwn n.stores; free = may_are_free n.stores;
 -- an unborn fiber leaves all as it is
 pub leapt_rests : (n : AtOnce) (p : Place) (f : ℕ) → length p.world.fibers ≤ f → leapt n p f ≡ Ok p
 leapt_rests n p f past = ap (leapt_by n p f) (slice_get_past p.world.fibers f past)
+
+-- a fiber that is born makes its entry, and behind it own moves
+pub leapt_goes : (n : AtOnce) (p : Place) (f : ℕ) (q r : Place) → f < length p.world.fibers → stepped p f ≡ Ok q → r ≡ pushed n.stores n.most q →
+    leapt n p f ≡ Ok r
+leapt_goes n p f q r low goes is =
+    let born = get_low p.world.fibers f low in
+    ap (leapt_by n p f) born.1 ∙ ap (behind n) goes ∙ ap Ok (sym is)
+
+-- and a fault stays
+pub leapt_stops : (n : AtOnce) (p : Place) (f : ℕ) (e : RunError) → f < length p.world.fibers → stepped p f ≡ Err e → leapt n p f ≡ Err e
+leapt_stops n p f e low stops =
+    let born = get_low p.world.fibers f low in
+    ap (leapt_by n p f) born.1 ∙ ap (behind n) stops
 
 -- with no own moves behind it, an entry is as it was
 pub leapt_none : (p : Place) (f : ℕ) → leapt none_at_once p f ≡ stepped p f

@@ -1,6 +1,6 @@
 -- The world of the numbers of its fibers' states, beside its registry.
-use Rattle.std.proofs.Common.{◌≡◌, ◌≢◌, ℕ, zero, suc, ◌+◌, ◌<◌, ◌≤◌, Bool, true, false, List, take, [], ◌∷◌, ◌++◌, length, set, inl, inr, refl, sym, ap, ap₂, ◌∙◌, subst, arith, length-append, append-nil}
-use Rattle.std.specs.Prelude.{Option, Some, None, Result, Ok, Err}
+use Rattle.std.proofs.Common.{◌≡◌, ℕ, zero, suc, ◌+◌, ◌<◌, true, List, take, [], ◌∷◌, ◌++◌, length, set, inl, inr, refl, sym, ap, ◌∙◌, subst, arith, length-append, append-nil}
+use Rattle.std.specs.Prelude.{Option, Some, None, Ok, Err}
 use Rattle.std.specs.Option.{option_to_list}
 use Rattle.std.specs.List.{All, slice_get}
 use Rattle.std.proofs.lemmas.List.{length-set}
@@ -11,11 +11,10 @@ use Rattle.effect_term.specs.declared.reply.Reply.{Reply}
 use Rattle.fiber_frames.specs.Fiber.{Fiber, move}
 use Rattle.fiber_frames.specs.Moves.{moved}
 use Rattle.cell_registry.specs.declared.limits.RunError.{RunError}
-use Rattle.cell_registry.specs.Cells.{Cells, without_waits}
+use Rattle.cell_registry.specs.Cells.{without_waits}
 use Rattle.cell_registry.specs.Plain.{IsPlain, PlainView}
 use Rattle.scheduled_core.specs.Private.Asking.{Asking}
-use Rattle.scheduled_core.specs.Private.Moving.{Goes, Moves, Refuses, Replied, children}
-use Rattle.scheduled_core.specs.Core.{World, entered}
+use Rattle.scheduled_core.specs.Private.Moving.{Goes, Refuses, Replied, children}
 use Rattle.scheduled_core.specs.Fitting.{AllFit, world_of}
 use Rattle.scheduled_core.proofs.Moves.{Entered, moved_entered, refused_entered}
 use Rattle.world_search.specs.Lists.{IsMore}

@@ -1,5 +1,5 @@
 -- Trails that go on, and the answers of the reduced search with the entries of their schedules one by one.
-use Rattle.std.proofs.Common.{◌≡◌, ◌≢◌, ◌⊎◌, inl, inr, ℕ, ◌+◌, ◌<◌, ◌≤◌, List, [], ◌∷◌, ◌++◌, length, Some, Result, Ok, Err, refl, sym}
+use Rattle.std.proofs.Common.{◌≡◌, ◌≢◌, ◌⊎◌, inl, inr, ℕ, suc, Bool, ◌+◌, ◌<◌, ◌≤◌, List, [], ◌∷◌, ◌++◌, length, Some, Result, Ok, Err, refl, sym}
 use Rattle.std.proofs.Common.{ap, ◌∙◌, subst, arith, append-nil, append_assoc, get_or}
 use Rattle.std.specs.List.{All, slice_get, swap}
 use Rattle.std.specs.List.Sorted.{IsNonDecreasingBy, IsPermutation}
@@ -7,7 +7,7 @@ use Rattle.std.proofs.lemmas.List.Elements.{All-push}
 use Rattle.std.proofs.lemmas.Bool.{cases_order}
 use Rattle.std.proofs.lemmas.List.Edits.{length-swap, swapped_from_swap}
 use Rattle.std.proofs.lemmas.List.Sorted.{All-permutation, IsPermutation-keeps, IsPermutation-sym}
-use Rattle.std.proofs.lemmas.Option.{get_or_from_slice_get, same_Some, slice_get-get_or, slice_get_within}
+use Rattle.std.proofs.lemmas.Option.{get_or_from_slice_get, same_Some, slice_get-get_or, slice_get_past, slice_get_within}
 use mathlib.Core.Logic.{dite}
 use native.Mathlib.Decide.{ℕ_discrete}
 use Rattle.cell_registry.specs.declared.limits.RunError.{RunError}
@@ -25,12 +25,14 @@ use Rattle.every_schedule.specs.Places.{Kept, Place, report_at, stepped}
 use Rattle.every_schedule.specs.declared.leaping.AtOnce.{AtOnce}
 use Rattle.every_schedule.specs.Reduced.{MayOwn, leapt}
 use Rattle.every_schedule.specs.Explored.{HasMove}
-use Rattle.every_schedule.specs.Private.Trails.{AreMade, AreSorted, AreUnfolded, EndApart, EndsAlone, IsKeptIn}
-use Rattle.every_schedule.specs.Private.Trails.{IsTrail, IsUnfolded, IsUnfoldedOf, rank_of}
-use Rattle.every_schedule.proofs.Bare.{reports_grow}
+use Rattle.fair_ends.specs.Fair.{IsBehind}
+use Rattle.fair_ends.proofs.Ahead.{led_append, led_run}
+use Rattle.every_schedule.specs.Private.Trails.{AreMade, AreSorted, AreUnfolded, EndApart, EndsAlone, IsFirstOf, IsKeptIn}
+use Rattle.every_schedule.specs.Private.Trails.{IsLeapTrail, IsOwnTrail, IsTrail, IsUnfolded, IsUnfoldedOf, MakesAtOnce, rank_of}
+use Rattle.every_schedule.proofs.Bare.{reports_grow, unborn_stays}
 use Rattle.every_schedule.proofs.Still.{may_are_free}
 use Rattle.every_schedule.proofs.Growing.{size}
-use Rattle.every_schedule.proofs.Leaps.{leaps}
+use Rattle.every_schedule.proofs.Leaps.{leaps, leapt_rests}
 use Rattle.every_schedule.proofs.Told.{all_at, all_from}
 
 -- ---- numbers
@@ -73,6 +75,105 @@ trail_more old mid new p q y a b = record {
   few = few_append a.added b.added a.few b.few;
   moves = made_append p q a.added b.added a.moves a.leads b.moves;
 }
+
+-- ---- own moves
+pub own_none : (stores : Bool) (old : List ℕ) (p : Place) → IsOwnTrail stores old old p p
+own_none stores old p = record { added = []; is = sym (append-nil old); led = refl; few = none_few; moves = tt }
+
+pub own_one : (stores : Bool) (old : List ℕ) (p : Place) (f : ℕ) (q : Place) → f < 1000 → HasMove p.world f → MayOwn stores p f → stepped p f ≡ Ok q →
+    IsOwnTrail stores old (old ++ f ∷ []) p q
+own_one stores old p f q low has may goes = record {
+  added = f ∷ [];
+  is = refl;
+  led = (may, q, goes, refl);
+  few = All-push (λ g. g < 1000) [] f none_few low;
+  moves = (has, λ x led. tt);
+}
+
+pub own_more : (stores : Bool) (old mid new : List ℕ) (p q r : Place) → IsOwnTrail stores old mid p q → IsOwnTrail stores mid new q r →
+    IsOwnTrail stores old new p r
+own_more stores old mid new p q r a b = record {
+  added = a.added ++ b.added;
+  is = b.is ∙ ap (λ l. l ++ b.added) a.is ∙ append_assoc old a.added b.added;
+  led = led_append stepped (MayOwn stores) a.added b.added p q r a.led b.led;
+  few = few_append a.added b.added a.few b.few;
+  moves = made_append p q a.added b.added a.moves (led_run stepped (MayOwn stores) a.added p q a.led) b.moves;
+}
+
+-- ---- an entry with own moves behind it
+module _ (n : AtOnce) (p : Place) (f : ℕ) where
+  abbrev Behind : List ℕ → Result Place RunError → Type 0
+  Behind made y = IsBehind stepped (MayOwn n.stores) made y (leapt n p f)
+
+  in_few : (made : List ℕ) → AreFew made → (g : ℕ) → IsIn g made → g < 1000
+  in_few made few g i = all_at (λ h. h < 1000) made i.0 g i.1 few
+
+  pub none_made : length p.world.fibers ≤ f → MakesAtOnce n p f []
+  none_made past =
+      let stays = unborn_stays p f (slice_get_past p.world.fibers f past) in
+      let rests = leapt_rests n p f past in record {
+        leads = sym rests;
+        free = subst (Behind []) (sym stays) ([], p, refl, rests, λ g i. i);
+        still = λ none. stays;
+        few = in_few [] none_few;
+      }
+
+  pub leap_none : (old : List ℕ) → length p.world.fibers ≤ f → IsLeapTrail n old old p f
+  leap_none old past = record { added = []; is = sym (append-nil old); makes = none_made past; few = none_few; moves = tt }
+
+  module _ (low : f < 1000) (old mid : List ℕ) where
+    pub leap_more : (new : List ℕ) (q r : Place) → IsFirstOf old mid p f → stepped p f ≡ Ok q → IsOwnTrail n.stores mid new q r → leapt n p f ≡ Ok r →
+        IsLeapTrail n old new p f
+    leap_more new q r (inl first) goes own to =
+        let few = few_append (f ∷ []) own.added (All-push (λ g. g < 1000) [] f none_few low) own.few in record {
+          added = f ∷ own.added;
+          is = own.is ∙ ap (λ l. l ++ own.added) first.0 ∙ append_assoc old (f ∷ []) own.added;
+          makes = record {
+            leads = ap (λ x. run stepped x own.added) goes ∙ led_run stepped (MayOwn n.stores) own.added q r own.led ∙ sym to;
+            free = subst (Behind (f ∷ own.added)) (sym goes) (own.added, r, own.led, to, λ g i. (suc i.0, i.1));
+            still = λ none. absurd (none (0, refl));
+            few = in_few (f ∷ own.added) few;
+          };
+          few = few;
+          moves = (first.1, λ x e. subst (λ y. AreMade y own.added) (let same : Ok q ≡ Ok x = sym goes ∙ e in cc) own.moves);
+        }
+    leap_more new q r (inr none) goes own to =
+        let same : q ≡ p = (let both : Ok q ≡ Ok p = sym goes ∙ none.1 in cc) in record {
+          added = own.added;
+          is = own.is ∙ ap (λ l. l ++ own.added) none.0;
+          makes = record {
+            leads = ap (λ x. run stepped (Ok x) own.added) (sym same) ∙ led_run stepped (MayOwn n.stores) own.added q r own.led ∙ sym to;
+            free = subst (Behind own.added) (sym goes) (own.added, r, own.led, to, λ g i. i);
+            still = λ apart. none.1;
+            few = in_few own.added own.few;
+          };
+          few = own.few;
+          moves = subst (λ y. AreMade y own.added) same own.moves;
+        }
+
+    pub leap_stops : (e : RunError) → IsFirstOf old mid p f → stepped p f ≡ Err e → leapt n p f ≡ Err e → IsLeapTrail n old mid p f
+    leap_stops e (inl first) stops to =
+        let few = All-push (λ g. g < 1000) [] f none_few low in record {
+          added = f ∷ [];
+          is = first.0;
+          makes = record {
+            leads = stops ∙ sym to;
+            free = subst (Behind (f ∷ [])) (sym stops) to;
+            still = λ none. absurd (none (0, refl));
+            few = in_few (f ∷ []) few;
+          };
+          few = few;
+          moves = (first.1, λ x led. tt);
+        }
+    leap_stops e (inr none) stops to = let no : Ok p ≡ Err e = sym none.1 ∙ stops in absurd (cc)
+
+-- the entries of it
+pub leap_trail : (n : AtOnce) (old new : List ℕ) (p : Place) (f : ℕ) (y : Result Place RunError) → IsLeapTrail n old new p f → leapt n p f ≡ y →
+    IsTrail old new p y
+leap_trail n old new p f y t e = record { added = t.added; is = t.is; leads = t.makes.leads ∙ e; few = t.few; moves = t.moves }
+
+pub leap_made : (n : AtOnce) (new : List ℕ) (p : Place) (f : ℕ) → IsLeapTrail n [] new p f → MakesAtOnce n p f new
+leap_made n new p f t = subst (MakesAtOnce n p f) (sym t.is) t.makes
 
 -- the whole trail
 pub trail_whole : (n : AtOnce) (first : Place) (schedule new : List ℕ) (y : Result Place RunError) → IsTrail [] new first y →

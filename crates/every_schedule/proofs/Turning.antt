@@ -1,13 +1,8 @@
 -- Moves by the numbers of states, where the states become more.
-use Rattle.std.proofs.Common.{◌≡◌, ℕ, ◌<◌, List, [], ◌∷◌, ◌++◌, length, inl, inr, refl, sym, ap, ◌∙◌, subst, arith}
+use Rattle.std.proofs.Common.{◌≡◌, ℕ, List, [], ◌∷◌, ◌++◌, inl, inr, subst}
 use Rattle.std.specs.Prelude.{Option, Some, None}
-use Rattle.std.specs.Option.{option_to_list}
-use Rattle.std.specs.List.{slice_get}
-use Rattle.std.proofs.lemmas.Option.{same_Some}
 use Rattle.effect_term.specs.declared.reply.Reply.{Reply}
-use Rattle.fiber_frames.specs.Fiber.{Fiber, move}
-use Rattle.fiber_frames.specs.Moves.{moved}
-use Rattle.scheduled_core.specs.Private.Moving.{children}
+use Rattle.fiber_frames.specs.Fiber.{Fiber}
 use Rattle.world_search.specs.Lists.{IsMore}
 use Rattle.world_search.proofs.Lists.{get_end, more_get}
 use Rattle.every_schedule.specs.declared.turns.Said.{Said}

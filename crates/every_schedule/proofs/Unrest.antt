@@ -1,7 +1,6 @@
 -- Fibers that can go on, and final worlds with and without the notes of who was joined.
 use Rattle.std.proofs.Common.{◌≡◌, ◌≢◌, ◌⊎◌, inl, inr, ℕ, ℤ, Bool, true, false, List, [], ◌∷◌, Option, Some, None, refl, sym, ap, ◌∙◌, subst, ◌&&◌}
 use Rattle.std.specs.Prelude.{is_none}
-use Rattle.std.specs.List.{slice_get}
 use Rattle.effect_term.specs.declared.reply.Outcome.{Outcome}
 use Rattle.effect_term.specs.declared.reply.Reply.{Reply}
 use Rattle.effect_term.specs.declared.reply.Reply.TheVariants as reply
@@ -14,7 +13,6 @@ use Rattle.fiber_frames.specs.Rows.{RowKind, Waited, wait, outcome_in, read_in, 
 use Rattle.fiber_frames.specs.Fiber.{Fiber, active_of, is_silent, is_waited, outcome_of, row_of, waits_alone}
 use Rattle.cell_registry.specs.declared.cell.Stage.{Stage}
 use Rattle.cell_registry.specs.declared.cell.Stage.TheVariants as at
-use Rattle.cell_registry.specs.declared.call.Call.TheVariants as call
 use Rattle.cell_registry.specs.Cells.{Cells, cell_of, deferred_of, join_reply, reply_of, without_waits}
 use Rattle.cell_registry.specs.Words.{has_ended}
 use Rattle.cell_registry.proofs.Forgetting.{request_stays, same_reply}

@@ -1,5 +1,5 @@
 //! The worlds that an exploration has found, each with a number.
-ghost use Rattle.std.specs.Prelude.{◌≡◌, ◌⊎◌, ◌++◌, ◌<◌, ◌≤◌, ℕ, [], ◌∷◌, length, max};
+ghost use Rattle.std.specs.Prelude.{◌≡◌, ◌≢◌, ◌⊎◌, ◌++◌, ◌<◌, ◌≤◌, ℕ, [], ◌∷◌, length, max};
 ghost use Rattle.std.specs.Prelude.{IfOk, IfErr, IfSome, OnOk, OnErr, Some, None};
 ghost use Rattle.std.specs.Prelude.{Ok as GoesWell, Err as Fails, Result as TheResult, List};
 ghost use Rattle.std.specs.List.{All, slice_get};
@@ -14,6 +14,7 @@ ghost use Rattle.every_schedule.specs.Claims.{stored_by};
 ghost use Rattle.every_schedule.specs.Places.{Place, first_place, report_at};
 ghost use Rattle.every_schedule.specs.Reduced.{leapt};
 ghost use Rattle.every_schedule.specs.Private.Keeping.{AreSingle};
+ghost use Rattle.every_schedule.specs.Private.Trails.{MakesAtOnce};
 
 use crate::core_world::CoreWorld;
 use crate::current::{Current, fibers_of};
@@ -45,8 +46,6 @@ pub(crate) struct CoreWorlds {
     limits: Limits,
     current: Current,
     rows: Rows,
-    // The entries that led from the last world to the current one.
-    trail: Vec<u16>,
     faults: Faults,
 }
 
@@ -94,7 +93,6 @@ impl CoreWorlds {
             limits,
             current,
             rows,
-            trail: Vec::new(alloc),
             faults: Faults::new(alloc),
         })
     }
@@ -164,26 +162,29 @@ impl CoreWorlds {
         self.rows.bytes().saturating_add(self.current.bytes())
     }
 
-    /// Makes the entry of a fiber at a world, with such own moves behind it.
+    /// Makes the entry of a fiber at a world, with such own moves behind it. The trail is of these entries alone.
     pub(crate) fn entry(
         &mut self,
         world: usize,
         fiber: u16,
         most: usize,
         at_once: AtOnce,
+        trail: &mut Vec<u16>,
     ) -> Result<Entered, AllocError>
         requires { world < length self.old.places }
         ensures worlds { IsMore self.old.places self.new.places }
         ensures faults { OnOk result (IsMore self.old.faults self.new.faults) }
         ensures lands { IfOk result (λ it. (p : Place) → slice_get self.old.places world ≡ Some p →
             EntersAt self.new.places self.new.faults it (leapt at_once p fiber)) }
+        ensures makes { IfOk result (λ it. (p : Place) → slice_get self.old.places world ≡ Some p →
+            MakesAtOnce at_once p fiber trail.new.items) }
         ensures room { OnOk result (length self.new.places ≤ max most (length self.old.places)) }
         ensures next { IfOk result (IsNext (length self.old.places) (length self.new.places) most) }
     {
         self.current
             .go_to(self.rows.registry(world), self.rows.fibers(world))?;
-        self.trail.clear();
-        match leap(&mut self.current, fiber, at_once, &mut self.trail) {
+        trail.clear();
+        match leap(&mut self.current, fiber, at_once, &mut *trail) {
             Ok(()) => {}
             Err(fault) => return fault_met(&mut self.faults, fault),
         }
@@ -213,6 +214,7 @@ fn fault_met(faults: &mut Faults, fault: RunError) -> Result<Entered, AllocError
     ensures met { IfOk result (λ it. (places : List Place) (to : TheResult Place RunError) →
         (fault ≡ RunError.NoMemory) ⊎ (to ≡ Fails fault) → EntersAt places faults.new it to) }
     ensures next { IfOk result (λ it. (before : ℕ) (most : ℕ) → IsNext before before most it) }
+    ensures memory { IfOk result (λ it. fault ≢ RunError.NoMemory) }
 {
     match fault {
         RunError::NoMemory => Err(AllocError),
@@ -251,7 +253,8 @@ impl Worlds for CoreWorlds {
     }
 
     fn enter(&mut self, world: usize, fiber: u16, most: usize) -> Result<Entered, AllocError> {
-        self.entry(world, fiber, most, NONE)
+        let mut trail = Vec::new(self.alloc);
+        self.entry(world, fiber, most, NONE, &mut trail)
     }
 
     fn same_report(&self, one: usize, other: usize) -> bool {

@@ -7,7 +7,7 @@ ghost use Rattle.fair_ends.specs.declared.ending.Cycle.{Cycle as TheCycle};
 ghost use Rattle.fair_ends.specs.Fair.{IsFair};
 ghost use Rattle.every_schedule.specs.Fairness.{Ends, IsForever};
 
-use crate::core_worlds::CoreWorlds;
+use crate::reduced_worlds::ReducedWorlds;
 use cell_registry::{Limits, RunError};
 use effect_term::Program;
 use fair_ends::{Ending, decide_ends};
@@ -21,11 +21,11 @@ use world_search::{Bounds, Watcher};
 /// has ended changes nothing. A deadlock is an end. A loop that nothing ends is none, whether or not its marks go on, and
 /// neither is one that an entry at the right moment would end, if a fair schedule can miss that moment for ever.
 ///
-/// [`Ending::Repeats`] has the entries that lead to a cycle, and those of the cycle: `replay` takes the first, and behind
-/// them the others as often as one likes. Each entry of each fiber is made alone, without the reduction of
-/// [`explore`](crate::explore), so there are more worlds. [`Ending::Undecided`] comes at a bound: as many worlds as may
-/// be kept, or as many bytes; the bound on entries isn't used. It also comes if the watcher ends the search. The limits
-/// are in their ranges ([`Limits`]). [`RunError::NoMemory`] is the only error.
+/// [`Ending::Repeats`] has the entries that lead to a cycle, and those of the cycle: `replay` takes the first, and
+/// behind them the others as often as one likes. The search makes own moves at once, as [`explore`](crate::explore)
+/// does; the promise is about schedules whose entries are each made alone. [`Ending::Undecided`] is returned at a bound:
+/// as many worlds as may be kept, or as many bytes; the bound on entries isn't used. It is also returned if the watcher
+/// ends the search. The limits are in their ranges ([`Limits`]). [`RunError::NoMemory`] is the only error.
 ///
 /// ```
 /// let program = Program::check(alloc, parse(alloc, b"(race (pure 4) (never))")?)?;
@@ -47,7 +47,7 @@ pub fn explore_ends<V: Watcher>(
     ensures watches { V.can_stop watcher.new ≡ V.can_stop watcher.old }
     ensures memory { IfErr result (λ e. e ≡ RunError.NoMemory) }
 {
-    let mut worlds = CoreWorlds::new(alloc, program, limits)?;
+    let mut worlds = ReducedWorlds::new(alloc, program, limits)?;
     let ending = decide_ends(alloc, &mut worlds, bounds, watcher)?;
     Ok(ending)
 }

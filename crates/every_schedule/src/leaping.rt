@@ -1,12 +1,11 @@
 //! Entries with own moves behind them.
 ghost use Rattle.std.specs.Prelude.{◌≡◌, ◌≢◌, ◌⊎◌, ◌++◌, ◌<◌, ◌≤◌, [], ◌∷◌, length, false, true};
 ghost use Rattle.std.specs.Prelude.{IfErr, IfOk, OnOk};
-ghost use Rattle.std.specs.Prelude.{Ok as GoesWell, Err as Fails, Result as TheResult};
+ghost use Rattle.std.specs.Prelude.{Ok as GoesWell, Err as Fails};
 ghost use Rattle.scheduled_core.specs.Fitting.{AllFit};
-ghost use Rattle.every_schedule.specs.Places.{Place, stepped};
 ghost use Rattle.every_schedule.specs.Reduced.{after_own, is_made, leapt, own_of, pushed, pushed_once};
 ghost use Rattle.every_schedule.specs.Private.Standing.{IsOnward, IsSame, here};
-ghost use Rattle.every_schedule.specs.Private.Trails.{IsTrail};
+ghost use Rattle.every_schedule.specs.Private.Trails.{IsFirstOf, IsLeapTrail, IsOwnTrail};
 
 use crate::current::Current;
 use crate::own_moves::{is_own_move, may_be_made};
@@ -35,17 +34,19 @@ pub(crate) fn leap(
     ensures onward { IsOnward current.old current.new }
     ensures goes { OnOk result (leapt at_once (here current.old) fiber ≡ GoesWell (here current.new)) }
     ensures fits { OnOk result (AllFit (here current.new).world) }
-    ensures trail { OnOk result (IsTrail trail.old.items trail.new.items (here current.old)
-        (GoesWell (here current.new))) }
+    ensures trail { OnOk result (IsLeapTrail at_once trail.old.items trail.new.items (here current.old) fiber) }
     ensures stops { IfErr result (λ e. (e ≡ RunError.NoMemory) ⊎
         ((leapt at_once (here current.old) fiber ≡ Fails e) ×
-        IsTrail trail.old.items trail.new.items (here current.old) (Fails e))) }
+        IsLeapTrail at_once trail.old.items trail.new.items (here current.old) fiber)) }
 {
     if usize::from(fiber) >= few_born(&*current) {
         return Ok(());
     }
     note(&mut *trail, &*current, fiber)?;
-    current.enter(fiber)?;
+    match current.enter(fiber) {
+        Ok(()) => {}
+        Err(fault) => return Err(fault),
+    }
     push(current, at_once, trail)?;
     Ok(())
 }
@@ -65,8 +66,7 @@ pub(crate) fn few_born(current: &Current) -> usize
 // The entry of a fiber, if it has a next move: else it changes nothing.
 fn note(trail: &mut Vec<u16>, current: &Current, by: u16) -> Result<(), AllocError>
     requires { by < 1000 }
-    ensures { OnOk result ((y : TheResult Place RunError) → stepped (here current.now) by ≡ y →
-        IsTrail trail.old.items trail.new.items (here current.now) y) }
+    ensures { OnOk result (IsFirstOf trail.old.items trail.new.items (here current.now) by) }
 {
     if current.has_move(by) {
         add(trail, by)?;
@@ -88,8 +88,8 @@ fn push(current: &mut Current, at_once: AtOnce, trail: &mut Vec<u16>) -> Result<
     ensures onward { IsOnward current.old current.new }
     ensures goes { OnOk result (here current.new ≡ pushed at_once.stores at_once.most (here current.old)) }
     ensures fits { OnOk result (AllFit (here current.new).world) }
-    ensures trail { OnOk result (IsTrail trail.old.items trail.new.items (here current.old)
-        (GoesWell (here current.new))) }
+    ensures trail { OnOk result (IsOwnTrail at_once.stores trail.old.items trail.new.items (here current.old)
+        (here current.new)) }
 {
     for _move in 0..at_once.most {
         let moved = push_once(&mut *current, at_once.stores, &mut *trail)?;
@@ -107,8 +107,8 @@ fn push_once(current: &mut Current, stores: bool, trail: &mut Vec<u16>) -> Resul
     ensures goes { OnOk result (here current.new ≡ pushed_once stores (here current.old)) }
     ensures stays { IfOk result (λ it. it ≡ false → pushed_once stores (here current.new) ≡ here current.new) }
     ensures fits { OnOk result (AllFit (here current.new).world) }
-    ensures trail { OnOk result (IsTrail trail.old.items trail.new.items (here current.old)
-        (GoesWell (here current.new))) }
+    ensures trail { OnOk result (IsOwnTrail stores trail.old.items trail.new.items (here current.old)
+        (here current.new)) }
 {
     let born = few_born(&*current);
     let mut moved = false;
@@ -140,8 +140,8 @@ fn push_fiber(
     ensures goes { OnOk result (here current.new ≡ after_own (here current.old) (own_of stores (here current.old) fiber)) }
     ensures stays { IfOk result (λ it. it ≡ false → here current.new ≡ here current.old) }
     ensures fits { OnOk result (AllFit (here current.new).world) }
-    ensures trail { OnOk result (IsTrail trail.old.items trail.new.items (here current.old)
-        (GoesWell (here current.new))) }
+    ensures trail { OnOk result (IsOwnTrail stores trail.old.items trail.new.items (here current.old)
+        (here current.new)) }
 {
     if !has_own_move(&mut *current, stores, fiber) {
         return Ok(false);

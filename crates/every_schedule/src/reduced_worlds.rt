@@ -1,15 +1,21 @@
 //! The worlds that a reduced exploration has found, each with a number.
-ghost use Rattle.std.specs.Prelude.{◌≡◌, [], ◌∷◌, IfOk};
+ghost use Rattle.std.specs.Prelude.{◌≡◌, ◌<◌, [], ◌∷◌, length, IfOk, Some};
+ghost use Rattle.std.specs.List.{slice_get};
+ghost use Rattle.world_search.specs.Landings.{EntersAt};
+ghost use Rattle.world_search.specs.Lists.{IsMore};
 ghost use Rattle.derived_ops.specs.Expansion.{code_of};
 ghost use Rattle.derived_ops.specs.Reading.{source_of};
 ghost use Rattle.cell_registry.specs.Cells.{AreLimits};
-ghost use Rattle.every_schedule.specs.Places.{first_place};
+ghost use Rattle.every_schedule.specs.Places.{Place, first_place, stepped};
+ghost use Rattle.every_schedule.specs.Private.Trails.{MakesAtOnce};
+ghost use Rattle.every_schedule.specs.Reduced.{hundred, leapt};
 
 use crate::core_world::CoreWorld;
-use crate::core_worlds::CoreWorlds;
+use crate::core_worlds::{CoreWorlds, NONE};
 use crate::leaping::AtOnce;
 use cell_registry::{Limits, RunError};
 use effect_term::Program;
+use fair_ends::Made;
 use scheduled_core::Report;
 use std::alloc::{AllocError, Global};
 use world_search::{Entered, Worlds};
@@ -23,7 +29,10 @@ pub(crate) const AT_ONCE: AtOnce = AtOnce {
 /// All worlds and faults that were found, where each entry has its own moves behind it.
 #[derive(Drop)]
 pub(crate) struct ReducedWorlds {
+    alloc: Global,
     pub(crate) worlds: CoreWorlds,
+    // The entries that were made last.
+    trail: Vec<u16>,
 }
 
 impl ReducedWorlds {
@@ -39,7 +48,45 @@ impl ReducedWorlds {
         ensures faults { IfOk result (λ s. s.worlds.faults ≡ []) }
     {
         let worlds = CoreWorlds::new(alloc, program, limits)?;
-        Ok(ReducedWorlds { worlds })
+        Ok(ReducedWorlds {
+            alloc,
+            worlds,
+            trail: Vec::new(alloc),
+        })
+    }
+
+    /// Makes the entry of a fiber at a world, with its own moves behind it, and returns the entries.
+    pub(crate) fn made(
+        &mut self,
+        world: usize,
+        fiber: u16,
+        most: usize,
+    ) -> Result<Made, AllocError>
+        requires { world < length self.old.worlds.places }
+        ensures worlds { IsMore self.old.worlds.places self.new.worlds.places }
+        ensures lands { IfOk result (λ it. (p : Place) → slice_get self.old.worlds.places world ≡ Some p →
+            EntersAt self.new.worlds.places self.new.worlds.faults it.to (leapt hundred p fiber)) }
+        ensures makes { IfOk result (λ it. (p : Place) → slice_get self.old.worlds.places world ≡ Some p →
+            MakesAtOnce hundred p fiber it.entries.items) }
+    {
+        let mut entries = Vec::new(self.alloc);
+        let to = self.worlds.entry(world, fiber, most, AT_ONCE, &mut entries)?;
+        Ok(Made { to, entries })
+    }
+
+    /// Makes the entry of a fiber at a world alone.
+    pub(crate) fn alone(
+        &mut self,
+        world: usize,
+        fiber: u16,
+        most: usize,
+    ) -> Result<Entered, AllocError>
+        requires { world < length self.old.worlds.places }
+        ensures worlds { IsMore self.old.worlds.places self.new.worlds.places }
+        ensures lands { IfOk result (λ it. (p : Place) → slice_get self.old.worlds.places world ≡ Some p →
+            EntersAt self.new.worlds.places self.new.worlds.faults it (stepped p fiber)) }
+    {
+        self.worlds.entry(world, fiber, most, NONE, &mut self.trail)
     }
 }
 
@@ -70,7 +117,8 @@ impl Worlds for ReducedWorlds {
     }
 
     fn enter(&mut self, world: usize, fiber: u16, most: usize) -> Result<Entered, AllocError> {
-        self.worlds.entry(world, fiber, most, AT_ONCE)
+        self.worlds
+            .entry(world, fiber, most, AT_ONCE, &mut self.trail)
     }
 
     fn same_report(&self, one: usize, other: usize) -> bool {

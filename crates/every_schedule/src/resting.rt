@@ -3,26 +3,51 @@ ghost use Rattle.std.specs.Prelude.{◌≡◌, ◌⊎◌, true, false};
 ghost use Rattle.scheduled_core.specs.Finals.{HasEnded, IsAtRest, IsFinal};
 ghost use Rattle.scheduled_core.specs.Fitting.{AllFit, Fits, cell_registered, world_of};
 
-use crate::core_worlds::CoreWorlds;
+use crate::reduced_worlds::ReducedWorlds;
 use cell_registry::PlainRegistry;
 use effect_term::facts_of;
-use fair_ends::Resting;
+use fair_ends::{Made, Resting};
 use fiber_frames::{Ask, Config};
 use scheduled_core::{is_done, outcome};
 use std::alloc::AllocError;
+use world_search::Entered;
 
-impl Resting for CoreWorlds {
+impl Resting for ReducedWorlds {
     ghost use Rattle.scheduled_core.specs.Finals.{IsFinal as is_final};
+    ghost use Rattle.every_schedule.specs.Places.{stepped};
+    ghost use Rattle.every_schedule.specs.Reduced.{MayOwn};
+    ghost use Rattle.std.specs.Prelude.{true};
+
+    ghost entry = { stepped };
+
+    ghost free = { MayOwn true };
 
     ghost rests = { λ p. is_final p.world };
 
+    fn many(&self, world: usize) -> u16 {
+        self.worlds.born_at(world)
+    }
+
+    fn make(&mut self, world: usize, fiber: u16, most: usize) -> Result<Made, AllocError> {
+        self.made(world, fiber, most)
+    }
+
+    fn enter_alone(
+        &mut self,
+        world: usize,
+        fiber: u16,
+        most: usize,
+    ) -> Result<Entered, AllocError> {
+        self.alone(world, fiber, most)
+    }
+
     fn is_at_rest(&self, world: usize) -> Result<bool, AllocError> {
-        let it = self.world(world)?;
+        let it = self.worlds.world(world)?;
         Ok(are_done(it.fibers(), it.registry()))
     }
 
     fn can_go_on(&self, world: usize) -> Result<bool, AllocError> {
-        let it = self.world(world)?;
+        let it = self.worlds.world(world)?;
         Ok(some_goes_on(it.fibers(), it.registry()))
     }
 }

@@ -35,6 +35,8 @@ pub(crate) struct SeenWorlds {
     alloc: Global,
     worlds: CoreWorlds,
     rows: Pool<SeenRow>,
+    // The entries that were made last.
+    trail: Vec<u16>,
 }
 
 impl Model for SeenWorlds {
@@ -79,6 +81,7 @@ impl SeenWorlds {
             alloc,
             worlds,
             rows,
+            trail: Vec::new(alloc),
         })
     }
 }
@@ -200,7 +203,8 @@ impl Worlds for SeenWorlds {
         let stored = self.worlds.stored(number, fiber);
         let seen = seen_after(self.alloc, row.seen(), stored)?;
         let room = room(self.rows.items.len(), most);
-        let came = self.worlds.entry(number, fiber, room, STILL)?;
+        let came = self.worlds
+            .entry(number, fiber, room, STILL, &mut self.trail)?;
         row_met(&mut self.rows, came, seen, most)
     }
 

@@ -1,88 +1,238 @@
--- Where worlds have ranks, each fair schedule comes to an end.
-use Rattle.std.proofs.Common.{◌≡◌, ◌≢◌, ℕ, zero, suc, ◌+◌, ◌-◌, ◌<◌, ◌≤◌, Bool, true, false, List, [], ◌∷◌, length, Some, Result}
+-- Where worlds have ranks, each fair schedule comes to an end. Behind each world to which it leads, some free moves lead to
+-- a world with a rank.
+use Rattle.std.proofs.Common.{◌≡◌, ◌≢◌, ℕ, zero, suc, ◌+◌, ◌-◌, ◌<◌, ◌≤◌, Bool, true, false, List, [], ◌∷◌, ◌++◌, length, Some, Result}
 use Rattle.std.proofs.Common.{Ok, Err, refl, sym, ap, ◌∙◌, subst, arith}
 use Rattle.std.specs.List.{slice_get}
-use mathlib.Core.Logic.{inl, inr}
+use mathlib.Core.Logic.{inl, inr, dite}
+use native.Mathlib.Decide.{ℕ_discrete}
+use Rattle.world_search.specs.Lists.{IsIn}
 use Rattle.world_search.specs.Systems.{run}
 use Rattle.world_search.proofs.Closed.{run-append}
 use Rattle.world_search.proofs.Lists.{get_low}
 use Rattle.fair_ends.specs.declared.rank.Rank.{Rank}
-use Rattle.fair_ends.specs.Fair.{first_of, IsFair, IsEnd, EndsUnder}
-use Rattle.fair_ends.specs.Private.Ranks.{Leads, AreRanked}
+use Rattle.fair_ends.specs.Fair.{AreRight, EndsUnder, IsBehind, IsEnd, IsFair, LeadBy, Makes, first_of}
+use Rattle.fair_ends.specs.Private.Ranks.{AreRanked, Leads}
+use Rattle.fair_ends.proofs.Ahead.{Passed, led_append, many, many_append, many_first, many_in, none_many, passed, taken}
 
-module _ {W E : Type 0} (step : W → ℕ → Result W E) (Rests : W → Type 0) (most : ℕ) (ws : List W) (ranks : List Rank)
-    (ranked : AreRanked step Rests most ws ranks) where
-  -- a world whose rank is quiet
-  abbrev Quiet : W → Type 0
-  Quiet v = (j : ℕ) × (b : Rank) × (slice_get ws j ≡ Some v) × (slice_get ranks j ≡ Some b) × (b.quiet ≡ true)
+module _ {W E : Type 0} (entry : W → ℕ → Result W E) (Free : W → ℕ → Type 0) (step : W → ℕ → Result W E) (Rests : W → Type 0) (most : ℕ)
+    (ws : List W) (ranks : List Rank) (ranked : AreRanked entry Free step Rests most ws ranks) (right : AreRight entry Free Rests)
+    (first : W) (s : ℕ → ℕ) (fair : IsFair most s) where
+  -- where the first n entries lead
+  abbrev pos : ℕ → Result W E
+  pos n = run entry (Ok first) (first_of s n)
 
-  quiet_rests : (w : W) → Quiet w → Rests w
-  quiet_rests w h = (ranked h.0 h.1 w h.3 h.2).rests h.4
+  pos_next : (n : ℕ) (u : W) → pos n ≡ Ok u → pos (suc n) ≡ entry u (s n)
+  pos_next n u is = run-append entry (Ok first) (first_of s n) (s n ∷ []) ∙ ap (λ x. run entry x (s n ∷ [])) is
 
-  module _ (first : W) (s : ℕ → ℕ) (fair : IsFair most s) where
-    -- where the first n entries lead
-    abbrev pos : ℕ → Result W E
-    pos n = run step (Ok first) (first_of s n)
+  abbrev End : Type 0
+  End = EndsUnder entry Rests first s
 
-    pos_next : (n : ℕ) (w : W) → pos n ≡ Ok w → pos (suc n) ≡ step w (s n)
-    pos_next n w is = run-append step (Ok first) (first_of s n) (s n ∷ []) ∙ ap (λ x. run step x (s n ∷ [])) is
+  end_fault : (n : ℕ) (e : E) → pos n ≡ Err e → End
+  end_fault n e is = (n, subst (IsEnd entry Rests) (sym is) tt)
 
-    abbrev End : Type 0
-    End = EndsUnder step Rests first s
+  -- behind the first n entries, these free moves of numbers below `most` lead to the world v
+  record At (n : ℕ) (ps : List ℕ) (v : W) : Type 0 where
+    world : W
+    is : pos n ≡ Ok world
+    leads : LeadBy entry Free world ps v
+    low : (f : ℕ) → 0 < many f ps → f < most
 
-    end_quiet : (n : ℕ) (w : W) → pos n ≡ Ok w → Quiet w → End
-    end_quiet n w is quiet = (n, subst (IsEnd step Rests) (sym is) (quiet_rests w quiet))
+  -- ---- the next entry
+  module _ (n : ℕ) (ps : List ℕ) (v : W) (at : At n ps v) where
+    -- it is one of the moves ahead
+    take_on : (some : 0 < many (s n) ps) → (qs : List ℕ) × At (suc n) qs v × (suc (many (s n) qs) ≡ many (s n) ps) ×
+        ((h : ℕ) → many h qs ≤ many h ps) × (suc (length qs) ≡ length ps)
+    take_on some =
+        let t = taken entry Free right.free ps at.world v (s n) at.leads some in (
+          t.rest,
+          record {
+            world = t.next;
+            is = pos_next n at.world at.is ∙ t.goes;
+            leads = t.leads;
+            low = λ f there. let fewer = t.others f in at.low f (omega arith);
+          },
+          t.one,
+          t.others,
+          t.shorter,
+        )
 
-    -- from each world of a rank below r, whatever led there, the schedule comes to an end
-    abbrev Reaches : ℕ → Type 0
-    Reaches r = (n i : ℕ) (w : W) (a : Rank) → pos n ≡ Ok w → slice_get ws i ≡ Some w → slice_get ranks i ≡ Some a → a.rank < r → End
+    -- it leads on from v
+    pass_on : (none : many (s n) ps ≡ 0) (z : W) → entry v (s n) ≡ Ok z → At (suc n) ps z
+    pass_on none z goes =
+        let p : Passed entry Free ps (entry at.world (s n)) (Ok z) =
+        subst (Passed entry Free ps (entry at.world (s n))) goes (passed entry Free right.free ps at.world v (s n) at.leads none) in record {
+          world = p.0;
+          is = pos_next n at.world at.is ∙ p.1;
+          leads = p.2;
+          low = at.low;
+        }
 
-    -- the same rank and helpful fiber, behind an entry of another fiber
-    abbrev Again : ℕ → Rank → Type 0
-    Again n a = (j : ℕ) (x : W) (b : Rank) → pos (suc n) ≡ Ok x → slice_get ws j ≡ Some x → slice_get ranks j ≡ Some b → b.rank ≡ a.rank →
-        b.helper ≡ a.helper → s n ≢ a.helper → End
+    -- it ends in a fault there
+    pass_fault : (none : many (s n) ps ≡ 0) (e : E) → entry v (s n) ≡ Err e → End
+    pass_fault none e goes =
+        let p : Passed entry Free ps (entry at.world (s n)) (Err e) =
+        subst (Passed entry Free ps (entry at.world (s n))) goes (passed entry Free right.free ps at.world v (s n) at.leads none) in
+        end_fault (suc n) e (pos_next n at.world at.is ∙ p)
 
-    after : (r : ℕ) → Reaches r → (n : ℕ) (a : Rank) → a.rank ≤ r → Again n a → (y : Result W E) → pos (suc n) ≡ y →
-        Leads step Rests most ws ranks a (s n) y → End
-    after r lower n a low again (Err e) is p = (suc n, subst (IsEnd step Rests) (sym is) tt)
-    after r lower n a low again (Ok x) is p = elim p.4 [
-      | inl quiet ↦ end_quiet (suc n) x is (p.0, p.1, p.2, p.3, quiet)
-      | inr falls ↦ elim falls [
-        | inl less ↦ lower (suc n) p.0 x p.1 is p.2 p.3 (omega arith)
-        | inr same ↦ again p.0 x p.1 is p.2 p.3 same.0 same.1 same.2
-      ]
-    ]
+  -- ---- where the free moves lead to a world at rest
+  abbrev Settles : ℕ → Type 0
+  Settles l = (n : ℕ) (ps : List ℕ) (v : W) → At n ps v → length ps ≤ l → Rests v → End
 
-    go_by : (q : Bool) (r : ℕ) → Reaches r → (n i : ℕ) (w : W) (a : Rank) → a.quiet ≡ q → pos n ≡ Ok w → slice_get ws i ≡ Some w →
-        slice_get ranks i ≡ Some a → a.rank ≤ r → Again n a → End
-    go_by true r lower n i w a q is at there low again = end_quiet n w is (i, a, at, there, q)
-    go_by false r lower n i w a q is at there low again =
-        after r lower n a low again (step w (s n)) (pos_next n w is) ((ranked i a w there at).leads q (s n))
+  at_once : (n : ℕ) (v : W) → At n [] v → Rests v → End
+  at_once n v at rests = (n, subst (IsEnd entry Rests) (sym (at.is ∙ ap Ok at.leads)) rests)
+
+  -- the next entry is one of the moves ahead, or it leads on to a world at rest
+  settle_by : (l : ℕ) → Settles l → (n : ℕ) (ps : List ℕ) (v : W) → At n ps v → length ps ≤ suc l → Rests v →
+      ((z : W) → At (suc n) ps z → Rests z → many (s n) ps ≡ 0 → End) → (m : ℕ) → many (s n) ps ≡ m → End
+  settle_by l less n ps v at short rests other zero is =
+      let on = right.rest v (s n) rests in other on.0 (pass_on n ps v at is on.0 on.1) on.2 is
+  settle_by l less n ps v at short rests other (suc m) is =
+      let t = take_on n ps v at (omega arith) in less (suc n) t.0 v t.1 (let a = t.4 in omega arith) rests
+
+  -- the first of the moves ahead comes d entries later
+  settle_waits : (l : ℕ) → Settles l → (d n f : ℕ) (ps : List ℕ) (v : W) → At n ps v → length ps ≤ suc l → 0 < many f ps → Rests v → s (n + d) ≡ f → End
+  settle_waits l less zero n f ps v at short some rests comes =
+      settle_by l less n ps v at short rests
+      (λ z on there none.
+      let here : s n ≡ f = subst (λ k. s k ≡ f) (let same : n + 0 ≡ n = omega arith in same) comes in
+      let no : many f ps ≡ 0 = subst (λ k. many k ps ≡ 0) here none in absurd (omega arith))
+      (many (s n) ps) refl
+  settle_waits l less (suc d) n f ps v at short some rests comes =
+      settle_by l less n ps v at short rests
+      (λ z on there none.
+      settle_waits l less d (suc n) f ps z on short some there
+      (subst (λ k. s k ≡ f) (let same : n + suc d ≡ suc n + d = omega arith in same) comes))
+      (many (s n) ps) refl
+
+  settles : (l : ℕ) → Settles l
+  settles zero n [] v at short rests = at_once n v at rests
+  settles zero n (f ∷ fs) v at short rests = absurd (omega arith)
+  settles (suc l) n [] v at short rests = at_once n v at rests
+  settles (suc l) n (f ∷ fs) v at short rests =
+      let some : 0 < many f (f ∷ fs) = many_first f fs in
+      let m = fair f n (at.low f some) in
+      let later : m.0 ≡ n + (m.0 - n) = omega arith in
+      settle_waits l (settles l) (m.0 - n) n f (f ∷ fs) v at short some rests (subst (λ k. s k ≡ f) later m.2)
+
+  -- ---- where they lead to a world of a rank
+  -- the number and the rank of a world
+  record Has (v : W) : Type 0 where
+    number : ℕ
+    rank : Rank
+    world_is : slice_get ws number ≡ Some v
+    rank_is : slice_get ranks number ≡ Some rank
+
+  end_quiet : (n : ℕ) (ps : List ℕ) (v : W) → At n ps v → (h : Has v) → h.rank.quiet ≡ true → End
+  end_quiet n ps v at h quiet = settles (length ps) n ps v at (omega arith) ((ranked h.number h.rank v h.rank_is h.world_is).rests quiet)
+
+  -- from each world of a rank below r, whatever led there, the schedule comes to an end
+  abbrev Reaches : ℕ → Type 0
+  Reaches r = (n : ℕ) (ps : List ℕ) (v : W) → At n ps v → (h : Has v) → h.rank.rank < r → End
+
+  -- from each world of this rank and helpful fiber, if fewer than c of the moves ahead are the helpful fiber's
+  abbrev Helped : ℕ → ℕ → ℕ → Type 0
+  Helped r helper c = (n : ℕ) (ps : List ℕ) (v : W) → At n ps v → (h : Has v) → h.rank.rank ≤ r → h.rank.helper ≡ helper → many helper ps < c → End
+
+  module _ (r : ℕ) (lower : Reaches r) (helper c : ℕ) (less : Helped r helper c) where
+    -- behind an entry of another fiber, at a world of this rank or a lower one, and of this helpful fiber
+    abbrev Again : ℕ → Type 0
+    Again n = (qs : List ℕ) (x : W) → At (suc n) qs x → (k : Has x) → k.rank.rank ≤ r → k.rank.helper ≡ helper → many helper qs ≤ c → s n ≢ helper → End
+
+    module _ (n : ℕ) (ps : List ℕ) (v : W) (at : At n ps v) (h : Has v) (low : h.rank.rank ≤ r) (helps : h.rank.helper ≡ helper)
+        (few : many helper ps ≤ c) (again : Again n) where
+      -- a move ahead
+      ahead : 0 < many (s n) ps → End
+      ahead some =
+          let t = take_on n ps v at some in
+          let one = t.2 in
+          dite (ℕ_discrete (s n) helper)
+          (λ is.
+          let fewer : suc (many helper t.0) ≡ many helper ps = subst (λ i. suc (many i t.0) ≡ many i ps) is one in
+          less (suc n) t.0 v t.1 h low helps (omega arith))
+          (λ isnt. let other = t.3 helper in again t.0 v t.1 h low helps (omega arith) isnt)
+
+      low_all : (made free : List ℕ) → ((g : ℕ) → IsIn g made → g < most) → ((g : ℕ) → IsIn g free → IsIn g made) → (f : ℕ) →
+          0 < many f (ps ++ free) → (i : ℕ) → many f ps ≡ i → f < most
+      low_all made free are among f some zero is = let sum = many_append f ps free in are f (among f (many_in f free (omega arith)))
+      low_all made free are among f some (suc i) is = at.low f (omega arith)
+
+      -- a step, with free moves behind it
+      onward : (made : List ℕ) → Makes entry Free step most v (s n) made → many (s n) ps ≡ 0 → (z : W) → entry v (s n) ≡ Ok z →
+          IsBehind entry Free made (Ok z) (step v (s n)) → (y : Result W E) → step v (s n) ≡ y →
+          Leads entry Free step Rests most ws ranks h.rank (s n) made y → End
+      onward made makes none z goes free (Ok x) to leads =
+          let z_at = pass_on n ps v at none z goes in
+          let same : free.1 ≡ x = (let both : Ok free.1 ≡ Ok x = sym free.3 ∙ to in cc) in
+          let led : LeadBy entry Free z free.0 x = subst (λ t. LeadBy entry Free z free.0 t) same free.2 in
+          let all = ps ++ free.0 in
+          let on : At (suc n) all x = record {
+            world = z_at.world;
+            is = z_at.is;
+            leads = led_append entry Free ps free.0 z_at.world z x z_at.leads led;
+            low = λ f there. low_all made free.0 makes.few free.4 f there (many f ps) refl;
+          } in
+          let there : Has x = record { number = leads.0; rank = leads.1; world_is = leads.2; rank_is = leads.3 } in
+          elim leads.4 [
+            | inl quiet ↦ end_quiet (suc n) all x on there quiet
+            | inr falls ↦ elim falls [
+              | inl down ↦ lower (suc n) all x on there (omega arith)
+              | inr stays ↦
+                  let none_free : many helper free.0 ≡ 0 = none_many helper free.0
+                  (λ i. stays.3 (subst (λ k. IsIn k made) (sym helps) (free.4 helper i))) in
+                  let sum = many_append helper ps free.0 in
+                  let rank_same = stays.0 in
+                  again all x on there (omega arith) (stays.1 ∙ helps) (omega arith) (λ is. stays.2 (is ∙ sym helps))
+            ]
+          ]
+      onward made makes none z goes free (Err e) to leads = let no : Ok free.1 ≡ Err e = sym free.3 ∙ to in absurd (cc)
+
+      step_on : h.rank.quiet ≡ false → many (s n) ps ≡ 0 → (y : Result W E) → entry v (s n) ≡ y → End
+      step_on q none (Ok z) goes =
+          let l = (ranked h.number h.rank v h.rank_is h.world_is).leads q (s n) in
+          onward l.0 l.1 none z goes (subst (λ y. IsBehind entry Free l.0 y (step v (s n))) goes l.1.free) (step v (s n)) refl l.2
+      step_on q none (Err e) goes = pass_fault n ps v at none e goes
+
+      moves : h.rank.quiet ≡ false → (m : ℕ) → many (s n) ps ≡ m → End
+      moves q zero is = step_on q is (entry v (s n)) refl
+      moves q (suc m) is = ahead (omega arith)
+
+      by : (b : Bool) → h.rank.quiet ≡ b → End
+      by true is = end_quiet n ps v at h is
+      by false is = moves is (many (s n) ps) refl
 
     -- the helpful fiber comes d entries later
-    waits : (r : ℕ) → Reaches r → (d n i : ℕ) (w : W) (a : Rank) → pos n ≡ Ok w → slice_get ws i ≡ Some w → slice_get ranks i ≡ Some a → a.rank ≤ r →
-        s (n + d) ≡ a.helper → End
-    waits r lower zero n i w a is at there low helped =
-        go_by a.quiet r lower n i w a refl is at there low
-        (λ j x b on at_x there_b rank helper isnt.
-        let here : n + 0 ≡ n = omega arith in absurd (isnt (subst (λ k. s k ≡ a.helper) here helped)))
-    waits r lower (suc d) n i w a is at there low helped =
-        go_by a.quiet r lower n i w a refl is at there low
-        (λ j x b on at_x there_b rank helper isnt.
-        let here : n + suc d ≡ suc n + d = omega arith in
-        waits r lower d (suc n) j x b on at_x there_b (omega arith) (subst (λ k. s k ≡ a.helper) here helped ∙ sym helper))
+    waits : (d n : ℕ) (ps : List ℕ) (v : W) → At n ps v → (h : Has v) → h.rank.rank ≤ r → h.rank.helper ≡ helper → many helper ps ≤ c →
+        s (n + d) ≡ helper → End
+    waits zero n ps v at h low helps few comes =
+        by n ps v at h low helps few
+        (λ qs x on k down helping fewer isnt. absurd (isnt (subst (λ i. s i ≡ helper) (let same : n + 0 ≡ n = omega arith in same) comes)))
+        h.rank.quiet refl
+    waits (suc d) n ps v at h low helps few comes =
+        by n ps v at h low helps few
+        (λ qs x on k down helping fewer isnt.
+        waits d (suc n) qs x on k down helping fewer (subst (λ i. s i ≡ helper) (let same : n + suc d ≡ suc n + d = omega arith in same) comes))
+        h.rank.quiet refl
 
-    reach_by : (q : Bool) (r n i : ℕ) (w : W) (a : Rank) → a.quiet ≡ q → pos n ≡ Ok w → slice_get ws i ≡ Some w → slice_get ranks i ≡ Some a → a.rank ≤ r →
-        Reaches r → End
-    reach_by true r n i w a q is at there low lower = end_quiet n w is (i, a, at, there, q)
-    reach_by false r n i w a q is at there low lower =
-        let m = fair a.helper n ((ranked i a w there at).helped q) in
+    -- it comes again
+    comes_again : (n : ℕ) (ps : List ℕ) (v : W) → At n ps v → (h : Has v) → h.rank.rank ≤ r → h.rank.helper ≡ helper → many helper ps ≤ c →
+        (b : Bool) → h.rank.quiet ≡ b → End
+    comes_again n ps v at h low helps few true is = end_quiet n ps v at h is
+    comes_again n ps v at h low helps few false is =
+        let m = fair h.rank.helper n ((ranked h.number h.rank v h.rank_is h.world_is).helped is) in
         let later : m.0 ≡ n + (m.0 - n) = omega arith in
-        waits r lower (m.0 - n) n i w a is at there low (subst (λ k. s k ≡ a.helper) later m.2)
+        waits (m.0 - n) n ps v at h low helps few (subst (λ k. s k ≡ h.rank.helper) later m.2 ∙ helps)
 
-    reaches : (r : ℕ) → Reaches r
-    reaches zero n i w a is at there low = absurd (omega arith)
-    reaches (suc r) n i w a is at there low = reach_by a.quiet r n i w a refl is at there (omega arith) (reaches r)
+  helped : (r : ℕ) → Reaches r → (helper c : ℕ) → Helped r helper c
+  helped r lower helper zero n ps v at h low helps few = absurd (omega arith)
+  helped r lower helper (suc c) n ps v at h low helps few =
+      comes_again r lower helper c (helped r lower helper c) n ps v at h low helps (omega arith) h.rank.quiet refl
 
-    pub all_end : slice_get ws 0 ≡ Some first → 0 < length ranks → End
-    all_end at some = let a = get_low ranks 0 some in reaches (suc a.0.rank) 0 0 first a.0 refl at a.1 (omega arith)
+  reaches : (r : ℕ) → Reaches r
+  reaches zero n ps v at h low = absurd (omega arith)
+  reaches (suc r) n ps v at h low = helped r (reaches r) h.rank.helper (suc (many h.rank.helper ps)) n ps v at h (omega arith) refl (omega arith)
+
+  pub all_end : slice_get ws 0 ≡ Some first → 0 < length ranks → End
+  all_end at some =
+      let a = get_low ranks 0 some in
+      let here : At 0 [] first = record { world = first; is = refl; leads = refl; low = λ f there. absurd (omega arith) } in
+      reaches (suc a.0.rank) 0 [] first here record { number = 0; rank = a.0; world_is = at; rank_is = a.1 } (omega arith)

@@ -1,3 +1,5 @@
+pub mod Found
+pub mod Ahead
 pub mod Fairly
 pub mod Rows
 pub mod Ranked

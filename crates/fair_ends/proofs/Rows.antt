@@ -9,59 +9,65 @@ use Rattle.world_search.specs.declared.landings.Entered.TheVariants as came
 use Rattle.world_search.specs.Lists.{IsMore}
 use Rattle.std.proofs.lemmas.Option.{slice_get_within}
 use Rattle.world_search.proofs.Lists.{get_end, more_back, more_get}
+use Rattle.fair_ends.specs.declared.table.Edge.{Edge}
 use Rattle.fair_ends.specs.declared.table.Row.{Row}
-use Rattle.fair_ends.specs.Private.Tables.{IsTarget, LandsOn, AreTargets, IsRow, AreRows}
+use Rattle.fair_ends.specs.Fair.{Makes}
+use Rattle.fair_ends.specs.Private.Tables.{IsTarget, LandsOn, AreEdges, IsEdge, IsRow, AreRows}
 
-module _ {W E : Type 0} (step : W → ℕ → Result W E) (most : ℕ) where
-  pub lands_on : (ws : List W) (es : List E) (it : Entered) (t : ℕ) (y : Result W E) → IsTarget it t → EntersAt ws es it y → LandsOn step most ws t y
+module _ {W E : Type 0} (entry : W → ℕ → Result W E) (Free : W → ℕ → Type 0) (step : W → ℕ → Result W E) (most : ℕ) where
+  pub lands_on : (ws : List W) (es : List E) (it : Entered) (t : ℕ) (y : Result W E) → IsTarget it t → EntersAt ws es it y → LandsOn ws t y
   lands_on ws es (came.At (to.World j)) t y is at =
-      subst (LandsOn step most ws t) (sym at.2) (subst (λ k. slice_get ws k ≡ Some at.0) (sym is.0) at.1, omega arith)
-  lands_on ws es (came.At (to.Fault j)) t y is at = subst (LandsOn step most ws t) (sym at.2) is
+      subst (LandsOn ws t) (sym at.2) (subst (λ k. slice_get ws k ≡ Some at.0) (sym is.0) at.1, omega arith)
+  lands_on ws es (came.At (to.Fault j)) t y is at = subst (LandsOn ws t) (sym at.2) is
   lands_on ws es came.Full t y is at = absurd is
 
-  pub lands_more : (ws vs : List W) (t : ℕ) (y : Result W E) → IsMore ws vs → LandsOn step most ws t y → LandsOn step most vs t y
+  pub lands_more : (ws vs : List W) (t : ℕ) (y : Result W E) → IsMore ws vs → LandsOn ws t y → LandsOn vs t y
   lands_more ws vs t (Ok x) more on = (more_get ws vs t x more on.0, on.1)
   lands_more ws vs t (Err e) more on = on
 
-  pub targets_more : (ws vs : List W) (n : ℕ) (w : W) (targets : List ℕ) → IsMore ws vs → AreTargets step most ws n w targets → AreTargets step most vs n w targets
-  targets_more ws vs n w targets more h = (h.0, λ f t at. lands_more ws vs t (step w f) more (h.1 f t at))
+  edge_more : (ws vs : List W) (w : W) (f : ℕ) (e : Edge) → IsMore ws vs → IsEdge entry Free step most ws w f e → IsEdge entry Free step most vs w f e
+  edge_more ws vs w f e more h = record { lands = lands_more ws vs e.target (step w f) more h.lands; makes = h.makes }
 
-  -- one target more
-  pub targets_next : (ws : List W) (n : ℕ) (w : W) (targets : List ℕ) (t : ℕ) → AreTargets step most ws n w targets → LandsOn step most ws t (step w n) →
-      AreTargets step most ws (n + 1) w (targets ++ (t ∷ []))
-  targets_next ws n w targets t h on = (
-    (let long = length-append targets (t ∷ []) in let a = h.0 in omega arith),
-    λ f u at. elim (get_end targets t u f at) [
-      | inl before ↦ h.1 f u before
+  pub edges_more : (ws vs : List W) (n : ℕ) (w : W) (edges : List Edge) → IsMore ws vs → AreEdges entry Free step most ws n w edges →
+      AreEdges entry Free step most vs n w edges
+  edges_more ws vs n w edges more h = (h.0, λ f e at. edge_more ws vs w f e more (h.1 f e at))
+
+  -- one edge more
+  pub edges_next : (ws : List W) (n : ℕ) (w : W) (edges : List Edge) (edge : Edge) → AreEdges entry Free step most ws n w edges →
+      IsEdge entry Free step most ws w n edge → AreEdges entry Free step most ws (n + 1) w (edges ++ (edge ∷ []))
+  edges_next ws n w edges edge h on = (
+    (let long = length-append edges (edge ∷ []) in let a = h.0 in omega arith),
+    λ f e at. elim (get_end edges edge e f at) [
+      | inl before ↦ h.1 f e before
       | inr last ↦
-          subst (λ k. LandsOn step most ws u (step w k)) (sym (last.0 ∙ h.0))
-          (subst (λ k. LandsOn step most ws k (step w n)) last.1 on)
+          subst (λ k. IsEdge entry Free step most ws w k e) (sym (last.0 ∙ h.0))
+          (subst (λ k. IsEdge entry Free step most ws w n k) last.1 on)
     ],
   )
 
-  -- the targets of all fibers that are born are a row
-  pub row_of : (ws : List W) (w : W) (row : Row) (n : ℕ) → AreTargets step most ws n w row.targets.items → n ≤ most →
-      ((f : ℕ) → n ≤ f → step w f ≡ Ok w) → IsRow step most ws w row
+  -- the edges of all fibers that are born are a row
+  pub row_of : (ws : List W) (w : W) (row : Row) (n : ℕ) → AreEdges entry Free step most ws n w row.edges.items → n ≤ most →
+      ((f : ℕ) → n ≤ f → Makes entry Free step most w f []) → IsRow entry Free step most ws w row
   row_of ws w row n h low rests = record {
-    lands = h.1;
+    each = h.1;
     rests = λ f past. rests f (let a = h.0 in omega arith);
     few = (let a = h.0 in omega arith);
   }
 
-  pub row_more : (ws vs : List W) (w : W) (row : Row) → IsMore ws vs → IsRow step most ws w row → IsRow step most vs w row
+  pub row_more : (ws vs : List W) (w : W) (row : Row) → IsMore ws vs → IsRow entry Free step most ws w row → IsRow entry Free step most vs w row
   row_more ws vs w row more h = record {
-    lands = λ f t at. lands_more ws vs t (step w f) more (h.lands f t at);
+    each = λ f e at. edge_more ws vs w f e more (h.each f e at);
     rests = h.rests;
     few = h.few;
   }
 
   -- one row more
-  pub rows_next : (ws vs : List W) (rows : List Row) (row : Row) → IsMore ws vs → length rows < length ws → AreRows step most ws rows →
-      ((w : W) → slice_get vs (length rows) ≡ Some w → IsRow step most vs w row) → AreRows step most vs (rows ++ (row ∷ []))
+  pub rows_next : (ws vs : List W) (rows : List Row) (row : Row) → IsMore ws vs → length rows < length ws → AreRows entry Free step most ws rows →
+      ((w : W) → slice_get vs (length rows) ≡ Some w → IsRow entry Free step most vs w row) → AreRows entry Free step most vs (rows ++ (row ∷ []))
   rows_next ws vs rows row more low h last i r w at there = elim (get_end rows row r i at) [
     | inl before ↦
         let here = slice_get_within rows i r before in
         row_more ws vs w r more (h i r w before (more_back ws vs i w more (omega arith) there))
     | inr is ↦
-        subst (IsRow step most vs w) is.1 (last w (subst (λ k. slice_get vs k ≡ Some w) is.0 there))
+        subst (IsRow entry Free step most vs w) is.1 (last w (subst (λ k. slice_get vs k ≡ Some w) is.0 there))
   ]

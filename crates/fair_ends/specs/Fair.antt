@@ -1,5 +1,6 @@
 -- Infinite schedules: which of them are fair, and which lead to an end.
 use Rattle.std.specs.Prelude.{◌≡◌, ◌⊎◌, ℕ, zero, suc, ◌<◌, ◌≤◌, ◌++◌, List, [], ◌∷◌, Result, Ok, Err}
+use Rattle.world_search.specs.Free.{AreFree}
 use Rattle.world_search.specs.Lists.{IsIn}
 use Rattle.world_search.specs.Systems.{run}
 
@@ -30,3 +31,33 @@ module _ {W E : Type 0} (step : W → ℕ → Result W E) (Rests : W → Type 0)
     pub unrested : Rests world → ⊥
     pub returns : run step (Ok world) cycle ≡ Ok world
     pub fair : (f : ℕ) → IsIn f cycle ⊎ (step world f ≡ Ok world)
+
+-- ---- entries with free moves behind them
+module _ {W E : Type 0} (entry : W → ℕ → Result W E) (Free : W → ℕ → Type 0) where
+  -- these free moves lead from one world to the other
+  abbrev pub LeadBy : W → List ℕ → W → Type 0
+  LeadBy w [] v = w ≡ v
+  LeadBy w (f ∷ fs) v = Free w f × (x : W) × (entry w f ≡ Ok x) × LeadBy x fs v
+
+  -- behind where an entry has led, free moves lead on to y; each of them is one of these entries
+  abbrev pub IsBehind : List ℕ → Result W E → Result W E → Type 0
+  IsBehind made (Ok x) y = (free : List ℕ) × (v : W) × LeadBy x free v × (y ≡ Ok v) ×
+      ((f : ℕ) → IsIn f free → IsIn f made)
+  IsBehind made (Err e) y = y ≡ Err e
+
+  -- These entries are that of fiber f and free moves behind it, and lead where the step of fiber f does. If none of
+  -- them is of fiber f, its entry changes nothing
+  pub record Makes (step : W → ℕ → Result W E) (most : ℕ) (w : W) (f : ℕ) (made : List ℕ) : Type 0 where
+    pub leads : run entry (Ok w) made ≡ step w f
+    pub free : IsBehind made (entry w f) (step w f)
+    pub still : (IsIn f made → ⊥) → entry w f ≡ Ok w
+    pub few : (g : ℕ) → IsIn g made → g < most
+
+  -- no entry leads from a world at rest to one that isn't, or to a fault
+  abbrev pub StaysAtRest : (W → Type 0) → Type 0
+  StaysAtRest Rests = (w : W) (f : ℕ) → Rests w → (x : W) × (entry w f ≡ Ok x) × Rests x
+
+  -- free moves are free, and a world at rest stays so
+  pub record AreRight (Rests : W → Type 0) : Type 0 where
+    pub free : AreFree entry Free
+    pub rest : StaysAtRest Rests

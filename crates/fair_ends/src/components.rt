@@ -58,7 +58,7 @@ pub fn filled(alloc: Global, many: usize, number: u32) -> Result<Vec<u32>, Alloc
 fn steps_of(rows: &[Row]) -> usize {
     let mut steps: usize = 1;
     for row in rows {
-        steps = steps.saturating_add(row.targets.len()).saturating_add(1);
+        steps = steps.saturating_add(row.edges.len()).saturating_add(1);
     }
     steps
 }
@@ -172,5 +172,6 @@ impl Search {
 // Where the entry of a fiber at a world leads, if there is one.
 fn target_of(rows: &[Row], call: Call) -> Option<u32> {
     let row = rows.get(call.world as usize)?;
-    row.targets.get(call.fiber as usize).copied()
+    let edge = row.edges.get(call.fiber as usize)?;
+    Some(edge.target)
 }

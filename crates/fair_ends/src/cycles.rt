@@ -3,12 +3,13 @@
 use crate::components::{NONE, number_at};
 use crate::ending::Cycle;
 use crate::paths::{Path, flags_of, set_flag, shortest};
-use crate::ranking::{stays, target_at};
-use crate::table::Row;
+use crate::ranking::{makes_within, target_at};
+use crate::table::{Edge, Row};
+use crate::walking::is_idle;
 use std::alloc::{AllocError, Global};
 
-/// A cycle in the nearest component that a fair schedule need not leave: in it each fiber has an entry that stays there.
-/// None where no world is flagged as one of such a component.
+/// A cycle in the nearest component that a fair schedule need not leave, as steps: in it, for each fiber, a step that
+/// makes an entry of it stays there. None where no world is flagged as one of such a component.
 pub fn cycle_in(
     alloc: Global,
     rows: &[Row],
@@ -40,8 +41,8 @@ fn members_of(alloc: Global, components: &[u32], component: u32) -> Result<Vec<b
     Ok(flags)
 }
 
-// Entries within a component that lead from a world back to it. Each fiber has one, unless its entry at that world
-// leads there again.
+// Steps within a component that lead from a world back to it, and make an entry of each fiber, unless its entry at that
+// world changes nothing.
 fn round(
     alloc: Global,
     rows: &[Row],
@@ -53,7 +54,7 @@ fn round(
     let mut at = begins;
     let mut fiber: u16 = 0;
     for _ in 0..many_at(rows, begins) {
-        if target_at(rows, begins, fiber) != Some(begins) {
+        if moves(rows, begins, fiber) {
             match entry_of(alloc, rows, components, inside, at, fiber)? {
                 None => return Ok(None),
                 Some(found) => {
@@ -78,8 +79,22 @@ fn round(
 fn many_at(rows: &[Row], world: u32) -> usize {
     match rows.get(world as usize) {
         None => 0,
-        Some(row) => row.targets.len(),
+        Some(row) => row.edges.len(),
     }
+}
+
+// Whether the entry of a fiber at a world may change something.
+fn moves(rows: &[Row], world: u32, fiber: u16) -> bool {
+    match edge_at(rows, world, fiber) {
+        None => false,
+        Some(edge) => !is_idle(edge, world, fiber),
+    }
+}
+
+// The step of a fiber at a world, if the fiber is born.
+fn edge_at(rows: &[Row], world: u32, fiber: u16) -> Option<&Edge> {
+    let row = rows.get(world as usize)?;
+    row.edges.get(usize::from(fiber))
 }
 
 // This world alone is flagged.
@@ -89,7 +104,7 @@ fn goal_at(alloc: Global, many: usize, world: u32) -> Result<Vec<bool>, AllocErr
     Ok(goals)
 }
 
-// The shortest schedule within a component whose last entry is this fiber's.
+// The shortest schedule within a component whose last step makes an entry of this fiber.
 fn entry_of(
     alloc: Global,
     rows: &[Row],
@@ -101,24 +116,32 @@ fn entry_of(
     let mut goals = Vec::new(alloc);
     let mut world: u32 = 0;
     for is_member in inside {
-        goals.push(*is_member && stays(rows, components, world, fiber))?;
+        goals.push(*is_member && makes_within(rows, components, world, fiber).is_some())?;
         world = world.saturating_add(1);
     }
     match shortest(alloc, rows, inside, from, goals.as_slice())? {
         None => Ok(None),
-        Some(found) => with_entry(rows, found, fiber),
+        Some(found) => with_entry(rows, components, found, fiber),
     }
 }
 
-// A schedule, and the entry of a fiber behind it.
-fn with_entry(rows: &[Row], found: Path, fiber: u16) -> Result<Option<Path>, AllocError> {
+// A schedule, and behind it the step that makes an entry of this fiber.
+fn with_entry(
+    rows: &[Row],
+    components: &[u32],
+    found: Path,
+    fiber: u16,
+) -> Result<Option<Path>, AllocError> {
     let Path { mut schedule, end } = found;
-    match target_at(rows, end, fiber) {
+    match makes_within(rows, components, end, fiber) {
         None => Ok(None),
-        Some(to) => {
-            schedule.push(fiber)?;
-            Ok(Some(Path { schedule, end: to }))
-        }
+        Some(by) => match target_at(rows, end, by) {
+            None => Ok(None),
+            Some(to) => {
+                schedule.push(by)?;
+                Ok(Some(Path { schedule, end: to }))
+            }
+        },
     }
 }
 

@@ -4,7 +4,7 @@ ghost use Rattle.std.specs.Prelude.{◌≡◌, ℕ, ◌<◌, length, IfOk, OnOk,
 ghost use Rattle.std.specs.List.{slice_get};
 ghost use Rattle.world_search.specs.Lists.{IsMore};
 ghost use Rattle.fair_ends.specs.declared.ending.Cycle.{Cycle as TheCycle};
-ghost use Rattle.fair_ends.specs.Fair.{EndsUnder, IsFair, IsFairCycle};
+ghost use Rattle.fair_ends.specs.Fair.{AreRight, EndsUnder, IsFair, IsFairCycle};
 ghost use Rattle.fair_ends.specs.Private.Tables.{IsTable};
 
 use crate::certificate::are_ranked;
@@ -13,8 +13,9 @@ use crate::cycles::cycle_in;
 use crate::ending::{Cycle, Ending};
 use crate::ranking::rank_all;
 use crate::resting::Resting;
+use crate::shortening::shortened;
 use crate::table::{Row, table_of};
-use crate::walking::is_fair_cycle;
+use crate::walking::fair_cycle;
 use std::alloc::{AllocError, Global};
 use world_search::{Bounds, Watcher};
 
@@ -22,9 +23,12 @@ use world_search::{Bounds, Watcher};
 /// a world at rest.
 ///
 /// A schedule has no end here. It is fair where the entry of each fiber comes again and again; an entry of a fiber that
-/// waits, has ended or isn't born changes nothing. Each world is met by single entries, and each entry is made once. A
-/// world's rank is the number of its strongly connected component, and its helpful fiber one whose entries all lead out
-/// of it; where a component has none, a fair schedule can stay in it.
+/// waits, has ended or isn't born changes nothing. Each world is met by the steps of the store: an entry, and behind it
+/// some free moves that are made at once. That these are free, and that a world at rest stays so, is a premise of the
+/// clause `ends` ([`Resting`]'s store says why it holds).
+///
+/// A world's rank is the number of its strongly connected component. Its helpful fiber is one of which no entry is made
+/// by a step that stays in the component; where a component has none, a fair schedule can stay in it.
 ///
 /// Whatever the answer, it was checked at each world, or along the cycle. [`Ending::Undecided`] comes where as many
 /// worlds were met as may be kept, or as many bytes are counted as may be ([`Bounds`]; the bound on entries isn't used).
@@ -38,35 +42,58 @@ pub fn decide_ends<W: Resting, V: Watcher>(
 ) -> Result<Ending, AllocError>
     requires { 0 < length (W.worlds worlds.old) }
     ensures grows { OnOk result (IsMore (W.worlds worlds.old) (W.worlds worlds.new)) }
-    ensures ends { IfOk result (λ it. it ≡ Ending.Ends → (first : W.World) →
+    ensures ends { IfOk result (λ it. it ≡ Ending.Ends → AreRight W.entry W.free W.rests → (first : W.World) →
         slice_get (W.worlds worlds.old) 0 ≡ Some first → (schedule : ℕ → ℕ) → IsFair W.most_born schedule →
-        EndsUnder W.step W.rests first schedule) }
+        EndsUnder W.entry W.rests first schedule) }
     ensures repeats { IfOk result (λ it. (c : TheCycle) → it ≡ Ending.Repeats c → (first : W.World) →
         slice_get (W.worlds worlds.old) 0 ≡ Some first →
-        IsFairCycle W.step W.rests first c.stem.items c.cycle.items) }
+        IsFairCycle W.entry W.rests first c.stem.items c.cycle.items) }
     ensures watches { V.can_stop watcher.new ≡ V.can_stop watcher.old }
 {
     match table_of(alloc, &mut *worlds, bounds, watcher)? {
         None => Ok(Ending::Undecided),
-        Some(rows) => judge(alloc, &*worlds, rows.as_slice()),
+        Some(rows) => {
+            let found = judge(alloc, &*worlds, rows.as_slice())?;
+            with_short_cycle(worlds, found)
+        }
+    }
+}
+
+// The same ending, with a cycle that is no longer than it has to be.
+fn with_short_cycle<W: Resting>(worlds: &mut W, found: Ending) -> Result<Ending, AllocError>
+    requires { 0 < length (W.worlds worlds.old) }
+    ensures grows { OnOk result (IsMore (W.worlds worlds.old) (W.worlds worlds.new)) }
+    ensures ends { IfOk result (λ it. it ≡ Ending.Ends → found ≡ Ending.Ends) }
+    ensures repeats { IfOk result (λ it. (c : TheCycle) → it ≡ Ending.Repeats c → (d : TheCycle) ×
+        (found ≡ Ending.Repeats d) × ((first : W.World) → slice_get (W.worlds worlds.old) 0 ≡ Some first →
+        IsFairCycle W.entry W.rests first d.stem.items d.cycle.items →
+        IsFairCycle W.entry W.rests first c.stem.items c.cycle.items)) }
+{
+    match found {
+        Ending::Ends => Ok(Ending::Ends),
+        Ending::Undecided => Ok(Ending::Undecided),
+        Ending::Repeats(cycle) => {
+            let short = shortened(worlds, cycle)?;
+            Ok(Ending::Repeats(short))
+        }
     }
 }
 
 // The same, by the table of all worlds.
 fn judge<W: Resting>(alloc: Global, worlds: &W, rows: &[Row]) -> Result<Ending, AllocError>
-    requires table { IsTable W.step W.most_born (W.worlds worlds.now) rows.now }
+    requires table { IsTable W.entry W.free W.step W.most_born (W.worlds worlds.now) rows.now }
     requires some { 0 < length rows.now }
-    ensures ends { IfOk result (λ it. it ≡ Ending.Ends → (first : W.World) →
+    ensures ends { IfOk result (λ it. it ≡ Ending.Ends → AreRight W.entry W.free W.rests → (first : W.World) →
         slice_get (W.worlds worlds.now) 0 ≡ Some first → (schedule : ℕ → ℕ) → IsFair W.most_born schedule →
-        EndsUnder W.step W.rests first schedule) }
+        EndsUnder W.entry W.rests first schedule) }
     ensures repeats { IfOk result (λ it. (c : TheCycle) → it ≡ Ending.Repeats c → (first : W.World) →
         slice_get (W.worlds worlds.now) 0 ≡ Some first →
-        IsFairCycle W.step W.rests first c.stem.items c.cycle.items) }
+        IsFairCycle W.entry W.rests first c.stem.items c.cycle.items) }
 {
     let components = components_of(alloc, rows)?;
     let ranking = rank_all(alloc, worlds, rows, components.as_slice())?;
     match cycle_in(alloc, rows, components.as_slice(), ranking.stuck.as_slice())? {
-        Some(cycle) => checked(worlds, rows, cycle),
+        Some(steps) => checked(alloc, worlds, rows, &steps),
         None => {
             if are_ranked(worlds, rows, ranking.ranks.as_slice())? {
                 Ok(Ending::Ends)
@@ -77,18 +104,22 @@ fn judge<W: Resting>(alloc: Global, worlds: &W, rows: &[Row]) -> Result<Ending, 
     }
 }
 
-// A cycle, if it is one that a fair schedule can repeat.
-fn checked<W: Resting>(worlds: &W, rows: &[Row], cycle: Cycle) -> Result<Ending, AllocError>
-    requires table { IsTable W.step W.most_born (W.worlds worlds.now) rows.now }
+// The entries of a cycle of steps, if it is one that a fair schedule can repeat.
+fn checked<W: Resting>(
+    alloc: Global,
+    worlds: &W,
+    rows: &[Row],
+    steps: &Cycle,
+) -> Result<Ending, AllocError>
+    requires table { IsTable W.entry W.free W.step W.most_born (W.worlds worlds.now) rows.now }
     requires some { 0 < length rows.now }
     ensures ends { IfOk result (λ it. it ≡ Ending.Ends → ⊥) }
     ensures repeats { IfOk result (λ it. (c : TheCycle) → it ≡ Ending.Repeats c → (first : W.World) →
         slice_get (W.worlds worlds.now) 0 ≡ Some first →
-        IsFairCycle W.step W.rests first c.stem.items c.cycle.items) }
+        IsFairCycle W.entry W.rests first c.stem.items c.cycle.items) }
 {
-    if is_fair_cycle(worlds, rows, &cycle)? {
-        Ok(Ending::Repeats(cycle))
-    } else {
-        Ok(Ending::Undecided)
+    if let Some(cycle) = fair_cycle(alloc, worlds, rows, steps)? {
+        return Ok(Ending::Repeats(cycle));
     }
+    Ok(Ending::Undecided)
 }

@@ -16,9 +16,10 @@ mod paths;
 mod rank;
 mod ranking;
 mod resting;
+mod shortening;
 mod table;
 mod walking;
 
 pub use deciding::decide_ends;
 pub use ending::{Cycle, Ending};
-pub use resting::Resting;
+pub use resting::{Made, Resting};

@@ -116,9 +116,10 @@ impl Search {
     fn spread(&mut self, rows: &[Row], allowed: &[bool], world: u32) -> Result<(), AllocError> {
         if let Some(row) = rows.get(world as usize) {
             let mut fiber: u16 = 0;
-            for to in row.targets.as_slice() {
-                if *to != FAULT && is_set(allowed, *to) {
-                    self.meet(*to, world, fiber)?;
+            for edge in row.edges.as_slice() {
+                let to = edge.target;
+                if to != FAULT && is_set(allowed, to) {
+                    self.meet(to, world, fiber)?;
                 }
                 fiber = fiber.saturating_add(1);
             }

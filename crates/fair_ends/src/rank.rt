@@ -5,8 +5,8 @@
 pub struct Rank {
     /// The world is at rest.
     pub quiet: bool,
-    /// No entry makes it larger.
+    /// No step makes it larger.
     pub rank: u32,
-    /// The helpful fiber: its entry makes the rank less.
+    /// The helpful fiber: its step makes the rank less, and so does one that makes an entry of it.
     pub helper: u16,
 }

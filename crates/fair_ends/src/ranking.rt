@@ -5,6 +5,7 @@ use crate::paths::{flags_of, set_flag};
 use crate::rank::Rank;
 use crate::resting::Resting;
 use crate::table::{FAULT, Row};
+use crate::walking::has;
 use std::alloc::{AllocError, Global};
 
 /// A world, and the component in which it is.
@@ -149,8 +150,8 @@ fn is_quiet<W: Resting>(
 // Whether each entry at a member leads to a member or to a quiet world.
 fn keeps(rows: &[Row], ranks: &[Rank], member: Member) -> bool {
     if let Some(row) = rows.get(member.world as usize) {
-        for to in row.targets.as_slice() {
-            if !keeps_at(ranks, member, *to) {
+        for edge in row.edges.as_slice() {
+            if !keeps_at(ranks, member, edge.target) {
                 return false;
             }
         }
@@ -166,7 +167,7 @@ fn keeps_at(ranks: &[Rank], member: Member, to: u32) -> bool {
     }
 }
 
-// The first fiber whose entries all lead out of the component.
+// The first fiber of which no entry is made by a step that stays in the component.
 fn helper_of(
     rows: &[Row],
     components: &[u32],
@@ -177,7 +178,7 @@ fn helper_of(
     let first = members.get(start)?;
     let row = rows.get(first.world as usize)?;
     let mut fiber: u16 = 0;
-    for _ in 0..row.targets.len() {
+    for _ in 0..row.edges.len() {
         if helps(rows, components, members, start, end, fiber) {
             return Some(fiber);
         }
@@ -186,7 +187,7 @@ fn helper_of(
     None
 }
 
-// Whether all entries of this fiber lead out of the component.
+// Whether each step of this fiber, and each that makes an entry of it, leads out of the component.
 fn helps(
     rows: &[Row],
     components: &[u32],
@@ -197,7 +198,9 @@ fn helps(
 ) -> bool {
     for place in start..end {
         if let Some(member) = members.get(place) {
-            if stays(rows, components, member.world, fiber) {
+            if stays(rows, components, member.world, fiber)
+                || makes_within(rows, components, member.world, fiber).is_some()
+            {
                 return false;
             }
         }
@@ -205,7 +208,20 @@ fn helps(
     true
 }
 
-/// Whether the entry of a fiber leads from a world to one of the same component.
+/// The first fiber whose step stays in the component of a world and makes an entry of this fiber, if there is one.
+pub fn makes_within(rows: &[Row], components: &[u32], world: u32, fiber: u16) -> Option<u16> {
+    let row = rows.get(world as usize)?;
+    let mut by: u16 = 0;
+    for edge in row.edges.as_slice() {
+        if has(edge.made.as_slice(), fiber) && stays(rows, components, world, by) {
+            return Some(by);
+        }
+        by = by.saturating_add(1);
+    }
+    None
+}
+
+/// Whether the step of a fiber leads from a world to one of the same component.
 pub fn stays(rows: &[Row], components: &[u32], world: u32, fiber: u16) -> bool {
     match target_at(rows, world, fiber) {
         None => true,
@@ -215,8 +231,9 @@ pub fn stays(rows: &[Row], components: &[u32], world: u32, fiber: u16) -> bool {
     }
 }
 
-/// Where the entry of a fiber leads, if the fiber is born.
+/// Where the step of a fiber leads, if the fiber is born.
 pub fn target_at(rows: &[Row], world: u32, fiber: u16) -> Option<u32> {
     let row = rows.get(world as usize)?;
-    row.targets.get(usize::from(fiber)).copied()
+    let edge = row.edges.get(usize::from(fiber))?;
+    Some(edge.target)
 }

@@ -1,4 +1,4 @@
-//! The table of a system: all its worlds, and where the entries at each of them lead.
+//! The table of a system: all its worlds, and where the steps at each of them lead.
 
 ghost use Rattle.std.specs.Prelude.{◌≡◌, ℕ, ◌<◌, ◌≤◌, length, Some, IfOk, IfSome, OnOk};
 ghost use Rattle.std.specs.List.{slice_get};
@@ -6,23 +6,33 @@ ghost use Rattle.world_search.specs.Lists.{IsMore};
 ghost use Rattle.fair_ends.specs.Private.Tables.{IsRow, IsTable, IsTarget, fault};
 
 use std::alloc::{AllocError, Global};
+use crate::resting::Resting;
 use world_search::{Bounds, Entered, Landing, Watcher, Worlds};
 
-/// What stands in the place of a world's number where an entry ends in a fault.
+/// What is kept in the place of a world's number where a step ends in a fault.
 pub const FAULT: u32 = u32::MAX;
 
 // The watcher is asked at one of this number of worlds.
 const ASKED_EACH: usize = 100;
 
-/// Where the entries at one world lead, by the number of the fiber.
+/// Where the step of a fiber leads.
+#[derive(Drop)]
+pub struct Edge {
+    /// The number of a world, or [`FAULT`].
+    pub target: u32,
+    /// The fibers whose entries it makes, in turn.
+    pub made: Vec<u16>,
+}
+
+/// Where the steps at one world lead, by the number of the fiber.
 #[derive(Drop)]
 pub struct Row {
-    /// The number of a world, or [`FAULT`].
-    pub targets: Vec<u32>,
+    /// The steps of the fibers that are born.
+    pub edges: Vec<Edge>,
 }
 
 /// The rows of all worlds that any schedule leads to. None where a bound was met, or the watcher ended the search.
-pub fn table_of<W: Worlds, V: Watcher>(
+pub fn table_of<W: Resting, V: Watcher>(
     alloc: Global,
     worlds: &mut W,
     bounds: Bounds,
@@ -30,7 +40,7 @@ pub fn table_of<W: Worlds, V: Watcher>(
 ) -> Result<Option<Vec<Row>>, AllocError>
     ensures grows { OnOk result (IsMore (W.worlds worlds.old) (W.worlds worlds.new)) }
     ensures rows { IfOk result (λ it. IfSome it (λ rows.
-        IsTable W.step W.most_born (W.worlds worlds.new) rows.items)) }
+        IsTable W.entry W.free W.step W.most_born (W.worlds worlds.new) rows.items)) }
     ensures watches { V.can_stop watcher.new ≡ V.can_stop watcher.old }
 {
     let mut rows = Vec::new(alloc);
@@ -58,7 +68,16 @@ pub fn table_of<W: Worlds, V: Watcher>(
 
 // About how many bytes a row takes.
 fn size_of_row(row: &Row) -> usize {
-    row.targets.len().saturating_mul(4).saturating_add(40)
+    let mut size: usize = 40;
+    for edge in row.edges.as_slice() {
+        size = size.saturating_add(size_of_edge(edge));
+    }
+    size
+}
+
+// About how many bytes an edge takes.
+fn size_of_edge(edge: &Edge) -> usize {
+    edge.made.len().saturating_mul(2).saturating_add(56)
 }
 
 // Whether the watcher lets the search go on, if it is asked at the world of this number.
@@ -71,8 +90,8 @@ fn lets_go_on<W: Worlds, V: Watcher>(watcher: &mut V, worlds: &W, index: usize) 
     watcher.goes_on(worlds.len(), index)
 }
 
-// Where the entries at a world lead. None where one of them leads to a world for which there is no room.
-fn row_at<W: Worlds>(
+// Where the steps at a world lead. None where one of them leads to a world for which there is no room.
+fn row_at<W: Resting>(
     alloc: Global,
     worlds: &mut W,
     index: usize,
@@ -81,20 +100,24 @@ fn row_at<W: Worlds>(
     requires { index < length (W.worlds worlds.old) }
     ensures grows { OnOk result (IsMore (W.worlds worlds.old) (W.worlds worlds.new)) }
     ensures row { IfOk result (λ it. IfSome it (λ row. (w : W.World) → slice_get (W.worlds worlds.new) index ≡ Some w →
-        IsRow W.step W.most_born (W.worlds worlds.new) w row)) }
+        IsRow W.entry W.free W.step W.most_born (W.worlds worlds.new) w row)) }
 {
-    let born = worlds.born(index);
-    let mut targets = Vec::new(alloc);
+    let born = worlds.many(index);
+    let mut edges = Vec::new(alloc);
     for fiber in 0..born {
-        match target(worlds.enter(index, fiber, most)?) {
+        let step = worlds.make(index, fiber, most)?;
+        match target(step.to) {
             None => return Ok(None),
-            Some(to) => targets.push(to)?,
+            Some(target) => edges.push(Edge {
+                target,
+                made: step.entries,
+            })?,
         }
     }
-    Ok(Some(Row { targets }))
+    Ok(Some(Row { edges }))
 }
 
-// The number of where an entry leads, if there is one below that of a fault.
+// The number of where a step leads, if there is one below that of a fault.
 fn target(entered: Entered) -> Option<u32>
     ensures { IfSome result (λ t. IsTarget entered t) }
 {

@@ -1,104 +1,143 @@
 //! Schedules along a table.
 
-ghost use Rattle.std.specs.Prelude.{◌≡◌, ◌⊎◌, ℕ, ◌<◌, ◌≤◌, length, true, IfOk, Some, Ok as GoesWell, Result as TheResult};
+ghost use Rattle.std.specs.Prelude.{◌≡◌, ◌⊎◌, ℕ, ◌<◌, length, true, false, IfOk, IfSome, Some, Ok as GoesWell};
 ghost use Rattle.std.specs.List.{slice_get};
 ghost use Rattle.world_search.specs.Lists.{IsIn};
-ghost use Rattle.world_search.specs.Systems.{entered, run};
+ghost use Rattle.world_search.specs.Systems.{run};
+ghost use Rattle.fair_ends.specs.declared.table.Edge.{Edge as TheEdge};
 ghost use Rattle.fair_ends.specs.Fair.{IsFairCycle};
-ghost use Rattle.fair_ends.specs.Private.Tables.{IsTable, LandsOn, fault};
+ghost use Rattle.fair_ends.specs.Private.Tables.{IsStill, IsTable, LandsOn, fault};
 
 use crate::ending::Cycle;
 use crate::resting::Resting;
-use crate::table::{FAULT, Row};
-use std::alloc::AllocError;
+use crate::table::{Edge, FAULT, Row};
+use std::alloc::{AllocError, Global};
 
-/// Whether this is a cycle that a fair schedule can repeat for ever.
-pub fn is_fair_cycle<W: Resting>(worlds: &W, rows: &[Row], it: &Cycle) -> Result<bool, AllocError>
-    requires table { IsTable W.step W.most_born (W.worlds worlds.now) rows.now }
+// Where some steps lead, and the entries that they make.
+#[derive(Drop)]
+struct Course {
+    end: u32,
+    entries: Vec<u16>,
+}
+
+/// The entries that these steps make, one by one, if they are a cycle that a fair schedule can repeat for ever.
+pub fn fair_cycle<W: Resting>(
+    alloc: Global,
+    worlds: &W,
+    rows: &[Row],
+    steps: &Cycle,
+) -> Result<Option<Cycle>, AllocError>
+    requires table { IsTable W.entry W.free W.step W.most_born (W.worlds worlds.now) rows.now }
     requires some { 0 < length rows.now }
-    ensures { IfOk result (λ yes. yes ≡ true → (first : W.World) → slice_get (W.worlds worlds.now) 0 ≡ Some first →
-        IsFairCycle W.step W.rests first it.now.stem.items it.now.cycle.items) }
+    ensures { IfOk result (λ it. IfSome it (λ c. (first : W.World) → slice_get (W.worlds worlds.now) 0 ≡ Some first →
+        IsFairCycle W.entry W.rests first c.stem.items c.cycle.items)) }
 {
-    let begins = walk(worlds, rows, 0, it.stem.as_slice());
+    let stem = walk(alloc, worlds, rows, 0, steps.stem.as_slice())?;
+    let begins = stem.end;
     if begins == FAULT || begins as usize >= rows.len() {
-        return Ok(false);
+        return Ok(None);
     }
-    if !comes_round(worlds, rows, begins, it.cycle.as_slice()) {
-        return Ok(false);
+    let cycle = walk(alloc, worlds, rows, begins, steps.cycle.as_slice())?;
+    if cycle.end != begins || !has_all(cycle.entries.as_slice(), &rows[begins as usize], begins) {
+        return Ok(None);
     }
-    worlds.can_go_on(begins as usize)
+    if !worlds.can_go_on(begins as usize)? {
+        return Ok(None);
+    }
+    Ok(Some(Cycle {
+        stem: stem.entries,
+        cycle: cycle.entries,
+    }))
 }
 
-// Whether a schedule leads from a world back to it, and each fiber has an entry or changes nothing at that world.
-fn comes_round<W: Resting>(worlds: &W, rows: &[Row], begins: u32, cycle: &[u16]) -> bool
-    requires table { IsTable W.step W.most_born (W.worlds worlds.now) rows.now }
-    requires low { begins < length rows.now }
-    requires world { begins < fault }
-    ensures round { result ≡ true → (w : W.World) → slice_get (W.worlds worlds.now) begins ≡ Some w →
-        run W.step (GoesWell w) cycle.now ≡ GoesWell w }
-    ensures fair { result ≡ true → (w : W.World) → slice_get (W.worlds worlds.now) begins ≡ Some w → (f : ℕ) →
-        IsIn f cycle.now ⊎ (W.step w f ≡ GoesWell w) }
-{
-    walk(worlds, rows, begins, cycle) == begins && has_all(cycle, &rows[begins as usize], begins)
-}
-
-// Where a schedule leads from a world.
-fn walk<W: Resting>(worlds: &W, rows: &[Row], from: u32, schedule: &[u16]) -> u32
-    requires table { IsTable W.step W.most_born (W.worlds worlds.now) rows.now }
+// Where steps lead from a world.
+fn walk<W: Resting>(
+    alloc: Global,
+    worlds: &W,
+    rows: &[Row],
+    from: u32,
+    steps: &[u16],
+) -> Result<Course, AllocError>
+    requires table { IsTable W.entry W.free W.step W.most_born (W.worlds worlds.now) rows.now }
     requires low { from < fault }
-    ensures { (w : W.World) → slice_get (W.worlds worlds.now) from ≡ Some w →
-        LandsOn W.step W.most_born (W.worlds worlds.now) result (run W.step (GoesWell w) schedule.now) }
+    ensures { IfOk result (λ it. (w : W.World) → slice_get (W.worlds worlds.now) from ≡ Some w →
+        LandsOn (W.worlds worlds.now) it.end (run W.entry (GoesWell w) it.entries.items)) }
 {
-    let mut at = from;
-    for fiber in schedule {
-        at = next(worlds, rows, at, *fiber);
+    let mut end = from;
+    let mut entries = Vec::new(alloc);
+    for fiber in steps {
+        end = next(worlds, rows, end, *fiber, &mut entries)?;
     }
-    at
+    Ok(Course { end, entries })
 }
 
-// Where the entry of a fiber leads.
-fn next<W: Resting>(worlds: &W, rows: &[Row], at: u32, fiber: u16) -> u32
-    requires { IsTable W.step W.most_born (W.worlds worlds.now) rows.now }
-    ensures { (y : TheResult W.World W.Fault) → LandsOn W.step W.most_born (W.worlds worlds.now) at y →
-        LandsOn W.step W.most_born (W.worlds worlds.now) result (entered W.step y fiber) }
+// Where the step of a fiber leads. The entries that it makes are added.
+fn next<W: Resting>(
+    worlds: &W,
+    rows: &[Row],
+    at: u32,
+    fiber: u16,
+    entries: &mut Vec<u16>,
+) -> Result<u32, AllocError>
+    requires { IsTable W.entry W.free W.step W.most_born (W.worlds worlds.now) rows.now }
+    ensures { IfOk result (λ to. (w : W.World) →
+        LandsOn (W.worlds worlds.now) at (run W.entry (GoesWell w) entries.old.items) →
+        LandsOn (W.worlds worlds.now) to (run W.entry (GoesWell w) entries.new.items)) }
 {
     if at == FAULT || at as usize >= rows.len() || at as usize >= worlds.len() {
-        return at;
+        return Ok(at);
     }
-    target_at(&rows[at as usize], at, fiber)
-}
-
-// The same, from the world of this row.
-fn target_at(row: &Row, at: u32, fiber: u16) -> u32
-    ensures born { fiber < length row.now.targets.items → slice_get row.now.targets.items fiber ≡ Some result }
-    ensures rests { length row.now.targets.items ≤ fiber → result ≡ at }
-{
-    match row.targets.get(usize::from(fiber)) {
-        Some(to) => *to,
-        None => at,
+    match rows[at as usize].edges.get(usize::from(fiber)) {
+        None => Ok(at),
+        Some(edge) => {
+            entries.extend_from_slice(edge.made.as_slice())?;
+            Ok(edge.target)
+        }
     }
 }
 
-// Whether each fiber has an entry, or its entry at the world of this row and this number leads there again.
-fn has_all(schedule: &[u16], row: &Row, begins: u32) -> bool
-    ensures { result ≡ true → (f : ℕ) → f < length row.now.targets.items →
-        IsIn f schedule.now ⊎ (slice_get row.now.targets.items f ≡ Some begins) }
+// Whether each fiber has an entry, or its entry at the world of this row and this number changes nothing.
+fn has_all(entries: &[u16], row: &Row, begins: u32) -> bool
+    ensures { result ≡ true → (f : ℕ) (e : TheEdge) → slice_get row.now.edges.items f ≡ Some e →
+        IsIn f entries.now ⊎ IsStill begins f e }
 {
-    let targets = row.targets.as_slice();
-    for fiber in 0..targets.len() {
-        if targets[fiber] != begins && !has(schedule, fiber) {
+    let edges = row.edges.as_slice();
+    if edges.len() > 65_535 {
+        return false;
+    }
+    for fiber in 0..edges.len() {
+        if !comes(entries, &edges[fiber], begins, fiber as u16) {
             return false;
         }
     }
     true
 }
 
-// Whether this fiber has an entry.
-fn has(schedule: &[u16], fiber: usize) -> bool
-    ensures { result ≡ true → IsIn fiber schedule.now }
+// Whether a fiber has an entry, or its entry at the world of this number changes nothing.
+fn comes(entries: &[u16], edge: &Edge, begins: u32, fiber: u16) -> bool
+    ensures { result ≡ true → IsIn fiber entries.now ⊎ IsStill begins fiber edge.now }
 {
-    for it in schedule {
-        if usize::from(*it) == fiber {
+    has(entries, fiber) || is_idle(edge, begins, fiber)
+}
+
+/// Whether the step of a fiber at the world of this number makes no entry of it, or its entry alone, which leads back.
+pub(crate) fn is_idle(edge: &Edge, world: u32, fiber: u16) -> bool
+    ensures { result ≡ true → IsStill world fiber edge.now }
+{
+    let made = edge.made.as_slice();
+    if !has(made, fiber) {
+        return true;
+    }
+    made.len() == 1 && made[0] == fiber && edge.target == world
+}
+
+/// Whether one of these is this fiber.
+pub(crate) fn has(entries: &[u16], fiber: u16) -> bool
+    ensures yes { result ≡ true → IsIn fiber entries.now }
+    ensures no { result ≡ false → IsIn fiber entries.now → ⊥ }
+{
+    for it in entries {
+        if *it == fiber {
             return true;
         }
     }

@@ -39,7 +39,7 @@ const ENDLESS: &[Endless<'static>] = &[
     },
 ];
 
-// The limits of small programs.
+// The limits of small programs. The count plays no part, though each of these loops changes its cell more than once.
 fn limits() -> Limits
     ensures { AreLimits result }
 {
@@ -47,7 +47,7 @@ fn limits() -> Limits
         fibers: 3,
         refs: 2,
         deferreds: 2,
-        count: 1000,
+        count: 1,
     }
 }
 

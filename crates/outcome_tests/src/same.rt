@@ -22,6 +22,11 @@ const PROGRAMS: &[&'static str] = &[
     "(deferred d (deferred e (start f (seq (await d) (complete e 1)) (seq (await e) (complete d 1)))))",
     "(ref r 0 (start f (modify r 1) (let a (get r) (seq (start g (pure 1) (pure a)) (pure a)))))",
     "(uncancelable p (uncancelable q (poll p (poll q (seq (canceled) (pure 1))))))",
+    "(ref r 0 (seq (set r 1) (modify r 2) (get r)))",
+    "(ref r 0 (ref q 0 (start f (seq (set q 1) (set r 1)) (let a (get r) (let b (get q) (add a b))))))",
+    "(ref r 0 (start f (seq (modify r 1) (modify r 1)) (seq (modify r 1) (start g (get r) (pure 1)))))",
+    "(deferred d (start f (seq (complete d 4) (pure 1)) (let a (await d) (seq (complete d 5) (pure a)))))",
+    "(start f (uncancelable p (pure 3)) (seq (cancel f) (join f x (pure x) y (pure y) (pure 9))))",
     "(uncancelable p (start f (poll p (seq (canceled) (pure 3))) (join f x (pure x) y (raise y) (pure 9))))",
 ];
 

@@ -184,6 +184,8 @@ const STOPPED: &[(&str, u32, Option<u16>)] = &[
     ("(deferred d (await d))", 100_000, None),
     ("(start f (never) (pure 1))", 100_000, None),
     ("(start f (forever (cede)) (pure 1))", 100_000, Some(1)),
+    // Of two that have used up their moves, the first.
+    ("(start f (forever (cede)) (forever (cede)))", 1000, Some(0)),
     (
         "(start f (forever (cede)) (join f x (pure x) e (raise e) (pure -1)))",
         100_000,

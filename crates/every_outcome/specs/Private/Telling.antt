@@ -8,6 +8,7 @@ use Rattle.world_search.specs.declared.landings.Landing.{Landing}
 use Rattle.world_search.specs.declared.landings.Landing.TheVariants.{World, Fault}
 use Rattle.every_outcome.specs.declared.outcomes.OutcomeAnswer.{OutcomeAnswer}
 use Rattle.every_outcome.specs.Places.{Kept, Place, outcomes_at}
+use Rattle.every_outcome.specs.Private.Reduced.{IsUnfolded}
 
 -- there is a world, or a fault, of this number
 abbrev pub IsWithin : Kept → Landing → Type 0
@@ -19,12 +20,13 @@ abbrev pub IsEnd : Kept → Landing → Result (List (Option Outcome)) RunError 
 IsEnd k (World i) end = (p : Place) × (slice_get k.places i ≡ Some p) × (end ≡ Ok (outcomes_at p))
 IsEnd k (Fault i) end = (e : RunError) × (slice_get k.faults i ≡ Some e) × (end ≡ Err e)
 
--- the same schedule, with the end that it leads to
-pub record IsTold (k : Kept) (found : Found) (answer : OutcomeAnswer) : Type 0 where
-  pub schedule : answer.schedule ≡ found.schedule.items
+-- a schedule of single entries that leads to the same, with the end that it leads to
+pub record IsTold (k : Kept) (first : Place) (found : Found) (answer : OutcomeAnswer) : Type 0 where
+  pub schedule : IsUnfolded first found.schedule.items answer.schedule
   pub ends : IsEnd k found.end answer.end
 
 -- each answer is told, in the same order
-pub record AreTold (k : Kept) (found : List Found) (answers : List OutcomeAnswer) : Type 0 where
+pub record AreTold (k : Kept) (first : Place) (found : List Found) (answers : List OutcomeAnswer) : Type 0 where
   pub many : length answers ≡ length found
-  pub each : (i : ℕ) (f : Found) (a : OutcomeAnswer) → slice_get found i ≡ Some f → slice_get answers i ≡ Some a → IsTold k f a
+  pub each : (i : ℕ) (f : Found) (a : OutcomeAnswer) → slice_get found i ≡ Some f → slice_get answers i ≡ Some a →
+      IsTold k first f a

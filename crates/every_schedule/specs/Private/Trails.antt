@@ -1,16 +1,17 @@
 -- The entries that lead to a world, one by one.
-use Rattle.std.specs.Prelude.{◌≡◌, ◌≢◌, ◌++◌, ◌+◌, ◌<◌, ◌≤◌, ℕ, List, [], ◌∷◌, length, Some, Result, Ok}
+use Rattle.std.specs.Prelude.{◌≡◌, ◌≢◌, ◌⊎◌, ◌++◌, ◌+◌, ◌<◌, ◌≤◌, ℕ, Bool, List, [], ◌∷◌, length, Some, Result, Ok}
 use Rattle.std.specs.List.{All, slice_get}
 use Rattle.cell_registry.specs.declared.limits.RunError.{RunError}
 use Rattle.world_search.specs.declared.answers.Answer.{Answer as Found}
 use Rattle.world_search.specs.Lists.{IsIn}
 use Rattle.world_search.specs.Systems.{run}
+use Rattle.fair_ends.specs.Fair.{LeadBy, Makes}
 use Rattle.world_search.specs.declared.landings.Landing.{Landing}
 use Rattle.world_search.specs.declared.landings.Landing.TheVariants as to
 use Rattle.every_schedule.specs.declared.leaping.AtOnce.{AtOnce}
 use Rattle.every_schedule.specs.Explored.{HasMove}
 use Rattle.every_schedule.specs.Places.{Place, stepped}
-use Rattle.every_schedule.specs.Reduced.{leapt}
+use Rattle.every_schedule.specs.Reduced.{MayOwn, leapt}
 
 -- each of these entries, from this place on, is of a fiber that has a next move where the entry is made
 abbrev pub AreMade : Place → List ℕ → Type 0
@@ -23,6 +24,30 @@ pub record IsTrail (old new : List ℕ) (p : Place) (y : Result Place RunError) 
   pub is : new ≡ old ++ added
   pub leads : run stepped (Ok p) added ≡ y
   pub few : All (λ f. f < 1000) added
+  pub moves : AreMade p added
+
+-- the own moves that were added lead there
+pub record IsOwnTrail (stores : Bool) (old new : List ℕ) (p q : Place) : Type 0 where
+  pub added : List ℕ
+  pub is : new ≡ old ++ added
+  pub led : LeadBy stepped (MayOwn stores) p added q
+  pub few : All (λ f. f < 1000) added
+  pub moves : AreMade p added
+
+-- the entry of fiber f was added, or nothing, where it changes nothing
+abbrev pub IsFirstOf : List ℕ → List ℕ → Place → ℕ → Type 0
+IsFirstOf old new p f = ((new ≡ old ++ f ∷ []) × HasMove p.world f) ⊎ ((new ≡ old) × (stepped p f ≡ Ok p))
+
+-- the entries that the reduced exploration makes for one of fiber f
+abbrev pub MakesAtOnce : AtOnce → Place → ℕ → List ℕ → Type 0
+MakesAtOnce n p f made = Makes stepped (MayOwn n.stores) (leapt n) 1000 p f made
+
+-- they were added
+pub record IsLeapTrail (n : AtOnce) (old new : List ℕ) (p : Place) (f : ℕ) : Type 0 where
+  pub added : List ℕ
+  pub is : new ≡ old ++ added
+  pub makes : MakesAtOnce n p f added
+  pub few : All (λ g. g < 1000) added
   pub moves : AreMade p added
 
 -- these entries lead to where the entries of the reduced exploration lead, each with such own moves behind it

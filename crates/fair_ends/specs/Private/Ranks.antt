@@ -1,25 +1,33 @@
 -- Ranks of worlds, by which each fair schedule is seen to end.
 use Rattle.std.specs.Prelude.{◌≡◌, ◌≢◌, ◌⊎◌, ℕ, ◌<◌, true, false, List, Some, Result, Ok, Err}
 use Rattle.std.specs.List.{slice_get}
+use Rattle.world_search.specs.Lists.{IsIn}
 use Rattle.fair_ends.specs.declared.rank.Rank.{Rank}
+use Rattle.fair_ends.specs.Fair.{Makes}
 
--- the rank falls, or it and the helpful fiber stay, under an entry of another fiber
-abbrev pub Falls : Rank → ℕ → Rank → Type 0
-Falls a f b = (b.rank < a.rank) ⊎ ((b.rank ≡ a.rank) × (b.helper ≡ a.helper) × (f ≢ a.helper))
+-- the rank falls, or it and the helpful fiber stay, under the entry of fiber f, if neither it nor one of the entries
+-- that are made with it is the helpful fiber's
+abbrev pub Falls : Rank → ℕ → List ℕ → Rank → Type 0
+Falls a f made b =
+    (b.rank < a.rank) ⊎ ((b.rank ≡ a.rank) × (b.helper ≡ a.helper) × (f ≢ a.helper) × (IsIn a.helper made → ⊥))
 
-module _ {W E : Type 0} (step : W → ℕ → Result W E) (Rests : W → Type 0) (most : ℕ) (ws : List W) (ranks : List Rank)
-  where
-    -- where the entry of fiber f leads from a world of this rank: to a fault, to a world at rest, or so that it falls
-    abbrev pub Leads : Rank → ℕ → Result W E → Type 0
-    Leads a f (Ok x) = (j : ℕ) × (b : Rank) × (slice_get ws j ≡ Some x) × (slice_get ranks j ≡ Some b) ×
-        ((b.quiet ≡ true) ⊎ Falls a f b)
-    Leads a f (Err e) = Unit {0}
+module _ {W E : Type 0} (entry : W → ℕ → Result W E) (Free : W → ℕ → Type 0) (step : W → ℕ → Result W E)
+    (Rests : W → Type 0) (most : ℕ) (ws : List W) (ranks : List Rank) where
+  -- where the step of fiber f leads from a world of this rank: to a fault, to a world at rest, or so that it falls
+  abbrev pub Leads : Rank → ℕ → List ℕ → Result W E → Type 0
+  Leads a f made (Ok x) = (j : ℕ) × (b : Rank) × (slice_get ws j ≡ Some x) × (slice_get ranks j ≡ Some b) ×
+      ((b.quiet ≡ true) ⊎ Falls a f made b)
+  Leads a f made (Err e) = Unit {0}
 
-    pub record IsRanked (a : Rank) (w : W) : Type 0 where
-      pub rests : a.quiet ≡ true → Rests w
-      pub leads : a.quiet ≡ false → (f : ℕ) → Leads a f (step w f)
-      pub helped : a.quiet ≡ false → a.helper < most
+  -- the same, with the entries that are made
+  abbrev pub LeadsOn : Rank → W → ℕ → Type 0
+  LeadsOn a w f = (made : List ℕ) × Makes entry Free step most w f made × Leads a f made (step w f)
 
-    -- each world has a rank that is right
-    abbrev pub AreRanked : Type 0
-    AreRanked = (i : ℕ) (a : Rank) (w : W) → slice_get ranks i ≡ Some a → slice_get ws i ≡ Some w → IsRanked a w
+  pub record IsRanked (a : Rank) (w : W) : Type 0 where
+    pub rests : a.quiet ≡ true → Rests w
+    pub leads : a.quiet ≡ false → (f : ℕ) → LeadsOn a w f
+    pub helped : a.quiet ≡ false → a.helper < most
+
+  -- each world has a rank that is right
+  abbrev pub AreRanked : Type 0
+  AreRanked = (i : ℕ) (a : Rank) (w : W) → slice_get ranks i ≡ Some a → slice_get ws i ≡ Some w → IsRanked a w

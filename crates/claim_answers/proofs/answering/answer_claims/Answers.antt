@@ -14,7 +14,8 @@ use Rattle.claim_answers.proofs.answering.answer_claims.Goals as goal
 -- an answer to the program that a text spells, with its note
 claims_run : {E : Type 0} (form : ClaimForm) (o : ExploreOrder) (asked : List Asked) (text : List ℕ) (t : Term) (a : Result NotedAnswer E) →
     reading text ≡ Ok (atoms_of t) → IsProgram t →
-    IfOk a (λ n. IsJudgedAnswer form o asked text n.note.items t n.answer.text.items n.answer.status ⊎ IsUnnamedAnswer n.answer.text.items n.answer.status) →
+    IfOk a (λ n. IsJudgedAnswer form o asked text n.note.items t n.answer.text.items n.answer.status
+    ⊎ IsUnnamedAnswer n.note.items n.answer.text.items n.answer.status) →
     IfOk a (λ n. IsClaimsAnswer form o asked n.note.items text n.answer.text.items n.answer.status)
 claims_run form o asked text t (Ok n) e p h = runs text n.answer.text.items n.answer.status t e p h
 claims_run form o asked text t (Err x) e p h = tt

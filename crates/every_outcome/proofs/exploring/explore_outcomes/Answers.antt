@@ -1,51 +1,59 @@
-use Rattle.std.proofs.Common.{◌≡◌, List, length, ap}
+use Rattle.std.proofs.Common.{◌≡◌, List, length, ap, arith}
 use Rattle.std.specs.Prelude.{Some}
 use Rattle.std.specs.List.{slice_get}
 use Rattle.derived_ops.specs.Expansion.{code_of}
 use Rattle.derived_ops.specs.Reading.{source_of}
+use Rattle.cell_registry.specs.declared.limits.Limits.{Limits}
+use Rattle.scheduled_core.specs.Core.{core}
+use Rattle.every_outcome.specs.Outcomes.{counted}
 use Rattle.every_outcome.specs.Places.{Place, first_place}
-use Rattle.every_outcome.proofs.Told.{all_within, covered, numbered, once, reached, settled}
+use Rattle.every_outcome.proofs.Told.{all_under, all_within, covered, covered_under, numbered, once, reached, settled}
 use Rattle.every_outcome.proofs.exploring.explore_outcomes.Goals as goal
 
-pub told-requires : goal.told-requires
-told-requires g c =
-    let start = first_place (code_of (source_of c.args.program.now)) c.args.limits in
+pub told-requires-clause-within : goal.told-requires-clause-within
+told-requires-clause-within g c =
+    let start = first_place (code_of (source_of c.args.program.now)) (counted c.args.limits 1099511627775) in
     let first : slice_get c.in_ok-worlds.worlds.places 0 ≡ Some start = ap (λ (l : List Place). slice_get l 0) c.in_ok-worlds.ensures.places in
     all_within c.search.new.worlds start c.in_ok-found.found.answers.items (c.in_ok-found.ensures.each start first)
 
 pub returns-clause-all : goal.returns-clause-all
 returns-clause-all g c = λ complete count schedule.
     let code = code_of (source_of c.args.program.now) in
-    let start = first_place code c.args.limits in
+    let k : Limits = counted c.args.limits 1099511627775 in
+    let start = first_place code k in
     let first : slice_get c.in_ok-worlds.worlds.places 0 ≡ Some start = ap (λ (l : List Place). slice_get l 0) c.in_ok-worlds.ensures.places in
-    covered c.search.new.worlds c.in_ok-found.found.answers.items c.in_ok-answers.answers.items c.in_ok-answers.ensures.told code c.args.limits
-    c.requires.limits.some_count c.in_ok-worlds.ensures.reached count schedule (c.in_ok-found.ensures.all complete start first schedule)
+    covered_under c.args.limits 1099511627775 c.in_ok-answers.answers.items (core code (counted c.args.limits count) schedule)
+    (covered c.search.new.worlds code k c.in_ok-found.found.answers.items c.in_ok-answers.answers.items c.in_ok-answers.ensures.told
+    (omega arith) c.in_ok-worlds.ensures.reached count schedule (c.in_ok-found.ensures.all complete start first))
 
 pub returns-clause-settled : goal.returns-clause-settled
 returns-clause-settled g c = λ complete count schedule w leads stays.
     let code = code_of (source_of c.args.program.now) in
-    let start = first_place code c.args.limits in
+    let k : Limits = counted c.args.limits 1099511627775 in
+    let start = first_place code k in
     let first : slice_get c.in_ok-worlds.worlds.places 0 ≡ Some start = ap (λ (l : List Place). slice_get l 0) c.in_ok-worlds.ensures.places in
-    settled c.search.new.worlds c.in_ok-found.found.answers.items c.in_ok-answers.answers.items c.in_ok-answers.ensures.told code c.args.limits
-    c.requires.limits.some_count c.in_ok-worlds.ensures.reached count schedule w (c.in_ok-found.ensures.all complete start first schedule) leads stays
+    settled c.search.new.worlds code k c.in_ok-found.found.answers.items c.in_ok-answers.answers.items c.in_ok-answers.ensures.told
+    (omega arith) c.in_ok-worlds.ensures.reached count schedule w (c.in_ok-found.ensures.all complete start first) leads stays
 
 pub returns-clause-each : goal.returns-clause-each
 returns-clause-each g c =
     let code = code_of (source_of c.args.program.now) in
-    let start = first_place code c.args.limits in
+    let k : Limits = counted c.args.limits 1099511627775 in
+    let start = first_place code k in
     let first : slice_get c.in_ok-worlds.worlds.places 0 ≡ Some start = ap (λ (l : List Place). slice_get l 0) c.in_ok-worlds.ensures.places in
-    reached c.search.new.worlds c.in_ok-found.found.answers.items c.in_ok-answers.answers.items c.in_ok-answers.ensures.told code c.args.limits
-    c.requires.limits.some_count c.in_ok-worlds.ensures.reached (c.in_ok-found.ensures.each start first)
+    all_under code c.args.limits 1099511627775 c.in_ok-answers.answers.items
+    (reached c.search.new.worlds code k c.in_ok-found.found.answers.items c.in_ok-answers.answers.items c.in_ok-answers.ensures.told
+    (omega arith) c.in_ok-worlds.ensures.reached (c.in_ok-found.ensures.each start first))
 
 pub returns-clause-once : goal.returns-clause-once
 returns-clause-once g c =
-    once c.search.new.worlds c.in_ok-found.found.answers.items c.in_ok-answers.answers.items c.in_ok-answers.ensures.told
-    c.in_ok-answers.ensures.single c.in_ok-found.ensures.once
+    once c.search.new.worlds (first_place (code_of (source_of c.args.program.now)) (counted c.args.limits 1099511627775)) c.in_ok-found.found.answers.items
+    c.in_ok-answers.answers.items c.in_ok-answers.ensures.told c.in_ok-answers.ensures.single c.in_ok-found.ensures.once
 
 pub returns-clause-numbers : goal.returns-clause-numbers
 returns-clause-numbers g c =
-    numbered c.search.new.worlds c.in_ok-found.found.answers.items c.in_ok-answers.answers.items c.in_ok-answers.ensures.told 1000
-    c.in_ok-found.ensures.numbers
+    numbered c.search.new.worlds (first_place (code_of (source_of c.args.program.now)) (counted c.args.limits 1099511627775)) c.in_ok-found.found.answers.items
+    c.in_ok-answers.answers.items c.in_ok-answers.ensures.told
 
 pub returns-clause-stopped : goal.returns-clause-stopped
 returns-clause-stopped g c = λ incomplete going.

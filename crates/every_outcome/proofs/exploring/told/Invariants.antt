@@ -1,11 +1,14 @@
 use Rattle.std.proofs.Common.{◌≡◌, length}
 use Rattle.std.specs.Vec.Iter.{into_iter_items, into_iter_len}
+use Rattle.derived_ops.specs.Expansion.{code_of}
+use Rattle.derived_ops.specs.Reading.{source_of}
+use Rattle.every_outcome.specs.Places.{first_place}
 use Rattle.every_outcome.proofs.Listing.{SoFar}
 use Rattle.every_outcome.proofs.exploring.told.Given as goal
 
 -- the answers so far are told, and the others are left
 abbrev pub invariant-loop-it : goal.invariant-loop-it
 invariant-loop-it l = record {
-  told : SoFar l.fn.worlds l.fn.found.items (into_iter_items l.it-iterator) l.answers.items;
+  told : SoFar l.fn.worlds (first_place (code_of (source_of l.fn.program)) l.fn.limits) l.fn.found.items (into_iter_items l.it-iterator) l.answers.items;
   left : into_iter_len l.it-iterator ≡ length (into_iter_items l.it-iterator);
 }

@@ -1,13 +1,13 @@
 use Rattle.std.proofs.Common.{◌≡◌, sym, ap, ◌∙◌, subst, arith}
-use Rattle.std.specs.Prelude.{List, Some}
+use Rattle.std.specs.Prelude.{Some}
 use Rattle.std.specs.List.{slice_get}
 use Rattle.std.proofs.lemmas.Grind.{common_steps}
 use Rattle.std.proofs.lemmas.Option.{gets}
 use Rattle.fiber_frames.specs.Fiber.{Fiber, move}
 use Rattle.fiber_frames.specs.Moves.{moved}
 use Rattle.scheduled_core.specs.Private.Moving.{children}
-use Rattle.world_search.proofs.Lists.{more_get, more_more}
-use Rattle.every_schedule.specs.Private.Turning.{IsChild, IsMoved, MayTurn, reply_of}
+use Rattle.world_search.proofs.Lists.{more_get}
+use Rattle.every_schedule.specs.Private.Turning.{IsChild, MayTurn, reply_of}
 use Rattle.every_schedule.proofs.current.made.Goals as goal
 
 pub resumed-requires-clause-may : goal.resumed-requires-clause-may

@@ -1,17 +1,11 @@
-use Rattle.std.proofs.Common.{◌≡◌, ℕ, refl, sym, ap, ◌∙◌, subst}
-use Rattle.std.specs.Prelude.{Bool, true, Some}
+use Rattle.std.proofs.Common.{◌≡◌, sym, ap, ◌∙◌, subst}
 use Rattle.effect_term.specs.declared.reply.Reply.{Reply}
 use Rattle.fiber_frames.specs.Fiber.{ask_of}
-use Rattle.cell_registry.specs.Plain.{IsMade, MayCall}
-use Rattle.cell_registry.specs.Cells.{refusal}
-use Rattle.scheduled_core.specs.declared.wish.Wish.{Wish}
-use Rattle.scheduled_core.specs.declared.wish.Wish.TheVariants.{Alone, Nothing, Shared}
-use Rattle.scheduled_core.specs.Core.{fault_of, wish_of}
-use Rattle.scheduled_core.specs.Private.Asking.{Asking}
-use Rattle.scheduled_core.specs.Private.Moving.{Made, Refuses, Replied, Unshared}
+use Rattle.scheduled_core.specs.declared.wish.Wish.TheVariants.{Shared}
+use Rattle.scheduled_core.specs.Core.{wish_of}
+use Rattle.scheduled_core.specs.Private.Moving.{Made, Refuses, Replied}
 use Rattle.scheduled_core.proofs.AskTells.{asking}
 use Rattle.scheduled_core.proofs.Moves.{may_call}
-use Rattle.every_schedule.specs.Places.{wants}
 use Rattle.every_schedule.proofs.current.replied.Goals as goal
 
 pub answer-requires : goal.answer-requires

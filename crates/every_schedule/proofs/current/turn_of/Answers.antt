@@ -1,4 +1,4 @@
-use Rattle.std.proofs.Common.{◌≡◌, refl, sym, ap, ◌∙◌, subst, arith}
+use Rattle.std.proofs.Common.{refl, sym, subst}
 use Rattle.std.specs.Prelude.{List}
 use Rattle.every_schedule.specs.declared.turns.Turned.{Turned}
 use Rattle.every_schedule.specs.Private.Turning.{AreTurned, reply_of}

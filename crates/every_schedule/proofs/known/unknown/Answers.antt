@@ -1,4 +1,4 @@
-use Rattle.std.proofs.Common.{◌≡◌, [], inl, inr, sym, ap, ◌∙◌, subst}
+use Rattle.std.proofs.Common.{◌≡◌, [], inl, inr, sym, subst}
 use Rattle.std.specs.Prelude.{List, Option, Bool, Some, None}
 use Rattle.std.specs.List.{slice_get}
 use Rattle.world_search.proofs.Lists.{get_end}

@@ -1,9 +1,9 @@
-use Rattle.std.proofs.Common.{◌≡◌, ℕ, suc, refl, ◌+◌, ◌-◌, Ok, sym, ap, ◌∙◌, arith}
+use Rattle.std.proofs.Common.{◌≡◌, ℕ, suc, ◌+◌, ◌-◌, sym, ap, ◌∙◌, arith}
 use Rattle.every_schedule.specs.Reduced.{pushed}
 use Rattle.every_schedule.specs.Private.Standing.{here}
 use Rattle.every_schedule.proofs.Leaps.{pushed_next, pushed_none, pushed_stays}
 use Rattle.every_schedule.proofs.Standing.{onward_none, onward_on}
-use Rattle.every_schedule.proofs.Trails.{trail_more, trail_none}
+use Rattle.every_schedule.proofs.Trails.{own_more, own_none}
 use Rattle.every_schedule.proofs.leaping.push.Goals as goal
 
 pub loop-move-init : goal.loop-move-init
@@ -11,7 +11,7 @@ loop-move-init c = record {
   onward = onward_none c.args.current.now;
   goes = ap (λ i. pushed c.args.at_once.stores i (here c.args.current.now)) (let e : c.args.at_once.most ≡ c.args.at_once.most - 0 = omega arith in e);
   fits = c.requires;
-  trail = trail_none c.args.trail.now.items (here c.args.current.now);
+  trail = own_none c.args.at_once.stores c.args.trail.now.items (here c.args.current.now);
 }
 
 pub returns-then-not-moved-clause-goes : goal.returns-then-not-moved-clause-goes
@@ -30,8 +30,8 @@ returns-then-not-moved-clause-onward c =
 
 pub returns-then-not-moved-clause-trail : goal.returns-then-not-moved-clause-trail
 returns-then-not-moved-clause-trail c =
-    trail_more c.args.trail.now.items c.loop-move.trail.items c.push_once.new.trail.items (here c.args.current.now) (here c.loop-move.current)
-    (Ok (here c.push_once.new.current)) c.loop-move.invariant.trail c.in_ok-moved.ensures.trail
+    own_more c.args.at_once.stores c.args.trail.now.items c.loop-move.trail.items c.push_once.new.trail.items (here c.args.current.now) (here c.loop-move.current)
+    (here c.push_once.new.current) c.loop-move.invariant.trail c.in_ok-moved.ensures.trail
 
 pub loop-move-preserved : goal.loop-move-preserved
 loop-move-preserved c =
@@ -44,8 +44,8 @@ loop-move-preserved c =
       onward = onward_on c.args.current.now c.loop-move.current c.push_once.new.current known.onward c.push_once.ensures.onward;
       goes = known.goes ∙ pushed_next c.args.at_once.stores (c.args.at_once.most - c.loop-move._move) m (here c.loop-move.current) next left told.goes;
       fits = told.fits;
-      trail = trail_more c.args.trail.now.items c.loop-move.trail.items c.push_once.new.trail.items (here c.args.current.now)
-          (here c.loop-move.current) (Ok next) known.trail told.trail;
+      trail = own_more c.args.at_once.stores c.args.trail.now.items c.loop-move.trail.items c.push_once.new.trail.items (here c.args.current.now)
+          (here c.loop-move.current) next known.trail told.trail;
     }
 
 pub returns-clause-goes : goal.returns-clause-goes

@@ -1,8 +1,8 @@
-use Rattle.std.proofs.Common.{◌≡◌, ◌-◌, Ok}
+use Rattle.std.proofs.Common.{◌≡◌, ◌-◌}
 use Rattle.scheduled_core.specs.Fitting.{AllFit}
 use Rattle.every_schedule.specs.Reduced.{pushed}
 use Rattle.every_schedule.specs.Private.Standing.{IsOnward, here}
-use Rattle.every_schedule.specs.Private.Trails.{IsTrail}
+use Rattle.every_schedule.specs.Private.Trails.{IsOwnTrail}
 use Rattle.every_schedule.proofs.leaping.push.Given as goal
 
 -- the moves so far have led here, and the others lead on
@@ -11,5 +11,5 @@ invariant-loop-move l = record {
   onward : IsOnward l.initial.current l.current;
   goes : pushed l.at_once.stores l.at_once.most (here l.initial.current) ≡ pushed l.at_once.stores (l.at_once.most - l._move) (here l.current);
   fits : AllFit (here l.current).world;
-  trail : IsTrail l.initial.trail.items l.trail.items (here l.initial.current) (Ok (here l.current));
+  trail : IsOwnTrail l.at_once.stores l.initial.trail.items l.trail.items (here l.initial.current) (here l.current);
 }

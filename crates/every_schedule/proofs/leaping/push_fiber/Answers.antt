@@ -1,12 +1,11 @@
-use Rattle.std.proofs.Common.{◌≡◌, ℕ, List, Ok, Err, refl, sym, ◌∙◌, subst}
+use Rattle.std.proofs.Common.{◌≡◌, ℕ, List, Ok, Err, sym, ◌∙◌, subst}
 use Rattle.scheduled_core.specs.Fitting.{AllFit}
 use Rattle.every_schedule.specs.Places.{Place, stepped}
-use Rattle.every_schedule.specs.Reduced.{after_own, is_made, own_of}
 use Rattle.every_schedule.specs.Private.Standing.{here}
-use Rattle.every_schedule.specs.Private.Trails.{IsTrail}
-use Rattle.every_schedule.proofs.Leaps.{fiber_made, fiber_none, fiber_refused, own_moves, refused_with}
+use Rattle.every_schedule.specs.Private.Trails.{IsOwnTrail}
+use Rattle.every_schedule.proofs.Leaps.{fiber_made, fiber_none, fiber_refused, may_own, own_moves, refused_with}
 use Rattle.every_schedule.proofs.Standing.{onward_on, same_onward}
-use Rattle.every_schedule.proofs.Trails.{trail_none, trail_one}
+use Rattle.every_schedule.proofs.Trails.{own_none, own_one}
 use Rattle.every_schedule.proofs.leaping.push_fiber.Goals as goal
 
 pub enter-requires : goal.enter-requires
@@ -30,7 +29,7 @@ pub returns-then-not-has_own_move-clause-trail : goal.returns-then-not-has_own_m
 returns-then-not-has_own_move-clause-trail c =
     let old = c.args.trail.now.items in
     let p = here c.args.current.now in
-    subst (λ (x : Place). IsTrail old old p (Ok x)) (sym c.has_own_move.ensures.same.here) (trail_none old p)
+    subst (λ (x : Place). IsOwnTrail c.args.stores old old p x) (sym c.has_own_move.ensures.same.here) (own_none c.args.stores old p)
 
 pub returns-clause-onward : goal.returns-clause-onward
 returns-clause-onward c =
@@ -52,8 +51,8 @@ returns-clause-trail c =
     let q = here c.enter.new.self in
     let own = sym c.has_own_move.ensures.own ∙ c.if-not-has_own_move.false in
     let goes : stepped p c.args.fiber ≡ Ok q = subst (λ (x : Place). stepped x c.args.fiber ≡ Ok q) c.has_own_move.ensures.same.here c.in-Ok.ensures.goes in
-    subst (λ (l : List ℕ). IsTrail old l p (Ok q)) (sym c.in_ok-add.ensures)
-    (trail_one old p c.args.fiber (Ok q) c.requires.few (own_moves c.args.stores p c.args.fiber own) goes)
+    subst (λ (l : List ℕ). IsOwnTrail c.args.stores old l p q) (sym c.in_ok-add.ensures)
+    (own_one c.args.stores old p c.args.fiber q c.requires.few (own_moves c.args.stores p c.args.fiber own) (may_own c.args.stores p c.args.fiber q own goes) goes)
 
 pub returns-in-Err-clause-onward : goal.returns-in-Err-clause-onward
 returns-in-Err-clause-onward c =
@@ -84,4 +83,4 @@ returns-in-Err-clause-trail c =
     let old = c.args.trail.now.items in
     let p = here c.args.current.now in
     let both = refused_with c.in-Err.fault _ (c.is_memory.ensures c.if-is_memory.false) c.in-Err.ensures.stops in
-    subst (λ (x : Place). IsTrail old old p (Ok x)) (sym (both.1 ∙ c.has_own_move.ensures.same.here)) (trail_none old p)
+    subst (λ (x : Place). IsOwnTrail c.args.stores old old p x) (sym (both.1 ∙ c.has_own_move.ensures.same.here)) (own_none c.args.stores old p)

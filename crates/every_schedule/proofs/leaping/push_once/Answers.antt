@@ -1,10 +1,10 @@
-use Rattle.std.proofs.Common.{◌≡◌, ℕ, suc, refl, ◌+◌, ◌-◌, Ok, sym, ap, ◌∙◌, subst, arith}
+use Rattle.std.proofs.Common.{◌≡◌, ℕ, suc, refl, ◌+◌, ◌-◌, sym, ap, ◌∙◌, subst, arith}
 use Rattle.every_schedule.specs.Places.{Place}
 use Rattle.every_schedule.specs.Reduced.{pushed_once, swept}
 use Rattle.every_schedule.specs.Private.Standing.{here}
 use Rattle.every_schedule.proofs.Leaps.{swept_next, swept_none}
 use Rattle.every_schedule.proofs.Standing.{onward_none, onward_on}
-use Rattle.every_schedule.proofs.Trails.{trail_more, trail_none}
+use Rattle.every_schedule.proofs.Trails.{own_more, own_none}
 use Rattle.every_schedule.proofs.leaping.push_once.Goals as goal
 
 pub loop-done-init : goal.loop-done-init
@@ -13,7 +13,7 @@ loop-done-init c = record {
   goes = ap (λ i. swept c.args.stores i (here c.args.current.now)) (let e : c.few_born-born.result ≡ c.few_born-born.result - 0 = omega arith in e);
   stays = λ e. refl;
   fits = c.requires;
-  trail = trail_none c.args.trail.now.items (here c.args.current.now);
+  trail = own_none c.args.stores c.args.trail.now.items (here c.args.current.now);
 }
 
 pub loop-done-preserved : goal.loop-done-preserved
@@ -31,8 +31,8 @@ loop-done-preserved c =
           ap (λ i. swept c.args.stores i next) place;
       stays = λ none. let both = c.either-moved.ensures none in told.stays both.1 ∙ known.stays both.0;
       fits = told.fits;
-      trail = trail_more c.args.trail.now.items c.loop-done.trail.items c.push_fiber.new.trail.items (here c.args.current.now) now
-          (Ok next) known.trail told.trail;
+      trail = own_more c.args.stores c.args.trail.now.items c.loop-done.trail.items c.push_fiber.new.trail.items (here c.args.current.now) now
+          next known.trail told.trail;
     }
 
 pub returns-clause-goes : goal.returns-clause-goes

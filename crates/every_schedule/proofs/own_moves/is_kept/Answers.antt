@@ -1,9 +1,8 @@
-use Rattle.std.proofs.Common.{◌≡◌, ◌<◌, sym, ap, ◌∙◌, subst}
+use Rattle.std.proofs.Common.{◌<◌, sym, ap, ◌∙◌, subst}
 use Rattle.fiber_frames.specs.Uses.{used_place}
 use Rattle.scheduled_core.specs.Fitting.{AllFit}
 use Rattle.every_schedule.specs.Places.{Place}
 use Rattle.every_schedule.specs.Reduced.{is_kept, next_of}
-use Rattle.every_schedule.specs.Private.Standing.{here}
 use Rattle.every_schedule.proofs.Standing.{same_on}
 use Rattle.every_schedule.proofs.own_moves.is_kept.Goals as goal
 

@@ -1,7 +1,7 @@
-use Rattle.std.proofs.Common.{◌≡◌, not, sym, ap, ◌∙◌, subst, arith}
+use Rattle.std.proofs.Common.{◌≡◌, not, sym, ap, ◌∙◌, subst}
 use Rattle.std.specs.Prelude.{Some}
 use Rattle.std.specs.List.{slice_get}
-use Rattle.fiber_frames.specs.Fiber.{Fiber, ask_of}
+use Rattle.fiber_frames.specs.Fiber.{ask_of}
 use Rattle.scheduled_core.specs.declared.wish.Wish.TheVariants.{Shared, Alone, Nothing}
 use Rattle.fiber_frames.proofs.NamedMoves.{ask_named}
 use Rattle.scheduled_core.specs.Core.{wish_of}

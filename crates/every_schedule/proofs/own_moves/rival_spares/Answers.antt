@@ -1,6 +1,4 @@
-use Rattle.std.proofs.Common.{◌≡◌, ◌<◌, false, ◌||◌, nat_eq, length, refl, sym, ap, ◌∙◌, subst, arith}
-use Rattle.std.specs.Prelude.{Some}
-use Rattle.std.specs.List.{slice_get}
+use Rattle.std.proofs.Common.{◌<◌, length, sym, ◌∙◌, arith}
 use Rattle.world_search.proofs.Lists.{get_low}
 use Rattle.every_schedule.specs.Reduced.{keeps}
 use Rattle.every_schedule.specs.Private.Standing.{here}

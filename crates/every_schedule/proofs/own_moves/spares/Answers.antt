@@ -1,6 +1,4 @@
-use Rattle.std.proofs.Common.{◌≡◌, ◌≢◌, sym, ap, ◌∙◌}
-use Rattle.std.specs.Prelude.{not}
-use Rattle.fiber_frames.specs.Uses.{is_some, uses_in}
+use Rattle.std.proofs.Common.{◌≢◌, sym, ◌∙◌}
 use Rattle.every_schedule.specs.Reduced.{keeps}
 use Rattle.every_schedule.proofs.Alone.{itself, keeps_told}
 use Rattle.every_schedule.proofs.Standing.{same_none}

@@ -1,6 +1,4 @@
-use Rattle.std.proofs.Common.{◌≡◌, ◌∙◌, Bool, false, true, Option, Some, None, refl, sym, ap, arith, rules, subst}
-use Rattle.std.specs.Option.{is_some}
-use Rattle.effect_term.specs.declared.reply.Outcome.{Outcome}
+use Rattle.std.proofs.Common.{◌≡◌, ◌∙◌, None, sym, arith, rules, subst}
 use Rattle.fiber_frames.specs.declared.ask.Ask.TheVariants as ask
 use Rattle.fiber_frames.specs.Fiber.{outcome_of}
 use Rattle.fiber_frames.specs.Naming.{AskNamed}

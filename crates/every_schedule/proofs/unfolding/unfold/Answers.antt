@@ -9,9 +9,9 @@ use Rattle.every_schedule.specs.Places.{Place, first_place}
 use Rattle.every_schedule.specs.Reduced.{leapt}
 use Rattle.scheduled_core.specs.Fitting.{AllFit}
 use Rattle.every_schedule.specs.Private.Standing.{here}
-use Rattle.every_schedule.specs.Private.Trails.{IsTrail}
+use Rattle.every_schedule.specs.Private.Trails.{IsLeapTrail, IsTrail}
 use Rattle.every_schedule.proofs.Leaps.{refused_with}
-use Rattle.every_schedule.proofs.Trails.{trail_more, trail_none, trail_whole}
+use Rattle.every_schedule.proofs.Trails.{leap_trail, trail_more, trail_none, trail_whole}
 use Rattle.every_schedule.proofs.unfolding.unfold.Goals as goal
 
 pub loop-fiber-init : goal.loop-fiber-init
@@ -39,7 +39,8 @@ loop-fiber-preserved c =
       goes = fold_more (entered (leapt c.args.at_once)) (Ok first) c.args.schedule.now i 0 c.loop-fiber-test.true ∙
           ap (λ x. entered (leapt c.args.at_once) x f) known.goes ∙ c.in-Ok.ensures.goes;
       trail = trail_more [] c.loop-fiber.trail.items c.leap.new.trail.items first (here c.loop-fiber.current) (Ok (here c.leap.new.current)) known.trail
-          c.in-Ok.ensures.trail;
+          (leap_trail c.args.at_once c.loop-fiber.trail.items c.leap.new.trail.items (here c.loop-fiber.current) f (Ok (here c.leap.new.current))
+          c.in-Ok.ensures.trail c.in-Ok.ensures.goes);
     }
 
 pub returns-in-Err-clause-entries : goal.returns-in-Err-clause-entries
@@ -51,13 +52,14 @@ returns-in-Err-clause-entries c =
     let f = get_or c.args.schedule.now i 0 in
     let fault = c.in-Err.fault in
     let stops = refused_with fault ((leapt n (here c.loop-fiber.current) f ≡ Err fault) ×
-    IsTrail c.loop-fiber.trail.items c.leap.new.trail.items (here c.loop-fiber.current) (Err fault)) (c.is_memory.ensures c.if-is_memory.false)
+    IsLeapTrail n c.loop-fiber.trail.items c.leap.new.trail.items (here c.loop-fiber.current) f) (c.is_memory.ensures c.if-is_memory.false)
     c.in-Err.ensures.stops in
     let led : run (leapt n) (Ok first) c.args.schedule.now ≡ Err fault =
     sym (fold_stuck (entered (leapt n)) (Err fault) (λ g. refl) (Ok first) c.args.schedule.now i 0 c.loop-fiber-test.true
     (ap (λ x. entered (leapt n) x f) known.goes ∙ stops.0)) in
     trail_whole n first c.args.schedule.now c.leap.new.trail.items (Err fault)
-    (trail_more [] c.loop-fiber.trail.items c.leap.new.trail.items first (here c.loop-fiber.current) (Err fault) known.trail stops.1) led
+    (trail_more [] c.loop-fiber.trail.items c.leap.new.trail.items first (here c.loop-fiber.current) (Err fault) known.trail
+    (leap_trail n c.loop-fiber.trail.items c.leap.new.trail.items (here c.loop-fiber.current) f (Err fault) stops.1 stops.0)) led
 
 pub returns-clause-entries : goal.returns-clause-entries
 returns-clause-entries c =

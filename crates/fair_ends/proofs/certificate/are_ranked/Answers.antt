@@ -2,9 +2,16 @@ use Rattle.std.proofs.Common.{◌≡◌, ℕ, subst, arith}
 use Rattle.std.specs.Prelude.{Some}
 use Rattle.std.specs.List.{slice_get}
 use Rattle.std.proofs.lemmas.Bool.{cases_order}
-use Rattle.std.proofs.lemmas.Option.{slice_get_within}
+use Rattle.std.proofs.lemmas.Grind.{common_steps}
+use Rattle.std.proofs.lemmas.Option.{gets, slice_get_within}
 use mathlib.Core.Logic.{inl, inr}
 use Rattle.fair_ends.proofs.certificate.are_ranked.Goals as goal
+
+pub is_ranked-requires-clause-row : goal.is_ranked-requires-clause-row
+is_ranked-requires-clause-row g c = λ w at.
+    let row = c.index-rows-index.result in
+    let there : slice_get c.args.rows.now c.loop-index.index ≡ Some row = grind (arith, common_steps, gets) in
+    c.requires.each c.loop-index.index row w there at
 
 pub loop-index-preserved : goal.loop-index-preserved
 loop-index-preserved g c = λ i a w low at there. elim (cases_order i c.loop-index.index) [

@@ -1,10 +1,10 @@
 use Rattle.std.proofs.Common.{◌≡◌, ℕ, ◌<◌, Some}
 use Rattle.std.specs.List.{slice_get}
 use Rattle.fair_ends.specs.declared.rank.Rank.{Rank}
-use Rattle.fair_ends.specs.Private.Ranks.{Leads}
+use Rattle.fair_ends.specs.Private.Ranks.{LeadsOn}
 use Rattle.fair_ends.proofs.certificate.falls_everywhere.Given as goal
 
 abbrev pub invariant-loop-fiber : goal.invariant-loop-fiber
 invariant-loop-fiber g l =
     (f : ℕ) (a : Rank) (w : g.row.W-World.Denot) → f < l.fiber → slice_get l.ranks l.index ≡ Some a → slice_get (g.W.Worlds.worlds l.worlds) l.index ≡ Some w →
-    Leads g.W.Worlds.step g.W.Resting.rests g.W.Worlds.most_born (g.W.Worlds.worlds l.worlds) l.ranks a f (g.W.Worlds.step w f)
+    LeadsOn g.W.Resting.entry g.W.Resting.free g.W.Worlds.step g.W.Resting.rests g.W.Worlds.most_born (g.W.Worlds.worlds l.worlds) l.ranks a w f

@@ -1,13 +1,13 @@
 use Rattle.std.proofs.Common.{◌≡◌, ◌<◌, Some, length}
 use Rattle.std.specs.List.{slice_get}
 use Rattle.world_search.specs.Lists.{IsMore}
-use Rattle.fair_ends.specs.Private.Tables.{AreTargets}
+use Rattle.fair_ends.specs.Private.Tables.{AreEdges}
 use Rattle.fair_ends.proofs.table.row_at.Given as goal
 
 abbrev pub invariant-loop-fiber : goal.invariant-loop-fiber
 invariant-loop-fiber g l = record {
   grows : IsMore (g.W.Worlds.worlds l.initial.worlds) (g.W.Worlds.worlds l.worlds);
   low : l.index < length (g.W.Worlds.worlds l.worlds);
-  targets : (w : g.row.W-World.Denot) → slice_get (g.W.Worlds.worlds l.worlds) l.index ≡ Some w →
-      AreTargets g.W.Worlds.step g.W.Worlds.most_born (g.W.Worlds.worlds l.worlds) l.fiber w l.targets.items;
+  edges : (w : g.row.W-World.Denot) → slice_get (g.W.Worlds.worlds l.worlds) l.index ≡ Some w →
+      AreEdges g.W.Resting.entry g.W.Resting.free g.W.Worlds.step g.W.Worlds.most_born (g.W.Worlds.worlds l.worlds) l.fiber w l.edges.items;
 }

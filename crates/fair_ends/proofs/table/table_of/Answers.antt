@@ -16,15 +16,15 @@ loop-index-preserved g c =
     let long = more_long ws vs told.grows in
     let many = known.many in
     let pushed = c.in_ok-push-in-Some.ensures.items in
-    let here : (w : g.row.W-World.Denot) → slice_get vs c.loop-index.index ≡ Some w → IsRow g.W.Worlds.step g.W.Worlds.most_born vs w c.in-Some.row =
+    let here : (w : g.row.W-World.Denot) → slice_get vs c.loop-index.index ≡ Some w → IsRow g.W.Resting.entry g.W.Resting.free g.W.Worlds.step g.W.Worlds.most_born vs w c.in-Some.row =
     subst (λ (o : Option Row). IfSome o (λ (r : Row). (w : g.row.W-World.Denot) → slice_get vs c.loop-index.index ≡ Some w →
-    IsRow g.W.Worlds.step g.W.Worlds.most_born vs w r)) c.in-Some.is told.row in
+    IsRow g.W.Resting.entry g.W.Resting.free g.W.Worlds.step g.W.Worlds.most_born vs w r)) c.in-Some.is told.row in
     record {
       grows = more_more (g.W.Worlds.worlds c.args.worlds.now) ws vs known.grows told.grows;
       many = (let all = length-append c.loop-index.rows.items (c.in-Some.row ∷ []) in let is = ap (λ (l : List Row). length l) pushed in omega arith);
       low = (let a = c.if-index-len.false in let b = c.len.ensures in omega arith);
-      rows = subst (λ (l : List Row). AreRows g.W.Worlds.step g.W.Worlds.most_born vs l) (sym pushed)
-          (rows_next g.W.Worlds.step g.W.Worlds.most_born ws vs c.loop-index.rows.items c.in-Some.row told.grows
+      rows = subst (λ (l : List Row). AreRows g.W.Resting.entry g.W.Resting.free g.W.Worlds.step g.W.Worlds.most_born vs l) (sym pushed)
+          (rows_next g.W.Resting.entry g.W.Resting.free g.W.Worlds.step g.W.Worlds.most_born ws vs c.loop-index.rows.items c.in-Some.row told.grows
           (let a = c.if-index-len.false in let b = c.len.ensures in omega arith) known.rows
           (λ w at. here w (subst (λ (k : ℕ). slice_get vs k ≡ Some w) many at)));
       watches = c.lets_go_on.ensures.same ∙ known.watches;

@@ -8,6 +8,6 @@ invariant-loop-index g l = record {
   grows : IsMore (g.W.Worlds.worlds l.initial.worlds) (g.W.Worlds.worlds l.worlds);
   many : length l.rows.items ≡ l.index;
   low : l.index ≤ length (g.W.Worlds.worlds l.worlds);
-  rows : AreRows g.W.Worlds.step g.W.Worlds.most_born (g.W.Worlds.worlds l.worlds) l.rows.items;
+  rows : AreRows g.W.Resting.entry g.W.Resting.free g.W.Worlds.step g.W.Worlds.most_born (g.W.Worlds.worlds l.worlds) l.rows.items;
   watches : g.V.Watcher.can_stop l.watcher ≡ g.V.Watcher.can_stop l.initial.watcher;
 }

@@ -1,4 +1,4 @@
-use Rattle.std.proofs.Common.{◌≡◌, Some, take, Ok as GoesWell}
+use Rattle.std.proofs.Common.{◌≡◌, Some, Ok as GoesWell}
 use Rattle.std.specs.List.{slice_get}
 use Rattle.world_search.specs.Systems.{run}
 use Rattle.fair_ends.specs.Private.Tables.{LandsOn}
@@ -7,5 +7,4 @@ use Rattle.fair_ends.proofs.walking.walk.Given as goal
 abbrev pub invariant-loop-fiber : goal.invariant-loop-fiber
 invariant-loop-fiber g l =
     (w : g.row.W-World.Denot) → slice_get (g.W.Worlds.worlds l.worlds) l.from ≡ Some w →
-    LandsOn g.W.Worlds.step g.W.Worlds.most_born (g.W.Worlds.worlds l.worlds) l.at
-    (run g.W.Worlds.step (GoesWell w) (take l.fiber-index l.schedule))
+    LandsOn (g.W.Worlds.worlds l.worlds) l.end (run g.W.Resting.entry (GoesWell w) l.entries.items)

@@ -1,7 +1,6 @@
 use Rattle.std.proofs.Common.{◌≡◌, map, sym, ap, ◌∙◌}
 use Rattle.std.proofs.lemmas.Result.{IfOk-weaker}
 use Rattle.fiber_frames.specs.Fiber.{outcome_of}
-use Rattle.scheduled_core.specs.Fitting.{world_of}
 use Rattle.every_outcome.specs.Places.{outcomes_at}
 use Rattle.every_outcome.proofs.Stepping.{outcomes_stay}
 use Rattle.every_outcome.proofs.world.SeenWorld.outcomes.Goals as goal
@@ -9,6 +8,6 @@ use Rattle.every_outcome.proofs.world.SeenWorld.outcomes.Goals as goal
 pub returns : goal.returns
 returns c =
     let s = c.self.inside in
-    let here : outcomes_at c.args.self.now ≡ map outcome_of s.fibers.items =
-    ap outcomes_at (sym c.self.view_is) ∙ outcomes_stay s.registry.limits (world_of s.fibers.items s.registry.state) in
-    IfOk-weaker c.ends_of.result _ _ (λ it e. e ∙ ap (map outcome_of) c.as_slice.ensures.value ∙ sym here) c.ends_of.ensures
+    let here : outcomes_at c.args.self.now ≡ map outcome_of s.core.world.fibers =
+    ap outcomes_at (sym c.self.view_is) ∙ outcomes_stay s.core.limits s.core.world in
+    IfOk-weaker c.ends_of.result _ _ (λ it e. e ∙ ap (map outcome_of) c.fibers.ensures ∙ sym here) c.ends_of.ensures

@@ -1,8 +1,5 @@
 use Rattle.std.proofs.Common.{◌≡◌, length, map, ◌<◌, sym, ap, ◌∙◌, subst, arith}
-use Rattle.std.specs.Prelude.{Some}
 use Rattle.std.specs.List.{slice_get}
-use Rattle.std.proofs.lemmas.Grind.{common_steps}
-use Rattle.std.proofs.lemmas.Option.{gets}
 use Rattle.every_schedule.specs.Places.{Kept, Place}
 use Rattle.every_schedule.specs.Private.Numbered.{place_of}
 use Rattle.every_schedule.proofs.Numbered.{row_at, registry_there}

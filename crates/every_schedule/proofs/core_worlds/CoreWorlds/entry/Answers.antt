@@ -1,8 +1,6 @@
 use Rattle.std.proofs.Common.{◌≡◌, ◌<◌, ◌≤◌, length, map, inl, inr, sym, ap, ◌∙◌, subst, arith}
-use Rattle.std.specs.Prelude.{List, ℕ, Some, max}
+use Rattle.std.specs.Prelude.{List, ℕ, max}
 use Rattle.std.specs.List.{slice_get}
-use Rattle.std.proofs.lemmas.Grind.{common_steps}
-use Rattle.std.proofs.lemmas.Option.{gets}
 use Rattle.std.proofs.lemmas.Result.{IfOk-weaker}
 use Rattle.cell_registry.specs.Plain.{PlainView}
 use Rattle.fiber_frames.specs.Fiber.{Fiber}
@@ -11,11 +9,14 @@ use Rattle.world_search.specs.Lists.{IsMore}
 use Rattle.world_search.proofs.Lists.{more_more, more_same}
 use Rattle.every_schedule.specs.Places.{Kept, Place}
 use Rattle.every_schedule.specs.Reduced.{leapt}
-use Rattle.every_schedule.specs.Private.Numbered.{AreWorlds, IsWorld, IsWorldOf, Numbers, place_of}
+use Rattle.every_schedule.specs.Private.Numbered.{IsWorld, IsWorldOf, Numbers, place_of}
 use Rattle.every_schedule.specs.Private.Standing.{here}
+use Rattle.every_schedule.specs.Private.Trails.{IsLeapTrail, MakesAtOnce}
 use Rattle.every_schedule.proofs.Entering.{always, is_here, lands, next_kept, places_hold, places_stay, room_kept, rows_hold, rows_stay}
 use Rattle.every_schedule.proofs.Numbered.{row_at, fits_so}
+use Rattle.every_schedule.proofs.Leaps.{refused_with}
 use Rattle.every_schedule.proofs.Packed.{gone}
+use Rattle.every_schedule.proofs.Trails.{leap_made}
 use Rattle.every_schedule.proofs.core_worlds.CoreWorlds.entry.Goals as goal
 
 pub go_to-requires : goal.go_to-requires
@@ -356,3 +357,51 @@ returns-in_err-go_to-clause-worlds c =
     (more_same (map (place_of k fs rs) rows)) in
     let both = subst (λ (ys : List PlainView). IsMore (map (place_of k fs rs) rows) (map (place_of k gs ys) rows)) (sym c.go_to.ensures.registries) one in
     subst (λ l. IsMore l (map (place_of k gs qs) rows)) places both
+
+pub returns-clause-makes : goal.returns-clause-makes
+returns-clause-makes c =
+    let s = c.self.inside in
+    let k = s.limits in
+    let fs = s.current.fibers in
+    let rs = s.current.registries in
+    let rows = s.rows.rows in
+    let found = row_at (place_of s.limits s.current.fibers s.current.registries) s.rows.rows c.args.world (subst (λ (x : Kept). c.args.world < length x.places) (sym c.self.view_is) c.requires) in
+    let m = found.0 in
+    let row = found.1 in
+    let now = here c.go_to.new.self in
+    let is_now : IsWorldOf fs rs m now = subst (λ (n : Numbers). IsWorldOf fs rs n now) (sym (gone c.registry.result c.fibers.result.now m (c.registry.ensures m row) (c.fibers.ensures m row))) c.in_ok-go_to.ensures.here in
+    let gs = c.leap.new.current.fibers in
+    let qs = c.leap.new.current.registries in
+    let mg : IsMore fs gs = subst (λ (l : List Fiber). IsMore l gs) c.go_to.ensures.fibers c.leap.ensures.onward.fibers in
+    let mq : IsMore rs qs = subst (λ (l : List PlainView). IsMore l qs) c.go_to.ensures.registries c.leap.ensures.onward.registries in
+    let places : map (place_of k fs rs) rows ≡ c.args.self.now.places = ap (λ (x : Kept). x.places) c.self.view_is in
+    let made = leap_made c.args.at_once c.leap.new.trail.items now c.args.fiber
+    (subst (λ (l : List ℕ). IsLeapTrail c.args.at_once l c.leap.new.trail.items now c.args.fiber) c.clear.ensures.items c.in-Ok.ensures.trail) in
+    IfOk-weaker c.keep.result _ _
+    (λ it kept. λ w at.
+    let there = is_here k fs gs rs qs mg mq rows c.self.invariant c.args.world m row now is_now w (ap (λ l. slice_get l c.args.world) places ∙ at) in
+    subst (λ (p : Place). MakesAtOnce c.args.at_once p c.args.fiber c.leap.new.trail.items) (sym there) made) c.keep.ensures.kept
+
+pub returns-in-Err-clause-makes : goal.returns-in-Err-clause-makes
+returns-in-Err-clause-makes c =
+    let s = c.self.inside in
+    let k = s.limits in
+    let fs = s.current.fibers in
+    let rs = s.current.registries in
+    let rows = s.rows.rows in
+    let found = row_at (place_of s.limits s.current.fibers s.current.registries) s.rows.rows c.args.world (subst (λ (x : Kept). c.args.world < length x.places) (sym c.self.view_is) c.requires) in
+    let m = found.0 in
+    let row = found.1 in
+    let now = here c.go_to.new.self in
+    let is_now : IsWorldOf fs rs m now = subst (λ (n : Numbers). IsWorldOf fs rs n now) (sym (gone c.registry.result c.fibers.result.now m (c.registry.ensures m row) (c.fibers.ensures m row))) c.in_ok-go_to.ensures.here in
+    let gs = c.leap.new.current.fibers in
+    let qs = c.leap.new.current.registries in
+    let mg : IsMore fs gs = subst (λ (l : List Fiber). IsMore l gs) c.go_to.ensures.fibers c.leap.ensures.onward.fibers in
+    let mq : IsMore rs qs = subst (λ (l : List PlainView). IsMore l qs) c.go_to.ensures.registries c.leap.ensures.onward.registries in
+    let places : map (place_of k fs rs) rows ≡ c.args.self.now.places = ap (λ (x : Kept). x.places) c.self.view_is in
+    IfOk-weaker c.fault_met.result _ _ (λ it apart. λ w at.
+    let there = is_here k fs gs rs qs mg mq rows c.self.invariant c.args.world m row now is_now w (ap (λ l. slice_get l c.args.world) places ∙ at) in
+    let stops = refused_with c.in-Err.fault _ apart c.in-Err.ensures.stops in
+    subst (λ (p : Place). MakesAtOnce c.args.at_once p c.args.fiber c.leap.new.trail.items) (sym there)
+    (leap_made c.args.at_once c.leap.new.trail.items now c.args.fiber
+    (subst (λ (l : List ℕ). IsLeapTrail c.args.at_once l c.leap.new.trail.items now c.args.fiber) c.clear.ensures.items stops.1))) c.fault_met.ensures.memory

@@ -1,7 +1,7 @@
-use Rattle.std.proofs.Common.{rules, ◌≡◌, ℕ, List, [], ◌∷◌, ◌++◌, map, sym, ap, ◌∙◌, subst}
+use Rattle.std.proofs.Common.{rules, ◌≡◌, ℕ, List, [], ◌∷◌, map, sym, ap, ◌∙◌, subst}
 use Rattle.scheduled_core.specs.Fitting.{AllFit}
 use Rattle.every_schedule.specs.Places.{Place}
-use Rattle.every_schedule.specs.Private.Numbered.{AreWorlds, IsWorldOf, Numbers, place_of}
+use Rattle.every_schedule.specs.Private.Numbered.{AreWorlds, Numbers, place_of}
 use Rattle.every_schedule.specs.Private.Standing.{here}
 use Rattle.every_schedule.proofs.Numbered.{world_is}
 use Rattle.every_schedule.proofs.Entering.{first_worlds}

@@ -1,4 +1,4 @@
-use Rattle.std.proofs.Common.{◌≡◌, length, sym, ap, ◌∙◌, subst, arith}
+use Rattle.std.proofs.Common.{◌≡◌, length, sym, subst, arith}
 use Rattle.every_schedule.specs.Private.Numbered.{picked}
 use Rattle.every_schedule.specs.Private.Standing.{Stand}
 use Rattle.every_schedule.proofs.Standing.{picked_long}

@@ -1,16 +1,16 @@
-use Rattle.std.proofs.Common.{◌≡◌, ◌<◌, ◌++◌, true, inl, inr, length, set, refl, sym, ap, ◌∙◌, subst, arith}
+use Rattle.std.proofs.Common.{◌≡◌, ◌<◌, ◌++◌, true, inr, length, set, refl, sym, ap, ◌∙◌, subst, arith}
 use Rattle.std.specs.Prelude.{List, ℕ, Some, Ok, Err}
 use Rattle.std.specs.Option.{option_to_list}
 use Rattle.std.specs.List.{All, slice_get}
 use Rattle.std.proofs.lemmas.Grind.{common_steps}
-use Rattle.std.proofs.lemmas.Option.{gets, same_Some, slice_get_within}
+use Rattle.std.proofs.lemmas.Option.{gets, same_Some}
 use Rattle.fiber_frames.specs.Fiber.{Fiber, move}
 use Rattle.fiber_frames.specs.Moves.{moved}
 use Rattle.cell_registry.specs.Plain.{PlainView}
-use Rattle.scheduled_core.specs.Fitting.{AllFit, Fits, cell_registered, world_of}
+use Rattle.scheduled_core.specs.Fitting.{AllFit, world_of}
 use Rattle.scheduled_core.specs.Private.Moving.{children}
 use Rattle.scheduled_core.proofs.Moves.{few_masks, replied_answers}
-use Rattle.every_schedule.specs.Places.{Place, moves_at, stepped}
+use Rattle.every_schedule.specs.Places.{moves_at, stepped}
 use Rattle.every_schedule.specs.Private.Numbered.{picked}
 use Rattle.every_schedule.specs.Private.Standing.{Stand, here}
 use Rattle.every_schedule.specs.Private.Turning.{MayTurn, reply_of}

@@ -1,10 +1,7 @@
-use Rattle.std.proofs.Common.{◌≡◌, ◌<◌, [], length, sym, ap, ◌∙◌, subst, arith}
-use Rattle.std.specs.Prelude.{List, ℕ, Some}
-use Rattle.std.specs.List.{All, slice_get}
+use Rattle.std.proofs.Common.{◌≡◌, ◌<◌, [], length, sym, subst, arith}
+use Rattle.std.specs.Prelude.{List, ℕ}
+use Rattle.std.specs.List.{All}
 use Rattle.std.proofs.lemmas.Grind.{common_steps}
-use Rattle.std.proofs.lemmas.Option.{gets}
-use Rattle.fiber_frames.specs.Fiber.{Fiber}
-use Rattle.cell_registry.specs.Plain.{PlainView}
 use Rattle.world_search.proofs.Lists.{all_from}
 use Rattle.every_schedule.specs.Places.{Place}
 use Rattle.every_schedule.specs.Private.Numbered.{AreAt, IsWorld, IsWorldOf, Numbers, picked}

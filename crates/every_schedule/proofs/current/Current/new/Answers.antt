@@ -1,11 +1,8 @@
-use Rattle.std.proofs.Common.{◌≡◌, [], sym, ap, ap₂, ◌∙◌, subst, arith}
-use Rattle.std.specs.Prelude.{List, Some}
-use Rattle.std.specs.List.{slice_get}
+use Rattle.std.proofs.Common.{◌≡◌, [], sym, ap₂, ◌∙◌, subst, arith}
+use Rattle.std.specs.Prelude.{List}
 use Rattle.std.proofs.lemmas.Grind.{common_steps}
 use Rattle.fiber_frames.specs.Fiber.{Fiber}
 use Rattle.cell_registry.specs.Plain.{PlainView}
-use Rattle.every_schedule.specs.declared.turns.Turned.{Turned}
-use Rattle.every_schedule.specs.Private.Numbered.{AreAt, picked}
 use Rattle.every_schedule.specs.Private.Turning.{AreTurned}
 use Rattle.every_schedule.proofs.Numbered.{picked_is}
 use Rattle.every_schedule.proofs.Standing.{at_place, low_at}

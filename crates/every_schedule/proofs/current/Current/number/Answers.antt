@@ -1,7 +1,7 @@
-use Rattle.std.proofs.Common.{◌≡◌, sym, ap, ◌∙◌, subst, arith}
-use Rattle.std.specs.Prelude.{List, ℕ, Option, Some}
+use Rattle.std.proofs.Common.{◌≡◌, sym, subst}
+use Rattle.std.specs.Prelude.{ℕ, Option, Some}
 use Rattle.std.specs.List.{slice_get}
-use Rattle.every_schedule.specs.Private.Numbered.{AreAt, IsWorldOf, Numbers, picked}
+use Rattle.every_schedule.specs.Private.Numbered.{IsWorldOf, Numbers, picked}
 use Rattle.every_schedule.specs.Private.Standing.{IsNumbered, Stand, here}
 use Rattle.every_schedule.proofs.Numbered.{is_at}
 use Rattle.every_schedule.proofs.Standing.{picked_at}

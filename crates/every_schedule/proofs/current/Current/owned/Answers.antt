@@ -1,4 +1,4 @@
-use Rattle.std.proofs.Common.{◌≡◌, ◌<◌, length, sym, ap, ◌∙◌, subst, arith}
+use Rattle.std.proofs.Common.{◌≡◌, ◌<◌, length, sym, subst, arith}
 use Rattle.std.specs.Prelude.{Some}
 use Rattle.std.specs.List.{slice_get}
 use Rattle.std.proofs.lemmas.Grind.{common_steps}
@@ -8,7 +8,7 @@ use Rattle.scheduled_core.specs.Core.{wish_of}
 use Rattle.every_schedule.specs.Private.Knowing.{IsOwned}
 use Rattle.every_schedule.specs.Private.Numbered.{picked}
 use Rattle.every_schedule.specs.Private.Standing.{Stand}
-use Rattle.every_schedule.proofs.Standing.{all_low, picked_long, state_is}
+use Rattle.every_schedule.proofs.Standing.{picked_long, state_is}
 use Rattle.every_schedule.proofs.current.Current.owned.Goals as goal
 
 pub index-requires : goal.index-requires

@@ -3,8 +3,7 @@ use Rattle.std.specs.Prelude.{Some}
 use Rattle.std.specs.List.{slice_get}
 use Rattle.std.proofs.lemmas.Grind.{common_steps}
 use Rattle.std.proofs.lemmas.Option.{gets}
-use Rattle.fiber_frames.specs.Fiber.{Fiber, ask_of, waits_alone}
-use Rattle.scheduled_core.specs.Core.{wish_of}
+use Rattle.fiber_frames.specs.Fiber.{Fiber, waits_alone}
 use Rattle.every_schedule.specs.Private.Numbered.{picked}
 use Rattle.every_schedule.specs.Private.Standing.{Stand}
 use Rattle.every_schedule.proofs.Standing.{all_low, picked_long, state_is}

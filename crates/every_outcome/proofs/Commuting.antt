@@ -1,0 +1,234 @@
+-- A fiber's own move commutes with each move of another fiber, also without marks, the numbers of masks, counts and notes.
+use Rattle.std.proofs.Common.{◌≡◌, ◌≢◌, ℕ, true, [], ◌++◌, set, map, Some, None, Option, Result, Ok, Err, refl, sym, ap, ◌∙◌, subst, append-nil}
+use Rattle.std.specs.List.{slice_get}
+use Rattle.std.proofs.lemmas.Option.{same_Some}
+use Rattle.effect_term.specs.declared.reply.Reply.{Reply}
+use Rattle.fiber_frames.specs.Fiber.{Fiber, ask_of, move, silent_move}
+use Rattle.fiber_frames.specs.Unmarked.{unmarked}
+use Rattle.cell_registry.specs.declared.limits.Limits.{Limits}
+use Rattle.cell_registry.specs.declared.limits.CellError.{CellError}
+use Rattle.cell_registry.specs.declared.limits.RunError.{RunError}
+use Rattle.cell_registry.specs.declared.call.Call.{Call}
+use Rattle.cell_registry.specs.declared.call.Call.TheVariants.{Start}
+use Rattle.cell_registry.specs.declared.cell.Cell.{Cell}
+use Rattle.cell_registry.specs.declared.cell.Stage.{Stage}
+use Rattle.cell_registry.specs.Cells.{cell_of, refusal, reply_of}
+use Rattle.cell_registry.proofs.Calls.{owned-after}
+use Rattle.scheduled_core.specs.declared.wish.Wish.{Wish}
+use Rattle.scheduled_core.specs.declared.wish.Wish.TheVariants.{Shared, Alone, Nothing}
+use Rattle.scheduled_core.specs.Core.{World, answered, born, called, entered, turned, wish_of, wished}
+use Rattle.scheduled_core.proofs.Lists.{slice_get-set_other}
+use Rattle.scheduled_core.proofs.Standing.Lists.{get_early}
+use Rattle.world_search.specs.Free.{AreFree, Commutes}
+use Rattle.every_schedule.specs.Places.{entering, placed}
+use Rattle.every_schedule.specs.Reduced.{IsOwn, has_own, is_own}
+use Rattle.every_schedule.proofs.Commuting.{own_enter}
+use Rattle.every_outcome.specs.Places.{Place, stepped, unmarked_after, unmarked_place, unmarked_world}
+use Rattle.every_outcome.proofs.Cells.{plain_cell, plain_is}
+use Rattle.every_outcome.proofs.Own.{is_own_unmarked}
+use Rattle.every_outcome.proofs.Stepping.{GoesAlike, get_unmarked, step_alike, unmarked_alike, world_again}
+
+abbrev pub unmarked_of : Result Place RunError → Result Place RunError
+unmarked_of (Ok p) = Ok (unmarked_place p)
+unmarked_of (Err e) = Err e
+
+after_placed : (k : Limits) (x : Result World RunError) → unmarked_after k x ≡ unmarked_of (placed k x)
+after_placed k (Ok w) = refl
+after_placed k (Err e) = refl
+
+-- an entry is the core's, after which marks, numbers, counts and notes are forgotten
+pub step_is : (p : Place) (f : ℕ) → stepped p f ≡ unmarked_of (entering p f)
+step_is p f = after_placed p.limits (entered p.limits (Ok p.world) f)
+
+pub place_again : (p : Place) → unmarked_place (unmarked_place p) ≡ unmarked_place p
+place_again p = ap (λ (w : World). let q : Place = record { limits = p.limits; world = w } in q) (world_again p.world)
+
+unmarked_led : (y : Result Place RunError) (q : Place) → unmarked_of y ≡ Ok q → (x : Place) × (y ≡ Ok x) × (unmarked_place x ≡ q)
+unmarked_led (Ok x) q e = (x, refl, (let h : unmarked_of (Ok x) ≡ Ok q = e in cc))
+unmarked_led (Err d) q e = absurd (cc)
+
+-- where an entry leads there are no marks
+pub led_unmarked : (p : Place) (f : ℕ) (q : Place) → stepped p f ≡ Ok q → unmarked_place q ≡ q
+led_unmarked p f q e =
+    let on = unmarked_led (entering p f) q (sym (step_is p f) ∙ e) in
+    ap unmarked_place (sym on.2) ∙ place_again on.0 ∙ on.2
+
+-- ---- a place without marks
+module _ (p : Place) (none : unmarked_place p ≡ p) where
+  pub fiber_none : (f : ℕ) (g : Fiber) → slice_get p.world.fibers f ≡ Some g → unmarked g ≡ g
+  fiber_none f g at =
+      let there : slice_get (map unmarked p.world.fibers) f ≡ Some (unmarked g) = get_unmarked p.world.fibers f (Some g) at in
+      let same : slice_get (map unmarked p.world.fibers) f ≡ slice_get p.world.fibers f = ap (λ (q : Place). slice_get q.world.fibers f) none in
+      same_Some (unmarked g) g (sym there ∙ same ∙ at)
+
+  pub count_none : (f : ℕ) → (cell_of p.world.cells f).count ≡ 0
+  count_none f =
+      ap (λ (q : Place). (cell_of q.world.cells f).count) (sym none)
+      ∙ ap (λ s. (cell_of s f).count) (plain_is p.world.cells)
+      ∙ ap (λ (c : Cell). c.count) (plain_cell p.world.cells f)
+
+-- ---- the entry of one fiber leaves the others as they are
+-- those that were born, and all counts but its own
+record Leaves (w : World) (g : ℕ) (v : World) : Type 0 where
+  pub others : (f : ℕ) → g ≢ f → (a : Fiber) → slice_get w.fibers f ≡ Some a → slice_get v.fibers f ≡ Some a
+  pub counts : (f : ℕ) → g ≢ f → (cell_of v.cells f).count ≡ (cell_of w.cells f).count
+
+leaves_none : (w : World) (g : ℕ) → Leaves w g w
+leaves_none w g = record { others = λ f apart a at. at; counts = λ f apart. refl }
+
+module _ (k : Limits) (w : World) (g : ℕ) where
+  leaves_called : (b : Fiber) (d : Call) (q : Reply) → Leaves w g (called w g b d q)
+  leaves_called b d q = record {
+    others = λ f apart a at.
+        get_early (set w.fibers g (move b q)) (born b d q) f a (slice_get-set_other w.fibers g f (move b q) apart ∙ at);
+    counts = λ f apart. ap (λ (o : Stage × ℕ × ℕ). o.2) (owned-after w.cells g d f apart);
+  }
+
+  leaves_silent : (b : Fiber) → Leaves w g record { fibers = set w.fibers g (silent_move b); cells = w.cells }
+  leaves_silent b = record {
+    others = λ f apart a at. slice_get-set_other w.fibers g f (silent_move b) apart ∙ at;
+    counts = λ f apart. refl;
+  }
+
+  led : (v : World) (x : Place) → Leaves w g v → placed k (Ok v) ≡ Ok x → Leaves w g x.world
+  led v x h e = let same : record { limits = k; world = v } ≡ x = cc in subst (λ (y : Place). Leaves w g y.world) same h
+
+  leaves_answered : (b : Fiber) (d : Call) (o : Option CellError) (x : Place) → placed k (answered w g b d o) ≡ Ok x → Leaves w g x.world
+  leaves_answered b d None x e = led (called w g b d (reply_of w.cells g d)) x (leaves_called b d (reply_of w.cells g d)) e
+  leaves_answered b d (Some c) x e = absurd (cc)
+
+  leaves_wished : (b : Fiber) (v : Wish) (x : Place) → placed k (wished k w g b v) ≡ Ok x → Leaves w g x.world
+  leaves_wished b (Shared d) x e = leaves_answered b d (refusal k w.cells g d) x e
+  leaves_wished b Alone x e = led record { fibers = set w.fibers g (silent_move b); cells = w.cells } x (leaves_silent b) e
+  leaves_wished b Nothing x e = led w x (leaves_none w g) e
+
+  leaves_turned : (o : Option Fiber) (x : Place) → placed k (turned k w g o) ≡ Ok x → Leaves w g x.world
+  leaves_turned None x e = led w x (leaves_none w g) e
+  leaves_turned (Some b) x e = leaves_wished b (wish_of (ask_of b)) x e
+
+leaves : (p : Place) (g : ℕ) (x : Place) → entering p g ≡ Ok x → Leaves p.world g x.world
+leaves p g x e = leaves_turned p.limits p.world g (slice_get p.world.fibers g) x e
+
+-- an own move starts no fiber
+childless : (w : World) (f : ℕ) (a : Fiber) (c : Call) (r : Reply) → is_own w f a (Shared c) ≡ true → born a c r ≡ []
+childless w f a Start r own = absurd (cc)
+childless w f a _ r own = refl
+
+module _ (k : Limits) (w : World) (f g : ℕ) (apart : f ≢ g) where
+  abbrev Same : World → Type 0
+  Same v = slice_get v.fibers g ≡ slice_get w.fibers g
+
+  same_led : (v : World) (x : Place) → Same v → placed k (Ok v) ≡ Ok x → Same x.world
+  same_led v x h e = let same : record { limits = k; world = v } ≡ x = cc in subst (λ (y : Place). Same y.world) same h
+
+  same_answered : (a : Fiber) (c : Call) (o : Option CellError) (x : Place) → is_own w f a (Shared c) ≡ true → placed k (answered w f a c o) ≡ Ok x →
+      Same x.world
+  same_answered a c None x own e =
+      let r = reply_of w.cells f c in
+      same_led (called w f a c r) x
+      (ap (λ l. slice_get (set w.fibers f (move a r) ++ l) g) (childless w f a c r own)
+      ∙ ap (λ l. slice_get l g) (append-nil (set w.fibers f (move a r)))
+      ∙ slice_get-set_other w.fibers f g (move a r) apart) e
+  same_answered a c (Some d) x own e = absurd (cc)
+
+  same_wished : (a : Fiber) (v : Wish) (x : Place) → is_own w f a v ≡ true → placed k (wished k w f a v) ≡ Ok x → Same x.world
+  same_wished a (Shared c) x own e = same_answered a c (refusal k w.cells f c) x own e
+  same_wished a Alone x own e =
+      same_led record { fibers = set w.fibers f (silent_move a); cells = w.cells } x (slice_get-set_other w.fibers f g (silent_move a) apart) e
+  same_wished a Nothing x own e = absurd (cc)
+
+  same_turned : (o : Option Fiber) (x : Place) → has_own w f o ≡ true → placed k (turned k w f o) ≡ Ok x → Same x.world
+  same_turned None x own e = absurd (cc)
+  same_turned (Some a) x own e = same_wished a (wish_of (ask_of a)) x own e
+
+born_of : (w : World) (f : ℕ) (o : Option Fiber) → has_own w f o ≡ true → (a : Fiber) × (o ≡ Some a)
+born_of w f None e = absurd (cc)
+born_of w f (Some a) e = (a, refl)
+
+-- ---- own moves are free
+-- the place has no marks, and the fiber's next move is an own one whose call isn't refused
+pub record IsFree (p : Place) (f : ℕ) : Type 0 where
+  pub none : unmarked_place p ≡ p
+  pub own : IsOwn p f
+
+pub free_from : (p : Place) (f : ℕ) (q : Place) → unmarked_place p ≡ p → has_own p.world f (slice_get p.world.fibers f) ≡ true → stepped p f ≡ Ok q →
+    IsFree p f
+free_from p f q none own e =
+    let on = unmarked_led (entering p f) q (sym (step_is p f) ∙ e) in
+    record { none = none; own = record { own = own; next = on.0; goes = on.1 } }
+
+-- an entry where nothing was counted for the fiber, and it has no marks
+plain_step : (p : Place) (f : ℕ) → (cell_of p.world.cells f).count ≡ 0 → ((g : Fiber) → slice_get p.world.fibers f ≡ Some g → GoesAlike g) →
+    stepped (unmarked_place p) f ≡ unmarked_of (entering p f)
+plain_step p f count alike = step_alike p.limits p.world f count alike ∙ after_placed p.limits (entered p.limits (Ok p.world) f)
+
+module _ (p : Place) (f : ℕ) (h : IsFree p f) where
+  abbrev x : Place
+  x = h.own.next
+
+  here : stepped p f ≡ Ok (unmarked_place x)
+  here = step_is p f ∙ ap unmarked_of h.own.goes
+
+  abbrev a : Fiber
+  a = (born_of p.world f (slice_get p.world.fibers f) h.own.own).0
+
+  at : slice_get p.world.fibers f ≡ Some a
+  at = (born_of p.world f (slice_get p.world.fibers f) h.own.own).1
+
+  plain_a : unmarked a ≡ a
+  plain_a = fiber_none p h.none f a at
+
+  module _ (g : ℕ) (apart : g ≢ f) where
+    back : f ≢ g
+    back e = apart (sym e)
+
+    -- behind the own move the other fiber is as it was
+    other_alike : (b : Fiber) → slice_get x.world.fibers g ≡ Some b → GoesAlike b
+    other_alike b e =
+        unmarked_alike b (fiber_none p h.none g b
+        (sym (same_turned p.limits p.world f g back (slice_get p.world.fibers f) x h.own.own h.own.goes) ∙ e))
+
+    other_step : stepped (unmarked_place x) g ≡ unmarked_of (entering x g)
+    other_step = plain_step x g ((leaves p f x h.own.goes).counts g back ∙ count_none p h.none g) other_alike
+
+    module _ (y : Place) (goes : entering p g ≡ Ok y) where
+      still : slice_get y.world.fibers f ≡ Some a
+      still = (leaves p g y goes).others f apart a at
+
+      own_alike : (b : Fiber) → slice_get y.world.fibers f ≡ Some b → GoesAlike b
+      own_alike b e = let same : a ≡ b = same_Some a b (sym still ∙ e) in unmarked_alike b (subst (λ (c : Fiber). unmarked c ≡ c) same plain_a)
+
+      own_step : stepped (unmarked_place y) f ≡ unmarked_of (entering y f)
+      own_step = plain_step y f ((leaves p g y goes).counts f apart ∙ count_none p h.none f) own_alike
+
+      still_own : has_own y.world f (slice_get y.world.fibers f) ≡ true →
+          has_own (unmarked_world y.world) f (slice_get (map unmarked y.world.fibers) f) ≡ true
+      still_own own =
+          ap (has_own (unmarked_world y.world) f) (get_unmarked y.world.fibers f (Some a) still ∙ ap Some plain_a)
+          ∙ is_own_unmarked y.world f a (wish_of (ask_of a))
+          ∙ ap (has_own y.world f) (sym still) ∙ own
+
+    by_entry : (y : Result Place RunError) → entering p g ≡ y → Commutes entering IsOwn f x g y → Commutes stepped IsFree f (unmarked_place x) g (unmarked_of y)
+    by_entry (Ok y) e pair =
+        let z = unmarked_place pair.1 in
+        let on : stepped (unmarked_place y) f ≡ Ok z = own_step y e ∙ ap unmarked_of pair.2 in (
+          free_from (unmarked_place y) f z (place_again y) (still_own y e pair.0.own) on,
+          z,
+          on,
+          other_step ∙ ap unmarked_of pair.3,
+        )
+    by_entry (Err d) e pair = other_step ∙ ap unmarked_of pair
+
+    own_commutes : Commutes stepped IsFree f (unmarked_place x) g (stepped p g)
+    own_commutes =
+        subst (Commutes stepped IsFree f (unmarked_place x) g) (sym (step_is p g))
+        (by_entry (entering p g) refl (own_enter.commutes p f x h.own h.own.goes g apart))
+
+pub own_are_free : AreFree stepped IsFree
+own_are_free = record {
+  goes = λ p f h. (unmarked_place h.own.next, here p f h);
+  commutes = λ p f y h is g apart.
+      let led : Ok (unmarked_place h.own.next) ≡ Ok y = sym (here p f h) ∙ is in
+      let same : unmarked_place h.own.next ≡ y = cc in
+      subst (λ v. Commutes stepped IsFree f v g (stepped p g)) same (own_commutes p f h g apart);
+}

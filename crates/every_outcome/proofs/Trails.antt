@@ -1,0 +1,47 @@
+-- Trails that go on.
+use Rattle.std.proofs.Common.{◌≡◌, ◌⊎◌, inl, inr, ℕ, ◌<◌, List, [], ◌∷◌, ◌++◌, Result, Ok, refl, sym, ap, ◌∙◌, subst, arith, append-nil, append_assoc}
+use Rattle.std.specs.List.{All}
+use Rattle.std.proofs.lemmas.List.Elements.{All-push}
+use Rattle.cell_registry.specs.declared.limits.RunError.{RunError}
+use Rattle.scheduled_core.proofs.Lists.{parted}
+use Rattle.world_search.specs.Systems.{run}
+use Rattle.world_search.proofs.Closed.{run-append}
+use Rattle.every_outcome.specs.Places.{Place, stepped}
+use Rattle.every_outcome.specs.Private.Reduced.{IsTrail, IsUnfolded, leapt}
+use Rattle.every_outcome.proofs.Told.{all_at, all_from}
+
+abbrev AreFew : List ℕ → Type 0
+AreFew fs = All (λ f. f < 1000) fs
+
+none_few : AreFew []
+none_few = λ k d low. absurd (omega arith)
+
+few_append : (xs ys : List ℕ) → AreFew xs → AreFew ys → AreFew (xs ++ ys)
+few_append xs ys a b = all_from (λ f. f < 1000) (xs ++ ys) (λ i x e. elim (parted xs ys i x e) [
+  | inl h ↦ all_at (λ f. f < 1000) xs i x h a
+  | inr h ↦ all_at (λ f. f < 1000) ys h.0 x h.2 b
+])
+
+pub trail_none : (old : List ℕ) (p : Place) → IsTrail old old p (Ok p)
+trail_none old p = record { added = []; is = sym (append-nil old); leads = refl; few = none_few }
+
+pub trail_one : (old : List ℕ) (p : Place) (f : ℕ) (y : Result Place RunError) → f < 1000 → stepped p f ≡ y → IsTrail old (old ++ f ∷ []) p y
+trail_one old p f y low e = record { added = f ∷ []; is = refl; leads = e; few = All-push (λ g. g < 1000) [] f none_few low }
+
+pub trail_more : (old mid new : List ℕ) (p q : Place) (y : Result Place RunError) → IsTrail old mid p (Ok q) → IsTrail mid new q y → IsTrail old new p y
+trail_more old mid new p q y a b = record {
+  added = a.added ++ b.added;
+  is = b.is ∙ ap (λ l. l ++ b.added) a.is ∙ append_assoc old a.added b.added;
+  leads = run-append stepped (Ok p) a.added b.added ∙ ap (λ x. run stepped x b.added) a.leads ∙ b.leads;
+  few = few_append a.added b.added a.few b.few;
+}
+
+-- the whole trail
+pub trail_whole : (first : Place) (schedule new : List ℕ) (y : Result Place RunError) → IsTrail [] new first y →
+    run leapt (Ok first) schedule ≡ y → IsUnfolded first schedule new
+trail_whole first schedule new y t e = subst (IsUnfolded first schedule) (sym t.is) (record { leads = t.leads ∙ sym e; few = t.few })
+
+-- what isn't that memory ran out is the fault
+pub refused_with : (d e : RunError) (P : Type 0) → (d ≡ e → ⊥) → (d ≡ e) ⊎ P → P
+refused_with d e P apart (inl memory) = absurd (apart memory)
+refused_with d e P apart (inr told) = told

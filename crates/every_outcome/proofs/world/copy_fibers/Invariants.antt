@@ -1,6 +1,0 @@
-use Rattle.std.proofs.Common.{◌≡◌, take}
-use Rattle.every_outcome.proofs.world.copy_fibers.Given as goal
-
--- the fibers so far are copied
-abbrev pub invariant-loop-fiber : goal.invariant-loop-fiber
-invariant-loop-fiber l = l.copies.items ≡ take l.fiber-index l.fibers

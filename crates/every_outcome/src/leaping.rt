@@ -1,0 +1,121 @@
+//! Entries with own moves behind them.
+ghost use Rattle.std.specs.Prelude.{◌≡◌, ◌⊎◌, ◌++◌, ◌<◌, ◌≤◌, [], ◌∷◌, length, false, IfErr, IfOk, OnOk};
+ghost use Rattle.std.specs.Prelude.{Ok as GoesWell, Err as Fails};
+ghost use Rattle.scheduled_core.specs.Fitting.{AllFit};
+ghost use Rattle.every_outcome.specs.Places.{unmarked_place};
+ghost use Rattle.every_outcome.specs.Private.Reduced.{IsTrail, after_own, leapt, pushed, pushed_once};
+
+use crate::core_world::CoreWorld;
+use crate::own_moves::has_own_move;
+use cell_registry::RunError;
+use effect_term::facts_of;
+use std::alloc::AllocError;
+
+// At most this many own moves of each fiber are made behind an entry.
+const MOST: usize = 100;
+
+/// The entry of a fiber, with own moves of each fiber behind it. The entries that were made are added to the trail: one
+/// that ends in a fault too, and none of a fiber that isn't born. After an error nothing is known of the world.
+pub(crate) fn leap(world: &mut CoreWorld, fiber: u16, trail: &mut Vec<u16>) -> Result<(), RunError>
+    requires { AllFit world.old.world }
+    ensures fits { OnOk result (AllFit world.new.world) }
+    ensures goes { OnOk result (leapt (unmarked_place world.old) fiber ≡ GoesWell (unmarked_place world.new)) }
+    ensures trail { OnOk result (IsTrail trail.old.items trail.new.items (unmarked_place world.old)
+        (GoesWell (unmarked_place world.new))) }
+    ensures stops { IfErr result (λ e. (e ≡ RunError.NoMemory) ⊎
+        ((leapt (unmarked_place world.old) fiber ≡ Fails e) ×
+        IsTrail trail.old.items trail.new.items (unmarked_place world.old) (Fails e))) }
+{
+    if usize::from(fiber) >= few_born(&*world) {
+        return Ok(());
+    }
+    add(&mut *trail, fiber)?;
+    world.enter(fiber)?;
+    push(world, trail)?;
+    Ok(())
+}
+
+// How many fibers are born.
+fn few_born(world: &CoreWorld) -> usize
+    requires { AllFit world.now.world }
+    ensures born { result ≡ length world.now.world.fibers }
+    ensures few { result ≤ 1000 }
+{
+    // The registry is within its limits, and has given each of the fibers its number.
+    facts_of(world.registry().limits());
+    world.fibers().len()
+}
+
+// One more entry.
+fn add(trail: &mut Vec<u16>, fiber: u16) -> Result<(), AllocError>
+    ensures { OnOk result (trail.new.items ≡ trail.old.items ++ fiber ∷ []) }
+{
+    trail.push(fiber)?;
+    Ok(())
+}
+
+// Own moves of each fiber, until none has one or the most were made.
+fn push(world: &mut CoreWorld, trail: &mut Vec<u16>) -> Result<(), AllocError>
+    requires { AllFit world.old.world }
+    ensures fits { OnOk result (AllFit world.new.world) }
+    ensures goes { OnOk result (unmarked_place world.new ≡ pushed 100 (unmarked_place world.old)) }
+    ensures trail { OnOk result (IsTrail trail.old.items trail.new.items (unmarked_place world.old)
+        (GoesWell (unmarked_place world.new))) }
+{
+    for _move in 0..MOST {
+        let moved = push_once(&mut *world, &mut *trail)?;
+        if !moved {
+            return Ok(());
+        }
+    }
+    Ok(())
+}
+
+// One own move of each fiber that has one, the last fiber first. Whether any was made.
+fn push_once(world: &mut CoreWorld, trail: &mut Vec<u16>) -> Result<bool, AllocError>
+    requires { AllFit world.old.world }
+    ensures fits { OnOk result (AllFit world.new.world) }
+    ensures goes { OnOk result (unmarked_place world.new ≡ pushed_once (unmarked_place world.old)) }
+    ensures stays { IfOk result (λ it. it ≡ false →
+        pushed_once (unmarked_place world.new) ≡ unmarked_place world.new) }
+    ensures trail { OnOk result (IsTrail trail.old.items trail.new.items (unmarked_place world.old)
+        (GoesWell (unmarked_place world.new))) }
+{
+    let born = few_born(&*world);
+    let mut moved = false;
+    for done in 0..born {
+        let fiber = (born - 1 - done) as u16;
+        let made = push_fiber(&mut *world, fiber, &mut *trail)?;
+        moved = either(moved, made);
+    }
+    Ok(moved)
+}
+
+// Whether one of the two is so.
+fn either(one: bool, other: bool) -> bool
+    ensures { result ≡ false → (one ≡ false) × (other ≡ false) }
+{
+    one || other
+}
+
+// The own move of this fiber, if it has one. Whether it was made.
+fn push_fiber(world: &mut CoreWorld, fiber: u16, trail: &mut Vec<u16>) -> Result<bool, AllocError>
+    requires few { fiber < 1000 }
+    requires fits { AllFit world.old.world }
+    ensures fits { OnOk result (AllFit world.new.world) }
+    ensures goes { OnOk result (unmarked_place world.new ≡ after_own (unmarked_place world.old) fiber) }
+    ensures stays { IfOk result (λ it. it ≡ false → unmarked_place world.new ≡ unmarked_place world.old) }
+    ensures trail { OnOk result (IsTrail trail.old.items trail.new.items (unmarked_place world.old)
+        (GoesWell (unmarked_place world.new))) }
+{
+    if !has_own_move(&*world, fiber) {
+        return Ok(false);
+    }
+    match world.enter(fiber) {
+        Ok(()) => {}
+        // An own move takes no number of a band, so memory ran out.
+        Err(_) => return Err(AllocError),
+    }
+    add(trail, fiber)?;
+    Ok(true)
+}

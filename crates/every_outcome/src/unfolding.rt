@@ -1,0 +1,51 @@
+//! The schedules of a search whose entries have own moves behind them, entry by entry.
+ghost use Rattle.std.specs.Prelude.{◌≡◌, ◌≢◌, false, IfErr, IfOk};
+ghost use Rattle.derived_ops.specs.Expansion.{code_of};
+ghost use Rattle.derived_ops.specs.Reading.{source_of};
+ghost use Rattle.cell_registry.specs.Cells.{AreLimits};
+ghost use Rattle.every_outcome.specs.Places.{first_place};
+ghost use Rattle.every_outcome.specs.Private.Reduced.{IsUnfolded};
+
+use crate::core_world::CoreWorld;
+use crate::leaping::leap;
+use cell_registry::{Limits, RunError};
+use effect_term::Program;
+use std::alloc::Global;
+
+/// The entries that a schedule of the search makes, one by one.
+pub(crate) fn unfold(
+    alloc: Global,
+    program: &Program,
+    limits: Limits,
+    schedule: &[u16],
+) -> Result<Vec<u16>, RunError>
+    requires { AreLimits limits }
+    ensures entries { IfOk result (λ it.
+        IsUnfolded (first_place (code_of (source_of program.now)) limits) schedule.now it.items) }
+    ensures memory { IfErr result (λ e. e ≡ RunError.NoMemory) }
+{
+    let mut world = CoreWorld::first(alloc, program, limits)?;
+    let mut trail = Vec::new(alloc);
+    for fiber in schedule {
+        match leap(&mut world, *fiber, &mut trail) {
+            Ok(()) => {}
+            Err(fault) => {
+                if is_memory(fault) {
+                    return Err(RunError::NoMemory);
+                }
+                return Ok(trail);
+            }
+        }
+    }
+    Ok(trail)
+}
+
+// Whether memory ran out.
+fn is_memory(fault: RunError) -> bool
+    ensures { result ≡ false → fault ≢ RunError.NoMemory }
+{
+    match fault {
+        RunError::NoMemory => true,
+        RunError::Full(_, _) | RunError::Spent(_) | RunError::Lost(_) | RunError::NoWorker => false,
+    }
+}
