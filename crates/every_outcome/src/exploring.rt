@@ -59,6 +59,7 @@ pub fn explore_outcomes<V: Watcher>(
     ensures stopped { IfOk result (λ it. it.complete ≡ false → it.halted ≡ false →
         IsAtBound bounds it.worlds it.bytes) }
     ensures halted { IfOk result (λ it. it.halted ≡ true → V.has_stopped watcher.new ≡ true) }
+    ensures may { IfOk result (λ it. it.halted ≡ true → V.can_stop watcher.old ≡ true) }
     ensures apart { IfOk result (λ it. it.complete ≡ true → it.halted ≡ false) }
     ensures room { IfOk result (λ it. it.worlds ≤ max bounds.worlds 1) }
     ensures spare { IfOk result (λ it. it.complete ≡ true → it.bytes < bounds.memory) }
