@@ -56,12 +56,7 @@ impl ReducedWorlds {
     }
 
     /// Makes the entry of a fiber at a world, with its own moves behind it, and returns the entries.
-    pub(crate) fn made(
-        &mut self,
-        world: usize,
-        fiber: u16,
-        most: usize,
-    ) -> Result<Made, AllocError>
+    pub(crate) fn made(&mut self, world: usize, fiber: u16, most: usize) -> Result<Made, AllocError>
         requires { world < length self.old.worlds.places }
         ensures worlds { IsMore self.old.worlds.places self.new.worlds.places }
         ensures lands { IfOk result (λ it. (p : Place) → slice_get self.old.worlds.places world ≡ Some p →
@@ -70,7 +65,9 @@ impl ReducedWorlds {
             MakesAtOnce hundred p fiber it.entries.items) }
     {
         let mut entries = Vec::new(self.alloc);
-        let to = self.worlds.entry(world, fiber, most, AT_ONCE, &mut entries)?;
+        let to = self
+            .worlds
+            .entry(world, fiber, most, AT_ONCE, &mut entries)?;
         Ok(Made { to, entries })
     }
 

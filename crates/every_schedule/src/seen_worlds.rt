@@ -203,7 +203,8 @@ impl Worlds for SeenWorlds {
         let stored = self.worlds.stored(number, fiber);
         let seen = seen_after(self.alloc, row.seen(), stored)?;
         let room = room(self.rows.items.len(), most);
-        let came = self.worlds
+        let came = self
+            .worlds
             .entry(number, fiber, room, STILL, &mut self.trail)?;
         row_met(&mut self.rows, came, seen, most)
     }

@@ -65,5 +65,5 @@ module _ {W E : Type 0} (entry : W → ℕ → Result W E) (Free : W → ℕ →
         on.0,
         on.1,
         fold_more (entered entry) (Ok first) s i 0 low ∙ ap (λ x. entered entry x (get_or s i 0)) led.2 ∙
-        subst (λ k. entry led.0 k ≡ Ok on.0) is on.2,
+            subst (λ k. entry led.0 k ≡ Ok on.0) is on.2,
       )

@@ -85,13 +85,7 @@ fn is_helped(ranks: &[Rank], index: usize, edges: &[Edge]) -> bool
 }
 
 // Whether the step of a fiber at a world is right.
-fn passes<W: Resting>(
-    worlds: &W,
-    ranks: &[Rank],
-    index: usize,
-    fiber: usize,
-    edge: &Edge,
-) -> bool
+fn passes<W: Resting>(worlds: &W, ranks: &[Rank], index: usize, fiber: usize, edge: &Edge) -> bool
     requires low { index < length ranks.now }
     requires even { length ranks.now ≡ length (W.worlds worlds.now) }
     ensures { result ≡ true → (a : TheRank) → slice_get ranks.now index ≡ Some a → (y : TheResult W.World W.Fault) →

@@ -5,8 +5,8 @@ ghost use Rattle.std.specs.List.{slice_get};
 ghost use Rattle.world_search.specs.Lists.{IsMore};
 ghost use Rattle.fair_ends.specs.Private.Tables.{IsRow, IsTable, IsTarget, fault};
 
-use std::alloc::{AllocError, Global};
 use crate::resting::Resting;
+use std::alloc::{AllocError, Global};
 use world_search::{Bounds, Entered, Landing, Watcher, Worlds};
 
 /// What is kept in the place of a world's number where a step ends in a fault.
