@@ -1,7 +1,7 @@
 //! The verdicts on claims that the words of a command line ask for.
 
-ghost use Rattle.std.specs.Prelude.{◌≡◌, ◌≢◌, [], codes, false, IfNone, IfOk, IfSome, None, true};
-ghost use Rattle.clap.specs.Words.{first_of, found_of, rows_of};
+ghost use Rattle.std.specs.Prelude.{◌≡◌, ◌≢◌, [], false, IfNone, IfOk, IfSome, true};
+ghost use Rattle.clap.specs.Words.{found_of, rows_of};
 ghost use Rattle.command_words.specs.declared.judging.Judging.{Judging};
 ghost use Rattle.command_words.specs.Requests.{AreAlone, HasClaims, HasNoClaims, SaysJudging, texts_said};
 

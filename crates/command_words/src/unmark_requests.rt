@@ -4,7 +4,7 @@ ghost use Rattle.std.specs.Prelude.{◌≡◌, ◌≢◌, Bool, codes, false, If
 ghost use Rattle.clap.specs.Words.{first_of, found_of, rows_of};
 ghost use Rattle.command_words.specs.declared.unmarking.Unmarking.{Unmarking};
 ghost use Rattle.command_words.specs.Flags.{SaysMarks, SaysOnly};
-ghost use Rattle.command_words.specs.Requests.{GoWithoutMarks, HasNoClaims, SaysUnmarking};
+ghost use Rattle.command_words.specs.Requests.{GoWithoutMarks, SaysUnmarking};
 
 use crate::flags::{beside, given, text_of};
 use crate::judge_requests::has_claims;
