@@ -24,7 +24,7 @@ struct Judged {
 
 /// Judges claims on a text's program, and gives the status: that of the answer, `Status::Usage` where a text spells no
 /// claim or a claim names a ref whose number isn't known, and `Status::Fault` where a device failed or memory ran out.
-/// All but the answer is told on the last device. A text that spells no claim is told before the program's text is read.
+/// All but the answer goes to the last device. A text that spells no claim is refused before the program's text is read.
 pub fn obey_judge<I: TextIn, O: TextOut, E: TextOut>(
     alloc: Global,
     judging: Judging<'_>,

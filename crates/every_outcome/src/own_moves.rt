@@ -70,7 +70,7 @@ fn is_own_call(world: &CoreWorld, by: u16, call: Call) -> bool
     }
 }
 
-// Whether no other fiber can request the cancellation of this one any more.
+// Whether no other fiber can still request the cancellation of this one.
 fn is_left_alone(world: &CoreWorld, fiber: u16) -> bool
     requires given { fiber < world.now.world.cells.next_fiber }
     requires fits { AllFit world.now.world }
@@ -79,7 +79,7 @@ fn is_left_alone(world: &CoreWorld, fiber: u16) -> bool
     is_kept(world, Use::Cancels, fiber, fiber)
 }
 
-// Whether no fiber but this one can use a number so any more. The number is given.
+// Whether no fiber but this one can still use a number in this way. The registry has given the number.
 fn is_kept(world: &CoreWorld, what: Use, by: u16, number: u16) -> bool
     requires given { number < next_of (used_place what) world.now.world.cells }
     requires fits { AllFit world.now.world }
